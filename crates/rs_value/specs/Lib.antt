@@ -1,0 +1,4 @@
+pub mod Answer
+pub mod Text
+pub mod Number
+pub mod Value

@@ -1,0 +1,10 @@
+-- What text bytes are.
+use Rattle.std.specs.Prelude.{ℕ, List, Result, Ok, Err, if◌then◌else◌}
+use Rattle.std.specs.Str.{is_utf8}
+use Rattle.std.specs.Str.Lossy.{utf8_valid_len}
+use Rattle.rs_value.specs.declared.text.TextFault.{TextFault}
+use Rattle.rs_value.specs.declared.text.TextFault.TheVariants.{NotUtf8}
+
+-- the text of these bytes, or the length of their longest prefix that is UTF-8
+abbrev pub text_of : List ℕ → Result (List ℕ) TextFault
+text_of bytes = if is_utf8 bytes then Ok bytes else Err (NotUtf8 (utf8_valid_len bytes))

@@ -1,0 +1,27 @@
+-- Values: whole numbers and texts.
+use Rattle.std.specs.Prelude.{ℕ, ℤ, List}
+use Rattle.std.specs.Fmt.{signed_decimal}
+use Rattle.std.specs.Ordering.{nat_cmp, int_cmp}
+use Rattle.std.specs.Cmp.Lexicographic.{slice_cmp}
+use Rattle.std.specs.declared.cmp.Ordering.{Ordering}
+use Rattle.std.specs.declared.cmp.Ordering.TheVariants.{Less, Equal, Greater}
+use Rattle.rs_value.specs.declared.kind.Kind.{Kind}
+use Rattle.rs_value.specs.declared.kind.Kind.TheVariants as kind
+use Rattle.rs_value.specs.declared.value.Value.{Value}
+use Rattle.rs_value.specs.declared.value.Value.TheVariants.{Int, Text}
+
+abbrev pub kind_of : Value → Kind
+kind_of (Int n) = kind.Int
+kind_of (Text t) = kind.Text
+
+-- the bytes that a value is printed as: a number in decimal, a text as it is
+abbrev pub printed : Value → List ℕ
+printed (Int n) = signed_decimal n
+printed (Text t) = t
+
+-- numbers by size, texts lexicographically by bytes; values of different kinds are never compared
+abbrev pub value_cmp : Value → Value → Ordering
+value_cmp (Int a) (Int b) = int_cmp a b
+value_cmp (Text a) (Text b) = slice_cmp nat_cmp a b
+value_cmp (Int a) (Text b) = Less
+value_cmp (Text a) (Int b) = Greater

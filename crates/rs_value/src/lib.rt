@@ -1,0 +1,16 @@
+//! Values, texts and lists: what a table's cells hold.
+#![tactic(auto)]
+
+mod kind;
+mod list;
+mod memory;
+mod number;
+mod text;
+mod value;
+
+pub use kind::Kind;
+pub use list::List;
+pub use memory::Memory;
+pub use number::{decimal_of, int_of};
+pub use text::{Text, TextFault};
+pub use value::Value;

@@ -1,0 +1,72 @@
+ghost use Rattle.std.specs.Prelude.{◌≡◌, IsUtf8, IfOk};
+ghost use Rattle.rs_value.specs.Answer.{Gives};
+ghost use Rattle.rs_value.specs.Text.{text_of};
+
+use crate::memory::Memory;
+use std::alloc::Global;
+use std::marker::Model;
+
+/// A text: bytes that are UTF-8, of any length. Contracts see the list of its bytes.
+#[derive(Debug, Drop)]
+pub struct Text {
+    chars: String,
+}
+
+impl Model for Text {
+    ghost use Rattle.std.specs.Prelude.{List, ℕ};
+    ghost use Rattle.std.specs.String.{string_bytes};
+
+    ghost Value = { List ℕ };
+
+    ghost view = { λ t. string_bytes t.chars };
+}
+
+/// Why bytes are no text.
+#[derive(Clone, Copy, Debug, PartialEq, Eq)]
+pub enum TextFault {
+    /// The bytes aren't UTF-8. `at` is the length of the longest prefix that is.
+    NotUtf8 { at: usize },
+    Memory,
+}
+
+impl Text {
+    /// The text of these bytes, after RFC 3629.
+    pub fn from_bytes(alloc: Global, bytes: &[u8]) -> Result<Text, TextFault>
+        ensures { Gives TextFault.Memory (text_of bytes.now) result }
+    {
+        match str::from_utf8(bytes) {
+            Ok(text) => match String::from_str(alloc, text) {
+                Ok(chars) => Ok(Text { chars }),
+                Err(_) => Err(TextFault::Memory),
+            },
+            Err(error) => Err(TextFault::NotUtf8 {
+                at: error.valid_up_to(),
+            }),
+        }
+    }
+
+    /// The bytes of the text.
+    pub fn bytes(&self) -> &[u8]
+        ensures value { result.now ≡ self.now }
+        ensures utf8 { IsUtf8 result.now }
+    {
+        self.as_str().as_bytes()
+    }
+
+    /// The text as a `str`.
+    pub fn as_str(&self) -> &str
+        ensures { result.now ≡ self.now }
+    {
+        self.chars.as_str()
+    }
+
+    /// An equal text, on the same allocator.
+    pub fn copy(&self) -> Result<Text, Memory>
+        ensures { IfOk result (λ text. text ≡ self.now) }
+    {
+        match self.chars.clone() {
+            Ok(chars) => Ok(Text { chars }),
+            Err(_) => Err(Memory),
+        }
+    }
+}

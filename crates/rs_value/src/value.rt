@@ -1,0 +1,63 @@
+ghost use Rattle.std.specs.Prelude.{◌≡◌, ◌++◌, IfOk, OnOk, OnErr};
+ghost use Rattle.rs_value.specs.Value.{kind_of, printed, value_cmp};
+
+use crate::kind::Kind;
+use crate::memory::Memory;
+use crate::text::Text;
+use std::cmp::Ordering;
+
+/// A cell of a table.
+#[derive(Debug, Drop)]
+pub enum Value {
+    /// A number from -4,000,000,000,000,000,000 to 4,000,000,000,000,000,000.
+    Int(i64),
+    Text(Text),
+}
+
+impl Value {
+    pub fn kind(&self) -> Kind
+        ensures { result ≡ kind_of self.now }
+    {
+        match self {
+            Value::Int(_) => Kind::Int,
+            Value::Text(_) => Kind::Text,
+        }
+    }
+
+    /// An equal value.
+    pub fn copy(&self) -> Result<Value, Memory>
+        ensures { IfOk result (λ value. value ≡ self.now) }
+    {
+        match self {
+            Value::Int(number) => Ok(Value::Int(*number)),
+            Value::Text(text) => Ok(Value::Text(text.copy()?)),
+        }
+    }
+
+    /// The order of two values of one kind: numbers by size, texts by bytes.
+    pub fn cmp(&self, other: &Value) -> Ordering
+        requires { kind_of self.now ≡ kind_of other.now }
+        ensures { result ≡ value_cmp self.now other.now }
+    {
+        match (self, other) {
+            (Value::Int(a), Value::Int(b)) => a.cmp(b),
+            (Value::Text(a), Value::Text(b)) => a.bytes().cmp(b.bytes()),
+            _ => unreachable!(),
+        }
+    }
+
+    /// Appends the decimal number, or the bytes of the text.
+    pub fn print(&self, into: &mut Vec<u8>) -> Result<(), Memory>
+        ensures ok { OnOk result (into.new.items ≡ into.old.items ++ printed self.now) }
+        ensures err { OnErr result (into.new.items ≡ into.old.items) }
+    {
+        match self {
+            Value::Int(number) => {
+                let digits = number.to_string(*into.allocator())?;
+                into.extend_from_slice(digits.as_bytes())?;
+            }
+            Value::Text(text) => into.extend_from_slice(text.bytes())?,
+        }
+        Ok(())
+    }
+}
