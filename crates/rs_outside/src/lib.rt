@@ -1,13 +1,9 @@
-// A library with one function.
+//! The outside: files that are fetched and sinks that are written, as traits whose contracts say what an object
+//! tells of itself and when it may fail; fakes in memory; and the thin edge to the system.
 #![tactic(auto)]
 
-ghost use Rattle.std.specs.Prelude.{◌≡◌};
-ghost use Rattle.rs_outside.specs.Echo.{echo_of};
+mod files;
+mod sink;
 
-// The `ensures` clause is the contract: what `echo` returns is `echo_of` of its argument, a definition
-// in `specs/Echo.antt`, which a caller's clause can cite too.
-pub fn echo(x: usize) -> usize
-    ensures { result ≡ echo_of x }
-{
-    x
-}
+pub use files::{FetchFault, Files};
+pub use sink::{Sink, SinkFault};

@@ -1,13 +1,13 @@
-// A library with one function.
+//! Tables of values, read from CSV files.
 #![tactic(auto)]
 
-ghost use Rattle.std.specs.Prelude.{◌≡◌};
-ghost use Rattle.rs_table.specs.Echo.{echo_of};
+mod fault;
+mod schema;
+mod table;
 
-// The `ensures` clause is the contract: what `echo` returns is `echo_of` of its argument, a definition
-// in `specs/Echo.antt`, which a caller's clause can cite too.
-pub fn echo(x: usize) -> usize
-    ensures { result ≡ echo_of x }
-{
-    x
-}
+pub use fault::TableFault;
+pub use schema::Schema;
+pub use table::{MOST_ROWS, Table};
+
+/// The greatest number of bytes of a table's file.
+pub const TABLE_LIMIT: usize = 33_554_432;
