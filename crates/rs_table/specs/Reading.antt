@@ -2,7 +2,6 @@
 use Rattle.std.specs.Prelude.{ℕ, ℤ, ◌+◌, ◌==◌, nat_lt, List, [], ◌∷◌, map, length, Option, Some, None, Result, Ok, Err, if◌then◌else◌}
 use Rattle.std.specs.List.{list_any}
 use Rattle.std.specs.Str.{bytes_eq, is_utf8}
-use Rattle.csv.specs.Reading.{records, default_config, strip_bom}
 use Rattle.rs_value.specs.Number.{int_value}
 use Rattle.rs_value.specs.declared.kind.Kind.{Kind}
 use Rattle.rs_value.specs.declared.kind.Kind.TheVariants as kind
@@ -10,6 +9,7 @@ use Rattle.rs_value.specs.declared.value.Value.{Value}
 use Rattle.rs_value.specs.declared.value.Value.TheVariants.{Int, Text}
 use Rattle.rs_table.specs.declared.fault.TableFault.{TableFault}
 use Rattle.rs_table.specs.declared.fault.TableFault.TheVariants.{NoHeader, HeaderDiffers, FieldCount, NotUtf8, NotInt, TooManyRows, NoColumn, TooManyColumns}
+use Rattle.rs_table.specs.Records.{records_of}
 use Rattle.rs_table.specs.Column.{Column, columns_with}
 use Rattle.rs_table.specs.Relation.{Relation, most_rows}
 
@@ -18,10 +18,6 @@ infixl 10 ◌>>=◌
 abbrev pub ◌>>=◌ : {A B E : Type 0} → Result A E → (A → Result B E) → Result B E
 Ok a >>= next = next a
 Err fault >>= next = Err fault
-
--- the records of a file: those that `csv` reads behind one byte order mark
-abbrev pub records_of : List ℕ → List (List (List ℕ))
-records_of bytes = records default_config (strip_bom bytes)
 
 -- the value that a field has in a column of this kind
 abbrev pub cell_of : Kind → ℕ → ℕ → List ℕ → Result Value TableFault

@@ -2,6 +2,7 @@
 #![tactic(auto)]
 
 mod fault;
+mod records;
 mod schema;
 mod table;
 
