@@ -1,0 +1,97 @@
+-- What a run did, beside what its definition says.
+use Rattle.std.specs.Prelude.{ℕ, ◌≡◌, ◌⊎◌, ⊤, List, [], ◌∷◌, ◌++◌, Option, Some, None, option_map}
+use Rattle.rs_outside.specs.Faults.{Rose}
+use Rattle.rs_outside.specs.Files.{Folder, FilesTold, file_named}
+use Rattle.rs_outside.specs.Sink.{IsPrefix}
+use Rattle.rs_outside.specs.declared.files.FetchFault.TheVariants.{Failed}
+use Rattle.rs_run.specs.declared.status.Status.{Status}
+use Rattle.rs_run.specs.declared.status.Status.TheVariants as status
+use Rattle.rs_run.specs.declared.fault.Fault.{Fault}
+use Rattle.rs_run.specs.declared.fault.Fault.TheVariants.{Memory, Write, Read}
+use Rattle.rs_run.specs.Faults.{status_of, fault_line}
+use Rattle.rs_run.specs.Run.{Event, Fetch, Put, Run, fetches, puts}
+
+-- an object of the outside before and after a call: what it tells, its count of faults, and whether no call of it fails
+pub record Seen (T : Type 0) : Type 0 where
+  pub before : Option T
+  pub after : Option T
+  pub faults_before : ℕ
+  pub faults_after : ℕ
+
+-- a call of the object failed: its count rose, and it had not promised that no call fails
+pub record Faulted {T : Type 0} (object : Seen T) (steady : Type 0) : Type 0 where
+  pub rose : Rose object.faults_before object.faults_after
+  pub unsteady : ¬ steady
+
+-- why no more events were done: all were; there was no memory; a put failed when it had taken this part; a fetch failed
+pub data Halt : Type 0 where
+  Ended : Halt
+  NoMemory : Halt
+  PutFailed : List ℕ → Halt
+  FetchFailed : List ℕ → Halt
+
+-- the pieces that the halt itself added to standard output, and the names to those that were fetched
+abbrev pub piece_of : Halt → List (List ℕ)
+piece_of Ended = []
+piece_of NoMemory = []
+piece_of (PutFailed part) = part ∷ []
+piece_of (FetchFailed name) = []
+
+abbrev pub name_of : Halt → List (List ℕ)
+name_of Ended = []
+name_of NoMemory = []
+name_of (PutFailed part) = []
+name_of (FetchFailed name) = name ∷ []
+
+-- the fault of a run that halts so
+abbrev pub fault_of : Run → Halt → Option Fault
+fault_of run Ended = run.fault
+fault_of run NoMemory = Some Memory
+fault_of run (PutFailed part) = Some Write
+fault_of run (FetchFailed name) = Some (Read name Failed)
+
+-- one line was put; where the sink failed, a part of it
+pub record PutsLine (line : List ℕ) (err : Seen (List (List ℕ))) (steady : Type 0) : Type 0 where
+  pub piece : List ℕ
+  pub put : err.after ≡ option_map (λ pieces. pieces ++ piece ∷ []) err.before
+  pub whole : (piece ≡ line) ⊎ (IsPrefix piece line × Faulted err steady)
+
+-- nothing was put
+abbrev pub PutsNothing : Seen (List (List ℕ)) → Type 0
+PutsNothing err = err.after ≡ err.before
+
+-- the status and the line of this fault, or those of none; where there was no memory for the line, those of Memory
+abbrev pub Reports : Option Fault → Status → Seen (List (List ℕ)) → Type 0 → Type 0
+Reports None status err steady = (status ≡ status_of None) × PutsNothing err
+Reports (Some fault) status err steady =
+    ((status ≡ status_of (Some fault)) × PutsLine (fault_line fault) err steady)
+    ⊎ ((status ≡ status_of (Some Memory)) × (PutsNothing err ⊎ PutsLine (fault_line Memory) err steady))
+
+-- the halt fits the events that were not done
+abbrev pub HaltsAt : Halt → List Event → Seen FilesTold → Seen (List (List ℕ)) → Type 0 → Type 0 → Type 0
+HaltsAt Ended rest files out files_steady out_steady = rest ≡ []
+HaltsAt NoMemory rest files out files_steady out_steady = ⊤
+HaltsAt (PutFailed part) rest files out files_steady out_steady =
+    (bytes : List ℕ) × (more : List Event) × (rest ≡ Put bytes ∷ more) × IsPrefix part bytes × Faulted out out_steady
+HaltsAt (FetchFailed name) rest files out files_steady out_steady =
+    (more : List Event) × (rest ≡ Fetch name ∷ more) × Faulted files files_steady
+
+-- the events of a run that were done: all, or those before its halt
+pub record Does (run : Run) (halt : Halt) (files : Seen FilesTold) (out : Seen (List (List ℕ))) (files_steady out_steady : Type 0) : Type 0 where
+  pub done : List Event
+  pub rest : List Event
+  pub split : run.events ≡ done ++ rest
+  pub halts : HaltsAt halt rest files out files_steady out_steady
+  pub fetched : files.after ≡ option_map (λ told. record told { fetched = told.fetched ++ (fetches done ++ name_of halt) }) files.before
+  pub put : out.after ≡ option_map (λ pieces. pieces ++ (puts done ++ piece_of halt)) out.before
+
+-- what a run did: its events up to a halt, and then the status and the line of the halt
+pub record Outcome (run : Run) (status : Status) (files : Seen FilesTold) (out err : Seen (List (List ℕ))) (files_steady out_steady err_steady : Type 0) : Type 0 where
+  pub halt : Halt
+  pub does : Does run halt files out files_steady out_steady
+  pub reports : Reports (fault_of run halt) status err err_steady
+
+-- a fact that holds for the files that are told; where none are, for some files
+abbrev pub ForFiles : Option FilesTold → ((List ℕ → Option (List ℕ)) → Type 0) → Type 0
+ForFiles (Some told) P = P (λ name. file_named name told.folder)
+ForFiles None P = (there : List ℕ → Option (List ℕ)) × P there

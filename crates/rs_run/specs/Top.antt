@@ -1,0 +1,85 @@
+-- The word `top`: the first rows of a table by the number in a column.
+use Rattle.std.specs.Prelude.{ℕ, ℤ, pos, negsuc, ◌+◌, nat_le, nat_lt, Bool, false, List, [], ◌∷◌, length, take, Option, Some, None, unwrap_or, option_map, slice_get, Result, Ok, Err, if◌then◌else◌}
+use Rattle.rs_value.specs.declared.value.Value.{Value}
+use Rattle.rs_value.specs.declared.value.Value.TheVariants.{Int, Text}
+use Rattle.rs_outside.specs.declared.files.FetchFault.TheVariants.{Missing, TooLong}
+use Rattle.rs_table.specs.declared.fault.TableFault.{TableFault}
+use Rattle.rs_table.specs.Column.{Column, place_of}
+use Rattle.rs_table.specs.Relation.{Relation}
+use Rattle.rs_table.specs.Reading.{◌>>=◌, header_of, table_of}
+use Rattle.rs_rank.specs.Stable.{stable}
+use Rattle.rs_lines.specs.Row.{line_of}
+use Rattle.rs_run.specs.declared.fault.Fault.{Fault}
+use Rattle.rs_run.specs.declared.fault.Fault.TheVariants.{Read, Table, BadScore}
+use Rattle.rs_run.specs.Words.{TopWords}
+
+-- the most bytes of a table's file
+abbrev pub table_limit : ℕ
+table_limit = 33554432
+
+-- the bytes of a file, or why it is not read
+abbrev pub content_of : ℕ → List ℕ → Option (List ℕ) → Result (List ℕ) Fault
+content_of limit name None = Err (Read name Missing)
+content_of limit name (Some bytes) = if nat_le (length bytes) limit then Ok bytes else Err (Read name TooLong)
+
+-- a fault of this file's table ends the run
+abbrev pub or_table_fault : {A : Type 0} → List ℕ → Result A TableFault → Result A Fault
+or_table_fault name (Ok a) = Ok a
+or_table_fault name (Err why) = Err (Table name why)
+
+-- the number of a value, of which a text has none
+abbrev pub number_in : Value → ℤ
+number_in (Int n) = n
+number_in (Text t) = pos 0
+
+-- the number that a row has at a place
+abbrev pub number_at : ℕ → List Value → ℤ
+number_at place values = unwrap_or (option_map number_in (slice_get values place)) (pos 0)
+
+-- a number as a score, which is never below 0
+abbrev pub score_of : ℤ → ℕ
+score_of (pos n) = n
+score_of (negsuc n) = 0
+
+-- the score of a row by the number at a place
+abbrev pub score_at : ℕ → List Value → ℕ
+score_at place values = score_of (number_at place values)
+
+-- whether a number lies in 0..max
+abbrev pub is_score : ℕ → ℤ → Bool
+is_score max (pos n) = nat_le n max
+is_score max (negsuc n) = false
+
+-- the rows, from the row of this number on, or the first whose number is no score
+abbrev pub scored_from : List ℕ → ℕ → ℕ → ℕ → List (List Value) → Result (List (List Value)) Fault
+scored_from column max place row [] = Ok []
+scored_from column max place row (values ∷ rest) =
+    if is_score max (number_at place values) then (do
+      rows ← scored_from column max place (row + 1) rest
+      Ok (values ∷ rows))
+    else Err (BadScore column row (number_at place values) max)
+
+-- the lines of rows, from this rank on
+abbrev pub lines_from : ℕ → ℕ → List (List Value) → List (List ℕ)
+lines_from rank place [] = []
+lines_from rank place (values ∷ rest) = line_of rank (score_at place values) values ∷ lines_from (rank + 1) place rest
+
+-- the first rows by score, greatest first, a tie to the earlier row
+abbrev pub best_rows : ℕ → ℕ → List (List Value) → List (List Value)
+best_rows count place rows = take count (stable (score_at place) rows)
+
+-- the lines of a table's first rows by the number in a column, or the first row whose number is no score
+abbrev pub ranked_lines : TopWords → Relation → Result (List (List ℕ)) Fault
+ranked_lines top table =
+    let place = unwrap_or (place_of top.column table.schema) 0 in
+    (do
+      rows ← scored_from top.column top.max place 1 table.rows
+      Ok (lines_from 1 place (best_rows top.count place rows)))
+
+-- the lines that `top` prints of a file, or the fault that comes before any
+abbrev pub top_lines : TopWords → Option (List ℕ) → Result (List (List ℕ)) Fault
+top_lines top there = do
+  bytes ← content_of table_limit top.file there
+  columns ← or_table_fault top.file (header_of top.column bytes)
+  table ← or_table_fault top.file (table_of columns bytes)
+  ranked_lines top table
