@@ -76,13 +76,17 @@ HaltsAt (PutFailed part) rest files out files_steady out_steady =
 HaltsAt (FetchFailed name) rest files out files_steady out_steady =
     (more : List Event) × (rest ≡ Fetch name ∷ more) × Faulted files files_steady
 
+-- what files tell when these names were fetched too
+abbrev pub fetched_more : List (List ℕ) → FilesTold → FilesTold
+fetched_more names told = record told { fetched = told.fetched ++ names }
+
 -- the events of a run that were done: all, or those before its halt
 pub record Does (run : Run) (halt : Halt) (files : Seen FilesTold) (out : Seen (List (List ℕ))) (files_steady out_steady : Type 0) : Type 0 where
   pub done : List Event
   pub rest : List Event
   pub split : run.events ≡ done ++ rest
   pub halts : HaltsAt halt rest files out files_steady out_steady
-  pub fetched : files.after ≡ option_map (λ told. record told { fetched = told.fetched ++ (fetches done ++ name_of halt) }) files.before
+  pub fetched : files.after ≡ option_map (fetched_more (fetches done ++ name_of halt)) files.before
   pub put : out.after ≡ option_map (λ pieces. pieces ++ (puts done ++ piece_of halt)) out.before
 
 -- what a run did: its events up to a halt, and then the status and the line of the halt

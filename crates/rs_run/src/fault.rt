@@ -1,6 +1,15 @@
+ghost use Rattle.std.specs.Prelude.{◌≡◌, Some, IfOk};
+ghost use Rattle.std.specs.String.{string_bytes};
+ghost use Rattle.rs_run.specs.Faults.{fault_line, fetch_text, status_of, table_text};
+
+use crate::status::Status;
 use rs_outside::FetchFault;
 use rs_table::TableFault;
-use rs_value::Text;
+use rs_value::{Memory, Text};
+use std::alloc::Global;
+
+const USAGE: &str =
+    "usage: ranksql top FILE COLUMN MAX K, run SCRIPT SEED, plain SCRIPT, gen NUMBER ROWS\n";
 
 /// What ends a run early, with what its line on standard error tells.
 #[derive(Debug, Drop)]
@@ -16,4 +25,99 @@ pub enum Fault {
     Table { name: Text, why: TableFault },
     /// A row's number is no score. Rows count from 1.
     BadScore { predicate: Text, row: u32, got: i128, max: u32 },
+}
+
+impl From<Memory> for Fault {
+    fn from(_memory: Memory) -> Fault {
+        Fault::Memory
+    }
+}
+
+impl Fault {
+    /// The status of a run that ends with this fault.
+    pub fn status(&self) -> Status
+        ensures { result ≡ status_of (Some self.now) }
+    {
+        match self {
+            Fault::Memory => Status::Memory,
+            Fault::Usage => Status::Usage,
+            Fault::Read { .. } => Status::Read,
+            Fault::Write => Status::Write,
+            Fault::Table { .. } => Status::Table,
+            Fault::BadScore { .. } => Status::BadScore,
+        }
+    }
+
+    /// The fault's line for standard error, ended by a line feed.
+    pub fn line(&self, alloc: Global) -> Result<String, Memory>
+        ensures { IfOk result (λ line. string_bytes line ≡ fault_line self.now) }
+    {
+        match self {
+            Fault::Memory => Ok(String::from_str(alloc, "memory\n")?),
+            Fault::Usage => Ok(String::from_str(alloc, USAGE)?),
+            Fault::Read { name, why } => read_line(alloc, name, *why),
+            Fault::Write => Ok(String::from_str(alloc, "write\n")?),
+            Fault::Table { name, why } => table_line(alloc, name, why),
+            Fault::BadScore { predicate, row, got, max } => {
+                let predicate = predicate.as_str();
+                Ok(format!(in alloc; "score: {predicate} rows {row}: {got} is not in 0..{max}\n")?)
+            }
+        }
+    }
+}
+
+// The line of a file that was not read.
+fn read_line(alloc: Global, name: &Text, why: FetchFault) -> Result<String, Memory>
+    ensures { IfOk result (λ line. string_bytes line ≡ fault_line (Fault.Read name.now why)) }
+{
+    let name = name.as_str();
+    let why = fetch_text(why);
+    Ok(format!(in alloc; "read: {name}: {why}\n")?)
+}
+
+fn fetch_text(why: FetchFault) -> &'static str
+    ensures { result.now ≡ fetch_text why }
+{
+    match why {
+        FetchFault::Missing => "missing",
+        FetchFault::TooLong => "too long",
+        FetchFault::Failed => "failed",
+        FetchFault::Memory => "memory",
+    }
+}
+
+// The line of a file that is no table.
+fn table_line(alloc: Global, name: &Text, why: &TableFault) -> Result<String, Memory>
+    ensures { IfOk result (λ line. string_bytes line ≡ fault_line (Fault.Table name.now why.now)) }
+{
+    let why = table_text(alloc, why)?;
+    let name = name.as_str();
+    let why = why.as_str();
+    Ok(format!(in alloc; "table: {name}: {why}\n")?)
+}
+
+fn table_text(alloc: Global, why: &TableFault) -> Result<String, Memory>
+    ensures { IfOk result (λ text. string_bytes text ≡ table_text why.now) }
+{
+    match why {
+        TableFault::NoHeader => Ok(String::from_str(alloc, "NoHeader")?),
+        TableFault::HeaderDiffers { column } => {
+            Ok(format!(in alloc; "HeaderDiffers column {column}")?)
+        }
+        TableFault::FieldCount { row, found } => {
+            Ok(format!(in alloc; "FieldCount row {row} found {found}")?)
+        }
+        TableFault::NotUtf8 { row, column } => {
+            Ok(format!(in alloc; "NotUtf8 row {row} column {column}")?)
+        }
+        TableFault::NotInt { row, column } => {
+            Ok(format!(in alloc; "NotInt row {row} column {column}")?)
+        }
+        TableFault::TooManyRows => Ok(String::from_str(alloc, "TooManyRows")?),
+        TableFault::Memory => Ok(String::from_str(alloc, "memory")?),
+        TableFault::NoColumn => Ok(String::from_str(alloc, "NoColumn")?),
+        TableFault::TooManyColumns { found } => {
+            Ok(format!(in alloc; "TooManyColumns found {found}")?)
+        }
+    }
 }

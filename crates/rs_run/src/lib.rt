@@ -2,7 +2,9 @@
 #![tactic(auto)]
 
 mod fault;
+mod report;
 mod status;
+mod words;
 
 pub use fault::Fault;
 pub use status::Status;

@@ -1,0 +1,7 @@
+use Rattle.std.proofs.Common.{append_assoc}
+use Rattle.rs_run.specs.Faults.{fault_line}
+use Rattle.rs_run.proofs.fault.Fault.line.Goals as goal
+
+pub returns-in_ok-format-in-BadScore : goal.returns-in_ok-format-in-BadScore
+returns-in_ok-format-in-BadScore c =
+    rw c.in-BadScore.is (simp append_assoc (rw c.as_str-predicate.ensures at c.in_ok-format-in-BadScore.ensures.ok))
