@@ -215,6 +215,14 @@ Falls-Descends score [] down = tt
 Falls-Descends score (first ∷ rest) down =
     (AllByRecursion-Descends score (score first) first rest (omega arith) down, Falls-Descends score rest (λ k d within. down (suc k) d (omega arith)))
 
+-- a list in which no later row has a higher score, and that has the rows of each score as they stood, is the stable order
+pub stable-is_unique : {T : Type 0} (score : T → ℕ) (rows ordered : List T) → ((i j : ℕ) (d : T) → i ≤ j → j < length ordered → score (get_or ordered j d) ≤ score (get_or ordered i d)) → ((n : ℕ) → of_score score n ordered ≡ of_score score n rows) → ordered ≡ stable score rows
+stable-is_unique score rows ordered down same =
+    Falls-unique score ordered (stable score rows)
+        (Falls-Descends score ordered (λ k d within. down k (suc k) d (omega arith) within))
+        (Falls-stable score rows)
+        (λ row. same (score row) ∙ sym (of_score-stable score (score row) rows))
+
 -- the test by which a sort puts greater scores first
 abbrev ranks_before : {T : Type 0} → (T → ℕ) → T → T → Bool
 ranks_before score x y = is_lt (nat_cmp (score y) (score x))
