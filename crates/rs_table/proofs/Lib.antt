@@ -1,0 +1,2 @@
+pub mod RecordsFacts
+mod WorkedRecords
