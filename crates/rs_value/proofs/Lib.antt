@@ -1,2 +1,4 @@
 pub mod NumberFacts
+pub mod OnLiterals
 pub mod TextFacts
+pub mod Worked

@@ -11,6 +11,6 @@ mod value;
 pub use kind::Kind;
 pub use list::List;
 pub use memory::Memory;
-pub use number::{decimal_of, int_of};
+pub use number::{GREATEST_INT, decimal_of, int_of};
 pub use text::{Text, TextFault};
 pub use value::Value;

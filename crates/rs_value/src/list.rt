@@ -15,7 +15,7 @@ impl<T> Model for List<T> {
 }
 
 impl<T> List<T> {
-    ghost use Rattle.std.specs.Prelude.{◌≡◌};
+    ghost use Rattle.std.specs.Prelude.{◌≡◌, ◌↔◌, [], length, IsTrue};
 
     /// The list of these items, in their order. It takes no memory.
     pub fn of(items: Vec<T>) -> List<T>
@@ -29,5 +29,25 @@ impl<T> List<T> {
         ensures { result.now.items ≡ self.now }
     {
         &self.items
+    }
+
+    /// The items in order, as the `Vec` that they came in. It takes no memory.
+    pub fn into_items(self) -> Vec<T>
+        ensures { result.items ≡ self }
+    {
+        self.items
+    }
+
+    /// How many items the list has.
+    pub fn len(&self) -> usize
+        ensures { result ≡ length self.now }
+    {
+        self.items.len()
+    }
+
+    pub fn is_empty(&self) -> bool
+        ensures { IsTrue result ↔ (self.now ≡ []) }
+    {
+        self.items.is_empty()
     }
 }

@@ -1,8 +1,18 @@
 use std::alloc::{AllocError, AllocFailed};
+use std::error::Error;
+use std::fmt::{self, Display, Formatter, Write};
 
 /// The answer for want of memory. It says nothing of any argument, and may come from each call that has it.
 #[derive(Clone, Copy, Debug, PartialEq, Eq)]
 pub struct Memory;
+
+impl Display for Memory {
+    fn fmt<W: Write>(&self, f: &mut Formatter<W>) -> fmt::Result {
+        f.write_str("there is no memory")
+    }
+}
+
+impl Error for Memory {}
 
 impl From<AllocError> for Memory {
     fn from(_error: AllocError) -> Memory {

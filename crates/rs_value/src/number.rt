@@ -1,5 +1,5 @@
-ghost use Rattle.std.specs.Prelude.{◌≡◌};
-ghost use Rattle.rs_value.specs.Number.{decimal_value, int_value};
+ghost use Rattle.std.specs.Prelude.{◌≡◌, ◌≤◌, IfSome, nat_abs};
+ghost use Rattle.rs_value.specs.Number.{decimal_value, greatest_int, int_value};
 
 /// The greatest magnitude of a number in a table or a script.
 pub const GREATEST_INT: u64 = 4_000_000_000_000_000_000;
@@ -28,7 +28,8 @@ pub fn decimal_of(digits: &[u8], most: u64) -> Option<u64>
 /// The number of a cell: an optional `+` or `-`, then one or more decimal digits, from
 /// -4,000,000,000,000,000,000 to 4,000,000,000,000,000,000.
 pub fn int_of(bytes: &[u8]) -> Option<i64>
-    ensures { result ≡ int_value bytes.now }
+    ensures value { result ≡ int_value bytes.now }
+    ensures in_range { IfSome result (λ n. nat_abs n ≤ greatest_int) }
 {
     match bytes {
         [b'-', digits @ ..] => Some(-(decimal_of(digits, GREATEST_INT)? as i64)),

@@ -7,7 +7,7 @@ use crate::text::Text;
 use std::cmp::Ordering;
 
 /// A cell of a table.
-#[derive(Debug, Drop)]
+#[derive(Debug, Drop, PartialEq, Eq, PartialOrd, Ord, Hash)]
 pub enum Value {
     /// A number from -4,000,000,000,000,000,000 to 4,000,000,000,000,000,000.
     Int(i64),

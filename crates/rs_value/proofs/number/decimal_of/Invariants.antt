@@ -9,5 +9,5 @@ abbrev pub invariant-loop-digit : goal.invariant-loop-digit
 invariant-loop-digit l = record {
   small : l.number ≤ l.most;
   goes_on : fold (λ n digit. 10 * n + (digit - 48)) l.number (drop l.digit-index l.digits) ≡ number_of l.digits;
-  digits : list_all is_ascii_digit (drop l.digit-index l.digits) ≡ list_all is_ascii_digit l.digits
+  digits : list_all is_ascii_digit (drop l.digit-index l.digits) ≡ list_all is_ascii_digit l.digits;
 }
