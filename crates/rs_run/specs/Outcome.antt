@@ -1,5 +1,5 @@
 -- What a run did, beside what its definition says.
-use Rattle.std.specs.Prelude.{ℕ, ◌≡◌, ◌⊎◌, ⊤, List, [], ◌∷◌, ◌++◌, Option, Some, None, option_map}
+use Rattle.std.specs.Prelude.{ℕ, ◌≡◌, ◌⊎◌, ⊤, Result, Ok, Err, List, [], ◌∷◌, ◌++◌, Option, Some, None, option_map}
 use Rattle.rs_outside.specs.Faults.{Rose}
 use Rattle.rs_outside.specs.Files.{Folder, FilesTold, file_named}
 use Rattle.rs_outside.specs.Sink.{IsPrefix}
@@ -94,6 +94,17 @@ pub record Outcome (run : Run) (status : Status) (files : Seen FilesTold) (out e
   pub halt : Halt
   pub does : Does run halt files out files_steady out_steady
   pub reports : Reports (fault_of run halt) status err err_steady
+
+-- the answer of a call whose fault this is, if there is one; there may be no memory for what a fault tells
+abbrev pub Answers : Option Fault → Result (Unit {0}) Fault → Type 0
+Answers None result = result ≡ Ok tt
+Answers (Some fault) result = (result ≡ Err fault) ⊎ (result ≡ Err Memory)
+
+-- a run up to its halt, with the answer of the call that made it
+pub record Ran (run : Run) (result : Result (Unit {0}) Fault) (files : Seen FilesTold) (out : Seen (List (List ℕ))) (files_steady out_steady : Type 0) : Type 0 where
+  pub halt : Halt
+  pub does : Does run halt files out files_steady out_steady
+  pub answers : Answers (fault_of run halt) result
 
 -- a fact that holds for the files that are told; where none are, for some files
 abbrev pub ForFiles : Option FilesTold → ((List ℕ → Option (List ℕ)) → Type 0) → Type 0

@@ -76,10 +76,13 @@ ranked_lines top table =
       rows ← scored_from top.column top.max place 1 table.rows
       Ok (lines_from 1 place (best_rows top.count place rows)))
 
+-- the table that `top` reads of a file, or why there is none
+abbrev pub top_table : List ℕ → List ℕ → Option (List ℕ) → Result Relation Fault
+top_table file column there = do
+  bytes ← content_of table_limit file there
+  columns ← or_table_fault file (header_of column bytes)
+  or_table_fault file (table_of columns bytes)
+
 -- the lines that `top` prints of a file, or the fault that comes before any
 abbrev pub top_lines : TopWords → Option (List ℕ) → Result (List (List ℕ)) Fault
-top_lines top there = do
-  bytes ← content_of table_limit top.file there
-  columns ← or_table_fault top.file (header_of top.column bytes)
-  table ← or_table_fault top.file (table_of columns bytes)
-  ranked_lines top table
+top_lines top there = top_table top.file top.column there >>= ranked_lines top

@@ -6,7 +6,7 @@ use crate::status::Status;
 use rs_outside::FetchFault;
 use rs_table::TableFault;
 use rs_value::{Memory, Text};
-use std::alloc::Global;
+use std::alloc::{AllocFailed, Global};
 
 const USAGE: &str =
     "usage: ranksql top FILE COLUMN MAX K, run SCRIPT SEED, plain SCRIPT, gen NUMBER ROWS\n";
@@ -28,7 +28,21 @@ pub enum Fault {
 }
 
 impl From<Memory> for Fault {
+    ghost use Rattle.rs_run.specs.declared.fault.Fault.TheVariants as fault;
+
+    ghost from_gives = { λ _ f. f ≡ fault.Memory };
+
     fn from(_memory: Memory) -> Fault {
+        Fault::Memory
+    }
+}
+
+impl<T: Drop> From<AllocFailed<T>> for Fault {
+    ghost use Rattle.rs_run.specs.declared.fault.Fault.TheVariants as fault;
+
+    ghost from_gives = { λ _ f. f ≡ fault.Memory };
+
+    fn from(_failed: AllocFailed<T>) -> Fault {
         Fault::Memory
     }
 }

@@ -2,9 +2,12 @@
 #![tactic(auto)]
 
 mod fault;
-mod report;
+mod ranked_row;
+pub mod report;
 mod status;
 mod words;
 
 pub use fault::Fault;
+pub use ranked_row::RankedRow;
 pub use status::Status;
+pub use words::number_word;

@@ -1,0 +1,166 @@
+-- Runs of events, put together from what the parts did.
+use Rattle.std.proofs.Common.{ℕ, ◌≡◌, ◌∙◌, ◌+◌, ◌≤◌, ◌++◌, List, [], ◌∷◌, map, take, zero, suc, Some, None, refl, sym, ap, subst, append_assoc, append-nil}
+use Rattle.std.specs.Prelude.{Option, Result, Ok, Err, IfSome, option_map, unwrap_or, ◌⊎◌}
+use Rattle.std.proofs.Common.{inl, inr}
+use Rattle.std.specs.List.{AllByRecursion}
+use Rattle.rs_value.specs.declared.value.Value.{Value}
+use Rattle.rs_outside.specs.Files.{FilesTold, file_named}
+use Rattle.rs_outside.specs.declared.files.FetchFault.TheVariants.{Failed}
+use Rattle.rs_table.specs.Column.{place_of}
+use Rattle.rs_table.specs.Relation.{Relation}
+use Rattle.rs_table.specs.Reading.{◌>>=◌}
+use Rattle.rs_lines.specs.Row.{line_of}
+use Rattle.rs_run.specs.declared.fault.Fault.{Fault}
+use Rattle.rs_run.specs.declared.fault.Fault.TheVariants.{Memory, Write, Read}
+use Rattle.rs_run.specs.declared.ranked_row.RankedRow.{RankedRow}
+use Rattle.rs_run.specs.Words.{TopWords}
+use Rattle.rs_run.specs.Top.{top_table, top_lines, ranked_lines, lines_from, score_at, scored_from, best_rows}
+use Rattle.rs_run.specs.Run.{Event, Fetch, Put, Run, fetches, puts, fetch_then}
+use Rattle.rs_run.specs.Outcome.{Seen, Faulted, Halt, Ended, NoMemory, PutFailed, FetchFailed, Does, Ran, Answers, ForFiles, fetched_more, fault_of}
+use Rattle.rs_run.specs.Steps.{FetchesTable, NotFetched, FetchFails, Fetched, Ranks, PutsLines, PutsAll, PutsSome, PutsPart, IsRanked, IsRow, lines_of, row_in}
+
+-- a fact of what is there under a name holds for the files that are told, or for some files
+pub ForFiles-there : (told : Option FilesTold) (name : List ℕ) (there : Option (List ℕ)) (P : Option (List ℕ) → Type 0)
+    → IfSome told (λ t. file_named name t.folder ≡ there) → P there → ForFiles told (λ files. P (files name))
+ForFiles-there (Some told) name there P e p = subst P (sym e) p
+ForFiles-there None name there P e p = ((λ other. there), p)
+
+-- what is told stays as it is when no name is fetched
+fetched_more-nil : (told : Option FilesTold) → told ≡ option_map (fetched_more []) told
+fetched_more-nil None = refl
+fetched_more-nil (Some told) = ap (λ names. Some (record told { fetched = names })) (sym (append-nil told.fetched))
+
+-- pieces stay as they are when none is put
+pieces-nil : (pieces : Option (List (List ℕ))) → pieces ≡ option_map (λ held. held ++ []) pieces
+pieces-nil None = refl
+pieces-nil (Some held) = ap Some (sym (append-nil held))
+
+-- what is left of a run behind its fetch
+rest_of : Result (List (List ℕ)) Fault → List Event
+rest_of (Ok lines) = map Put lines
+rest_of (Err fault) = []
+
+events-fetch_then : (name : List ℕ) (lines : Result (List (List ℕ)) Fault) → (fetch_then name lines).events ≡ Fetch name ∷ rest_of lines
+unfolding rest_of
+events-fetch_then name (Ok lines) = refl
+events-fetch_then name (Err fault) = refl
+
+fetches-puts : (lines : List (List ℕ)) → fetches (map Put lines) ≡ []
+fetches-puts [] = refl
+fetches-puts (line ∷ rest) = fetches-puts rest
+
+puts-puts : (lines : List (List ℕ)) → puts (map Put lines) ≡ lines
+puts-puts [] = refl
+puts-puts (line ∷ rest) = ap (λ rest. line ∷ rest) (puts-puts rest)
+
+map_put-append : (a b : List (List ℕ)) → map Put (a ++ b) ≡ map Put a ++ map Put b
+map_put-append [] b = refl
+map_put-append (line ∷ rest) b = ap (λ rest. Put line ∷ rest) (map_put-append rest b)
+
+-- a fault before any put ends the run
+pub Ran-fault : (name : List ℕ) (fault : Fault) (files : Seen FilesTold) (out : Seen (List (List ℕ))) (fs os : Type 0)
+    → files.after ≡ option_map (fetched_more (name ∷ [])) files.before → out.after ≡ out.before
+    → Ran (fetch_then name (Err fault)) (Err fault) files out fs os
+Ran-fault name fault files out fs os fetched same = record {
+    halt = Ended;
+    does = record { done = Fetch name ∷ []; rest = []; split = refl; halts = refl; fetched = fetched; put = same ∙ pieces-nil out.before };
+    answers = inl refl }
+
+-- there was no memory behind the fetch
+pub Ran-no_memory : (name : List ℕ) (lines : Result (List (List ℕ)) Fault) (files : Seen FilesTold) (out : Seen (List (List ℕ))) (fs os : Type 0)
+    → files.after ≡ option_map (fetched_more (name ∷ [])) files.before → out.after ≡ out.before
+    → Ran (fetch_then name lines) (Err Memory) files out fs os
+Ran-no_memory name lines files out fs os fetched same = record {
+    halt = NoMemory;
+    does = record { done = Fetch name ∷ []; rest = rest_of lines; split = events-fetch_then name lines; halts = tt; fetched = fetched; put = same ∙ pieces-nil out.before };
+    answers = inl refl }
+
+-- there was no memory for the fetch
+pub Ran-unfetched : (name : List ℕ) (lines : Result (List (List ℕ)) Fault) (files : Seen FilesTold) (out : Seen (List (List ℕ))) (fs os : Type 0)
+    → files.after ≡ files.before → out.after ≡ out.before
+    → Ran (fetch_then name lines) (Err Memory) files out fs os
+Ran-unfetched name lines files out fs os fetched same = record {
+    halt = NoMemory;
+    does = record { done = []; rest = (fetch_then name lines).events; split = refl; halts = tt; fetched = fetched ∙ fetched_more-nil files.before; put = same ∙ pieces-nil out.before };
+    answers = inl refl }
+
+-- the fetch failed
+pub Ran-fetch_failed : (name : List ℕ) (lines : Result (List (List ℕ)) Fault) (result : Result (Unit {0}) Fault) (files : Seen FilesTold) (out : Seen (List (List ℕ))) (fs os : Type 0)
+    → files.after ≡ option_map (fetched_more (name ∷ [])) files.before → Faulted files fs → out.after ≡ out.before
+    → (result ≡ Err (Read name Failed)) ⊎ (result ≡ Err Memory)
+    → Ran (fetch_then name lines) result files out fs os
+Ran-fetch_failed name lines result files out fs os fetched faulted same answers = record {
+    halt = FetchFailed name;
+    does = record { done = []; rest = Fetch name ∷ rest_of lines; split = events-fetch_then name lines; halts = (rest_of lines, refl, faulted); fetched = fetched; put = same ∙ pieces-nil out.before };
+    answers = answers }
+
+-- the same fault, of a call that answers something else
+fault-at : {A B : Type 0} (f g : Fault) → ◌≡◌ {A = Result A Fault} (Err f) (Err g) → ◌≡◌ {A = Result B Fault} (Err f) (Err g)
+fault-at f g e = ap Err (let same : f ≡ g = cc in same)
+
+-- no table was fetched
+pub Ran-no_table : (name column : List ℕ) (there : Option (List ℕ)) (more : Relation → Result (List (List ℕ)) Fault) (fault : Fault) (files : Seen FilesTold) (out : Seen (List (List ℕ))) (fs os : Type 0)
+    → (NotFetched {A = Relation} (Err fault) files ⊎ FetchFails {A = Relation} name (Err fault) files fs) ⊎ Fetched name (top_table name column there) (Err fault) files
+    → out.after ≡ out.before
+    → Ran (fetch_then name (top_table name column there >>= more)) (Err fault) files out fs os
+Ran-no_table name column there more fault files out fs os (inl (inl nothing)) same =
+    subst (λ r. Ran (fetch_then name (top_table name column there >>= more)) r files out fs os) (sym (fault-at fault Memory nothing.memory))
+      (Ran-unfetched name _ files out fs os nothing.same same)
+Ran-no_table name column there more fault files out fs os (inl (inr failed)) same =
+    Ran-fetch_failed name _ (Err fault) files out fs os failed.fetched failed.faulted same
+      (elim failed.answers [ inl e ↦ inl (fault-at fault (Read name Failed) e) | inr e ↦ inr (fault-at fault Memory e) ])
+Ran-no_table name column there more fault files out fs os (inr fetched) same =
+    elim fetched.answers [
+      inl e ↦ subst (λ r. Ran (fetch_then name (r >>= more)) (Err fault) files out fs os) e (Ran-fault name fault files out fs os fetched.fetched same)
+    | inr e ↦ subst (λ r. Ran (fetch_then name (top_table name column there >>= more)) r files out fs os) (sym (fault-at fault Memory e))
+        (Ran-no_memory name _ files out fs os fetched.fetched same) ]
+
+-- lines were put behind the fetch
+pub Ran-lines : (name : List ℕ) (lines : List (List ℕ)) (result : Result (Unit {0}) Fault) (files : Seen FilesTold) (out : Seen (List (List ℕ))) (fs os : Type 0)
+    → files.after ≡ option_map (fetched_more (name ∷ [])) files.before
+    → PutsLines lines result out os
+    → Ran (fetch_then name (Ok lines)) result files out fs os
+Ran-lines name lines result files out fs os fetched p = go p.ends where
+  events : (fetch_then name (Ok lines)).events ≡ (Fetch name ∷ map Put p.done) ++ map Put p.rest
+  events = ap (λ rest. Fetch name ∷ rest) (ap (map Put) p.split ∙ map_put-append p.done p.rest)
+  names : (halt : List (List ℕ)) → halt ≡ [] → files.after ≡ option_map (fetched_more (fetches (Fetch name ∷ map Put p.done) ++ halt)) files.before
+  names halt none = fetched ∙ ap (λ names. option_map (fetched_more names) files.before) (sym (ap (λ rest. name ∷ rest) (ap (λ none. none ++ halt) (fetches-puts p.done) ∙ none)))
+  pieces : (piece : List (List ℕ)) → out.after ≡ option_map (λ held. held ++ (p.done ++ piece)) out.before → out.after ≡ option_map (λ held. held ++ (puts (Fetch name ∷ map Put p.done) ++ piece)) out.before
+  pieces piece e = e ∙ ap (λ done. option_map (λ held. held ++ (done ++ piece)) out.before) (sym (puts-puts p.done))
+  unended : out.after ≡ option_map (λ held. held ++ p.done) out.before → out.after ≡ option_map (λ held. held ++ (p.done ++ [])) out.before
+  unended e = e ∙ ap (λ done. option_map (λ held. held ++ done) out.before) (sym (append-nil p.done))
+  go : (PutsAll p.done p.rest result out ⊎ PutsSome p.done result out) ⊎ PutsPart p.done p.rest result out os → Ran (fetch_then name (Ok lines)) result files out fs os
+  go (inl (inl all)) = record {
+      halt = Ended;
+      does = record { done = Fetch name ∷ map Put p.done; rest = map Put p.rest; split = events; halts = ap (map Put) all.all; fetched = names [] refl; put = pieces [] (unended all.put) };
+      answers = all.ok }
+  go (inl (inr some)) = record {
+      halt = NoMemory;
+      does = record { done = Fetch name ∷ map Put p.done; rest = map Put p.rest; split = events; halts = tt; fetched = names [] refl; put = pieces [] (unended some.put) };
+      answers = inl some.memory }
+  go (inr part) = record {
+      halt = PutFailed part.part;
+      does = record { done = Fetch name ∷ map Put p.done; rest = map Put p.rest; split = events; halts = (part.line, map Put part.more, ap (map Put) part.next, part.prefix, part.faulted); fetched = names [] refl; put = pieces (part.part ∷ []) part.put };
+      answers = inl part.write }
+
+-- ranked rows are rows of the table
+pub are_rows : (table : Relation) (place : ℕ) (ranked : List RankedRow) → AllByRecursion (λ r. IsRanked table place r.score r.row) ranked → AllByRecursion (λ r. IsRow table r.row) ranked
+are_rows table place [] each = tt
+are_rows table place (r ∷ rest) each = (each.0.is_row, are_rows table place rest each.1)
+
+-- the lines of ranked rows are those of the rows by the number at the place
+pub lines_of-ranked : (table : Relation) (place rank count : ℕ) (ranked : List RankedRow) → AllByRecursion (λ r. IsRanked table place r.score r.row) ranked
+    → lines_of table rank (take count ranked) ≡ lines_from rank place (take count (map (λ r. row_in table r.row) ranked))
+lines_of-ranked table place rank zero ranked each = refl
+lines_of-ranked table place rank (suc count) [] each = refl
+lines_of-ranked table place rank (suc count) (r ∷ rest) each =
+    rw each.0.scored (ap (λ lines. line_of rank (score_at place (row_in table r.row)) (row_in table r.row) ∷ lines) (lines_of-ranked table place (rank + 1) count rest each.1))
+
+-- the lines of a table's first rows are those of the rows that were ranked
+pub ranked_lines-ranks : (top : TopWords) (table : Relation) (ranked : List RankedRow) → Ranks table top.column top.max (unwrap_or (place_of top.column table.schema) 0) ranked
+    → ranked_lines top table ≡ Ok (lines_of table 1 (take top.count ranked))
+ranked_lines-ranks top table ranked ranks =
+    let place = unwrap_or (place_of top.column table.schema) 0 in
+    ap (λ r. r >>= (λ rows. Ok (lines_from 1 place (best_rows top.count place rows)))) ranks.scored
+    ∙ ap (λ rows. Ok (lines_from 1 place (take top.count rows))) (sym ranks.ordered)
+    ∙ ap Ok (sym (lines_of-ranked table place 1 top.count ranked ranks.each))
