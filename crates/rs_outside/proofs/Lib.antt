@@ -1,0 +1,2 @@
+pub mod FolderFacts
+pub mod PieceFacts
