@@ -8,10 +8,9 @@ ghost use Rattle.rs_outside.specs.Files.{FilesTold, file_named, Fetches, told_af
 
 use crate::files::{FetchFault, Files};
 use rs_value::Text;
-use std::fs;
-use std::io;
 use std::io::{ErrorKind, Read};
 use std::marker::Model;
+use std::{fs, io};
 
 /// How many bytes one read asks for at most.
 const CHUNK: usize = 8192;

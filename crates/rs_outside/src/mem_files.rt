@@ -40,7 +40,11 @@ impl Model for MemFiles {
     ghost Value = { MemFilesState };
 
     ghost view = { λ m. record {
-        folder = m.files.items; fetched = m.fetched.items; failing = m.failing.items; faults = m.faults } };
+      folder = m.files.items;
+      fetched = m.fetched.items;
+      failing = m.failing.items;
+      faults = m.faults;
+    } };
 }
 
 /// The place of the first file of this name.
