@@ -2,8 +2,16 @@
 //! tells of itself and when it may fail; fakes in memory; and the thin edge to the system.
 #![tactic(auto)]
 
+mod dir_files;
 mod files;
+mod mem_files;
+mod mem_sink;
+mod out_sink;
 mod sink;
 
+pub use dir_files::DirFiles;
 pub use files::{FetchFault, Files};
+pub use mem_files::MemFiles;
+pub use mem_sink::MemSink;
+pub use out_sink::OutSink;
 pub use sink::{Sink, SinkFault};

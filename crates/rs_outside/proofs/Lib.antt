@@ -1,0 +1,4 @@
+pub mod FetchFacts
+pub mod FolderFacts
+pub mod PieceFacts
+pub mod StreamFacts

@@ -1,0 +1,47 @@
+-- Reading a file of the system.
+use Rattle.std.specs.Prelude.{ℕ, ◌≡◌, ◌<◌, ◌≤◌, List, ◌++◌, length, Option, IfSome, Result, Ok, Err}
+use Rattle.std.specs.declared.io.ErrorKind.{ErrorKind}
+use Rattle.std.specs.declared.io.ErrorKind.TheVariants.{NotFound, OutOfMemory}
+use Rattle.rs_outside.specs.declared.files.FetchFault.{FetchFault}
+use Rattle.rs_outside.specs.declared.files.FetchFault.TheVariants.{Missing, TooLong, Failed, Memory}
+use Rattle.rs_outside.specs.Faults.{raised}
+use Rattle.rs_outside.specs.Sink.{IsPrefix}
+
+-- the fault that an error of the system is when a file is opened
+abbrev pub open_fault : ErrorKind → FetchFault
+open_fault NotFound = Missing
+open_fault OutOfMemory = Memory
+open_fault other = Failed
+
+-- the fault that an error of the system is when an open file is read
+abbrev pub read_fault : ErrorKind → FetchFault
+read_fault OutOfMemory = Memory
+read_fault other = Failed
+
+-- what reading to the end answers where these bytes were read, and these were left, if that is known
+abbrev pub ReadToEnd : Option (List ℕ) → ℕ → List ℕ → Result (Unit {0}) FetchFault → Type 0
+ReadToEnd left limit bytes (Ok done) = (length bytes ≤ limit) × IfSome left (λ all. all ≡ bytes)
+ReadToEnd left limit bytes (Err TooLong) = (limit < length bytes) × IfSome left (λ all. IsPrefix bytes all)
+ReadToEnd left limit bytes (Err Missing) = ⊥
+ReadToEnd left limit bytes (Err Failed) = Unit {0}
+ReadToEnd left limit bytes (Err Memory) = Unit {0}
+
+-- some bytes are appended, which are all that is left where the answer is Ok, and more than the limit where it is too long
+abbrev pub AppendsRest : Option (List ℕ) → ℕ → List ℕ → Result (Unit {0}) FetchFault → List ℕ → Type 0
+AppendsRest left limit old result new = (bytes : List ℕ) × (new ≡ old ++ bytes) × ReadToEnd left limit bytes result
+
+-- some bytes are appended, no more than the limit where the answer is Ok, and more where it is too long
+abbrev pub AppendsSome : ℕ → List ℕ → Result (Unit {0}) FetchFault → List ℕ → Type 0
+AppendsSome limit old (Ok done) new = (bytes : List ℕ) × (new ≡ old ++ bytes) × (length bytes ≤ limit)
+AppendsSome limit old (Err TooLong) new = (bytes : List ℕ) × (new ≡ old ++ bytes) × (limit < length bytes)
+AppendsSome limit old (Err Missing) new = (bytes : List ℕ) × (new ≡ old ++ bytes)
+AppendsSome limit old (Err Failed) new = (bytes : List ℕ) × (new ≡ old ++ bytes)
+AppendsSome limit old (Err Memory) new = (bytes : List ℕ) × (new ≡ old ++ bytes)
+
+-- the count of faults after a fetch with this answer
+abbrev pub faults_after_fetch : Result (Unit {0}) FetchFault → ℕ → ℕ
+faults_after_fetch (Ok done) count = count
+faults_after_fetch (Err Missing) count = count
+faults_after_fetch (Err TooLong) count = count
+faults_after_fetch (Err Failed) count = raised count
+faults_after_fetch (Err Memory) count = count

@@ -1,0 +1,17 @@
+-- Writing to a stream of the system.
+use Rattle.std.specs.Prelude.{ℕ, ◌≡◌, List, Option, Result, Ok, Err, OnOk}
+use Rattle.std.specs.Io.KnownBytes.{Appends}
+use Rattle.rs_outside.specs.declared.sink.SinkFault.{SinkFault}
+use Rattle.rs_outside.specs.declared.sink.SinkFault.TheVariants.{Failed, Memory}
+use Rattle.rs_outside.specs.Faults.{raised}
+use Rattle.rs_outside.specs.Sink.{IsPrefix}
+
+-- a prefix of these bytes was written, which is all of them where the answer is Ok
+abbrev pub WritesWhole : Option (List ℕ) → Option (List ℕ) → Result (Unit {0}) SinkFault → List ℕ → Type 0
+WritesWhole old new result bytes = (part : List ℕ) × IsPrefix part bytes × Appends old new part × OnOk result (part ≡ bytes)
+
+-- the count of faults after a put with this answer
+abbrev pub faults_after_put : Result (Unit {0}) SinkFault → ℕ → ℕ
+faults_after_put (Ok done) count = count
+faults_after_put (Err Failed) count = raised count
+faults_after_put (Err Memory) count = count

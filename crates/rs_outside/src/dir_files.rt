@@ -1,0 +1,139 @@
+ghost use Rattle.std.specs.Prelude.{◌≡◌, ◌≢◌, ◌≤◌, ℕ, List, Option, None, IfSome, option_map};
+ghost use Rattle.std.specs.Io.{ReadsAtMost};
+ghost use Rattle.std.specs.Io.KnownBytes.{ReadConsumes};
+ghost use Rattle.std.specs.IoError.{error_kind};
+ghost use Rattle.rs_outside.specs.DirFiles.{open_fault, read_fault, AppendsRest, AppendsSome, faults_after_fetch};
+ghost use Rattle.rs_outside.specs.Faults.{Rose};
+ghost use Rattle.rs_outside.specs.Files.{FilesTold, file_named, Fetches, told_after};
+
+use crate::files::{FetchFault, Files};
+use rs_value::Text;
+use std::io::{ErrorKind, Read};
+use std::marker::Model;
+use std::{fs, io};
+
+/// How many bytes one read asks for at most.
+const CHUNK: usize = 8192;
+
+/// The files of the system, by their paths; a relative one starts from the current folder.
+/// Contracts see how many fetches failed.
+#[derive(Drop)]
+pub struct DirFiles<R> {
+    rt: R,
+    faults: u64,
+}
+
+impl<R> Model for DirFiles<R> {
+    ghost use Rattle.std.specs.Prelude.{ℕ};
+
+    ghost Value = { ℕ };
+
+    ghost view = { λ d. d.faults };
+}
+
+/// One read, tried again where a signal interrupts it.
+fn read_some<F: Read>(file: &mut F, chunk: &mut [u8]) -> io::Result<usize>
+    ensures bound { ReadsAtMost result chunk.new }
+    ensures bytes { ReadConsumes (F.remaining file.old) (F.remaining file.new) result chunk.new }
+{
+    for _ in 0..u64::MAX {
+        match file.read(chunk) {
+            Err(error) if error.kind() == ErrorKind::Interrupted => {}
+            result => return result,
+        }
+    }
+    Err(io::Error::from(ErrorKind::TimedOut))
+}
+
+/// The fault that an error is when a file is opened.
+fn fault_at_open(error: &io::Error) -> FetchFault
+    ensures { result ≡ open_fault (error_kind error.now) }
+{
+    match error.kind() {
+        ErrorKind::NotFound => FetchFault::Missing,
+        ErrorKind::OutOfMemory => FetchFault::Memory,
+        _ => FetchFault::Failed,
+    }
+}
+
+/// The fault that an error is when an open file is read.
+fn fault_at_read(error: &io::Error) -> FetchFault
+    ensures { result ≡ read_fault (error_kind error.now) }
+{
+    match error.kind() {
+        ErrorKind::OutOfMemory => FetchFault::Memory,
+        _ => FetchFault::Failed,
+    }
+}
+
+/// Appends what is left of the file. It reads at most one byte more than the limit.
+fn append_rest<F: Read>(file: &mut F, limit: usize, into: &mut Vec<u8>) -> Result<(), FetchFault>
+    ensures { AppendsRest (F.remaining file.old) limit into.old.items result into.new.items }
+{
+    let mut chunk = [0u8; CHUNK];
+    let mut room = limit;
+    loop {
+        let most = CHUNK.min(room.saturating_add(1));
+        let count = match read_some(file, &mut chunk[..most]) {
+            Ok(0) => return Ok(()),
+            Ok(count) => count,
+            Err(error) => return Err(fault_at_read(&error)),
+        };
+        if into.extend_from_slice(&chunk[..count]).is_err() {
+            return Err(FetchFault::Memory);
+        }
+        if count > room {
+            return Err(FetchFault::TooLong);
+        }
+        room -= count;
+    }
+}
+
+/// Appends the file of this name.
+fn append_file<R: std::rt::Files>(
+    rt: &R,
+    name: &Text,
+    limit: usize,
+    into: &mut Vec<u8>,
+) -> Result<(), FetchFault>
+    ensures { AppendsSome limit into.old.items result into.new.items }
+{
+    match fs::open(rt, name.as_str()) {
+        Ok(mut file) => append_rest(&mut file, limit, into),
+        Err(error) => Err(fault_at_open(&error)),
+    }
+}
+
+impl<R: std::rt::Files> DirFiles<R> {
+    /// The files that this runtime opens. Nothing is opened yet.
+    pub fn new(rt: R) -> DirFiles<R>
+        ensures { result ≡ 0 }
+    {
+        DirFiles { rt, faults: 0 }
+    }
+}
+
+impl<R: std::rt::Files> Files for DirFiles<R> {
+    ghost told = { λ _. None };
+
+    ghost faults = { λ d. d };
+
+    ghost steady = { λ _. ⊥ };
+
+    fn fetch(&mut self, name: &Text, limit: usize, into: &mut Vec<u8>) -> Result<(), FetchFault>
+        ensures fetches { (there : Option (List ℕ)) × Fetches there limit into.old.items result into.new.items }
+        ensures faults { self.old ≤ self.new }
+        ensures failed { result ≡ Err FetchFault.Failed → Rose self.old self.new }
+        ensures counted { self.new ≡ faults_after_fetch result self.old }
+    {
+        let start = into.len();
+        let Err(fault) = append_file(&self.rt, name, limit, into) else {
+            return Ok(());
+        };
+        into.truncate(start);
+        if fault == FetchFault::Failed {
+            self.faults = self.faults.saturating_add(1);
+        }
+        Err(fault)
+    }
+}
