@@ -11,6 +11,8 @@ ghost use Rattle.rs_value.specs.Text.{text_of};
 use crate::memory::Memory;
 use std::alloc::Global;
 use std::cmp::Ordering;
+use std::error::Error;
+use std::fmt::{self, Display, Formatter, Write};
 use std::hash::{Hash, Hasher};
 use std::marker::Model;
 
@@ -36,6 +38,17 @@ pub enum TextFault {
     NotUtf8 { at: usize },
     Memory,
 }
+
+impl Display for TextFault {
+    fn fmt<W: Write>(&self, f: &mut Formatter<W>) -> fmt::Result {
+        match self {
+            TextFault::NotUtf8 { at } => write!(f, "the bytes from {at} on aren't UTF-8"),
+            TextFault::Memory => write!(f, "{Memory}"),
+        }
+    }
+}
+
+impl Error for TextFault {}
 
 impl Text {
     /// The text of these bytes, after RFC 3629.
