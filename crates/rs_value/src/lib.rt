@@ -14,3 +14,6 @@ pub use memory::Memory;
 pub use number::{GREATEST_INT, decimal_of, int_of};
 pub use text::{Text, TextFault};
 pub use value::Value;
+
+#[cfg(test)]
+mod tests;

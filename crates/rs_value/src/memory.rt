@@ -1,3 +1,5 @@
+ghost use Rattle.std.specs.Prelude.{codes, Some};
+
 use std::alloc::{AllocError, AllocFailed};
 use std::error::Error;
 use std::fmt::{self, Display, Formatter, Write};
@@ -7,6 +9,8 @@ use std::fmt::{self, Display, Formatter, Write};
 pub struct Memory;
 
 impl Display for Memory {
+    ghost output = { λ _. Some (codes "there is no memory") };
+
     fn fmt<W: Write>(&self, f: &mut Formatter<W>) -> fmt::Result {
         f.write_str("there is no memory")
     }

@@ -1,4 +1,4 @@
-ghost use Rattle.std.specs.Prelude.{◌≡◌, ◌==◌, IsUtf8, IfOk};
+ghost use Rattle.std.specs.Prelude.{◌≡◌, ◌==◌, IsUtf8, IfOk, Some};
 ghost use Rattle.std.proofs.Common.{rules};
 ghost use Rattle.std.specs.Cmp.{partial_order_from_own_ties};
 ghost use Rattle.std.specs.Cmp.Lexicographic.{pointwise, slice_cmp};
@@ -6,11 +6,13 @@ ghost use Rattle.std.specs.Cmp.Rules.{comparing, hashing};
 ghost use Rattle.std.specs.Hash as fed;
 ghost use Rattle.std.specs.Ordering.{nat_cmp, as_partial_cmp};
 ghost use Rattle.rs_value.specs.Answer.{Gives};
-ghost use Rattle.rs_value.specs.Text.{text_of};
+ghost use Rattle.rs_value.specs.Text.{reason_of, text_of};
 
 use crate::memory::Memory;
 use std::alloc::Global;
 use std::cmp::Ordering;
+use std::error::Error;
+use std::fmt::{self, Display, Formatter, Write};
 use std::hash::{Hash, Hasher};
 use std::marker::Model;
 
@@ -36,6 +38,19 @@ pub enum TextFault {
     NotUtf8 { at: usize },
     Memory,
 }
+
+impl Display for TextFault {
+    ghost output = { λ fault. Some (reason_of fault) };
+
+    fn fmt<W: Write>(&self, f: &mut Formatter<W>) -> fmt::Result {
+        match self {
+            TextFault::NotUtf8 { at } => write!(f, "the bytes from {at} on aren't UTF-8"),
+            TextFault::Memory => write!(f, "{Memory}"),
+        }
+    }
+}
+
+impl Error for TextFault {}
 
 impl Text {
     /// The text of these bytes, after RFC 3629.
