@@ -58,7 +58,7 @@ after_two : fetched_twice ≡ record {
   folder = record { name = codes "b"; bytes = codes "x,y" } ∷ [];
   fetched = codes "b" ∷ codes "b" ∷ [];
   failing = 2 ∷ 4 ∷ [];
-  faults = 1
+  faults = 1;
 }
 after_two = refl
 

@@ -1,9 +1,8 @@
 use crate::{DirFiles, FetchFault, Files, MemFiles, MemSink, OutSink, Sink, SinkFault};
 use rs_value::Text;
 use std::alloc::Global;
-use std::fs;
-use std::io;
 use std::test::Fail;
+use std::{fs, io};
 
 fn text(alloc: Global, bytes: &[u8]) -> Result<Text, Fail> {
     Ok(Text::from_bytes(alloc, bytes)?)
@@ -111,7 +110,12 @@ fn fetches_from_the_disk(rt: HostRuntime) -> Result<(), Fail> {
         (name, usize::MAX, Ok(()), 20_001),
         (name, 19_999, Err(FetchFault::TooLong), 1),
         (name, 0, Err(FetchFault::TooLong), 1),
-        ("rs_outside_no_such_file.txt", 9, Err(FetchFault::Missing), 1),
+        (
+            "rs_outside_no_such_file.txt",
+            9,
+            Err(FetchFault::Missing),
+            1,
+        ),
         (".", 9, Err(FetchFault::Failed), 1),
         ("a\0b", 9, Err(FetchFault::Failed), 1),
     ];
