@@ -2,3 +2,4 @@ pub mod FetchFacts
 pub mod FolderFacts
 pub mod PieceFacts
 pub mod StreamFacts
+mod Worked

@@ -1,5 +1,5 @@
 -- Reading a file of the system.
-use Rattle.std.specs.Prelude.{ℕ, ◌≡◌, ◌<◌, ◌≤◌, List, ◌++◌, length, Option, IfSome, Result, Ok, Err}
+use Rattle.std.specs.Prelude.{ℕ, ◌≡◌, ◌+◌, ◌<◌, ◌≤◌, List, ◌++◌, length, Option, IfSome, Result, Ok, Err}
 use Rattle.std.specs.declared.io.ErrorKind.{ErrorKind}
 use Rattle.std.specs.declared.io.ErrorKind.TheVariants.{NotFound, OutOfMemory}
 use Rattle.rs_outside.specs.declared.files.FetchFault.{FetchFault}
@@ -11,22 +11,23 @@ use Rattle.rs_outside.specs.Sink.{IsPrefix}
 abbrev pub open_fault : ErrorKind → FetchFault
 open_fault NotFound = Missing
 open_fault OutOfMemory = Memory
-open_fault other = Failed
+open_fault _ = Failed
 
 -- the fault that an error of the system is when an open file is read
 abbrev pub read_fault : ErrorKind → FetchFault
 read_fault OutOfMemory = Memory
-read_fault other = Failed
+read_fault _ = Failed
 
--- what reading to the end answers where these bytes were read, and these were left, if that is known
+-- what reading to the end answers where these bytes were read, and these were left, if that is known:
+-- all of them, or one more than the limit
 abbrev pub ReadToEnd : Option (List ℕ) → ℕ → List ℕ → Result (Unit {0}) FetchFault → Type 0
 ReadToEnd left limit bytes (Ok done) = (length bytes ≤ limit) × IfSome left (λ all. all ≡ bytes)
-ReadToEnd left limit bytes (Err TooLong) = (limit < length bytes) × IfSome left (λ all. IsPrefix bytes all)
+ReadToEnd left limit bytes (Err TooLong) = (length bytes ≡ limit + 1) × IfSome left (λ all. IsPrefix bytes all)
 ReadToEnd left limit bytes (Err Missing) = ⊥
-ReadToEnd left limit bytes (Err Failed) = Unit {0}
-ReadToEnd left limit bytes (Err Memory) = Unit {0}
+ReadToEnd left limit bytes (Err Failed) = length bytes ≤ limit
+ReadToEnd left limit bytes (Err Memory) = length bytes ≤ limit
 
--- some bytes are appended, which are all that is left where the answer is Ok, and more than the limit where it is too long
+-- the bytes that were read are appended
 abbrev pub AppendsRest : Option (List ℕ) → ℕ → List ℕ → Result (Unit {0}) FetchFault → List ℕ → Type 0
 AppendsRest left limit old result new = (bytes : List ℕ) × (new ≡ old ++ bytes) × ReadToEnd left limit bytes result
 

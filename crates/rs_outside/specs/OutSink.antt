@@ -6,6 +6,11 @@ use Rattle.rs_outside.specs.declared.sink.SinkFault.TheVariants.{Failed, Memory}
 use Rattle.rs_outside.specs.Faults.{raised}
 use Rattle.rs_outside.specs.Sink.{IsPrefix}
 
+-- a writer, and how many puts on it failed
+pub record Stream (W : Type 0) : Type 0 where
+  pub writer : W
+  pub faults : ℕ
+
 -- a prefix of these bytes was written, which is all of them where the answer is Ok
 abbrev pub WritesWhole : Option (List ℕ) → Option (List ℕ) → Result (Unit {0}) SinkFault → List ℕ → Type 0
 WritesWhole old new result bytes = (part : List ℕ) × IsPrefix part bytes × Appends old new part × OnOk result (part ≡ bytes)

@@ -1,4 +1,4 @@
-ghost use Rattle.std.specs.Prelude.{◌≡◌, ◌≤◌, ℕ, List, Option, None};
+ghost use Rattle.std.specs.Prelude.{◌≡◌, ◌≢◌, ◌≤◌, ℕ, List, Option, None};
 ghost use Rattle.std.specs.Io.{WritesAtMost};
 ghost use Rattle.std.specs.Io.KnownBytes.{WriteAppends};
 ghost use Rattle.rs_outside.specs.Faults.{Rose};
@@ -10,7 +10,7 @@ use std::io;
 use std::io::{ErrorKind, Stderr, Stdout, Write};
 use std::marker::Model;
 
-/// A stream of the system. Contracts see how many puts failed.
+/// A stream of the system. Contracts see its writer, and how many puts failed.
 #[derive(Drop)]
 pub struct OutSink<W> {
     to: W,
@@ -18,11 +18,11 @@ pub struct OutSink<W> {
 }
 
 impl<W> Model for OutSink<W> {
-    ghost use Rattle.std.specs.Prelude.{ℕ};
+    ghost use Rattle.rs_outside.specs.OutSink.{Stream};
 
-    ghost Value = { ℕ };
+    ghost Value = { Stream W };
 
-    ghost view = { λ s. s.faults };
+    ghost view = { λ s. record { writer = s.to; faults = s.faults } };
 }
 
 /// One write, tried again where a signal interrupts it.
@@ -68,7 +68,7 @@ fn write_flushed<W: Write>(to: &mut W, bytes: &[u8]) -> Result<(), SinkFault>
 impl<W> OutSink<W> {
     /// A sink that writes to this writer.
     pub(crate) fn new(to: W) -> OutSink<W>
-        ensures { result ≡ 0 }
+        ensures { result ≡ record { writer = to; faults = 0 } }
     {
         OutSink { to, faults: 0 }
     }
@@ -77,7 +77,7 @@ impl<W> OutSink<W> {
 impl OutSink<Stdout> {
     /// The standard output.
     pub fn output(rt: &HostRuntime) -> OutSink<Stdout>
-        ensures { result ≡ 0 }
+        ensures { result.faults ≡ 0 }
     {
         OutSink::new(rt.stdout())
     }
@@ -86,7 +86,7 @@ impl OutSink<Stdout> {
 impl OutSink<Stderr> {
     /// The standard error.
     pub fn error(rt: &HostRuntime) -> OutSink<Stderr>
-        ensures { result ≡ 0 }
+        ensures { result.faults ≡ 0 }
     {
         OutSink::new(rt.stderr())
     }
@@ -95,15 +95,19 @@ impl OutSink<Stderr> {
 impl<W: Write> Sink for OutSink<W> {
     ghost pieces = { λ _. None };
 
-    ghost faults = { λ s. s };
+    ghost faults = { λ s. s.faults };
 
     ghost steady = { λ _. ⊥ };
 
     fn put(&mut self, bytes: &[u8]) -> Result<(), SinkFault>
         ensures puts { Puts bytes.now result None None }
-        ensures faults { self.old ≤ self.new }
-        ensures failed { result ≡ Err SinkFault.Failed → Rose self.old self.new }
-        ensures counted { self.new ≡ faults_after_put result self.old }
+        ensures faults { self.old.faults ≤ self.new.faults }
+        ensures failed { result ≡ Err SinkFault.Failed → Rose self.old.faults self.new.faults }
+
+        // Where the writer tells its bytes, a prefix is written, all on `Ok`. No put wants memory.
+        ensures written { WritesWhole (W.contents self.old.writer) (W.contents self.new.writer) result bytes.now }
+        ensures counted { self.new.faults ≡ faults_after_put result self.old.faults }
+        ensures no_memory { result ≢ Err SinkFault.Memory }
     {
         if write_flushed(&mut self.to, bytes).is_err() {
             self.faults = self.faults.saturating_add(1);
