@@ -7,6 +7,6 @@ use Rattle.rs_lines.proofs.row.row_record.Given as goal
 -- the fields so far, the last of them ended
 abbrev pub invariant-loop-value : goal.invariant-loop-value
 invariant-loop-value l = record {
-    fields : fields_of l.row ≡ decimal l.fn.rank ∷ decimal l.fn.score ∷ map printed (take l.value-index l.values);
-    ended : partial_of l.row ≡ [];
+  fields : fields_of l.row ≡ decimal l.fn.rank ∷ decimal l.fn.score ∷ map printed (take l.value-index l.values);
+  ended : partial_of l.row ≡ [];
 }
