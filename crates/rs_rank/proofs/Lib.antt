@@ -1,1 +1,2 @@
 pub mod StableFacts
+pub mod Worked

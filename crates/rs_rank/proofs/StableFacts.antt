@@ -1,13 +1,12 @@
 -- The stable order: it is in order, it keeps the rows of each score as they stood, and it is the only list that does both.
-use Rattle.std.proofs.Common.{◌≡◌, ℕ, zero, suc, ◌+◌, ◌<◌, ◌≤◌, Bool, true, false, cond, not, ◌&&◌, ◌==◌, nat_le, eqb, ltb, leb, List, [], ◌∷◌, ◌++◌, length, get_or, map, refl, sym, ◌∙◌, ap, inl, inr, arith, add-one, append_assoc, append-nil, rules}
-use Rattle.std.proofs.lemmas.Bool.{leb-true, leb-false, le-leb, lt-leb, eqb-true, eqb-false, eq-eqb, ne_eqb, cond-true, cond-false, cases_lt}
+use Rattle.std.proofs.Common.{◌≡◌, ℕ, zero, suc, ◌<◌, ◌≤◌, Bool, true, false, cond, ◌==◌, nat_le, eqb, leb, List, [], ◌∷◌, ◌++◌, length, get_or, map, refl, sym, ◌∙◌, ap, inl, inr, arith, add-one, append_assoc, append-nil}
+use Rattle.std.proofs.lemmas.Bool.{leb-true, leb-false, eqb-true, eq-eqb, ne_eqb, cond-true, cond-false, cases_lt}
 use Rattle.std.proofs.lemmas.List.Elements.{filter-append, filter_agree, All-get_or, All-from_recursion}
 use Rattle.std.proofs.lemmas.Bool.Decides.{nat_tests}
-use Rattle.std.proofs.lemmas.Grind.{common_steps}
 use Rattle.std.specs.List.{AllByRecursion, filter}
 use Rattle.std.specs.List.Sorted.{IsPermutation, IsSortedBy, IsStableBy, ties}
 use Rattle.std.specs.Ordering.{is_lt, nat_cmp}
-use Rattle.std.proofs.lemmas.List.Sorted.{IsPermutation-refl, IsPermutation-cons, IsPermutation-swap, IsPermutation-trans, IsPermutation-middle, IsPermutation-append_left, IsPermutation-sym, length_permutation}
+use Rattle.std.proofs.lemmas.List.Sorted.{IsPermutation-refl, IsPermutation-cons, IsPermutation-swap, IsPermutation-trans, IsPermutation-middle, IsPermutation-append_left, length_permutation}
 use Rattle.rs_rank.specs.Stable.{put_behind, put_all, stable}
 
 -- scores never rise along the list
@@ -24,7 +23,7 @@ pub AllByRecursion-put_behind : {T : Type 0} (score : T → ℕ) (P : T → Type
 AllByRecursion-put_behind score P row [] here all = (here, tt)
 AllByRecursion-put_behind {T} score P row (first ∷ rest) here all =
     elim (nat_le (score row) (score first)) as (λ b. AllByRecursion P (cond b (first ∷ put_behind score row rest) (row ∷ first ∷ rest))) [
-        true ↦ (all.0, AllByRecursion-put_behind score P row rest here all.1)
+      | true ↦ (all.0, AllByRecursion-put_behind score P row rest here all.1)
       | false ↦ (here, all)
     ]
 
@@ -43,9 +42,9 @@ pub IsPermutation-put_behind : {T : Type 0} (score : T → ℕ) (row : T) (rows 
 IsPermutation-put_behind score row [] = IsPermutation-refl (row ∷ [])
 IsPermutation-put_behind {T} score row (first ∷ rest) =
     elim (nat_le (score row) (score first)) as (λ b. IsPermutation (row ∷ first ∷ rest) (cond b (first ∷ put_behind score row rest) (row ∷ first ∷ rest))) [
-        true ↦ IsPermutation-trans (row ∷ first ∷ rest) (first ∷ row ∷ rest) (first ∷ put_behind score row rest)
-            (IsPermutation-swap (row ∷ first ∷ rest) (first ∷ row ∷ rest) 0 1 (omega arith) (omega arith) refl)
-            (IsPermutation-cons first (row ∷ rest) (put_behind score row rest) (IsPermutation-put_behind score row rest))
+      | true ↦ IsPermutation-trans (row ∷ first ∷ rest) (first ∷ row ∷ rest) (first ∷ put_behind score row rest)
+          (IsPermutation-swap (row ∷ first ∷ rest) (first ∷ row ∷ rest) 0 1 (omega arith) (omega arith) refl)
+          (IsPermutation-cons first (row ∷ rest) (put_behind score row rest) (IsPermutation-put_behind score row rest))
       | false ↦ IsPermutation-refl (row ∷ first ∷ rest)
     ]
 
@@ -54,10 +53,10 @@ pub IsPermutation-put_all : {T : Type 0} (score : T → ℕ) (ordered rows : Lis
 IsPermutation-put_all score ordered [] = rw append-nil (IsPermutation-refl ordered)
 IsPermutation-put_all score ordered (row ∷ rest) =
     IsPermutation-trans (ordered ++ row ∷ rest) (put_behind score row ordered ++ rest) (put_all score ordered (row ∷ rest))
-        (IsPermutation-trans (ordered ++ row ∷ rest) (row ∷ (ordered ++ rest)) (put_behind score row ordered ++ rest)
-            (IsPermutation-middle ordered row rest)
-            (IsPermutation-append_left rest (row ∷ ordered) (put_behind score row ordered) (IsPermutation-put_behind score row ordered)))
-        (IsPermutation-put_all score (put_behind score row ordered) rest)
+    (IsPermutation-trans (ordered ++ row ∷ rest) (row ∷ (ordered ++ rest)) (put_behind score row ordered ++ rest)
+    (IsPermutation-middle ordered row rest)
+    (IsPermutation-append_left rest (row ∷ ordered) (put_behind score row ordered) (IsPermutation-put_behind score row ordered)))
+    (IsPermutation-put_all score (put_behind score row ordered) rest)
 
 -- the stable order has the rows of the list
 pub IsPermutation-stable : {T : Type 0} (score : T → ℕ) (rows : List T) → IsPermutation rows (stable score rows)
@@ -82,10 +81,10 @@ unfolding Falls
 Falls-put_behind score row [] falls = (tt, tt)
 Falls-put_behind {T} score row (first ∷ rest) falls =
     (elim (nat_le (score row) (score first)) as (λ b. nat_le (score row) (score first) ≡ b → Falls score (cond b (first ∷ put_behind score row rest) (row ∷ first ∷ rest))) [
-        true ↦ λ e. (AllByRecursion-put_behind score (λ later. score later ≤ score first) row rest (leb-true (score row) (score first) e) falls.0, Falls-put_behind score row rest falls.1)
+      | true ↦ λ e. (AllByRecursion-put_behind score (λ later. score later ≤ score first) row rest (leb-true (score row) (score first) e) falls.0, Falls-put_behind score row rest falls.1)
       | false ↦ λ e.
-            let above : score first < score row = leb-false (score row) (score first) e in
-            ((omega arith, AllByRecursion-weaker (λ later. score later ≤ score first) (λ later. score later ≤ score row) (λ later below. omega arith) rest falls.0), falls)
+          let above : score first < score row = leb-false (score row) (score first) e in
+          ((omega arith, AllByRecursion-weaker (λ later. score later ≤ score first) (λ later. score later ≤ score row) (λ later below. omega arith) rest falls.0), falls)
     ]) refl
 
 -- and so are all rows
@@ -107,10 +106,10 @@ cond-append false first all before after e = e
 of_score-front : {T : Type 0} (score : T → ℕ) (n : ℕ) (row : T) (most : ℕ) (rows : List T) → AllByRecursion (λ later. score later ≤ most) rows → most < score row → of_score score n (row ∷ rows) ≡ of_score score n rows ++ of_score score n (row ∷ [])
 of_score-front {T} score n row most rows below above =
     (elim (eqb (score row) n) as (λ b. eqb (score row) n ≡ b → cond b (row ∷ of_score score n rows) (of_score score n rows) ≡ of_score score n rows ++ cond b (row ∷ []) []) [
-        true ↦ λ e.
-            let same : score row ≡ n = eqb-true (score row) n e in
-            let none : of_score score n rows ≡ [] = of_score-above score most n rows below (omega arith) in
-            rw none refl
+      | true ↦ λ e.
+          let same : score row ≡ n = eqb-true (score row) n e in
+          let none : of_score score n rows ≡ [] = of_score-above score most n rows below (omega arith) in
+          rw none refl
       | false ↦ λ e. sym (append-nil (of_score score n rows))
     ]) refl
 
@@ -120,10 +119,10 @@ unfolding Falls
 of_score-put_behind score n row [] falls = refl
 of_score-put_behind {T} score n row (first ∷ rest) falls =
     (elim (nat_le (score row) (score first)) as (λ b. nat_le (score row) (score first) ≡ b → of_score score n (cond b (first ∷ put_behind score row rest) (row ∷ first ∷ rest)) ≡ of_score score n (first ∷ rest) ++ of_score score n (row ∷ [])) [
-        true ↦ λ e. cond-append (eqb (score first) n) first (of_score score n (put_behind score row rest)) (of_score score n rest) (of_score score n (row ∷ [])) (of_score-put_behind score n row rest falls.1)
+      | true ↦ λ e. cond-append (eqb (score first) n) first (of_score score n (put_behind score row rest)) (of_score score n rest) (of_score score n (row ∷ [])) (of_score-put_behind score n row rest falls.1)
       | false ↦ λ e.
-            let above : score first < score row = leb-false (score row) (score first) e in
-            of_score-front score n row (score first) (first ∷ rest) (omega arith, falls.0) above
+          let above : score first < score row = leb-false (score row) (score first) e in
+          of_score-front score n row (score first) (first ∷ rest) (omega arith, falls.0) above
     ]) refl
 
 -- rows that are put in come behind the rows of their score, in their order
@@ -153,7 +152,7 @@ of_score-own score first rest n same = cond-true (eqb (score first) n) (first �
 of_score-rest : {T : Type 0} (score : T → ℕ) (n : ℕ) (first : T) (xs ys : List T) → of_score score n (first ∷ xs) ≡ of_score score n (first ∷ ys) → of_score score n xs ≡ of_score score n ys
 of_score-rest {T} score n first xs ys same =
     (elim (eqb (score first) n) as (λ b. cond b (first ∷ of_score score n xs) (of_score score n xs) ≡ cond b (first ∷ of_score score n ys) (of_score score n ys) → of_score score n xs ≡ of_score score n ys) [
-        true ↦ λ e. cc
+      | true ↦ λ e. cc
       | false ↦ λ e. e
     ]) same
 
@@ -161,7 +160,7 @@ of_score-rest {T} score n first xs ys same =
 Falls-same_first : {T : Type 0} (score : T → ℕ) (x y : T) (xs ys : List T) → Falls score (x ∷ xs) → of_score score (score y) (x ∷ xs) ≡ of_score score (score y) (y ∷ ys) → score y ≤ score x
 Falls-same_first score x y xs ys falls both =
     elim (cases_lt (score x) (score y)) [
-        inl above ↦ absurd (let none = of_score-first score x xs (score y) falls above in let some = of_score-own score y ys (score y) refl in cc)
+      | inl above ↦ absurd (let none = of_score-first score x xs (score y) falls above in let some = of_score-own score y ys (score y) refl in cc)
       | inr below ↦ below
     ]
 
@@ -219,9 +218,9 @@ Falls-Descends score (first ∷ rest) down =
 pub stable-is_unique : {T : Type 0} (score : T → ℕ) (rows ordered : List T) → ((i j : ℕ) (d : T) → i ≤ j → j < length ordered → score (get_or ordered j d) ≤ score (get_or ordered i d)) → ((n : ℕ) → of_score score n ordered ≡ of_score score n rows) → ordered ≡ stable score rows
 stable-is_unique score rows ordered down same =
     Falls-unique score ordered (stable score rows)
-        (Falls-Descends score ordered (λ k d within. down k (suc k) d (omega arith) within))
-        (Falls-stable score rows)
-        (λ row. same (score row) ∙ sym (of_score-stable score (score row) rows))
+    (Falls-Descends score ordered (λ k d within. down k (suc k) d (omega arith) within))
+    (Falls-stable score rows)
+    (λ row. same (score row) ∙ sym (of_score-stable score (score row) rows))
 
 -- the test by which a sort puts greater scores first
 abbrev ranks_before : {T : Type 0} → (T → ℕ) → T → T → Bool
@@ -243,9 +242,9 @@ of_score-ties score row rows = filter_agree (ties (ranks_before score) row) (λ 
 pub stable-sorted : {T : Type 0} (score : T → ℕ) (xs ys : List T) → IsSortedBy (λ x y. is_lt (nat_cmp (score y) (score x))) ys → IsStableBy (λ x y. is_lt (nat_cmp (score y) (score x))) xs ys → ys ≡ stable score xs
 stable-sorted score xs ys sorted steady =
     Falls-unique score ys (stable score xs)
-        (Falls-Descends score ys (λ k d within. not_ranks_before score (get_or ys (suc k) d) (get_or ys k d) (rw add-one at (sorted k d (omega arith) (omega arith)))))
-        (Falls-stable score xs)
-        (λ row. sym (of_score-ties score row ys) ∙ steady row ∙ of_score-ties score row xs ∙ sym (of_score-stable score (score row) xs))
+    (Falls-Descends score ys (λ k d within. not_ranks_before score (get_or ys (suc k) d) (get_or ys k d) (rw add-one at (sorted k d (omega arith) (omega arith)))))
+    (Falls-stable score xs)
+    (λ row. sym (of_score-ties score row ys) ∙ steady row ∙ of_score-ties score row xs ∙ sym (of_score-stable score (score row) xs))
 
 -- a choice that is mapped
 map-choice : {A B : Type 0} (g : A → B) (t u : Bool) (x y : List A) (mapped_x mapped_y : List B) → t ≡ u → map g x ≡ mapped_x → map g y ≡ mapped_y → map g (cond t x y) ≡ cond u mapped_x mapped_y
@@ -259,9 +258,9 @@ pub put_behind-map : {A B : Type 0} (g : A → B) (f : A → ℕ) (h : B → ℕ
 put_behind-map g f h row [] own all = refl
 put_behind-map g f h row (first ∷ rest) own all =
     map-choice g (leb (f row) (f first)) (leb (h (g row)) (h (g first))) (first ∷ put_behind f row rest) (row ∷ first ∷ rest) (g first ∷ put_behind h (g row) (map g rest)) (g row ∷ g first ∷ map g rest)
-        (let of_first = all.0 in cc)
-        (ap (λ rows. g first ∷ rows) (put_behind-map g f h row rest own all.1))
-        refl
+    (let of_first = all.0 in cc)
+    (ap (λ rows. g first ∷ rows) (put_behind-map g f h row rest own all.1))
+    refl
 
 -- the same of rows that are put in one after another
 pub put_all-map : {A B : Type 0} (g : A → B) (f : A → ℕ) (h : B → ℕ) (ordered rows : List A) → AllByRecursion (λ a. h (g a) ≡ f a) ordered → AllByRecursion (λ a. h (g a) ≡ f a) rows → map g (put_all f ordered rows) ≡ put_all h (map g ordered) (map g rows)

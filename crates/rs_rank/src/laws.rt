@@ -11,32 +11,28 @@ use crate::stable::Scored;
 /// The stable order has the rows of the list, each as often as the list has it.
 pub fn stable_is_permutation<T: Scored>()
     ensures { (rows : List T) → IsPermutation rows (stable T.score_of rows) }
-{
-}
+{}
 
 /// Scores never rise along the stable order.
 pub fn stable_is_sorted<T: Scored>()
     ensures { (rows : List T) (i j : ℕ) (other : T) → i ≤ j → j < length rows
         → T.score_of (slice_index_or (stable T.score_of rows) j other)
         ≤ T.score_of (slice_index_or (stable T.score_of rows) i other) }
-{
-}
+{}
 
 /// The rows of each score stand in the stable order as they stood in the list.
 pub fn stable_keeps_equals<T: Scored>()
     ensures { (rows : List T) (score : ℕ)
         → filter (λ row. T.score_of row == score) (stable T.score_of rows)
         ≡ filter (λ row. T.score_of row == score) rows }
-{
-}
+{}
 
 /// No other list is in order and keeps the order of equals.
 pub fn stable_is_unique<T: Scored>()
     ensures { (rows ordered : List T)
         → ((i j : ℕ) (other : T) → i ≤ j → j < length ordered
-            → T.score_of (slice_index_or ordered j other) ≤ T.score_of (slice_index_or ordered i other))
+        → T.score_of (slice_index_or ordered j other) ≤ T.score_of (slice_index_or ordered i other))
         → ((score : ℕ) → filter (λ row. T.score_of row == score) ordered
-            ≡ filter (λ row. T.score_of row == score) rows)
+        ≡ filter (λ row. T.score_of row == score) rows)
         → ordered ≡ stable T.score_of rows }
-{
-}
+{}

@@ -7,5 +7,5 @@ use Rattle.rs_rank.proofs.stable.sort_stably.Goals as goal
 pub returns-clause-ok : goal.returns-clause-ok
 returns-clause-ok g c =
     stable-sorted g.T.Scored.score_of c.args.rows.now.items c.sort_by_key.new.self.items
-        (c.in_ok-sort_by_key.ensures.sorted (λ row. record { 0 = g.T.Scored.score_of row }) (answers_always _ _ _ (λ f a r f' k. search rules)))
-        (c.in_ok-sort_by_key.ensures.stable (λ row. record { 0 = g.T.Scored.score_of row }) (answers_always _ _ _ (λ f a r f' k. search rules)))
+    (c.in_ok-sort_by_key.ensures.sorted (λ row. record { 0 = g.T.Scored.score_of row }) (answers_always _ _ _ (λ f a r f' k. search rules)))
+    (c.in_ok-sort_by_key.ensures.stable (λ row. record { 0 = g.T.Scored.score_of row }) (answers_always _ _ _ (λ f a r f' k. search rules)))
