@@ -5,6 +5,7 @@ use Rattle.std.proofs.Common.{inl, inr}
 use Rattle.std.specs.List.{AllByRecursion}
 use Rattle.rs_value.specs.declared.value.Value.{Value}
 use Rattle.rs_outside.specs.Files.{FilesTold, file_named}
+use Rattle.rs_outside.specs.Sink.{IsPrefix}
 use Rattle.rs_outside.specs.declared.files.FetchFault.TheVariants.{Failed}
 use Rattle.rs_table.specs.Column.{place_of}
 use Rattle.rs_table.specs.Relation.{Relation}
@@ -164,3 +165,17 @@ ranked_lines-ranks top table ranked ranks =
     ap (λ r. r >>= (λ rows. Ok (lines_from 1 place (best_rows top.count place rows)))) ranks.scored
     ∙ ap (λ rows. Ok (lines_from 1 place (take top.count rows))) (sym ranks.ordered)
     ∙ ap Ok (sym (lines_of-ranked table place 1 top.count ranked ranks.each))
+
+-- one line was put
+pub PutsLines-put : (line : List ℕ) (out : Seen (List (List ℕ))) (os : Type 0) → out.after ≡ option_map (λ pieces. pieces ++ line ∷ []) out.before → PutsLines (line ∷ []) (Ok tt) out os
+PutsLines-put line out os put = record { done = line ∷ []; rest = []; split = refl; ends = inl (inl (record { all = refl; ok = refl; put = put })) }
+
+-- there was no memory to put it
+pub PutsLines-no_memory : (line : List ℕ) (out : Seen (List (List ℕ))) (os : Type 0) → out.after ≡ out.before → PutsLines (line ∷ []) (Err Memory) out os
+PutsLines-no_memory line out os same = record { done = []; rest = line ∷ []; split = refl; ends = inl (inr (record { memory = refl; put = same ∙ pieces-nil out.before })) }
+
+-- its put failed
+pub PutsLines-failed : (line part : List ℕ) (out : Seen (List (List ℕ))) (os : Type 0) → IsPrefix part line → Faulted out os
+    → out.after ≡ option_map (λ pieces. pieces ++ part ∷ []) out.before → PutsLines (line ∷ []) (Err Write) out os
+PutsLines-failed line part out os prefix faulted put = record { done = []; rest = line ∷ []; split = refl;
+    ends = inr (record { line = line; more = []; part = part; next = refl; prefix = prefix; faulted = faulted; write = refl; put = put }) }

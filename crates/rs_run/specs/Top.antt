@@ -76,12 +76,17 @@ ranked_lines top table =
       rows ← scored_from top.column top.max place 1 table.rows
       Ok (lines_from 1 place (best_rows top.count place rows)))
 
+-- the table of a file's bytes, by its own header, in which this column is of numbers
+abbrev pub named_table : List ℕ → List ℕ → Result Relation TableFault
+named_table column bytes = do
+  columns ← header_of column bytes
+  table_of columns bytes
+
 -- the table that `top` reads of a file, or why there is none
 abbrev pub top_table : List ℕ → List ℕ → Option (List ℕ) → Result Relation Fault
 top_table file column there = do
   bytes ← content_of table_limit file there
-  columns ← or_table_fault file (header_of column bytes)
-  or_table_fault file (table_of columns bytes)
+  or_table_fault file (named_table column bytes)
 
 -- the lines that `top` prints of a file, or the fault that comes before any
 abbrev pub top_lines : TopWords → Option (List ℕ) → Result (List (List ℕ)) Fault

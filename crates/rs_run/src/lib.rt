@@ -1,13 +1,14 @@
 //! A run of `ranksql`: all that the command does.
 #![tactic(auto)]
 
+mod command;
 mod fault;
 mod ranked_row;
-pub mod report;
+mod report;
 mod status;
+mod top;
 mod words;
 
+pub use command::run;
 pub use fault::Fault;
-pub use ranked_row::RankedRow;
 pub use status::Status;
-pub use words::number_word;

@@ -1,0 +1,268 @@
+ghost use Rattle.std.specs.Prelude.{◌≡◌, ◌≢◌, ◌⊎◌, ◌≤◌, ℕ, ⊤, Ok, Err, Option, IfSome, IfOk, IfErr, MatchResult, take, map, length, unwrap_or, option_map, slice_get, Some, None, if◌then◌else◌, [], ◌∷◌};
+ghost use Rattle.std.specs.List.{AllByRecursion};
+ghost use Rattle.rs_value.specs.Answer.{Gives};
+ghost use Rattle.rs_value.specs.declared.kind.Kind.{Kind};
+ghost use Rattle.rs_value.specs.declared.kind.Kind.TheVariants as kind;
+ghost use Rattle.rs_table.specs.Column.{Column, place_of};
+ghost use Rattle.rs_table.specs.NumberColumn.{HasNumberColumn};
+ghost use Rattle.rs_lines.specs.Row.{line_of};
+ghost use Rattle.rs_run.specs.Outcome.{ForFiles, Ran, Seen};
+ghost use Rattle.rs_run.specs.Run.{fetch_then};
+ghost use Rattle.rs_run.specs.Top.{is_score, lines_from, named_table, number_at, score_at, score_of, scored_from, top_lines};
+ghost use Rattle.rs_run.specs.Steps.{FetchesTable, IsRanked, IsRow, PutsLines, Ranks, lines_of, row_in};
+
+use crate::fault::Fault;
+use crate::ranked_row::RankedRow;
+use rs_lines::row_line;
+use rs_outside::{FetchFault, Files, Sink, SinkFault};
+use rs_rank::sort_stably;
+use rs_table::{Schema, TABLE_LIMIT, Table, TableFault};
+use rs_value::{Text, Value};
+use std::alloc::Global;
+
+/// Puts the first `count` rows of a file's table by the number in a column, greatest first, a tie to the earlier row.
+pub fn top<F: Files, O: Sink>(
+    alloc: Global,
+    file: &Text,
+    column: &Text,
+    max: u32,
+    count: u32,
+    files: &mut F,
+    out: &mut O,
+) -> Result<(), Fault>
+    ensures { ForFiles (F.told files.old) (λ there. Ran
+        (fetch_then file.now (top_lines (record { file = file.now; column = column.now; max = max; count = count }) (there file.now)))
+        result
+        (record { before = F.told files.old; after = F.told files.new; faults_before = F.faults files.old; faults_after = F.faults files.new })
+        (record { before = O.pieces out.old; after = O.pieces out.new; faults_before = O.faults out.old; faults_after = O.faults out.new })
+        (F.steady files.old) (O.steady out.old)) }
+{
+    let table = fetch_table(alloc, file, column, files)?;
+    let ranked = rank_rows(alloc, &table, column, max)?;
+    put_rows(alloc, &table, &ranked, count, out)
+}
+
+// Fetches a file and reads its table, in which the column is of numbers.
+fn fetch_table<F: Files>(
+    alloc: Global,
+    file: &Text,
+    column: &Text,
+    files: &mut F,
+) -> Result<Table, Fault>
+    ensures fetches { FetchesTable file.now column.now result
+        (record { before = F.told files.old; after = F.told files.new; faults_before = F.faults files.old; faults_after = F.faults files.new })
+        (F.steady files.old) }
+    ensures number_column { IfOk result (λ table. HasNumberColumn column.now table.schema) }
+{
+    let mut bytes = Vec::new(alloc);
+    if let Err(why) = files.fetch(file, TABLE_LIMIT, &mut bytes) {
+        return Err(read_fault(file, why));
+    }
+    match read_table(alloc, column, &bytes) {
+        Ok(table) => Ok(table),
+        Err(why) => Err(table_fault(file, why)),
+    }
+}
+
+// The fault of a file that was not fetched.
+fn read_fault(file: &Text, why: FetchFault) -> Fault
+    ensures tells { (result ≡ Fault.Read file.now why) ⊎ (result ≡ Fault.Memory) }
+    ensures memory { why ≡ FetchFault.Memory → result ≡ Fault.Memory }
+{
+    if why == FetchFault::Memory {
+        return Fault::Memory;
+    }
+    match file.copy() {
+        Ok(name) => Fault::Read { name, why },
+        Err(_) => Fault::Memory,
+    }
+}
+
+// The fault of a file that is no table.
+fn table_fault(file: &Text, why: TableFault) -> Fault
+    ensures tells { (result ≡ Fault.Table file.now why) ⊎ (result ≡ Fault.Memory) }
+    ensures memory { why ≡ TableFault.Memory → result ≡ Fault.Memory }
+{
+    if let TableFault::Memory = why {
+        return Fault::Memory;
+    }
+    match file.copy() {
+        Ok(name) => Fault::Table { name, why },
+        Err(_) => Fault::Memory,
+    }
+}
+
+// The table of a file's bytes, in which the column is of numbers.
+fn read_table(alloc: Global, column: &Text, bytes: &[u8]) -> Result<Table, TableFault>
+    requires { length bytes.now ≤ 33554432 }
+    ensures gives { Gives TableFault.Memory (named_table column.now bytes.now) result }
+    ensures number_column { IfOk result (λ table. HasNumberColumn column.now table.schema) }
+{
+    match Schema::of_header(alloc, bytes, column) {
+        Ok(schema) => Table::read(alloc, schema, bytes),
+        Err(fault) => Err(fault),
+    }
+}
+
+// The rows of a table in the stable order of the numbers in a column.
+fn rank_rows(
+    alloc: Global,
+    table: &Table,
+    column: &Text,
+    max: u32,
+) -> Result<Vec<RankedRow>, Fault>
+    requires { HasNumberColumn column.now table.now.schema }
+    ensures { let place = unwrap_or (place_of column.now table.now.schema) 0 in
+        MatchResult result
+            (λ ranked. Ranks table.now column.now max place ranked.items)
+            (λ fault. (fault ≡ Fault.Memory) ⊎ (scored_from column.now max place 1 table.now.rows ≡ Err fault)) }
+{
+    let mut ranked = score_rows(alloc, table, column, max)?;
+    sort_stably(&mut ranked)?;
+    Ok(ranked)
+}
+
+// The rows of a table with their scores by the numbers in a column.
+fn score_rows(
+    alloc: Global,
+    table: &Table,
+    column: &Text,
+    max: u32,
+) -> Result<Vec<RankedRow>, Fault>
+    requires { HasNumberColumn column.now table.now.schema }
+    ensures { let place = unwrap_or (place_of column.now table.now.schema) 0 in
+        MatchResult result
+            (λ ranked. (scored_from column.now max place 1 table.now.rows ≡ Ok table.now.rows)
+                × (map (λ r. row_in table.now r.row) ranked.items ≡ table.now.rows)
+                × AllByRecursion (λ r. IsRanked table.now place r.score r.row) ranked.items)
+            (λ fault. (fault ≡ Fault.Memory) ⊎ (scored_from column.now max place 1 table.now.rows ≡ Err fault)) }
+{
+    let mut ranked = Vec::new(alloc);
+    let place = number_column(table, column);
+    for index in 0..table.len() {
+        let row = index + 1;
+        let number = number_in(table, row, place);
+        let Some(score) = score_of(number, max) else {
+            return Err(bad_score(column, row, number, max));
+        };
+        ranked.push(RankedRow { score, row })?;
+    }
+    Ok(ranked)
+}
+
+// The place of the column of numbers.
+fn number_column(table: &Table, column: &Text) -> u8
+    requires { HasNumberColumn column.now table.now.schema }
+    ensures { place_of column.now table.now.schema ≡ Some result }
+{
+    match table.schema().place(column) {
+        Some(place) => place,
+        None => unreachable!(),
+    }
+}
+
+// The number that a row has in a column of numbers.
+fn number_in(table: &Table, row: u32, place: u8) -> i64
+    requires row { IsRow table.now row }
+    requires number { (column : Column) × (slice_get table.now.schema place ≡ Some column) × (column.1 ≡ kind.Int) }
+    ensures { result ≡ number_at place (row_in table.now row) }
+{
+    match table.value(row, place) {
+        Ok(Value::Int(number)) => number,
+        Ok(Value::Text(_)) => unreachable!(),
+        Err(_) => unreachable!(),
+    }
+}
+
+// A number as a score, where it lies in 0..max.
+fn score_of(number: i64, max: u32) -> Option<u32>
+    ensures { result ≡ (if is_score max number then Some (score_of number) else None) }
+{
+    if number < 0 || number > max as i64 {
+        return None;
+    }
+    Some(number as u32)
+}
+
+// The fault of a row whose number is no score.
+fn bad_score(column: &Text, row: u32, number: i64, max: u32) -> Fault
+    ensures { (result ≡ Fault.BadScore column.now row number max) ⊎ (result ≡ Fault.Memory) }
+{
+    match column.copy() {
+        Ok(predicate) => Fault::BadScore {
+            predicate,
+            row,
+            got: number as i128,
+            max,
+        },
+        Err(_) => Fault::Memory,
+    }
+}
+
+// Puts the lines of the first rows, each in one put, before the next row is looked at.
+fn put_rows<O: Sink>(
+    alloc: Global,
+    table: &Table,
+    ranked: &[RankedRow],
+    count: u32,
+    out: &mut O,
+) -> Result<(), Fault>
+    requires { AllByRecursion (λ r. IsRow table.now r.row) ranked.now }
+    ensures { PutsLines (lines_of table.now 1 (take count ranked.now)) result
+        (record { before = O.pieces out.old; after = O.pieces out.new; faults_before = O.faults out.old; faults_after = O.faults out.new })
+        (O.steady out.old) }
+{
+    let mut rank: u32 = 0;
+    for row in ranked {
+        if rank == count {
+            return Ok(());
+        }
+        rank += 1;
+        let line = ranked_line(alloc, table, rank, row)?;
+        put_line(&line, out)?;
+    }
+    Ok(())
+}
+
+// Puts a line.
+fn put_line<O: Sink>(line: &[u8], out: &mut O) -> Result<(), Fault>
+    ensures puts { PutsLines (line.now ∷ []) result
+        (record { before = O.pieces out.old; after = O.pieces out.new; faults_before = O.faults out.old; faults_after = O.faults out.new })
+        (O.steady out.old) }
+    ensures faults { O.faults out.old ≤ O.faults out.new }
+    ensures steady { O.steady out.old → O.steady out.new }
+{
+    match out.put(line) {
+        Ok(()) => Ok(()),
+        Err(SinkFault::Failed) => Err(Fault::Write),
+        Err(SinkFault::Memory) => Err(Fault::Memory),
+    }
+}
+
+// The printed line of a row.
+fn ranked_line(
+    alloc: Global,
+    table: &Table,
+    rank: u32,
+    ranked: &RankedRow,
+) -> Result<Vec<u8>, Fault>
+    requires { IsRow table.now ranked.now.row }
+    ensures ok { IfOk result (λ line. line.items ≡ line_of rank ranked.now.score (row_in table.now ranked.now.row)) }
+    ensures err { IfErr result (λ fault. fault ≡ Fault.Memory) }
+{
+    let values = row_values(alloc, table, ranked.row)?;
+    Ok(row_line(alloc, rank as u128, ranked.score as u64, &values)?)
+}
+
+// The values of a row.
+fn row_values(alloc: Global, table: &Table, row: u32) -> Result<Vec<Value>, Fault>
+    requires { IsRow table.now row }
+    ensures ok { IfOk result (λ values. values.items ≡ row_in table.now row) }
+    ensures err { IfErr result (λ fault. fault ≡ Fault.Memory) }
+{
+    let mut values = Vec::new(alloc);
+    for column in 0..table.schema().columns().len() {
+        values.push(table.value(row, column as u8)?)?;
+    }
+    Ok(values)
+}
