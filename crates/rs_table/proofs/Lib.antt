@@ -1,2 +1,6 @@
+pub mod FieldFacts
+pub mod HeaderFacts
+pub mod NumberFacts
 pub mod RecordsFacts
+pub mod RelationFacts
 mod WorkedRecords

@@ -1,5 +1,5 @@
 -- The rows of a CSV file, or the first thing that refuses them.
-use Rattle.std.specs.Prelude.{ℕ, ℤ, ◌+◌, ◌==◌, nat_lt, List, [], ◌∷◌, map, length, Option, Some, None, Result, Ok, Err, if◌then◌else◌}
+use Rattle.std.specs.Prelude.{ℕ, ℤ, ◌+◌, ◌==◌, nat_lt, List, [], ◌∷◌, length, Option, Some, None, Result, Ok, Err, if◌then◌else◌}
 use Rattle.std.specs.List.{list_any}
 use Rattle.std.specs.Str.{bytes_eq, is_utf8}
 use Rattle.rs_value.specs.Number.{int_value}
@@ -82,9 +82,9 @@ first_not_utf8 number (field ∷ fields) = if is_utf8 field then first_not_utf8 
 abbrev pub columns_named : List ℕ → List (List ℕ) → Result (List Column) TableFault
 columns_named name header =
     if nat_lt 64 (length header) then Err (TooManyColumns (length header)) else checked (first_not_utf8 1 header) where
-  checked : Option ℕ → Result (List Column) TableFault
-  checked (Some column) = Err (NotUtf8 0 column)
-  checked None = if list_any (λ field. bytes_eq field name) header then Ok (columns_with name header) else Err NoColumn
+      checked : Option ℕ → Result (List Column) TableFault
+      checked (Some column) = Err (NotUtf8 0 column)
+      checked None = if list_any (λ field. bytes_eq field name) header then Ok (columns_with name header) else Err NoColumn
 
 -- the schema of a file's header, in which the first column of this name is of numbers
 abbrev pub header_of : List ℕ → List ℕ → Result (List Column) TableFault

@@ -1,5 +1,5 @@
 -- What a table is: columns, and rows that fit them.
-use Rattle.std.specs.Prelude.{ℕ, ℤ, nat_abs, nat_le, ◌≡◌, ◌≤◌, ◌&&◌, Bool, true, false, List, [], ◌∷◌, length, Option, option_and_then, slice_get, ◌-◌}
+use Rattle.std.specs.Prelude.{ℕ, nat_abs, nat_le, ◌≡◌, ◌≤◌, ◌&&◌, Bool, true, false, List, [], ◌∷◌, length, Option, option_and_then, slice_get, ◌-◌}
 use Rattle.std.specs.List.{AllByRecursion}
 use Rattle.rs_value.specs.Number.{greatest_int}
 use Rattle.rs_value.specs.declared.kind.Kind.{Kind}

@@ -1,6 +1,7 @@
 //! Tables of values, read from CSV files.
 #![tactic(auto)]
 
+mod cell;
 mod fault;
 mod records;
 mod schema;

@@ -1,10 +1,15 @@
-ghost use Rattle.std.specs.Prelude.{◌≡◌, ◌≤◌, length, IfOk, IsSome};
+ghost use Rattle.std.specs.Prelude.{◌≡◌, ◌≤◌, ◌<◌, ◌^◌, length, IfOk, IfSome, if◌then◌else◌};
+ghost use Rattle.csv.specs.Records.{fields_of};
 ghost use Rattle.rs_value.specs.Answer.{Gives};
 ghost use Rattle.rs_table.specs.Column.{place_of};
-ghost use Rattle.rs_table.specs.Reading.{header_of};
+ghost use Rattle.rs_table.specs.NumberColumn.{HasNumberColumn};
+ghost use Rattle.rs_table.specs.Reading.{columns_named, header_of};
 
+use crate::cell::{field_at, text_at};
 use crate::fault::TableFault;
-use rs_value::{Kind, Text};
+use crate::records::Records;
+use csv::ByteRecord;
+use rs_value::{Kind, Memory, Text};
 use std::alloc::Global;
 use std::marker::Model;
 
@@ -37,4 +42,88 @@ impl Schema {
     {
         Schema { columns }
     }
+
+    /// The columns that the header of a CSV file names. The first one of the given name is of
+    /// numbers, and the others are of texts.
+    pub fn of_header(alloc: Global, bytes: &[u8], column: &Text) -> Result<Schema, TableFault>
+        requires { length bytes.now ≤ 33554432 }
+        ensures gives { Gives TableFault.Memory (header_of column.now bytes.now) result }
+        ensures number_column { IfOk result (λ schema. HasNumberColumn column.now schema) }
+    {
+        let mut records = Records::new(alloc, bytes);
+        let mut header = ByteRecord::new(alloc);
+        match records.read(&mut header) {
+            Ok(true) => read_columns(alloc, &header, column),
+            Ok(false) => Err(TableFault::NoHeader),
+            Err(Memory) => Err(TableFault::Memory),
+        }
+    }
+
+    /// The place of the first column of this name, counted from 0.
+    pub fn place(&self, name: &Text) -> Option<u8>
+        ensures { result ≡ place_of name.now self.now }
+    {
+        let place = place_in(self.columns.as_slice(), name)?;
+        Some(place as u8)
+    }
+
+    /// The columns in order.
+    pub fn columns(&self) -> &[(Text, Kind)]
+        ensures value { result.now ≡ self.now }
+        ensures some { 1 ≤ length self.now }
+        ensures few { length self.now ≤ 64 }
+    {
+        self.columns.as_slice()
+    }
+}
+
+/// The place of the first column of this name.
+fn place_in(columns: &[(Text, Kind)], name: &Text) -> Option<usize>
+    ensures value { result ≡ place_of name.now columns.now }
+    ensures within { IfSome result (λ place. place < length columns.now) }
+{
+    columns
+        .iter()
+        .position(|column| column.0.as_str() == name.as_str())
+}
+
+/// The columns of these names. The first one of the given name is of numbers, and the others are
+/// of texts.
+fn read_columns(alloc: Global, header: &ByteRecord, column: &Text) -> Result<Schema, TableFault>
+    requires { length (fields_of header.now) < 2 ^ 32 }
+    ensures { Gives TableFault.Memory (columns_named column.now (fields_of header.now)) result }
+{
+    if header.len() > MOST_COLUMNS {
+        return Err(TableFault::TooManyColumns {
+            found: header.len() as u32,
+        });
+    }
+    let mut columns = Vec::new(alloc);
+    let mut found = false;
+    for index in 0..header.len() {
+        let name = match text_at(alloc, 0, index as u32 + 1, field_at(header, index)) {
+            Ok(name) => name,
+            Err(fault) => return Err(fault),
+        };
+        let is_named = name.as_str() == column.as_str();
+        if columns.push((name, kind_for(found, is_named))).is_err() {
+            return Err(TableFault::Memory);
+        }
+        found |= is_named;
+    }
+    if found {
+        Ok(Schema { columns })
+    } else {
+        Err(TableFault::NoColumn)
+    }
+}
+
+/// The kind of a header's column: numbers for the first one that has the name, else texts.
+fn kind_for(found: bool, is_named: bool) -> Kind
+    ensures { result ≡ (if found then Kind.Text else if is_named then Kind.Int else Kind.Text) }
+{
+    if found {
+        return Kind::Text;
+    }
+    if is_named { Kind::Int } else { Kind::Text }
 }

@@ -1,6 +1,6 @@
 use Rattle.std.proofs.Common.{◌∙◌, sym, inl, arith}
 use Rattle.csv.specs.Records.{fields_of}
-use Rattle.rs_table.proofs.RecordsFacts.{Found, Found-from_read, records_left-none}
+use Rattle.rs_table.proofs.RecordsFacts.{Found-from_read, records_left-none}
 use Rattle.rs_table.proofs.records.Records.read.Goals as goal
 
 pub invariant_of-self-else-not-found : goal.invariant_of-self-else-not-found
