@@ -111,14 +111,30 @@ lines_of-split table rank (suc i) (r ∷ rest) =
       ∙ ap (λ n. lines_of table (rank + 1) (take i rest) ++ lines_of table n (drop i rest)) (let same : rank + 1 + i ≡ rank + suc i = omega arith in same))
 
 -- one more line
-pub lines_of-more : (table : Relation) (i : ℕ) (ranked : List RankedRow) (r : RankedRow) → i < length ranked → get_or ranked i r ≡ r
-    → lines_of table 1 (take (i + 1) ranked) ≡ lines_of table 1 (take i ranked) ++ line_of (i + 1) r.score (row_in table r.row) ∷ []
-lines_of-more table i ranked r within is =
-    let split = lines_of-split table 1 i (take (i + 1) ranked) in
+pub lines_of-more : (table : Relation) (i : ℕ) (ranked : List RankedRow) (other : RankedRow) → i < length ranked
+    → lines_of table 1 (take (i + 1) ranked) ≡ lines_of table 1 (take i ranked) ++ line_of (i + 1) (get_or ranked i other).score (row_in table (get_or ranked i other).row) ∷ []
+lines_of-more table i ranked other within =
+    let r : RankedRow = get_or ranked i other in
     let first : take i (take (i + 1) ranked) ≡ take i ranked = take-take i (i + 1) ranked (omega arith) in
-    let more : take (i + 1) ranked ≡ take i ranked ++ r ∷ [] = take_more ranked i r within ∙ ap (λ x. take i ranked ++ x ∷ []) is in
     let size : length (take i ranked) ≡ i = omega (arith, length-take i ranked, within) in
-    let last : drop i (take (i + 1) ranked) ≡ r ∷ [] = ap (drop i) more ∙ drop_at (take i ranked) (r ∷ []) i size in
-    split ∙ ap (λ rows. lines_of table 1 rows ++ lines_of table (1 + i) (drop i (take (i + 1) ranked))) first
+    let last : drop i (take (i + 1) ranked) ≡ r ∷ [] = ap (drop i) (take_more ranked i other within) ∙ drop_at (take i ranked) (r ∷ []) i size in
+    lines_of-split table 1 i (take (i + 1) ranked)
+    ∙ ap (λ rows. lines_of table 1 rows ++ lines_of table (1 + i) (drop i (take (i + 1) ranked))) first
     ∙ ap (λ rows. lines_of table 1 (take i ranked) ++ lines_of table (1 + i) rows) last
     ∙ ap (λ n. lines_of table 1 (take i ranked) ++ line_of n r.score (row_in table r.row) ∷ []) (let same : 1 + i ≡ i + 1 = omega arith in same)
+
+-- the lines behind the first ones, of as many rows as are wanted
+pub lines_of-rest : (table : Relation) (i count : ℕ) (ranked : List RankedRow) → i ≤ count
+    → lines_of table 1 (take count ranked) ≡ lines_of table 1 (take i ranked) ++ lines_of table (1 + i) (drop i (take count ranked))
+lines_of-rest table i count ranked le =
+    lines_of-split table 1 i (take count ranked)
+    ∙ ap (λ rows. lines_of table 1 rows ++ lines_of table (1 + i) (drop i (take count ranked))) (take-take i count ranked le)
+
+-- the same, with the next line
+pub lines_of-next : (table : Relation) (i count : ℕ) (ranked : List RankedRow) (other : RankedRow) → i < count → i < length ranked
+    → lines_of table 1 (take count ranked) ≡ lines_of table 1 (take i ranked)
+      ++ (line_of (i + 1) (get_or ranked i other).score (row_in table (get_or ranked i other).row) ∷ [] ++ lines_of table (1 + (i + 1)) (drop (i + 1) (take count ranked)))
+lines_of-next table i count ranked other lt within =
+    lines_of-rest table (i + 1) count ranked (omega (arith, lt))
+    ∙ ap (λ lines. lines ++ lines_of table (1 + (i + 1)) (drop (i + 1) (take count ranked))) (lines_of-more table i ranked other within)
+    ∙ append_assoc (lines_of table 1 (take i ranked)) (line_of (i + 1) (get_or ranked i other).score (row_in table (get_or ranked i other).row) ∷ []) (lines_of table (1 + (i + 1)) (drop (i + 1) (take count ranked)))

@@ -1,9 +1,10 @@
 -- Runs of events, put together from what the parts did.
-use Rattle.std.proofs.Common.{ℕ, ◌≡◌, ◌∙◌, ◌+◌, ◌≤◌, ◌++◌, List, [], ◌∷◌, map, take, zero, suc, Some, None, refl, sym, ap, subst, append_assoc, append-nil}
+use Rattle.std.proofs.Common.{ℕ, ◌≡◌, ◌∙◌, ◌+◌, ◌≤◌, ◌++◌, List, [], ◌∷◌, map, take, zero, suc, Some, None, refl, sym, ap, subst, append_assoc, append-nil, arith}
 use Rattle.std.specs.Prelude.{Option, Result, Ok, Err, IfSome, option_map, unwrap_or, ◌⊎◌}
 use Rattle.std.proofs.Common.{inl, inr}
 use Rattle.std.specs.List.{AllByRecursion}
 use Rattle.rs_value.specs.declared.value.Value.{Value}
+use Rattle.rs_outside.specs.Faults.{Rose}
 use Rattle.rs_outside.specs.Files.{FilesTold, file_named}
 use Rattle.rs_outside.specs.Sink.{IsPrefix}
 use Rattle.rs_outside.specs.declared.files.FetchFault.TheVariants.{Failed}
@@ -179,3 +180,54 @@ pub PutsLines-failed : (line part : List ℕ) (out : Seen (List (List ℕ))) (os
     → out.after ≡ option_map (λ pieces. pieces ++ part ∷ []) out.before → PutsLines (line ∷ []) (Err Write) out os
 PutsLines-failed line part out os prefix faulted put = record { done = []; rest = line ∷ []; split = refl;
     ends = inr (record { line = line; more = []; part = part; next = refl; prefix = prefix; faulted = faulted; write = refl; put = put }) }
+
+-- a count that rose later rose
+Rose-from : (old mid new : ℕ) → old ≤ mid → Rose mid new → Rose old new
+Rose-from old mid new le (inl more) = inl (omega (arith, le, more))
+Rose-from old mid new le (inr end) = inr end
+
+-- what is put behind what was put before
+pub pieces-append : (done more : List (List ℕ)) (pieces : Option (List (List ℕ)))
+    → option_map (λ held. held ++ more) (option_map (λ held. held ++ done) pieces) ≡ option_map (λ held. held ++ (done ++ more)) pieces
+pieces-append done more None = refl
+pieces-append done more (Some held) = ap Some (append_assoc held done more)
+
+-- all lines were put
+pub PutsLines-ok : (lines : List (List ℕ)) (out : Seen (List (List ℕ))) (os : Type 0) → PutsLines lines (Ok tt) out os → out.after ≡ option_map (λ held. held ++ lines) out.before
+PutsLines-ok lines out os p = go p.ends where
+  go : (PutsAll p.done p.rest (Ok tt) out ⊎ PutsSome p.done (Ok tt) out) ⊎ PutsPart p.done p.rest (Ok tt) out os → out.after ≡ option_map (λ held. held ++ lines) out.before
+  go (inl (inl all)) = all.put ∙ ap (λ done. option_map (λ held. held ++ done) out.before) (sym (p.split ∙ ap (λ rest. p.done ++ rest) all.all ∙ append-nil p.done))
+  go (inl (inr some)) = absurd (let e = some.memory in cc)
+  go (inr part) = absurd (let e = part.write in cc)
+
+-- lines that were put, and others behind them that were not all put
+pub PutsLines-append : (whole done lines rest : List (List ℕ)) (fault : Fault) (before : Option (List (List ℕ))) (faults_before : ℕ) (mid : Seen (List (List ℕ))) (steady mid_steady : Type 0)
+    → whole ≡ done ++ (lines ++ rest) → mid.before ≡ option_map (λ held. held ++ done) before → faults_before ≤ mid.faults_before → (steady → mid_steady)
+    → PutsLines lines (Err fault) mid mid_steady
+    → PutsLines whole (Err fault) (record { before = before; after = mid.after; faults_before = faults_before; faults_after = mid.faults_after }) steady
+PutsLines-append whole done lines rest fault before faults_before mid steady mid_steady split put faults stays p = record {
+    done = done ++ p.done; rest = p.rest ++ rest;
+    split = split ∙ ap (λ all. done ++ (all ++ rest)) p.split ∙ ap (λ all. done ++ all) (append_assoc p.done p.rest rest) ∙ sym (append_assoc done p.done (p.rest ++ rest));
+    ends = go p.ends } where
+  out : Seen (List (List ℕ))
+  out = record { before = before; after = mid.after; faults_before = faults_before; faults_after = mid.faults_after }
+  more : (pieces : List (List ℕ)) → mid.after ≡ option_map (λ held. held ++ pieces) mid.before → mid.after ≡ option_map (λ held. held ++ (done ++ pieces)) before
+  more pieces e = e ∙ ap (option_map (λ held. held ++ pieces)) put ∙ pieces-append done pieces before
+  go : (PutsAll p.done p.rest (Err fault) mid ⊎ PutsSome p.done (Err fault) mid) ⊎ PutsPart p.done p.rest (Err fault) mid mid_steady
+    → (PutsAll (done ++ p.done) (p.rest ++ rest) (Err fault) out ⊎ PutsSome (done ++ p.done) (Err fault) out) ⊎ PutsPart (done ++ p.done) (p.rest ++ rest) (Err fault) out steady
+  go (inl (inl all)) = absurd (let e = all.ok in cc)
+  go (inl (inr some)) = inl (inr (record { memory = some.memory; put = more p.done some.put }))
+  go (inr part) = inr (record { line = part.line; more = part.more ++ rest; part = part.part; next = ap (λ all. all ++ rest) part.next; prefix = part.prefix;
+      faulted = record { rose = Rose-from faults_before mid.faults_before mid.faults_after faults part.faulted.rose; unsteady = λ s. part.faulted.unsteady (stays s) };
+      write = part.write;
+      put = more (p.done ++ part.part ∷ []) part.put ∙ ap (λ all. option_map (λ held. held ++ all) before) (sym (append_assoc done p.done (part.part ∷ []))) })
+
+-- lines that were put, where there was no memory for the next one
+pub PutsLines-some : (whole done rest : List (List ℕ)) (out : Seen (List (List ℕ))) (os : Type 0) → whole ≡ done ++ rest
+    → out.after ≡ option_map (λ held. held ++ done) out.before → PutsLines whole (Err Memory) out os
+PutsLines-some whole done rest out os split put = record { done = done; rest = rest; split = split; ends = inl (inr (record { memory = refl; put = put })) }
+
+-- all lines
+pub PutsLines-all : (lines : List (List ℕ)) (out : Seen (List (List ℕ))) (os : Type 0)
+    → out.after ≡ option_map (λ held. held ++ lines) out.before → PutsLines lines (Ok tt) out os
+PutsLines-all lines out os put = record { done = lines; rest = []; split = sym (append-nil lines); ends = inl (inl (record { all = refl; ok = refl; put = put })) }

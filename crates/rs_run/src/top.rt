@@ -37,8 +37,14 @@ pub fn top<F: Files, O: Sink>(
         (record { before = O.pieces out.old; after = O.pieces out.new; faults_before = O.faults out.old; faults_after = O.faults out.new })
         (F.steady files.old) (O.steady out.old)) }
 {
-    let table = fetch_table(alloc, file, column, files)?;
-    let ranked = rank_rows(alloc, &table, column, max)?;
+    let table = match fetch_table(alloc, file, column, files) {
+        Ok(table) => table,
+        Err(fault) => return Err(fault),
+    };
+    let ranked = match rank_rows(alloc, &table, column, max) {
+        Ok(ranked) => ranked,
+        Err(fault) => return Err(fault),
+    };
     put_rows(alloc, &table, &ranked, count, out)
 }
 
@@ -218,8 +224,14 @@ fn put_rows<O: Sink>(
             return Ok(());
         }
         rank += 1;
-        let line = ranked_line(alloc, table, rank, row)?;
-        put_line(&line, out)?;
+        let line = match ranked_line(alloc, table, rank, row) {
+            Ok(line) => line,
+            Err(fault) => return Err(fault),
+        };
+        match put_line(&line, out) {
+            Ok(()) => {}
+            Err(fault) => return Err(fault),
+        }
     }
     Ok(())
 }

@@ -1,5 +1,8 @@
-use Rattle.std.proofs.Common.{◌≡◌, ◌<◌, ◌≤◌, ◌+◌, ◌∙◌, sym, ap, subst, inl, inr, length, arith, List, ℕ, Some, None, take, ◌++◌, ◌∷◌, [], map}
+use Rattle.std.proofs.Common.{rules, ◌≡◌, ◌<◌, ◌≤◌, ◌+◌, ◌∙◌, sym, ap, subst, inl, inr, length, arith, List, ℕ, Some, None, take, ◌++◌, ◌∷◌, [], map}
 use Rattle.std.specs.Prelude.{unwrap_or, Option, Err}
+use Rattle.std.proofs.lemmas.Int.{to_z-of_z}
+use mir.Val.{SFits}
+use mir.Syntax.{w64}
 use Rattle.std.proofs.lemmas.List.{take_more, take_all, map-append}
 use Rattle.rs_table.specs.Column.{place_of}
 use Rattle.rs_run.specs.declared.fault.Fault.TheVariants.{BadScore}
@@ -21,10 +24,13 @@ returns-in_default c =
     let number = c.number_in-number.result in
     let i = c.loop-index.index in
     let within : i < length table.rows = omega (arith, c.loop-index-test.true, c.len-index-end.ensures.value) in
-    let none = score-none (is_score c.args.max number) (score_of number) (sym c.score_of.ensures ∙ c.in_default.is) in
+    let small : SFits w64 number = search rules in
+    let score = simp to_z-of_z at c.score_of.ensures in
+    let none = score-none (is_score c.args.max number) (score_of number) (sym score ∙ c.in_default.is) in
     let bad = scored_from-no_score c.args.column.now c.args.max place i table.rows (row_in table (i + 1)) within (get_or-next table i _ within) (ap (is_score c.args.max) (sym c.number_in-number.ensures) ∙ none) in
     let found = ap (λ p. scored_from c.args.column.now c.args.max p 1 table.rows) (sym (place_is _ place c.number_column-place.ensures)) in
-    elim c.bad_score.ensures [
+    let tells = simp to_z-of_z at c.bad_score.ensures in
+    elim tells [
       inl e ↦ inr (found ∙ sym c.loop-index.invariant.rest ∙ bad ∙ ap (λ got. Err (BadScore c.args.column.now (i + 1) got c.args.max)) (sym c.number_in-number.ensures) ∙ ap Err (sym e))
     | inr e ↦ inl e ]
 
@@ -35,7 +41,9 @@ loop-index-preserved c =
     let number = c.number_in-number.result in
     let i = c.loop-index.index in
     let within : i < length table.rows = omega (arith, c.loop-index-test.true, c.len-index-end.ensures.value) in
-    let some = score-some (is_score c.args.max number) (score_of number) c.in-Some.score (sym c.score_of.ensures ∙ c.in-Some.is) in
+    let small : SFits w64 number = search rules in
+    let score = simp to_z-of_z at c.score_of.ensures in
+    let some = score-some (is_score c.args.max number) (score_of number) c.in-Some.score (sym score ∙ c.in-Some.is) in
     let is = ap (is_score c.args.max) (sym c.number_in-number.ensures) ∙ some.0 in
     let next = get_or-next table i (row_in table (i + 1)) within in
     let row : RankedRow = record { score = c.in-Some.score; row = i + 1 } in
