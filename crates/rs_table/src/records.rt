@@ -52,7 +52,7 @@ impl<'a> Records<'a> {
         }
     }
 
-    /// Reads the next record, where one is left. After a fault nothing is left.
+    /// Reads the next record, where one is left. After an error nothing is left.
     pub fn read(&mut self, record_: &mut ByteRecord) -> Result<bool, Memory>
         ensures found { IfOk result (λ found. MatchBool found (self.old ≡ fields_of record_.new ∷ self.new) (self.old ≡ [])) }
         ensures few_fields { IfOk result (λ found. length (fields_of record_.new) < 2 ^ 32) }
