@@ -34,6 +34,22 @@ fn tells(rt: &impl Abort, alloc: Global, fault: &TableFault, wanted: &str) -> Re
     Ok(())
 }
 
+fn printed(
+    rt: &impl Abort,
+    alloc: Global,
+    table: &Table,
+    row: u32,
+    column: u8,
+) -> Result<Vec<u8>, Fail> {
+    assert!(rt; row >= 1);
+    assert!(rt; row <= table.len());
+    let columns = table.schema().columns();
+    assert!(rt; (column as usize) < columns.len());
+    let mut bytes = Vec::new(alloc);
+    table.value(row, column)?.print(&mut bytes)?;
+    Ok(bytes)
+}
+
 #[test]
 fn reads_a_file(rt: HostRuntime) -> Result<(), Fail> {
     let alloc = rt.alloc();
@@ -45,7 +61,6 @@ fn reads_a_file(rt: HostRuntime) -> Result<(), Fail> {
     let table = Table::read(alloc, schema, bytes)?;
     assert_eq!(rt; table.len(), 3);
     assert!(rt; !table.is_empty());
-    assert_eq!(rt; table.schema().columns().len(), 3);
     let cells: [(u32, u8, &[u8]); 6] = [
         (1, 0, b"a"),
         (1, 1, b"40"),
@@ -55,12 +70,8 @@ fn reads_a_file(rt: HostRuntime) -> Result<(), Fail> {
         (3, 2, b"2"),
     ];
     for (row, column, wanted) in cells {
-        assert!(rt; row >= 1);
-        assert!(rt; row <= 3);
-        assert!(rt; column < 3);
-        let mut printed = Vec::new(alloc);
-        table.value(row, column)?.print(&mut printed)?;
-        assert_eq!(rt; printed.as_slice(), wanted);
+        let cell = printed(&rt, alloc, &table, row, column)?;
+        assert_eq!(rt; cell.as_slice(), wanted);
     }
     Ok(())
 }
