@@ -1,0 +1,272 @@
+#!/usr/bin/env bash
+# Tries the built program as a user would: files, line ends, words and streams of every kind. The expected values were
+# worked out by hand from the description of the command. It prints a line for each case, and ends with 1 where one
+# fails. The program is crates/ranksql/out/ranksql, or the one that the variable RANKSQL names.
+set -u -o pipefail
+export LC_ALL=C
+
+root=$(cd "$(dirname "$0")/.." && pwd -P)
+built=$root/crates/ranksql/out/ranksql
+program=${RANKSQL:-$built}
+usage='usage: ranksql top FILE COLUMN MAX K, run SCRIPT SEED, plain SCRIPT, gen NUMBER ROWS'
+if [ ! -x "$program" ]; then
+    echo "there is no program $program: ./ranksql builds it" >&2
+    exit 1
+fi
+work=$(mktemp -d) || exit 1
+trap 'rm -rf "$work"' EXIT
+mkdir "$work/said" "$work/in"
+cd "$work/in" || exit 1
+failures=0
+
+passed() {
+    echo "ok      $1"
+}
+
+failed() {
+    echo "FAILED  $1"
+    failures=$((failures + 1))
+}
+
+# Compares what a case gave, in the files status, out and err, with what is wanted.
+# compare NAME STATUS OUTPUT ERROR
+compare() {
+    printf '%s' "$3" >"$work/said/out.wanted"
+    printf '%s' "$4" >"$work/said/err.wanted"
+    if [ "$(cat "$work/said/status")" = "$2" ] && cmp -s "$work/said/out" "$work/said/out.wanted" &&
+        cmp -s "$work/said/err" "$work/said/err.wanted"; then
+        passed "$1"
+        return
+    fi
+    failed "$1"
+    echo "        status $(cat "$work/said/status"), wanted $2"
+    diff <(head -c 2000 "$work/said/out.wanted") <(head -c 2000 "$work/said/out") | sed 's/^/        output: /' | cat -v
+    diff "$work/said/err.wanted" "$work/said/err" | sed 's/^/        error: /' | cat -v
+}
+
+# Runs the program on the words behind `--`.
+# expect NAME STATUS OUTPUT ERROR -- WORD..
+expect() {
+    local name=$1 status=$2 out=$3 err=$4
+    shift 5
+    timeout 60 "$program" "$@" >"$work/said/out" 2>"$work/said/err" </dev/null
+    echo $? >"$work/said/status"
+    compare "$name" "$status" "$out" "$err"
+}
+
+# The file f.csv of these bytes, written as printf writes its format.
+file() {
+    # shellcheck disable=SC2059
+    printf "$1" >f.csv
+}
+
+# The file f.csv of a header `number,name` and so many rows, whose numbers are the last digits of the row's number.
+file_of_rows() {
+    awk -v rows="$1" 'BEGIN { print "number,name"; for (row = 1; row <= rows; row++) print row % 1000 ",r" row }' >f.csv
+}
+
+# A header line or a row of so many fields.
+fields() {
+    awk -v count="$1" -v what="$2" 'BEGIN { for (i = 1; i <= count; i++) printf "%s%s", (i > 1 ? "," : ""), what (what == "c" ? i : ""); print "" }'
+}
+
+# ---- the happy path
+cp "$root/crates/ranksql/data/h.csv" h.csv
+expect 'the first two rows' 0 $'1,90,b,90,1\n2,40,a,40,1\n' '' -- top h.csv price 100 2
+expect 'fewer rows than asked for, a tie to the earlier row' 0 $'1,90,b,90,1\n2,40,a,40,1\n3,40,c,40,2\n' '' -- top h.csv price 100 1000000
+expect 'another column' 0 $'1,2,c,40,2\n2,1,a,40,1\n3,1,b,90,1\n' '' -- top h.csv city 2 3
+expect 'no row is asked for' 0 '' '' -- top h.csv price 100 0
+expect 'the hotels of the example' 0 $'1,400,Castello di Montalto,Florence,400,97\n2,395,Grand Hotel Miramar,Nice,395,93\n3,395,Caf\xc3\xa9 Royal Hotel,London,395,90\n' '' \
+    -- top "$root/examples/hotels.csv" price 400 3
+expect 'the best rated hotels' 0 $'1,100,Maison Saint-Clair,Bordeaux,176,100\n2,97,Castello di Montalto,Florence,400,97\n3,95,Palazzo Contarini,Venice,372,95\n4,94,Villa Magnolia,Como,358,94\n' '' \
+    -- top "$root/examples/hotels.csv" rating 100 4
+file 'n,t\n3,three\n4294967295,most\n0,zero\n'
+expect 'the greatest maximum' 0 $'1,4294967295,4294967295,most\n2,3,3,three\n3,0,0,zero\n' '' -- top f.csv n 4294967295 10
+file 'n,t\n'
+expect 'a header and no row' 0 '' '' -- top f.csv n 1 5
+file 'n\n1\n2'
+expect 'no line feed at the end' 0 $'1,2,2\n2,1,1\n' '' -- top f.csv n 2 5
+file 'n,t\n+07,a\n-0,b\n000000000000000000000000000005,c\n'
+expect 'signs and leading zeros' 0 $'1,7,7,a\n2,5,5,c\n3,0,0,b\n' '' -- top f.csv n 9 5
+
+# ---- the file
+expect 'a missing file' 3 '' $'read: nope.csv: missing\n' -- top nope.csv price 100 2
+expect 'a file with no name' 3 '' $'read: : missing\n' -- top '' price 100 2
+mkdir DIR
+expect 'a folder in place of a file' 3 '' $'read: DIR: failed\n' -- top DIR price 100 2
+expect 'a file below a file' 3 '' $'read: h.csv/x: failed\n' -- top h.csv/x price 100 2
+cp h.csv 'DIR/a b.csv'
+expect 'a blank in the name of a file in a folder' 0 $'1,90,b,90,1\n' '' -- top 'DIR/a b.csv' price 100 1
+cp h.csv ./-h.csv
+expect 'a name that begins with a hyphen' 0 $'1,90,b,90,1\n' '' -- top -h.csv price 100 1
+if [ "$(id -u)" -ne 0 ]; then
+    cp h.csv secret.csv
+    chmod 000 secret.csv
+    expect 'a file that may not be read' 3 '' $'read: secret.csv: failed\n' -- top secret.csv price 100 2
+fi
+{ printf 'n,t\n5,' && head -c 33554425 /dev/zero | tr '\0' x && printf '\n'; } >f.csv
+timeout 60 "$program" top f.csv n 9 1 2>"$work/said/err" | wc -c | tr -d ' ' >"$work/said/out"
+echo "${PIPESTATUS[0]}" >"$work/said/status"
+compare 'a file of 33,554,432 bytes' 0 $'33554432\n' ''
+printf '\n' >>f.csv
+expect 'a file of one byte more' 3 '' $'read: f.csv: too long\n' -- top f.csv n 9 1
+expect 'a file with no end' 3 '' $'read: /dev/zero: too long\n' -- top /dev/zero n 9 1
+expect 'an empty device' 6 '' $'table: /dev/null: NoHeader\n' -- top /dev/null n 9 1
+timeout 60 "$program" top /dev/stdin price 100 1 <h.csv >"$work/said/out" 2>"$work/said/err"
+echo $? >"$work/said/status"
+compare 'standard input by its name' 0 $'1,90,b,90,1\n' ''
+# shellcheck disable=SC2002
+cat h.csv | timeout 60 "$program" top /dev/stdin price 100 1 >"$work/said/out" 2>"$work/said/err"
+echo "${PIPESTATUS[1]}" >"$work/said/status"
+compare 'a pipe by its name' 0 $'1,90,b,90,1\n' ''
+
+# ---- the form of the table
+file ''
+expect 'an empty file' 6 '' $'table: f.csv: NoHeader\n' -- top f.csv n 9 1
+file '\n\r\n\n'
+expect 'blank lines alone' 6 '' $'table: f.csv: NoHeader\n' -- top f.csv n 9 1
+file 'n,t\r\n1,a\r\n2,b\r\n'
+expect 'lines that end with CR LF' 0 $'1,2,2,b\n2,1,1,a\n' '' -- top f.csv n 9 5
+file 'n,t\r1,a\r2,b\r'
+expect 'lines that end with CR' 0 $'1,2,2,b\n2,1,1,a\n' '' -- top f.csv n 9 5
+file '\n\nn,t\n\n1,a\n\r\n\n2,b\n\n'
+expect 'blank lines between rows' 0 $'1,2,2,b\n2,1,1,a\n' '' -- top f.csv n 9 5
+file 'n,t\n1,a"b\n2,"c,""d"""\n3,"e\nf"\n4,"g"h\n'
+expect 'quotes' 0 $'1,4,4,gh\n2,3,3,"e\nf"\n3,2,2,"c,""d"""\n4,1,1,"a""b"\n' '' -- top f.csv n 9 5
+file 'n,t\n1, a \n2,\n'
+expect 'blanks in a field, and an empty field' 0 $'1,2,2,\n2,1,1, a \n' '' -- top f.csv n 9 5
+file 'n,t\n1,"a\n2,b\n'
+expect 'a quote that is never closed' 0 $'1,1,1,"a\n2,b\n"\n' '' -- top f.csv n 9 5
+file 'n,t\n"1,a\n2,b\n'
+expect 'a quote that is never closed in the first field' 6 '' $'table: f.csv: FieldCount row 1 found 1\n' -- top f.csv n 9 5
+file 'n,t\n1,a\n2\n3,c\n'
+expect 'a short row' 6 '' $'table: f.csv: FieldCount row 2 found 1\n' -- top f.csv n 9 5
+file 'n,t\n1,a,x\n'
+expect 'a long row' 6 '' $'table: f.csv: FieldCount row 1 found 3\n' -- top f.csv n 9 5
+file 'n,n\n1,9\n5,0\n'
+expect 'a column name that occurs twice' 0 $'1,5,5,0\n2,1,1,9\n' '' -- top f.csv n 9 5
+expect 'no such column' 6 '' $'table: f.csv: NoColumn\n' -- top f.csv N 9 5
+expect 'no such column, the empty name' 6 '' $'table: f.csv: NoColumn\n' -- top f.csv '' 9 5
+file '"a ""b"", c",t\n1,x\n'
+expect 'a column name with quotes and a comma' 0 $'1,1,1,x\n' '' -- top f.csv 'a "b", c' 9 5
+file ',t\n1,x\n'
+expect 'a column with no name' 0 $'1,1,1,x\n' '' -- top f.csv '' 9 5
+file '\xef\xbb\xbfn,t\n1,a\n'
+expect 'a byte order mark' 0 $'1,1,1,a\n' '' -- top f.csv n 9 5
+file '\xef\xbb\xbf\xef\xbb\xbfn,t\n1,2\n'
+expect 'two byte order marks, and the first column' 6 '' $'table: f.csv: NoColumn\n' -- top f.csv n 9 5
+expect 'two byte order marks, and the second column' 0 $'1,2,1,2\n' '' -- top f.csv t 9 5
+expect 'two byte order marks, and the mark in the name' 0 $'1,1,1,2\n' '' -- top f.csv $'\xef\xbb\xbfn' 9 5
+{ fields 64 c && fields 64 7; } >f.csv
+expect '64 columns' 0 "1,7,$(fields 64 7)"$'\n' '' -- top f.csv c64 9 5
+{ fields 65 c && fields 65 7; } >f.csv
+expect '65 columns' 6 '' $'table: f.csv: TooManyColumns found 65\n' -- top f.csv c1 9 5
+file_of_rows 131072
+expect '131,072 rows' 0 $'1,999,999,r999\n2,999,999,r1999\n3,999,999,r2999\n' '' -- top f.csv number 1000 3
+file_of_rows 131073
+expect '131,073 rows' 6 '' $'table: f.csv: TooManyRows\n' -- top f.csv number 1000 3
+
+# ---- the cells
+for number in x '' ' 5' '5 ' 5.0 1e3 --5 + - 0x10 4000000000000000001 -4000000000000000001 18446744073709551616; do
+    printf 't,n\na,1\nb,%s\n' "$number" >f.csv
+    expect "the cell '$number' is no number" 6 '' $'table: f.csv: NotInt row 2 column 2\n' -- top f.csv n 4294967295 5
+done
+file 'n\n4000000000000000000\n'
+expect 'the greatest number of a cell' 7 '' $'score: n rows 1: 4000000000000000000 is not in 0..10\n' -- top f.csv n 10 5
+file 'n\n1\n-4000000000000000000\n'
+expect 'the least number of a cell' 7 '' $'score: n rows 2: -4000000000000000000 is not in 0..10\n' -- top f.csv n 10 5
+file 'n,t\n10,a\n11,b\n-1,c\n'
+expect 'a number above the maximum' 7 '' $'score: n rows 2: 11 is not in 0..10\n' -- top f.csv n 10 5
+expect 'a number below 0' 7 '' $'score: n rows 3: -1 is not in 0..11\n' -- top f.csv n 11 5
+expect 'a number above the maximum where no row is asked for' 7 '' $'score: n rows 2: 11 is not in 0..10\n' -- top f.csv n 10 0
+file 'n\n4294967296\n'
+expect 'a number above the greatest maximum' 7 '' $'score: n rows 1: 4294967296 is not in 0..4294967295\n' -- top f.csv n 4294967295 5
+file 'n,t\n11,a\nx,b\n'
+expect 'the table is read before a score is looked at' 6 '' $'table: f.csv: NotInt row 2 column 1\n' -- top f.csv n 10 5
+file 'n,t\n1,a\nx,\xff\n3\n'
+expect 'the first cell that is refused' 6 '' $'table: f.csv: NotInt row 2 column 1\n' -- top f.csv n 10 5
+expect 'the same from another column' 6 '' $'table: f.csv: NotInt row 1 column 2\n' -- top f.csv t 10 5
+file 'n,t\n1,a\n2,\xc3\x28\n'
+expect 'a text that is not UTF-8' 6 '' $'table: f.csv: NotUtf8 row 2 column 2\n' -- top f.csv n 10 5
+file 'n,t\n1,a\n2,\xed\xa0\x80\n'
+expect 'a text with a surrogate' 6 '' $'table: f.csv: NotUtf8 row 2 column 2\n' -- top f.csv n 10 5
+file 'n,t\n\xff,a\n'
+expect 'a number that is not UTF-8' 6 '' $'table: f.csv: NotInt row 1 column 1\n' -- top f.csv n 10 5
+file 'n,\xff\n1,a\n'
+expect 'a header that is not UTF-8' 6 '' $'table: f.csv: NotUtf8 row 0 column 2\n' -- top f.csv n 10 5
+printf 'n,t\n1,a\0b\n' >f.csv
+timeout 60 "$program" top f.csv n 9 1 2>"$work/said/err" | tr '\0' @ >"$work/said/out"
+echo "${PIPESTATUS[0]}" >"$work/said/status"
+compare 'a text with a byte 0' 0 $'1,1,1,a@b\n' ''
+
+# ---- the words of the command line
+expect 'no words' 2 '' "$usage"$'\n' --
+for words in --help -h top TOP 'top h.csv' 'top h.csv price 100' 'top h.csv price 100 2 3' 'TOP h.csv price 100 2' \
+    'top h.csv price 0 2' 'top h.csv price 4294967296 2' 'top h.csv price 100 1000001' 'top h.csv price x 2' \
+    'top h.csv price 100 x' 'top h.csv price -1 2' 'top h.csv price +100 2' 'top h.csv price 100 2.0' \
+    'top h.csv price 000000000000000000100 2' 'top h.csv price 100 000000000000000000002' \
+    'top h.csv price 18446744073709551716 2'; do
+    # shellcheck disable=SC2086
+    expect "the words '$words'" 2 '' "$usage"$'\n' -- $words
+done
+expect 'an empty number' 2 '' "$usage"$'\n' -- top h.csv price '' 2
+expect 'numbers of 20 digits' 0 $'1,90,b,90,1\n' '' -- top h.csv price 00000000000000000100 00000000000000000001
+expect 'a word that is not UTF-8' 2 '' "$usage"$'\n' -- top h.csv $'pr\xffce' 100 2
+expect 'a file name that is not UTF-8' 2 '' "$usage"$'\n' -- top $'h\xff.csv' price 100 2
+
+# ---- the streams
+file_of_rows 100000
+timeout 60 "$program" top f.csv number 1000 1000000 2>"$work/said/err" | head -n 1 >"$work/said/out"
+status=${PIPESTATUS[0]}
+case $status in 0 | 4) echo fine ;; *) echo "$status" ;; esac >"$work/said/status"
+[ "$status" = 4 ] && error=$'write\n' || error=''
+compare 'a reader that leaves after a line' fine $'1,999,999,r999\n' "$error"
+timeout 60 "$program" top f.csv number 1000 1000000 >/dev/full 2>"$work/said/err"
+echo $? >"$work/said/status"
+: >"$work/said/out"
+compare 'a full device' 4 '' $'write\n'
+timeout 60 "$program" top f.csv number 1000 0 >/dev/full 2>"$work/said/err"
+echo $? >"$work/said/status"
+compare 'a full device, and nothing to write' 0 '' ''
+timeout 60 "$program" top h.csv price 100 2 >&- 2>"$work/said/err"
+echo $? >"$work/said/status"
+compare 'standard output is closed' 4 '' $'write\n'
+timeout 60 "$program" top nope.csv price 100 2 >"$work/said/out" 2>&-
+echo $? >"$work/said/status"
+: >"$work/said/err"
+compare 'standard error is closed' 3 '' ''
+timeout 60 "$program" top nope.csv price 100 2 >"$work/said/out" 2>/dev/full
+echo $? >"$work/said/status"
+compare 'standard error is full' 3 '' ''
+timeout 60 "$program" top h.csv price 100 1 >"$work/said/out" 2>"$work/said/err" <&-
+echo $? >"$work/said/status"
+compare 'standard input is closed' 0 $'1,90,b,90,1\n' ''
+
+# ---- memory
+(
+    ulimit -v 20000
+    exec timeout 60 "$program" top f.csv number 1000 5
+) >"$work/said/out" 2>"$work/said/err"
+echo $? >"$work/said/status"
+compare 'too little memory for the table' 1 '' $'memory\n'
+
+# ---- the script at the top
+if [ "$program" = "$built" ]; then
+    ln -s "$root/ranksql" "$work/link"
+    mkdir "$work/bin"
+    ln -s ../link "$work/bin/hotels"
+    program=$root/ranksql
+    expect 'the script, in the folder of the caller' 0 $'1,90,b,90,1\n' '' -- top h.csv price 100 1
+    expect 'the script, with the status of the program' 7 '' $'score: price rows 1: 40 is not in 0..1\n' -- top h.csv price 1 1
+    expect 'the script, with words as they are' 3 '' $'read: a  b*: missing\n' -- top 'a  b*' '' 1 1
+    program=$work/bin/hotels
+    expect 'the script through symbolic links' 0 $'1,90,b,90,1\n' '' -- top h.csv price 100 1
+    cd "$root" && program=./ranksql
+    expect 'the script in its own folder' 0 $'1,400,Castello di Montalto,Florence,400,97\n' '' -- top examples/hotels.csv price 400 1
+fi
+
+if [ "$failures" -gt 0 ]; then
+    echo "$failures cases failed"
+    exit 1
+fi
+echo "every case passed"
