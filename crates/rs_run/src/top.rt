@@ -111,17 +111,12 @@ fn read_table(alloc: Global, column: &Text, bytes: &[u8]) -> Result<Table, Table
 }
 
 // The rows of a table in the stable order of the numbers in a column.
-fn rank_rows(
-    alloc: Global,
-    table: &Table,
-    column: &Text,
-    max: u32,
-) -> Result<Vec<RankedRow>, Fault>
+fn rank_rows(alloc: Global, table: &Table, column: &Text, max: u32) -> Result<Vec<RankedRow>, Fault>
     requires { HasNumberColumn column.now table.now.schema }
     ensures { let place = unwrap_or (place_of column.now table.now.schema) 0 in
         MatchResult result
-            (λ ranked. Ranks table.now column.now max place ranked.items)
-            (λ fault. (fault ≡ Fault.Memory) ⊎ (scored_from column.now max place 1 table.now.rows ≡ Err fault)) }
+        (λ ranked. Ranks table.now column.now max place ranked.items)
+        (λ fault. (fault ≡ Fault.Memory) ⊎ (scored_from column.now max place 1 table.now.rows ≡ Err fault)) }
 {
     let mut ranked = score_rows(alloc, table, column, max)?;
     sort_stably(&mut ranked)?;
@@ -138,10 +133,10 @@ fn score_rows(
     requires { HasNumberColumn column.now table.now.schema }
     ensures { let place = unwrap_or (place_of column.now table.now.schema) 0 in
         MatchResult result
-            (λ ranked. (scored_from column.now max place 1 table.now.rows ≡ Ok table.now.rows)
-                × (map (λ r. row_in table.now r.row) ranked.items ≡ table.now.rows)
-                × AllByRecursion (λ r. IsRanked table.now place r.score r.row) ranked.items)
-            (λ fault. (fault ≡ Fault.Memory) ⊎ (scored_from column.now max place 1 table.now.rows ≡ Err fault)) }
+        (λ ranked. (scored_from column.now max place 1 table.now.rows ≡ Ok table.now.rows)
+        × (map (λ r. row_in table.now r.row) ranked.items ≡ table.now.rows)
+        × AllByRecursion (λ r. IsRanked table.now place r.score r.row) ranked.items)
+        (λ fault. (fault ≡ Fault.Memory) ⊎ (scored_from column.now max place 1 table.now.rows ≡ Err fault)) }
 {
     let mut ranked = Vec::new(alloc);
     let place = number_column(table, column);
