@@ -1,14 +1,11 @@
 -- The definitions, computed on examples.
-use Rattle.std.proofs.Common.{ℕ, ◌≡◌, ◌++◌, List, [], ◌∷◌, Some, None, refl}
-use Rattle.std.specs.Prelude.{codes, pos, negsuc, Ok, Err}
+use Rattle.std.proofs.Common.{ℕ, ◌≡◌, List, [], ◌∷◌, Some, None, refl}
+use Rattle.std.specs.Prelude.{codes}
 use Rattle.csv.proofs.OnLiterals.{csv_on_literals}
 use Rattle.std.specs.Fmt.{digits}
 use Rattle.std.specs.Str.{chars, is_utf8}
 use Rattle.std.specs.Char.{encode_utf8}
 use Rattle.csv.specs.Writing.{escaped, fields_text, is_blank}
-use Rattle.rs_run.specs.declared.fault.Fault.TheVariants.{Usage, Read, Table, BadScore}
-use Rattle.rs_run.specs.Words.{top_words}
-use Rattle.rs_run.specs.Faults.{fault_line}
 use Rattle.rs_run.specs.Run.{Fetch, Put, run_of}
 
 hotels : List ℕ
