@@ -1,6 +1,4 @@
-ghost use Rattle.std.specs.Prelude.{◌≡◌, ◌⊎◌, List, ℕ, Option, Some, None, IsNone};
-ghost use Rattle.rs_outside.specs.Faults.{Rose};
-ghost use Rattle.rs_run.specs.Faults.{status_of};
+ghost use Rattle.std.specs.Prelude.{◌≡◌, ◌⊎◌, Some, None};
 ghost use Rattle.rs_run.specs.Outcome.{EndsOrNoMemory, Faulted, ForFiles, Outcome, Ran, seen};
 ghost use Rattle.rs_run.specs.Run.{run_of};
 ghost use Rattle.rs_run.specs.Words.{top_words};
@@ -49,7 +47,7 @@ pub fn run<F: Files, O: Sink, E: Sink>(
     }
 }
 
-// Does what the words say, up to the first fault.
+/// Does what the words say, up to the first fault.
 fn answer<F: Files, O: Sink>(
     alloc: Global,
     words: &[Text],

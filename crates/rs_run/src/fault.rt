@@ -96,7 +96,7 @@ impl Fault {
     }
 }
 
-// The line of a file that was not read.
+/// The line of a file that was not read.
 fn read_line(alloc: Global, name: &Text, why: FetchFault) -> Result<String, Memory>
     ensures { IfOk result (λ line. string_bytes line ≡ fault_line (Fault.Read name.now why)) }
 {
@@ -116,7 +116,7 @@ fn fetch_text(why: FetchFault) -> &'static str
     }
 }
 
-// The line of a file that is no table.
+/// The line of a file that is no table.
 fn table_line(alloc: Global, name: &Text, why: &TableFault) -> Result<String, Memory>
     ensures { IfOk result (λ line. string_bytes line ≡ fault_line (Fault.Table name.now why.now)) }
 {
