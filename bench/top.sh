@@ -55,9 +55,9 @@ time_once() {
     echo $((end - start)) >>"$work/$name.times"
 }
 
-# The greatest memory of a run, in kB: as GNU time tells it, or else the greatest value seen in /proc.
+# The greatest memory of a run, in kB: as GNU time tells it, or else the greatest value that was seen in /proc.
 peak_of() {
-    local name=$1 peak=0 now pid
+    local name=$1 pid pid_of_run
     if [ -x /usr/bin/time ]; then
         export -f "run_$name"
         export program work MAX
@@ -67,11 +67,11 @@ peak_of() {
     "run_$name" >/dev/null &
     pid=$!
     while kill -0 "$pid" 2>/dev/null; do
-        for now in $(awk '/^VmHWM/ { print $2 }' "/proc/$pid/status" "/proc/$pid/task/$pid/children" 2>/dev/null); do
-            if [ "$now" -gt "$peak" ]; then peak=$now; fi
+        # shellcheck disable=SC2013
+        for pid_of_run in $(cat "/proc/$pid/task/$pid/children" 2>/dev/null); do
+            awk '/^VmHWM/ { print $2 }' "/proc/$pid_of_run/status" 2>/dev/null
         done
-    done
-    echo "$peak"
+    done | sort -n | tail -n 1
 }
 
 # The shortest time, in microseconds.
