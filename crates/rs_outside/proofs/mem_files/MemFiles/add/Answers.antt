@@ -1,4 +1,4 @@
-use Rattle.std.proofs.Common.{◌≡◌, sym, ap, ◌∙◌, get_or}
+use Rattle.std.proofs.Common.{sym, ap, ◌∙◌}
 use Rattle.rs_outside.specs.Files.{File}
 use Rattle.rs_outside.proofs.FolderFacts.{with_file-at, with_file-absent}
 use Rattle.rs_outside.proofs.mem_files.MemFiles.add.Goals as goal
