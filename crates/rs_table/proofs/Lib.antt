@@ -3,4 +3,5 @@ pub mod HeaderFacts
 pub mod NumberFacts
 pub mod RecordsFacts
 pub mod RelationFacts
+mod Worked
 mod WorkedRecords

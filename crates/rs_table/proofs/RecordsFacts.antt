@@ -2,7 +2,9 @@
 use Rattle.std.proofs.Common.{◌≡◌, ◌⊎◌, inl, inr, ◌<◌, ◌≤◌, ◌+◌, ℕ, zero, suc, Bool, true, false, List, [], ◌∷◌, ◌++◌, length, Option, Some, None, refl, sym, ap, ◌∙◌, arith, length-append, add-one, zero-add, if◌then◌else◌, IfSome}
 use Rattle.std.specs.Borrow.{Bor}
 use Rattle.csv.specs.Machine.{Read, ends_at_end, field_after, fields_after, is_end, next_record, step}
-use Rattle.csv.specs.Reading.{NextIs, ReadRecord, ReadsNext, Ready, default_config, is_bom, names_headers, pending_of, reader_config, reader_headers, reader_source, reader_state, reader_trim, records_from, records_next, strip_bom}
+use Rattle.csv.specs.Reading.{ExplainsRead, NextIs, ReadRecord, ReadsNext, Ready, default_config, is_bom, is_flexible, names_headers, pending_of, reader_config, reader_headers, reader_source, reader_state, reader_trim, records_from, records_next, stops_reader, strip_bom}
+use Rattle.csv.specs.declared.error.ErrorKind.{ErrorKind}
+use Rattle.csv.specs.declared.error.ErrorKind.TheVariants as kind
 use Rattle.csv.specs.declared.reader.Trim.TheVariants as trim
 use Rattle.csv.specs.declared.parser.Config.{Config}
 use Rattle.csv.specs.declared.parser.State.{State}
@@ -134,13 +136,13 @@ abbrev pub ReadBytes : ByteReader → ByteReader → Bool → List (List ℕ) �
 ReadBytes old new found fields = ReadRecord (λ (bytes : Bor (List ℕ)). Some bytes.now) old new found fields
 
 -- a read that found a record took the first of those that were left
-pub Found-from_read : (old new : ByteReader) (fields : List (List ℕ)) → IsReading old → Ready new → ReadBytes old new true fields → Found old new fields
-Found-from_read old new fields h ready r =
+pub Found-from_read : (old new : ByteReader) (fields : List (List ℕ)) → IsReading old → Ready new → is_flexible new ≡ is_flexible old → ReadBytes old new true fields → Found old new fields
+Found-from_read old new fields h ready flexible r =
     let next = rw (h.config, h.known) at r.0 in
     let (ys, known, few, first, few_fields) = found-after (reader_state old) (reader_state new) h.bytes (pending_of (Some (reader_source new).now) new) fields h.few next in
     record {
       first = rw (h.known, r.1) first;
-      reading = record { config = r.2 ∙ h.config; untrimmed = r.3 ∙ h.untrimmed; ready = ready; bytes = ys; known = rw r.1 known; few = few };
+      reading = record { config = r.2 ∙ h.config; untrimmed = r.3 ∙ h.untrimmed; ready = ready; flexible = flexible ∙ h.flexible; bytes = ys; known = rw r.1 known; few = few };
       few_fields = few_fields;
     }
 
@@ -164,7 +166,17 @@ length-strip_bom (a ∷ b ∷ c ∷ rest) = of (is_bom a b c)
 
 -- a new reader that takes no header row, over these bytes
 pub IsReading-new : (reader : ByteReader) (bytes : List ℕ) → reader_config reader ≡ default_config → reader_trim reader ≡ trim.None
-    → names_headers reader ≡ false → reader_headers reader ≡ None → bytes_left reader ≡ Some (strip_bom bytes) → length bytes ≤ 33554432 → IsReading reader
-IsReading-new reader bytes config untrimmed named headers known few =
+    → names_headers reader ≡ false → reader_headers reader ≡ None → is_flexible reader ≡ true → bytes_left reader ≡ Some (strip_bom bytes) → length bytes ≤ 33554432 → IsReading reader
+IsReading-new reader bytes config untrimmed named headers flexible known few =
     let shorter = length-strip_bom bytes in
-    record { config = config; untrimmed = untrimmed; ready = inr (inr (named, headers)); bytes = strip_bom bytes; known = known; few = omega arith }
+    record { config = config; untrimmed = untrimmed; ready = inr (inr (named, headers)); flexible = flexible; bytes = strip_bom bytes; known = known; few = omega arith }
+
+-- a read of bytes by a flexible reader fails for the reader underneath or for memory alone
+pub stops_reader-explained : (old new : ByteReader) (k : ErrorKind) → is_flexible old ≡ true
+    → ExplainsRead (λ (bytes : Bor (List ℕ)). Some bytes.now) old new false k → stops_reader k ≡ true
+stops_reader-explained old new (kind.Io e) flexible h = refl
+stops_reader-explained old new kind.OutOfMemory flexible h = refl
+stops_reader-explained old new (kind.UnequalLengths pos expected len) flexible h = cc (flexible, h.0)
+stops_reader-explained old new (kind.Utf8 pos err) flexible h = cc h.0
+stops_reader-explained old new (kind.Serialize why) flexible h = absurd h
+stops_reader-explained old new (kind.Deserialize pos err) flexible h = absurd h

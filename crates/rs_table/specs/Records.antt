@@ -1,7 +1,7 @@
 -- The records of a CSV file.
-use Rattle.std.specs.Prelude.{◌≡◌, ◌+◌, ◌≤◌, ℕ, List, [], length, Option, Some, None}
+use Rattle.std.specs.Prelude.{◌≡◌, ◌+◌, ◌≤◌, ℕ, true, List, [], length, Option, Some, None}
 use Rattle.std.specs.Borrow.{Bor}
-use Rattle.csv.specs.Reading.{Ready, default_config, reader_config, reader_state, reader_trim, records, records_from, source_of, strip_bom}
+use Rattle.csv.specs.Reading.{Ready, default_config, is_flexible, reader_config, reader_state, reader_trim, records, records_from, source_of, strip_bom}
 use Rattle.csv.specs.declared.parser.State.{State}
 use Rattle.csv.specs.declared.reader.Reader.{Reader}
 use Rattle.csv.specs.declared.reader.Trim.TheVariants as trim
@@ -32,6 +32,7 @@ pub record IsReading (reader : ByteReader) : Type 0 where
   pub config : reader_config reader ≡ default_config
   pub untrimmed : reader_trim reader ≡ trim.None
   pub ready : Ready reader
+  pub flexible : is_flexible reader ≡ true
   pub bytes : List ℕ
   pub known : bytes_left reader ≡ Some bytes
   pub few : length bytes ≤ 33554432

@@ -1,9 +1,10 @@
-ghost use Rattle.std.specs.Prelude.{◌≡◌, ◌<◌, ◌≤◌, ◌^◌, [], ◌∷◌, false, length, IfOk, OnErr};
+ghost use Rattle.std.specs.Prelude.{◌≡◌, ◌<◌, ◌≤◌, ◌^◌, [], ◌∷◌, false, true, length, IfOk, OnErr};
 ghost use Rattle.std.specs.Bool.{MatchBool};
+ghost use Rattle.csv.specs.Reading.{error_kind, stops_reader};
 ghost use Rattle.csv.specs.Records.{fields_of};
 ghost use Rattle.rs_table.specs.Records.{records_of};
 
-use csv::{ByteRecord, Reader, ReaderBuilder};
+use csv::{ByteRecord, Error, Reader, ReaderBuilder};
 use rs_value::Memory;
 use std::alloc::Global;
 use std::marker::Model;
@@ -27,6 +28,14 @@ impl<'a> Model for Records<'a> {
     ghost invariant = { λ r. r.ended ≡ false → IsReading r.reader };
 }
 
+// The answer to an error of a reader of bytes in memory. Records may differ in length and are read as
+// bytes, so the error is no fault of the file.
+fn memory_for(_error: &Error) -> Memory
+    requires { stops_reader (error_kind _error.now) ≡ true }
+{
+    Memory
+}
+
 impl<'a> Records<'a> {
     /// All records of these bytes, behind one byte order mark.
     pub fn new(alloc: Global, bytes: &'a [u8]) -> Records<'a>
@@ -43,7 +52,7 @@ impl<'a> Records<'a> {
         }
     }
 
-    /// Reads the next record, where one is left. After a fault nothing is left.
+    /// Reads the next record, where one is left. After an error nothing is left.
     pub fn read(&mut self, record_: &mut ByteRecord) -> Result<bool, Memory>
         ensures found { IfOk result (λ found. MatchBool found (self.old ≡ fields_of record_.new ∷ self.new) (self.old ≡ [])) }
         ensures few_fields { IfOk result (λ found. length (fields_of record_.new) < 2 ^ 32) }
@@ -54,9 +63,12 @@ impl<'a> Records<'a> {
             record_.clear();
             return Ok(false);
         }
-        let Ok(found) = self.reader.read_byte_record(record_) else {
-            self.ended = true;
-            return Err(Memory);
+        let found = match self.reader.read_byte_record(record_) {
+            Ok(found) => found,
+            Err(error) => {
+                self.ended = true;
+                return Err(memory_for(&error));
+            }
         };
         if !found {
             self.ended = true;

@@ -1,3 +1,4 @@
+pub mod Equal
 pub mod NumberFacts
 pub mod OnLiterals
 pub mod TextFacts

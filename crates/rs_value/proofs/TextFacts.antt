@@ -1,10 +1,9 @@
 -- Text by the test, from text by the fact.
-use Rattle.std.proofs.Common.{ℕ, ◌≡◌, ◌∙◌, Bool, true, false, List, cond, ap, refl}
-use Rattle.std.specs.Prelude.{IsUtf8, Result, Ok, Err}
+use Rattle.std.proofs.Common.{ℕ, ◌≡◌, Bool, true, false, List, refl}
+use Rattle.std.specs.Prelude.{IsUtf8, Ok, Err}
 use Rattle.std.specs.Str.{is_utf8}
 use Rattle.std.specs.Str.Lossy.{utf8_valid_len}
 use Rattle.std.proofs.lemmas.Str.{IsUtf8-from_is_utf8, is_utf8-from_IsUtf8}
-use Rattle.rs_value.specs.declared.text.TextFault.{TextFault}
 use Rattle.rs_value.specs.declared.text.TextFault.TheVariants.{NotUtf8}
 use Rattle.rs_value.specs.Text.{text_of}
 

@@ -45,6 +45,7 @@ impl<T> List<T> {
         self.items.len()
     }
 
+    /// Whether the list has no item.
     pub fn is_empty(&self) -> bool
         ensures { IsTrue result ↔ (self.now ≡ []) }
     {

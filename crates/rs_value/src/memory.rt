@@ -5,6 +5,7 @@ use std::error::Error;
 use std::fmt::{self, Display, Formatter, Write};
 
 /// The answer for want of memory. It says nothing of any argument, and may come from each call that has it.
+/// By `?` it is made from the errors of std's collections.
 #[derive(Clone, Copy, Debug, PartialEq, Eq)]
 pub struct Memory;
 

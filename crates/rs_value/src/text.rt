@@ -31,11 +31,12 @@ impl Model for Text {
     ghost view = { λ t. string_bytes t.chars };
 }
 
-/// Why bytes are no text.
+/// Why no text was made of bytes.
 #[derive(Clone, Copy, Debug, PartialEq, Eq)]
 pub enum TextFault {
     /// The bytes aren't UTF-8. `at` is the length of the longest prefix that is.
     NotUtf8 { at: usize },
+    /// There is no memory for a copy of the bytes.
     Memory,
 }
 
@@ -53,7 +54,8 @@ impl Display for TextFault {
 impl Error for TextFault {}
 
 impl Text {
-    /// The text of these bytes, after RFC 3629.
+    /// The text of these bytes, which are copied. UTF-8 is that of RFC 3629: no surrogates, no over-long forms,
+    /// nothing above U+10FFFF.
     pub fn from_bytes(alloc: Global, bytes: &[u8]) -> Result<Text, TextFault>
         ensures { Gives TextFault.Memory (text_of bytes.now) result }
     {
@@ -94,6 +96,7 @@ impl Text {
     }
 }
 
+/// Two texts are equal where their bytes are: no two spellings of a character are made one.
 impl PartialEq for Text {
     ghost eq = { pointwise ◌==◌ };
 

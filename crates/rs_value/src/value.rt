@@ -7,14 +7,19 @@ use crate::text::Text;
 use std::cmp::Ordering;
 
 /// A cell of a table.
+///
+/// The derived order puts each number before each text, so that lists of mixed values can be the keys of a map.
+/// Within a kind it is that of `cmp`.
 #[derive(Debug, Drop, PartialEq, Eq, PartialOrd, Ord, Hash)]
 pub enum Value {
-    /// A number from -4,000,000,000,000,000,000 to 4,000,000,000,000,000,000.
+    /// A number. Those of tables and scripts lie between -4,000,000,000,000,000,000 and 4,000,000,000,000,000,000,
+    /// so that the sum or the difference of two of them fits an `i64`.
     Int(i64),
     Text(Text),
 }
 
 impl Value {
+    /// Whether the value is a number or a text.
     pub fn kind(&self) -> Kind
         ensures { result ≡ kind_of self.now }
     {
@@ -24,7 +29,7 @@ impl Value {
         }
     }
 
-    /// An equal value.
+    /// An equal value. Only the copy of a text takes memory, on the text's own allocator.
     pub fn copy(&self) -> Result<Value, Memory>
         ensures { IfOk result (λ value. value ≡ self.now) }
     {
@@ -46,7 +51,7 @@ impl Value {
         }
     }
 
-    /// Appends the decimal number, or the bytes of the text.
+    /// Appends the decimal number, with `-` before a negative one, or the bytes of the text as they are.
     pub fn print(&self, into: &mut Vec<u8>) -> Result<(), Memory>
         ensures ok { OnOk result (into.new.items ≡ into.old.items ++ printed self.now) }
         ensures err { OnErr result (into.new.items ≡ into.old.items) }

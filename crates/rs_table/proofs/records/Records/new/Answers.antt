@@ -11,4 +11,6 @@ invariant_of-result c = λ _.
     (rw (set, named) at made.config ∙ c.new.ensures.config)
     (rw (set, named) at made.trim ∙ c.new.ensures.trim)
     (rw (set, named) at made.has_headers)
-    made.headers made.source c.requires
+    made.headers
+    (rw set at made.flexible)
+    made.source c.requires
