@@ -1,3 +1,4 @@
 pub mod Worked
 pub mod RunFacts
 pub mod RowFacts
+pub mod OutcomeFacts

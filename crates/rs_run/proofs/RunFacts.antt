@@ -13,11 +13,11 @@ use Rattle.rs_table.specs.Relation.{Relation}
 use Rattle.rs_table.specs.Reading.{◌>>=◌}
 use Rattle.rs_lines.specs.Row.{line_of}
 use Rattle.rs_run.specs.declared.fault.Fault.{Fault}
-use Rattle.rs_run.specs.declared.fault.Fault.TheVariants.{Memory, Write, Read}
+use Rattle.rs_run.specs.declared.fault.Fault.TheVariants.{Memory, Usage, Write, Read}
 use Rattle.rs_run.specs.declared.ranked_row.RankedRow.{RankedRow}
-use Rattle.rs_run.specs.Words.{TopWords}
+use Rattle.rs_run.specs.Words.{TopWords, top_words}
 use Rattle.rs_run.specs.Top.{top_table, top_lines, ranked_lines, lines_from, score_at, scored_from, best_rows}
-use Rattle.rs_run.specs.Run.{Event, Fetch, Put, Run, fetches, puts, fetch_then}
+use Rattle.rs_run.specs.Run.{Event, Fetch, Put, Run, fetches, puts, fetch_then, run_of}
 use Rattle.rs_run.specs.Outcome.{Seen, Faulted, Halt, Ended, NoMemory, PutFailed, FetchFailed, Does, Ran, Answers, ForFiles, fetched_more, fault_of}
 use Rattle.rs_run.specs.Steps.{FetchesTable, NotFetched, FetchFails, Fetched, Ranks, PutsLines, PutsAll, PutsSome, PutsPart, IsRanked, IsRow, lines_of, row_in}
 
@@ -231,3 +231,86 @@ PutsLines-some whole done rest out os split put = record { done = done; rest = r
 pub PutsLines-all : (lines : List (List ℕ)) (out : Seen (List (List ℕ))) (os : Type 0)
     → out.after ≡ option_map (λ held. held ++ lines) out.before → PutsLines lines (Ok tt) out os
 PutsLines-all lines out os put = record { done = lines; rest = []; split = sym (append-nil lines); ends = inl (inl (record { all = refl; ok = refl; put = put })) }
+
+-- a table was fetched, and no memory or no score ended the run
+pub Ran-ranked_fault : (top : TopWords) (table : Relation) (there : Option (List ℕ)) (fault : Fault) (files : Seen FilesTold) (out : Seen (List (List ℕ))) (fs os : Type 0)
+    → (NotFetched (Ok table) files ⊎ FetchFails top.file (Ok table) files fs) ⊎ Fetched top.file (top_table top.file top.column there) (Ok table) files
+    → (fault ≡ Memory) ⊎ (scored_from top.column top.max (unwrap_or (place_of top.column table.schema) 0) 1 table.rows ≡ Err fault)
+    → out.after ≡ out.before
+    → Ran (fetch_then top.file (top_lines top there)) (Err fault) files out fs os
+Ran-ranked_fault top table there fault files out fs os (inl (inl nothing)) tells same = absurd (let e = nothing.memory in cc)
+Ran-ranked_fault top table there fault files out fs os (inl (inr failed)) tells same = absurd (elim failed.answers [ inl e ↦ cc | inr e ↦ cc ])
+Ran-ranked_fault top table there fault files out fs os (inr fetched) tells same = elim fetched.answers [ inl e ↦ go e tells | inr e ↦ absurd cc ] where
+  go : Ok table ≡ top_table top.file top.column there → (fault ≡ Memory) ⊎ (scored_from top.column top.max (unwrap_or (place_of top.column table.schema) 0) 1 table.rows ≡ Err fault) → Ran (fetch_then top.file (top_lines top there)) (Err fault) files out fs os
+  go e (inl memory) = subst (λ f. Ran (fetch_then top.file (top_lines top there)) (Err f) files out fs os) (sym memory) (Ran-no_memory top.file _ files out fs os fetched.fetched same)
+  go e (inr bad) =
+      let lines : Err fault ≡ top_lines top there =
+        sym (ap (λ r. r >>= (λ rows. Ok (lines_from 1 (unwrap_or (place_of top.column table.schema) 0) (best_rows top.count (unwrap_or (place_of top.column table.schema) 0) rows)))) bad)
+        ∙ ap (λ r. r >>= ranked_lines top) e in
+      subst (λ r. Ran (fetch_then top.file r) (Err fault) files out fs os) lines (Ran-fault top.file fault files out fs os fetched.fetched same)
+
+-- a table was fetched and its rows were ranked, and their lines were put
+pub Ran-ranked : (top : TopWords) (table : Relation) (ranked : List RankedRow) (there : Option (List ℕ)) (result : Result (Unit {0}) Fault) (files : Seen FilesTold) (out : Seen (List (List ℕ))) (fs os : Type 0)
+    → (NotFetched (Ok table) files ⊎ FetchFails top.file (Ok table) files fs) ⊎ Fetched top.file (top_table top.file top.column there) (Ok table) files
+    → Ranks table top.column top.max (unwrap_or (place_of top.column table.schema) 0) ranked
+    → PutsLines (lines_of table 1 (take top.count ranked)) result out os
+    → Ran (fetch_then top.file (top_lines top there)) result files out fs os
+Ran-ranked top table ranked there result files out fs os (inl (inl nothing)) ranks puts = absurd (let e = nothing.memory in cc)
+Ran-ranked top table ranked there result files out fs os (inl (inr failed)) ranks puts = absurd (elim failed.answers [ inl e ↦ cc | inr e ↦ cc ])
+Ran-ranked top table ranked there result files out fs os (inr fetched) ranks puts = elim fetched.answers [
+    inl e ↦ subst (λ r. Ran (fetch_then top.file r) result files out fs os) (sym (ranked_lines-ranks top table ranked ranks) ∙ ap (λ r. r >>= ranked_lines top) e)
+      (Ran-lines top.file (lines_of table 1 (take top.count ranked)) result files out fs os fetched.fetched puts)
+  | inr e ↦ absurd cc ]
+
+-- the same three, for the files that are told or for some files
+pub ForFiles-no_table : (top : TopWords) (fault : Fault) (files : Seen FilesTold) (out : Seen (List (List ℕ))) (fs os : Type 0)
+    → FetchesTable top.file top.column (Err fault) files fs → out.after ≡ out.before
+    → ForFiles files.before (λ there. Ran (fetch_then top.file (top_lines top (there top.file))) (Err fault) files out fs os)
+ForFiles-no_table top fault files out fs os f same =
+    ForFiles-there files.before top.file f.there (λ there. Ran (fetch_then top.file (top_lines top there)) (Err fault) files out fs os) f.is_told
+      (Ran-no_table top.file top.column f.there (ranked_lines top) fault files out fs os f.does same)
+
+pub ForFiles-ranked_fault : (top : TopWords) (table : Relation) (fault : Fault) (files : Seen FilesTold) (out : Seen (List (List ℕ))) (fs os : Type 0)
+    → FetchesTable top.file top.column (Ok table) files fs
+    → (fault ≡ Memory) ⊎ (scored_from top.column top.max (unwrap_or (place_of top.column table.schema) 0) 1 table.rows ≡ Err fault)
+    → out.after ≡ out.before
+    → ForFiles files.before (λ there. Ran (fetch_then top.file (top_lines top (there top.file))) (Err fault) files out fs os)
+ForFiles-ranked_fault top table fault files out fs os f tells same =
+    ForFiles-there files.before top.file f.there (λ there. Ran (fetch_then top.file (top_lines top there)) (Err fault) files out fs os) f.is_told
+      (Ran-ranked_fault top table f.there fault files out fs os f.does tells same)
+
+pub ForFiles-ranked : (top : TopWords) (table : Relation) (ranked : List RankedRow) (result : Result (Unit {0}) Fault) (files : Seen FilesTold) (out : Seen (List (List ℕ))) (fs os : Type 0)
+    → FetchesTable top.file top.column (Ok table) files fs
+    → Ranks table top.column top.max (unwrap_or (place_of top.column table.schema) 0) ranked
+    → PutsLines (lines_of table 1 (take top.count ranked)) result out os
+    → ForFiles files.before (λ there. Ran (fetch_then top.file (top_lines top (there top.file))) result files out fs os)
+ForFiles-ranked top table ranked result files out fs os f ranks puts =
+    ForFiles-there files.before top.file f.there (λ there. Ran (fetch_then top.file (top_lines top there)) result files out fs os) f.is_told
+      (Ran-ranked top table ranked f.there result files out fs os f.does ranks puts)
+
+run_of-none : (there : List ℕ → Option (List ℕ)) (words : List (List ℕ)) → top_words words ≡ None → run_of there words ≡ record { events = []; fault = Some Usage }
+run_of-none there words e = rw e refl
+
+run_of-some : (there : List ℕ → Option (List ℕ)) (words : List (List ℕ)) (top : TopWords) → top_words words ≡ Some top
+    → run_of there words ≡ fetch_then top.file (top_lines top (there top.file))
+run_of-some there words top e = rw e refl
+
+-- words of no form
+pub ForFiles-usage : (words : List (List ℕ)) (files : Seen FilesTold) (out : Seen (List (List ℕ))) (fs os : Type 0) → top_words words ≡ None
+    → files.after ≡ files.before → out.after ≡ out.before
+    → ForFiles files.before (λ there. Ran (run_of there words) (Err Usage) files out fs os)
+ForFiles-usage words files out fs os none files_same out_same = for files.before where
+  ran : (there : List ℕ → Option (List ℕ)) → Ran (run_of there words) (Err Usage) files out fs os
+  ran there = subst (λ run. Ran run (Err Usage) files out fs os) (sym (run_of-none there words none)) (record {
+      halt = Ended;
+      does = record { done = []; rest = []; split = refl; halts = refl; fetched = files_same ∙ fetched_more-nil files.before; put = out_same ∙ pieces-nil out.before };
+      answers = inl refl })
+  for : (told : Option FilesTold) → ForFiles told (λ there. Ran (run_of there words) (Err Usage) files out fs os)
+  for (Some told) = ran (λ name. file_named name told.folder)
+  for None = ((λ name. None), ran (λ name. None))
+
+-- a fact of the run of words of the form of `top`
+pub ForFiles-top : (told : Option FilesTold) (words : List (List ℕ)) (top : TopWords) (P : Run → Type 0) → top_words words ≡ Some top
+    → ForFiles told (λ there. P (fetch_then top.file (top_lines top (there top.file)))) → ForFiles told (λ there. P (run_of there words))
+ForFiles-top (Some told) words top P some h = subst P (sym (run_of-some (λ name. file_named name told.folder) words top some)) h
+ForFiles-top None words top P some h = (h.0, subst P (sym (run_of-some h.0 words top some)) h.1)

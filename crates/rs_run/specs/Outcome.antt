@@ -11,12 +11,17 @@ use Rattle.rs_run.specs.declared.fault.Fault.TheVariants.{Memory, Write, Read}
 use Rattle.rs_run.specs.Faults.{status_of, fault_line}
 use Rattle.rs_run.specs.Run.{Event, Fetch, Put, Run, fetches, puts}
 
--- an object of the outside before and after a call: what it tells, its count of faults, and whether no call of it fails
+-- an object of the outside before and after a call: what it tells, and its count of faults
 pub record Seen (T : Type 0) : Type 0 where
   pub before : Option T
   pub after : Option T
   pub faults_before : ℕ
   pub faults_after : ℕ
+
+-- the same, of what it tells and its counts
+abbrev pub seen : {T : Type 0} → Option T → Option T → ℕ → ℕ → Seen T
+seen before after faults_before faults_after =
+    record { before = before; after = after; faults_before = faults_before; faults_after = faults_after }
 
 -- a call of the object failed: its count rose, and it had not promised that no call fails
 pub record Faulted {T : Type 0} (object : Seen T) (steady : Type 0) : Type 0 where

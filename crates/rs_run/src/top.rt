@@ -6,7 +6,7 @@ ghost use Rattle.rs_value.specs.declared.kind.Kind.TheVariants as kind;
 ghost use Rattle.rs_table.specs.Column.{Column, place_of};
 ghost use Rattle.rs_table.specs.NumberColumn.{HasNumberColumn};
 ghost use Rattle.rs_lines.specs.Row.{line_of};
-ghost use Rattle.rs_run.specs.Outcome.{ForFiles, Ran, Seen};
+ghost use Rattle.rs_run.specs.Outcome.{ForFiles, Ran, seen};
 ghost use Rattle.rs_run.specs.Run.{fetch_then};
 ghost use Rattle.rs_run.specs.Top.{is_score, lines_from, named_table, number_at, score_at, score_of, scored_from, top_lines};
 ghost use Rattle.rs_run.specs.Steps.{FetchesTable, IsRanked, IsRow, PutsLines, Ranks, lines_of, row_in};
@@ -33,8 +33,8 @@ pub fn top<F: Files, O: Sink>(
     ensures { ForFiles (F.told files.old) (λ there. Ran
         (fetch_then file.now (top_lines (record { file = file.now; column = column.now; max = max; count = count }) (there file.now)))
         result
-        (record { before = F.told files.old; after = F.told files.new; faults_before = F.faults files.old; faults_after = F.faults files.new })
-        (record { before = O.pieces out.old; after = O.pieces out.new; faults_before = O.faults out.old; faults_after = O.faults out.new })
+        (seen (F.told files.old) (F.told files.new) (F.faults files.old) (F.faults files.new))
+        (seen (O.pieces out.old) (O.pieces out.new) (O.faults out.old) (O.faults out.new))
         (F.steady files.old) (O.steady out.old)) }
 {
     let table = match fetch_table(alloc, file, column, files) {
@@ -56,7 +56,7 @@ fn fetch_table<F: Files>(
     files: &mut F,
 ) -> Result<Table, Fault>
     ensures fetches { FetchesTable file.now column.now result
-        (record { before = F.told files.old; after = F.told files.new; faults_before = F.faults files.old; faults_after = F.faults files.new })
+        (seen (F.told files.old) (F.told files.new) (F.faults files.old) (F.faults files.new))
         (F.steady files.old) }
     ensures number_column { IfOk result (λ table. HasNumberColumn column.now table.schema) }
 {
@@ -215,7 +215,7 @@ fn put_rows<O: Sink>(
 ) -> Result<(), Fault>
     requires { AllByRecursion (λ r. IsRow table.now r.row) ranked.now }
     ensures { PutsLines (lines_of table.now 1 (take count ranked.now)) result
-        (record { before = O.pieces out.old; after = O.pieces out.new; faults_before = O.faults out.old; faults_after = O.faults out.new })
+        (seen (O.pieces out.old) (O.pieces out.new) (O.faults out.old) (O.faults out.new))
         (O.steady out.old) }
 {
     let mut rank: u32 = 0;
@@ -239,7 +239,7 @@ fn put_rows<O: Sink>(
 // Puts a line.
 fn put_line<O: Sink>(line: &[u8], out: &mut O) -> Result<(), Fault>
     ensures puts { PutsLines (line.now ∷ []) result
-        (record { before = O.pieces out.old; after = O.pieces out.new; faults_before = O.faults out.old; faults_after = O.faults out.new })
+        (seen (O.pieces out.old) (O.pieces out.new) (O.faults out.old) (O.faults out.new))
         (O.steady out.old) }
     ensures faults { O.faults out.old ≤ O.faults out.new }
     ensures steady { O.steady out.old → O.steady out.new }

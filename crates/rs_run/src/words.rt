@@ -1,10 +1,47 @@
-ghost use Rattle.std.specs.Prelude.{◌≡◌};
-ghost use Rattle.rs_run.specs.Words.{number_word};
+ghost use Rattle.std.specs.Prelude.{◌≡◌, Option, option_map};
+ghost use Rattle.rs_run.specs.Words.{number_word, top_words};
+ghost use Rattle.rs_run.specs.Command.{words_of};
 
 use rs_value::{Text, decimal_of};
 
+/// The greatest MAX of `top`.
+const MOST_SCORE: u64 = 4_294_967_295;
+
+/// The greatest K of `top`.
+const MOST_PRINTED: u64 = 1_000_000;
+
+/// What `top FILE COLUMN MAX K` asks for.
+#[derive(Clone, Copy)]
+pub struct TopCommand<'a> {
+    pub file: &'a Text,
+    pub column: &'a Text,
+    pub max: u32,
+    pub count: u32,
+}
+
+/// What the words of a command line ask for, without the program's name, where they are of the form
+/// `top FILE COLUMN MAX K`.
+pub fn top_command(words: &[Text]) -> Option<TopCommand<'_>>
+    ensures { option_map words_of result ≡ top_words words.now }
+{
+    let [word, file, column, max, count] = words else {
+        return None;
+    };
+    if word.as_str() != "top" {
+        return None;
+    }
+    let max = number_word(max, 1, MOST_SCORE)?;
+    let count = number_word(count, 0, MOST_PRINTED)?;
+    Some(TopCommand {
+        file,
+        column,
+        max: max as u32,
+        count: count as u32,
+    })
+}
+
 /// A number of the command line: 1 to 20 decimal digits, that write a number from `least` to `most`.
-pub fn number_word(word: &Text, least: u64, most: u64) -> Option<u64>
+fn number_word(word: &Text, least: u64, most: u64) -> Option<u64>
     ensures { result ≡ number_word least most word.now }
 {
     if word.bytes().len() > 20 {

@@ -1,5 +1,5 @@
 -- The schema and the table of some files, computed.
-use Rattle.std.proofs.Common.{ℕ, ℤ, pos, negsuc, ◌≡◌, ◌++◌, List, [], ◌∷◌, codes, refl}
+use Rattle.std.proofs.Common.{ℕ, pos, negsuc, ◌≡◌, ◌++◌, List, [], ◌∷◌, codes, refl}
 use Rattle.std.specs.Prelude.{⊤, Some, None, Ok, Err}
 use Rattle.std.specs.Str.{chars, is_utf8}
 use lib.Utf8.{encode}
