@@ -70,14 +70,6 @@ struct Case {
     err: &'static str,
 }
 
-fn runs_as_told(rt: &impl Abort, alloc: Global, case: Case) -> Result<(), Fail> {
-    let mut outside = Outside::with_file(alloc, case.file.to_vec(alloc)?)?;
-    let status = outside.run(alloc, case.words)?;
-    assert_eq!(rt; status, case.status, "at {:?}", case.words);
-    outside.holds(rt, case.words, case.out, case.err);
-    Ok(())
-}
-
 const CASES: [Case; 22] = [
     Case {
         words: &["top", "h.csv", "price", "100", "2"],
@@ -237,8 +229,10 @@ const CASES: [Case; 22] = [
 
 #[test]
 fn runs_as_worked_by_hand(rt: HostRuntime) -> Result<(), Fail> {
-    for case in CASES {
-        runs_as_told(&rt, rt.alloc(), case)?;
+    for Case { words, file, status, out, err } in CASES {
+        let mut outside = Outside::with_file(rt.alloc(), file.to_vec(rt.alloc())?)?;
+        assert_eq!(rt; outside.run(rt.alloc(), words)?, status, "at {words:?}");
+        outside.holds(&rt, words, out, err);
     }
     Ok(())
 }
