@@ -1,4 +1,4 @@
-ghost use Rattle.std.specs.Prelude.{◌≡◌, ◌≢◌, ◌≤◌, ℕ, Option, Some, OnOk, OnErr, ◌∷◌, ◌++◌, []};
+ghost use Rattle.std.specs.Prelude.{◌≡◌, ◌≢◌, ◌≤◌, Option, Some, OnOk, OnErr, ◌∷◌, ◌++◌, []};
 ghost use Rattle.std.specs.List.{concat};
 ghost use Rattle.rs_value.specs.Answer.{Gives};
 ghost use Rattle.rs_outside.specs.Faults.{Rose};

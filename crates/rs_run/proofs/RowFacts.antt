@@ -1,11 +1,10 @@
 -- Rows of a table, by their numbers.
-use Rattle.std.proofs.Common.{ℕ, ◌≡◌, ◌∙◌, ◌+◌, ◌-◌, ◌<◌, ◌≤◌, ◌++◌, List, [], ◌∷◌, length, map, take, drop, get_or, zero, suc, true, false, Bool, Some, None, refl, sym, ap, subst, arith, append_assoc, append-nil, if◌then◌else◌}
-use Rattle.std.specs.Prelude.{ℤ, Option, Result, Ok, Err, unwrap_or, option_and_then, slice_get}
+use Rattle.std.proofs.Common.{ℕ, ◌≡◌, ◌∙◌, ◌+◌, ◌-◌, ◌<◌, ◌≤◌, ◌++◌, List, [], ◌∷◌, length, take, drop, get_or, zero, suc, true, false, Bool, Some, None, refl, sym, ap, arith, append_assoc, append-nil, if◌then◌else◌}
+use Rattle.std.specs.Prelude.{Result, Ok, Err, option_and_then, slice_get}
 use Rattle.std.specs.List.{AllByRecursion}
 use Rattle.std.proofs.lemmas.Option.{slice_get_within, get_or_from_slice_get, unwrap_or-slice_get, slice_get-get_or}
 use Rattle.std.proofs.lemmas.List.{take_more, take_all, take-take, length-take, drop_more, drop_all, drop_at}
 use Rattle.rs_value.specs.declared.value.Value.{Value}
-use Rattle.rs_table.specs.Column.{Column}
 use Rattle.rs_table.specs.Relation.{Relation, row_fits, cell_at}
 use Rattle.rs_table.specs.Appended.{appended}
 use Rattle.rs_table.specs.Reading.{◌>>=◌}
@@ -13,7 +12,7 @@ use Rattle.rs_table.proofs.RelationFacts.{row_fits-at, length-row_fits}
 use Rattle.rs_run.specs.declared.fault.Fault.{Fault}
 use Rattle.rs_run.specs.declared.fault.Fault.TheVariants.{BadScore}
 use Rattle.rs_run.specs.declared.ranked_row.RankedRow.{RankedRow}
-use Rattle.rs_run.specs.Top.{number_at, is_score, score_of, score_at, scored_from}
+use Rattle.rs_run.specs.Top.{number_at, is_score, score_at, scored_from}
 use Rattle.rs_lines.specs.Row.{line_of}
 use Rattle.rs_run.specs.Steps.{IsRow, IsRanked, lines_of, row_in}
 
@@ -32,7 +31,7 @@ pub length-row_in : (table : Relation) (row : ℕ) → AllByRecursion (λ values
 length-row_in table row fit is_row =
     let within : row - 1 < length table.rows = omega (arith, is_row.some, is_row.within) in
     length-row_fits table.schema (row_in table row) (row_fits-at table.schema table.rows (row - 1) (row_in table row) fit within
-      (sym (get_or_from_slice_get table.rows (row - 1) (row_in table row) (row_in table row) (slice_get-row_in table row is_row))))
+    (sym (get_or_from_slice_get table.rows (row - 1) (row_in table row) (row_in table row) (slice_get-row_in table row is_row))))
 
 -- a cell of a row
 pub slice_get-cell : (table : Relation) (row column : ℕ) (value : Value) → IsRow table row → cell_at table row column ≡ Some value → slice_get (row_in table row) column ≡ Some value
@@ -72,7 +71,7 @@ pub get_or-next : (table : Relation) (i : ℕ) (other : List Value) → i < leng
 get_or-next table i other within =
     let is_row : IsRow table (i + 1) = record { some = omega arith; within = omega (arith, within) } in
     get_or_from_slice_get table.rows i (row_in table (i + 1)) other
-      (ap (λ n. slice_get table.rows n) (let same : i ≡ i + 1 - 1 = omega arith in same) ∙ slice_get-row_in table (i + 1) is_row)
+    (ap (λ n. slice_get table.rows n) (let same : i ≡ i + 1 - 1 = omega arith in same) ∙ slice_get-row_in table (i + 1) is_row)
 
 -- what a score tells of the number
 pub score-some : (b : Bool) (n score : ℕ) → (if b then Some n else None) ≡ Some score → (b ≡ true) × (score ≡ n)
@@ -108,7 +107,7 @@ lines_of-split table rank zero ranked = ap (λ r. lines_of table r ranked) (let 
 lines_of-split table rank (suc i) [] = refl
 lines_of-split table rank (suc i) (r ∷ rest) =
     ap (λ lines. line_of rank r.score (row_in table r.row) ∷ lines) (lines_of-split table (rank + 1) i rest
-      ∙ ap (λ n. lines_of table (rank + 1) (take i rest) ++ lines_of table n (drop i rest)) (let same : rank + 1 + i ≡ rank + suc i = omega arith in same))
+    ∙ ap (λ n. lines_of table (rank + 1) (take i rest) ++ lines_of table n (drop i rest)) (let same : rank + 1 + i ≡ rank + suc i = omega arith in same))
 
 -- one more line
 pub lines_of-more : (table : Relation) (i : ℕ) (ranked : List RankedRow) (other : RankedRow) → i < length ranked
@@ -133,7 +132,7 @@ lines_of-rest table i count ranked le =
 -- the same, with the next line
 pub lines_of-next : (table : Relation) (i count : ℕ) (ranked : List RankedRow) (other : RankedRow) → i < count → i < length ranked
     → lines_of table 1 (take count ranked) ≡ lines_of table 1 (take i ranked)
-      ++ (line_of (i + 1) (get_or ranked i other).score (row_in table (get_or ranked i other).row) ∷ [] ++ lines_of table (1 + (i + 1)) (drop (i + 1) (take count ranked)))
+    ++ (line_of (i + 1) (get_or ranked i other).score (row_in table (get_or ranked i other).row) ∷ [] ++ lines_of table (1 + (i + 1)) (drop (i + 1) (take count ranked)))
 lines_of-next table i count ranked other lt within =
     lines_of-rest table (i + 1) count ranked (omega (arith, lt))
     ∙ ap (λ lines. lines ++ lines_of table (1 + (i + 1)) (drop (i + 1) (take count ranked))) (lines_of-more table i ranked other within)

@@ -3,7 +3,6 @@ use Rattle.std.proofs.Common.{ℕ, ◌≡◌, ◌∙◌, ◌+◌, ◌≤◌, ◌
 use Rattle.std.specs.Prelude.{Option, Result, Ok, Err, IfSome, option_map, unwrap_or, ◌⊎◌}
 use Rattle.std.proofs.Common.{inl, inr}
 use Rattle.std.specs.List.{AllByRecursion}
-use Rattle.rs_value.specs.declared.value.Value.{Value}
 use Rattle.rs_outside.specs.Faults.{Rose}
 use Rattle.rs_outside.specs.Files.{FilesTold, file_named}
 use Rattle.rs_outside.specs.Sink.{IsPrefix}
@@ -18,7 +17,7 @@ use Rattle.rs_run.specs.declared.ranked_row.RankedRow.{RankedRow}
 use Rattle.rs_run.specs.Words.{TopWords, top_words}
 use Rattle.rs_run.specs.Top.{top_table, top_lines, ranked_lines, lines_from, score_at, scored_from, best_rows}
 use Rattle.rs_run.specs.Run.{Event, Fetch, Put, Run, fetches, puts, fetch_then, run_of}
-use Rattle.rs_run.specs.Outcome.{Seen, Faulted, Halt, Ended, NoMemory, PutFailed, FetchFailed, Does, Ran, Answers, ForFiles, fetched_more, fault_of}
+use Rattle.rs_run.specs.Outcome.{Seen, Faulted, Ended, NoMemory, PutFailed, FetchFailed, Ran, ForFiles, fetched_more}
 use Rattle.rs_run.specs.Steps.{FetchesTable, NotFetched, FetchFails, Fetched, Ranks, PutsLines, PutsAll, PutsSome, PutsPart, IsRanked, IsRow, lines_of, row_in}
 
 -- a fact of what is there under a name holds for the files that are told, or for some files
@@ -64,27 +63,30 @@ pub Ran-fault : (name : List ℕ) (fault : Fault) (files : Seen FilesTold) (out 
     → files.after ≡ option_map (fetched_more (name ∷ [])) files.before → out.after ≡ out.before
     → Ran (fetch_then name (Err fault)) (Err fault) files out fs os
 Ran-fault name fault files out fs os fetched same = record {
-    halt = Ended;
-    does = record { done = Fetch name ∷ []; rest = []; split = refl; halts = refl; fetched = fetched; put = same ∙ pieces-nil out.before };
-    answers = inl refl }
+  halt = Ended;
+  does = record { done = Fetch name ∷ []; rest = []; split = refl; halts = refl; fetched = fetched; put = same ∙ pieces-nil out.before };
+  answers = inl refl;
+}
 
 -- there was no memory behind the fetch
 pub Ran-no_memory : (name : List ℕ) (lines : Result (List (List ℕ)) Fault) (files : Seen FilesTold) (out : Seen (List (List ℕ))) (fs os : Type 0)
     → files.after ≡ option_map (fetched_more (name ∷ [])) files.before → out.after ≡ out.before
     → Ran (fetch_then name lines) (Err Memory) files out fs os
 Ran-no_memory name lines files out fs os fetched same = record {
-    halt = NoMemory;
-    does = record { done = Fetch name ∷ []; rest = rest_of lines; split = events-fetch_then name lines; halts = tt; fetched = fetched; put = same ∙ pieces-nil out.before };
-    answers = inl refl }
+  halt = NoMemory;
+  does = record { done = Fetch name ∷ []; rest = rest_of lines; split = events-fetch_then name lines; halts = tt; fetched = fetched; put = same ∙ pieces-nil out.before };
+  answers = inl refl;
+}
 
 -- there was no memory for the fetch
 pub Ran-unfetched : (name : List ℕ) (lines : Result (List (List ℕ)) Fault) (files : Seen FilesTold) (out : Seen (List (List ℕ))) (fs os : Type 0)
     → files.after ≡ files.before → out.after ≡ out.before
     → Ran (fetch_then name lines) (Err Memory) files out fs os
 Ran-unfetched name lines files out fs os fetched same = record {
-    halt = NoMemory;
-    does = record { done = []; rest = (fetch_then name lines).events; split = refl; halts = tt; fetched = fetched ∙ fetched_more-nil files.before; put = same ∙ pieces-nil out.before };
-    answers = inl refl }
+  halt = NoMemory;
+  does = record { done = []; rest = (fetch_then name lines).events; split = refl; halts = tt; fetched = fetched ∙ fetched_more-nil files.before; put = same ∙ pieces-nil out.before };
+  answers = inl refl;
+}
 
 -- the fetch failed
 pub Ran-fetch_failed : (name : List ℕ) (lines : Result (List (List ℕ)) Fault) (result : Result (Unit {0}) Fault) (files : Seen FilesTold) (out : Seen (List (List ℕ))) (fs os : Type 0)
@@ -92,9 +94,10 @@ pub Ran-fetch_failed : (name : List ℕ) (lines : Result (List (List ℕ)) Fault
     → (result ≡ Err (Read name Failed)) ⊎ (result ≡ Err Memory)
     → Ran (fetch_then name lines) result files out fs os
 Ran-fetch_failed name lines result files out fs os fetched faulted same answers = record {
-    halt = FetchFailed name;
-    does = record { done = []; rest = Fetch name ∷ rest_of lines; split = events-fetch_then name lines; halts = (rest_of lines, refl, faulted); fetched = fetched; put = same ∙ pieces-nil out.before };
-    answers = answers }
+  halt = FetchFailed name;
+  does = record { done = []; rest = Fetch name ∷ rest_of lines; split = events-fetch_then name lines; halts = (rest_of lines, refl, faulted); fetched = fetched; put = same ∙ pieces-nil out.before };
+  answers = answers;
+}
 
 -- the same fault, of a call that answers something else
 fault-at : {A B : Type 0} (f g : Fault) → ◌≡◌ {A = Result A Fault} (Err f) (Err g) → ◌≡◌ {A = Result B Fault} (Err f) (Err g)
@@ -107,15 +110,16 @@ pub Ran-no_table : (name column : List ℕ) (there : Option (List ℕ)) (more : 
     → Ran (fetch_then name (top_table name column there >>= more)) (Err fault) files out fs os
 Ran-no_table name column there more fault files out fs os (inl (inl nothing)) same =
     subst (λ r. Ran (fetch_then name (top_table name column there >>= more)) r files out fs os) (sym (fault-at fault Memory nothing.memory))
-      (Ran-unfetched name _ files out fs os nothing.same same)
+    (Ran-unfetched name _ files out fs os nothing.same same)
 Ran-no_table name column there more fault files out fs os (inl (inr failed)) same =
     Ran-fetch_failed name _ (Err fault) files out fs os failed.fetched failed.faulted same
-      (elim failed.answers [ inl e ↦ inl (fault-at fault (Read name Failed) e) | inr e ↦ inr (fault-at fault Memory e) ])
+    (elim failed.answers [ inl e ↦ inl (fault-at fault (Read name Failed) e) | inr e ↦ inr (fault-at fault Memory e) ])
 Ran-no_table name column there more fault files out fs os (inr fetched) same =
     elim fetched.answers [
-      inl e ↦ subst (λ r. Ran (fetch_then name (r >>= more)) (Err fault) files out fs os) e (Ran-fault name fault files out fs os fetched.fetched same)
-    | inr e ↦ subst (λ r. Ran (fetch_then name (top_table name column there >>= more)) r files out fs os) (sym (fault-at fault Memory e))
-        (Ran-no_memory name _ files out fs os fetched.fetched same) ]
+      | inl e ↦ subst (λ r. Ran (fetch_then name (r >>= more)) (Err fault) files out fs os) e (Ran-fault name fault files out fs os fetched.fetched same)
+      | inr e ↦ subst (λ r. Ran (fetch_then name (top_table name column there >>= more)) r files out fs os) (sym (fault-at fault Memory e))
+          (Ran-no_memory name _ files out fs os fetched.fetched same)
+    ]
 
 -- lines were put behind the fetch
 pub Ran-lines : (name : List ℕ) (lines : List (List ℕ)) (result : Result (Unit {0}) Fault) (files : Seen FilesTold) (out : Seen (List (List ℕ))) (fs os : Type 0)
@@ -125,25 +129,32 @@ pub Ran-lines : (name : List ℕ) (lines : List (List ℕ)) (result : Result (Un
 Ran-lines name lines result files out fs os fetched p = go p.ends where
   events : (fetch_then name (Ok lines)).events ≡ (Fetch name ∷ map Put p.done) ++ map Put p.rest
   events = ap (λ rest. Fetch name ∷ rest) (ap (map Put) p.split ∙ map_put-append p.done p.rest)
+
   names : (halt : List (List ℕ)) → halt ≡ [] → files.after ≡ option_map (fetched_more (fetches (Fetch name ∷ map Put p.done) ++ halt)) files.before
   names halt none = fetched ∙ ap (λ names. option_map (fetched_more names) files.before) (sym (ap (λ rest. name ∷ rest) (ap (λ none. none ++ halt) (fetches-puts p.done) ∙ none)))
+
   pieces : (piece : List (List ℕ)) → out.after ≡ option_map (λ held. held ++ (p.done ++ piece)) out.before → out.after ≡ option_map (λ held. held ++ (puts (Fetch name ∷ map Put p.done) ++ piece)) out.before
   pieces piece e = e ∙ ap (λ done. option_map (λ held. held ++ (done ++ piece)) out.before) (sym (puts-puts p.done))
+
   unended : out.after ≡ option_map (λ held. held ++ p.done) out.before → out.after ≡ option_map (λ held. held ++ (p.done ++ [])) out.before
   unended e = e ∙ ap (λ done. option_map (λ held. held ++ done) out.before) (sym (append-nil p.done))
+
   go : (PutsAll p.done p.rest result out ⊎ PutsSome p.done result out) ⊎ PutsPart p.done p.rest result out os → Ran (fetch_then name (Ok lines)) result files out fs os
   go (inl (inl all)) = record {
-      halt = Ended;
-      does = record { done = Fetch name ∷ map Put p.done; rest = map Put p.rest; split = events; halts = ap (map Put) all.all; fetched = names [] refl; put = pieces [] (unended all.put) };
-      answers = all.ok }
+    halt = Ended;
+    does = record { done = Fetch name ∷ map Put p.done; rest = map Put p.rest; split = events; halts = ap (map Put) all.all; fetched = names [] refl; put = pieces [] (unended all.put) };
+    answers = all.ok;
+  }
   go (inl (inr some)) = record {
-      halt = NoMemory;
-      does = record { done = Fetch name ∷ map Put p.done; rest = map Put p.rest; split = events; halts = tt; fetched = names [] refl; put = pieces [] (unended some.put) };
-      answers = inl some.memory }
+    halt = NoMemory;
+    does = record { done = Fetch name ∷ map Put p.done; rest = map Put p.rest; split = events; halts = tt; fetched = names [] refl; put = pieces [] (unended some.put) };
+    answers = inl some.memory;
+  }
   go (inr part) = record {
-      halt = PutFailed part.part;
-      does = record { done = Fetch name ∷ map Put p.done; rest = map Put p.rest; split = events; halts = (part.line, map Put part.more, ap (map Put) part.next, part.prefix, part.faulted); fetched = names [] refl; put = pieces (part.part ∷ []) part.put };
-      answers = inl part.write }
+    halt = PutFailed part.part;
+    does = record { done = Fetch name ∷ map Put p.done; rest = map Put p.rest; split = events; halts = (part.line, map Put part.more, ap (map Put) part.next, part.prefix, part.faulted); fetched = names [] refl; put = pieces (part.part ∷ []) part.put };
+    answers = inl part.write;
+  }
 
 -- ranked rows are rows of the table
 pub are_rows : (table : Relation) (place : ℕ) (ranked : List RankedRow) → AllByRecursion (λ r. IsRanked table place r.score r.row) ranked → AllByRecursion (λ r. IsRow table r.row) ranked
@@ -178,8 +189,12 @@ PutsLines-no_memory line out os same = record { done = []; rest = line ∷ []; s
 -- its put failed
 pub PutsLines-failed : (line part : List ℕ) (out : Seen (List (List ℕ))) (os : Type 0) → IsPrefix part line → Faulted out os
     → out.after ≡ option_map (λ pieces. pieces ++ part ∷ []) out.before → PutsLines (line ∷ []) (Err Write) out os
-PutsLines-failed line part out os prefix faulted put = record { done = []; rest = line ∷ []; split = refl;
-    ends = inr (record { line = line; more = []; part = part; next = refl; prefix = prefix; faulted = faulted; write = refl; put = put }) }
+PutsLines-failed line part out os prefix faulted put = record {
+  done = [];
+  rest = line ∷ [];
+  split = refl;
+  ends = inr (record { line = line; more = []; part = part; next = refl; prefix = prefix; faulted = faulted; write = refl; put = put });
+}
 
 -- a count that rose later rose
 Rose-from : (old mid new : ℕ) → old ≤ mid → Rose mid new → Rose old new
@@ -206,21 +221,31 @@ pub PutsLines-append : (whole done lines rest : List (List ℕ)) (fault : Fault)
     → PutsLines lines (Err fault) mid mid_steady
     → PutsLines whole (Err fault) (record { before = before; after = mid.after; faults_before = faults_before; faults_after = mid.faults_after }) steady
 PutsLines-append whole done lines rest fault before faults_before mid steady mid_steady split put faults stays p = record {
-    done = done ++ p.done; rest = p.rest ++ rest;
-    split = split ∙ ap (λ all. done ++ (all ++ rest)) p.split ∙ ap (λ all. done ++ all) (append_assoc p.done p.rest rest) ∙ sym (append_assoc done p.done (p.rest ++ rest));
-    ends = go p.ends } where
+  done = done ++ p.done;
+  rest = p.rest ++ rest;
+  split = split ∙ ap (λ all. done ++ (all ++ rest)) p.split ∙ ap (λ all. done ++ all) (append_assoc p.done p.rest rest) ∙ sym (append_assoc done p.done (p.rest ++ rest));
+  ends = go p.ends;
+} where
   out : Seen (List (List ℕ))
   out = record { before = before; after = mid.after; faults_before = faults_before; faults_after = mid.faults_after }
+
   more : (pieces : List (List ℕ)) → mid.after ≡ option_map (λ held. held ++ pieces) mid.before → mid.after ≡ option_map (λ held. held ++ (done ++ pieces)) before
   more pieces e = e ∙ ap (option_map (λ held. held ++ pieces)) put ∙ pieces-append done pieces before
+
   go : (PutsAll p.done p.rest (Err fault) mid ⊎ PutsSome p.done (Err fault) mid) ⊎ PutsPart p.done p.rest (Err fault) mid mid_steady
-    → (PutsAll (done ++ p.done) (p.rest ++ rest) (Err fault) out ⊎ PutsSome (done ++ p.done) (Err fault) out) ⊎ PutsPart (done ++ p.done) (p.rest ++ rest) (Err fault) out steady
+      → (PutsAll (done ++ p.done) (p.rest ++ rest) (Err fault) out ⊎ PutsSome (done ++ p.done) (Err fault) out) ⊎ PutsPart (done ++ p.done) (p.rest ++ rest) (Err fault) out steady
   go (inl (inl all)) = absurd (let e = all.ok in cc)
   go (inl (inr some)) = inl (inr (record { memory = some.memory; put = more p.done some.put }))
-  go (inr part) = inr (record { line = part.line; more = part.more ++ rest; part = part.part; next = ap (λ all. all ++ rest) part.next; prefix = part.prefix;
-      faulted = record { rose = Rose-from faults_before mid.faults_before mid.faults_after faults part.faulted.rose; unsteady = λ s. part.faulted.unsteady (stays s) };
-      write = part.write;
-      put = more (p.done ++ part.part ∷ []) part.put ∙ ap (λ all. option_map (λ held. held ++ all) before) (sym (append_assoc done p.done (part.part ∷ []))) })
+  go (inr part) = inr (record {
+    line = part.line;
+    more = part.more ++ rest;
+    part = part.part;
+    next = ap (λ all. all ++ rest) part.next;
+    prefix = part.prefix;
+    faulted = record { rose = Rose-from faults_before mid.faults_before mid.faults_after faults part.faulted.rose; unsteady = λ s. part.faulted.unsteady (stays s) };
+    write = part.write;
+    put = more (p.done ++ part.part ∷ []) part.put ∙ ap (λ all. option_map (λ held. held ++ all) before) (sym (append_assoc done p.done (part.part ∷ [])));
+  })
 
 -- lines that were put, where there was no memory for the next one
 pub PutsLines-some : (whole done rest : List (List ℕ)) (out : Seen (List (List ℕ))) (os : Type 0) → whole ≡ done ++ rest
@@ -245,8 +270,8 @@ Ran-ranked_fault top table there fault files out fs os (inr fetched) tells same 
   go e (inl memory) = subst (λ f. Ran (fetch_then top.file (top_lines top there)) (Err f) files out fs os) (sym memory) (Ran-no_memory top.file _ files out fs os fetched.fetched same)
   go e (inr bad) =
       let lines : Err fault ≡ top_lines top there =
-        sym (ap (λ r. r >>= (λ rows. Ok (lines_from 1 (unwrap_or (place_of top.column table.schema) 0) (best_rows top.count (unwrap_or (place_of top.column table.schema) 0) rows)))) bad)
-        ∙ ap (λ r. r >>= ranked_lines top) e in
+      sym (ap (λ r. r >>= (λ rows. Ok (lines_from 1 (unwrap_or (place_of top.column table.schema) 0) (best_rows top.count (unwrap_or (place_of top.column table.schema) 0) rows)))) bad)
+      ∙ ap (λ r. r >>= ranked_lines top) e in
       subst (λ r. Ran (fetch_then top.file r) (Err fault) files out fs os) lines (Ran-fault top.file fault files out fs os fetched.fetched same)
 
 -- a table was fetched and its rows were ranked, and their lines were put
@@ -258,9 +283,10 @@ pub Ran-ranked : (top : TopWords) (table : Relation) (ranked : List RankedRow) (
 Ran-ranked top table ranked there result files out fs os (inl (inl nothing)) ranks puts = absurd (let e = nothing.memory in cc)
 Ran-ranked top table ranked there result files out fs os (inl (inr failed)) ranks puts = absurd (elim failed.answers [ inl e ↦ cc | inr e ↦ cc ])
 Ran-ranked top table ranked there result files out fs os (inr fetched) ranks puts = elim fetched.answers [
-    inl e ↦ subst (λ r. Ran (fetch_then top.file r) result files out fs os) (sym (ranked_lines-ranks top table ranked ranks) ∙ ap (λ r. r >>= ranked_lines top) e)
+  | inl e ↦ subst (λ r. Ran (fetch_then top.file r) result files out fs os) (sym (ranked_lines-ranks top table ranked ranks) ∙ ap (λ r. r >>= ranked_lines top) e)
       (Ran-lines top.file (lines_of table 1 (take top.count ranked)) result files out fs os fetched.fetched puts)
-  | inr e ↦ absurd cc ]
+  | inr e ↦ absurd cc
+]
 
 -- the same three, for the files that are told or for some files
 pub ForFiles-no_table : (top : TopWords) (fault : Fault) (files : Seen FilesTold) (out : Seen (List (List ℕ))) (fs os : Type 0)
@@ -268,7 +294,7 @@ pub ForFiles-no_table : (top : TopWords) (fault : Fault) (files : Seen FilesTold
     → ForFiles files.before (λ there. Ran (fetch_then top.file (top_lines top (there top.file))) (Err fault) files out fs os)
 ForFiles-no_table top fault files out fs os f same =
     ForFiles-there files.before top.file f.there (λ there. Ran (fetch_then top.file (top_lines top there)) (Err fault) files out fs os) f.is_told
-      (Ran-no_table top.file top.column f.there (ranked_lines top) fault files out fs os f.does same)
+    (Ran-no_table top.file top.column f.there (ranked_lines top) fault files out fs os f.does same)
 
 pub ForFiles-ranked_fault : (top : TopWords) (table : Relation) (fault : Fault) (files : Seen FilesTold) (out : Seen (List (List ℕ))) (fs os : Type 0)
     → FetchesTable top.file top.column (Ok table) files fs
@@ -277,7 +303,7 @@ pub ForFiles-ranked_fault : (top : TopWords) (table : Relation) (fault : Fault) 
     → ForFiles files.before (λ there. Ran (fetch_then top.file (top_lines top (there top.file))) (Err fault) files out fs os)
 ForFiles-ranked_fault top table fault files out fs os f tells same =
     ForFiles-there files.before top.file f.there (λ there. Ran (fetch_then top.file (top_lines top there)) (Err fault) files out fs os) f.is_told
-      (Ran-ranked_fault top table f.there fault files out fs os f.does tells same)
+    (Ran-ranked_fault top table f.there fault files out fs os f.does tells same)
 
 pub ForFiles-ranked : (top : TopWords) (table : Relation) (ranked : List RankedRow) (result : Result (Unit {0}) Fault) (files : Seen FilesTold) (out : Seen (List (List ℕ))) (fs os : Type 0)
     → FetchesTable top.file top.column (Ok table) files fs
@@ -286,7 +312,7 @@ pub ForFiles-ranked : (top : TopWords) (table : Relation) (ranked : List RankedR
     → ForFiles files.before (λ there. Ran (fetch_then top.file (top_lines top (there top.file))) result files out fs os)
 ForFiles-ranked top table ranked result files out fs os f ranks puts =
     ForFiles-there files.before top.file f.there (λ there. Ran (fetch_then top.file (top_lines top there)) result files out fs os) f.is_told
-      (Ran-ranked top table ranked f.there result files out fs os f.does ranks puts)
+    (Ran-ranked top table ranked f.there result files out fs os f.does ranks puts)
 
 run_of-none : (there : List ℕ → Option (List ℕ)) (words : List (List ℕ)) → top_words words ≡ None → run_of there words ≡ record { events = []; fault = Some Usage }
 run_of-none there words e = rw e refl
@@ -302,9 +328,11 @@ pub ForFiles-usage : (words : List (List ℕ)) (files : Seen FilesTold) (out : S
 ForFiles-usage words files out fs os none files_same out_same = for files.before where
   ran : (there : List ℕ → Option (List ℕ)) → Ran (run_of there words) (Err Usage) files out fs os
   ran there = subst (λ run. Ran run (Err Usage) files out fs os) (sym (run_of-none there words none)) (record {
-      halt = Ended;
-      does = record { done = []; rest = []; split = refl; halts = refl; fetched = files_same ∙ fetched_more-nil files.before; put = out_same ∙ pieces-nil out.before };
-      answers = inl refl })
+    halt = Ended;
+    does = record { done = []; rest = []; split = refl; halts = refl; fetched = files_same ∙ fetched_more-nil files.before; put = out_same ∙ pieces-nil out.before };
+    answers = inl refl;
+  })
+
   for : (told : Option FilesTold) → ForFiles told (λ there. Ran (run_of there words) (Err Usage) files out fs os)
   for (Some told) = ran (λ name. file_named name told.folder)
   for None = ((λ name. None), ran (λ name. None))

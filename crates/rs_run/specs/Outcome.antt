@@ -1,11 +1,10 @@
 -- What a run did, beside what its definition says.
 use Rattle.std.specs.Prelude.{ℕ, ◌≡◌, ◌⊎◌, ⊤, Result, Ok, Err, List, [], ◌∷◌, ◌++◌, Option, Some, None, option_map}
 use Rattle.rs_outside.specs.Faults.{Rose}
-use Rattle.rs_outside.specs.Files.{Folder, FilesTold, file_named}
+use Rattle.rs_outside.specs.Files.{FilesTold, file_named}
 use Rattle.rs_outside.specs.Sink.{IsPrefix}
 use Rattle.rs_outside.specs.declared.files.FetchFault.TheVariants.{Failed}
 use Rattle.rs_run.specs.declared.status.Status.{Status}
-use Rattle.rs_run.specs.declared.status.Status.TheVariants as status
 use Rattle.rs_run.specs.declared.fault.Fault.{Fault}
 use Rattle.rs_run.specs.declared.fault.Fault.TheVariants.{Memory, Write, Read}
 use Rattle.rs_run.specs.Faults.{status_of, fault_line}
@@ -115,3 +114,12 @@ pub record Ran (run : Run) (result : Result (Unit {0}) Fault) (files : Seen File
 abbrev pub ForFiles : Option FilesTold → ((List ℕ → Option (List ℕ)) → Type 0) → Type 0
 ForFiles (Some told) P = P (λ name. file_named name told.folder)
 ForFiles None P = (there : List ℕ → Option (List ℕ)) × P there
+
+-- the run ended as its definition says, after all its events, or there was no memory
+pub record Ends (run : Run) (status : Status) (files : Seen FilesTold) (out : Seen (List (List ℕ))) : Type 0 where
+  pub status_is : status ≡ status_of run.fault
+  pub fetched : files.after ≡ option_map (fetched_more (fetches run.events)) files.before
+  pub put : out.after ≡ option_map (λ pieces. pieces ++ puts run.events) out.before
+
+abbrev pub EndsOrNoMemory : Run → Status → Seen FilesTold → Seen (List (List ℕ)) → Type 0
+EndsOrNoMemory run status files out = Ends run status files out ⊎ (status ≡ status_of (Some Memory))

@@ -1,5 +1,5 @@
 -- A run: its events in order, and the fault that ends it.
-use Rattle.std.specs.Prelude.{ℕ, List, [], ◌∷◌, ◌++◌, map, Option, Some, None, Result, Ok, Err}
+use Rattle.std.specs.Prelude.{ℕ, List, [], ◌∷◌, map, Option, Some, None, Result, Ok, Err}
 use Rattle.rs_run.specs.declared.fault.Fault.{Fault}
 use Rattle.rs_run.specs.declared.fault.Fault.TheVariants.{Usage}
 use Rattle.rs_run.specs.Words.{TopWords, top_words}

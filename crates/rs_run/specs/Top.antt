@@ -1,10 +1,10 @@
 -- The word `top`: the first rows of a table by the number in a column.
-use Rattle.std.specs.Prelude.{ℕ, ℤ, pos, negsuc, ◌+◌, nat_le, nat_lt, Bool, false, List, [], ◌∷◌, length, take, Option, Some, None, unwrap_or, option_map, slice_get, Result, Ok, Err, if◌then◌else◌}
+use Rattle.std.specs.Prelude.{ℕ, ℤ, pos, negsuc, ◌+◌, nat_le, Bool, false, List, [], ◌∷◌, length, take, Option, Some, None, unwrap_or, option_map, slice_get, Result, Ok, Err, if◌then◌else◌}
 use Rattle.rs_value.specs.declared.value.Value.{Value}
 use Rattle.rs_value.specs.declared.value.Value.TheVariants.{Int, Text}
 use Rattle.rs_outside.specs.declared.files.FetchFault.TheVariants.{Missing, TooLong}
 use Rattle.rs_table.specs.declared.fault.TableFault.{TableFault}
-use Rattle.rs_table.specs.Column.{Column, place_of}
+use Rattle.rs_table.specs.Column.{place_of}
 use Rattle.rs_table.specs.Relation.{Relation}
 use Rattle.rs_table.specs.Reading.{◌>>=◌, header_of, table_of}
 use Rattle.rs_rank.specs.Stable.{stable}

@@ -1,7 +1,5 @@
-ghost use Rattle.std.specs.Prelude.{◌≡◌, ◌⊎◌, List, ℕ, Option, Some, None, IsNone};
-ghost use Rattle.rs_outside.specs.Faults.{Rose};
-ghost use Rattle.rs_run.specs.Faults.{status_of};
-ghost use Rattle.rs_run.specs.Outcome.{ForFiles, Outcome, Ran, seen};
+ghost use Rattle.std.specs.Prelude.{◌≡◌, ◌⊎◌, Some, None};
+ghost use Rattle.rs_run.specs.Outcome.{EndsOrNoMemory, Faulted, ForFiles, Outcome, Ran, seen};
 ghost use Rattle.rs_run.specs.Run.{run_of};
 ghost use Rattle.rs_run.specs.Words.{top_words};
 
@@ -29,6 +27,19 @@ pub fn run<F: Files, O: Sink, E: Sink>(
         (seen (O.pieces out.old) (O.pieces out.new) (O.faults out.old) (O.faults out.new))
         (seen (E.pieces err.old) (E.pieces err.new) (E.faults err.old) (E.faults err.new))
         (F.steady files.old) (O.steady out.old) (E.steady err.old)) }
+
+    // Usage comes exactly where the words are of no form, and Write only where a put on standard output failed.
+    ensures usage { result ≡ Status.Usage → top_words words.now ≡ None }
+    ensures no_form { top_words words.now ≡ None → (result ≡ Status.Usage) ⊎ (result ≡ Status.Memory) }
+    ensures write { result ≡ Status.Write → Faulted
+        (seen (O.pieces out.old) (O.pieces out.new) (O.faults out.old) (O.faults out.new)) (O.steady out.old) }
+
+    // Where no fetch and no put on standard output failed, the run ends as its definition says, after all its events.
+    ensures complete { (Faulted (seen (F.told files.old) (F.told files.new) (F.faults files.old) (F.faults files.new)) (F.steady files.old) → ⊥)
+        → (Faulted (seen (O.pieces out.old) (O.pieces out.new) (O.faults out.old) (O.faults out.new)) (O.steady out.old) → ⊥)
+        → ForFiles (F.told files.old) (λ there. EndsOrNoMemory (run_of there words.now) result
+        (seen (F.told files.old) (F.told files.new) (F.faults files.old) (F.faults files.new))
+        (seen (O.pieces out.old) (O.pieces out.new) (O.faults out.old) (O.faults out.new))) }
 {
     match answer(alloc, words, files, out) {
         Ok(()) => Status::Done,
@@ -36,7 +47,7 @@ pub fn run<F: Files, O: Sink, E: Sink>(
     }
 }
 
-// Does what the words say, up to the first fault.
+/// Does what the words say, up to the first fault.
 fn answer<F: Files, O: Sink>(
     alloc: Global,
     words: &[Text],

@@ -18,13 +18,24 @@ pub enum Fault {
     /// The words of the command line are of no form.
     Usage,
     /// The file of this name was not read.
-    Read { name: Text, why: FetchFault },
+    Read {
+        name: Text,
+        why: FetchFault,
+    },
     /// Standard output failed.
     Write,
     /// The file of this name is no table.
-    Table { name: Text, why: TableFault },
+    Table {
+        name: Text,
+        why: TableFault,
+    },
     /// A row's number is no score. Rows count from 1.
-    BadScore { predicate: Text, row: u32, got: i128, max: u32 },
+    BadScore {
+        predicate: Text,
+        row: u32,
+        got: i128,
+        max: u32,
+    },
 }
 
 impl From<Memory> for Fault {
@@ -72,7 +83,12 @@ impl Fault {
             Fault::Read { name, why } => read_line(alloc, name, *why),
             Fault::Write => Ok(String::from_str(alloc, "write\n")?),
             Fault::Table { name, why } => table_line(alloc, name, why),
-            Fault::BadScore { predicate, row, got, max } => {
+            Fault::BadScore {
+                predicate,
+                row,
+                got,
+                max,
+            } => {
                 let predicate = predicate.as_str();
                 Ok(format!(in alloc; "score: {predicate} rows {row}: {got} is not in 0..{max}\n")?)
             }
@@ -80,7 +96,7 @@ impl Fault {
     }
 }
 
-// The line of a file that was not read.
+/// The line of a file that was not read.
 fn read_line(alloc: Global, name: &Text, why: FetchFault) -> Result<String, Memory>
     ensures { IfOk result (λ line. string_bytes line ≡ fault_line (Fault.Read name.now why)) }
 {
@@ -100,7 +116,7 @@ fn fetch_text(why: FetchFault) -> &'static str
     }
 }
 
-// The line of a file that is no table.
+/// The line of a file that is no table.
 fn table_line(alloc: Global, name: &Text, why: &TableFault) -> Result<String, Memory>
     ensures { IfOk result (λ line. string_bytes line ≡ fault_line (Fault.Table name.now why.now)) }
 {

@@ -1,4 +1,4 @@
-ghost use Rattle.std.specs.Prelude.{◌≡◌, Some};
+ghost use Rattle.std.specs.Prelude.{Some};
 ghost use Rattle.rs_run.specs.Outcome.{Reports, seen};
 
 use crate::fault::Fault;

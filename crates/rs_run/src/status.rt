@@ -1,4 +1,7 @@
-/// How a run ended. Its number is the exit status of the program.
+ghost use Rattle.std.specs.Prelude.{◌≡◌};
+ghost use Rattle.rs_run.specs.Status.{number_of};
+
+/// How a run ended.
 #[derive(Clone, Copy, Debug, PartialEq, Eq)]
 pub enum Status {
     Done = 0,
@@ -11,4 +14,13 @@ pub enum Status {
     BadScore = 7,
     Probe = 8,
     Session = 9,
+}
+
+impl Status {
+    /// The exit status of the program.
+    pub fn number(self) -> u8
+        ensures { result ≡ number_of self }
+    {
+        self as u8
+    }
 }

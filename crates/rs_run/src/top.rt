@@ -1,14 +1,13 @@
-ghost use Rattle.std.specs.Prelude.{◌≡◌, ◌≢◌, ◌⊎◌, ◌≤◌, ℕ, ⊤, Ok, Err, Option, IfSome, IfOk, IfErr, MatchResult, take, map, length, unwrap_or, option_map, slice_get, Some, None, if◌then◌else◌, [], ◌∷◌};
+ghost use Rattle.std.specs.Prelude.{◌≡◌, ◌⊎◌, ◌≤◌, Ok, Err, Option, IfOk, IfErr, MatchResult, take, map, length, unwrap_or, slice_get, Some, None, if◌then◌else◌, [], ◌∷◌};
 ghost use Rattle.std.specs.List.{AllByRecursion};
 ghost use Rattle.rs_value.specs.Answer.{Gives};
-ghost use Rattle.rs_value.specs.declared.kind.Kind.{Kind};
 ghost use Rattle.rs_value.specs.declared.kind.Kind.TheVariants as kind;
 ghost use Rattle.rs_table.specs.Column.{Column, place_of};
 ghost use Rattle.rs_table.specs.NumberColumn.{HasNumberColumn};
 ghost use Rattle.rs_lines.specs.Row.{line_of};
 ghost use Rattle.rs_run.specs.Outcome.{ForFiles, Ran, seen};
 ghost use Rattle.rs_run.specs.Run.{fetch_then};
-ghost use Rattle.rs_run.specs.Top.{is_score, lines_from, named_table, number_at, score_at, score_of, scored_from, top_lines};
+ghost use Rattle.rs_run.specs.Top.{is_score, named_table, number_at, score_of, scored_from, top_lines};
 ghost use Rattle.rs_run.specs.Steps.{FetchesTable, IsRanked, IsRow, PutsLines, Ranks, lines_of, row_in};
 
 use crate::fault::Fault;
@@ -48,7 +47,7 @@ pub fn top<F: Files, O: Sink>(
     put_rows(alloc, &table, &ranked, count, out)
 }
 
-// Fetches a file and reads its table, in which the column is of numbers.
+/// Fetches a file and reads its table, in which the column is of numbers.
 fn fetch_table<F: Files>(
     alloc: Global,
     file: &Text,
@@ -70,7 +69,7 @@ fn fetch_table<F: Files>(
     }
 }
 
-// The fault of a file that was not fetched.
+/// The fault of a file that was not fetched.
 fn read_fault(file: &Text, why: FetchFault) -> Fault
     ensures tells { (result ≡ Fault.Read file.now why) ⊎ (result ≡ Fault.Memory) }
     ensures memory { why ≡ FetchFault.Memory → result ≡ Fault.Memory }
@@ -84,7 +83,7 @@ fn read_fault(file: &Text, why: FetchFault) -> Fault
     }
 }
 
-// The fault of a file that is no table.
+/// The fault of a file that is no table.
 fn table_fault(file: &Text, why: TableFault) -> Fault
     ensures tells { (result ≡ Fault.Table file.now why) ⊎ (result ≡ Fault.Memory) }
     ensures memory { why ≡ TableFault.Memory → result ≡ Fault.Memory }
@@ -98,7 +97,7 @@ fn table_fault(file: &Text, why: TableFault) -> Fault
     }
 }
 
-// The table of a file's bytes, in which the column is of numbers.
+/// The table of a file's bytes, in which the column is of numbers.
 fn read_table(alloc: Global, column: &Text, bytes: &[u8]) -> Result<Table, TableFault>
     requires { length bytes.now ≤ 33554432 }
     ensures gives { Gives TableFault.Memory (named_table column.now bytes.now) result }
@@ -110,25 +109,20 @@ fn read_table(alloc: Global, column: &Text, bytes: &[u8]) -> Result<Table, Table
     }
 }
 
-// The rows of a table in the stable order of the numbers in a column.
-fn rank_rows(
-    alloc: Global,
-    table: &Table,
-    column: &Text,
-    max: u32,
-) -> Result<Vec<RankedRow>, Fault>
+/// The rows of a table in the stable order of the numbers in a column.
+fn rank_rows(alloc: Global, table: &Table, column: &Text, max: u32) -> Result<Vec<RankedRow>, Fault>
     requires { HasNumberColumn column.now table.now.schema }
     ensures { let place = unwrap_or (place_of column.now table.now.schema) 0 in
         MatchResult result
-            (λ ranked. Ranks table.now column.now max place ranked.items)
-            (λ fault. (fault ≡ Fault.Memory) ⊎ (scored_from column.now max place 1 table.now.rows ≡ Err fault)) }
+        (λ ranked. Ranks table.now column.now max place ranked.items)
+        (λ fault. (fault ≡ Fault.Memory) ⊎ (scored_from column.now max place 1 table.now.rows ≡ Err fault)) }
 {
     let mut ranked = score_rows(alloc, table, column, max)?;
     sort_stably(&mut ranked)?;
     Ok(ranked)
 }
 
-// The rows of a table with their scores by the numbers in a column.
+/// The rows of a table with their scores by the numbers in a column.
 fn score_rows(
     alloc: Global,
     table: &Table,
@@ -138,10 +132,10 @@ fn score_rows(
     requires { HasNumberColumn column.now table.now.schema }
     ensures { let place = unwrap_or (place_of column.now table.now.schema) 0 in
         MatchResult result
-            (λ ranked. (scored_from column.now max place 1 table.now.rows ≡ Ok table.now.rows)
-                × (map (λ r. row_in table.now r.row) ranked.items ≡ table.now.rows)
-                × AllByRecursion (λ r. IsRanked table.now place r.score r.row) ranked.items)
-            (λ fault. (fault ≡ Fault.Memory) ⊎ (scored_from column.now max place 1 table.now.rows ≡ Err fault)) }
+        (λ ranked. (scored_from column.now max place 1 table.now.rows ≡ Ok table.now.rows)
+        × (map (λ r. row_in table.now r.row) ranked.items ≡ table.now.rows)
+        × AllByRecursion (λ r. IsRanked table.now place r.score r.row) ranked.items)
+        (λ fault. (fault ≡ Fault.Memory) ⊎ (scored_from column.now max place 1 table.now.rows ≡ Err fault)) }
 {
     let mut ranked = Vec::new(alloc);
     let place = number_column(table, column);
@@ -156,7 +150,7 @@ fn score_rows(
     Ok(ranked)
 }
 
-// The place of the column of numbers.
+/// The place of the column of numbers.
 fn number_column(table: &Table, column: &Text) -> u8
     requires { HasNumberColumn column.now table.now.schema }
     ensures { place_of column.now table.now.schema ≡ Some result }
@@ -167,7 +161,7 @@ fn number_column(table: &Table, column: &Text) -> u8
     }
 }
 
-// The number that a row has in a column of numbers.
+/// The number that a row has in a column of numbers.
 fn number_in(table: &Table, row: u32, place: u8) -> i64
     requires row { IsRow table.now row }
     requires number { (column : Column) × (slice_get table.now.schema place ≡ Some column) × (column.1 ≡ kind.Int) }
@@ -180,7 +174,7 @@ fn number_in(table: &Table, row: u32, place: u8) -> i64
     }
 }
 
-// A number as a score, where it lies in 0..max.
+/// A number as a score, where it lies in 0..max.
 fn score_of(number: i64, max: u32) -> Option<u32>
     ensures { result ≡ (if is_score max number then Some (score_of number) else None) }
 {
@@ -190,7 +184,7 @@ fn score_of(number: i64, max: u32) -> Option<u32>
     Some(number as u32)
 }
 
-// The fault of a row whose number is no score.
+/// The fault of a row whose number is no score.
 fn bad_score(column: &Text, row: u32, number: i64, max: u32) -> Fault
     ensures { (result ≡ Fault.BadScore column.now row number max) ⊎ (result ≡ Fault.Memory) }
 {
@@ -205,7 +199,7 @@ fn bad_score(column: &Text, row: u32, number: i64, max: u32) -> Fault
     }
 }
 
-// Puts the lines of the first rows, each in one put, before the next row is looked at.
+/// Puts the lines of the first rows, each in one put, before the next row is looked at.
 fn put_rows<O: Sink>(
     alloc: Global,
     table: &Table,
@@ -236,7 +230,7 @@ fn put_rows<O: Sink>(
     Ok(())
 }
 
-// Puts a line.
+/// Puts a line.
 fn put_line<O: Sink>(line: &[u8], out: &mut O) -> Result<(), Fault>
     ensures puts { PutsLines (line.now ∷ []) result
         (seen (O.pieces out.old) (O.pieces out.new) (O.faults out.old) (O.faults out.new))
@@ -251,7 +245,7 @@ fn put_line<O: Sink>(line: &[u8], out: &mut O) -> Result<(), Fault>
     }
 }
 
-// The printed line of a row.
+/// The printed line of a row.
 fn ranked_line(
     alloc: Global,
     table: &Table,
@@ -266,7 +260,7 @@ fn ranked_line(
     Ok(row_line(alloc, rank as u128, ranked.score as u64, &values)?)
 }
 
-// The values of a row.
+/// The values of a row.
 fn row_values(alloc: Global, table: &Table, row: u32) -> Result<Vec<Value>, Fault>
     requires { IsRow table.now row }
     ensures ok { IfOk result (λ values. values.items ≡ row_in table.now row) }

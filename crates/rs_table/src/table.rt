@@ -4,7 +4,7 @@ ghost use Rattle.rs_value.specs.Answer.{Gives};
 ghost use Rattle.rs_value.specs.declared.kind.Kind.TheVariants as kind;
 ghost use Rattle.rs_value.specs.Value.{kind_of};
 ghost use Rattle.rs_table.specs.Column.{Column};
-ghost use Rattle.rs_table.specs.Relation.{cell_at, fits, most_rows, row_fits};
+ghost use Rattle.rs_table.specs.Relation.{cell_at, fits, row_fits};
 ghost use Rattle.std.specs.List.{AllByRecursion};
 ghost use Rattle.rs_table.specs.Appended.{appended};
 ghost use Rattle.rs_table.specs.Reading.{cells_of, difference_from, row_of, rows_from, rows_of, table_of};

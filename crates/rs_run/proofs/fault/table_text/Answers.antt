@@ -1,5 +1,4 @@
-use Rattle.std.proofs.Common.{append_assoc, ◌∙◌, ap}
-use Rattle.rs_run.specs.Faults.{table_text}
+use Rattle.std.proofs.Common.{append_assoc}
 use Rattle.rs_run.proofs.fault.table_text.Goals as goal
 
 pub returns-in_ok-format-in-FieldCount : goal.returns-in_ok-format-in-FieldCount

@@ -1,9 +1,9 @@
-use Rattle.std.proofs.Common.{◌≡◌, ◌<◌, ◌≤◌, ◌+◌, ◌∙◌, ◌++◌, ◌∷◌, [], List, ℕ, take, drop, length, sym, ap, subst, arith, get_or}
-use Rattle.std.specs.Prelude.{option_map, Err}
+use Rattle.std.proofs.Common.{◌≡◌, ◌<◌, ◌≤◌, ◌+◌, ◌∙◌, ◌++◌, ◌∷◌, [], take, drop, length, sym, ap, subst, arith, get_or}
+use Rattle.std.specs.Prelude.{option_map}
 use Rattle.std.proofs.lemmas.List.{take_all}
 use Rattle.rs_lines.specs.Row.{line_of}
 use Rattle.rs_run.specs.declared.ranked_row.RankedRow.{RankedRow}
-use Rattle.rs_run.specs.Steps.{PutsLines, lines_of, row_in}
+use Rattle.rs_run.specs.Steps.{lines_of, row_in}
 use Rattle.rs_run.proofs.RunFacts.{PutsLines-all, PutsLines-some, PutsLines-append, PutsLines-ok, pieces-append}
 use Rattle.rs_run.proofs.RowFacts.{lines_of-more, lines_of-rest, lines_of-next}
 use Rattle.rs_run.proofs.top.put_rows.Goals as goal
@@ -29,7 +29,7 @@ returns-in-Err-put_line g c =
     let line : c.deref.result.now ≡ line_of (i + 1) (get_or c.args.ranked.now i no_row).score (row_in c.args.table.now (get_or c.args.ranked.now i no_row).row) = c.deref.ensures.value ∙ c.in-Ok.ensures.ok ∙ ap (λ n. line_of (n + 1) (get_or c.args.ranked.now i no_row).score (row_in c.args.table.now (get_or c.args.ranked.now i no_row).row)) c.loop-row.invariant.rank in
     let split = lines_of-next c.args.table.now i c.args.count c.args.ranked.now no_row lt c.loop-row-test.true in
     PutsLines-append _ (lines_of c.args.table.now 1 (take i c.args.ranked.now)) (c.deref.result.now ∷ []) _ _ _ _ _ _ _
-      (split ∙ ap (λ next. lines_of c.args.table.now 1 (take i c.args.ranked.now) ++ (next ∷ [] ++ lines_of c.args.table.now (1 + (i + 1)) (drop (i + 1) (take c.args.count c.args.ranked.now)))) (sym line)) c.loop-row.invariant.put c.loop-row.invariant.faults c.loop-row.invariant.steady c.in-Err-put_line.ensures.puts
+    (split ∙ ap (λ next. lines_of c.args.table.now 1 (take i c.args.ranked.now) ++ (next ∷ [] ++ lines_of c.args.table.now (1 + (i + 1)) (drop (i + 1) (take c.args.count c.args.ranked.now)))) (sym line)) c.loop-row.invariant.put c.loop-row.invariant.faults c.loop-row.invariant.steady c.in-Err-put_line.ensures.puts
 
 pub loop-row-preserved : goal.loop-row-preserved
 unfolding no_row
@@ -41,11 +41,11 @@ loop-row-preserved g c =
       rank = omega (arith, c.loop-row.invariant.rank);
       within = omega (arith, c.loop-row.invariant.within, c.if-rank-count.false);
       put = PutsLines-ok (c.deref.result.now ∷ []) _ _ c.in-Ok-put_line.ensures.puts
-        ∙ ap (option_map (λ held. held ++ c.deref.result.now ∷ [])) c.loop-row.invariant.put
-        ∙ pieces-append (lines_of c.args.table.now 1 (take i c.args.ranked.now)) (c.deref.result.now ∷ []) (g.O.Sink.pieces c.args.out.now)
-        ∙ ap (λ lines. option_map (λ held. held ++ lines) (g.O.Sink.pieces c.args.out.now)) (ap (λ next. lines_of c.args.table.now 1 (take i c.args.ranked.now) ++ next ∷ []) line ∙ sym more);
+          ∙ ap (option_map (λ held. held ++ c.deref.result.now ∷ [])) c.loop-row.invariant.put
+          ∙ pieces-append (lines_of c.args.table.now 1 (take i c.args.ranked.now)) (c.deref.result.now ∷ []) (g.O.Sink.pieces c.args.out.now)
+          ∙ ap (λ lines. option_map (λ held. held ++ lines) (g.O.Sink.pieces c.args.out.now)) (ap (λ next. lines_of c.args.table.now 1 (take i c.args.ranked.now) ++ next ∷ []) line ∙ sym more);
       faults = omega (arith, c.loop-row.invariant.faults, c.put_line.ensures.faults);
-      steady = λ s. c.put_line.ensures.steady (c.loop-row.invariant.steady s)
+      steady = λ s. c.put_line.ensures.steady (c.loop-row.invariant.steady s);
     }
 
 pub returns : goal.returns

@@ -10,5 +10,5 @@ invariant-loop-row g l = record {
   within : l.rank ≤ l.count;
   put : g.O.Sink.pieces l.out ≡ option_map (λ held. held ++ lines_of l.table 1 (take l.row-index l.ranked)) (g.O.Sink.pieces l.fn.out);
   faults : g.O.Sink.faults l.fn.out ≤ g.O.Sink.faults l.out;
-  steady : g.O.Sink.steady l.fn.out → g.O.Sink.steady l.out
+  steady : g.O.Sink.steady l.fn.out → g.O.Sink.steady l.out;
 }

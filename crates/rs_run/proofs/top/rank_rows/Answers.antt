@@ -17,8 +17,8 @@ returns c =
     record {
       scored = c.in_ok-ranked.ensures.0;
       ordered = ap (map (λ r. row_in table r.row)) c.in_ok-sort_stably.ensures.ok
-        ∙ stable-map (λ r. row_in table r.row) (λ r. r.score) (score_at place) made (scores-ranked table place made c.in_ok-ranked.ensures.2)
-        ∙ ap (stable (score_at place)) c.in_ok-ranked.ensures.1;
+          ∙ stable-map (λ r. row_in table r.row) (λ r. r.score) (score_at place) made (scores-ranked table place made c.in_ok-ranked.ensures.2)
+          ∙ ap (stable (score_at place)) c.in_ok-ranked.ensures.1;
       each = subst (AllByRecursion (λ r. IsRanked table place r.score r.row)) (sym c.in_ok-sort_stably.ensures.ok)
-        (AllByRecursion-stable (λ r. r.score) (λ r. IsRanked table place r.score r.row) made c.in_ok-ranked.ensures.2)
+          (AllByRecursion-stable (λ r. r.score) (λ r. IsRanked table place r.score r.row) made c.in_ok-ranked.ensures.2);
     }

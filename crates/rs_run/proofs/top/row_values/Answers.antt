@@ -1,4 +1,4 @@
-use Rattle.std.proofs.Common.{◌≡◌, ◌≤◌, ◌∙◌, ◌+◌, length, sym, ap, arith}
+use Rattle.std.proofs.Common.{◌≡◌, ◌≤◌, ◌∙◌, length, sym, ap, arith}
 use Rattle.std.proofs.lemmas.List.{take_all}
 use Rattle.rs_run.specs.Steps.{row_in}
 use Rattle.rs_run.proofs.RowFacts.{take-slice_get, slice_get-cell, length-row_in}
@@ -14,5 +14,5 @@ pub returns-clause-ok : goal.returns-clause-ok
 returns-clause-ok c =
     let columns : length c.columns-column-end.result.now ≡ length c.args.table.now.schema = ap length (c.columns-column-end.ensures.value ∙ c.schema.ensures.value) in
     let all : length (row_in c.args.table.now c.args.row) ≤ c.loop-column.column =
-        omega (arith, length-row_in c.args.table.now c.args.row c.schema.ensures.rows_fit c.requires) in
+    omega (arith, length-row_in c.args.table.now c.args.row c.schema.ensures.rows_fit c.requires) in
     c.loop-column.invariant ∙ take_all c.loop-column.column (row_in c.args.table.now c.args.row) all

@@ -1,10 +1,9 @@
-use Rattle.std.proofs.Common.{rules, ◌≡◌, ◌<◌, ◌≤◌, ◌+◌, ◌∙◌, sym, ap, subst, inl, inr, length, arith, List, ℕ, Some, None, take, ◌++◌, ◌∷◌, [], map}
+use Rattle.std.proofs.Common.{rules, ◌≡◌, ◌<◌, ◌≤◌, ◌+◌, ◌∙◌, sym, ap, subst, inl, inr, length, arith, ℕ, Some, take, ◌++◌, ◌∷◌, [], map}
 use Rattle.std.specs.Prelude.{unwrap_or, Option, Err}
 use Rattle.std.proofs.lemmas.Int.{to_z-of_z}
 use mir.Val.{SFits}
 use mir.Syntax.{w64}
 use Rattle.std.proofs.lemmas.List.{take_more, take_all, map-append}
-use Rattle.rs_table.specs.Column.{place_of}
 use Rattle.rs_run.specs.declared.fault.Fault.TheVariants.{BadScore}
 use Rattle.rs_run.specs.Top.{scored_from, is_score, score_of}
 use Rattle.std.specs.List.{AllByRecursion}
@@ -31,8 +30,9 @@ returns-in_default c =
     let found = ap (λ p. scored_from c.args.column.now c.args.max p 1 table.rows) (sym (place_is _ place c.number_column-place.ensures)) in
     let tells = simp to_z-of_z at c.bad_score.ensures in
     elim tells [
-      inl e ↦ inr (found ∙ sym c.loop-index.invariant.rest ∙ bad ∙ ap (λ got. Err (BadScore c.args.column.now (i + 1) got c.args.max)) (sym c.number_in-number.ensures) ∙ ap Err (sym e))
-    | inr e ↦ inl e ]
+      | inl e ↦ inr (found ∙ sym c.loop-index.invariant.rest ∙ bad ∙ ap (λ got. Err (BadScore c.args.column.now (i + 1) got c.args.max)) (sym c.number_in-number.ensures) ∙ ap Err (sym e))
+      | inr e ↦ inl e
+    ]
 
 pub loop-index-preserved : goal.loop-index-preserved
 loop-index-preserved c =
@@ -50,10 +50,10 @@ loop-index-preserved c =
     record {
       rest = sym (scored_from-score c.args.column.now c.args.max place i table.rows (row_in table (i + 1)) within next is) ∙ c.loop-index.invariant.rest;
       rows = ap (map (λ r. row_in table r.row)) c.in_ok-push.ensures.items ∙ map-append (λ r. row_in table r.row) c.loop-index.ranked.items (row ∷ [])
-        ∙ ap (λ rows. rows ++ row_in table (i + 1) ∷ []) c.loop-index.invariant.rows ∙ sym (take_more table.rows i (row_in table (i + 1)) within ∙ ap (λ v. take i table.rows ++ v ∷ []) next);
+          ∙ ap (λ rows. rows ++ row_in table (i + 1) ∷ []) c.loop-index.invariant.rows ∙ sym (take_more table.rows i (row_in table (i + 1)) within ∙ ap (λ v. take i table.rows ++ v ∷ []) next);
       each = subst (AllByRecursion (λ r. IsRanked table place r.score r.row)) (sym c.in_ok-push.ensures.items)
-        (AllByRecursion-push (λ r. IsRanked table place r.score r.row) c.loop-index.ranked.items row c.loop-index.invariant.each
-          (record { is_row = record { some = omega arith; within = omega (arith, within) }; scored = some.1 ∙ ap score_of c.number_in-number.ensures }))
+          (AllByRecursion-push (λ r. IsRanked table place r.score r.row) c.loop-index.ranked.items row c.loop-index.invariant.each
+          (record { is_row = record { some = omega arith; within = omega (arith, within) }; scored = some.1 ∙ ap score_of c.number_in-number.ensures }));
     }
 
 pub returns : goal.returns
@@ -61,7 +61,8 @@ returns c =
     let table = c.args.table.now in
     let place = c.number_column-place.result in
     let same = place_is _ place c.number_column-place.ensures in
-    let all : length table.rows ≤ c.loop-index.index = omega (arith, c.loop-index-test.false, c.len-index-end.ensures.value) in
-    ( ap (λ p. scored_from c.args.column.now c.args.max p 1 table.rows) (sym same) ∙ sym c.loop-index.invariant.rest ∙ appended-all c.args.column.now c.args.max place c.loop-index.index table.rows all
-    , c.loop-index.invariant.rows ∙ take_all c.loop-index.index table.rows all
-    , subst (λ p. AllByRecursion (λ r. IsRanked table p r.score r.row) c.loop-index.ranked.items) same c.loop-index.invariant.each )
+    let all : length table.rows ≤ c.loop-index.index = omega (arith, c.loop-index-test.false, c.len-index-end.ensures.value) in (
+      ap (λ p. scored_from c.args.column.now c.args.max p 1 table.rows) (sym same) ∙ sym c.loop-index.invariant.rest ∙ appended-all c.args.column.now c.args.max place c.loop-index.index table.rows all,
+      c.loop-index.invariant.rows ∙ take_all c.loop-index.index table.rows all,
+      subst (λ p. AllByRecursion (λ r. IsRanked table p r.score r.row) c.loop-index.ranked.items) same c.loop-index.invariant.each,
+    )

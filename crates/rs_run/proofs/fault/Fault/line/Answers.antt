@@ -1,5 +1,4 @@
 use Rattle.std.proofs.Common.{append_assoc}
-use Rattle.rs_run.specs.Faults.{fault_line}
 use Rattle.rs_run.proofs.fault.Fault.line.Goals as goal
 
 pub returns-in_ok-format-in-BadScore : goal.returns-in_ok-format-in-BadScore
