@@ -6,6 +6,8 @@ mod fault;
 mod ranked_row;
 mod report;
 mod status;
+#[cfg(test)]
+mod tests;
 mod top;
 mod words;
 

@@ -1,0 +1,404 @@
+//! What no clause says: that runs succeed, and what they print.
+
+use crate::{Status, run};
+use rs_outside::{MemFiles, MemSink};
+use rs_value::{Memory, Text};
+use std::alloc::Global;
+use std::process::Abort;
+use std::test::Fail;
+
+/// The file `h.csv` of every run here.
+const HOTELS: &[u8] = b"name,price,city\na,40,1\nb,90,1\nc,40,2\n";
+
+const BEST_TWO: &str = "1,90,b,90,1\n2,40,a,40,1\n";
+
+const USAGE: &str =
+    "usage: ranksql top FILE COLUMN MAX K, run SCRIPT SEED, plain SCRIPT, gen NUMBER ROWS\n";
+
+fn text(alloc: Global, chars: &str) -> Result<Text, Memory> {
+    match Text::from_bytes(alloc, chars.as_bytes()) {
+        Ok(text) => Ok(text),
+        Err(_) => Err(Memory),
+    }
+}
+
+/// What a run is made over: the files `h.csv` and `f.csv`, a standard output and a standard error.
+#[derive(Drop)]
+struct Outside {
+    files: MemFiles,
+    out: MemSink,
+    err: MemSink,
+}
+
+impl Outside {
+    /// An outside in which `f.csv` has these bytes.
+    fn with_file(alloc: Global, bytes: Vec<u8>) -> Result<Outside, Memory> {
+        let mut files = MemFiles::new(alloc);
+        files.add(text(alloc, "h.csv")?, HOTELS.to_vec(alloc)?)?;
+        files.add(text(alloc, "f.csv")?, bytes)?;
+        Ok(Outside {
+            files,
+            out: MemSink::new(alloc),
+            err: MemSink::new(alloc),
+        })
+    }
+
+    /// Runs these words.
+    fn run(&mut self, alloc: Global, words: &[&str]) -> Result<Status, Memory> {
+        let mut texts = Vec::new(alloc);
+        for word in words {
+            texts.push(text(alloc, word)?)?;
+        }
+        let Outside { files, out, err } = self;
+        Ok(run(alloc, &texts, files, out, err))
+    }
+
+    /// Asserts that a run of these words put just these bytes.
+    fn holds(&self, rt: &impl Abort, words: &[&str], out: &str, err: &str) {
+        assert_eq!(rt; self.out.bytes(), out.as_bytes(), "at {words:?}");
+        assert_eq!(rt; self.err.bytes(), err.as_bytes(), "at {words:?}");
+    }
+}
+
+/// A run: its words, the bytes of `f.csv`, and what it must answer and put.
+#[derive(Clone, Copy)]
+struct Case {
+    words: &'static [&'static str],
+    file: &'static [u8],
+    status: Status,
+    out: &'static str,
+    err: &'static str,
+}
+
+const CASES: [Case; 22] = [
+    Case {
+        words: &["top", "h.csv", "price", "100", "2"],
+        file: b"",
+        status: Status::Done,
+        out: BEST_TWO,
+        err: "",
+    },
+    Case {
+        words: &["top", "h.csv", "price", "80", "2"],
+        file: b"",
+        status: Status::BadScore,
+        out: "",
+        err: "score: price rows 2: 90 is not in 0..80\n",
+    },
+    Case {
+        words: &["top", "h.csv", "price", "90", "1000000"],
+        file: b"",
+        status: Status::Done,
+        out: "1,90,b,90,1\n2,40,a,40,1\n3,40,c,40,2\n",
+        err: "",
+    },
+    Case {
+        words: &["top", "h.csv", "price", "00000000000000000090", "00000000000000000001"],
+        file: b"",
+        status: Status::Done,
+        out: "1,90,b,90,1\n",
+        err: "",
+    },
+    Case {
+        words: &["top", "h.csv", "price", "100", "0"],
+        file: b"",
+        status: Status::Done,
+        out: "",
+        err: "",
+    },
+    Case {
+        words: &["top", "h.csv", "price", "80", "0"],
+        file: b"",
+        status: Status::BadScore,
+        out: "",
+        err: "score: price rows 2: 90 is not in 0..80\n",
+    },
+    Case {
+        words: &["top", "h.csv", "city", "4294967295", "2"],
+        file: b"",
+        status: Status::Done,
+        out: "1,2,c,40,2\n2,1,a,40,1\n",
+        err: "",
+    },
+    Case {
+        words: &["top", "nope.csv", "price", "100", "2"],
+        file: b"",
+        status: Status::Read,
+        out: "",
+        err: "read: nope.csv: missing\n",
+    },
+    Case {
+        words: &["top", "", "price", "100", "2"],
+        file: b"",
+        status: Status::Read,
+        out: "",
+        err: "read: : missing\n",
+    },
+    Case {
+        words: &["top", "h.csv", "size", "9", "2"],
+        file: b"",
+        status: Status::Table,
+        out: "",
+        err: "table: h.csv: NoColumn\n",
+    },
+    Case {
+        words: &["top", "h.csv", "name", "9", "2"],
+        file: b"",
+        status: Status::Table,
+        out: "",
+        err: "table: h.csv: NotInt row 1 column 1\n",
+    },
+    Case {
+        words: &["top", "f.csv", "price", "100", "3"],
+        file: b"name,price,city\n",
+        status: Status::Done,
+        out: "",
+        err: "",
+    },
+    Case {
+        words: &["top", "f.csv", "v", "10", "1"],
+        file: b"n,v\r\n\"a,\"\"b\"\"\nc\",5\r\n",
+        status: Status::Done,
+        out: "1,5,\"a,\"\"b\"\"\nc\",5\n",
+        err: "",
+    },
+    Case {
+        words: &["top", "f.csv", "v", "9", "3"],
+        file: b"n,v\na,1\nb,2\nc,1\nd,2\n",
+        status: Status::Done,
+        out: "1,2,b,2\n2,2,d,2\n3,1,a,1\n",
+        err: "",
+    },
+    Case {
+        words: &["top", "f.csv", "v", "10", "9"],
+        file: b"v\n0\n10\n",
+        status: Status::Done,
+        out: "1,10,10\n2,0,0\n",
+        err: "",
+    },
+    Case {
+        words: &["top", "f.csv", "v", "10", "9"],
+        file: b"v\n10\n11\n-1\n",
+        status: Status::BadScore,
+        out: "",
+        err: "score: v rows 2: 11 is not in 0..10\n",
+    },
+    Case {
+        words: &["top", "f.csv", "v", "10", "1"],
+        file: b"v\n5\n-1\n",
+        status: Status::BadScore,
+        out: "",
+        err: "score: v rows 2: -1 is not in 0..10\n",
+    },
+    Case {
+        words: &["top", "f.csv", "v", "4294967295", "1"],
+        file: b"v\n4000000000000000000\n",
+        status: Status::BadScore,
+        out: "",
+        err: "score: v rows 1: 4000000000000000000 is not in 0..4294967295\n",
+    },
+    Case {
+        words: &["top", "f.csv", "v", "4294967295", "1"],
+        file: b"v\n4294967295\n",
+        status: Status::Done,
+        out: "1,4294967295,4294967295\n",
+        err: "",
+    },
+    Case {
+        words: &["top", "f.csv", "v", "007", "1"],
+        file: b"v,v,\xC3\xA9\n\n+007,x, \n",
+        status: Status::Done,
+        out: "1,7,7,x, \n",
+        err: "",
+    },
+    Case {
+        words: &["top", "f.csv", "é", "7", "1"],
+        file: b"\xEF\xBB\xBF\xC3\xA9\n1",
+        status: Status::Done,
+        out: "1,1,1\n",
+        err: "",
+    },
+    Case {
+        words: &["top", "f.csv", "v", "7", "1"],
+        file: b"v,,,,,,,,,,,,,,,,,,,,,,,,,,,,,,,,,,,,,,,,,,,,,,,,,,,,,,,,,,,,,,,\n",
+        status: Status::Done,
+        out: "",
+        err: "",
+    },
+];
+
+#[test]
+fn runs_as_worked_by_hand(rt: HostRuntime) -> Result<(), Fail> {
+    for Case { words, file, status, out, err } in CASES {
+        let mut outside = Outside::with_file(rt.alloc(), file.to_vec(rt.alloc())?)?;
+        assert_eq!(rt; outside.run(rt.alloc(), words)?, status, "at {words:?}");
+        outside.holds(&rt, words, out, err);
+    }
+    Ok(())
+}
+
+#[test]
+fn refuses_words_of_no_form(rt: HostRuntime) -> Result<(), Fail> {
+    let refused: [&[&str]; 23] = [
+        &[],
+        &["--help"],
+        &["top"],
+        &["top", "h.csv", "price", "100"],
+        &["top", "h.csv", "price", "100", "2", "2"],
+        &["topp", "h.csv", "price", "100", "2"],
+        &["TOP", "h.csv", "price", "100", "2"],
+        &["", "h.csv", "price", "100", "2"],
+        &["top", "h.csv", "price", "0", "2"],
+        &["top", "h.csv", "price", "4294967296", "2"],
+        &["top", "h.csv", "price", "000000000000000000001", "2"],
+        &["top", "h.csv", "price", "99999999999999999999", "2"],
+        &["top", "h.csv", "price", "-1", "2"],
+        &["top", "h.csv", "price", "+1", "2"],
+        &["top", "h.csv", "price", "1 ", "2"],
+        &["top", "h.csv", "price", "", "2"],
+        &["top", "h.csv", "price", " ", "2"],
+        &["top", "h.csv", "price", "100", "1000001"],
+        &["top", "h.csv", "price", "100", "000000000000000000000"],
+        &["top", "h.csv", "price", "100", "-1"],
+        &["top", "h.csv", "price", "100", "+1"],
+        &["top", "h.csv", "price", "100", "2x"],
+        &["top", "h.csv", "price", "100", ""],
+    ];
+    for words in refused {
+        let mut outside = Outside::with_file(rt.alloc(), Vec::new(rt.alloc()))?;
+        assert_eq!(rt; outside.run(rt.alloc(), words)?, Status::Usage, "at {words:?}");
+        outside.holds(&rt, words, "", USAGE);
+    }
+    Ok(())
+}
+
+#[test]
+fn tells_why_a_file_is_no_table(rt: HostRuntime) -> Result<(), Fail> {
+    let refused: [(&[u8], &str); 13] = [
+        (b"", "table: f.csv: NoHeader\n"),
+        (b"\xEF\xBB\xBF\r\n\n", "table: f.csv: NoHeader\n"),
+        (b"w,V\n1,1\n", "table: f.csv: NoColumn\n"),
+        (b"v\nx\n", "table: f.csv: NotInt row 1 column 1\n"),
+        (b"w,v\na,1\nb,\n", "table: f.csv: NotInt row 2 column 2\n"),
+        (b"v\n4000000000000000001\n", "table: f.csv: NotInt row 1 column 1\n"),
+        (b"v\n-4000000000000000001\n", "table: f.csv: NotInt row 1 column 1\n"),
+        (b"v,w\n1\n", "table: f.csv: FieldCount row 1 found 1\n"),
+        (b"v,w\n1,a\n2,b,c\n", "table: f.csv: FieldCount row 2 found 3\n"),
+        (b"v,w\n1,a\n2,\xFF\n", "table: f.csv: NotUtf8 row 2 column 2\n"),
+        (b"v,\xC3\n1,a\n", "table: f.csv: NotUtf8 row 0 column 2\n"),
+        (b"v,,,,,,,,,,,,,,,,,,,,,,,,,,,,,,,,,,,,,,,,,,,,,,,,,,,,,,,,,,,,,,,,\n", "table: f.csv: TooManyColumns found 65\n"),
+        (b"v\n99\nx\n", "table: f.csv: NotInt row 2 column 1\n"),
+    ];
+    let words = ["top", "f.csv", "v", "10", "1"];
+    for (file, err) in refused {
+        let mut outside = Outside::with_file(rt.alloc(), file.to_vec(rt.alloc())?)?;
+        assert_eq!(rt; outside.run(rt.alloc(), &words)?, Status::Table, "at {file:?}");
+        outside.holds(&rt, &words, "", err);
+    }
+    Ok(())
+}
+
+/// The end of no call.
+const NEVER: (u32, usize) = (0, 0);
+
+#[test]
+fn ends_where_the_outside_fails(rt: HostRuntime) -> Result<(), Fail> {
+    // The fetch that fails; the put of the output and the put of the error that fail, each after so many bytes.
+    let failures = [
+        (1, NEVER, NEVER, "100", Status::Read, "", "read: h.csv: failed\n"),
+        (1, NEVER, (1, 4), "100", Status::Read, "", "read"),
+        (0, (1, 0), NEVER, "100", Status::Write, "", "write\n"),
+        (0, (1, 4), NEVER, "100", Status::Write, "1,90", "write\n"),
+        (0, (1, 99), NEVER, "100", Status::Write, "1,90,b,90,1\n", "write\n"),
+        (0, (2, 3), NEVER, "100", Status::Write, "1,90,b,90,1\n2,4", "write\n"),
+        (0, (2, 1), (1, 2), "100", Status::Write, "1,90,b,90,1\n2", "wr"),
+        (0, NEVER, (1, 6), "80", Status::BadScore, "", "score:"),
+        (0, NEVER, (1, 0), "0", Status::Usage, "", ""),
+        (2, (3, 0), (1, 0), "100", Status::Done, BEST_TWO, ""),
+        (1, NEVER, (2, 0), "100", Status::Read, "", "read: h.csv: failed\n"),
+    ];
+    for (fetch, put, told, max, status, out, err) in failures {
+        let mut outside = Outside::with_file(rt.alloc(), Vec::new(rt.alloc()))?;
+        outside.files.fail_at(fetch)?;
+        outside.out.fail_at(put.0, put.1)?;
+        outside.err.fail_at(told.0, told.1)?;
+        let words = ["top", "h.csv", "price", max, "2"];
+        assert_eq!(rt; outside.run(rt.alloc(), &words)?, status, "at {fetch} {put:?} {told:?}");
+        outside.holds(&rt, &words, out, err);
+    }
+    Ok(())
+}
+
+#[test]
+fn reads_as_many_rows_as_a_table_holds(rt: HostRuntime) -> Result<(), Fail> {
+    let words = ["top", "f.csv", "v", "1", "1"];
+    let lengths = [
+        (131_072, Status::Done, "1,1,1\n", ""),
+        (131_073, Status::Table, "", "table: f.csv: TooManyRows\n"),
+    ];
+    for (rows, status, out, err) in lengths {
+        let mut bytes = b"v\n".to_vec(rt.alloc())?;
+        for _ in 0..rows {
+            bytes.extend_from_slice(b"1\n")?;
+        }
+        let mut outside = Outside::with_file(rt.alloc(), bytes)?;
+        assert_eq!(rt; outside.run(rt.alloc(), &words)?, status, "at {rows} rows");
+        outside.holds(&rt, &words, out, err);
+    }
+    Ok(())
+}
+
+#[test]
+fn reads_as_many_bytes_as_a_file_may_have(rt: HostRuntime) -> Result<(), Fail> {
+    let words = ["top", "f.csv", "v", "1", "1"];
+    let lengths = [
+        (33_554_432, Status::Table, "table: f.csv: NoColumn\n"),
+        (33_554_433, Status::Read, "read: f.csv: too long\n"),
+    ];
+    for (length, status, err) in lengths {
+        let mut outside = Outside::with_file(rt.alloc(), vec![in rt.alloc(); b'x'; length]?)?;
+        assert_eq!(rt; outside.run(rt.alloc(), &words)?, status, "at {length} bytes");
+        outside.holds(&rt, &words, "", err);
+    }
+    Ok(())
+}
+
+/// Made for a process in which one allocation fails: a run that lacks memory puts whole lines and then tells so.
+#[test]
+fn puts_whole_lines_where_memory_ends(rt: HostRuntime) {
+    let Ok(mut outside) = Outside::with_file(rt.alloc(), Vec::new(rt.alloc())) else {
+        return;
+    };
+    let Ok(status) = outside.run(rt.alloc(), &["top", "h.csv", "price", "100", "2"]) else {
+        return;
+    };
+    let (out, err) = (outside.out.bytes(), outside.err.bytes());
+    if status == Status::Done {
+        assert_eq!(rt; out, BEST_TWO.as_bytes());
+        assert_eq!(rt; err, b"".as_slice());
+    } else {
+        assert_eq!(rt; status, Status::Memory);
+        assert!(rt; BEST_TWO.as_bytes().starts_with(out), "{out:?}");
+        assert!(rt; out.is_empty() || out.ends_with(b"\n"), "{out:?}");
+        assert_eq!(rt; err, b"memory\n".as_slice());
+    }
+}
+
+#[test]
+fn numbers_the_statuses(rt: HostRuntime) {
+    let statuses = [
+        (Status::Done, 0),
+        (Status::Memory, 1),
+        (Status::Usage, 2),
+        (Status::Read, 3),
+        (Status::Write, 4),
+        (Status::Script, 5),
+        (Status::Table, 6),
+        (Status::BadScore, 7),
+        (Status::Probe, 8),
+        (Status::Session, 9),
+    ];
+    for (status, number) in statuses {
+        assert_eq!(rt; status as u8, number);
+    }
+}
