@@ -383,22 +383,3 @@ fn puts_whole_lines_where_memory_ends(rt: HostRuntime) {
         assert_eq!(rt; err, b"memory\n".as_slice());
     }
 }
-
-#[test]
-fn numbers_the_statuses(rt: HostRuntime) {
-    let statuses = [
-        (Status::Done, 0),
-        (Status::Memory, 1),
-        (Status::Usage, 2),
-        (Status::Read, 3),
-        (Status::Write, 4),
-        (Status::Script, 5),
-        (Status::Table, 6),
-        (Status::BadScore, 7),
-        (Status::Probe, 8),
-        (Status::Session, 9),
-    ];
-    for (status, number) in statuses {
-        assert_eq!(rt; status as u8, number);
-    }
-}
