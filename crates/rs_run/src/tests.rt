@@ -93,7 +93,13 @@ const CASES: [Case; 22] = [
         err: "",
     },
     Case {
-        words: &["top", "h.csv", "price", "00000000000000000090", "00000000000000000001"],
+        words: &[
+            "top",
+            "h.csv",
+            "price",
+            "00000000000000000090",
+            "00000000000000000001",
+        ],
         file: b"",
         status: Status::Done,
         out: "1,90,b,90,1\n",
@@ -229,7 +235,13 @@ const CASES: [Case; 22] = [
 
 #[test]
 fn runs_as_worked_by_hand(rt: HostRuntime) -> Result<(), Fail> {
-    for Case { words, file, status, out, err } in CASES {
+    for Case {
+        words,
+        file,
+        status,
+        out,
+        err,
+    } in CASES {
         let mut outside = Outside::with_file(rt.alloc(), file.to_vec(rt.alloc())?)?;
         assert_eq!(rt; outside.run(rt.alloc(), words)?, status, "at {words:?}");
         outside.holds(&rt, words, out, err);
@@ -266,7 +278,11 @@ fn refuses_words_of_no_form(rt: HostRuntime) -> Result<(), Fail> {
     ];
     for words in refused {
         let mut outside = Outside::with_file(rt.alloc(), Vec::new(rt.alloc()))?;
-        assert_eq!(rt; outside.run(rt.alloc(), words)?, Status::Usage, "at {words:?}");
+        assert_eq!(rt;
+            outside.run(rt.alloc(), words)?,
+            Status::Usage,
+            "at {words:?}"
+        );
         outside.holds(&rt, words, "", USAGE);
     }
     Ok(())
@@ -280,19 +296,38 @@ fn tells_why_a_file_is_no_table(rt: HostRuntime) -> Result<(), Fail> {
         (b"w,V\n1,1\n", "table: f.csv: NoColumn\n"),
         (b"v\nx\n", "table: f.csv: NotInt row 1 column 1\n"),
         (b"w,v\na,1\nb,\n", "table: f.csv: NotInt row 2 column 2\n"),
-        (b"v\n4000000000000000001\n", "table: f.csv: NotInt row 1 column 1\n"),
-        (b"v\n-4000000000000000001\n", "table: f.csv: NotInt row 1 column 1\n"),
+        (
+            b"v\n4000000000000000001\n",
+            "table: f.csv: NotInt row 1 column 1\n",
+        ),
+        (
+            b"v\n-4000000000000000001\n",
+            "table: f.csv: NotInt row 1 column 1\n",
+        ),
         (b"v,w\n1\n", "table: f.csv: FieldCount row 1 found 1\n"),
-        (b"v,w\n1,a\n2,b,c\n", "table: f.csv: FieldCount row 2 found 3\n"),
-        (b"v,w\n1,a\n2,\xFF\n", "table: f.csv: NotUtf8 row 2 column 2\n"),
+        (
+            b"v,w\n1,a\n2,b,c\n",
+            "table: f.csv: FieldCount row 2 found 3\n",
+        ),
+        (
+            b"v,w\n1,a\n2,\xFF\n",
+            "table: f.csv: NotUtf8 row 2 column 2\n",
+        ),
         (b"v,\xC3\n1,a\n", "table: f.csv: NotUtf8 row 0 column 2\n"),
-        (b"v,,,,,,,,,,,,,,,,,,,,,,,,,,,,,,,,,,,,,,,,,,,,,,,,,,,,,,,,,,,,,,,,\n", "table: f.csv: TooManyColumns found 65\n"),
+        (
+            b"v,,,,,,,,,,,,,,,,,,,,,,,,,,,,,,,,,,,,,,,,,,,,,,,,,,,,,,,,,,,,,,,,\n",
+            "table: f.csv: TooManyColumns found 65\n",
+        ),
         (b"v\n99\nx\n", "table: f.csv: NotInt row 2 column 1\n"),
     ];
     let words = ["top", "f.csv", "v", "10", "1"];
     for (file, err) in refused {
         let mut outside = Outside::with_file(rt.alloc(), file.to_vec(rt.alloc())?)?;
-        assert_eq!(rt; outside.run(rt.alloc(), &words)?, Status::Table, "at {file:?}");
+        assert_eq!(rt;
+            outside.run(rt.alloc(), &words)?,
+            Status::Table,
+            "at {file:?}"
+        );
         outside.holds(&rt, &words, "", err);
     }
     Ok(())
@@ -305,17 +340,57 @@ const NEVER: (u32, usize) = (0, 0);
 fn ends_where_the_outside_fails(rt: HostRuntime) -> Result<(), Fail> {
     // The fetch that fails; the put of the output and the put of the error that fail, each after so many bytes.
     let failures = [
-        (1, NEVER, NEVER, "100", Status::Read, "", "read: h.csv: failed\n"),
+        (
+            1,
+            NEVER,
+            NEVER,
+            "100",
+            Status::Read,
+            "",
+            "read: h.csv: failed\n",
+        ),
         (1, NEVER, (1, 4), "100", Status::Read, "", "read"),
         (0, (1, 0), NEVER, "100", Status::Write, "", "write\n"),
         (0, (1, 4), NEVER, "100", Status::Write, "1,90", "write\n"),
-        (0, (1, 99), NEVER, "100", Status::Write, "1,90,b,90,1\n", "write\n"),
-        (0, (2, 3), NEVER, "100", Status::Write, "1,90,b,90,1\n2,4", "write\n"),
-        (0, (2, 1), (1, 2), "100", Status::Write, "1,90,b,90,1\n2", "wr"),
+        (
+            0,
+            (1, 99),
+            NEVER,
+            "100",
+            Status::Write,
+            "1,90,b,90,1\n",
+            "write\n",
+        ),
+        (
+            0,
+            (2, 3),
+            NEVER,
+            "100",
+            Status::Write,
+            "1,90,b,90,1\n2,4",
+            "write\n",
+        ),
+        (
+            0,
+            (2, 1),
+            (1, 2),
+            "100",
+            Status::Write,
+            "1,90,b,90,1\n2",
+            "wr",
+        ),
         (0, NEVER, (1, 6), "80", Status::BadScore, "", "score:"),
         (0, NEVER, (1, 0), "0", Status::Usage, "", ""),
         (2, (3, 0), (1, 0), "100", Status::Done, BEST_TWO, ""),
-        (1, NEVER, (2, 0), "100", Status::Read, "", "read: h.csv: failed\n"),
+        (
+            1,
+            NEVER,
+            (2, 0),
+            "100",
+            Status::Read,
+            "",
+            "read: h.csv: failed\n",
+        ),
     ];
     for (fetch, put, told, max, status, out, err) in failures {
         let mut outside = Outside::with_file(rt.alloc(), Vec::new(rt.alloc()))?;
@@ -323,7 +398,11 @@ fn ends_where_the_outside_fails(rt: HostRuntime) -> Result<(), Fail> {
         outside.out.fail_at(put.0, put.1)?;
         outside.err.fail_at(told.0, told.1)?;
         let words = ["top", "h.csv", "price", max, "2"];
-        assert_eq!(rt; outside.run(rt.alloc(), &words)?, status, "at {fetch} {put:?} {told:?}");
+        assert_eq!(rt;
+            outside.run(rt.alloc(), &words)?,
+            status,
+            "at {fetch} {put:?} {told:?}"
+        );
         outside.holds(&rt, &words, out, err);
     }
     Ok(())
@@ -357,7 +436,11 @@ fn reads_as_many_bytes_as_a_file_may_have(rt: HostRuntime) -> Result<(), Fail> {
     ];
     for (length, status, err) in lengths {
         let mut outside = Outside::with_file(rt.alloc(), vec![in rt.alloc(); b'x'; length]?)?;
-        assert_eq!(rt; outside.run(rt.alloc(), &words)?, status, "at {length} bytes");
+        assert_eq!(rt;
+            outside.run(rt.alloc(), &words)?,
+            status,
+            "at {length} bytes"
+        );
         outside.holds(&rt, &words, "", err);
     }
     Ok(())
