@@ -3,7 +3,7 @@ use Rattle.std.proofs.Common.{◌≡◌, ◌∙◌, ◌++◌, List, [], ◌∷�
 use Rattle.std.specs.Prelude.{Option, Result, Ok, Err, option_map, unwrap_or, ◌⊎◌}
 use Rattle.rs_value.specs.declared.value.Value.{Value}
 use Rattle.rs_outside.specs.Files.{FilesTold, file_named}
-use Rattle.rs_outside.specs.declared.files.FetchFault.TheVariants.{TooLong}
+use Rattle.rs_outside.specs.declared.files.FetchFault.TheVariants.{TooLong, Failed}
 use Rattle.rs_table.specs.declared.fault.TableFault.{TableFault}
 use Rattle.rs_table.specs.Reading.{◌>>=◌}
 use Rattle.rs_run.specs.declared.fault.Fault.{Fault}
@@ -15,7 +15,7 @@ use Rattle.rs_run.specs.Run.{Event, Run, run_of, fetch_then, fetches, puts}
 use Rattle.rs_table.specs.Column.{place_of}
 use Rattle.rs_run.specs.Words.{TopWords, top_words}
 use Rattle.rs_run.specs.Top.{content_of, or_table_fault, table_limit, named_table, top_table, top_lines, ranked_lines, scored_from, is_score, number_at}
-use Rattle.rs_run.specs.Outcome.{Seen, Faulted, Halt, Ended, NoMemory, PutFailed, FetchFailed, Ran, Answers, ForFiles, Outcome, Reports, HaltsAt, EndsOrNoMemory, fault_of, fetched_more, name_of, piece_of}
+use Rattle.rs_run.specs.Outcome.{Seen, Faulted, Halt, Ended, NoMemory, PutFailed, FetchFailed, Ran, Answers, ForFiles, Outcome, Reports, HaltsAt, EndsOrNoMemory, HasCause, fault_of, fetched_more, name_of, piece_of}
 
 -- what follows of each run, for the files that are told or for some files
 pub ForFiles-map : (told : Option FilesTold) (words : List (List ℕ)) (P Q : Run → Type 0) → ((run : Run) → P run → Q run)
@@ -212,6 +212,16 @@ outcome-ends run s files out err fs os es no_files no_out o = of_halt o.halt o.r
   of_halt (PutFailed part) reports halts fetched put = absurd (no_out halts.4)
   of_halt (FetchFailed name) reports halts fetched put = absurd (no_files halts.2)
 
+-- the cause of a status
+pub outcome-cause : (run : Run) (s : Status) (files : Seen FilesTold) (out err : Seen (List (List ℕ))) (fs os es : Type 0)
+    → Outcome run s files out err fs os es → HasCause run s files out fs os
+outcome-cause run s files out err fs os es o = of_halt o.halt o.reports o.does.halts where
+  of_halt : (halt : Halt) → Reports (fault_of run halt) s err es → HaltsAt halt o.does.rest files out fs os → HasCause run s files out fs os
+  of_halt Ended reports halts = elim (status-reports run.fault s err es reports) [ inl e ↦ inl (inl e) | inr e ↦ inl (inr e) ]
+  of_halt NoMemory reports halts = inl (inr (elim (status-reports (Some Memory) s err es reports) [ inl e ↦ e | inr e ↦ e ]))
+  of_halt (PutFailed part) reports halts = elim (status-reports (Some Write) s err es reports) [ inl e ↦ inr (inl (e, halts.4)) | inr e ↦ inl (inr e) ]
+  of_halt (FetchFailed name) reports halts = elim (status-reports (Some (Read name Failed)) s err es reports) [ inl e ↦ inr (inr (e, halts.2)) | inr e ↦ inl (inr e) ]
+
 -- what follows of the run, whatever the files are
 pub ForFiles-any : (told : Option FilesTold) (words : List (List ℕ)) (P : Run → Type 0) (Q : Type 0) → ((there : List ℕ → Option (List ℕ)) → P (run_of there words) → Q)
     → ForFiles told (λ there. P (run_of there words)) → Q
@@ -221,6 +231,7 @@ ForFiles-any None words P Q f h = f h.0 h.1
 -- all that a run tells, from its outcome
 pub record Tells (told : Option FilesTold) (words : List (List ℕ)) (s : Status) (files : Seen FilesTold) (out err : Seen (List (List ℕ))) (fs os es : Type 0) : Type 0 where
   pub run : ForFiles told (λ there. Outcome (run_of there words) s files out err fs os es)
+  pub causes : ForFiles told (λ there. HasCause (run_of there words) s files out fs os)
   pub usage : s ≡ status.Usage → top_words words ≡ None
   pub no_form : top_words words ≡ None → (s ≡ status.Usage) ⊎ (s ≡ status.Memory)
   pub write : s ≡ status.Write → Faulted out os
@@ -230,6 +241,8 @@ tells : (told : Option FilesTold) (words : List (List ℕ)) (s : Status) (files 
     → ForFiles told (λ there. Outcome (run_of there words) s files out err fs os es) → Tells told words s files out err fs os es
 tells told words s files out err fs os es run = record {
   run = run;
+  causes = ForFiles-map told words (λ run. Outcome run s files out err fs os es) (λ run. HasCause run s files out fs os)
+      (λ run o. outcome-cause run s files out err fs os es o) run;
   usage = λ e. ForFiles-any told words (λ run. Outcome run s files out err fs os es) (top_words words ≡ None) (λ there o. usage-outcome there words s files out err fs os es o e) run;
   no_form = λ e. ForFiles-any told words (λ run. Outcome run s files out err fs os es) ((s ≡ status.Usage) ⊎ (s ≡ status.Memory)) (λ there o. outcome-usage there words s files out err fs os es o e) run;
   write = λ e. ForFiles-any told words (λ run. Outcome run s files out err fs os es) (Faulted out os) (λ there o. write-outcome there words s files out err fs os es o e) run;

@@ -5,6 +5,7 @@ use Rattle.rs_outside.specs.Files.{FilesTold, file_named}
 use Rattle.rs_outside.specs.Sink.{IsPrefix}
 use Rattle.rs_outside.specs.declared.files.FetchFault.TheVariants.{Failed}
 use Rattle.rs_run.specs.declared.status.Status.{Status}
+use Rattle.rs_run.specs.declared.status.Status.TheVariants as status
 use Rattle.rs_run.specs.declared.fault.Fault.{Fault}
 use Rattle.rs_run.specs.declared.fault.Fault.TheVariants.{Memory, Write, Read}
 use Rattle.rs_run.specs.Faults.{status_of, fault_line}
@@ -114,6 +115,12 @@ pub record Ran (run : Run) (result : Result (Unit {0}) Fault) (files : Seen File
 abbrev pub ForFiles : Option FilesTold → ((List ℕ → Option (List ℕ)) → Type 0) → Type 0
 ForFiles (Some told) P = P (λ name. file_named name told.folder)
 ForFiles None P = (there : List ℕ → Option (List ℕ)) × P there
+
+-- every status has its cause: it is the definition's, or there was no memory, or a put failed, or a fetch
+abbrev pub HasCause : Run → Status → Seen FilesTold → Seen (List (List ℕ)) → Type 0 → Type 0 → Type 0
+HasCause run answer files out files_steady out_steady =
+    ((answer ≡ status_of run.fault) ⊎ (answer ≡ status.Memory))
+    ⊎ (((answer ≡ status.Write) × Faulted out out_steady) ⊎ ((answer ≡ status.Read) × Faulted files files_steady))
 
 -- the run ended as its definition says, after all its events, or there was no memory
 pub record Ends (run : Run) (status : Status) (files : Seen FilesTold) (out : Seen (List (List ℕ))) : Type 0 where

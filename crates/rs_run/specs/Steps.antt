@@ -56,7 +56,7 @@ abbrev pub lines_of : Relation → ℕ → List RankedRow → List (List ℕ)
 lines_of table rank [] = []
 lines_of table rank (r ∷ rest) = line_of rank r.score (row_in table r.row) ∷ lines_of table (rank + 1) rest
 
--- rows of a table, each once and with its score, in the stable order
+-- the rows of a table with their scores, in the stable order
 pub record Ranks (table : Relation) (column : List ℕ) (max place : ℕ) (ranked : List RankedRow) : Type 0 where
   pub scored : scored_from column max place 1 table.rows ≡ Ok table.rows
   pub ordered : map (λ r. row_in table r.row) ranked ≡ stable (score_at place) table.rows

@@ -1,5 +1,5 @@
 ghost use Rattle.std.specs.Prelude.{◌≡◌, ◌⊎◌, Some, None};
-ghost use Rattle.rs_run.specs.Outcome.{EndsOrNoMemory, Faulted, ForFiles, Outcome, Ran, seen};
+ghost use Rattle.rs_run.specs.Outcome.{EndsOrNoMemory, Faulted, ForFiles, HasCause, Outcome, Ran, seen};
 ghost use Rattle.rs_run.specs.Run.{run_of};
 ghost use Rattle.rs_run.specs.Words.{top_words};
 
@@ -27,6 +27,12 @@ pub fn run<F: Files, O: Sink, E: Sink>(
         (seen (O.pieces out.old) (O.pieces out.new) (O.faults out.old) (O.faults out.new))
         (seen (E.pieces err.old) (E.pieces err.new) (E.faults err.old) (E.faults err.new))
         (F.steady files.old) (O.steady out.old) (E.steady err.old)) }
+
+    // Each status has its cause: the definition of the run, want of memory, or a put or a fetch that failed.
+    ensures causes { ForFiles (F.told files.old) (λ there. HasCause (run_of there words.now) result
+        (seen (F.told files.old) (F.told files.new) (F.faults files.old) (F.faults files.new))
+        (seen (O.pieces out.old) (O.pieces out.new) (O.faults out.old) (O.faults out.new))
+        (F.steady files.old) (O.steady out.old)) }
 
     // Usage comes exactly where the words are of no form, and Write only where a put on standard output failed.
     ensures usage { result ≡ Status.Usage → top_words words.now ≡ None }

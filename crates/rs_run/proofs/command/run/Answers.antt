@@ -10,7 +10,7 @@ returns-in-Ok g c =
     (seen (g.O.Sink.pieces c.args.out.now) (g.O.Sink.pieces c.answer.new.out) (g.O.Sink.faults c.args.out.now) (g.O.Sink.faults c.answer.new.out))
     (seen (g.E.Sink.pieces c.args.err.now) (g.E.Sink.pieces c.args.err.now) (g.E.Sink.faults c.args.err.now) (g.E.Sink.faults c.args.err.now))
     (g.F.Files.steady c.args.files.now) (g.O.Sink.steady c.args.out.now) (g.E.Sink.steady c.args.err.now) refl c.in-Ok.ensures in
-    record { run = t.run; usage = t.usage; no_form = t.no_form; write = t.write; complete = t.complete }
+    record { run = t.run; causes = t.causes; usage = t.usage; no_form = t.no_form; write = t.write; complete = t.complete }
 
 pub returns-in-Err : goal.returns-in-Err
 returns-in-Err g c =
@@ -19,4 +19,4 @@ returns-in-Err g c =
     (seen (g.O.Sink.pieces c.args.out.now) (g.O.Sink.pieces c.answer.new.out) (g.O.Sink.faults c.args.out.now) (g.O.Sink.faults c.answer.new.out))
     (seen (g.E.Sink.pieces c.args.err.now) (g.E.Sink.pieces c.report.new.err) (g.E.Sink.faults c.args.err.now) (g.E.Sink.faults c.report.new.err))
     (g.F.Files.steady c.args.files.now) (g.O.Sink.steady c.args.out.now) (g.E.Sink.steady c.args.err.now) c.report.ensures c.in-Err.ensures in
-    record { run = t.run; usage = t.usage; no_form = t.no_form; write = t.write; complete = t.complete }
+    record { run = t.run; causes = t.causes; usage = t.usage; no_form = t.no_form; write = t.write; complete = t.complete }
