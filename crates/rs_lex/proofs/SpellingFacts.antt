@@ -1,13 +1,14 @@
 -- What stands at the front of a script lies within it, and its bytes spell one list of tokens at most.
-use Rattle.std.proofs.Common.{ℕ, zero, suc, ◌≡◌, ◌+◌, ◌<◌, ◌≤◌, ◌==◌, nat_le, ◌⊎◌, inl, inr, Bool, true, false, not, ◌&&◌, List, [], ◌∷◌, length, take, drop, Option, Some, None, refl, sym, ◌∙◌, ap, subst, arith, rules, cond, if◌then◌else◌, add-one, length-drop}
-use Rattle.std.specs.Prelude.{option_map, take_while, IfSome}
+use Rattle.std.proofs.Common.{ℕ, zero, suc, ◌≡◌, ◌+◌, ◌<◌, ◌≤◌, ◌==◌, nat_le, ◌⊎◌, inl, inr, Bool, true, false, not, ◌&&◌, List, [], ◌∷◌, length, take, drop, Option, Some, None, refl, sym, ◌∙◌, ap, subst, arith, rules, cond, if◌then◌else◌, add-one, length-drop, ◌-◌}
+use Rattle.std.specs.Prelude.{option_map, take_while, IfSome, Result, Ok, Err}
 use Rattle.std.proofs.lemmas.List.{length-take}
 use Rattle.std.proofs.lemmas.List.Sums.{take_while-cons}
-use Rattle.std.proofs.lemmas.Bool.{eqb-true}
+use Rattle.std.proofs.Math.Seq.{take-length, drop-drop}
+use Rattle.std.proofs.lemmas.Bool.{eqb-true, leb-true, leb-false}
 use Rattle.rs_value.specs.Number.{number_of, greatest_int}
 use Rattle.rs_lex.specs.Bytes.{is_letter, is_digit, is_word_byte, is_blank, begins, quote, apostrophe}
 use Rattle.rs_lex.specs.Front.{front_of, run_length, closed_length, number_front, literal_front, quoted_front, symbol_front, begins_comment, is_pair, is_symbol}
-use Rattle.rs_lex.specs.Spelling.{Spells, nothing, Refuses, too_many, bad, open_text, too_wide, most_tokens, token_at, IsMore}
+use Rattle.rs_lex.specs.Spelling.{Spells, nothing, Refuses, too_many, bad, open_text, too_wide, most_tokens, token_at, IsMore, InOrder, IsNext, reach, token_or_fault}
 use Rattle.rs_lex.specs.Spelling as spelling
 use Rattle.rs_lex.specs.declared.token.Sort.{Sort}
 use Rattle.rs_lex.specs.declared.token.Sort.TheVariants.{Word, Quoted, Number, Literal, Symbol}
@@ -242,3 +243,132 @@ Spells-not_refused count at bytes tokens fault few (spelling.Spells.takes _ n so
 Spells-not_refused count at bytes tokens fault few (spelling.Spells.takes _ n sort _ rest e h) (bad _ _ m _ lt2 f) = cc
 Spells-not_refused count at bytes tokens fault few (spelling.Spells.takes _ n sort _ rest e h) (open_text _ _ _ lt2 f) = cc
 Spells-not_refused count at bytes tokens fault few (spelling.Spells.takes _ n sort _ rest e h) (too_wide _ _ _ lt2 f) = cc
+
+-- a front that is neither a gap nor the end is more
+pub IsMore-other : (front : Front) → (front ≡ End → ⊥) → ((n : ℕ) → front ≡ Gap n → ⊥) → IsMore front
+IsMore-other End end gap = end refl
+IsMore-other (Gap n) end gap = gap n refl
+IsMore-other (Found sort n) end gap = tt
+IsMore-other (Bad n) end gap = tt
+IsMore-other Open end gap = tt
+IsMore-other Wide end gap = tt
+
+-- a front reaches no further than the bytes
+reach-le : (front : Front) (size : ℕ) → FrontFits front size → reach front ≤ size
+reach-le End size fits = omega arith
+reach-le (Gap n) size fits = fits.1
+reach-le (Found sort n) size fits = fits.1
+reach-le (Bad n) size fits = omega (arith, fits)
+reach-le Open size fits = omega arith
+reach-le Wide size fits = omega arith
+
+-- the bytes from a place on are those that remain of the script
+pub rest_of : (at : ℕ) (script : List ℕ) → take (length script - at) (drop at script) ≡ drop at script
+rest_of at script = rw (← length-drop at script) (take-length (drop at script))
+
+-- a front reaches no further than the script
+pub reach-within : (at : ℕ) (script : List ℕ) (front : Front) → at ≤ length script → front ≡ front_of (drop at script) → at + reach front ≤ length script
+reach-within at script front le is =
+    let h : reach front ≤ length (drop at script) = reach-le front (length (drop at script)) (rw is (front_of-fits (drop at script))) in
+    omega (arith, h, length-drop at script)
+
+-- what holds of a place in a script is what holds of another one in front of it
+pub record Reaches (count from at : ℕ) (script : List ℕ) : Type 0 where
+  pub spelled : (tokens : List Token) → Spells at (drop at script) tokens → Spells from (drop from script) tokens
+  pub refused : (fault : LexFault) → Refuses count at (drop at script) fault → Refuses count from (drop from script) fault
+
+-- the bytes behind a front
+behind : (at n : ℕ) (script : List ℕ) → drop (at + n) script ≡ drop n (drop at script)
+behind at n script = sym (drop-drop n at script)
+
+-- a gap is passed over
+pub Reaches-gap : (count from at n : ℕ) (script : List ℕ) → Gap n ≡ front_of (drop at script) → Reaches count from at script → Reaches count from (at + n) script
+Reaches-gap count from at n script is h = record {
+  spelled = λ tokens k. h.spelled tokens (spelling.Spells.passes at n (drop at script) tokens (sym is) (rw behind at k));
+  refused = λ fault k. h.refused fault (spelling.Refuses.passes count at n (drop at script) fault (sym is) (rw behind at k));
+}
+
+-- nothing is spelled at the end
+pub Spells-end : (count from at : ℕ) (script : List ℕ) → End ≡ front_of (drop at script) → Reaches count from at script → Spells from (drop from script) []
+Spells-end count from at script is h = h.spelled [] (nothing at (drop at script) (sym is))
+
+-- a choice that is one of two
+chosen : {A : Type 0} (b : Bool) (x y z : A) → (if b then x else y) ≡ z → ((b ≡ true) × (x ≡ z)) ⊎ ((b ≡ false) × (y ≡ z))
+chosen true x y z e = inl (refl, e)
+chosen false x y z e = inr (refl, e)
+
+-- a token that a front gives is the next one
+pub IsNext-token : (count from at : ℕ) (script : List ℕ) (front : Front) (token : Token) → from ≤ at → at ≤ length script → front ≡ front_of (drop at script)
+    → Some (Ok token) ≡ token_or_fault count at front → Reaches count from at script → IsNext count from script token
+IsNext-token count from at script End token before within is gives h = cc
+IsNext-token count from at script (Gap n) token before within is gives h = cc
+IsNext-token count from at script (Found sort n) token before within is gives h =
+    let choice : (if nat_le most_tokens count then Err (TooManyTokens at) else Ok (token_at at sort n)) ≡ Ok token = cc in
+    elim (chosen (nat_le most_tokens count) (Err (TooManyTokens at)) (Ok (token_at at sort n)) (Ok token) choice) [
+      | inl many ↦ let e = many.1 in cc
+      | inr one ↦
+        let e = one.1 in
+        let same : token_at at sort n ≡ token = cc in
+        let room : count < most_tokens = leb-false most_tokens count one.0 in
+        let size = front_of-found (drop at script) sort n (sym is) in
+        rw (← same) (record {
+          some = omega (arith, size.0);
+          within = omega (arith, size.1, length-drop at script);
+          few = room;
+          spelled = λ tokens k. h.spelled (token_at at sort n ∷ tokens) (spelling.Spells.takes at n sort (drop at script) tokens (sym is) (rw behind at k));
+          refused = λ fault k. h.refused fault (spelling.Refuses.takes count at n sort (drop at script) fault room (sym is) (rw behind at k));
+        })
+    ]
+IsNext-token count from at script (Bad n) token before within is gives h = cc
+IsNext-token count from at script Open token before within is gives h = cc
+IsNext-token count from at script Wide token before within is gives h = cc
+
+-- what one fault of two is: the script has too many tokens, or it has room for one more
+refused_by : (count at : ℕ) (bytes : List ℕ) (x fault : LexFault) → count ≤ most_tokens → IsMore (front_of bytes) → (count < most_tokens → Refuses count at bytes x)
+    → (if nat_le most_tokens count then TooManyTokens at else x) ≡ fault → Refuses count at bytes fault
+refused_by count at bytes x fault few more other e =
+    elim (chosen (nat_le most_tokens count) (TooManyTokens at) x fault e) [
+      | inl many ↦
+        let full : count ≡ most_tokens = omega (arith, leb-true most_tokens count many.0) in
+        rw (← many.1, full) (too_many at bytes more)
+      | inr one ↦ rw (← one.1) (other (leb-false most_tokens count one.0))
+    ]
+
+-- a fault that a front gives refuses the bytes
+pub Refuses-fault : (count from at : ℕ) (script : List ℕ) (front : Front) (fault : LexFault) → count ≤ most_tokens → front ≡ front_of (drop at script)
+    → Some (Err fault) ≡ token_or_fault count at front → Reaches count from at script → Refuses count from (drop from script) fault
+Refuses-fault count from at script End fault few is gives h = cc
+Refuses-fault count from at script (Gap n) fault few is gives h = cc
+Refuses-fault count from at script (Found sort n) fault few is gives h =
+    let choice : (if nat_le most_tokens count then Err (TooManyTokens at) else Ok (token_at at sort n)) ≡ Err fault = cc in
+    elim (chosen (nat_le most_tokens count) (Err (TooManyTokens at)) (Ok (token_at at sort n)) (Err fault) choice) [
+      | inl many ↦
+        let e = many.1 in
+        let same : TooManyTokens at ≡ fault = cc in
+        let full : count ≡ most_tokens = omega (arith, leb-true most_tokens count many.0) in
+        h.refused fault (rw (← same, full) (too_many at (drop at script) (rw (← is) tt)))
+      | inr one ↦ let e = one.1 in cc
+    ]
+Refuses-fault count from at script (Bad n) fault few is gives h =
+    h.refused fault (refused_by count at (drop at script) (BadByte (at + n)) fault few (rw (← is) tt) (λ room. bad count at n (drop at script) room (sym is)) cc)
+Refuses-fault count from at script Open fault few is gives h =
+    h.refused fault (refused_by count at (drop at script) (OpenText at) fault few (rw (← is) tt) (λ room. open_text count at (drop at script) room (sym is)) cc)
+Refuses-fault count from at script Wide fault few is gives h =
+    h.refused fault (refused_by count at (drop at script) (NumberTooWide at) fault few (rw (← is) tt) (λ room. too_wide count at (drop at script) room (sym is)) cc)
+
+-- tokens in order from a place on are in order from any place in front of it
+InOrder-earlier : (from at : ℕ) (tokens : List Token) (to : ℕ) → from ≤ at → InOrder at tokens to → InOrder from tokens to
+InOrder-earlier from at [] to before h = omega (arith, h)
+InOrder-earlier from at (token ∷ rest) to before h = (omega (arith, h.0), h.1, h.2)
+
+-- the tokens that bytes spell are in order, and lie within them
+pub InOrder-spelled : (at : ℕ) (bytes : List ℕ) (tokens : List Token) → Spells at bytes tokens → InOrder at tokens (at + length bytes)
+InOrder-spelled at bytes tokens (nothing _ _ e) = omega arith
+InOrder-spelled at bytes tokens (spelling.Spells.passes _ n _ _ e h) =
+    let size = front_of-gap bytes n e in
+    let same : at + n + length (drop n bytes) ≡ at + length bytes = omega (arith, length-drop n bytes, size.1) in
+    InOrder-earlier at (at + n) tokens (at + length bytes) (omega arith) (rw same at (InOrder-spelled (at + n) (drop n bytes) tokens h))
+InOrder-spelled at bytes tokens (spelling.Spells.takes _ n sort _ rest e h) =
+    let size = front_of-found bytes sort n e in
+    let same : at + n + length (drop n bytes) ≡ at + length bytes = omega (arith, length-drop n bytes, size.1) in
+    (omega arith, omega (arith, size.0), rw same at (InOrder-spelled (at + n) (drop n bytes) rest h))

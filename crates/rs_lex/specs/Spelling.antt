@@ -1,5 +1,5 @@
 -- The tokens that a script spells, and the place at which it spells none.
-use Rattle.std.specs.Prelude.{ℕ, suc, ◌≡◌, ◌≢◌, ◌+◌, ◌<◌, List, [], ◌∷◌, length, drop}
+use Rattle.std.specs.Prelude.{ℕ, suc, ◌≡◌, ◌≢◌, ◌+◌, ◌<◌, ◌≤◌, nat_le, List, [], ◌∷◌, length, drop, Option, Some, None, Result, Ok, Err, if◌then◌else◌}
 use Rattle.rs_lex.specs.Front.{front_of}
 use Rattle.rs_lex.specs.declared.token.Sort.{Sort}
 use Rattle.rs_lex.specs.declared.token.Token.{Token}
@@ -42,3 +42,35 @@ pub data Refuses : ℕ → ℕ → List ℕ → LexFault → Type 0 where
   bad : (count at n : ℕ) (bytes : List ℕ) → count < most_tokens → front_of bytes ≡ Bad n → Refuses count at bytes (BadByte (at + n))
   open_text : (count at : ℕ) (bytes : List ℕ) → count < most_tokens → front_of bytes ≡ Open → Refuses count at bytes (OpenText at)
   too_wide : (count at : ℕ) (bytes : List ℕ) → count < most_tokens → front_of bytes ≡ Wide → Refuses count at bytes (NumberTooWide at)
+
+-- from one place up to another, tokens stand one behind the other: none is empty, and no two share a byte
+abbrev pub InOrder : ℕ → List Token → ℕ → Type 0
+InOrder from [] to = from ≤ to
+InOrder from (token ∷ rest) to = (from ≤ token.at.start) × (token.at.start < token.at.end) × InOrder token.at.end rest to
+
+-- how far a front reaches
+abbrev pub reach : Front → ℕ
+reach End = 0
+reach (Gap n) = n
+reach (Found sort n) = n
+reach (Bad n) = n
+reach Open = 0
+reach Wide = 0
+
+-- the token at a place where a front stands, behind so many tokens, or why there is none; nothing at a gap and at the end
+abbrev pub token_or_fault : ℕ → ℕ → Front → Option (Result Token LexFault)
+token_or_fault count at End = None
+token_or_fault count at (Gap n) = None
+token_or_fault count at (Found sort n) = Some (if nat_le most_tokens count then Err (TooManyTokens at) else Ok (token_at at sort n))
+token_or_fault count at (Bad n) = Some (Err (if nat_le most_tokens count then TooManyTokens at else BadByte (at + n)))
+token_or_fault count at Open = Some (Err (if nat_le most_tokens count then TooManyTokens at else OpenText at))
+token_or_fault count at Wide = Some (Err (if nat_le most_tokens count then TooManyTokens at else NumberTooWide at))
+
+-- a token is the next one from a place on, behind so many tokens: what the bytes behind it spell, or are refused with, is
+-- what follows it
+pub record IsNext (count at : ℕ) (script : List ℕ) (token : Token) : Type 0 where
+  pub some : at < token.at.end
+  pub within : token.at.end ≤ length script
+  pub few : count < most_tokens
+  pub spelled : (tokens : List Token) → Spells token.at.end (drop token.at.end script) tokens → Spells at (drop at script) (token ∷ tokens)
+  pub refused : (fault : LexFault) → Refuses (count + 1) token.at.end (drop token.at.end script) fault → Refuses count at (drop at script) fault

@@ -3,7 +3,9 @@
 
 mod fault;
 mod front;
+mod lexer;
 mod token;
 
 pub use fault::LexFault;
+pub use lexer::{MOST_BYTES, MOST_TOKENS, tokens};
 pub use token::{Sort, Span, Token};
