@@ -25,7 +25,7 @@ abbrev pub number_front : List ℕ → Front
 number_front bytes =
     let digits = run_length is_digit bytes in
     if nat_le (number_of (take digits bytes)) greatest_int then
-    (if begins is_letter (drop digits bytes) then Bad digits else Found Number digits)
+      (if begins is_letter (drop digits bytes) then Bad digits else Found Number digits)
     else Wide
 
 -- a text between marks, behind the first one
