@@ -1,4 +1,4 @@
-ghost use Rattle.std.specs.Prelude.{◌≡◌, ℕ, ◌==◌, IsTrue, not};
+ghost use Rattle.std.specs.Prelude.{◌≡◌, ◌≤◌, ◌==◌, IfSome, IsTrue, length, not};
 ghost use Rattle.rs_lex.specs.Bytes.{is_letter, is_digit, is_word_byte, is_blank, begins, quote, apostrophe};
 ghost use Rattle.rs_lex.specs.Front.{front_of, run_length, closed_length, number_front, quoted_front, literal_front, symbol_front, is_pair, is_symbol, begins_comment};
 
@@ -50,7 +50,10 @@ fn is_blank(byte: u8) -> bool
 fn is_pair(first: u8, second: u8) -> bool
     ensures { result ≡ is_pair first second }
 {
-    matches!((first, second), (b'<', b'>' | b'=') | (b'!', b'=') | (b'>', b'='))
+    matches!(
+        (first, second),
+        (b'<', b'>' | b'=') | (b'!', b'=') | (b'>', b'=')
+    )
 }
 
 fn is_symbol(byte: u8) -> bool
@@ -91,7 +94,8 @@ fn digits(bytes: &[u8]) -> usize
 // How many bytes close a text behind its first mark, the mark at its end included, or `None` where it is
 // never closed.
 fn closed_length(mark: u8, bytes: &[u8]) -> Option<usize>
-    ensures { result ≡ closed_length mark bytes.now }
+    ensures value { result ≡ closed_length mark bytes.now }
+    ensures within { IfSome result (λ n. n ≤ length bytes.now) }
 {
     let mut at = 0;
     while at < bytes.len() {
@@ -167,13 +171,20 @@ pub fn front_at(rest: &[u8]) -> Front
     let [byte, after @ ..] = rest else {
         return Front::End;
     };
-    match *byte {
-        byte if is_blank(byte) => Front::Gap(blanks(rest)),
-        byte if begins_comment(byte, after) => Front::Gap(line_length(rest)),
-        byte if is_letter(byte) => Front::Found(Sort::Word, word_length(rest)),
-        byte if is_digit(byte) => number_front(rest),
-        b'"' => quoted_front(after),
-        b'\'' => literal_front(after),
-        byte => symbol_front(byte, after),
+    let byte = *byte;
+    if is_blank(byte) {
+        Front::Gap(blanks(rest))
+    } else if begins_comment(byte, after) {
+        Front::Gap(line_length(rest))
+    } else if is_letter(byte) {
+        Front::Found(Sort::Word, word_length(rest))
+    } else if is_digit(byte) {
+        number_front(rest)
+    } else if byte == b'"' {
+        quoted_front(after)
+    } else if byte == b'\'' {
+        literal_front(after)
+    } else {
+        symbol_front(byte, after)
     }
 }

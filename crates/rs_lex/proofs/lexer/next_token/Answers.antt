@@ -1,4 +1,4 @@
-use Rattle.std.proofs.Common.{◌≡◌, ◌∙◌, ◌+◌, ◌-◌, ◌≤◌, ◌<◌, arith, length, drop, ap, sym, Some, Ok, Err, subst}
+use Rattle.std.proofs.Common.{◌≡◌, ◌∙◌, ◌+◌, ◌-◌, ◌≤◌, ◌<◌, arith, rules, length, drop, ap, sym, Some, Ok, Err, subst}
 use Rattle.rs_lex.specs.Front.{front_of}
 use Rattle.rs_lex.specs.Spelling.{token_or_fault}
 use Rattle.rs_lex.specs.declared.front.Front.TheVariants.{End, Gap}
@@ -40,8 +40,13 @@ token_of-requires c =
     let within = reach-within c.loop-n.at c.args.bytes.now c.front_at.result c.loop-n.invariant.within is in
     record { more = IsMore-other c.front_at.result c.in_default.not-End c.in_default.not-Gap; within = omega (arith, within) }
 
-pub returns-in_err-token_of-in_default : goal.returns-in_err-token_of-in_default
-returns-in_err-token_of-in_default c = let h = c.from_residual.ensures in let k = c.in_err-token_of-in_default in ?
+pub returns-in_err-token_of-in_default-clause-refused : goal.returns-in_err-token_of-in_default-clause-refused
+returns-in_err-token_of-in_default-clause-refused c =
+    let is : c.front_at.result ≡ front_of (drop c.loop-n.at c.args.bytes.now) = c.front_at.ensures ∙ ap front_of (rest_of c.loop-n.at c.args.bytes.now) in
+    let gives : Some (Err c.in_err-token_of-in_default.field-0.0) ≡ token_or_fault c.args.count c.loop-n.at c.front_at.result = c.in_err-token_of-in_default.ensures in
+    let refused = Refuses-fault c.args.count c.args.at c.loop-n.at c.args.bytes.now c.front_at.result c.in_err-token_of-in_default.field-0.0
+        c.requires.few is gives (record { spelled = c.loop-n.invariant.spelled; refused = c.loop-n.invariant.refused }) in
+    search (rules, refused)
 
 pub returns-in_default : goal.returns-in_default
 returns-in_default c =
