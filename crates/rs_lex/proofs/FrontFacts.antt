@@ -1,8 +1,8 @@
 -- What stands at the front, read one byte at a time.
-use Rattle.std.specs.Prelude.{option_map, take_while, IsTrue, IfSome, is_some, not}
+use Rattle.std.specs.Prelude.{option_map, IsTrue, IfSome, is_some, not}
 use Rattle.std.specs.List.{prefix_len, list_all}
 use Rattle.std.specs.Char.{is_ascii_digit}
-use Rattle.std.proofs.Common.{ℕ, zero, ◌≡◌, ◌≢◌, ◌+◌, ◌-◌, ◌<◌, ◌≤◌, ◌&&◌, ◌==◌, Bool, true, false, cond, eqb, nat_le, List, [], ◌∷◌, Option, Some, None, length, get_or, take, drop, suc, drop-cons, refl, sym, ap, ◌∙◌, arith, add-one, if◌then◌else◌}
+use Rattle.std.proofs.Common.{ℕ, zero, ◌≡◌, ◌+◌, ◌-◌, ◌<◌, ◌≤◌, ◌&&◌, Bool, true, false, cond, eqb, nat_le, List, [], ◌∷◌, Option, Some, None, length, get_or, take, drop, suc, drop-cons, refl, sym, ap, ◌∙◌, arith, add-one, if◌then◌else◌}
 use Rattle.std.proofs.lemmas.List.{take_all}
 use Rattle.std.proofs.lemmas.List.Folds.{length-prefix_len}
 use Rattle.rs_value.specs.Number.{number_of, decimal_value, are_digits, greatest_int}

@@ -1,7 +1,6 @@
 -- What stands at the front of a script lies within it, and its bytes spell one list of tokens at most.
-use Rattle.std.proofs.Common.{ℕ, zero, suc, ◌≡◌, ◌+◌, ◌<◌, ◌≤◌, ◌==◌, nat_le, ◌⊎◌, inl, inr, Bool, true, false, not, ◌&&◌, List, [], ◌∷◌, length, take, drop, Option, Some, None, refl, sym, ◌∙◌, ap, subst, arith, rules, cond, if◌then◌else◌, add-one, length-drop, ◌-◌}
-use Rattle.std.specs.Prelude.{option_map, take_while, IfSome, Result, Ok, Err}
-use Rattle.std.proofs.lemmas.List.{length-take}
+use Rattle.std.proofs.Common.{ℕ, suc, ◌≡◌, ◌+◌, ◌<◌, ◌≤◌, ◌==◌, nat_le, ◌⊎◌, inl, inr, Bool, true, false, not, ◌&&◌, List, [], ◌∷◌, length, take, drop, Option, Some, None, refl, sym, arith, cond, if◌then◌else◌, length-drop, ◌-◌}
+use Rattle.std.specs.Prelude.{option_map, take_while, IfSome, Ok, Err}
 use Rattle.std.proofs.lemmas.List.Sums.{take_while-cons}
 use Rattle.std.proofs.Math.Seq.{take-length, drop-drop}
 use Rattle.std.proofs.lemmas.Bool.{eqb-true, leb-true, leb-false}
@@ -11,7 +10,7 @@ use Rattle.rs_lex.specs.Front.{front_of, run_length, closed_length, number_front
 use Rattle.rs_lex.specs.Spelling.{Spells, nothing, Refuses, too_many, bad, open_text, too_wide, most_tokens, token_at, IsMore, InOrder, IsNext, reach, token_or_fault}
 use Rattle.rs_lex.specs.Spelling as spelling
 use Rattle.rs_lex.specs.declared.token.Sort.{Sort}
-use Rattle.rs_lex.specs.declared.token.Sort.TheVariants.{Word, Quoted, Number, Literal, Symbol}
+use Rattle.rs_lex.specs.declared.token.Sort.TheVariants.{Word, Quoted, Number, Symbol}
 use Rattle.rs_lex.specs.declared.token.Token.{Token}
 use Rattle.rs_lex.specs.declared.front.Front.{Front}
 use Rattle.rs_lex.specs.declared.front.Front.TheVariants.{End, Gap, Found, Bad, Open, Wide}
@@ -66,8 +65,8 @@ closed_length-within mark (byte ∷ []) = ClosesWithin-if (byte == mark) 1 (Some
 closed_length-within mark (byte ∷ next ∷ rest) =
     ClosesWithin-if (byte == mark) (length (byte ∷ next ∷ rest)) (if next == mark then option_map (λ n. n + 2) (closed_length mark rest) else Some 1) (option_map (λ n. n + 1) (closed_length mark (next ∷ rest)))
     (ClosesWithin-if (next == mark) (length (byte ∷ next ∷ rest)) (option_map (λ n. n + 2) (closed_length mark rest)) (Some 1)
-      (ClosesWithin-more (length rest) (length (byte ∷ next ∷ rest)) 2 (closed_length mark rest) (omega arith) (closed_length-within mark rest))
-      (omega arith, omega arith))
+    (ClosesWithin-more (length rest) (length (byte ∷ next ∷ rest)) 2 (closed_length mark rest) (omega arith) (closed_length-within mark rest))
+    (omega arith, omega arith))
     (ClosesWithin-more (length (next ∷ rest)) (length (byte ∷ next ∷ rest)) 1 (closed_length mark (next ∷ rest)) (omega arith) (closed_length-within mark (next ∷ rest)))
 
 -- a literal lies within the bytes
@@ -100,8 +99,8 @@ number_front-fits byte rest first =
     let within : run_length is_digit (byte ∷ rest) ≤ length (byte ∷ rest) = run_length-le is_digit (byte ∷ rest) in
     FrontFits-if (nat_le (number_of (take digits (byte ∷ rest))) greatest_int) (if begins is_letter (drop digits (byte ∷ rest)) then Bad digits else Found Number digits) Wide (length (byte ∷ rest))
     (λ _. FrontFits-if (begins is_letter (drop digits (byte ∷ rest))) (Bad digits) (Found Number digits) (length (byte ∷ rest))
-      (λ e. omega (arith, begins-length is_letter (drop digits (byte ∷ rest)) e, length-drop digits (byte ∷ rest)))
-      (λ _. (some, within)))
+    (λ e. omega (arith, begins-length is_letter (drop digits (byte ∷ rest)) e, length-drop digits (byte ∷ rest)))
+    (λ _. (some, within)))
     (λ _. omega arith)
 
 -- a comment doesn't begin with a line feed
@@ -125,16 +124,16 @@ front_of-fits (byte ∷ rest) =
     let word = if is_letter byte then Found Word (run_length is_word_byte (byte ∷ rest)) else number in
     let comment = if begins_comment byte rest then Gap (run_length (λ c. not (c == 10)) (byte ∷ rest)) else word in
     FrontFits-if (is_blank byte) (Gap (run_length is_blank (byte ∷ rest))) comment size
-      (λ e. (run_length-positive is_blank byte rest e, run_length-le is_blank (byte ∷ rest)))
+    (λ e. (run_length-positive is_blank byte rest e, run_length-le is_blank (byte ∷ rest)))
     (λ _. FrontFits-if (begins_comment byte rest) (Gap (run_length (λ c. not (c == 10)) (byte ∷ rest))) word size
-      (λ e. (run_length-positive (λ c. not (c == 10)) byte rest (begins_comment-first byte rest e), run_length-le (λ c. not (c == 10)) (byte ∷ rest)))
+    (λ e. (run_length-positive (λ c. not (c == 10)) byte rest (begins_comment-first byte rest e), run_length-le (λ c. not (c == 10)) (byte ∷ rest)))
     (λ _. FrontFits-if (is_letter byte) (Found Word (run_length is_word_byte (byte ∷ rest))) number size
-      (λ e. (run_length-positive is_word_byte byte rest (rw e refl), run_length-le is_word_byte (byte ∷ rest)))
+    (λ e. (run_length-positive is_word_byte byte rest (rw e refl), run_length-le is_word_byte (byte ∷ rest)))
     (λ _. FrontFits-if (is_digit byte) (number_front (byte ∷ rest)) quoted size (number_front-fits byte rest)
     (λ _. FrontFits-if (byte == quote) (quoted_front (closed_length quote rest)) literal size
-      (λ _. quoted_front-fits (length rest) (closed_length quote rest) (closed_length-within quote rest))
+    (λ _. quoted_front-fits (length rest) (closed_length quote rest) (closed_length-within quote rest))
     (λ _. FrontFits-if (byte == apostrophe) (literal_front (closed_length apostrophe rest)) symbol size
-      (λ _. literal_front-fits (length rest) (closed_length apostrophe rest) (closed_length-within apostrophe rest))
+    (λ _. literal_front-fits (length rest) (closed_length apostrophe rest) (closed_length-within apostrophe rest))
     (λ _. symbol_front-fits byte rest))))))
 
 -- a gap lies within the bytes, and isn't empty
@@ -307,17 +306,17 @@ IsNext-token count from at script (Found sort n) token before within is gives h 
     elim (chosen (nat_le most_tokens count) (Err (TooManyTokens at)) (Ok (token_at at sort n)) (Ok token) choice) [
       | inl many ↦ let e = many.1 in cc
       | inr one ↦
-        let e = one.1 in
-        let same : token_at at sort n ≡ token = cc in
-        let room : count < most_tokens = leb-false most_tokens count one.0 in
-        let size = front_of-found (drop at script) sort n (sym is) in
-        rw (← same) (record {
-          some = omega (arith, size.0);
-          within = omega (arith, size.1, length-drop at script);
-          few = room;
-          spelled = λ tokens k. h.spelled (token_at at sort n ∷ tokens) (spelling.Spells.takes at n sort (drop at script) tokens (sym is) (rw behind at k));
-          refused = λ fault k. h.refused fault (spelling.Refuses.takes count at n sort (drop at script) fault room (sym is) (rw behind at k));
-        })
+          let e = one.1 in
+          let same : token_at at sort n ≡ token = cc in
+          let room : count < most_tokens = leb-false most_tokens count one.0 in
+          let size = front_of-found (drop at script) sort n (sym is) in
+          rw (← same) (record {
+            some = omega (arith, size.0);
+            within = omega (arith, size.1, length-drop at script);
+            few = room;
+            spelled = λ tokens k. h.spelled (token_at at sort n ∷ tokens) (spelling.Spells.takes at n sort (drop at script) tokens (sym is) (rw behind at k));
+            refused = λ fault k. h.refused fault (spelling.Refuses.takes count at n sort (drop at script) fault room (sym is) (rw behind at k));
+          })
     ]
 IsNext-token count from at script (Bad n) token before within is gives h = cc
 IsNext-token count from at script Open token before within is gives h = cc
@@ -329,8 +328,8 @@ refused_by : (count at : ℕ) (bytes : List ℕ) (x fault : LexFault) → count 
 refused_by count at bytes x fault few more other e =
     elim (chosen (nat_le most_tokens count) (TooManyTokens at) x fault e) [
       | inl many ↦
-        let full : count ≡ most_tokens = omega (arith, leb-true most_tokens count many.0) in
-        rw (← many.1, full) (too_many at bytes more)
+          let full : count ≡ most_tokens = omega (arith, leb-true most_tokens count many.0) in
+          rw (← many.1, full) (too_many at bytes more)
       | inr one ↦ rw (← one.1) (other (leb-false most_tokens count one.0))
     ]
 
@@ -343,10 +342,10 @@ Refuses-fault count from at script (Found sort n) fault few is gives h =
     let choice : (if nat_le most_tokens count then Err (TooManyTokens at) else Ok (token_at at sort n)) ≡ Err fault = cc in
     elim (chosen (nat_le most_tokens count) (Err (TooManyTokens at)) (Ok (token_at at sort n)) (Err fault) choice) [
       | inl many ↦
-        let e = many.1 in
-        let same : TooManyTokens at ≡ fault = cc in
-        let full : count ≡ most_tokens = omega (arith, leb-true most_tokens count many.0) in
-        h.refused fault (rw (← same, full) (too_many at (drop at script) (rw (← is) tt)))
+          let e = many.1 in
+          let same : TooManyTokens at ≡ fault = cc in
+          let full : count ≡ most_tokens = omega (arith, leb-true most_tokens count many.0) in
+          h.refused fault (rw (← same, full) (too_many at (drop at script) (rw (← is) tt)))
       | inr one ↦ let e = one.1 in cc
     ]
 Refuses-fault count from at script (Bad n) fault few is gives h =

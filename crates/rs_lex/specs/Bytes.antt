@@ -1,5 +1,5 @@
 -- Bytes of a script, by what they may be part of.
-use Rattle.std.specs.Prelude.{ℕ, ◌==◌, ◌&&◌, ◌||◌, nat_le, Bool, true, false, List, [], ◌∷◌}
+use Rattle.std.specs.Prelude.{ℕ, ◌==◌, ◌&&◌, ◌||◌, nat_le, Bool, false, List, [], ◌∷◌}
 
 -- whether a byte lies between two others
 abbrev pub is_from : ℕ → ℕ → ℕ → Bool

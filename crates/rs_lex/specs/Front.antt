@@ -1,8 +1,7 @@
 -- What stands at the front of the rest of a script.
-use Rattle.std.specs.Prelude.{ℕ, suc, ◌+◌, ◌==◌, ◌&&◌, ◌||◌, nat_le, Bool, true, false, not, List, [], ◌∷◌, length, take, drop, take_while, Option, Some, None, option_map, if◌then◌else◌}
+use Rattle.std.specs.Prelude.{ℕ, ◌+◌, ◌==◌, ◌&&◌, ◌||◌, nat_le, Bool, not, List, [], ◌∷◌, length, take, drop, take_while, Option, Some, None, option_map, if◌then◌else◌}
 use Rattle.rs_value.specs.Number.{number_of, greatest_int}
 use Rattle.rs_lex.specs.Bytes.{is_letter, is_digit, is_word_byte, is_blank, begins, quote, apostrophe}
-use Rattle.rs_lex.specs.declared.token.Sort.{Sort}
 use Rattle.rs_lex.specs.declared.token.Sort.TheVariants.{Word, Quoted, Number, Literal, Symbol}
 use Rattle.rs_lex.specs.declared.front.Front.{Front}
 use Rattle.rs_lex.specs.declared.front.Front.TheVariants.{End, Gap, Found, Bad, Open, Wide}
@@ -25,7 +24,7 @@ abbrev pub number_front : List ℕ → Front
 number_front bytes =
     let digits = run_length is_digit bytes in
     if nat_le (number_of (take digits bytes)) greatest_int then
-      (if begins is_letter (drop digits bytes) then Bad digits else Found Number digits)
+    (if begins is_letter (drop digits bytes) then Bad digits else Found Number digits)
     else Wide
 
 -- a text between marks, behind the first one

@@ -1,5 +1,5 @@
 -- The tokens that a script spells, and the place at which it spells none.
-use Rattle.std.specs.Prelude.{ℕ, suc, ◌≡◌, ◌≢◌, ◌+◌, ◌<◌, ◌≤◌, nat_le, List, [], ◌∷◌, length, drop, Option, Some, None, Result, Ok, Err, if◌then◌else◌}
+use Rattle.std.specs.Prelude.{ℕ, ◌≡◌, ◌+◌, ◌<◌, ◌≤◌, nat_le, List, [], ◌∷◌, length, drop, Option, Some, None, Result, Ok, Err, if◌then◌else◌}
 use Rattle.rs_lex.specs.Front.{front_of}
 use Rattle.rs_lex.specs.declared.token.Sort.{Sort}
 use Rattle.rs_lex.specs.declared.token.Token.{Token}
@@ -22,7 +22,7 @@ pub data Spells : ℕ → List ℕ → List Token → Type 0 where
   nothing : (at : ℕ) (bytes : List ℕ) → front_of bytes ≡ End → Spells at bytes []
   passes : (at n : ℕ) (bytes : List ℕ) (tokens : List Token) → front_of bytes ≡ Gap n → Spells (at + n) (drop n bytes) tokens → Spells at bytes tokens
   takes : (at n : ℕ) (sort : Sort) (bytes : List ℕ) (tokens : List Token) → front_of bytes ≡ Found sort n → Spells (at + n) (drop n bytes) tokens
-    → Spells at bytes (token_at at sort n ∷ tokens)
+      → Spells at bytes (token_at at sort n ∷ tokens)
 
 -- a front that is no gap and not the end
 abbrev pub IsMore : Front → Type 0
@@ -37,7 +37,7 @@ IsMore Wide = Unit {0}
 pub data Refuses : ℕ → ℕ → List ℕ → LexFault → Type 0 where
   passes : (count at n : ℕ) (bytes : List ℕ) (fault : LexFault) → front_of bytes ≡ Gap n → Refuses count (at + n) (drop n bytes) fault → Refuses count at bytes fault
   takes : (count at n : ℕ) (sort : Sort) (bytes : List ℕ) (fault : LexFault) → count < most_tokens → front_of bytes ≡ Found sort n
-    → Refuses (count + 1) (at + n) (drop n bytes) fault → Refuses count at bytes fault
+      → Refuses (count + 1) (at + n) (drop n bytes) fault → Refuses count at bytes fault
   too_many : (at : ℕ) (bytes : List ℕ) → IsMore (front_of bytes) → Refuses most_tokens at bytes (TooManyTokens at)
   bad : (count at n : ℕ) (bytes : List ℕ) → count < most_tokens → front_of bytes ≡ Bad n → Refuses count at bytes (BadByte (at + n))
   open_text : (count at : ℕ) (bytes : List ℕ) → count < most_tokens → front_of bytes ≡ Open → Refuses count at bytes (OpenText at)

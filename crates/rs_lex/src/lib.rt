@@ -4,6 +4,8 @@
 mod fault;
 mod front;
 mod lexer;
+#[cfg(test)]
+mod tests;
 mod token;
 
 pub use fault::LexFault;

@@ -1,7 +1,7 @@
-use Rattle.std.proofs.Common.{◌≡◌, ◌∙◌, ◌+◌, ◌-◌, ◌≤◌, ◌<◌, arith, rules, length, drop, ap, sym, Some, Ok, Err, subst}
+use Rattle.std.proofs.Common.{◌≡◌, ◌∙◌, ◌+◌, ◌≤◌, arith, rules, length, drop, ap, sym, Some, Ok, Err}
 use Rattle.rs_lex.specs.Front.{front_of}
 use Rattle.rs_lex.specs.Spelling.{token_or_fault}
-use Rattle.rs_lex.specs.declared.front.Front.TheVariants.{End, Gap}
+use Rattle.rs_lex.specs.declared.front.Front.TheVariants.{Gap}
 use Rattle.rs_lex.proofs.SpellingFacts.{rest_of, front_of-gap, reach-within, Reaches-gap, Spells-end, IsNext-token, IsMore-other, Refuses-fault}
 use Rattle.rs_lex.proofs.lexer.next_token.Goals as goal
 
@@ -26,7 +26,7 @@ pub loop-n-preserved : goal.loop-n-preserved
 loop-n-preserved c =
     let is : Gap c.in-Gap.n ≡ front_of (drop c.loop-n.at c.args.bytes.now) = c.in-Gap.ensures ∙ ap front_of (rest_of c.loop-n.at c.args.bytes.now) in
     let further = Reaches-gap c.args.count c.args.at c.loop-n.at c.in-Gap.n c.args.bytes.now is
-        (record { spelled = c.loop-n.invariant.spelled; refused = c.loop-n.invariant.refused }) in
+    (record { spelled = c.loop-n.invariant.spelled; refused = c.loop-n.invariant.refused }) in
     record {
       within = reach-within c.loop-n.at c.args.bytes.now (Gap c.in-Gap.n) c.loop-n.invariant.within is;
       from = omega arith;
@@ -45,7 +45,7 @@ returns-in_err-token_of-in_default-clause-refused c =
     let is : c.front_at.result ≡ front_of (drop c.loop-n.at c.args.bytes.now) = c.front_at.ensures ∙ ap front_of (rest_of c.loop-n.at c.args.bytes.now) in
     let gives : Some (Err c.in_err-token_of-in_default.field-0.0) ≡ token_or_fault c.args.count c.loop-n.at c.front_at.result = c.in_err-token_of-in_default.ensures in
     let refused = Refuses-fault c.args.count c.args.at c.loop-n.at c.args.bytes.now c.front_at.result c.in_err-token_of-in_default.field-0.0
-        c.requires.few is gives (record { spelled = c.loop-n.invariant.spelled; refused = c.loop-n.invariant.refused }) in
+    c.requires.few is gives (record { spelled = c.loop-n.invariant.spelled; refused = c.loop-n.invariant.refused }) in
     search (rules, refused)
 
 pub returns-in_default : goal.returns-in_default
@@ -54,6 +54,6 @@ returns-in_default c =
     let gives : Some (Ok c.in_ok-token_of-in_default.field-0) ≡ token_or_fault c.args.count c.loop-n.at c.front_at.result = c.in_ok-token_of-in_default.ensures in
     record {
       next = IsNext-token c.args.count c.args.at c.loop-n.at c.args.bytes.now c.front_at.result c.in_ok-token_of-in_default.field-0
-        c.loop-n.invariant.from c.loop-n.invariant.within is gives (record { spelled = c.loop-n.invariant.spelled; refused = c.loop-n.invariant.refused });
+          c.loop-n.invariant.from c.loop-n.invariant.within is gives (record { spelled = c.loop-n.invariant.spelled; refused = c.loop-n.invariant.refused });
       refused = tt;
     }

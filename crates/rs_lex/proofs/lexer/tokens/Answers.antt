@@ -1,8 +1,6 @@
-use Rattle.std.proofs.Common.{◌≡◌, ◌∙◌, ◌++◌, ◌≤◌, [], List, Option, Some, None, length, drop, sym, inl, inr, refl, arith, rules, append-nil, zero-add}
-use Rattle.std.specs.Prelude.{Result, Ok, Err, MatchResult}
-use Rattle.rs_lex.specs.Spelling.{Spells, Refuses, InOrder}
-use Rattle.rs_lex.specs.declared.fault.LexFault.{LexFault}
-use Rattle.rs_lex.specs.declared.token.Token.{Token}
+use Rattle.std.proofs.Common.{◌≡◌, length, drop, inl, arith, rules, zero-add}
+use Rattle.std.specs.Prelude.{Err}
+use Rattle.rs_lex.specs.Spelling.{Spells, Refuses}
 use Rattle.rs_lex.proofs.SpellingFacts.{Spells-unique, Refuses-unique, Spells-not_refused, InOrder-spelled}
 use Rattle.rs_lex.proofs.lexer.tokens.Goals as goal
 
@@ -17,8 +15,8 @@ returns-in_err-token-clause-exact c =
     let behind : Refuses (length c.loop-made.made.items) c.loop-made.at (drop c.loop-made.at c.bytes-bytes.result.now) c.in_err-token.field-0.0 = search rules in
     let refused : Refuses 0 0 c.args.script.now c.in_err-token.field-0.0 = rw (← c.bytes-bytes.ensures.value) (c.loop-made.invariant.refused c.in_err-token.field-0.0 behind) in
     λ fault h. let same : c.in_err-token.field-0.0 ≡ fault = Refuses-unique 0 0 c.args.script.now c.in_err-token.field-0.0 fault refused h in
-      let is : c.from_residual.result ≡ Err c.in_err-token.field-0.0 = search rules in
-      rw (← same) (inl is)
+    let is : c.from_residual.result ≡ Err c.in_err-token.field-0.0 = search rules in
+    rw (← same) (inl is)
 
 pub returns-clause-ordered : goal.returns-clause-ordered
 returns-clause-ordered c =

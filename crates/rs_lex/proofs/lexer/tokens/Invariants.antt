@@ -1,4 +1,4 @@
-use Rattle.std.proofs.Common.{◌≡◌, ◌-◌, ◌≤◌, ◌++◌, List, length, drop}
+use Rattle.std.proofs.Common.{◌-◌, ◌≤◌, ◌++◌, List, length, drop}
 use Rattle.rs_lex.specs.Spelling.{Spells, Refuses}
 use Rattle.rs_lex.specs.declared.token.Token.{Token}
 use Rattle.rs_lex.specs.declared.fault.LexFault.{LexFault}
