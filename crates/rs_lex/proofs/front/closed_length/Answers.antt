@@ -1,4 +1,4 @@
-use Rattle.std.proofs.Common.{arith, ◌∙◌}
+use Rattle.std.proofs.Common.{◌∙◌}
 use Rattle.std.proofs.lemmas.Bool.{ne_eqb, eq-eqb}
 use Rattle.rs_lex.proofs.FrontFacts.{closed_from-other, closed_from-doubled}
 use Rattle.rs_lex.proofs.front.closed_length.Goals as goal
