@@ -22,7 +22,7 @@ pub enum Front {
     Wide,
 }
 
-// Whether a word may begin with this byte.
+/// Whether a word may begin with this byte.
 fn is_letter(byte: u8) -> bool
     ensures { result ≡ is_letter byte }
 {
@@ -65,14 +65,14 @@ fn is_symbol(byte: u8) -> bool
     )
 }
 
-// How many blanks stand at the front.
+/// How many blanks stand at the front.
 fn blanks(bytes: &[u8]) -> usize
     ensures { result ≡ run_length is_blank bytes.now }
 {
     bytes.iter().take_while(|byte| is_blank(**byte)).count()
 }
 
-// How many bytes stand in front of the next line feed, or of the end.
+/// How many bytes stand in front of the next line feed, or of the end.
 fn line_length(bytes: &[u8]) -> usize
     ensures { result ≡ run_length (λ c. not (c == 10)) bytes.now }
 {
@@ -91,8 +91,8 @@ fn digits(bytes: &[u8]) -> usize
     bytes.iter().take_while(|byte| is_digit(**byte)).count()
 }
 
-// How many bytes close a text behind its first mark, the mark at its end included, or `None` where it is
-// never closed.
+/// How many bytes close a text behind its first mark, the mark at its end included, or `None` where it is
+/// never closed.
 fn closed_length(mark: u8, bytes: &[u8]) -> Option<usize>
     ensures value { result ≡ closed_length mark bytes.now }
     ensures within { IfSome result (λ n. n ≤ length bytes.now) }
@@ -110,7 +110,7 @@ fn closed_length(mark: u8, bytes: &[u8]) -> Option<usize>
     None
 }
 
-// A number at the front, which begins with a digit.
+/// A number at the front, which begins with a digit.
 fn number_front(bytes: &[u8]) -> Front
     requires { IsTrue (begins is_digit bytes.now) }
     ensures { result ≡ number_front bytes.now }
@@ -125,7 +125,7 @@ fn number_front(bytes: &[u8]) -> Front
     }
 }
 
-// A name between marks, behind the first one.
+/// A name between marks, behind the first one.
 fn quoted_front(after: &[u8]) -> Front
     ensures { result ≡ quoted_front (closed_length quote after.now) }
 {
@@ -136,7 +136,7 @@ fn quoted_front(after: &[u8]) -> Front
     }
 }
 
-// A text between marks, behind the first one.
+/// A text between marks, behind the first one.
 fn literal_front(after: &[u8]) -> Front
     ensures { result ≡ literal_front (closed_length apostrophe after.now) }
 {
@@ -156,7 +156,7 @@ fn symbol_front(byte: u8, after: &[u8]) -> Front
     }
 }
 
-// Whether a comment begins with this byte.
+/// Whether a comment begins with this byte.
 fn begins_comment(byte: u8, after: &[u8]) -> bool
     ensures { result ≡ begins_comment byte after.now }
 {
