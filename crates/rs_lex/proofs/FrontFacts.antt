@@ -1,5 +1,5 @@
 -- What stands at the front, read one byte at a time.
-use Rattle.std.specs.Prelude.{option_map, IsTrue, IfSome, is_some, not}
+use Rattle.std.specs.Prelude.{option_map, IsTrue, is_some, not}
 use Rattle.std.specs.List.{prefix_len, list_all}
 use Rattle.std.specs.Char.{is_ascii_digit}
 use Rattle.std.proofs.Common.{ℕ, zero, ◌≡◌, ◌+◌, ◌-◌, ◌<◌, ◌≤◌, ◌&&◌, Bool, true, false, cond, eqb, nat_le, List, [], ◌∷◌, Option, Some, None, length, get_or, take, drop, suc, drop-cons, refl, sym, ap, ◌∙◌, arith, add-one, if◌then◌else◌}
@@ -21,37 +21,6 @@ map_adds : (a b : ℕ) (o : Option ℕ) → option_map (λ n. n + b) (option_map
 map_adds a b None = refl
 map_adds a b (Some n) = ap Some (omega arith)
 
-map_zero : (o : Option ℕ) → option_map (λ n. n + 0) o ≡ o
-map_zero None = refl
-map_zero (Some n) = ap Some (omega arith)
-
--- no byte is read at the start
-pub closed_from-start : (mark : ℕ) (bytes : List ℕ) → closed_from mark 0 bytes ≡ closed_length mark bytes
-closed_from-start mark bytes = map_zero (closed_length mark bytes)
-
--- the mark that closes a text is one of its bytes
-within_more : (n most : ℕ) (o : Option ℕ) → IfSome o (λ length. length ≤ most) → IfSome (option_map (λ length. length + n) o) (λ length. length ≤ most + n)
-within_more n most None h = tt
-within_more n most (Some length) h = omega arith
-
-within_two : (again : Bool) (o : Option ℕ) (most : ℕ) → IfSome o (λ length. length ≤ most + 2) → IfSome (if again then o else Some 1) (λ length. length ≤ most + 2)
-within_two true o most h = h
-within_two false o most h = omega arith
-
-within_either : (marked : Bool) (o p : Option ℕ) (most : ℕ) → IfSome o (λ length. length ≤ most) → IfSome p (λ length. length ≤ most) → IfSome (if marked then o else p) (λ length. length ≤ most)
-within_either true o p most h i = h
-within_either false o p most h i = i
-
-pub closed_length-le : (mark : ℕ) (bytes : List ℕ) → IfSome (closed_length mark bytes) (λ n. n ≤ length bytes)
-closed_length-le mark [] = tt
-closed_length-le mark (byte ∷ []) = within_either (eqb byte mark) (Some 1) None 1 (omega arith) tt
-closed_length-le mark (byte ∷ next ∷ rest) =
-    let two : length (byte ∷ next ∷ rest) ≡ length rest + 2 = omega arith in
-    let one : length (byte ∷ next ∷ rest) ≡ length (next ∷ rest) + 1 = omega arith in
-    within_either (eqb byte mark) (if eqb next mark then option_map (λ n. n + 2) (closed_length mark rest) else Some 1) (option_map (λ n. n + 1) (closed_length mark (next ∷ rest))) (length (byte ∷ next ∷ rest))
-    (rw two (within_two (eqb next mark) (option_map (λ n. n + 2) (closed_length mark rest)) (length rest) (within_more 2 (length rest) (closed_length mark rest) (closed_length-le mark rest))))
-    (rw one (within_more 1 (length (next ∷ rest)) (closed_length mark (next ∷ rest)) (closed_length-le mark (next ∷ rest))))
-
 -- a byte that is no mark is counted
 closed_length-other : (mark byte : ℕ) (rest : List ℕ) → eqb byte mark ≡ false → closed_length mark (byte ∷ rest) ≡ option_map (λ n. n + 1) (closed_length mark rest)
 closed_length-other mark byte [] e = rw e refl
@@ -61,13 +30,6 @@ closed_length-other mark byte (next ∷ rest) e = rw e refl
 closed_length-doubled : (mark byte next : ℕ) (rest : List ℕ) → eqb byte mark ≡ true → eqb next mark ≡ true → closed_length mark (byte ∷ next ∷ rest) ≡ option_map (λ n. n + 2) (closed_length mark rest)
 closed_length-doubled mark byte next rest e f = rw (e, f) refl
 
--- a mark that no second one follows closes
-closed_length-closed : (mark byte next : ℕ) (rest : List ℕ) → eqb byte mark ≡ true → eqb next mark ≡ false → closed_length mark (byte ∷ next ∷ rest) ≡ Some 1
-closed_length-closed mark byte next rest e f = rw (e, f) refl
-
-closed_length-last : (mark byte : ℕ) → eqb byte mark ≡ true → closed_length mark (byte ∷ []) ≡ Some 1
-closed_length-last mark byte e = rw e refl
-
 -- the rest of a list, by its first items
 drop-two_suc : (bytes : List ℕ) (at : ℕ) → suc at < length bytes → drop at bytes ≡ get_or bytes at 0 ∷ get_or bytes (suc at) 0 ∷ drop (suc (suc at)) bytes
 drop-two_suc (a ∷ b ∷ rest) zero h = refl
@@ -76,17 +38,12 @@ drop-two_suc [] zero h = absurd (omega arith)
 drop-two_suc [] (suc at) h = absurd (omega arith)
 drop-two_suc (a ∷ rest) (suc at) h = drop-two_suc rest at (omega arith)
 
+-- the same, with the places as the code has them
 drop-two : (bytes : List ℕ) (at : ℕ) → at + 1 < length bytes → drop at bytes ≡ get_or bytes at 0 ∷ get_or bytes (at + 1) 0 ∷ drop (at + 2) bytes
 drop-two bytes at h =
     let one : at + 1 ≡ suc at = omega arith in
     let two : at + 2 ≡ suc (suc at) = omega arith in
     rw (one, two) (drop-two_suc bytes at (omega arith))
-
-drop-last : (bytes : List ℕ) (at : ℕ) → at < length bytes → length bytes ≤ at + 1 → drop at bytes ≡ get_or bytes at 0 ∷ []
-drop-last [] at h l = absurd (omega arith)
-drop-last (a ∷ []) zero h l = refl
-drop-last (a ∷ b ∷ rest) zero h l = absurd (omega arith)
-drop-last (a ∷ rest) (suc at) h l = drop-last rest at (omega arith) (omega arith)
 
 -- each turn of the loop
 pub closed_from-other : (mark at : ℕ) (bytes : List ℕ) → at < length bytes → eqb (get_or bytes at 0) mark ≡ false → closed_from mark (at + 1) bytes ≡ closed_from mark at bytes
@@ -95,6 +52,7 @@ closed_from-other mark at bytes h e =
     let one = closed_length-other mark (get_or bytes at 0) (drop (suc at) bytes) e in
     rw (split, one, map_adds 1 at (closed_length mark (drop (suc at) bytes)), add-one) refl
 
+-- a turn that passes a doubled mark
 pub closed_from-doubled : (mark at : ℕ) (bytes : List ℕ) → at + 1 < length bytes → eqb (get_or bytes at 0) mark ≡ true → eqb (get_or bytes (at + 1) 0) mark ≡ true
     → closed_from mark (at + 2) bytes ≡ closed_from mark at bytes
 closed_from-doubled mark at bytes h e f =
@@ -102,15 +60,7 @@ closed_from-doubled mark at bytes h e f =
     let two = closed_length-doubled mark (get_or bytes at 0) (get_or bytes (at + 1) 0) (drop (at + 2) bytes) e f in
     sym (ap (λ o. option_map (λ n. n + at) o) (ap (λ b. closed_length mark b) split ∙ two) ∙ map_adds 2 at (closed_length mark (drop (at + 2) bytes)))
 
-pub closed_from-closed : (mark at : ℕ) (bytes : List ℕ) → at + 1 < length bytes → eqb (get_or bytes at 0) mark ≡ true → eqb (get_or bytes (at + 1) 0) mark ≡ false
-    → closed_from mark at bytes ≡ Some (at + 1)
-closed_from-closed mark at bytes h e f =
-    ap (λ o. option_map (λ n. n + at) o) (ap (λ b. closed_length mark b) (drop-two bytes at h) ∙ closed_length-closed mark (get_or bytes at 0) (get_or bytes (at + 1) 0) (drop (at + 2) bytes) e f) ∙ ap Some (omega arith)
-
-pub closed_from-last : (mark at : ℕ) (bytes : List ℕ) → at < length bytes → length bytes ≤ at + 1 → eqb (get_or bytes at 0) mark ≡ true → closed_from mark at bytes ≡ Some (at + 1)
-closed_from-last mark at bytes h l e =
-    ap (λ o. option_map (λ n. n + at) o) (ap (λ b. closed_length mark b) (drop-last bytes at h l) ∙ closed_length-last mark (get_or bytes at 0) e) ∙ ap Some (omega arith)
-
+-- two tests that pass
 both_true : (a b : Bool) → a ≡ true → b ≡ true → (a && b) ≡ true
 both_true a b e f = rw (e, f) refl
 
@@ -135,6 +85,7 @@ are_digits-all : (digits : List ℕ) → 0 < length digits → list_all is_ascii
 are_digits-all [] h e = absurd (omega arith)
 are_digits-all (digit ∷ rest) h e = e
 
+-- an item that passes is counted
 counts_one : (b : Bool) (n : ℕ) → IsTrue b → 0 < cond b (1 + n) 0
 counts_one true n h = omega arith
 counts_one false n h = absurd (cc)
@@ -154,27 +105,18 @@ too_wide : (fits : Bool) (n : ℕ) (front : Front) → (if fits then Some n else
 too_wide true n front e = cc
 too_wide false n front e = refl
 
+-- digits without a value are a number that is too great
 pub number_front-wide : (bytes : List ℕ) → IsTrue (begins is_digit bytes) → decimal_value greatest_int (take (run_length is_digit bytes) bytes) ≡ None → Wide ≡ number_front bytes
 number_front-wide bytes h e =
     too_wide (nat_le (number_of (take (run_length is_digit bytes) bytes)) greatest_int) (number_of (take (run_length is_digit bytes) bytes))
     (if begins is_letter (drop (run_length is_digit bytes) bytes) then Bad (run_length is_digit bytes) else Found Number (run_length is_digit bytes))
     (sym (value_of_run greatest_int bytes h) ∙ e)
 
-fits_well : (fits : Bool) (n : ℕ) (front : Front) → is_some (if fits then Some n else None) ≡ true → (if fits then front else Wide) ≡ front
-fits_well true n front e = refl
-fits_well false n front e = absurd (cc)
-
-pub number_front-fits : (bytes : List ℕ) → IsTrue (begins is_digit bytes) → is_some (decimal_value greatest_int (take (run_length is_digit bytes) bytes)) ≡ true
-    → number_front bytes ≡ (if begins is_letter (drop (run_length is_digit bytes) bytes) then Bad (run_length is_digit bytes) else Found Number (run_length is_digit bytes))
-number_front-fits bytes h e =
-    fits_well (nat_le (number_of (take (run_length is_digit bytes) bytes)) greatest_int) (number_of (take (run_length is_digit bytes) bytes))
-    (if begins is_letter (drop (run_length is_digit bytes) bytes) then Bad (run_length is_digit bytes) else Found Number (run_length is_digit bytes))
-    (ap (λ o. is_some o) (sym (value_of_run greatest_int bytes h)) ∙ e)
-
 -- one branch of a choice
 taken : (b : Bool) (x y : Front) → b ≡ true → (if b then x else y) ≡ x
 taken b x y e = rw e refl
 
+-- a branch that isn't taken
 passed : (b : Bool) (x y z : Front) → b ≡ false → y ≡ z → (if b then x else y) ≡ z
 passed b x y z e h = rw (e, h) refl
 
@@ -182,6 +124,7 @@ passed b x y z e h = rw (e, h) refl
 abbrev pub behind : List ℕ → List ℕ
 behind bytes = take (length bytes - 1) (drop 1 bytes)
 
+-- it is the tail, wherever it stands
 behind_is : {X : Type 0} (of : List ℕ → X) (byte : ℕ) (rest : List ℕ) → of rest ≡ of (behind (byte ∷ rest))
 behind_is of byte rest = ap of (sym (take_all (length (byte ∷ rest) - 1) rest (omega arith)))
 
@@ -195,41 +138,49 @@ unfolding front_of
 front_of-end [] h = refl
 front_of-end (byte ∷ rest) h = absurd (omega arith)
 
+-- blanks
 pub front_of-blank : (bytes : List ℕ) → 1 ≤ length bytes → is_blank (get_or bytes 0 0) ≡ true → front_of bytes ≡ Gap (run_length is_blank bytes)
 unfolding front_of
 front_of-blank [] h e = absurd (omega arith)
 front_of-blank (byte ∷ rest) h e = taken (is_blank byte) _ _ e
 
+-- a comment
 pub front_of-comment : (bytes : List ℕ) → 1 ≤ length bytes → is_blank (get_or bytes 0 0) ≡ false → begins_comment (get_or bytes 0 0) (behind bytes) ≡ true
     → front_of bytes ≡ Gap (run_length (λ c. not (eqb c 10)) bytes)
 unfolding front_of
 front_of-comment [] h e f = absurd (omega arith)
 front_of-comment (byte ∷ rest) h e f = passed (is_blank byte) _ _ _ e (taken (begins_comment byte rest) _ _ (behind_is (λ after. begins_comment byte after) byte rest ∙ f))
 
+-- a word
 pub front_of-word : (bytes : List ℕ) → 1 ≤ length bytes → is_blank (get_or bytes 0 0) ≡ false → begins_comment (get_or bytes 0 0) (behind bytes) ≡ false
     → is_letter (get_or bytes 0 0) ≡ true → front_of bytes ≡ Found Word (run_length is_word_byte bytes)
 unfolding front_of
 front_of-word [] h e f g = absurd (omega arith)
 front_of-word (byte ∷ rest) h e f g = passed (is_blank byte) _ _ _ e (passed (begins_comment byte rest) _ _ _ (behind_is (λ after. begins_comment byte after) byte rest ∙ f) (taken (is_letter byte) _ _ g))
 
+-- a number
 pub front_of-number : (bytes : List ℕ) → 1 ≤ length bytes → is_blank (get_or bytes 0 0) ≡ false → begins_comment (get_or bytes 0 0) (behind bytes) ≡ false
     → is_letter (get_or bytes 0 0) ≡ false → is_digit (get_or bytes 0 0) ≡ true → front_of bytes ≡ number_front bytes
 unfolding front_of
 front_of-number [] h e f g i = absurd (omega arith)
 front_of-number (byte ∷ rest) h e f g i = passed (is_blank byte) _ _ _ e (passed (begins_comment byte rest) _ _ _ (behind_is (λ after. begins_comment byte after) byte rest ∙ f) (passed (is_letter byte) _ _ _ g (taken (is_digit byte) _ _ i)))
 
+-- a text, a name between marks or a symbol
 pub front_of-marked : (bytes : List ℕ) → 1 ≤ length bytes → is_blank (get_or bytes 0 0) ≡ false → begins_comment (get_or bytes 0 0) (behind bytes) ≡ false
     → is_letter (get_or bytes 0 0) ≡ false → is_digit (get_or bytes 0 0) ≡ false → front_of bytes ≡ marked (get_or bytes 0 0) (behind bytes)
 unfolding front_of
 front_of-marked [] h e f g i = absurd (omega arith)
 front_of-marked (byte ∷ rest) h e f g i = passed (is_blank byte) _ _ _ e (passed (begins_comment byte rest) _ _ _ (behind_is (λ after. begins_comment byte after) byte rest ∙ f) (passed (is_letter byte) _ _ _ g (passed (is_digit byte) _ _ _ i (behind_is (λ after. marked byte after) byte rest))))
 
+-- a name between marks
 pub marked-quoted : (byte : ℕ) (rest : List ℕ) → byte ≡ 34 → marked byte rest ≡ quoted_front (closed_length quote rest)
 marked-quoted byte rest e = rw e refl
 
+-- a text
 pub marked-literal : (byte : ℕ) (rest : List ℕ) → byte ≡ 39 → marked byte rest ≡ literal_front (closed_length apostrophe rest)
 marked-literal byte rest e = rw e refl
 
+-- a symbol
 pub marked-symbol : (byte : ℕ) (rest : List ℕ) → eqb byte 34 ≡ false → eqb byte 39 ≡ false → marked byte rest ≡ symbol_front byte rest
 marked-symbol byte rest e f = passed (eqb byte quote) _ _ _ e (passed (eqb byte apostrophe) _ _ _ f refl)
 
