@@ -1,3 +1,4 @@
 pub mod FrontFacts
 pub mod SpellingFacts
 pub mod WorkedFront
+mod WorkedSpelling
