@@ -1,0 +1,8 @@
+//! The words of the language and its grammar.
+#![tactic(auto)]
+
+mod kind;
+mod lexeme;
+
+pub use kind::Kind;
+pub use lexeme::Lexeme;
