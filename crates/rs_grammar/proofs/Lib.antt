@@ -1,2 +1,0 @@
-pub mod Predict
-pub mod Derivation

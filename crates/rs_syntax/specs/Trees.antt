@@ -1,0 +1,95 @@
+-- Parts of a tree of derivation, and their places. The parts of a rule count from 0, as they stand in its text.
+use Rattle.std.specs.Prelude.{ℕ, zero, suc, ℤ, pos, Bool, true, false, List, [], ◌∷◌, map, Option, Some, None}
+use Rattle.rs_grammar.specs.Kinds.{accepts}
+use Rattle.rs_grammar.specs.Grammar.{Tree, Leaf, Pair, This, More, Node, yield}
+use Rattle.rs_grammar.specs.declared.kind.Kind.{Kind}
+use Rattle.rs_grammar.specs.declared.kind.Kind.TheVariants.{Foreign}
+use Rattle.rs_grammar.specs.declared.lexeme.Lexeme.{Lexeme}
+use Rattle.rs_lex.specs.declared.token.Span.{Span}
+use Rattle.rs_syntax.specs.declared.name.Name.{Name}
+use Rattle.rs_syntax.specs.declared.name.ColRef.{ColRef}
+
+-- where the first of these tokens starts, and where the last one ends
+abbrev pub start_of : List Lexeme → ℕ
+start_of [] = 0
+start_of (l ∷ ls) = l.at.start
+
+abbrev pub end_after : ℕ → List Lexeme → ℕ
+end_after last [] = last
+end_after last (l ∷ ls) = end_after l.at.end ls
+
+-- where a tree starts and ends
+unfoldable pub starts_at : Tree → ℕ
+starts_at t = start_of (yield t)
+
+unfoldable pub ends_at : Tree → ℕ
+ends_at t = end_after 0 (yield t)
+
+-- from one place to another
+abbrev pub span : ℕ → ℕ → Span
+span from to = record { start = from; end = to }
+
+abbrev pub span_of : Tree → Span
+span_of t = span (starts_at t) (ends_at t)
+
+-- the token of a tree that is one token
+abbrev pub leaf : Tree → Lexeme
+leaf (Leaf l) = l
+leaf _ = record { kind = Foreign; text = []; number = pos 0; at = record { start = 0; end = 0 } }
+
+-- a part of a sequence
+abbrev pub part : ℕ → Tree → Tree
+part zero (Pair t u) = t
+part (suc n) (Pair t u) = part n u
+part n t = t
+
+-- what a rule's name stands for
+abbrev pub inside : Tree → Tree
+inside (Node t) = t
+inside t = t
+
+-- a part of a rule that is a sequence
+abbrev pub of_rule : ℕ → Tree → Tree
+of_rule n t = part n (inside t)
+
+-- what an optional part holds, and whether it is there
+abbrev pub if_there : {A : Type 0} → (Tree → A) → Tree → Option A
+if_there f (This t) = Some (f t)
+if_there f _ = None
+
+abbrev pub is_there : Tree → Bool
+is_there (This t) = true
+is_there _ = false
+
+-- the items of a repetition
+abbrev pub items_of : Tree → List Tree
+items_of (More t u) = t ∷ items_of u
+items_of _ = []
+
+-- what an item stands for, and those that follow it, each behind one token
+abbrev pub listed : {A : Type 0} → (Tree → A) → Tree → List A
+listed f t = f (of_rule 0 t) ∷ map (λ u. f (part 1 u)) (items_of (of_rule 1 t))
+
+abbrev pub is_kind : Kind → Tree → Bool
+is_kind kind t = accepts (kind ∷ []) (leaf t).kind
+
+abbrev pub name_of : Tree → Name
+name_of t = record { text = (leaf t).text; at = (leaf t).at }
+
+abbrev pub place_of : Tree → Span
+place_of t = (leaf t).at
+
+abbrev pub text_of : Tree → List ℕ × Span
+text_of t = ((leaf t).text, (leaf t).at)
+
+abbrev pub number_of : Tree → ℤ × Span
+number_of t = ((leaf t).number, (leaf t).at)
+
+-- a name and what may stand behind it: [ "." name ]
+abbrev pub qualified : Tree → Tree → ColRef
+qualified first (This t) = record { alias = Some (name_of first); column = name_of (part 1 t) }
+qualified first _ = record { alias = None; column = name_of first }
+
+-- colref: name [ "." name ]
+abbrev pub colref_of : Tree → ColRef
+colref_of t = qualified (of_rule 0 t) (of_rule 1 t)

@@ -1,0 +1,15 @@
+//! Statements of query scripts, and the parser that reads them.
+#![tactic(auto)]
+
+mod fault;
+mod name;
+mod node;
+mod parser;
+mod select;
+mod statement;
+
+pub use fault::SyntaxFault;
+pub use name::{Arg, ColRef, Name};
+pub use node::{Node, Op};
+pub use select::{BlockSyn, Items, Select, SetOp, TermSyn};
+pub use statement::Statement;

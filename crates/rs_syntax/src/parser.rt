@@ -1,0 +1,36 @@
+//! A parser by recursive descent, with one token ahead.
+
+mod tokens;
+
+use rs_grammar::Lexeme;
+use std::marker::Model;
+
+/// Reads the lexemes of a script from left to right.
+#[derive(Drop)]
+pub struct Parser {
+    /// The lexemes that are left, the next one last.
+    reversed: Vec<Lexeme>,
+    /// How many tokens that count towards the depth of a statement may still come in this one.
+    left: u32,
+    /// Where the last token ended.
+    last: u32,
+}
+
+impl Model for Parser {
+    ghost use Rattle.std.specs.Prelude.{reverse};
+    ghost use Rattle.rs_grammar.specs.Reading.{State};
+
+    ghost Value = { State };
+
+    ghost view = { λ p. record { rest = reverse p.reversed.items; left = p.left; last = p.last } };
+}
+
+/// Why the parser can't go on at the next token.
+#[derive(Clone, Copy, Debug)]
+pub enum Fault {
+    /// No such token may stand there.
+    Expected,
+    /// It is one more token that counts towards the depth than a statement may have.
+    TooDeep,
+    Memory,
+}

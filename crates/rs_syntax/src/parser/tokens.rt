@@ -1,0 +1,124 @@
+ghost use Rattle.std.specs.Prelude.{◌≡◌, [], ◌∷◌, Bool, List, MatchOption, false, true};
+ghost use Rattle.rs_grammar.specs.Grammar.{One, name as name_part, word};
+ghost use Rattle.rs_grammar.specs.Kinds.{names};
+ghost use Rattle.rs_grammar.specs.Reading.{is_too_deep, left_behind, next_is};
+ghost use Rattle.rs_grammar.specs.declared.kind.Kind.{Kind};
+ghost use Rattle.rs_grammar.specs.declared.kind.Kind.TheVariants.{Literal, Number};
+ghost use Rattle.rs_syntax.specs.Reads.{Reads};
+ghost use Rattle.rs_syntax.specs.Trees.{leaf, name_of, number_of, place_of, start_of, text_of};
+
+use crate::name::Name;
+use crate::parser::{Fault, Parser};
+use rs_grammar::{Kind, Lexeme};
+use rs_lex::Span;
+use rs_value::Text;
+
+/// The most tokens of a statement that count towards its depth.
+pub const MOST_DEEP: u32 = 256;
+
+/// How many tokens that count towards the depth may still come behind a token of this kind, where so many may
+/// from it on; `None` where it is one too many.
+fn left_behind(kind: Kind, left: u32) -> Option<u32>
+    ensures { MatchOption result (is_too_deep kind left ≡ true) (λ n. (is_too_deep kind left ≡ false) × (n ≡ left_behind kind left)) }
+{
+    if kind.is(Kind::Semicolon) {
+        return Some(MOST_DEEP);
+    }
+    if !kind.is_counted() {
+        return Some(left);
+    }
+    left.checked_sub(1)
+}
+
+impl Parser {
+    /// Whether the next token is of this kind.
+    pub fn at(&self, kind: Kind) -> bool
+        ensures { result ≡ next_is (kind ∷ []) self.now.rest }
+    {
+        match self.reversed.last() {
+            Some(lexeme) => lexeme.kind.is(kind),
+            None => false,
+        }
+    }
+
+    /// Whether the next token may be a name.
+    pub fn at_name(&self) -> bool
+        ensures { result ≡ next_is names self.now.rest }
+    {
+        match self.reversed.last() {
+            Some(lexeme) => lexeme.kind.is_name(),
+            None => false,
+        }
+    }
+
+    /// Where the next token starts.
+    pub fn start(&self) -> u32
+        ensures { result ≡ start_of self.now.rest }
+    {
+        match self.reversed.last() {
+            Some(lexeme) => lexeme.at.start,
+            None => 0,
+        }
+    }
+
+    /// Where the last token ended.
+    pub fn last(&self) -> u32
+        ensures { result ≡ self.now.last }
+    {
+        self.last
+    }
+
+    /// Takes the next token, if it is one that may stand there.
+    pub fn take(&mut self, accepted: bool) -> Result<Lexeme, Fault>
+        ensures { (kinds : List Kind) → accepted ≡ next_is kinds self.old.rest → Reads (One kinds) leaf (λ l. l) self.old self.new result }
+    {
+        if !accepted {
+            return Err(Fault::Expected);
+        }
+        let Some(next) = self.reversed.last() else {
+            return Err(Fault::Expected);
+        };
+        let Some(left) = left_behind(next.kind, self.left) else {
+            return Err(Fault::TooDeep);
+        };
+        let Some(lexeme) = self.reversed.pop() else {
+            return Err(Fault::Expected);
+        };
+        self.left = left;
+        self.last = lexeme.at.end;
+        Ok(lexeme)
+    }
+
+    /// Takes a token of this kind, and says where it stands.
+    pub fn expect(&mut self, kind: Kind) -> Result<Span, Fault>
+        ensures { Reads (word kind) place_of (λ at. at) self.old self.new result }
+    {
+        let accepted = self.at(kind);
+        let lexeme = self.take(accepted)?;
+        Ok(lexeme.at)
+    }
+
+    pub fn name(&mut self) -> Result<Name, Fault>
+        ensures { Reads name_part name_of (λ name. name) self.old self.new result }
+    {
+        let accepted = self.at_name();
+        let Lexeme { text, at, .. } = self.take(accepted)?;
+        Ok(Name { text, at })
+    }
+
+    pub fn number(&mut self) -> Result<(i64, Span), Fault>
+        ensures { Reads (word Number) number_of (λ number. number) self.old self.new result }
+    {
+        let accepted = self.at(Kind::Number);
+        let lexeme = self.take(accepted)?;
+        Ok((lexeme.number, lexeme.at))
+    }
+
+    pub fn literal(&mut self) -> Result<(Text, Span), Fault>
+        ensures { Reads (word Literal) text_of (λ text. text) self.old self.new result }
+    {
+        let accepted = self.at(Kind::Literal);
+        let Lexeme { text, at, .. } = self.take(accepted)?;
+        Ok((text, at))
+    }
+}
