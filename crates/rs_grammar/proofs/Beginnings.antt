@@ -407,29 +407,115 @@ Viable-behind p q ts t us fits h e = rw e (grammar.Viable.rest p q t us fits h)
 pub Viable-one : (kinds : List Kind) (S : Part) (l : Lexeme) (us : List Lexeme) → Viable (Seq (One kinds) S) (l ∷ us)
     → (accepts kinds l.kind ≡ true) × Viable S us
 Viable-one kinds S l us h =
-    (starts-first (One kinds) S l.kind refl (Viable-starts (Seq (One kinds) S) l us (l ∷ us) refl h), ?)
+    (starts-first (One kinds) S l.kind refl (Viable-starts (Seq (One kinds) S) l us (l ∷ us) refl h), go (Viable-cases (Seq (One kinds) S) (l ∷ us) h))
+  where
+    alone : Cases (One kinds) (l ∷ us) → Viable S us
+    alone (inl e) = cc
+    alone (inr one) = let none : us ≡ [] = cc (one.2) in rw none (grammar.Viable.none S)
+    behind : (t : Tree) (vs : List Lexeme) → Fits (One kinds) t → Viable S vs → l ∷ us ≡ yield t ++ vs → Viable S us
+    behind (Leaf m) vs fits v e = let same : us ≡ vs = cc in rw same v
+    behind _ vs fits v e = absurd fits
+    go : Cases (Seq (One kinds) S) (l ∷ us) → Viable S us
+    go (inl v) = alone (Viable-cases (One kinds) (l ∷ us) v)
+    go (inr g) = behind g.tree g.behind g.fits g.viable g.is
 
 pub Viable-empty : (S : Part) (ts : List Lexeme) → Viable (Seq Empty S) ts → Viable S ts
-Viable-empty S ts h = ?
+Viable-empty S ts h = go (Viable-cases (Seq Empty S) ts h)
+  where
+    behind : (t : Tree) (vs : List Lexeme) → Fits Empty t → Viable S vs → ts ≡ yield t ++ vs → Viable S ts
+    behind Nothing vs fits v e = rw e v
+    behind _ vs fits v e = absurd fits
+    go : Cases (Seq Empty S) ts → Viable S ts
+    go (inl v) = let none : ts ≡ [] = Viable-cases Empty ts v in rw none (grammar.Viable.none S)
+    go (inr g) = behind g.tree g.behind g.fits g.viable g.is
 
 pub Viable-seq : (p q S : Part) (ts : List Lexeme) → Viable (Seq (Seq p q) S) ts → Viable (Seq p (Seq q S)) ts
-Viable-seq p q S ts h = ?
+Viable-seq p q S ts h = go (Viable-cases (Seq (Seq p q) S) ts h)
+  where
+    inside : Cases (Seq p q) ts → Viable (Seq p (Seq q S)) ts
+    inside (inl v) = grammar.Viable.first p (Seq q S) ts v
+    inside (inr g) = Viable-behind p (Seq q S) ts g.tree g.behind g.fits (grammar.Viable.first q S g.behind g.viable) g.is
+    behind : (t : Tree) (vs : List Lexeme) → Fits (Seq p q) t → Viable S vs → ts ≡ yield t ++ vs → Viable (Seq p (Seq q S)) ts
+    behind (Pair t u) vs fits v e =
+        Viable-behind p (Seq q S) ts t (yield u ++ vs) fits.0 (grammar.Viable.rest q S u vs fits.1 v) (rw append_assoc at e)
+    behind _ vs fits v e = absurd fits
+    go : Cases (Seq (Seq p q) S) ts → Viable (Seq p (Seq q S)) ts
+    go (inl v) = inside (Viable-cases (Seq p q) ts v)
+    go (inr g) = behind g.tree g.behind g.fits g.viable g.is
 
 pub Viable-use : (r : Rule) (S : Part) (ts : List Lexeme) → Viable (Seq (Use r) S) ts → Viable (Seq (rule r) S) ts
-Viable-use r S ts h = ?
+Viable-use r S ts h = go (Viable-cases (Seq (Use r) S) ts h)
+  where
+    behind : (t : Tree) (vs : List Lexeme) → Fits (Use r) t → Viable S vs → ts ≡ yield t ++ vs → Viable (Seq (rule r) S) ts
+    behind (Node t) vs fits v e = Viable-behind (rule r) S ts t vs fits v e
+    behind _ vs fits v e = absurd fits
+    go : Cases (Seq (Use r) S) ts → Viable (Seq (rule r) S) ts
+    go (inl v) = grammar.Viable.first (rule r) S ts (Viable-cases (Use r) ts v)
+    go (inr g) = behind g.tree g.behind g.fits g.viable g.is
+
+-- a beginning of a choice and what is behind it begins with one of the two
+Viable-either : (p q S : Part) (ts : List Lexeme) → Viable (Seq (Either p q) S) ts → Viable (Seq p S) ts ⊎ Viable (Seq q S) ts
+Viable-either p q S ts h = go (Viable-cases (Seq (Either p q) S) ts h)
+  where
+    inside : Cases (Either p q) ts → Viable (Seq p S) ts ⊎ Viable (Seq q S) ts
+    inside (inl v) = inl (grammar.Viable.first p S ts v)
+    inside (inr v) = inr (grammar.Viable.first q S ts v)
+    behind : (t : Tree) (vs : List Lexeme) → Fits (Either p q) t → Viable S vs → ts ≡ yield t ++ vs → Viable (Seq p S) ts ⊎ Viable (Seq q S) ts
+    behind (This t) vs fits v e = inl (Viable-behind p S ts t vs fits v e)
+    behind (That t) vs fits v e = inr (Viable-behind q S ts t vs fits v e)
+    behind _ vs fits v e = absurd fits
+    go : Cases (Seq (Either p q) S) ts → Viable (Seq p S) ts ⊎ Viable (Seq q S) ts
+    go (inl v) = inside (Viable-cases (Either p q) ts v)
+    go (inr g) = behind g.tree g.behind g.fits g.viable g.is
 
 pub Viable-this : (p q S : Part) (ts zs : List Lexeme) → Clear (Either p q) (starts S) → next_is (starts p) (ts ++ zs) ≡ true
     → Viable (Seq (Either p q) S) ts → Viable (Seq p S) ts
-Viable-this p q S ts zs clear next h = ?
+Viable-this p q S [] zs clear next h = grammar.Viable.none (Seq p S)
+Viable-this p q S (l ∷ ls) zs clear next h =
+    elim (Viable-either p q S (l ∷ ls) h) [
+      | inl v ↦ v
+      | inr v ↦ absurd (Begins-not (starts p) (starts (Seq q S)) (l ∷ ls) (Clear-apart p q S clear) (Viable-begins (Seq q S) (l ∷ ls) v) next)
+    ]
 
 pub Viable-that : (p q S : Part) (ts zs : List Lexeme) → Clear (Either p q) (starts S) → next_is (starts p) (ts ++ zs) ≡ false
     → Viable (Seq (Either p q) S) ts → Viable (Seq q S) ts
-Viable-that p q S ts zs clear next h = ?
+Viable-that p q S [] zs clear next h = grammar.Viable.none (Seq q S)
+Viable-that p q S (l ∷ ls) zs clear next h =
+    elim (Viable-either p q S (l ∷ ls) h) [
+      | inl v ↦ let yes : accepts (starts p) l.kind ≡ true = Viable-opens p S l ls clear.0 v in cc
+      | inr v ↦ v
+    ]
+
+-- a beginning of a repetition and what is behind it begins with the part, or the repetition has ended
+Viable-many : (p S : Part) (ts : List Lexeme) → Viable (Seq (Many p) S) ts → Viable (Seq p (Seq (Many p) S)) ts ⊎ Viable S ts
+Viable-many p S ts h = go (Viable-cases (Seq (Many p) S) ts h)
+  where
+    inside : Cases (Seq p (Many p)) ts → Viable (Seq p (Seq (Many p) S)) ts ⊎ Viable S ts
+    inside (inl v) = inl (grammar.Viable.first p (Seq (Many p) S) ts v)
+    inside (inr g) = inl (Viable-behind p (Seq (Many p) S) ts g.tree g.behind g.fits (grammar.Viable.first (Many p) S g.behind g.viable) g.is)
+    behind : (t : Tree) (vs : List Lexeme) → Fits (Many p) t → Viable S vs → ts ≡ yield t ++ vs → Viable (Seq p (Seq (Many p) S)) ts ⊎ Viable S ts
+    behind Nothing vs fits v e = inr (rw e v)
+    behind (More t u) vs fits v e =
+        inl (Viable-behind p (Seq (Many p) S) ts t (yield u ++ vs) fits.0 (grammar.Viable.rest (Many p) S u vs fits.1 v) (rw append_assoc at e))
+    behind _ vs fits v e = absurd fits
+    go : Cases (Seq (Many p) S) ts → Viable (Seq p (Seq (Many p) S)) ts ⊎ Viable S ts
+    go (inl v) = inside (Viable-cases (Seq p (Many p)) ts (Viable-cases (Many p) ts v))
+    go (inr g) = behind g.tree g.behind g.fits g.viable g.is
 
 pub Viable-more : (p S : Part) (ts zs : List Lexeme) → Clear (Many p) (starts S) → next_is (starts p) (ts ++ zs) ≡ true
     → Viable (Seq (Many p) S) ts → Viable (Seq p (Seq (Many p) S)) ts
-Viable-more p S ts zs clear next h = ?
+Viable-more p S [] zs clear next h = grammar.Viable.none (Seq p (Seq (Many p) S))
+Viable-more p S (l ∷ ls) zs clear next h =
+    elim (Viable-many p S (l ∷ ls) h) [
+      | inl v ↦ v
+      | inr v ↦ absurd (Begins-not (starts p) (starts S) (l ∷ ls) clear.1 (Viable-begins S (l ∷ ls) v) next)
+    ]
 
 pub Viable-stop : (p S : Part) (ts zs : List Lexeme) → Clear (Many p) (starts S) → next_is (starts p) (ts ++ zs) ≡ false
     → Viable (Seq (Many p) S) ts → Viable S ts
-Viable-stop p S ts zs clear next h = ?
+Viable-stop p S [] zs clear next h = grammar.Viable.none S
+Viable-stop p S (l ∷ ls) zs clear next h =
+    elim (Viable-many p S (l ∷ ls) h) [
+      | inl v ↦ let yes : accepts (starts p) l.kind ≡ true = Viable-opens p (Seq (Many p) S) l ls clear.0 v in cc
+      | inr v ↦ v
+    ]
