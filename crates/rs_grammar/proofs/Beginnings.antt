@@ -8,17 +8,9 @@ use Rattle.rs_grammar.specs.Grammar as grammar
 use Rattle.rs_grammar.specs.Reading.{starts_of, follow, nullable, starts, next_is}
 use Rattle.rs_grammar.specs.declared.kind.Kind.{Kind}
 use Rattle.rs_grammar.specs.declared.lexeme.Lexeme.{Lexeme}
-use Rattle.rs_grammar.proofs.Predict.{disjoint, within, Clear, Clear-rule, starts-rule, nullable-rule}
+use Rattle.rs_grammar.proofs.Predict.{and-left, and-right, disjoint, within, Clear, Clear-rule, starts-rule, nullable-rule}
 
 -- both of two tests pass
-and-left : (a b : Bool) → (a && b) ≡ true → a ≡ true
-and-left true b e = refl
-and-left false b e = cc
-
-and-right : (a b : Bool) → (a && b) ≡ true → b ≡ true
-and-right true b e = e
-and-right false b e = cc
-
 and-both : (a b : Bool) → a ≡ true → b ≡ true → (a && b) ≡ true
 and-both a b e f = rw (e, f) refl
 

@@ -28,9 +28,94 @@ Clear (Either p q) behind =
 Clear (Many p) behind = (nullable p ≡ false) × (disjoint (starts p) behind ≡ true) × Clear p (starts p ++ behind)
 Clear (Use r) behind = within behind (follow r) ≡ true
 
+-- both of two tests pass
+pub and-left : (a b : Bool) → (a && b) ≡ true → a ≡ true
+and-left true b e = refl
+and-left false b e = cc
+
+pub and-right : (a b : Bool) → (a && b) ≡ true → b ≡ true
+and-right true b e = e
+and-right false b e = cc
+
+-- whether a part is clear
+abbrev is_clear : Part → List Kind → Bool
+is_clear (One kinds) behind = true
+is_clear Empty behind = true
+is_clear (Seq p q) behind = is_clear p (starts q ++ (if nullable q then behind else [])) && is_clear q behind
+is_clear (Either p q) behind =
+    (not (nullable p) && disjoint (starts p) (starts q)) && (disjoint (starts p) (if nullable q then behind else []) && (is_clear p behind && is_clear q behind))
+is_clear (Many p) behind = (not (nullable p) && disjoint (starts p) behind) && is_clear p (starts p ++ behind)
+is_clear (Use r) behind = within behind (follow r)
+
+not-true : (b : Bool) → not b ≡ true → b ≡ false
+not-true true e = cc
+not-true false e = refl
+
+Clear-test : (p : Part) (behind : List Kind) → is_clear p behind ≡ true → Clear p behind
+Clear-test (One kinds) behind e = tt
+Clear-test Empty behind e = tt
+Clear-test (Seq p q) behind e =
+    let front = starts q ++ (if nullable q then behind else []) in
+    (Clear-test p front (and-left (is_clear p front) (is_clear q behind) e), Clear-test q behind (and-right (is_clear p front) (is_clear q behind) e))
+Clear-test (Either p q) behind e =
+    let choice = not (nullable p) && disjoint (starts p) (starts q) in
+    let ends = disjoint (starts p) (if nullable q then behind else []) in
+    let parts = is_clear p behind && is_clear q behind in
+    let one : choice ≡ true = and-left choice (ends && parts) e in
+    let two : (ends && parts) ≡ true = and-right choice (ends && parts) e in
+    let three : parts ≡ true = and-right ends parts two in
+    (not-true (nullable p) (and-left (not (nullable p)) (disjoint (starts p) (starts q)) one), and-right (not (nullable p)) (disjoint (starts p) (starts q)) one,
+    and-left ends parts two,
+    Clear-test p behind (and-left (is_clear p behind) (is_clear q behind) three), Clear-test q behind (and-right (is_clear p behind) (is_clear q behind) three))
+Clear-test (Many p) behind e =
+    let choice = not (nullable p) && disjoint (starts p) behind in
+    let one : choice ≡ true = and-left choice (is_clear p (starts p ++ behind)) e in
+    (not-true (nullable p) (and-left (not (nullable p)) (disjoint (starts p) behind) one), and-right (not (nullable p)) (disjoint (starts p) behind) one,
+    Clear-test p (starts p ++ behind) (and-right choice (is_clear p (starts p ++ behind)) e))
+Clear-test (Use r) behind e = e
+
+is_clear-rule : (r : Rule) → is_clear (rule r) (follow r) ≡ true
+is_clear-rule statements = refl
+is_clear-rule statement = refl
+is_clear-rule create = refl
+is_clear-rule create_table = refl
+is_clear-rule create_predicate = refl
+is_clear-rule create_rank_index = refl
+is_clear-rule declare = refl
+is_clear-rule fetch = refl
+is_clear-rule close = refl
+is_clear-rule explain = refl
+is_clear-rule columns = refl
+is_clear-rule column = refl
+is_clear-rule select = refl
+is_clear-rule set_operator = refl
+is_clear-rule block = refl
+is_clear-rule items = refl
+is_clear-rule entries = refl
+is_clear-rule entry = refl
+is_clear-rule terms = refl
+is_clear-rule term = refl
+is_clear-rule args = refl
+is_clear-rule arg = refl
+is_clear-rule colref = refl
+is_clear-rule expr = refl
+is_clear-rule conj = refl
+is_clear-rule neg = refl
+is_clear-rule comp = refl
+is_clear-rule sum = refl
+is_clear-rule prod = refl
+is_clear-rule sign = refl
+is_clear-rule base = refl
+is_clear-rule plain = refl
+is_clear-rule absolute = refl
+is_clear-rule extreme = refl
+is_clear-rule brackets = refl
+is_clear-rule case = refl
+is_clear-rule when = refl
+
 -- each rule is clear before all that can stand behind it
 pub Clear-rule : (r : Rule) → Clear (rule r) (follow r)
-Clear-rule r = ?
+Clear-rule r = Clear-test (rule r) (follow r) (is_clear-rule r)
 
 -- a rule begins with the kinds of its list
 pub starts-rule : (r : Rule) → within (starts (rule r)) (starts_of r) ≡ true
