@@ -1,5 +1,5 @@
 -- Which tokens the trees and the beginnings of a part begin with, and what one step of a reader leaves of them.
-use Rattle.std.specs.Prelude.{ℕ, ◌≡◌, ◌==◌, ◌&&◌, ◌||◌, Bool, true, false, not, ◌⊎◌, List, [], ◌∷◌, ◌++◌, if◌then◌else◌}
+use Rattle.std.specs.Prelude.{◌≡◌, ◌==◌, ◌&&◌, ◌||◌, Bool, true, false, not, ◌⊎◌, List, [], ◌∷◌, ◌++◌, if◌then◌else◌}
 use Rattle.std.proofs.Common.{inl, inr, refl, sym, append_assoc, eq-eqb}
 use Rattle.std.proofs.lemmas.Bool.{eqb-true}
 use Rattle.rs_grammar.specs.Kinds.{code, accepts}
@@ -205,13 +205,18 @@ Viable-starts p l ls ts e (grammar.Viable.by_rule r _ h) = within-accepts (start
 pub Clear-within : (p : Part) (xs ys : List Kind) → within xs ys ≡ true → Clear p ys → Clear p xs
 Clear-within (One kinds) xs ys inside clear = tt
 Clear-within Empty xs ys inside clear = tt
-Clear-within (Seq p q) xs ys inside clear =
-    (Clear-within p (starts q ++ (if nullable q then xs else [])) (starts q ++ (if nullable q then ys else []))
-    (within-append (starts q) (if nullable q then xs else []) (if nullable q then ys else []) (within-if (nullable q) xs ys inside)) clear.0,
-    Clear-within q xs ys inside clear.1)
-Clear-within (Either p q) xs ys inside clear =
-    (clear.0, clear.1, disjoint-within (starts p) (if nullable q then xs else []) (if nullable q then ys else []) (within-if (nullable q) xs ys inside) clear.2,
-    Clear-within p xs ys inside clear.3, Clear-within q xs ys inside clear.4)
+Clear-within (Seq p q) xs ys inside clear = (
+  Clear-within p (starts q ++ (if nullable q then xs else [])) (starts q ++ (if nullable q then ys else []))
+      (within-append (starts q) (if nullable q then xs else []) (if nullable q then ys else []) (within-if (nullable q) xs ys inside)) clear.0,
+  Clear-within q xs ys inside clear.1,
+)
+Clear-within (Either p q) xs ys inside clear = (
+  clear.0,
+  clear.1,
+  disjoint-within (starts p) (if nullable q then xs else []) (if nullable q then ys else []) (within-if (nullable q) xs ys inside) clear.2,
+  Clear-within p xs ys inside clear.3,
+  Clear-within q xs ys inside clear.4,
+)
 Clear-within (Many p) xs ys inside clear =
     (clear.0, disjoint-within (starts p) xs ys inside clear.1, Clear-within p (starts p ++ xs) (starts p ++ ys) (within-append (starts p) xs ys inside) clear.2)
 Clear-within (Use r) xs ys inside clear = within-each xs (follow r) (λ k h. within-accepts ys (follow r) k clear (within-accepts xs ys k inside h))
@@ -291,12 +296,12 @@ pub record Token (kinds : List Kind) (S : Part) (x : Tree) : Type 0 where
 
 -- Trees of a sequence, by its first part. Where there is a choice, the next token makes it.
 pub Fits-one : (kinds : List Kind) (S : Part) (x : Tree) → Fits (Seq (One kinds) S) x → Token kinds S x
-Fits-one kinds S (Pair (Leaf l) s) h = record { token = l; tail = s; is = refl; accepted = h.0; fits = h.1; spells = refl; }
+Fits-one kinds S (Pair (Leaf l) s) h = record { token = l; tail = s; is = refl; accepted = h.0; fits = h.1; spells = refl }
 Fits-one kinds S (Pair _ s) h = absurd h.0
 Fits-one kinds S _ h = absurd h
 
 pub Fits-empty : (S : Part) (x : Tree) → Fits (Seq Empty S) x → Behind S x
-Fits-empty S (Pair Nothing s) h = record { tail = s; is = refl; fits = h.1; spells = refl; }
+Fits-empty S (Pair Nothing s) h = record { tail = s; is = refl; fits = h.1; spells = refl }
 Fits-empty S (Pair _ s) h = absurd h.0
 Fits-empty S _ h = absurd h
 
@@ -313,13 +318,13 @@ Fits-seq p q S (Pair _ s) h = absurd h.0
 Fits-seq p q S _ h = absurd h
 
 pub Fits-use : (r : Rule) (S : Part) (x : Tree) → Fits (Seq (Use r) S) x → Inside (rule r) S x (λ t. Node t)
-Fits-use r S (Pair (Node t) s) h = record { part = t; tail = s; is = refl; fits = h; spells = refl; }
+Fits-use r S (Pair (Node t) s) h = record { part = t; tail = s; is = refl; fits = h; spells = refl }
 Fits-use r S (Pair _ s) h = absurd h.0
 Fits-use r S _ h = absurd h
 
 pub Fits-this : (p q S : Part) (x : Tree) → Clear (Either p q) (starts S) → next_is (starts p) (yield x) ≡ true
     → Fits (Seq (Either p q) S) x → Inside p S x (λ t. This t)
-Fits-this p q S (Pair (This t) s) clear next h = record { part = t; tail = s; is = refl; fits = h; spells = refl; }
+Fits-this p q S (Pair (This t) s) clear next h = record { part = t; tail = s; is = refl; fits = h; spells = refl }
 Fits-this p q S (Pair (That t) s) clear next h =
     absurd (Begins-not (starts p) (starts (Seq q S)) (yield t ++ yield s) (Clear-apart p q S clear) (Fits-begins (Seq q S) (Pair t s) h) next)
 Fits-this p q S (Pair _ s) clear next h = absurd h.0
@@ -328,7 +333,7 @@ Fits-this p q S _ clear next h = absurd h
 pub Fits-that : (p q S : Part) (x : Tree) → Clear (Either p q) (starts S) → next_is (starts p) (yield x) ≡ false
     → Fits (Seq (Either p q) S) x → Inside q S x (λ t. That t)
 Fits-that p q S (Pair (This t) s) clear next h = let yes = Fits-opens p S (Pair t s) clear.0 h in cc
-Fits-that p q S (Pair (That t) s) clear next h = record { part = t; tail = s; is = refl; fits = h; spells = refl; }
+Fits-that p q S (Pair (That t) s) clear next h = record { part = t; tail = s; is = refl; fits = h; spells = refl }
 Fits-that p q S (Pair _ s) clear next h = absurd h.0
 Fits-that p q S _ clear next h = absurd h
 
@@ -348,7 +353,7 @@ Fits-more p S _ clear next h = absurd h
 
 pub Fits-stop : (p S : Part) (x : Tree) → Clear (Many p) (starts S) → next_is (starts p) (yield x) ≡ false
     → Fits (Seq (Many p) S) x → Behind S x
-Fits-stop p S (Pair Nothing s) clear next h = record { tail = s; is = refl; fits = h.1; spells = refl; }
+Fits-stop p S (Pair Nothing s) clear next h = record { tail = s; is = refl; fits = h.1; spells = refl }
 Fits-stop p S (Pair (More t u) s) clear next h =
     let yes = Fits-opens p (Seq (Many p) S) (Pair t (Pair u s)) clear.0 (h.0.0, (h.0.1, h.1)) in
     let same : (yield t ++ yield u) ++ yield s ≡ yield t ++ (yield u ++ yield s) = append_assoc (yield t) (yield u) (yield s) in
@@ -385,7 +390,7 @@ pub Viable-cases : (p : Part) (ts : List Lexeme) → Viable p ts → Cases p ts
 Viable-cases p ts (grammar.Viable.none _) = Cases-none p
 Viable-cases p ts (grammar.Viable.token kinds l accepted) = inr (l, accepted, refl)
 Viable-cases p ts (grammar.Viable.first a b _ h) = inl h
-Viable-cases p ts (grammar.Viable.rest a b t us fits h) = inr (record { tree = t; fits = fits; behind = us; viable = h; is = refl; })
+Viable-cases p ts (grammar.Viable.rest a b t us fits h) = inr (record { tree = t; fits = fits; behind = us; viable = h; is = refl })
 Viable-cases p ts (grammar.Viable.left a b _ h) = inl h
 Viable-cases p ts (grammar.Viable.right a b _ h) = inr h
 Viable-cases p ts (grammar.Viable.again a _ h) = h
@@ -404,9 +409,11 @@ Viable-one kinds S l us h =
     alone : Cases (One kinds) (l ∷ us) → Viable S us
     alone (inl e) = cc
     alone (inr one) = let none : us ≡ [] = cc (one.2) in rw none (grammar.Viable.none S)
+
     behind : (t : Tree) (vs : List Lexeme) → Fits (One kinds) t → Viable S vs → l ∷ us ≡ yield t ++ vs → Viable S us
     behind (Leaf m) vs fits v e = let same : us ≡ vs = cc in rw same v
     behind _ vs fits v e = absurd fits
+
     go : Cases (Seq (One kinds) S) (l ∷ us) → Viable S us
     go (inl v) = alone (Viable-cases (One kinds) (l ∷ us) v)
     go (inr g) = behind g.tree g.behind g.fits g.viable g.is
@@ -417,6 +424,7 @@ Viable-empty S ts h = go (Viable-cases (Seq Empty S) ts h)
     behind : (t : Tree) (vs : List Lexeme) → Fits Empty t → Viable S vs → ts ≡ yield t ++ vs → Viable S ts
     behind Nothing vs fits v e = rw e v
     behind _ vs fits v e = absurd fits
+
     go : Cases (Seq Empty S) ts → Viable S ts
     go (inl v) = let none : ts ≡ [] = Viable-cases Empty ts v in rw none (grammar.Viable.none S)
     go (inr g) = behind g.tree g.behind g.fits g.viable g.is
@@ -427,10 +435,12 @@ Viable-seq p q S ts h = go (Viable-cases (Seq (Seq p q) S) ts h)
     inside : Cases (Seq p q) ts → Viable (Seq p (Seq q S)) ts
     inside (inl v) = grammar.Viable.first p (Seq q S) ts v
     inside (inr g) = Viable-behind p (Seq q S) ts g.tree g.behind g.fits (grammar.Viable.first q S g.behind g.viable) g.is
+
     behind : (t : Tree) (vs : List Lexeme) → Fits (Seq p q) t → Viable S vs → ts ≡ yield t ++ vs → Viable (Seq p (Seq q S)) ts
     behind (Pair t u) vs fits v e =
         Viable-behind p (Seq q S) ts t (yield u ++ vs) fits.0 (grammar.Viable.rest q S u vs fits.1 v) (rw append_assoc at e)
     behind _ vs fits v e = absurd fits
+
     go : Cases (Seq (Seq p q) S) ts → Viable (Seq p (Seq q S)) ts
     go (inl v) = inside (Viable-cases (Seq p q) ts v)
     go (inr g) = behind g.tree g.behind g.fits g.viable g.is
@@ -441,6 +451,7 @@ Viable-use r S ts h = go (Viable-cases (Seq (Use r) S) ts h)
     behind : (t : Tree) (vs : List Lexeme) → Fits (Use r) t → Viable S vs → ts ≡ yield t ++ vs → Viable (Seq (rule r) S) ts
     behind (Node t) vs fits v e = Viable-behind (rule r) S ts t vs fits v e
     behind _ vs fits v e = absurd fits
+
     go : Cases (Seq (Use r) S) ts → Viable (Seq (rule r) S) ts
     go (inl v) = grammar.Viable.first (rule r) S ts (Viable-cases (Use r) ts v)
     go (inr g) = behind g.tree g.behind g.fits g.viable g.is
@@ -452,10 +463,12 @@ Viable-either p q S ts h = go (Viable-cases (Seq (Either p q) S) ts h)
     inside : Cases (Either p q) ts → Viable (Seq p S) ts ⊎ Viable (Seq q S) ts
     inside (inl v) = inl (grammar.Viable.first p S ts v)
     inside (inr v) = inr (grammar.Viable.first q S ts v)
+
     behind : (t : Tree) (vs : List Lexeme) → Fits (Either p q) t → Viable S vs → ts ≡ yield t ++ vs → Viable (Seq p S) ts ⊎ Viable (Seq q S) ts
     behind (This t) vs fits v e = inl (Viable-behind p S ts t vs fits v e)
     behind (That t) vs fits v e = inr (Viable-behind q S ts t vs fits v e)
     behind _ vs fits v e = absurd fits
+
     go : Cases (Seq (Either p q) S) ts → Viable (Seq p S) ts ⊎ Viable (Seq q S) ts
     go (inl v) = inside (Viable-cases (Either p q) ts v)
     go (inr g) = behind g.tree g.behind g.fits g.viable g.is
@@ -485,11 +498,13 @@ Viable-many p S ts h = go (Viable-cases (Seq (Many p) S) ts h)
     inside : Cases (Seq p (Many p)) ts → Viable (Seq p (Seq (Many p) S)) ts ⊎ Viable S ts
     inside (inl v) = inl (grammar.Viable.first p (Seq (Many p) S) ts v)
     inside (inr g) = inl (Viable-behind p (Seq (Many p) S) ts g.tree g.behind g.fits (grammar.Viable.first (Many p) S g.behind g.viable) g.is)
+
     behind : (t : Tree) (vs : List Lexeme) → Fits (Many p) t → Viable S vs → ts ≡ yield t ++ vs → Viable (Seq p (Seq (Many p) S)) ts ⊎ Viable S ts
     behind Nothing vs fits v e = inr (rw e v)
     behind (More t u) vs fits v e =
         inl (Viable-behind p (Seq (Many p) S) ts t (yield u ++ vs) fits.0 (grammar.Viable.rest (Many p) S u vs fits.1 v) (rw append_assoc at e))
     behind _ vs fits v e = absurd fits
+
     go : Cases (Seq (Many p) S) ts → Viable (Seq p (Seq (Many p) S)) ts ⊎ Viable S ts
     go (inl v) = inside (Viable-cases (Seq p (Many p)) ts (Viable-cases (Many p) ts v))
     go (inr g) = behind g.tree g.behind g.fits g.viable g.is

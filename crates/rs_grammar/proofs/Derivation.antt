@@ -73,35 +73,35 @@ pub Read-only : (p : Part) (b : State) (t : Tree) (a : State) → Read p b t a �
 Read-only p b t a (reading.Read.token kinds l _ _ takes accepted deep) S clear x fits spells =
     let g = Fits-one kinds S x fits in
     let same : g.token ≡ l = cc (g.spells, takes.rest, spells) in
-    record { tail = g.tail; is = cc (g.is, same); fits = g.fits; spells = cc (g.spells, takes.rest, spells); }
+    record { tail = g.tail; is = cc (g.is, same); fits = g.fits; spells = cc (g.spells, takes.rest, spells) }
 Read-only p b t a (reading.Read.empty _) S clear x fits spells =
     let g = Fits-empty S x fits in
-    record { tail = g.tail; is = g.is; fits = g.fits; spells = cc (g.spells, spells); }
+    record { tail = g.tail; is = g.is; fits = g.fits; spells = cc (g.spells, spells) }
 Read-only p b t a (reading.Read.both one two v w _ m _ h k) S clear x fits spells =
     let g = Fits-seq one two S x fits in
     let r = Read-only one b v m h (Seq two S) clear.0 (Pair g.one (Pair g.two g.tail)) g.fits (g.spells ∙ spells) in
     let o = Read-only two m w a k S clear.1 r.tail r.fits r.spells in
-    record { tail = o.tail; is = cc (g.is, r.is, o.is); fits = o.fits; spells = o.spells; }
+    record { tail = o.tail; is = cc (g.is, r.is, o.is); fits = o.fits; spells = o.spells }
 Read-only p b t a (reading.Read.this one two v _ _ next h) S clear x fits spells =
     let g = Fits-this one two S x clear (rw spells next) fits in
     let r = Read-only one b v a h S clear.3 (Pair g.part g.tail) g.fits (g.spells ∙ spells) in
-    record { tail = r.tail; is = cc (g.is, r.is); fits = r.fits; spells = r.spells; }
+    record { tail = r.tail; is = cc (g.is, r.is); fits = r.fits; spells = r.spells }
 Read-only p b t a (reading.Read.that one two v _ _ next h) S clear x fits spells =
     let g = Fits-that one two S x clear (rw spells next) fits in
     let r = Read-only two b v a h S clear.4 (Pair g.part g.tail) g.fits (g.spells ∙ spells) in
-    record { tail = r.tail; is = cc (g.is, r.is); fits = r.fits; spells = r.spells; }
+    record { tail = r.tail; is = cc (g.is, r.is); fits = r.fits; spells = r.spells }
 Read-only p b t a (reading.Read.stop part _ next) S clear x fits spells =
     let g = Fits-stop part S x clear (rw spells next) fits in
-    record { tail = g.tail; is = g.is; fits = g.fits; spells = cc (g.spells, spells); }
+    record { tail = g.tail; is = g.is; fits = g.fits; spells = cc (g.spells, spells) }
 Read-only p b t a (reading.Read.more part v w _ m _ next h k) S clear x fits spells =
     let g = Fits-more part S x clear (rw spells next) fits in
     let r = Read-only part b v m h (Seq (Many part) S) clear.2 (Pair g.one (Pair g.two g.tail)) g.fits (g.spells ∙ spells) in
     let o = Read-only (Many part) m w a k S clear r.tail r.fits r.spells in
-    record { tail = o.tail; is = cc (g.is, r.is, o.is); fits = o.fits; spells = o.spells; }
+    record { tail = o.tail; is = cc (g.is, r.is, o.is); fits = o.fits; spells = o.spells }
 Read-only p b t a (reading.Read.by_rule r v _ _ h) S clear x fits spells =
     let g = Fits-use r S x fits in
     let o = Read-only (rule r) b v a h S (Clear-use r S clear) (Pair g.part g.tail) g.fits (g.spells ∙ spells) in
-    record { tail = o.tail; is = cc (g.is, o.is); fits = o.fits; spells = o.spells; }
+    record { tail = o.tail; is = cc (g.is, o.is); fits = o.fits; spells = o.spells }
 
 -- what stood in front of the reader, where what remains is in two parts
 Read-ahead : (p : Part) (b : State) (t : Tree) (a : State) → Read p b t a → (ys zs : List Lexeme) → a.rest ≡ ys ++ zs → b.rest ≡ (yield t ++ ys) ++ zs
@@ -114,7 +114,7 @@ Read-viable p b t a (reading.Read.token kinds l _ _ takes accepted deep) S clear
 Read-viable p b t a (reading.Read.empty _) S clear ys zs split viable = Viable-empty S ys viable
 Read-viable p b t a (reading.Read.both one two v w _ m _ h k) S clear ys zs split viable =
     let begun : Viable (Seq one (Seq two S)) (yield v ++ (yield w ++ ys)) =
-        rw append_assoc at (Viable-seq one two S ((yield v ++ yield w) ++ ys) viable)
+    rw append_assoc at (Viable-seq one two S ((yield v ++ yield w) ++ ys) viable)
     in
     let ahead : m.rest ≡ (yield w ++ ys) ++ zs = Read-ahead two m w a k ys zs split in
     Read-viable two m w a k S clear.1 ys zs split (Read-viable one b v m h (Seq two S) clear.0 (yield w ++ ys) zs ahead begun)
@@ -128,7 +128,7 @@ Read-viable p b t a (reading.Read.stop part _ next) S clear ys zs split viable =
 Read-viable p b t a (reading.Read.more part v w _ m _ next h k) S clear ys zs split viable =
     let whole : b.rest ≡ ((yield v ++ yield w) ++ ys) ++ zs = Read-ahead (Many part) b (More v w) a (reading.Read.more part v w b m a next h k) ys zs split in
     let begun : Viable (Seq part (Seq (Many part) S)) (yield v ++ (yield w ++ ys)) =
-        rw append_assoc at (Viable-more part S ((yield v ++ yield w) ++ ys) zs clear (rw whole at next) viable)
+    rw append_assoc at (Viable-more part S ((yield v ++ yield w) ++ ys) zs clear (rw whole at next) viable)
     in
     let ahead : m.rest ≡ (yield w ++ ys) ++ zs = Read-ahead (Many part) m w a k ys zs split in
     Read-viable (Many part) m w a k S clear ys zs split (Read-viable part b v m h (Seq (Many part) S) clear.2 (yield w ++ ys) zs ahead begun)

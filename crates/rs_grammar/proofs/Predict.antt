@@ -1,5 +1,5 @@
 -- Each choice of the grammar is made by the next token: what can stand in front of it and behind it has no kind in common.
-use Rattle.std.specs.Prelude.{ℕ, ◌≡◌, ◌==◌, ◌&&◌, Bool, true, false, not, List, [], ◌∷◌, ◌++◌, if◌then◌else◌}
+use Rattle.std.specs.Prelude.{◌≡◌, ◌&&◌, Bool, true, false, not, List, [], ◌∷◌, ◌++◌, if◌then◌else◌}
 use Rattle.rs_grammar.specs.Kinds.{accepts}
 use Rattle.rs_grammar.specs.Grammar.{Rule, Part, One, Empty, Seq, Either, Many, Use, rule}
 use Rattle.rs_grammar.specs.Grammar.{statements, statement, create, create_table, create_predicate, create_rank_index, declare, fetch, close, explain, columns, column, select, set_operator, block, items, entries, entry, terms, term, args, arg, colref, expr, conj, neg, comp, sum, prod, sign, base, plain, absolute, extreme, brackets, case, when}
@@ -63,15 +63,20 @@ Clear-test (Either p q) behind e =
     let parts = is_clear p behind && is_clear q behind in
     let one : choice ≡ true = and-left choice (ends && parts) e in
     let two : (ends && parts) ≡ true = and-right choice (ends && parts) e in
-    let three : parts ≡ true = and-right ends parts two in
-    (not-true (nullable p) (and-left (not (nullable p)) (disjoint (starts p) (starts q)) one), and-right (not (nullable p)) (disjoint (starts p) (starts q)) one,
-    and-left ends parts two,
-    Clear-test p behind (and-left (is_clear p behind) (is_clear q behind) three), Clear-test q behind (and-right (is_clear p behind) (is_clear q behind) three))
+    let three : parts ≡ true = and-right ends parts two in (
+      not-true (nullable p) (and-left (not (nullable p)) (disjoint (starts p) (starts q)) one),
+      and-right (not (nullable p)) (disjoint (starts p) (starts q)) one,
+      and-left ends parts two,
+      Clear-test p behind (and-left (is_clear p behind) (is_clear q behind) three),
+      Clear-test q behind (and-right (is_clear p behind) (is_clear q behind) three),
+    )
 Clear-test (Many p) behind e =
     let choice = not (nullable p) && disjoint (starts p) behind in
-    let one : choice ≡ true = and-left choice (is_clear p (starts p ++ behind)) e in
-    (not-true (nullable p) (and-left (not (nullable p)) (disjoint (starts p) behind) one), and-right (not (nullable p)) (disjoint (starts p) behind) one,
-    Clear-test p (starts p ++ behind) (and-right choice (is_clear p (starts p ++ behind)) e))
+    let one : choice ≡ true = and-left choice (is_clear p (starts p ++ behind)) e in (
+      not-true (nullable p) (and-left (not (nullable p)) (disjoint (starts p) behind) one),
+      and-right (not (nullable p)) (disjoint (starts p) behind) one,
+      Clear-test p (starts p ++ behind) (and-right choice (is_clear p (starts p ++ behind)) e),
+    )
 Clear-test (Use r) behind e = e
 
 is_clear-rule : (r : Rule) → is_clear (rule r) (follow r) ≡ true
