@@ -1,10 +1,14 @@
 -- What a reader reads is a derivation, and the only one; where it fails, none goes on.
-use Rattle.std.specs.Prelude.{ℕ, ◌≡◌, ◌+◌, ◌≤◌, ◌<◌, Bool, true, false, List, [], ◌∷◌, ◌++◌, length}
+use Rattle.std.proofs.Common.{ℕ, ◌≡◌, ◌+◌, ◌≤◌, ◌<◌, ◌⊎◌, inl, inr, Bool, true, false, List, [], ◌∷◌, ◌++◌, length, refl, sym, ap, ◌∙◌, arith, append_assoc, append-nil, length-append}
 use Rattle.rs_grammar.specs.Kinds.{accepts}
-use Rattle.rs_grammar.specs.Grammar.{Part, Seq, Empty, Tree, Pair, yield, Fits, Viable}
-use Rattle.rs_grammar.specs.Reading.{State, starts, nullable, left_behind, is_too_deep, Read, Fails, Cause, Expected, TooDeep}
+use Rattle.std.proofs.lemmas.Bool.{and_cases, or_parts}
+use Rattle.rs_grammar.specs.Grammar.{Part, One, Empty, Seq, Either, Many, Use, rule, Tree, Leaf, Nothing, Pair, This, That, More, Node, yield, Fits, Viable}
+use Rattle.rs_grammar.specs.Grammar as grammar
+use Rattle.rs_grammar.specs.Reading.{State, starts, nullable, opens, left_behind, is_too_deep, Takes, Read, Fails, Cause, Expected, TooDeep}
+use Rattle.rs_grammar.specs.Reading as reading
+use Rattle.rs_grammar.specs.declared.kind.Kind.{Kind}
 use Rattle.rs_grammar.specs.declared.lexeme.Lexeme.{Lexeme}
-use Rattle.rs_grammar.proofs.Predict.{Clear}
+use Rattle.rs_grammar.proofs.Predict.{Clear, nullable-rule}
 
 -- how many counting tokens may still come behind these tokens, and whether none of them is one too many
 abbrev pub left_after : ℕ → List Lexeme → ℕ
@@ -49,20 +53,93 @@ pub record Deep (p : Part) (b a : State) : Type 0 where
 
 -- what is read fits, and is what stood in front of the reader
 pub Read-fits : (p : Part) (b : State) (t : Tree) (a : State) → Read p b t a → Fits p t
-Read-fits p b t a h = ?
+Read-fits p b t a (reading.Read.token kinds l _ _ takes accepted shallow) = accepted
+Read-fits p b t a (reading.Read.empty _) = tt
+Read-fits p b t a (reading.Read.both q r u v _ x _ h k) = (Read-fits q b u x h, Read-fits r x v a k)
+Read-fits p b t a (reading.Read.this q r u _ _ e h) = Read-fits q b u a h
+Read-fits p b t a (reading.Read.that q r u _ _ e h) = Read-fits r b u a h
+Read-fits p b t a (reading.Read.stop q _ e) = tt
+Read-fits p b t a (reading.Read.more q u v _ x _ e h k) = (Read-fits q b u x h, Read-fits (Many q) x v a k)
+Read-fits p b t a (reading.Read.by_rule r u _ _ h) = Read-fits (rule r) b u a h
+
+-- tokens in front of others, which stand in front of a third list
+split-join : (xs ys zs us vs : List Lexeme) → xs ≡ us ++ ys → ys ≡ vs ++ zs → xs ≡ us ++ vs ++ zs
+split-join xs ys zs us vs e f = e ∙ ap (λ rest. us ++ rest) f ∙ sym (append_assoc us vs zs)
 
 pub Read-split : (p : Part) (b : State) (t : Tree) (a : State) → Read p b t a → b.rest ≡ yield t ++ a.rest
-Read-split p b t a h = ?
+Read-split p b t a (reading.Read.token kinds l _ _ takes accepted shallow) = takes.rest
+Read-split p b t a (reading.Read.empty _) = refl
+Read-split p b t a (reading.Read.both q r u v _ x _ h k) = split-join b.rest x.rest a.rest (yield u) (yield v) (Read-split q b u x h) (Read-split r x v a k)
+Read-split p b t a (reading.Read.this q r u _ _ e h) = Read-split q b u a h
+Read-split p b t a (reading.Read.that q r u _ _ e h) = Read-split r b u a h
+Read-split p b t a (reading.Read.stop q _ e) = refl
+Read-split p b t a (reading.Read.more q u v _ x _ e h k) = split-join b.rest x.rest a.rest (yield u) (yield v) (Read-split q b u x h) (Read-split (Many q) x v a k)
+Read-split p b t a (reading.Read.by_rule r u _ _ h) = Read-split (rule r) b u a h
+
+-- counting goes on from one list of tokens to the next
+left_after-append : (left : ℕ) (xs ys : List Lexeme) → left_after left (xs ++ ys) ≡ left_after (left_after left xs) ys
+left_after-append left [] ys = refl
+left_after-append left (x ∷ xs) ys = left_after-append (left_behind x.kind left) xs ys
+
+IsShallow-append : (left : ℕ) (xs ys : List Lexeme) → IsShallow left xs → IsShallow (left_after left xs) ys → IsShallow left (xs ++ ys)
+IsShallow-append left [] ys h k = k
+IsShallow-append left (x ∷ xs) ys h k = (h.0, IsShallow-append (left_behind x.kind left) xs ys h.1 k)
+
+-- tokens are shallow, and so many counting tokens may still come behind them
+abbrev Leaves : State → List Lexeme → State → Type 0
+Leaves b tokens a = IsShallow b.left tokens × (a.left ≡ left_after b.left tokens)
+
+Leaves-append : (b x a : State) (xs ys : List Lexeme) → Leaves b xs x → Leaves x ys a → Leaves b (xs ++ ys) a
+Leaves-append b x a xs ys h k =
+    (IsShallow-append b.left xs ys h.0 (rw h.1 at k.0), k.1 ∙ ap (λ left. left_after left ys) h.1 ∙ sym (left_after-append b.left xs ys))
 
 pub Read-left : (p : Part) (b : State) (t : Tree) (a : State) → Read p b t a → IsShallow b.left (yield t) × (a.left ≡ left_after b.left (yield t))
-Read-left p b t a h = ?
+Read-left p b t a (reading.Read.token kinds l _ _ takes accepted shallow) = ((shallow, tt), takes.left)
+Read-left p b t a (reading.Read.empty _) = (tt, refl)
+Read-left p b t a (reading.Read.both q r u v _ x _ h k) = Leaves-append b x a (yield u) (yield v) (Read-left q b u x h) (Read-left r x v a k)
+Read-left p b t a (reading.Read.this q r u _ _ e h) = Read-left q b u a h
+Read-left p b t a (reading.Read.that q r u _ _ e h) = Read-left r b u a h
+Read-left p b t a (reading.Read.stop q _ e) = (tt, refl)
+Read-left p b t a (reading.Read.more q u v _ x _ e h k) = Leaves-append b x a (yield u) (yield v) (Read-left q b u x h) (Read-left (Many q) x v a k)
+Read-left p b t a (reading.Read.by_rule r u _ _ h) = Read-left (rule r) b u a h
+
+end_after-append : (last : ℕ) (xs ys : List Lexeme) → end_after last (xs ++ ys) ≡ end_after (end_after last xs) ys
+end_after-append last [] ys = refl
+end_after-append last (x ∷ xs) ys = end_after-append x.at.end xs ys
+
+-- the end behind two lists of tokens
+end-join : (first middle last : ℕ) (xs ys : List Lexeme) → middle ≡ end_after first xs → last ≡ end_after middle ys → last ≡ end_after first (xs ++ ys)
+end-join first middle last xs ys e f = f ∙ ap (λ end. end_after end ys) e ∙ sym (end_after-append first xs ys)
 
 pub Read-last : (p : Part) (b : State) (t : Tree) (a : State) → Read p b t a → a.last ≡ end_after b.last (yield t)
-Read-last p b t a h = ?
+Read-last p b t a (reading.Read.token kinds l _ _ takes accepted shallow) = takes.last
+Read-last p b t a (reading.Read.empty _) = refl
+Read-last p b t a (reading.Read.both q r u v _ x _ h k) = end-join b.last x.last a.last (yield u) (yield v) (Read-last q b u x h) (Read-last r x v a k)
+Read-last p b t a (reading.Read.this q r u _ _ e h) = Read-last q b u a h
+Read-last p b t a (reading.Read.that q r u _ _ e h) = Read-last r b u a h
+Read-last p b t a (reading.Read.stop q _ e) = refl
+Read-last p b t a (reading.Read.more q u v _ x _ e h k) = end-join b.last x.last a.last (yield u) (yield v) (Read-last q b u x h) (Read-last (Many q) x v a k)
+Read-last p b t a (reading.Read.by_rule r u _ _ h) = Read-last (rule r) b u a h
+
+-- two lists of which one has a token
+append-some : (xs ys : List Lexeme) → (0 < length xs) ⊎ (0 < length ys) → 0 < length (xs ++ ys)
+append-some xs ys (inl first) = omega (arith, length-append xs ys)
+append-some xs ys (inr second) = omega (arith, length-append xs ys)
 
 -- a part that can't spell nothing has a token
 pub Read-some : (p : Part) (b : State) (t : Tree) (a : State) → Read p b t a → nullable p ≡ false → 0 < length (yield t)
-Read-some p b t a h e = ?
+Read-some p b t a (reading.Read.token kinds l _ _ takes accepted shallow) e = omega arith
+Read-some p b t a (reading.Read.empty _) e = cc
+Read-some p b t a (reading.Read.both q r u v _ x _ h k) e =
+    elim (and_cases (nullable q) (nullable r) e) [
+      inl first ↦ append-some (yield u) (yield v) (inl (Read-some q b u x h first))
+    | inr second ↦ append-some (yield u) (yield v) (inr (Read-some r x v a k second))
+    ]
+Read-some p b t a (reading.Read.this q r u _ _ o h) e = Read-some q b u a h (or_parts (nullable q) (nullable r) e).0
+Read-some p b t a (reading.Read.that q r u _ _ o h) e = Read-some r b u a h (or_parts (nullable q) (nullable r) e).1
+Read-some p b t a (reading.Read.stop q _ o) e = cc
+Read-some p b t a (reading.Read.more q u v _ x _ o h k) e = cc
+Read-some p b t a (reading.Read.by_rule r u _ _ h) e = Read-some (rule r) b u a h (nullable-rule r)
 
 -- whatever else derives the tokens in front of the reader derives from the part the same tree
 pub Read-only : (p : Part) (b : State) (t : Tree) (a : State) → Read p b t a → (S : Part) → Clear p (starts S)
@@ -92,10 +169,70 @@ Fails-next p b a h S clear front l ls split here viable = ?
 pub Fails-deep : (p : Part) (b a : State) → Fails p b TooDeep a → Deep p b a
 Fails-deep p b a h = ?
 
+-- where two lists are split in two places, the first place lies in front of the second one, or the other way round
+append-split : (us vs xs ys : List Lexeme) → us ++ vs ≡ xs ++ ys
+    → ((zs : List Lexeme) × (us ≡ xs ++ zs)) ⊎ ((zs : List Lexeme) × (xs ≡ us ++ zs) × (vs ≡ zs ++ ys))
+append-split [] vs xs ys e = inr (xs, refl, e)
+append-split (u ∷ us) vs [] ys e = inl (u ∷ us, refl)
+append-split (u ∷ us) vs (x ∷ xs) ys e =
+    let same : u ≡ x = cc in
+    let later : us ++ vs ≡ xs ++ ys = cc in
+    elim (append-split us vs xs ys later) [
+      inl (zs, is) ↦ inl (zs, cc)
+    | inr (zs, is, more) ↦ inr (zs, cc, more)
+    ]
+
+-- each front of nothing, and of one token
+front-nothing : (p : Part) (xs ys : List Lexeme) → [] ≡ xs ++ ys → Viable p xs
+front-nothing p [] ys e = grammar.Viable.none p
+front-nothing p (x ∷ xs) ys e = cc
+
+front-token : (kinds : List Kind) (l : Lexeme) → accepts kinds l.kind ≡ true → (xs ys : List Lexeme) → l ∷ [] ≡ xs ++ ys → Viable (One kinds) xs
+front-token kinds l accepted [] ys e = grammar.Viable.none (One kinds)
+front-token kinds l accepted (x ∷ []) ys e =
+    let same : l ≡ x = cc in
+    rw same at (grammar.Viable.token kinds l accepted)
+front-token kinds l accepted (x ∷ next ∷ xs) ys e =
+    let later : [] ≡ next ∷ xs ++ ys = cc in
+    cc
+
+-- each front of what a sequence spells, or begins
+front-sequence : (p q : Part) (t : Tree) (ts xs ys : List Lexeme) → Fits p t → yield t ++ ts ≡ xs ++ ys
+    → ((xs ys : List Lexeme) → yield t ≡ xs ++ ys → Viable p xs) → ((xs ys : List Lexeme) → ts ≡ xs ++ ys → Viable q xs) → Viable (Seq p q) xs
+front-sequence p q t ts xs ys fits e first rest =
+    elim (append-split (yield t) ts xs ys e) [
+      inl (zs, is) ↦ grammar.Viable.first p q xs (first xs zs is)
+    | inr (zs, is, more) ↦ rw is (grammar.Viable.rest p q t zs fits (rest zs ys more))
+    ]
+
+-- each front of what derives is a beginning
+Fits-front : (p : Part) (t : Tree) → Fits p t → (xs ys : List Lexeme) → yield t ≡ xs ++ ys → Viable p xs
+Fits-front (One kinds) (Leaf l) h xs ys e = front-token kinds l h xs ys e
+Fits-front Empty Nothing h xs ys e = front-nothing Empty xs ys e
+Fits-front (Seq p q) (Pair t u) h xs ys e = front-sequence p q t (yield u) xs ys h.0 e (Fits-front p t h.0) (Fits-front q u h.1)
+Fits-front (Either p q) (This t) h xs ys e = grammar.Viable.left p q xs (Fits-front p t h xs ys e)
+Fits-front (Either p q) (That t) h xs ys e = grammar.Viable.right p q xs (Fits-front q t h xs ys e)
+Fits-front (Many p) Nothing h xs ys e = front-nothing (Many p) xs ys e
+Fits-front (Many p) (More t u) h xs ys e =
+    grammar.Viable.again p xs (front-sequence p (Many p) t (yield u) xs ys h.0 e (Fits-front p t h.0) (Fits-front (Many p) u h.1))
+Fits-front (Use r) (Node t) h xs ys e = grammar.Viable.by_rule r xs (Fits-front (rule r) t h xs ys e)
+Fits-front _ _ h xs ys e = absurd h
+
+-- the same of a beginning, whose tokens stand in a variable
+Viable-start : (p : Part) (ts : List Lexeme) → Viable p ts → (xs ys : List Lexeme) → ts ≡ xs ++ ys → Viable p xs
+Viable-start p ts (grammar.Viable.none _) xs ys e = front-nothing p xs ys e
+Viable-start p ts (grammar.Viable.token kinds l accepted) xs ys e = front-token kinds l accepted xs ys e
+Viable-start p ts (grammar.Viable.first q r _ h) xs ys e = grammar.Viable.first q r xs (Viable-start q ts h xs ys e)
+Viable-start p ts (grammar.Viable.rest q r t us fits h) xs ys e = front-sequence q r t us xs ys fits e (Fits-front q t fits) (Viable-start r us h)
+Viable-start p ts (grammar.Viable.left q r _ h) xs ys e = grammar.Viable.left q r xs (Viable-start q ts h xs ys e)
+Viable-start p ts (grammar.Viable.right q r _ h) xs ys e = grammar.Viable.right q r xs (Viable-start r ts h xs ys e)
+Viable-start p ts (grammar.Viable.again q _ h) xs ys e = grammar.Viable.again q xs (Viable-start (Seq q (Many q)) ts h xs ys e)
+Viable-start p ts (grammar.Viable.by_rule r _ h) xs ys e = grammar.Viable.by_rule r xs (Viable-start (rule r) ts h xs ys e)
+
 -- each front of a beginning is one
 pub Viable-front : (p : Part) (xs ys : List Lexeme) → Viable p (xs ++ ys) → Viable p xs
-Viable-front p xs ys h = ?
+Viable-front p xs ys h = Viable-start p (xs ++ ys) h xs ys refl
 
 -- what derives is a beginning
 pub Fits-viable : (p : Part) (t : Tree) → Fits p t → Viable p (yield t)
-Fits-viable p t h = ?
+Fits-viable p t h = Fits-front p t h (yield t) [] (sym (append-nil (yield t)))
