@@ -151,9 +151,38 @@ pub Read-viable : (p : Part) (b : State) (t : Tree) (a : State) → Read p b t a
     → (ys zs : List Lexeme) → a.rest ≡ ys ++ zs → Viable (Seq p S) (yield t ++ ys) → Viable S ys
 Read-viable p b t a h S clear ys zs split viable = ?
 
+-- what was read up to a place, seen from a part around it, and from further in front
+Front-around : (p q : Part) (b a : State) → ((ts : List Lexeme) → Viable p ts → Viable q ts) → Front p b a → Front q b a
+Front-around p q b a around f = record { tokens = f.tokens; split = f.split; viable = around f.tokens f.viable; shallow = f.shallow; left = f.left }
+
+Front-behind : (p q : Part) (t : Tree) (b x a : State) → Read p b t x → Front q x a → Front (Seq p q) b a
+Front-behind p q t b x a h f =
+    let leaves : Leaves b (yield t ++ f.tokens) a = Leaves-append b x a (yield t) f.tokens (Read-left p b t x h) (f.shallow, f.left) in
+    record {
+      tokens = yield t ++ f.tokens;
+      split = split-join b.rest x.rest a.rest (yield t) f.tokens (Read-split p b t x h) f.split;
+      viable = grammar.Viable.rest p q t f.tokens (Read-fits p b t x h) f.viable;
+      shallow = leaves.0;
+      left = leaves.1
+    }
+
+-- where nothing was read
+Front-here : (p : Part) (b : State) → Front p b b
+Front-here p b = record { tokens = []; split = refl; viable = grammar.Viable.none p; shallow = tt; left = refl }
+
 -- what stands in front of a failure is a beginning
 pub Fails-front : (p : Part) (c : Cause) (b a : State) → Fails p b c a → Front p b a
-Fails-front p c b a h = ?
+Fails-front p c b a (reading.Fails.other kinds _ e) = Front-here p b
+Fails-front p c b a (reading.Fails.deep kinds l ls _ e accepted deep) = Front-here p b
+Fails-front p c b a (reading.Fails.first q r _ _ _ h) = Front-around q p b a (grammar.Viable.first q r) (Fails-front q c b a h)
+Fails-front p c b a (reading.Fails.second q r t _ _ x _ k h) = Front-behind q r t b x a k (Fails-front r c x a h)
+Fails-front p c b a (reading.Fails.this q r _ _ _ o h) = Front-around q p b a (grammar.Viable.left q r) (Fails-front q c b a h)
+Fails-front p c b a (reading.Fails.that q r _ _ _ o h) = Front-around r p b a (grammar.Viable.right q r) (Fails-front r c b a h)
+Fails-front p c b a (reading.Fails.item q _ _ _ o h) =
+    Front-around q p b a (λ ts viable. grammar.Viable.again q ts (grammar.Viable.first q (Many q) ts viable)) (Fails-front q c b a h)
+Fails-front p c b a (reading.Fails.later q t _ _ x _ o k h) =
+    Front-around (Seq q (Many q)) p b a (grammar.Viable.again q) (Front-behind q (Many q) t b x a k (Fails-front (Many q) c x a h))
+Fails-front p c b a (reading.Fails.by_rule r _ _ _ h) = Front-around (rule r) p b a (grammar.Viable.by_rule r) (Fails-front (rule r) c b a h)
 
 -- the tokens in front of a reader that fails derive from nothing that begins with the part
 pub Fails-none : (p : Part) (b a : State) → Fails p b Expected a → (S : Part) → Clear p (starts S)
@@ -165,9 +194,62 @@ pub Fails-next : (p : Part) (b a : State) → Fails p b Expected a → (S : Part
     → (front : List Lexeme) (l : Lexeme) (ls : List Lexeme) → b.rest ≡ front ++ a.rest → a.rest ≡ l ∷ ls → Viable (Seq p S) (front ++ l ∷ []) → ⊥
 Fails-next p b a h S clear front l ls split here viable = ?
 
+-- a token that is one too many, seen from a part around it, and from further in front
+Deep-around : (p q : Part) (b a : State) → ((ts : List Lexeme) → Viable p ts → Viable q ts) → Deep p b a → Deep q b a
+Deep-around p q b a around d = record {
+      front = d.front;
+      token = d.token;
+      behind = d.behind;
+      here = d.here;
+      split = d.split;
+      viable = around (d.front ++ d.token ∷ []) d.viable;
+      shallow = d.shallow;
+      left = d.left;
+      deep = d.deep
+    }
+
+Deep-behind : (p q : Part) (t : Tree) (b x a : State) → Read p b t x → Deep q x a → Deep (Seq p q) b a
+Deep-behind p q t b x a h d =
+    let leaves : Leaves b (yield t ++ d.front) a = Leaves-append b x a (yield t) d.front (Read-left p b t x h) (d.shallow, d.left) in
+    record {
+      front = yield t ++ d.front;
+      token = d.token;
+      behind = d.behind;
+      here = d.here;
+      split = split-join b.rest x.rest a.rest (yield t) d.front (Read-split p b t x h) d.split;
+      viable = rw append_assoc (grammar.Viable.rest p q t (d.front ++ d.token ∷ []) (Read-fits p b t x h) d.viable);
+      shallow = leaves.0;
+      left = leaves.1;
+      deep = d.deep
+    }
+
+-- the same with the cause in a variable
+Fails-deep_at : (p : Part) (c : Cause) (b a : State) → Fails p b c a → c ≡ TooDeep → Deep p b a
+Fails-deep_at p c b a (reading.Fails.other kinds _ e) is = cc
+Fails-deep_at p c b a (reading.Fails.deep kinds l ls _ e accepted deep) is = record {
+      front = [];
+      token = l;
+      behind = ls;
+      here = e;
+      split = refl;
+      viable = grammar.Viable.token kinds l accepted;
+      shallow = tt;
+      left = refl;
+      deep = deep
+    }
+Fails-deep_at p c b a (reading.Fails.first q r _ _ _ h) is = Deep-around q p b a (grammar.Viable.first q r) (Fails-deep_at q c b a h is)
+Fails-deep_at p c b a (reading.Fails.second q r t _ _ x _ k h) is = Deep-behind q r t b x a k (Fails-deep_at r c x a h is)
+Fails-deep_at p c b a (reading.Fails.this q r _ _ _ o h) is = Deep-around q p b a (grammar.Viable.left q r) (Fails-deep_at q c b a h is)
+Fails-deep_at p c b a (reading.Fails.that q r _ _ _ o h) is = Deep-around r p b a (grammar.Viable.right q r) (Fails-deep_at r c b a h is)
+Fails-deep_at p c b a (reading.Fails.item q _ _ _ o h) is =
+    Deep-around q p b a (λ ts viable. grammar.Viable.again q ts (grammar.Viable.first q (Many q) ts viable)) (Fails-deep_at q c b a h is)
+Fails-deep_at p c b a (reading.Fails.later q t _ _ x _ o k h) is =
+    Deep-around (Seq q (Many q)) p b a (grammar.Viable.again q) (Deep-behind q (Many q) t b x a k (Fails-deep_at (Many q) c x a h is))
+Fails-deep_at p c b a (reading.Fails.by_rule r _ _ _ h) is = Deep-around (rule r) p b a (grammar.Viable.by_rule r) (Fails-deep_at (rule r) c b a h is)
+
 -- a token that is one too many may stand there
 pub Fails-deep : (p : Part) (b a : State) → Fails p b TooDeep a → Deep p b a
-Fails-deep p b a h = ?
+Fails-deep p b a h = Fails-deep_at p TooDeep b a h refl
 
 -- where two lists are split in two places, the first place lies in front of the second one, or the other way round
 append-split : (us vs xs ys : List Lexeme) → us ++ vs ≡ xs ++ ys
