@@ -1,2 +1,3 @@
 pub mod Predict
+pub mod Beginnings
 pub mod Derivation
