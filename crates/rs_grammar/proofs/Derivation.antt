@@ -4,11 +4,12 @@ use Rattle.rs_grammar.specs.Kinds.{accepts}
 use Rattle.std.proofs.lemmas.Bool.{and_cases, or_parts}
 use Rattle.rs_grammar.specs.Grammar.{Part, One, Empty, Seq, Either, Many, Use, rule, Tree, Leaf, Nothing, Pair, This, That, More, Node, yield, Fits, Viable}
 use Rattle.rs_grammar.specs.Grammar as grammar
-use Rattle.rs_grammar.specs.Reading.{State, starts, nullable, opens, left_behind, is_too_deep, Takes, Read, Fails, Cause, Expected, TooDeep}
+use Rattle.rs_grammar.specs.Reading.{State, starts, nullable, next_is, opens, left_behind, is_too_deep, Takes, Read, Fails, Cause, Expected, TooDeep}
 use Rattle.rs_grammar.specs.Reading as reading
 use Rattle.rs_grammar.specs.declared.kind.Kind.{Kind}
 use Rattle.rs_grammar.specs.declared.lexeme.Lexeme.{Lexeme}
 use Rattle.rs_grammar.proofs.Predict.{Clear, nullable-rule}
+use Rattle.rs_grammar.proofs.Beginnings.{Clear-use, Inside, Apart, Behind, Token, Fits-one, Fits-seq, Fits-use, Fits-this, Fits-that, Fits-more, Viable-one, Viable-seq, Viable-use, Viable-this, Viable-that, Viable-more}
 
 -- how many counting tokens may still come behind these tokens, and whether none of them is one too many
 abbrev pub left_after : ℕ → List Lexeme → ℕ
@@ -184,15 +185,117 @@ Fails-front p c b a (reading.Fails.later q t _ _ x _ o k h) =
     Front-around (Seq q (Many q)) p b a (grammar.Viable.again q) (Front-behind q (Many q) t b x a k (Fails-front (Many q) c x a h))
 Fails-front p c b a (reading.Fails.by_rule r _ _ _ h) = Front-around (rule r) p b a (grammar.Viable.by_rule r) (Fails-front (rule r) c b a h)
 
+-- what the next token of equal tokens begins
+next-same : (kinds : List Kind) (xs ys : List Lexeme) (b : Bool) → xs ≡ ys → next_is kinds ys ≡ b → next_is kinds xs ≡ b
+next-same kinds xs ys b e next = rw e next
+
+-- the same with the cause in a variable
+Fails-none_at : (p : Part) (c : Cause) (b a : State) → Fails p b c a → c ≡ Expected → (S : Part) → Clear p (starts S)
+    → (x : Tree) → Fits (Seq p S) x → yield x ≡ b.rest → ⊥
+Fails-none_at p c b a (reading.Fails.other kinds _ e) is S clear x fits spells =
+    let t = Fits-one kinds S x fits in
+    let out : next_is kinds (t.token ∷ yield t.tail) ≡ false = next-same kinds (t.token ∷ yield t.tail) b.rest false (sym t.spells ∙ spells) e in
+    let accepted : accepts kinds t.token.kind ≡ true = t.accepted in
+    cc
+Fails-none_at p c b a (reading.Fails.deep kinds l ls _ e accepted deep) is S clear x fits spells = cc
+Fails-none_at p c b a (reading.Fails.first q r _ _ _ h) is S clear x fits spells =
+    let parts = Fits-seq q r S x fits in
+    Fails-none_at q c b a h is (Seq r S) clear.0 (Pair parts.one (Pair parts.two parts.tail)) parts.fits (parts.spells ∙ spells)
+Fails-none_at p c b a (reading.Fails.second q r t _ _ y _ k h) is S clear x fits spells =
+    let parts = Fits-seq q r S x fits in
+    let others = Read-only q b t y k (Seq r S) clear.0 (Pair parts.one (Pair parts.two parts.tail)) parts.fits (parts.spells ∙ spells) in
+    Fails-none_at r c y a h is S clear.1 others.tail others.fits others.spells
+Fails-none_at p c b a (reading.Fails.this q r _ _ _ o h) is S clear x fits spells =
+    let parts = Fits-this q r S x clear (next-same (starts q) (yield x) b.rest true spells o) fits in
+    Fails-none_at q c b a h is S clear.3 (Pair parts.part parts.tail) parts.fits (parts.spells ∙ spells)
+Fails-none_at p c b a (reading.Fails.that q r _ _ _ o h) is S clear x fits spells =
+    let parts = Fits-that q r S x clear (next-same (starts q) (yield x) b.rest false spells o) fits in
+    Fails-none_at r c b a h is S clear.4 (Pair parts.part parts.tail) parts.fits (parts.spells ∙ spells)
+Fails-none_at p c b a (reading.Fails.item q _ _ _ o h) is S clear x fits spells =
+    let parts = Fits-more q S x clear (next-same (starts q) (yield x) b.rest true spells o) fits in
+    Fails-none_at q c b a h is (Seq (Many q) S) clear.2 (Pair parts.one (Pair parts.two parts.tail)) parts.fits (parts.spells ∙ spells)
+Fails-none_at p c b a (reading.Fails.later q t _ _ y _ o k h) is S clear x fits spells =
+    let parts = Fits-more q S x clear (next-same (starts q) (yield x) b.rest true spells o) fits in
+    let others = Read-only q b t y k (Seq (Many q) S) clear.2 (Pair parts.one (Pair parts.two parts.tail)) parts.fits (parts.spells ∙ spells) in
+    Fails-none_at (Many q) c y a h is S clear others.tail others.fits others.spells
+Fails-none_at p c b a (reading.Fails.by_rule r _ _ _ h) is S clear x fits spells =
+    let parts = Fits-use r S x fits in
+    Fails-none_at (rule r) c b a h is S (Clear-use r S clear) (Pair parts.part parts.tail) parts.fits (parts.spells ∙ spells)
+
 -- the tokens in front of a reader that fails derive from nothing that begins with the part
 pub Fails-none : (p : Part) (b a : State) → Fails p b Expected a → (S : Part) → Clear p (starts S)
     → (x : Tree) → Fits (Seq p S) x → yield x ≡ b.rest → ⊥
-Fails-none p b a h S clear x fits spells = ?
+Fails-none p b a h S clear x fits spells = Fails-none_at p Expected b a h refl S clear x fits spells
+
+-- two fronts of the same tokens, with the same tokens behind them, are equal
+front-same : (xs ys zs : List Lexeme) → xs ++ zs ≡ ys ++ zs → xs ≡ ys
+front-same [] [] zs e = refl
+front-same [] (y ∷ ys) zs e =
+    let longer : length zs ≡ length (y ∷ ys ++ zs) = ap length e in
+    absurd (omega (arith, longer, length-append (y ∷ ys) zs))
+front-same (x ∷ xs) [] zs e =
+    let longer : length (x ∷ xs ++ zs) ≡ length zs = ap length e in
+    absurd (omega (arith, longer, length-append (x ∷ xs) zs))
+front-same (x ∷ xs) (y ∷ ys) zs e =
+    let same : x ≡ y = cc in
+    let others : xs ≡ ys = front-same xs ys zs cc in
+    cc
+
+-- tokens up to and with one of them, and those behind it
+front-and : (front rest ls : List Lexeme) (l : Lexeme) (all : List Lexeme) → all ≡ front ++ rest → rest ≡ l ∷ ls → all ≡ front ++ l ∷ [] ++ ls
+front-and front rest ls l all split here = split ∙ ap (λ more. front ++ more) here ∙ sym (append_assoc front (l ∷ []) ls)
+
+-- what a reader reads and what stands behind it up to its failure is all that stands in front of the failure
+front-read : (p q : Part) (t : Tree) (b x a : State) → Read p b t x → (f : Front q x a)
+    → (front : List Lexeme) → b.rest ≡ front ++ a.rest → front ≡ yield t ++ f.tokens
+front-read p q t b x a h f front split =
+    front-same front (yield t ++ f.tokens) a.rest (sym split ∙ split-join b.rest x.rest a.rest (yield t) f.tokens (Read-split p b t x h) f.split)
+
+-- a beginning that goes on behind what was read, up to a failure
+viable-behind : (p q S : Part) (t : Tree) (b x a : State) → Read p b t x → Clear p (starts S) → (f : Front q x a)
+    → (front : List Lexeme) (l : Lexeme) (ls : List Lexeme) → b.rest ≡ front ++ a.rest → a.rest ≡ l ∷ ls
+    → Viable (Seq p S) (front ++ l ∷ []) → Viable S (f.tokens ++ l ∷ [])
+viable-behind p q S t b x a k clear f front l ls split here viable =
+    let whole : front ++ l ∷ [] ≡ yield t ++ (f.tokens ++ l ∷ []) =
+      ap (λ tokens. tokens ++ l ∷ []) (front-read p q t b x a k f front split) ∙ append_assoc (yield t) f.tokens (l ∷ []) in
+    Read-viable p b t x k S clear (f.tokens ++ l ∷ []) ls (front-and f.tokens a.rest ls l x.rest f.split here) (rw whole at viable)
+
+-- the same with the cause in a variable
+Fails-next_at : (p : Part) (c : Cause) (b a : State) → Fails p b c a → c ≡ Expected → (S : Part) → Clear p (starts S)
+    → (front : List Lexeme) (l : Lexeme) (ls : List Lexeme) → b.rest ≡ front ++ a.rest → a.rest ≡ l ∷ ls → Viable (Seq p S) (front ++ l ∷ []) → ⊥
+Fails-next_at p c b a (reading.Fails.other kinds _ e) is S clear front l ls split here viable =
+    let none : front ≡ [] = front-same front [] b.rest (sym split) in
+    let out : next_is kinds (l ∷ ls) ≡ false = next-same kinds (l ∷ ls) b.rest false (sym here) e in
+    let accepted : accepts kinds l.kind ≡ true = (Viable-one kinds S l [] (rw none at viable)).0 in
+    cc
+Fails-next_at p c b a (reading.Fails.deep kinds l _ _ e accepted deep) is S clear front _ ls split here viable = cc
+Fails-next_at p c b a (reading.Fails.first q r _ _ _ h) is S clear front l ls split here viable =
+    Fails-next_at q c b a h is (Seq r S) clear.0 front l ls split here (Viable-seq q r S (front ++ l ∷ []) viable)
+Fails-next_at p c b a (reading.Fails.second q r t _ _ y _ k h) is S clear front l ls split here viable =
+    let f = Fails-front r c y a h in
+    Fails-next_at r c y a h is S clear.1 f.tokens l ls f.split here
+    (viable-behind q r (Seq r S) t b y a k clear.0 f front l ls split here (Viable-seq q r S (front ++ l ∷ []) viable))
+Fails-next_at p c b a (reading.Fails.this q r _ _ _ o h) is S clear front l ls split here viable =
+    let next : next_is (starts q) (front ++ l ∷ [] ++ ls) ≡ true = next-same (starts q) (front ++ l ∷ [] ++ ls) b.rest true (sym (front-and front a.rest ls l b.rest split here)) o in
+    Fails-next_at q c b a h is S clear.3 front l ls split here (Viable-this q r S (front ++ l ∷ []) ls clear next viable)
+Fails-next_at p c b a (reading.Fails.that q r _ _ _ o h) is S clear front l ls split here viable =
+    let next : next_is (starts q) (front ++ l ∷ [] ++ ls) ≡ false = next-same (starts q) (front ++ l ∷ [] ++ ls) b.rest false (sym (front-and front a.rest ls l b.rest split here)) o in
+    Fails-next_at r c b a h is S clear.4 front l ls split here (Viable-that q r S (front ++ l ∷ []) ls clear next viable)
+Fails-next_at p c b a (reading.Fails.item q _ _ _ o h) is S clear front l ls split here viable =
+    let next : next_is (starts q) (front ++ l ∷ [] ++ ls) ≡ true = next-same (starts q) (front ++ l ∷ [] ++ ls) b.rest true (sym (front-and front a.rest ls l b.rest split here)) o in
+    Fails-next_at q c b a h is (Seq (Many q) S) clear.2 front l ls split here (Viable-more q S (front ++ l ∷ []) ls clear next viable)
+Fails-next_at p c b a (reading.Fails.later q t _ _ y _ o k h) is S clear front l ls split here viable =
+    let next : next_is (starts q) (front ++ l ∷ [] ++ ls) ≡ true = next-same (starts q) (front ++ l ∷ [] ++ ls) b.rest true (sym (front-and front a.rest ls l b.rest split here)) o in
+    let f = Fails-front (Many q) c y a h in
+    Fails-next_at (Many q) c y a h is S clear f.tokens l ls f.split here
+    (viable-behind q (Many q) (Seq (Many q) S) t b y a k clear.2 f front l ls split here (Viable-more q S (front ++ l ∷ []) ls clear next viable))
+Fails-next_at p c b a (reading.Fails.by_rule r _ _ _ h) is S clear front l ls split here viable =
+    Fails-next_at (rule r) c b a h is S (Clear-use r S clear) front l ls split here (Viable-use r S (front ++ l ∷ []) viable)
 
 -- nor do they begin it with the token at which it fails
 pub Fails-next : (p : Part) (b a : State) → Fails p b Expected a → (S : Part) → Clear p (starts S)
     → (front : List Lexeme) (l : Lexeme) (ls : List Lexeme) → b.rest ≡ front ++ a.rest → a.rest ≡ l ∷ ls → Viable (Seq p S) (front ++ l ∷ []) → ⊥
-Fails-next p b a h S clear front l ls split here viable = ?
+Fails-next p b a h S clear front l ls split here viable = Fails-next_at p Expected b a h refl S clear front l ls split here viable
 
 -- a token that is one too many, seen from a part around it, and from further in front
 Deep-around : (p q : Part) (b a : State) → ((ts : List Lexeme) → Viable p ts → Viable q ts) → Deep p b a → Deep q b a
