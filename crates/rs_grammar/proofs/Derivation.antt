@@ -1,15 +1,16 @@
 -- What a reader reads is a derivation, and the only one; where it fails, none goes on.
-use Rattle.std.proofs.Common.{ℕ, ◌≡◌, ◌+◌, ◌≤◌, ◌<◌, ◌⊎◌, inl, inr, Bool, true, false, List, [], ◌∷◌, ◌++◌, length, refl, sym, ap, ◌∙◌, arith, append_assoc, append-nil, length-append}
-use Rattle.rs_grammar.specs.Kinds.{accepts}
+use Rattle.std.proofs.Common.{ℕ, ◌≡◌, ◌<◌, ◌⊎◌, inl, inr, Bool, true, false, List, [], ◌∷◌, ◌++◌, length, refl, sym, ap, ◌∙◌, arith, append_assoc, append-nil, length-append}
 use Rattle.std.proofs.lemmas.Bool.{and_cases, or_parts}
+use Rattle.std.proofs.lemmas.List.{append_cancel_right}
+use Rattle.rs_grammar.specs.Kinds.{accepts}
 use Rattle.rs_grammar.specs.Grammar.{Part, One, Empty, Seq, Either, Many, Use, rule, Tree, Leaf, Nothing, Pair, This, That, More, Node, yield, Fits, Viable}
 use Rattle.rs_grammar.specs.Grammar as grammar
-use Rattle.rs_grammar.specs.Reading.{State, starts, nullable, next_is, opens, left_behind, is_too_deep, Takes, Read, Fails, Cause, Expected, TooDeep}
+use Rattle.rs_grammar.specs.Reading.{State, starts, nullable, next_is, left_behind, is_too_deep, Read, Fails, Cause, Expected, TooDeep}
 use Rattle.rs_grammar.specs.Reading as reading
 use Rattle.rs_grammar.specs.declared.kind.Kind.{Kind}
 use Rattle.rs_grammar.specs.declared.lexeme.Lexeme.{Lexeme}
 use Rattle.rs_grammar.proofs.Predict.{Clear, nullable-rule}
-use Rattle.rs_grammar.proofs.Beginnings.{Clear-use, Inside, Apart, Behind, Token, Fits-one, Fits-seq, Fits-use, Fits-this, Fits-that, Fits-more, Viable-one, Viable-seq, Viable-use, Viable-this, Viable-that, Viable-more}
+use Rattle.rs_grammar.proofs.Beginnings.{Clear-use, Fits-one, Fits-seq, Fits-use, Fits-this, Fits-that, Fits-more, Viable-one, Viable-seq, Viable-use, Viable-this, Viable-that, Viable-more}
 
 -- how many counting tokens may still come behind these tokens, and whether none of them is one too many
 abbrev pub left_after : ℕ → List Lexeme → ℕ
@@ -82,6 +83,7 @@ left_after-append : (left : ℕ) (xs ys : List Lexeme) → left_after left (xs +
 left_after-append left [] ys = refl
 left_after-append left (x ∷ xs) ys = left_after-append (left_behind x.kind left) xs ys
 
+-- tokens are shallow where the first of them are, and the others behind those
 IsShallow-append : (left : ℕ) (xs ys : List Lexeme) → IsShallow left xs → IsShallow (left_after left xs) ys → IsShallow left (xs ++ ys)
 IsShallow-append left [] ys h k = k
 IsShallow-append left (x ∷ xs) ys h k = (h.0, IsShallow-append (left_behind x.kind left) xs ys h.1 k)
@@ -104,6 +106,7 @@ Read-left p b t a (reading.Read.stop q _ e) = (tt, refl)
 Read-left p b t a (reading.Read.more q u v _ x _ e h k) = Leaves-append b x a (yield u) (yield v) (Read-left q b u x h) (Read-left (Many q) x v a k)
 Read-left p b t a (reading.Read.by_rule r u _ _ h) = Read-left (rule r) b u a h
 
+-- the end goes on from one list of tokens to the next
 end_after-append : (last : ℕ) (xs ys : List Lexeme) → end_after last (xs ++ ys) ≡ end_after (end_after last xs) ys
 end_after-append last [] ys = refl
 end_after-append last (x ∷ xs) ys = end_after-append x.at.end xs ys
@@ -123,9 +126,9 @@ Read-last p b t a (reading.Read.more q u v _ x _ e h k) = end-join b.last x.last
 Read-last p b t a (reading.Read.by_rule r u _ _ h) = Read-last (rule r) b u a h
 
 -- two lists of which one has a token
-append-some : (xs ys : List Lexeme) → (0 < length xs) ⊎ (0 < length ys) → 0 < length (xs ++ ys)
-append-some xs ys (inl first) = omega (arith, length-append xs ys)
-append-some xs ys (inr second) = omega (arith, length-append xs ys)
+append-positive : (xs ys : List Lexeme) → (0 < length xs) ⊎ (0 < length ys) → 0 < length (xs ++ ys)
+append-positive xs ys (inl first) = omega (arith, length-append xs ys)
+append-positive xs ys (inr second) = omega (arith, length-append xs ys)
 
 -- a part that can't spell nothing has a token
 pub Read-some : (p : Part) (b : State) (t : Tree) (a : State) → Read p b t a → nullable p ≡ false → 0 < length (yield t)
@@ -133,8 +136,8 @@ Read-some p b t a (reading.Read.token kinds l _ _ takes accepted shallow) e = om
 Read-some p b t a (reading.Read.empty _) e = cc
 Read-some p b t a (reading.Read.both q r u v _ x _ h k) e =
     elim (and_cases (nullable q) (nullable r) e) [
-      inl first ↦ append-some (yield u) (yield v) (inl (Read-some q b u x h first))
-    | inr second ↦ append-some (yield u) (yield v) (inr (Read-some r x v a k second))
+      | inl first ↦ append-positive (yield u) (yield v) (inl (Read-some q b u x h first))
+      | inr second ↦ append-positive (yield u) (yield v) (inr (Read-some r x v a k second))
     ]
 Read-some p b t a (reading.Read.this q r u _ _ o h) e = Read-some q b u a h (or_parts (nullable q) (nullable r) e).0
 Read-some p b t a (reading.Read.that q r u _ _ o h) e = Read-some r b u a h (or_parts (nullable q) (nullable r) e).1
@@ -152,10 +155,11 @@ pub Read-viable : (p : Part) (b : State) (t : Tree) (a : State) → Read p b t a
     → (ys zs : List Lexeme) → a.rest ≡ ys ++ zs → Viable (Seq p S) (yield t ++ ys) → Viable S ys
 Read-viable p b t a h S clear ys zs split viable = ?
 
--- what was read up to a place, seen from a part around it, and from further in front
+-- what was read of a part was read of another part too, where each beginning of the first is one of the second
 Front-around : (p q : Part) (b a : State) → ((ts : List Lexeme) → Viable p ts → Viable q ts) → Front p b a → Front q b a
 Front-around p q b a around f = record { tokens = f.tokens; split = f.split; viable = around f.tokens f.viable; shallow = f.shallow; left = f.left }
 
+-- what was read of the second part of a sequence, together with what was read of its first part
 Front-behind : (p q : Part) (t : Tree) (b x a : State) → Read p b t x → Front q x a → Front (Seq p q) b a
 Front-behind p q t b x a h f =
     let leaves : Leaves b (yield t ++ f.tokens) a = Leaves-append b x a (yield t) f.tokens (Read-left p b t x h) (f.shallow, f.left) in
@@ -164,7 +168,7 @@ Front-behind p q t b x a h f =
       split = split-join b.rest x.rest a.rest (yield t) f.tokens (Read-split p b t x h) f.split;
       viable = grammar.Viable.rest p q t f.tokens (Read-fits p b t x h) f.viable;
       shallow = leaves.0;
-      left = leaves.1
+      left = leaves.1;
     }
 
 -- where nothing was read
@@ -185,7 +189,7 @@ Fails-front p c b a (reading.Fails.later q t _ _ x _ o k h) =
     Front-around (Seq q (Many q)) p b a (grammar.Viable.again q) (Front-behind q (Many q) t b x a k (Fails-front (Many q) c x a h))
 Fails-front p c b a (reading.Fails.by_rule r _ _ _ h) = Front-around (rule r) p b a (grammar.Viable.by_rule r) (Fails-front (rule r) c b a h)
 
--- what the next token of equal tokens begins
+-- equal lists have the same next token
 next-same : (kinds : List Kind) (xs ys : List Lexeme) (b : Bool) → xs ≡ ys → next_is kinds ys ≡ b → next_is kinds xs ≡ b
 next-same kinds xs ys b e next = rw e next
 
@@ -227,20 +231,6 @@ pub Fails-none : (p : Part) (b a : State) → Fails p b Expected a → (S : Part
     → (x : Tree) → Fits (Seq p S) x → yield x ≡ b.rest → ⊥
 Fails-none p b a h S clear x fits spells = Fails-none_at p Expected b a h refl S clear x fits spells
 
--- two fronts of the same tokens, with the same tokens behind them, are equal
-front-same : (xs ys zs : List Lexeme) → xs ++ zs ≡ ys ++ zs → xs ≡ ys
-front-same [] [] zs e = refl
-front-same [] (y ∷ ys) zs e =
-    let longer : length zs ≡ length (y ∷ ys ++ zs) = ap length e in
-    absurd (omega (arith, longer, length-append (y ∷ ys) zs))
-front-same (x ∷ xs) [] zs e =
-    let longer : length (x ∷ xs ++ zs) ≡ length zs = ap length e in
-    absurd (omega (arith, longer, length-append (x ∷ xs) zs))
-front-same (x ∷ xs) (y ∷ ys) zs e =
-    let same : x ≡ y = cc in
-    let others : xs ≡ ys = front-same xs ys zs cc in
-    cc
-
 -- tokens up to and with one of them, and those behind it
 front-and : (front rest ls : List Lexeme) (l : Lexeme) (all : List Lexeme) → all ≡ front ++ rest → rest ≡ l ∷ ls → all ≡ front ++ l ∷ [] ++ ls
 front-and front rest ls l all split here = split ∙ ap (λ more. front ++ more) here ∙ sym (append_assoc front (l ∷ []) ls)
@@ -249,7 +239,7 @@ front-and front rest ls l all split here = split ∙ ap (λ more. front ++ more)
 front-read : (p q : Part) (t : Tree) (b x a : State) → Read p b t x → (f : Front q x a)
     → (front : List Lexeme) → b.rest ≡ front ++ a.rest → front ≡ yield t ++ f.tokens
 front-read p q t b x a h f front split =
-    front-same front (yield t ++ f.tokens) a.rest (sym split ∙ split-join b.rest x.rest a.rest (yield t) f.tokens (Read-split p b t x h) f.split)
+    append_cancel_right front (yield t ++ f.tokens) a.rest (sym split ∙ split-join b.rest x.rest a.rest (yield t) f.tokens (Read-split p b t x h) f.split)
 
 -- a beginning that goes on behind what was read, up to a failure
 viable-behind : (p q S : Part) (t : Tree) (b x a : State) → Read p b t x → Clear p (starts S) → (f : Front q x a)
@@ -257,14 +247,14 @@ viable-behind : (p q S : Part) (t : Tree) (b x a : State) → Read p b t x → C
     → Viable (Seq p S) (front ++ l ∷ []) → Viable S (f.tokens ++ l ∷ [])
 viable-behind p q S t b x a k clear f front l ls split here viable =
     let whole : front ++ l ∷ [] ≡ yield t ++ (f.tokens ++ l ∷ []) =
-      ap (λ tokens. tokens ++ l ∷ []) (front-read p q t b x a k f front split) ∙ append_assoc (yield t) f.tokens (l ∷ []) in
+    ap (λ tokens. tokens ++ l ∷ []) (front-read p q t b x a k f front split) ∙ append_assoc (yield t) f.tokens (l ∷ []) in
     Read-viable p b t x k S clear (f.tokens ++ l ∷ []) ls (front-and f.tokens a.rest ls l x.rest f.split here) (rw whole at viable)
 
 -- the same with the cause in a variable
 Fails-next_at : (p : Part) (c : Cause) (b a : State) → Fails p b c a → c ≡ Expected → (S : Part) → Clear p (starts S)
     → (front : List Lexeme) (l : Lexeme) (ls : List Lexeme) → b.rest ≡ front ++ a.rest → a.rest ≡ l ∷ ls → Viable (Seq p S) (front ++ l ∷ []) → ⊥
 Fails-next_at p c b a (reading.Fails.other kinds _ e) is S clear front l ls split here viable =
-    let none : front ≡ [] = front-same front [] b.rest (sym split) in
+    let none : front ≡ [] = append_cancel_right front [] b.rest (sym split) in
     let out : next_is kinds (l ∷ ls) ≡ false = next-same kinds (l ∷ ls) b.rest false (sym here) e in
     let accepted : accepts kinds l.kind ≡ true = (Viable-one kinds S l [] (rw none at viable)).0 in
     cc
@@ -297,20 +287,21 @@ pub Fails-next : (p : Part) (b a : State) → Fails p b Expected a → (S : Part
     → (front : List Lexeme) (l : Lexeme) (ls : List Lexeme) → b.rest ≡ front ++ a.rest → a.rest ≡ l ∷ ls → Viable (Seq p S) (front ++ l ∷ []) → ⊥
 Fails-next p b a h S clear front l ls split here viable = Fails-next_at p Expected b a h refl S clear front l ls split here viable
 
--- a token that is one too many, seen from a part around it, and from further in front
+-- a token that is one too many in a part is so in another part, where each beginning of the first is one of the second
 Deep-around : (p q : Part) (b a : State) → ((ts : List Lexeme) → Viable p ts → Viable q ts) → Deep p b a → Deep q b a
 Deep-around p q b a around d = record {
-      front = d.front;
-      token = d.token;
-      behind = d.behind;
-      here = d.here;
-      split = d.split;
-      viable = around (d.front ++ d.token ∷ []) d.viable;
-      shallow = d.shallow;
-      left = d.left;
-      deep = d.deep
-    }
+  front = d.front;
+  token = d.token;
+  behind = d.behind;
+  here = d.here;
+  split = d.split;
+  viable = around (d.front ++ d.token ∷ []) d.viable;
+  shallow = d.shallow;
+  left = d.left;
+  deep = d.deep;
+}
 
+-- a token that is one too many in the second part of a sequence is so in the sequence
 Deep-behind : (p q : Part) (t : Tree) (b x a : State) → Read p b t x → Deep q x a → Deep (Seq p q) b a
 Deep-behind p q t b x a h d =
     let leaves : Leaves b (yield t ++ d.front) a = Leaves-append b x a (yield t) d.front (Read-left p b t x h) (d.shallow, d.left) in
@@ -323,23 +314,23 @@ Deep-behind p q t b x a h d =
       viable = rw append_assoc (grammar.Viable.rest p q t (d.front ++ d.token ∷ []) (Read-fits p b t x h) d.viable);
       shallow = leaves.0;
       left = leaves.1;
-      deep = d.deep
+      deep = d.deep;
     }
 
 -- the same with the cause in a variable
 Fails-deep_at : (p : Part) (c : Cause) (b a : State) → Fails p b c a → c ≡ TooDeep → Deep p b a
 Fails-deep_at p c b a (reading.Fails.other kinds _ e) is = cc
 Fails-deep_at p c b a (reading.Fails.deep kinds l ls _ e accepted deep) is = record {
-      front = [];
-      token = l;
-      behind = ls;
-      here = e;
-      split = refl;
-      viable = grammar.Viable.token kinds l accepted;
-      shallow = tt;
-      left = refl;
-      deep = deep
-    }
+  front = [];
+  token = l;
+  behind = ls;
+  here = e;
+  split = refl;
+  viable = grammar.Viable.token kinds l accepted;
+  shallow = tt;
+  left = refl;
+  deep = deep;
+}
 Fails-deep_at p c b a (reading.Fails.first q r _ _ _ h) is = Deep-around q p b a (grammar.Viable.first q r) (Fails-deep_at q c b a h is)
 Fails-deep_at p c b a (reading.Fails.second q r t _ _ x _ k h) is = Deep-behind q r t b x a k (Fails-deep_at r c x a h is)
 Fails-deep_at p c b a (reading.Fails.this q r _ _ _ o h) is = Deep-around q p b a (grammar.Viable.left q r) (Fails-deep_at q c b a h is)
@@ -363,11 +354,11 @@ append-split (u ∷ us) vs (x ∷ xs) ys e =
     let same : u ≡ x = cc in
     let later : us ++ vs ≡ xs ++ ys = cc in
     elim (append-split us vs xs ys later) [
-      inl (zs, is) ↦ inl (zs, cc)
-    | inr (zs, is, more) ↦ inr (zs, cc, more)
+      | inl (zs, is) ↦ inl (zs, cc)
+      | inr (zs, is, more) ↦ inr (zs, cc, more)
     ]
 
--- each front of nothing, and of one token
+-- each front of nothing, and of one token, is a beginning
 front-nothing : (p : Part) (xs ys : List Lexeme) → [] ≡ xs ++ ys → Viable p xs
 front-nothing p [] ys e = grammar.Viable.none p
 front-nothing p (x ∷ xs) ys e = cc
@@ -381,13 +372,13 @@ front-token kinds l accepted (x ∷ next ∷ xs) ys e =
     let later : [] ≡ next ∷ xs ++ ys = cc in
     cc
 
--- each front of what a sequence spells, or begins
+-- each front of what a sequence spells, or begins with, is a beginning of the sequence
 front-sequence : (p q : Part) (t : Tree) (ts xs ys : List Lexeme) → Fits p t → yield t ++ ts ≡ xs ++ ys
     → ((xs ys : List Lexeme) → yield t ≡ xs ++ ys → Viable p xs) → ((xs ys : List Lexeme) → ts ≡ xs ++ ys → Viable q xs) → Viable (Seq p q) xs
 front-sequence p q t ts xs ys fits e first rest =
     elim (append-split (yield t) ts xs ys e) [
-      inl (zs, is) ↦ grammar.Viable.first p q xs (first xs zs is)
-    | inr (zs, is, more) ↦ rw is (grammar.Viable.rest p q t zs fits (rest zs ys more))
+      | inl (zs, is) ↦ grammar.Viable.first p q xs (first xs zs is)
+      | inr (zs, is, more) ↦ rw is (grammar.Viable.rest p q t zs fits (rest zs ys more))
     ]
 
 -- each front of what derives is a beginning
