@@ -1,0 +1,4 @@
+pub mod Predict
+pub mod Beginnings
+pub mod Derivation
+pub mod Verdict
