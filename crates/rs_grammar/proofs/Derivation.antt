@@ -3,7 +3,7 @@ use Rattle.std.proofs.Common.{ℕ, ◌≡◌, ◌<◌, ◌⊎◌, inl, inr, Bool
 use Rattle.std.proofs.lemmas.Bool.{and_cases, or_parts}
 use Rattle.std.proofs.lemmas.List.{append_cancel_right}
 use Rattle.rs_grammar.specs.Kinds.{accepts}
-use Rattle.rs_grammar.specs.Grammar.{Part, One, Empty, Seq, Either, Many, Use, rule, Tree, Leaf, Nothing, Pair, This, That, More, Node, yield, Fits, Viable}
+use Rattle.rs_grammar.specs.Grammar.{Part, One, Empty, Seq, Either, Many, Use, rule, Tree, Leaf, Nothing, Pair, This, That, More, Node, yield, Fits, Viable, end_after}
 use Rattle.rs_grammar.specs.Grammar as grammar
 use Rattle.rs_grammar.specs.Reading.{State, starts, nullable, next_is, left_behind, is_too_deep, Read, Fails, Cause, Expected, TooDeep}
 use Rattle.rs_grammar.specs.Reading as reading
@@ -20,11 +20,6 @@ left_after left (l ∷ ls) = left_after (left_behind l.kind left) ls
 abbrev pub IsShallow : ℕ → List Lexeme → Type 0
 IsShallow left [] = Unit {0}
 IsShallow left (l ∷ ls) = (is_too_deep l.kind left ≡ false) × IsShallow (left_behind l.kind left) ls
-
--- where the last of these tokens ends
-abbrev pub end_after : ℕ → List Lexeme → ℕ
-end_after last [] = last
-end_after last (l ∷ ls) = end_after l.at.end ls
 
 -- a derivation of the tokens of one part and what remains
 pub record Rest (S : Part) (t x : Tree) (ls : List Lexeme) : Type 0 where

@@ -1,5 +1,5 @@
 -- The grammar as data, the trees of derivation, and the beginnings of what it spells.
-use Rattle.std.specs.Prelude.{◌≡◌, true, List, [], ◌∷◌, ◌++◌}
+use Rattle.std.specs.Prelude.{ℕ, ◌≡◌, true, List, [], ◌∷◌, ◌++◌}
 use Rattle.rs_grammar.specs.Kinds.{accepts, names, plain_names, comparisons}
 use Rattle.rs_grammar.specs.declared.kind.Kind.{Kind}
 use Rattle.rs_grammar.specs.declared.kind.Kind.TheVariants.{All, And, As, By, Case, Close, Create, Declare, Desc, Distinct, Else, End, Except, Explain, Fetch, For, From, Intersect, Limit, Not, On, Or, Order, Select, Then, Union, When, Where, Table, Predicate, Rank, Index, Int, Integer, Text, Max, Min, Abs, Cost, Cursor, Analyze, Number, Literal, OpenBracket, CloseBracket, Comma, Semicolon, Dot, Plus, Minus, Star, Slash}
@@ -137,6 +137,15 @@ yield (This t) = yield t
 yield (That t) = yield t
 yield (More t u) = yield t ++ yield u
 yield (Node t) = yield t
+
+-- where the first of these tokens starts, and where the last one ends
+abbrev pub start_of : List Lexeme → ℕ
+start_of [] = 0
+start_of (l ∷ ls) = l.at.start
+
+abbrev pub end_after : ℕ → List Lexeme → ℕ
+end_after last [] = last
+end_after last (l ∷ ls) = end_after l.at.end ls
 
 -- a tree derives its tokens from a part
 abbrev pub Fits : Part → Tree → Type 0

@@ -65,7 +65,7 @@ pub enum Kind {
 
 impl Kind {
     ghost use Rattle.std.specs.Prelude.{◌≡◌, [], ◌∷◌};
-    ghost use Rattle.rs_grammar.specs.Kinds.{accepts, code, counted, names};
+    ghost use Rattle.rs_grammar.specs.Kinds.{accepts, code, counted, names, plain_names};
 
     /// The place of the kind among all kinds.
     fn code(self) -> u8
@@ -79,6 +79,18 @@ impl Kind {
         ensures { result ≡ accepts (other ∷ []) self }
     {
         self.code() == other.code()
+    }
+
+    /// Whether it is one of these kinds.
+    pub fn is_any(self, kinds: &[Kind]) -> bool
+        ensures { result ≡ accepts kinds.now self }
+    {
+        for kind in kinds {
+            if self.is(*kind) {
+                return true;
+            }
+        }
+        false
     }
 
     /// Whether the token may be a name: a word that isn't reserved, or a name between marks.
@@ -97,6 +109,26 @@ impl Kind {
                 | Kind::Max
                 | Kind::Min
                 | Kind::Abs
+                | Kind::Cost
+                | Kind::Cursor
+                | Kind::Analyze
+                | Kind::Name
+        )
+    }
+
+    /// Whether the token may be a name that is no function's: no `abs`, `min` or `max`.
+    pub fn is_plain_name(self) -> bool
+        ensures { result ≡ accepts plain_names self }
+    {
+        matches!(
+            self,
+            Kind::Table
+                | Kind::Predicate
+                | Kind::Rank
+                | Kind::Index
+                | Kind::Int
+                | Kind::Integer
+                | Kind::Text
                 | Kind::Cost
                 | Kind::Cursor
                 | Kind::Analyze

@@ -7,10 +7,11 @@ use Rattle.std.proofs.lemmas.Option.{get_or_from_slice_get, slice_get_within}
 use Rattle.rs_grammar.specs.Grammar.{One, Leaf}
 use Rattle.rs_grammar.specs.Kinds.{accepts}
 use Rattle.rs_grammar.specs.Reading as reading
-use Rattle.rs_grammar.specs.Reading.{State, Read, Fails, Expected, TooDeep, next_is, is_too_deep, left_behind}
+use Rattle.rs_grammar.specs.Reading.{State, Read, Fails, next_is, is_too_deep, left_behind}
 use Rattle.rs_grammar.specs.declared.kind.Kind.{Kind}
 use Rattle.rs_grammar.specs.declared.lexeme.Lexeme.{Lexeme}
-use Rattle.rs_syntax.specs.Reads.{Found}
+use Rattle.rs_syntax.specs.Reads.{Found, Halts}
+use Rattle.rs_syntax.specs.declared.parser.Fault.TheVariants.{Expected, TooDeep}
 use Rattle.rs_syntax.specs.Trees.{leaf}
 
 -- what is left in reverse has this token at its front
@@ -26,16 +27,12 @@ LastOf-get xs l e =
     LastOf-push xs (take (length xs - 1) xs) l (sym (ap (λ n. take n xs) all ∙ take-length xs) ∙ front ∙ ap (λ x. take (length xs - 1) xs ++ x ∷ []) item)
 
 -- no token may stand there
-pub Fails-other : (kinds : List Kind) (b : State) (accepted : Bool) → accepted ≡ next_is kinds b.rest → accepted ≡ false → Fails (One kinds) b Expected b
-Fails-other kinds b accepted e refused = reading.Fails.other kinds b (sym e ∙ refused)
-
--- nothing stands there
-pub Fails-nothing : (kinds : List Kind) (b : State) → b.rest ≡ [] → Fails (One kinds) b Expected b
-Fails-nothing kinds b e = reading.Fails.other kinds b (ap (next_is kinds) e)
+pub Fails-other : (kinds : List Kind) (b : State) (accepted : Bool) → accepted ≡ next_is kinds b.rest → accepted ≡ false → Halts (One kinds) b Expected b
+Fails-other kinds b accepted e refused = record { fails = reading.Fails.other kinds b (sym e ∙ refused) }
 
 -- the token is one too many
-Fails-deep : (kinds : List Kind) (b : State) (l : Lexeme) (ls : List Lexeme) → b.rest ≡ l ∷ ls → true ≡ next_is kinds b.rest → is_too_deep l.kind b.left ≡ true → Fails (One kinds) b TooDeep b
-Fails-deep kinds b l ls e accepted deep = reading.Fails.deep kinds l ls b e (sym (accepted ∙ ap (next_is kinds) e)) deep
+Fails-deep : (kinds : List Kind) (b : State) (l : Lexeme) (ls : List Lexeme) → b.rest ≡ l ∷ ls → true ≡ next_is kinds b.rest → is_too_deep l.kind b.left ≡ true → Halts (One kinds) b TooDeep b
+Fails-deep kinds b l ls e accepted deep = record { fails = reading.Fails.deep kinds l ls b e (sym (accepted ∙ ap (next_is kinds) e)) deep }
 
 -- the last of a list is its last item
 last_one : (xs front : List Lexeme) (next l : Lexeme) → Some next ≡ slice_get xs (length xs - 1) → xs ≡ front ++ l ∷ [] → next ≡ l
@@ -55,7 +52,7 @@ Found-token kinds b a l e accepted shallow left last = record {
 
 -- the token that stands last in reverse is one too many
 pub Fails-deep_last : (kinds : List Kind) (b : State) (xs : List Lexeme) (left : ℕ) (l : Lexeme) → Some l ≡ slice_get xs (length xs - 1) → reverse xs ≡ b.rest → left ≡ b.left
-    → true ≡ next_is kinds b.rest → is_too_deep l.kind left ≡ true → Fails (One kinds) b TooDeep b
+    → true ≡ next_is kinds b.rest → is_too_deep l.kind left ≡ true → Halts (One kinds) b TooDeep b
 Fails-deep_last kinds b xs left l got is same accepted deep =
     Fails-deep kinds b l (reverse (take (length xs - 1) xs)) (sym is ∙ LastOf-get xs l got) accepted (rw (← same) deep)
 

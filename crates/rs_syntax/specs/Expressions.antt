@@ -5,11 +5,12 @@ use Rattle.rs_expr.specs.declared.rel.Rel.{Rel}
 use Rattle.rs_expr.specs.declared.rel.Rel.TheVariants.{Eq, Ne, Lt, Le, Gt, Ge}
 use Rattle.rs_grammar.specs.Grammar.{Tree, Leaf, Pair, This, That, More, Node}
 use Rattle.rs_grammar.specs.declared.kind.Kind.TheVariants.{Plus, Star, Equal, NotEqual, Less, LessEqual, Greater, Min}
+use Rattle.rs_syntax.specs.declared.name.ColRef.{ColRef}
 use Rattle.rs_syntax.specs.declared.node.Op.{Op}
 use Rattle.rs_syntax.specs.declared.node.Op.TheVariants.{Add, Sub, Mul, Div}
 use Rattle.rs_syntax.specs.Syntax.{Expression, Int, Text, Column, Neg, Arith, Abs, Least, Case, Compare, And, Or, Not}
 use Rattle.rs_syntax.specs.Syntax as syntax
-use Rattle.rs_syntax.specs.Trees.{starts_at, ends_at, span, span_of, is_kind, qualified}
+use Rattle.rs_syntax.specs.Trees.{starts_at, ends_at, span, span_of, is_kind, name_of, qualified, of_rule, last_of_rule}
 
 abbrev pub adding_of : Tree → Op
 adding_of t = if is_kind Plus t then Add else Sub
@@ -29,6 +30,10 @@ no_expression = Text [] (span 0 0)
 -- MIN gives the lesser one of two, MAX the greater one
 abbrev pub extreme_of : Tree → Expression → Expression → Tree → Expression
 extreme_of word first second whole = if is_kind Min word then Least first second (span_of whole) else syntax.Greatest first second (span_of whole)
+
+-- plain: name [ "." name ]
+abbrev pub column_in : Tree → ColRef
+column_in t = qualified (name_of (of_rule 0 t)) (last_of_rule 1 t)
 
 unfoldable mutual
   -- expr: conj { OR conj }
@@ -89,28 +94,23 @@ unfoldable mutual
   pub base_of : Tree → Expression
   base_of (Node (This (Leaf l))) = Int l.number l.at
   base_of (Node (That (This (Leaf l)))) = Text l.text l.at
-  base_of (Node (That (That (This t)))) = plain_of t
+  base_of (Node (That (That (This t)))) = Column (column_in t)
   base_of (Node (That (That (That (This t))))) = absolute_of t
   base_of (Node (That (That (That (That (This t)))))) = extreme_in t
   base_of (Node (That (That (That (That (That (This t))))))) = brackets_of t
   base_of (Node (That (That (That (That (That (That t))))))) = case_of t
   base_of _ = no_expression
 
-  -- plain: name [ "." name ]
-  pub plain_of : Tree → Expression
-  plain_of (Node (Pair first rest)) = Column (qualified first rest)
-  plain_of _ = no_expression
-
   -- absolute: ABS "(" expr ")", or the column abs
   pub absolute_of : Tree → Expression
   absolute_of (Node (Pair word (This (Pair bracket (Pair t close))))) = Abs (expr_of t) (span (starts_at word) (ends_at close))
-  absolute_of (Node (Pair first (That rest))) = Column (qualified first rest)
+  absolute_of (Node (Pair first (That rest))) = Column (qualified (name_of first) rest)
   absolute_of _ = no_expression
 
   -- extreme: ( MIN | MAX ) "(" expr "," expr ")", or the column min or max
   pub extreme_in : Tree → Expression
   extreme_in (Node (Pair word (This (Pair bracket (Pair t (Pair comma (Pair u close))))))) = extreme_of word (expr_of t) (expr_of u) (Pair word close)
-  extreme_in (Node (Pair first (That rest))) = Column (qualified first rest)
+  extreme_in (Node (Pair first (That rest))) = Column (qualified (name_of first) rest)
   extreme_in _ = no_expression
 
   -- brackets: "(" expr ")", which leave no trace

@@ -12,9 +12,16 @@ pub record Found {A : Type 0} (p : Part) (meaning : Tree → A) (b a : State) (v
   pub read : Read p b tree a
   pub means : meaning tree ≡ value
 
+-- the reader fails with a fault; of want of memory nothing is said
+abbrev pub FailsWith : Part → State → Fault → State → Type 0
+FailsWith p b Expected a = Fails p b reading.Expected a
+FailsWith p b TooDeep a = Fails p b reading.TooDeep a
+FailsWith p b Memory a = Unit {0}
+
+pub record Halts (p : Part) (b : State) (fault : Fault) (a : State) : Type 0 where
+  pub fails : FailsWith p b fault a
+
 -- between two states a part was read that stands for the value, seen by `view`, or the reader fails there with the fault
 abbrev pub Reads : {A V : Type 0} → Part → (Tree → A) → (V → A) → State → State → Result V Fault → Type 0
 Reads p meaning view b a (Ok value) = Found p meaning b a (view value)
-Reads p meaning view b a (Err Expected) = Fails p b reading.Expected a
-Reads p meaning view b a (Err TooDeep) = Fails p b reading.TooDeep a
-Reads p meaning view b a (Err Memory) = Unit {0}
+Reads p meaning view b a (Err fault) = Halts p b fault a

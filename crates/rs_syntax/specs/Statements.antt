@@ -14,26 +14,33 @@ use Rattle.rs_syntax.specs.declared.select.Items.TheVariants as items
 use Rattle.rs_syntax.specs.declared.select.SetOp.{SetOp}
 use Rattle.rs_syntax.specs.declared.select.SetOp.TheVariants.{UnionAll, Union, Intersect, Except}
 use Rattle.rs_syntax.specs.Syntax.{Expression, Block, Query, Command, CreateTable, CreatePredicate, CreateRankIndex, Ask, Declare, Fetch, Close, Explain, ExplainAnalyze}
-use Rattle.rs_syntax.specs.Trees.{starts_at, ends_at, span, span_of, leaf, part, inside, of_rule, if_there, is_there, listed, is_kind, name_of, number_of, colref_of}
+use Rattle.rs_syntax.specs.Trees.{starts_at, ends_at, span, span_of, leaf, part, last, inside, of_rule, last_of_rule, if_there, is_there, listed, is_kind, name_of, number_of, weight_in, colref_of}
 use Rattle.rs_syntax.specs.Expressions.{expr_of}
+
+-- INT | INTEGER | TEXT
+abbrev pub data_type_of : Tree → Kind
+data_type_of t = if is_kind kinds.Text t then value.Text else value.Int
 
 -- column: name ( INT | INTEGER | TEXT )
 abbrev pub column_of : Tree → Name × Kind
-column_of t = (name_of (of_rule 0 t), if is_kind kinds.Text (of_rule 1 t) then value.Text else value.Int)
+column_of t = (name_of (of_rule 0 t), data_type_of (last_of_rule 1 t))
 
 -- columns: column { "," column }
 abbrev pub columns_of : Tree → List (Name × Kind)
-columns_of t = listed column_of t
+columns_of t = listed column_of (inside t)
 
 -- [ "-" ] number
 abbrev pub signed_of : Tree → Tree → ℤ
 signed_of (This sign) number = neg_ℤ (leaf number).number
 signed_of _ number = (leaf number).number
 
+abbrev pub signed_number_of : Tree → ℤ × Span
+signed_number_of t = (signed_of (part 0 t) (last 1 t), span_of t)
+
 -- arg: colref | [ "-" ] number | literal
 abbrev pub arg_in : Tree → Arg
 arg_in (This t) = Column (colref_of t)
-arg_in (That (This (Pair sign number))) = Int (signed_of sign number) (span_of (Pair sign number))
+arg_in (That (This t)) = Int (signed_number_of t).0 (signed_number_of t).1
 arg_in (That (That t)) = Text (leaf t).text (leaf t).at
 arg_in t = Text [] (span_of t)
 
@@ -42,37 +49,37 @@ arg_of t = arg_in (inside t)
 
 -- args: arg { "," arg }
 abbrev pub args_of : Tree → List Arg
-args_of t = listed arg_of t
+args_of t = listed arg_of (inside t)
 
 -- [ number "*" ], which is 1 at the predicate's name where it isn't written
 abbrev pub weight_of : Tree → Tree → ℤ × Span
-weight_of (This t) name = number_of (part 0 t)
+weight_of (This t) name = weight_in t
 weight_of _ name = (pos 1, (leaf name).at)
 
 -- term: [ number "*" ] name "(" args ")"
 abbrev pub term_of : Tree → TermSyn
 term_of t = record {
-    weight = weight_of (of_rule 0 t) (of_rule 1 t);
-    predicate = name_of (of_rule 1 t);
-    args = args_of (of_rule 3 t);
-    at = span_of t;
-  }
+  weight = weight_of (of_rule 0 t) (of_rule 1 t);
+  predicate = name_of (of_rule 1 t);
+  args = args_of (of_rule 3 t);
+  at = span_of t;
+}
 
 -- terms: term { "+" term }
 abbrev pub terms_of : Tree → List TermSyn
-terms_of t = listed term_of t
+terms_of t = listed term_of (inside t)
 
 -- [ AS ] name, of which the name is the alias
 abbrev pub alias_of : Tree → Name
-alias_of t = name_of (part 1 t)
+alias_of t = name_of (last 1 t)
 
 -- entry: name [ [ AS ] name ]
 abbrev pub entry_of : Tree → Name × Option Name
-entry_of t = (name_of (of_rule 0 t), if_there alias_of (of_rule 1 t))
+entry_of t = (name_of (of_rule 0 t), if_there alias_of (last_of_rule 1 t))
 
 -- entries: entry { "," entry }
 abbrev pub entries_of : Tree → List (Name × Option Name)
-entries_of t = listed entry_of t
+entries_of t = listed entry_of (inside t)
 
 -- items: "*" | colref { "," colref }
 abbrev pub items_in : Tree → Items
@@ -85,16 +92,16 @@ select_items_of t = items_in (inside t)
 
 -- WHERE expr, and others of one word and an expression
 abbrev pub filter_of : Tree → Expression
-filter_of t = expr_of (part 1 t)
+filter_of t = expr_of (last 1 t)
 
 -- block: SELECT [ DISTINCT ] items FROM entries [ WHERE expr ]
 abbrev pub block_of : Tree → Block
 block_of t = record {
-    distinct = is_there (of_rule 1 t);
-    items = select_items_of (of_rule 2 t);
-    from = entries_of (of_rule 4 t);
-    filter = if_there filter_of (of_rule 5 t);
-  }
+  distinct = is_there (of_rule 1 t);
+  items = select_items_of (of_rule 2 t);
+  from = entries_of (of_rule 4 t);
+  filter = if_there filter_of (last_of_rule 5 t);
+}
 
 -- set_operator: UNION [ ALL ] | INTERSECT | EXCEPT
 abbrev pub set_operator_in : Tree → SetOp
@@ -106,29 +113,29 @@ abbrev pub set_operator_of : Tree → SetOp
 set_operator_of t = set_operator_in (inside t)
 
 abbrev pub right_of : Tree → SetOp × Block
-right_of t = (set_operator_of (part 0 t), block_of (part 1 t))
+right_of t = (set_operator_of (part 0 t), block_of (last 1 t))
 
 -- LIMIT number
 abbrev pub limit_of : Tree → ℤ × Span
-limit_of t = number_of (part 1 t)
+limit_of t = number_of (last 1 t)
 
 -- select: block [ set_operator block ] ORDER BY terms [ DESC ] [ LIMIT number ]
 abbrev pub select_of : Tree → Query
 select_of t = record {
-    left = block_of (of_rule 0 t);
-    right = if_there right_of (of_rule 1 t);
-    terms = terms_of (of_rule 4 t);
-    limit = if_there limit_of (of_rule 6 t);
-  }
+  left = block_of (of_rule 0 t);
+  right = if_there right_of (of_rule 1 t);
+  terms = terms_of (of_rule 4 t);
+  limit = if_there limit_of (last_of_rule 6 t);
+}
 
 -- create_table: TABLE name "(" columns ")" FROM literal
 abbrev pub create_table_of : Tree → Command
-create_table_of t = CreateTable (name_of (of_rule 1 t)) (columns_of (of_rule 3 t)) (leaf (of_rule 6 t)).text
+create_table_of t = CreateTable (name_of (of_rule 1 t)) (columns_of (of_rule 3 t)) (leaf (last_of_rule 6 t)).text
 
 -- create_predicate: PREDICATE name "(" columns ")" MAX number [ COST number ] AS expr
 abbrev pub create_predicate_of : Tree → Command
 create_predicate_of t =
-    CreatePredicate (name_of (of_rule 1 t)) (columns_of (of_rule 3 t)) (number_of (of_rule 6 t)) (if_there limit_of (of_rule 7 t)) (expr_of (of_rule 9 t))
+    CreatePredicate (name_of (of_rule 1 t)) (columns_of (of_rule 3 t)) (number_of (of_rule 6 t)) (if_there limit_of (of_rule 7 t)) (expr_of (last_of_rule 9 t))
 
 -- create_rank_index: RANK INDEX name ON name "(" name "(" args ")" ")"
 abbrev pub create_rank_index_of : Tree → Command
@@ -144,23 +151,23 @@ create_in (That (That t)) = create_rank_index_of t
 create_in t = create_table_of t
 
 abbrev pub create_of : Tree → Command
-create_of t = create_in (of_rule 1 t)
+create_of t = create_in (last_of_rule 1 t)
 
 -- declare: DECLARE name CURSOR FOR select
 abbrev pub declare_of : Tree → Command
-declare_of t = Declare (name_of (of_rule 1 t)) (select_of (of_rule 4 t))
+declare_of t = Declare (name_of (of_rule 1 t)) (select_of (last_of_rule 4 t))
 
 -- fetch: FETCH number FROM name
 abbrev pub fetch_of : Tree → Command
-fetch_of t = Fetch (number_of (of_rule 1 t)) (name_of (of_rule 3 t))
+fetch_of t = Fetch (number_of (of_rule 1 t)) (name_of (last_of_rule 3 t))
 
 -- close: CLOSE name
 abbrev pub close_of : Tree → Command
-close_of t = Close (name_of (of_rule 1 t))
+close_of t = Close (name_of (last_of_rule 1 t))
 
 -- explain: EXPLAIN [ ANALYZE ] select
 abbrev pub explain_of : Tree → Command
-explain_of t = if is_there (of_rule 1 t) then ExplainAnalyze (select_of (of_rule 2 t)) else Explain (select_of (of_rule 2 t))
+explain_of t = if is_there (of_rule 1 t) then ExplainAnalyze (select_of (last_of_rule 2 t)) else Explain (select_of (last_of_rule 2 t))
 
 -- statement: create | select | declare | fetch | close | explain
 abbrev pub statement_in : Tree → Command

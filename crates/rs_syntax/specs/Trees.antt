@@ -1,22 +1,13 @@
 -- Parts of a tree of derivation, and their places. The parts of a rule count from 0, as they stand in its text.
 use Rattle.std.specs.Prelude.{ℕ, zero, suc, ℤ, pos, Bool, true, false, List, [], ◌∷◌, map, Option, Some, None}
 use Rattle.rs_grammar.specs.Kinds.{accepts}
-use Rattle.rs_grammar.specs.Grammar.{Tree, Leaf, Pair, This, More, Node, yield}
+use Rattle.rs_grammar.specs.Grammar.{Tree, Leaf, Pair, This, More, Node, yield, start_of, end_after}
 use Rattle.rs_grammar.specs.declared.kind.Kind.{Kind}
 use Rattle.rs_grammar.specs.declared.kind.Kind.TheVariants.{Foreign}
 use Rattle.rs_grammar.specs.declared.lexeme.Lexeme.{Lexeme}
 use Rattle.rs_lex.specs.declared.token.Span.{Span}
 use Rattle.rs_syntax.specs.declared.name.Name.{Name}
 use Rattle.rs_syntax.specs.declared.name.ColRef.{ColRef}
-
--- where the first of these tokens starts, and where the last one ends
-abbrev pub start_of : List Lexeme → ℕ
-start_of [] = 0
-start_of (l ∷ ls) = l.at.start
-
-abbrev pub end_after : ℕ → List Lexeme → ℕ
-end_after last [] = last
-end_after last (l ∷ ls) = end_after l.at.end ls
 
 -- where a tree starts and ends
 unfoldable pub starts_at : Tree → ℕ
@@ -37,11 +28,19 @@ abbrev pub leaf : Tree → Lexeme
 leaf (Leaf l) = l
 leaf _ = record { kind = Foreign; text = []; number = pos 0; at = record { start = 0; end = 0 } }
 
--- a part of a sequence
+abbrev first_of : Tree → Tree
+first_of (Pair t u) = t
+first_of t = t
+
+-- what stands in a sequence from a part on: its last part, where it ends with that one
+abbrev pub last : ℕ → Tree → Tree
+last zero t = t
+last (suc n) (Pair t u) = last n u
+last (suc n) t = t
+
+-- a part of a sequence that isn't its last one
 abbrev pub part : ℕ → Tree → Tree
-part zero (Pair t u) = t
-part (suc n) (Pair t u) = part n u
-part n t = t
+part n t = first_of (last n t)
 
 -- what a rule's name stands for
 abbrev pub inside : Tree → Tree
@@ -51,6 +50,9 @@ inside t = t
 -- a part of a rule that is a sequence
 abbrev pub of_rule : ℕ → Tree → Tree
 of_rule n t = part n (inside t)
+
+abbrev pub last_of_rule : ℕ → Tree → Tree
+last_of_rule n t = last n (inside t)
 
 -- what an optional part holds, and whether it is there
 abbrev pub if_there : {A : Type 0} → (Tree → A) → Tree → Option A
@@ -68,7 +70,7 @@ items_of _ = []
 
 -- what an item stands for, and those that follow it, each behind one token
 abbrev pub listed : {A : Type 0} → (Tree → A) → Tree → List A
-listed f t = f (of_rule 0 t) ∷ map (λ u. f (part 1 u)) (items_of (of_rule 1 t))
+listed f t = f (part 0 t) ∷ map (λ u. f (last 1 u)) (items_of (last 1 t))
 
 abbrev pub is_kind : Kind → Tree → Bool
 is_kind kind t = accepts (kind ∷ []) (leaf t).kind
@@ -85,11 +87,18 @@ text_of t = ((leaf t).text, (leaf t).at)
 abbrev pub number_of : Tree → ℤ × Span
 number_of t = ((leaf t).number, (leaf t).at)
 
+-- number "*"
+abbrev pub weight_in : Tree → ℤ × Span
+weight_in t = number_of (part 0 t)
+
+abbrev pub kind_at : Tree → Kind
+kind_at t = (leaf t).kind
+
 -- a name and what may stand behind it: [ "." name ]
-abbrev pub qualified : Tree → Tree → ColRef
-qualified first (This t) = record { alias = Some (name_of first); column = name_of (part 1 t) }
-qualified first _ = record { alias = None; column = name_of first }
+abbrev pub qualified : Name → Tree → ColRef
+qualified first (This t) = record { alias = Some first; column = name_of (last 1 t) }
+qualified first _ = record { alias = None; column = first }
 
 -- colref: name [ "." name ]
 abbrev pub colref_of : Tree → ColRef
-colref_of t = qualified (of_rule 0 t) (of_rule 1 t)
+colref_of t = qualified (name_of (of_rule 0 t)) (last_of_rule 1 t)

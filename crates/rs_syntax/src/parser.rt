@@ -1,5 +1,12 @@
 //! A parser by recursive descent, with one token ahead.
 
+mod blocks;
+mod cases;
+mod expressions;
+mod names;
+mod nodes;
+mod statements;
+mod terms;
 mod tokens;
 
 use rs_grammar::Lexeme;
@@ -19,10 +26,13 @@ pub struct Parser {
 impl Model for Parser {
     ghost use Rattle.std.specs.Prelude.{reverse};
     ghost use Rattle.rs_grammar.specs.Reading.{State};
+    ghost use Rattle.rs_syntax.specs.Numbers.{AreNumbers};
 
     ghost Value = { State };
 
     ghost view = { λ p. record { rest = reverse p.reversed.items; left = p.left; last = p.last } };
+
+    ghost invariant = { λ p. AreNumbers p.reversed.items };
 }
 
 /// Why the parser can't go on at the next token.

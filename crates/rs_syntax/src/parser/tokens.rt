@@ -1,11 +1,12 @@
-ghost use Rattle.std.specs.Prelude.{◌≡◌, [], ◌∷◌, Bool, List, MatchOption, false, true};
-ghost use Rattle.rs_grammar.specs.Grammar.{One, name as name_part, word};
-ghost use Rattle.rs_grammar.specs.Kinds.{names};
+ghost use Rattle.std.specs.Prelude.{◌≡◌, [], ◌∷◌, Bool, List, IfOk, MatchOption, false, true};
+ghost use Rattle.rs_grammar.specs.Grammar.{One, name as name_part, optional, start_of, word};
+ghost use Rattle.rs_grammar.specs.Kinds.{names, plain_names};
 ghost use Rattle.rs_grammar.specs.Reading.{is_too_deep, left_behind, next_is};
 ghost use Rattle.rs_grammar.specs.declared.kind.Kind.{Kind};
 ghost use Rattle.rs_grammar.specs.declared.kind.Kind.TheVariants.{Literal, Number};
+ghost use Rattle.rs_syntax.specs.Numbers.{IsNumber};
 ghost use Rattle.rs_syntax.specs.Reads.{Reads};
-ghost use Rattle.rs_syntax.specs.Trees.{leaf, name_of, number_of, place_of, start_of, text_of};
+ghost use Rattle.rs_syntax.specs.Trees.{span, is_there, kind_at, leaf, name_of, number_of, place_of, text_of};
 
 use crate::name::Name;
 use crate::parser::{Fault, Parser};
@@ -41,12 +42,32 @@ impl Parser {
         }
     }
 
+    /// Whether the next token is of one of these kinds.
+    pub fn at_any(&self, kinds: &[Kind]) -> bool
+        ensures { result ≡ next_is kinds.now self.now.rest }
+    {
+        match self.reversed.last() {
+            Some(lexeme) => lexeme.kind.is_any(kinds),
+            None => false,
+        }
+    }
+
     /// Whether the next token may be a name.
     pub fn at_name(&self) -> bool
         ensures { result ≡ next_is names self.now.rest }
     {
         match self.reversed.last() {
             Some(lexeme) => lexeme.kind.is_name(),
+            None => false,
+        }
+    }
+
+    /// Whether the next token may be a name that is no function's.
+    pub fn at_plain_name(&self) -> bool
+        ensures { result ≡ next_is plain_names self.now.rest }
+    {
+        match self.reversed.last() {
+            Some(lexeme) => lexeme.kind.is_plain_name(),
             None => false,
         }
     }
@@ -61,16 +82,20 @@ impl Parser {
         }
     }
 
-    /// Where the last token ended.
-    pub fn last(&self) -> u32
-        ensures { result ≡ self.now.last }
+    /// From a place to where the last token ended.
+    pub fn since(&self, from: u32) -> Span
+        ensures { result ≡ span from self.now.last }
     {
-        self.last
+        Span {
+            start: from,
+            end: self.last,
+        }
     }
 
     /// Takes the next token, if it is one that may stand there.
     pub fn take(&mut self, accepted: bool) -> Result<Lexeme, Fault>
-        ensures { (kinds : List Kind) → accepted ≡ next_is kinds self.old.rest → Reads (One kinds) leaf (λ l. l) self.old self.new result }
+        ensures reads { (kinds : List Kind) → accepted ≡ next_is kinds self.old.rest → Reads (One kinds) leaf (λ l. l) self.old self.new result }
+        ensures in_range { IfOk result (λ l. IsNumber l.number) }
     {
         if !accepted {
             return Err(Fault::Expected);
@@ -98,6 +123,26 @@ impl Parser {
         Ok(lexeme.at)
     }
 
+    /// Takes a token of this kind if it stands there, and says whether it did.
+    pub fn accept(&mut self, kind: Kind) -> Result<bool, Fault>
+        ensures { Reads (optional (word kind)) is_there (λ there. there) self.old self.new result }
+    {
+        if !self.at(kind) {
+            return Ok(false);
+        }
+        self.expect(kind)?;
+        Ok(true)
+    }
+
+    /// Takes a token of one of these kinds.
+    pub fn any_of(&mut self, kinds: &[Kind]) -> Result<Kind, Fault>
+        ensures { Reads (One kinds.now) kind_at (λ kind. kind) self.old self.new result }
+    {
+        let accepted = self.at_any(kinds);
+        let lexeme = self.take(accepted)?;
+        Ok(lexeme.kind)
+    }
+
     pub fn name(&mut self) -> Result<Name, Fault>
         ensures { Reads name_part name_of (λ name. name) self.old self.new result }
     {
@@ -106,8 +151,18 @@ impl Parser {
         Ok(Name { text, at })
     }
 
+    /// A name that is no function's.
+    pub fn plain_name(&mut self) -> Result<Name, Fault>
+        ensures { Reads (One plain_names) name_of (λ name. name) self.old self.new result }
+    {
+        let accepted = self.at_plain_name();
+        let Lexeme { text, at, .. } = self.take(accepted)?;
+        Ok(Name { text, at })
+    }
+
     pub fn number(&mut self) -> Result<(i64, Span), Fault>
-        ensures { Reads (word Number) number_of (λ number. number) self.old self.new result }
+        ensures reads { Reads (word Number) number_of (λ number. number) self.old self.new result }
+        ensures in_range { IfOk result (λ number. IsNumber number.0) }
     {
         let accepted = self.at(Kind::Number);
         let lexeme = self.take(accepted)?;

@@ -1,7 +1,7 @@
 use Rattle.std.proofs.Common.{◌≡◌, ◌∙◌, ◌-◌, length, sym, ap}
 use Rattle.std.specs.Prelude.{slice_get}
 use Rattle.rs_grammar.specs.Reading.{State}
-use Rattle.rs_syntax.proofs.Tokens.{Fails-other, Fails-nothing, Fails-deep_last, Found-last}
+use Rattle.rs_syntax.proofs.Tokens.{Fails-other, Fails-deep_last, Found-last}
 use Rattle.rs_syntax.proofs.parser.Parser.take.Goals as goal
 
 pub returns-then-not-accepted : goal.returns-then-not-accepted

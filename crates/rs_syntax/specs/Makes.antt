@@ -1,0 +1,10 @@
+-- A call that makes an expression, if there is memory for it.
+use Rattle.std.specs.Prelude.{◌≡◌, Result, Ok, Err}
+use Rattle.rs_syntax.specs.Syntax.{Expression, expression_of}
+use Rattle.rs_syntax.specs.declared.node.Node.{Node}
+use Rattle.rs_syntax.specs.declared.parser.Fault.{Fault}
+use Rattle.rs_syntax.specs.declared.parser.Fault.TheVariants.{Memory}
+
+abbrev pub Makes : Expression → Result Node Fault → Type 0
+Makes wanted (Ok node) = expression_of node ≡ wanted
+Makes wanted (Err fault) = fault ≡ Memory

@@ -1,0 +1,174 @@
+//! Queries: blocks, what puts two of them together, and the order of their rows.
+ghost use Rattle.std.specs.Prelude.{option_map};
+ghost use Rattle.rs_grammar.specs.Grammar.{Many, Use, block, colref, entries, entry, expr, items, name as name_part, optional, select, set_operator, word, ◌⨟◌};
+ghost use Rattle.rs_grammar.specs.declared.kind.Kind.TheVariants.{As, Comma, Number, Where};
+ghost use Rattle.rs_grammar.specs.declared.kind.Kind.{Kind};
+ghost use Rattle.rs_syntax.specs.Reads.{Reads};
+ghost use Rattle.rs_syntax.specs.Statements.{alias_of, block_of, entries_of, entry_of, filter_of, limit_of, right_of, select_items_of, select_of, set_operator_of};
+ghost use Rattle.rs_syntax.specs.Syntax as syntax;
+ghost use Rattle.rs_syntax.specs.Syntax.{expression_of, query_of};
+ghost use Rattle.rs_syntax.specs.Trees.{colref_of, if_there, listed};
+
+use crate::name::{ColRef, Name};
+use crate::node::Node;
+use crate::parser::{Fault, Parser};
+use crate::select::{BlockSyn, Items, Select, SetOp};
+use rs_grammar::Kind;
+use rs_lex::Span;
+use rs_value::List;
+use std::alloc::Global;
+
+impl Parser {
+    /// `block [ set_operator block ] ORDER BY terms [ DESC ] [ LIMIT number ]`
+    pub fn select(&mut self, alloc: Global) -> Result<Select, Fault>
+        ensures { Reads (Use select) select_of query_of self.old self.new result }
+    {
+        let left = self.block(alloc)?;
+        let right = self.right(alloc)?;
+        self.expect(Kind::Order)?;
+        self.expect(Kind::By)?;
+        let terms = self.terms(alloc)?;
+        let _ = self.accept(Kind::Desc)?;
+        let limit = self.numbered(Kind::Limit)?;
+        Ok(Select {
+            left,
+            right,
+            terms,
+            limit,
+        })
+    }
+
+    /// `[ set_operator block ]`
+    fn right(&mut self, alloc: Global) -> Result<Option<(SetOp, BlockSyn)>, Fault>
+        ensures { Reads (optional (Use set_operator ⨟ Use block)) (if_there right_of) (λ r. option_map syntax.right_of r) self.old self.new result }
+    {
+        if !self.at_any(&[Kind::Except, Kind::Intersect, Kind::Union]) {
+            return Ok(None);
+        }
+        let operator = self.set_operator()?;
+        let block = self.block(alloc)?;
+        Ok(Some((operator, block)))
+    }
+
+    /// `UNION [ ALL ] | INTERSECT | EXCEPT`
+    fn set_operator(&mut self) -> Result<SetOp, Fault>
+        ensures { Reads (Use set_operator) set_operator_of (λ o. o) self.old self.new result }
+    {
+        if self.at(Kind::Union) {
+            self.expect(Kind::Union)?;
+            let is_all = self.accept(Kind::All)?;
+            return Ok(if is_all {
+                SetOp::UnionAll
+            } else {
+                SetOp::Union
+            });
+        }
+        if self.at(Kind::Intersect) {
+            self.expect(Kind::Intersect)?;
+            return Ok(SetOp::Intersect);
+        }
+        self.expect(Kind::Except)?;
+        Ok(SetOp::Except)
+    }
+
+    /// A word and a number, where the word stands there: `[ LIMIT number ]` or `[ COST number ]`.
+    pub fn numbered(&mut self, kind: Kind) -> Result<Option<(i64, Span)>, Fault>
+        ensures { Reads (optional (word kind ⨟ word Number)) (if_there limit_of) (λ n. n) self.old self.new result }
+    {
+        if !self.at(kind) {
+            return Ok(None);
+        }
+        self.expect(kind)?;
+        let number = self.number()?;
+        Ok(Some(number))
+    }
+
+    /// `SELECT [ DISTINCT ] items FROM entries [ WHERE expr ]`
+    fn block(&mut self, alloc: Global) -> Result<BlockSyn, Fault>
+        ensures { Reads (Use block) block_of syntax.block_of self.old self.new result }
+    {
+        self.expect(Kind::Select)?;
+        let distinct = self.accept(Kind::Distinct)?;
+        let items = self.items(alloc)?;
+        self.expect(Kind::From)?;
+        let from = self.entries(alloc)?;
+        let filter = self.filter(alloc)?;
+        Ok(BlockSyn {
+            distinct,
+            items,
+            from,
+            filter,
+        })
+    }
+
+    /// `[ WHERE expr ]`
+    fn filter(&mut self, alloc: Global) -> Result<Option<Node>, Fault>
+        ensures { Reads (optional (word Where ⨟ Use expr)) (if_there filter_of) (λ f. option_map expression_of f) self.old self.new result }
+    {
+        if !self.at(Kind::Where) {
+            return Ok(None);
+        }
+        self.expect(Kind::Where)?;
+        let filter = self.expr(alloc)?;
+        Ok(Some(filter))
+    }
+
+    /// `"*" | colref { "," colref }`
+    fn items(&mut self, alloc: Global) -> Result<Items, Fault>
+        ensures { Reads (Use items) select_items_of (λ i. i) self.old self.new result }
+    {
+        if self.at(Kind::Star) {
+            let at = self.expect(Kind::Star)?;
+            return Ok(Items::Star(at));
+        }
+        let columns = self.colrefs(alloc)?;
+        Ok(Items::List(columns))
+    }
+
+    /// `colref { "," colref }`
+    fn colrefs(&mut self, alloc: Global) -> Result<List<ColRef>, Fault>
+        ensures { Reads (Use colref ⨟ Many (word Comma ⨟ Use colref)) (listed colref_of) (λ c. c) self.old self.new result }
+    {
+        let mut columns = Vec::new(alloc);
+        columns.push(self.colref()?)?;
+        'more: while self.at(Kind::Comma) {
+            self.expect(Kind::Comma)?;
+            columns.push(self.colref()?)?;
+        }
+        Ok(List::of(columns))
+    }
+
+    /// `entry { "," entry }`
+    fn entries(&mut self, alloc: Global) -> Result<List<(Name, Option<Name>)>, Fault>
+        ensures { Reads (Use entries) entries_of (λ e. e) self.old self.new result }
+    {
+        let mut entries = Vec::new(alloc);
+        entries.push(self.entry()?)?;
+        'more: while self.at(Kind::Comma) {
+            self.expect(Kind::Comma)?;
+            entries.push(self.entry()?)?;
+        }
+        Ok(List::of(entries))
+    }
+
+    /// `name [ [ AS ] name ]`
+    fn entry(&mut self) -> Result<(Name, Option<Name>), Fault>
+        ensures { Reads (Use entry) entry_of (λ e. e) self.old self.new result }
+    {
+        let table = self.name()?;
+        let alias = self.alias()?;
+        Ok((table, alias))
+    }
+
+    /// `[ [ AS ] name ]`
+    fn alias(&mut self) -> Result<Option<Name>, Fault>
+        ensures { Reads (optional (optional (word As) ⨟ name_part)) (if_there alias_of) (λ a. a) self.old self.new result }
+    {
+        if !self.at(Kind::As) && !self.at_name() {
+            return Ok(None);
+        }
+        let _ = self.accept(Kind::As)?;
+        let alias = self.name()?;
+        Ok(Some(alias))
+    }
+}

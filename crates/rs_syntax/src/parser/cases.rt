@@ -1,0 +1,87 @@
+//! CASE, with any number of WHEN parts.
+ghost use Rattle.std.specs.Prelude.{map};
+ghost use Rattle.rs_grammar.specs.Grammar.{Many, Use, case, when};
+ghost use Rattle.rs_syntax.specs.Cases.{cases_in, when_of, when_view, whens_of};
+ghost use Rattle.rs_syntax.specs.Expressions.{case_of};
+ghost use Rattle.rs_syntax.specs.Makes.{Makes};
+ghost use Rattle.rs_syntax.specs.Reads.{Reads};
+ghost use Rattle.rs_syntax.specs.Syntax.{expression_of};
+
+use crate::node::Node;
+use crate::parser::nodes::case;
+use crate::parser::{Fault, Parser};
+use rs_grammar::Kind;
+use rs_lex::Span;
+use std::alloc::Global;
+
+/// A WHEN part: where it starts, its condition and its result.
+#[derive(Drop)]
+pub struct When {
+    pub from: u32,
+    pub condition: Node,
+    pub outcome: Node,
+}
+
+impl Parser {
+    /// `CASE when { when } ELSE expr END`
+    #[cycle(expr)]
+    pub fn case(&mut self, alloc: Global) -> Result<Node, Fault>
+        ensures { Reads (Use case) case_of expression_of self.old self.new result }
+    {
+        let from = self.start();
+        self.expect(Kind::Case)?;
+        let first = self.when(alloc)?;
+        let others = self.whens(alloc)?;
+        self.expect(Kind::Else)?;
+        let otherwise = self.expr(alloc)?;
+        self.expect(Kind::End)?;
+        let at = self.since(from);
+        let rest = fold_cases(alloc, others, otherwise, at.end)?;
+        case(alloc, first.condition, first.outcome, rest, at)
+    }
+
+    /// `{ when }`
+    #[cycle(expr)]
+    fn whens(&mut self, alloc: Global) -> Result<Vec<When>, Fault>
+        ensures { Reads (Many (Use when)) whens_of (λ parts. map when_view parts.items) self.old self.new result }
+    {
+        let mut parts = Vec::new(alloc);
+        'more: while self.at(Kind::When) {
+            let part = self.when(alloc)?;
+            parts.push(part)?;
+        }
+        Ok(parts)
+    }
+
+    /// `WHEN expr THEN expr`
+    #[cycle(expr)]
+    fn when(&mut self, alloc: Global) -> Result<When, Fault>
+        ensures { Reads (Use when) when_of when_view self.old self.new result }
+    {
+        let from = self.start();
+        self.expect(Kind::When)?;
+        let condition = self.expr(alloc)?;
+        self.expect(Kind::Then)?;
+        let outcome = self.expr(alloc)?;
+        Ok(When {
+            from,
+            condition,
+            outcome,
+        })
+    }
+}
+
+/// The WHEN parts up to a place, each with the next one as its rest, and the ELSE part as that of the last one.
+fn fold_cases(alloc: Global, mut parts: Vec<When>, otherwise: Node, to: u32) -> Result<Node, Fault>
+    ensures { Makes (cases_in to (map when_view parts.items) (expression_of otherwise)) result }
+{
+    let mut rest = otherwise;
+    while let Some(part) = parts.pop() {
+        let at = Span {
+            start: part.from,
+            end: to,
+        };
+        rest = case(alloc, part.condition, part.outcome, rest, at)?;
+    }
+    Ok(rest)
+}

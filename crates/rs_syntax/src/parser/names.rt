@@ -1,0 +1,74 @@
+ghost use Rattle.std.specs.Prelude.{◌≡◌, [], ◌∷◌};
+ghost use Rattle.rs_grammar.specs.Grammar.{One, Use, colref, column, columns, name as name_part, optional, word, ◌⨟◌};
+ghost use Rattle.rs_grammar.specs.declared.kind.Kind.TheVariants.{Dot, Int, Integer, Text};
+ghost use Rattle.rs_syntax.specs.Reads.{Reads};
+ghost use Rattle.rs_syntax.specs.Statements.{column_of, columns_of, data_type_of};
+ghost use Rattle.rs_syntax.specs.Trees.{colref_of, qualified};
+
+use crate::name::{ColRef, Name};
+use crate::parser::{Fault, Parser};
+use rs_grammar::Kind;
+use rs_value::{Kind as ValueKind, List};
+use std::alloc::Global;
+
+impl Parser {
+    /// A column: `name [ "." name ]`.
+    pub fn colref(&mut self) -> Result<ColRef, Fault>
+        ensures { Reads (Use colref) colref_of (λ c. c) self.old self.new result }
+    {
+        let first = self.name()?;
+        self.qualified(first)
+    }
+
+    /// What may stand behind a name that is a column or its alias: `[ "." name ]`.
+    pub fn qualified(&mut self, first: Name) -> Result<ColRef, Fault>
+        ensures { Reads (optional (word Dot ⨟ name_part)) (qualified first) (λ c. c) self.old self.new result }
+    {
+        if !self.at(Kind::Dot) {
+            return Ok(ColRef {
+                alias: None,
+                column: first,
+            });
+        }
+        self.expect(Kind::Dot)?;
+        let column = self.name()?;
+        Ok(ColRef {
+            alias: Some(first),
+            column,
+        })
+    }
+
+    /// The columns of a table, or the parameters of a predicate: `column { "," column }`.
+    pub fn columns(&mut self, alloc: Global) -> Result<List<(Name, ValueKind)>, Fault>
+        ensures { Reads (Use columns) columns_of (λ c. c) self.old self.new result }
+    {
+        let mut columns = Vec::new(alloc);
+        columns.push(self.column()?)?;
+        while self.at(Kind::Comma) {
+            self.expect(Kind::Comma)?;
+            columns.push(self.column()?)?;
+        }
+        Ok(List::of(columns))
+    }
+
+    /// `name ( INT | INTEGER | TEXT )`
+    fn column(&mut self) -> Result<(Name, ValueKind), Fault>
+        ensures { Reads (Use column) column_of (λ c. c) self.old self.new result }
+    {
+        let name = self.name()?;
+        let kind = self.data_type()?;
+        Ok((name, kind))
+    }
+
+    /// `INT | INTEGER | TEXT`
+    fn data_type(&mut self) -> Result<ValueKind, Fault>
+        ensures { Reads (One (Int ∷ Integer ∷ Text ∷ [])) data_type_of (λ kind. kind) self.old self.new result }
+    {
+        let kind = self.any_of(&[Kind::Int, Kind::Integer, Kind::Text])?;
+        Ok(if kind.is(Kind::Text) {
+            ValueKind::Text
+        } else {
+            ValueKind::Int
+        })
+    }
+}

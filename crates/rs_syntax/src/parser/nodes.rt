@@ -1,0 +1,100 @@
+ghost use Rattle.rs_syntax.specs.Makes.{Makes};
+ghost use Rattle.rs_syntax.specs.Syntax.{Abs, And, Arith, Case, Compare, Greatest, Least, Neg, Not, Or, expression_of};
+
+use crate::node::{Node, Op};
+use crate::parser::Fault;
+use rs_expr::Rel;
+use rs_lex::Span;
+use std::alloc::{AllocFailed, Global};
+
+impl<T: Drop> From<AllocFailed<T>> for Fault {
+    ghost use Rattle.std.specs.Prelude.{◌≡◌};
+    ghost use Rattle.rs_syntax.specs.declared.parser.Fault.TheVariants.{Memory};
+
+    ghost from_gives = { λ _ fault. fault ≡ Memory };
+
+    fn from(_: AllocFailed<T>) -> Fault {
+        Fault::Memory
+    }
+}
+
+pub fn neg(alloc: Global, part: Node, at: Span) -> Result<Node, Fault>
+    ensures { Makes (Neg (expression_of part) at) result }
+{
+    Ok(Node::Neg(Box::new(alloc, part)?, at))
+}
+
+pub fn not(alloc: Global, part: Node, at: Span) -> Result<Node, Fault>
+    ensures { Makes (Not (expression_of part) at) result }
+{
+    Ok(Node::Not(Box::new(alloc, part)?, at))
+}
+
+pub fn abs(alloc: Global, part: Node, at: Span) -> Result<Node, Fault>
+    ensures { Makes (Abs (expression_of part) at) result }
+{
+    Ok(Node::Abs(Box::new(alloc, part)?, at))
+}
+
+pub fn arith(alloc: Global, op: Op, left: Node, right: Node, at: Span) -> Result<Node, Fault>
+    ensures { Makes (Arith op (expression_of left) (expression_of right) at) result }
+{
+    let left = Box::new(alloc, left)?;
+    let right = Box::new(alloc, right)?;
+    Ok(Node::Arith(op, left, right, at))
+}
+
+pub fn compare(alloc: Global, rel: Rel, left: Node, right: Node, at: Span) -> Result<Node, Fault>
+    ensures { Makes (Compare rel (expression_of left) (expression_of right) at) result }
+{
+    let left = Box::new(alloc, left)?;
+    let right = Box::new(alloc, right)?;
+    Ok(Node::Compare(rel, left, right, at))
+}
+
+pub fn and(alloc: Global, left: Node, right: Node, at: Span) -> Result<Node, Fault>
+    ensures { Makes (And (expression_of left) (expression_of right) at) result }
+{
+    let left = Box::new(alloc, left)?;
+    let right = Box::new(alloc, right)?;
+    Ok(Node::And(left, right, at))
+}
+
+pub fn or(alloc: Global, left: Node, right: Node, at: Span) -> Result<Node, Fault>
+    ensures { Makes (Or (expression_of left) (expression_of right) at) result }
+{
+    let left = Box::new(alloc, left)?;
+    let right = Box::new(alloc, right)?;
+    Ok(Node::Or(left, right, at))
+}
+
+pub fn least(alloc: Global, left: Node, right: Node, at: Span) -> Result<Node, Fault>
+    ensures { Makes (Least (expression_of left) (expression_of right) at) result }
+{
+    let left = Box::new(alloc, left)?;
+    let right = Box::new(alloc, right)?;
+    Ok(Node::Least(left, right, at))
+}
+
+pub fn greatest(alloc: Global, left: Node, right: Node, at: Span) -> Result<Node, Fault>
+    ensures { Makes (Greatest (expression_of left) (expression_of right) at) result }
+{
+    let left = Box::new(alloc, left)?;
+    let right = Box::new(alloc, right)?;
+    Ok(Node::Greatest(left, right, at))
+}
+
+pub fn case(
+    alloc: Global,
+    condition: Node,
+    outcome: Node,
+    rest: Node,
+    at: Span,
+) -> Result<Node, Fault>
+    ensures { Makes (Case (expression_of condition) (expression_of outcome) (expression_of rest) at) result }
+{
+    let condition = Box::new(alloc, condition)?;
+    let outcome = Box::new(alloc, outcome)?;
+    let rest = Box::new(alloc, rest)?;
+    Ok(Node::Case(condition, outcome, rest, at))
+}

@@ -1,0 +1,186 @@
+//! Statements and scripts.
+ghost use Rattle.rs_grammar.specs.Grammar.{Use, close, create, create_predicate, create_rank_index, create_table, declare, explain, fetch, script, statement};
+ghost use Rattle.rs_syntax.specs.Reads.{Reads};
+ghost use Rattle.rs_syntax.specs.Statements.{close_of, create_of, create_predicate_of, create_rank_index_of, create_table_of, declare_of, explain_of, fetch_of, script_of, statement_of};
+ghost use Rattle.rs_syntax.specs.Syntax.{command_of, commands_of};
+
+use crate::parser::{Fault, Parser};
+use crate::statement::Statement;
+use rs_grammar::Kind;
+use std::alloc::Global;
+
+impl Parser {
+    /// `{ statement ";" } [ statement ]`
+    pub fn script(&mut self, alloc: Global) -> Result<Vec<Statement>, Fault>
+        ensures { Reads script script_of (λ s. commands_of s.items) self.old self.new result }
+    {
+        let mut statements = Vec::new(alloc);
+        'statements: while self.at_any(&STATEMENTS) {
+            statements.push(self.statement(alloc)?)?;
+            if !self.at(Kind::Semicolon) {
+                return Ok(statements);
+            }
+            self.expect(Kind::Semicolon)?;
+        }
+        Ok(statements)
+    }
+
+    /// `create | select | declare | fetch | close | explain`
+    fn statement(&mut self, alloc: Global) -> Result<Statement, Fault>
+        ensures { Reads (Use statement) statement_of command_of self.old self.new result }
+    {
+        if self.at(Kind::Create) {
+            return self.create(alloc);
+        }
+        if self.at(Kind::Select) {
+            return Ok(Statement::Query(self.select(alloc)?));
+        }
+        if self.at(Kind::Declare) {
+            return self.declare(alloc);
+        }
+        if self.at(Kind::Fetch) {
+            return self.fetch();
+        }
+        if self.at(Kind::Close) {
+            return self.close();
+        }
+        self.explain(alloc)
+    }
+
+    /// `CREATE ( create_table | create_predicate | create_rank_index )`
+    fn create(&mut self, alloc: Global) -> Result<Statement, Fault>
+        ensures { Reads (Use create) create_of command_of self.old self.new result }
+    {
+        self.expect(Kind::Create)?;
+        if self.at(Kind::Table) {
+            return self.create_table(alloc);
+        }
+        if self.at(Kind::Predicate) {
+            return self.create_predicate(alloc);
+        }
+        self.create_rank_index(alloc)
+    }
+
+    /// `TABLE name "(" columns ")" FROM literal`
+    fn create_table(&mut self, alloc: Global) -> Result<Statement, Fault>
+        ensures { Reads (Use create_table) create_table_of command_of self.old self.new result }
+    {
+        self.expect(Kind::Table)?;
+        let name = self.name()?;
+        self.expect(Kind::OpenBracket)?;
+        let columns = self.columns(alloc)?;
+        self.expect(Kind::CloseBracket)?;
+        self.expect(Kind::From)?;
+        let (file, _) = self.literal()?;
+        Ok(Statement::CreateTable {
+            name,
+            columns,
+            file,
+        })
+    }
+
+    /// `PREDICATE name "(" columns ")" MAX number [ COST number ] AS expr`
+    fn create_predicate(&mut self, alloc: Global) -> Result<Statement, Fault>
+        ensures { Reads (Use create_predicate) create_predicate_of command_of self.old self.new result }
+    {
+        self.expect(Kind::Predicate)?;
+        let name = self.name()?;
+        self.expect(Kind::OpenBracket)?;
+        let params = self.columns(alloc)?;
+        self.expect(Kind::CloseBracket)?;
+        self.expect(Kind::Max)?;
+        let max = self.number()?;
+        let cost = self.numbered(Kind::Cost)?;
+        self.expect(Kind::As)?;
+        let formula = self.expr(alloc)?;
+        Ok(Statement::CreatePredicate {
+            name,
+            params,
+            max,
+            cost,
+            formula,
+        })
+    }
+
+    /// `RANK INDEX name ON name "(" name "(" args ")" ")"`
+    fn create_rank_index(&mut self, alloc: Global) -> Result<Statement, Fault>
+        ensures { Reads (Use create_rank_index) create_rank_index_of command_of self.old self.new result }
+    {
+        self.expect(Kind::Rank)?;
+        self.expect(Kind::Index)?;
+        let name = self.name()?;
+        self.expect(Kind::On)?;
+        let table = self.name()?;
+        self.expect(Kind::OpenBracket)?;
+        let from = self.start();
+        let predicate = self.name()?;
+        self.expect(Kind::OpenBracket)?;
+        let args = self.args(alloc)?;
+        self.expect(Kind::CloseBracket)?;
+        let at = self.since(from);
+        self.expect(Kind::CloseBracket)?;
+        Ok(Statement::CreateRankIndex {
+            name,
+            table,
+            predicate,
+            args,
+            at,
+        })
+    }
+
+    /// `DECLARE name CURSOR FOR select`
+    fn declare(&mut self, alloc: Global) -> Result<Statement, Fault>
+        ensures { Reads (Use declare) declare_of command_of self.old self.new result }
+    {
+        self.expect(Kind::Declare)?;
+        let name = self.name()?;
+        self.expect(Kind::Cursor)?;
+        self.expect(Kind::For)?;
+        let select = self.select(alloc)?;
+        Ok(Statement::Declare { name, select })
+    }
+
+    /// `FETCH number FROM name`
+    fn fetch(&mut self) -> Result<Statement, Fault>
+        ensures { Reads (Use fetch) fetch_of command_of self.old self.new result }
+    {
+        self.expect(Kind::Fetch)?;
+        let count = self.number()?;
+        self.expect(Kind::From)?;
+        let name = self.name()?;
+        Ok(Statement::Fetch { count, name })
+    }
+
+    /// `CLOSE name`
+    fn close(&mut self) -> Result<Statement, Fault>
+        ensures { Reads (Use close) close_of command_of self.old self.new result }
+    {
+        self.expect(Kind::Close)?;
+        let name = self.name()?;
+        Ok(Statement::Close { name })
+    }
+
+    /// `EXPLAIN [ ANALYZE ] select`
+    fn explain(&mut self, alloc: Global) -> Result<Statement, Fault>
+        ensures { Reads (Use explain) explain_of command_of self.old self.new result }
+    {
+        self.expect(Kind::Explain)?;
+        let is_analyze = self.accept(Kind::Analyze)?;
+        let select = self.select(alloc)?;
+        Ok(if is_analyze {
+            Statement::ExplainAnalyze(select)
+        } else {
+            Statement::Explain(select)
+        })
+    }
+}
+
+/// The words that begin a statement.
+const STATEMENTS: [Kind; 6] = [
+    Kind::Close,
+    Kind::Create,
+    Kind::Declare,
+    Kind::Explain,
+    Kind::Fetch,
+    Kind::Select,
+];
