@@ -1,2 +1,3 @@
 pub mod Predict
 pub mod Derivation
+pub mod LexemeFacts

@@ -3,6 +3,7 @@
 
 mod kind;
 mod lexeme;
+mod word;
 
 pub use kind::Kind;
-pub use lexeme::Lexeme;
+pub use lexeme::{Lexeme, lexemes};
