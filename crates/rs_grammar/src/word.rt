@@ -1,4 +1,5 @@
 ghost use Rattle.std.specs.Prelude.{◌≡◌, map};
+ghost use Rattle.std.specs.Str.{str_eq_ignore_ascii_case};
 ghost use Rattle.rs_grammar.specs.Lexemes.{kind_in, words, symbols};
 
 use crate::kind::Kind;
@@ -88,13 +89,20 @@ const SYMBOLS: [(&[u8], Kind); 16] = [
     (b">=", Kind::GreaterEqual),
 ];
 
+/// Whether two words are the same where A to Z are the same as a to z.
+fn is_same(known: &[u8], word: &[u8]) -> bool
+    ensures { result ≡ str_eq_ignore_ascii_case known.now word.now }
+{
+    known.eq_ignore_ascii_case(word)
+}
+
 /// The kind of a word in a table, where A to Z are the same as a to z. A word that isn't there is a name.
 fn kind_in(mut table: &[(&[u8], Kind)], word: &[u8]) -> Kind
     ensures { result ≡ kind_in (map (λ entry. (entry.0.now, entry.1)) table.entry.now) word.now }
 {
-    while let [(known, kind), rest @ ..] = table {
-        if known.eq_ignore_ascii_case(word) {
-            return *kind;
+    while let [entry, rest @ ..] = table {
+        if is_same(entry.0, word) {
+            return entry.1;
         }
         table = rest;
     }
