@@ -65,6 +65,7 @@ undoubled_behind mark xs (byte ∷ next ∷ rest) ascii h =
   where
     after : IsUtf8 ((xs ++ (byte ∷ [])) ++ (next ∷ rest))
     after = rw append_assoc h
+
     go : (b : Bool) → ((byte == mark) && (next == mark)) ≡ b
         → (IsUtf8 ((xs ++ (byte ∷ [])) ++ rest) → IsUtf8 ((xs ++ (byte ∷ [])) ++ undoubled mark rest))
         → (IsUtf8 ((xs ++ (byte ∷ [])) ++ (next ∷ rest)) → IsUtf8 ((xs ++ (byte ∷ [])) ++ undoubled mark (next ∷ rest)))
@@ -136,9 +137,9 @@ is_letter-ascii : (byte : ℕ) → is_letter byte ≡ true → byte < 128
 is_letter-ascii byte e =
     elim (or_cases (is_from 65 90 byte || is_from 97 122 byte) (byte == 95) e) [
       | inl small_or_capital ↦ elim (or_cases (is_from 65 90 byte) (is_from 97 122 byte) small_or_capital) [
-          | inl f ↦ omega (arith, is_from-high 65 90 byte f)
-          | inr f ↦ omega (arith, is_from-high 97 122 byte f)
-        ]
+        | inl f ↦ omega (arith, is_from-high 65 90 byte f)
+        | inr f ↦ omega (arith, is_from-high 97 122 byte f)
+      ]
       | inr f ↦ omega (arith, eqb-true byte 95 f)
     ]
 

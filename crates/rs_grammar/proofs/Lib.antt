@@ -1,3 +1,4 @@
 pub mod Predict
 pub mod Derivation
 pub mod LexemeFacts
+mod WorkedLexemes

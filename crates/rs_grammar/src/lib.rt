@@ -3,6 +3,8 @@
 
 mod kind;
 mod lexeme;
+#[cfg(test)]
+mod tests;
 mod word;
 
 pub use kind::Kind;
