@@ -1,12 +1,12 @@
 -- What the tokens of a script are like: their places, their bytes and their numbers.
-use Rattle.std.proofs.Common.{ℕ, zero, suc, ◌≡◌, ◌+◌, ◌-◌, ◌<◌, ◌≤◌, ◌==◌, ◌&&◌, ◌||◌, ◌⊎◌, inl, inr, eqb, nat_le, Bool, true, false, not, cond, List, [], ◌∷◌, ◌++◌, length, get_or, take, drop, Option, Some, None, refl, sym, ap, ◌∙◌, arith, if◌then◌else◌, length-drop, length-append, append_assoc}
-use Rattle.std.specs.Prelude.{IsUtf8, All, IsTrue, IfSome, option_map, take_while}
+use Rattle.std.proofs.Common.{ℕ, zero, suc, ◌≡◌, ◌+◌, ◌-◌, ◌<◌, ◌≤◌, ◌==◌, ◌&&◌, ◌||◌, inl, inr, nat_le, Bool, true, false, not, cond, List, [], ◌∷◌, ◌++◌, length, get_or, take, drop, Option, Some, None, refl, sym, ap, ◌∙◌, arith, if◌then◌else◌, length-drop, length-append, append_assoc}
+use Rattle.std.specs.Prelude.{IsUtf8, All, IfSome, option_map, take_while}
 use Rattle.std.specs.Str.{IsAscii}
 use Rattle.std.proofs.lemmas.Bool.{eqb-true, and_parts, or_cases, leb-true, cond_both}
 use Rattle.std.proofs.Math.Seq.{drop-drop, take-append_seam, drop-append-add, get_or-append_seam}
 use Rattle.std.proofs.lemmas.List.Elements.{All-nil, All-cons, All-same, All-take}
 use Rattle.std.proofs.lemmas.List.Sums.{take_while-cons}
-use Rattle.std.proofs.lemmas.List.{take-take, get_or-drop, length-take-le}
+use Rattle.std.proofs.lemmas.List.{take-append-drop, take-take, get_or-drop, length-take-le}
 use Rattle.std.proofs.lemmas.Str.Ascii.{IsAscii-from_all}
 use Rattle.std.proofs.lemmas.Str.{IsUtf8-nil, IsUtf8-take, IsUtf8-drop, IsUtf8-between, IsUtf8-append, IsUtf8-from_ascii, IsCharBoundary-before_ascii, IsCharBoundary-after_ascii}
 use Rattle.rs_value.specs.Number.{number_of, decimal_value, are_digits, greatest_int}
@@ -38,6 +38,10 @@ tokens_from script at bytes tokens within is (spelling.Spells.takes _ n sort _ r
     All-cons (IsToken script) (token_at at sort n) rest
     (record { ordered = omega arith; within = omega (arith, size.1, left); found = rw (some, ← is) e })
     (tokens_from script (at + n) (drop n bytes) rest (omega (arith, size.1, left)) (ap (drop n) is ∙ drop-drop n at script) h)
+
+-- so many of the tokens that a script spells are the first ones
+pub IsFront-take : (script : List ℕ) (n : ℕ) (tokens : List Token) → Spells 0 script tokens → IsFront script (take n tokens)
+IsFront-take script n tokens h = record { more = drop n tokens; spelled = rw (take-append-drop n tokens) h }
 
 -- each of the first tokens of a script stands in it
 pub IsToken-each : (script : List ℕ) (tokens : List Token) → IsFront script tokens → All (IsToken script) tokens
@@ -129,10 +133,11 @@ Says bytes (Bad n) = Unit {0}
 Says bytes Open = Unit {0}
 Says bytes Wide = Unit {0}
 
--- letters, digits and `_` are ASCII
+-- a byte between two others is at most the higher one
 is_from-high : (low high byte : ℕ) → is_from low high byte ≡ true → byte ≤ high
 is_from-high low high byte e = leb-true byte high ((and_parts (nat_le low byte) (nat_le byte high) e).1)
 
+-- letters, digits and `_` are ASCII
 is_letter-ascii : (byte : ℕ) → is_letter byte ≡ true → byte < 128
 is_letter-ascii byte e =
     elim (or_cases (is_from 65 90 byte || is_from 97 122 byte) (byte == 95) e) [
@@ -156,7 +161,7 @@ word_bytes (byte ∷ rest) = rw take_while-cons (go (is_word_byte byte) refl (wo
     go true e h = All-cons (λ b. b < 128) byte (take (run_length is_word_byte rest) rest) (is_word_byte-ascii byte e) h
     go false e h = All-nil (λ b. b < 128)
 
--- a text between marks
+-- a text between marks begins and ends with one
 literal_front-says : (byte : ℕ) (rest : List ℕ) (end : Option ℕ) → byte < 128 → Closes apostrophe rest end → Says (byte ∷ rest) (literal_front end)
 literal_front-says byte rest None ascii h = tt
 literal_front-says byte rest (Some n) ascii h =
@@ -164,7 +169,7 @@ literal_front-says byte rest (Some n) ascii h =
     let mark : get_or rest (n - 1) 0 < 128 = rw h.2 (omega arith) in
     record { some = omega (arith, h.0); within = omega (arith, h.1); first = ascii; last = rw last mark }
 
--- a name between marks
+-- so does a name between marks
 quoted_front-says : (byte : ℕ) (rest : List ℕ) (end : Option ℕ) → byte < 128 → Closes quote rest end → Says (byte ∷ rest) (quoted_front end)
 quoted_front-says byte rest None ascii h = tt
 quoted_front-says byte rest (Some n) ascii h =
@@ -173,7 +178,7 @@ quoted_front-says byte rest (Some n) ascii h =
     cond_both (n == 1) (Bad 0) (Found Quoted (n + 1)) (Says (byte ∷ rest)) (λ _. tt)
     (λ _. record { some = omega (arith, h.0); within = omega (arith, h.1); first = ascii; last = rw last mark })
 
--- a symbol
+-- nothing is said of a symbol
 symbol_front-says : (byte : ℕ) (rest : List ℕ) → Says (byte ∷ rest) (symbol_front byte rest)
 symbol_front-says byte rest =
     cond_both (begins (is_pair byte) rest) (Found Symbol 2) (if is_symbol byte then Found Symbol 1 else Bad 0) (Says (byte ∷ rest)) (λ _. tt)
@@ -197,6 +202,7 @@ value_of_digits bytes first fits = go (are_digits (take (run_length is_digit byt
         absurd (not_wide (nat_le (number_of (take (run_length is_digit bytes) bytes)) greatest_int) (begins is_letter (drop (run_length is_digit bytes) bytes)) (run_length is_digit bytes)
         fits (number_front-wide bytes first none))
 
+-- so have those of a number at the front
 number_front-says : (bytes : List ℕ) → begins is_digit bytes ≡ true → Says bytes (number_front bytes)
 number_front-says bytes first =
     let digits = run_length is_digit bytes in
@@ -241,7 +247,7 @@ between-take (suc (suc n)) (byte ∷ rest) some within =
     let count : suc (suc n) - 2 ≡ n = omega arith in
     rw (size, count) (take-take n (suc n) rest (omega arith))
 
--- the bytes between two marks are UTF-8 where the script is
+-- the bytes of a script between two marks are UTF-8 where the script is
 between_utf8 : (script : List ℕ) (at n : ℕ) → IsUtf8 script → at ≤ length script → IsMarked n (drop at script) → IsUtf8 (between (take n (drop at script)))
 between_utf8 script at n utf8 within h =
     let left : length (drop at script) ≡ length script - at = length-drop at script in
@@ -254,7 +260,7 @@ between_utf8 script at n utf8 within h =
     let count : at + (n - 1) - (at + 1) ≡ n - 2 = omega (arith, h.some) in
     rw (between-take n (drop at script) h.some h.within, drop-drop 1 at script, ← count) inner
 
--- the text of a token is UTF-8 where the script is
+-- so is the text of such bytes
 text_utf8 : (sort : Sort) (script : List ℕ) (at n : ℕ) → IsUtf8 script → at ≤ length script → Holds sort n (drop at script) → IsUtf8 (text_of sort (take n (drop at script)))
 text_utf8 Word script at n utf8 within h =
     cond_both (accepts names (kind_of Word (take n (drop at script)))) (take n (drop at script)) [] IsUtf8 (λ _. IsUtf8-from_ascii (take n (drop at script)) h) (λ _. IsUtf8-nil)

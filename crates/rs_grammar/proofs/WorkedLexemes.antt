@@ -1,6 +1,6 @@
 -- Lexemes, computed on literals.
 use Rattle.std.proofs.Common.{ℕ, ◌≡◌, List, [], ◌∷◌, map, refl}
-use Rattle.std.specs.Prelude.{ℤ, pos, codes}
+use Rattle.std.specs.Prelude.{pos, codes}
 use Rattle.rs_lex.specs.Spelling.{token_at}
 use Rattle.rs_lex.specs.declared.token.Sort.TheVariants as sort
 use Rattle.rs_grammar.specs.Lexemes.{words, symbols, kind_of, undoubled, lexeme_of}

@@ -1,5 +1,4 @@
-use Rattle.std.proofs.Common.{◌≡◌, inl, inr}
-use Rattle.std.specs.Prelude.{Ok, Err}
+use Rattle.std.proofs.Common.{inl, inr}
 use Rattle.rs_value.proofs.TextFacts.{text_of-utf8}
 use Rattle.rs_grammar.proofs.lexeme.copied.Goals as goal
 
