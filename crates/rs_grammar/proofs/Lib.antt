@@ -2,3 +2,5 @@ pub mod Predict
 pub mod Beginnings
 pub mod Derivation
 pub mod Verdict
+pub mod LexemeFacts
+mod WorkedLexemes

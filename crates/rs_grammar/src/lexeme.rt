@@ -1,6 +1,12 @@
+ghost use Rattle.std.specs.Prelude.{◌≡◌, IfOk, IsUtf8, Some, map};
+ghost use Rattle.rs_value.specs.Number.{decimal_value, greatest_int, number_of};
+ghost use Rattle.rs_lex.specs.declared.token.Sort.{Sort};
+ghost use Rattle.rs_grammar.specs.Lexemes.{IsFront, IsToken, between, kind_of, lexeme_of, text_of, undoubled, value_of};
+
 use crate::kind::Kind;
-use rs_lex::Span;
-use rs_value::Text;
+use rs_lex::{Sort, Span, Token};
+use rs_value::{GREATEST_INT, Memory, Text, TextFault, decimal_of};
+use std::alloc::Global;
 
 /// A token as the grammar sees it.
 #[derive(Debug, Drop)]
@@ -11,4 +17,113 @@ pub struct Lexeme {
     /// The value of a number; 0 for each other token.
     pub number: i64,
     pub at: Span,
+}
+
+/// The kind of a token of this sort.
+fn kind_of(sort: Sort, bytes: &[u8]) -> Kind
+    ensures { result ≡ kind_of sort bytes.now }
+{
+    match sort {
+        Sort::Word => Kind::of_word(bytes),
+        Sort::Quoted => Kind::Name,
+        Sort::Number => Kind::Number,
+        Sort::Literal => Kind::Literal,
+        Sort::Symbol => Kind::of_symbol(bytes),
+    }
+}
+
+/// The text of these bytes, which are UTF-8.
+fn copied(alloc: Global, bytes: &[u8]) -> Result<Text, Memory>
+    requires { IsUtf8 bytes.now }
+    ensures { IfOk result (λ text. text ≡ bytes.now) }
+{
+    match Text::from_bytes(alloc, bytes) {
+        Ok(text) => Ok(text),
+        Err(TextFault::Memory) => Err(Memory),
+        Err(TextFault::NotUtf8 { .. }) => unreachable!(),
+    }
+}
+
+/// The bytes between the marks at both ends.
+fn between(bytes: &[u8]) -> &[u8]
+    ensures { result.now ≡ between bytes.now }
+{
+    match bytes {
+        [_, inner @ .., _] => inner,
+        _ => &[],
+    }
+}
+
+/// The text of these bytes with each doubled mark made one.
+fn undoubled(alloc: Global, mark: u8, mut bytes: &[u8]) -> Result<Text, Memory>
+    requires { IsUtf8 (undoubled mark bytes.now) }
+    ensures { IfOk result (λ text. text ≡ undoubled mark bytes.entry.now) }
+{
+    let mut made = Vec::new(alloc);
+    while let [byte, rest @ ..] = bytes {
+        made.push(*byte)?;
+        bytes = match rest {
+            [next, after @ ..] if *byte == mark && *next == mark => after,
+            _ => rest,
+        };
+    }
+    copied(alloc, &made)
+}
+
+/// What a name or a text says, of a token of this sort and kind.
+fn text_of(alloc: Global, sort: Sort, kind: Kind, bytes: &[u8]) -> Result<Text, Memory>
+    requires kind { kind ≡ kind_of sort bytes.now }
+    requires utf8 { IsUtf8 (text_of sort bytes.now) }
+    ensures { IfOk result (λ text. text ≡ text_of sort bytes.now) }
+{
+    match sort {
+        Sort::Word if kind.is_name() => copied(alloc, bytes),
+        Sort::Quoted => undoubled(alloc, b'"', between(bytes)),
+        Sort::Literal => undoubled(alloc, b'\'', between(bytes)),
+        Sort::Word | Sort::Number | Sort::Symbol => copied(alloc, b""),
+    }
+}
+
+/// The value of a number, and 0 of another token.
+fn value_of(sort: Sort, bytes: &[u8]) -> i64
+    requires { sort ≡ Sort.Number → decimal_value greatest_int bytes.now ≡ Some (number_of bytes.now) }
+    ensures { result ≡ value_of sort bytes.now }
+{
+    match sort {
+        Sort::Number => match decimal_of(bytes, GREATEST_INT) {
+            Some(number) => number as i64,
+            None => unreachable!(),
+        },
+        Sort::Word | Sort::Quoted | Sort::Literal | Sort::Symbol => 0,
+    }
+}
+
+/// What a token of the script is to the grammar.
+fn lexeme_of(alloc: Global, script: &[u8], token: Token) -> Result<Lexeme, Memory>
+    requires utf8 { IsUtf8 script.now }
+    requires token { IsToken script.now token }
+    ensures { IfOk result (λ lexeme. lexeme ≡ lexeme_of script.now token) }
+{
+    let bytes = &script[token.at.start as usize..token.at.end as usize];
+    let kind = kind_of(token.sort, bytes);
+    Ok(Lexeme {
+        kind,
+        text: text_of(alloc, token.sort, kind, bytes)?,
+        number: value_of(token.sort, bytes),
+        at: token.at,
+    })
+}
+
+/// What the tokens of a script are to the grammar, or the first ones of them. It takes time linear in the
+/// script's length.
+pub fn lexemes(alloc: Global, script: &Text, tokens: &[Token]) -> Result<Vec<Lexeme>, Memory>
+    requires { IsFront script.now tokens.now }
+    ensures { IfOk result (λ made. made.items ≡ map (lexeme_of script.now) tokens.now) }
+{
+    let bytes = script.bytes();
+    let mut made = Vec::new(alloc);
+    for token in tokens {
+        made.push(lexeme_of(alloc, bytes, *token)?)?;
+    }
+    Ok(made)
 }

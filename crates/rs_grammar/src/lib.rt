@@ -3,6 +3,9 @@
 
 mod kind;
 mod lexeme;
+#[cfg(test)]
+mod tests;
+mod word;
 
 pub use kind::Kind;
-pub use lexeme::Lexeme;
+pub use lexeme::{Lexeme, lexemes};
