@@ -2,3 +2,4 @@ pub mod FrontFacts
 pub mod SpellingFacts
 pub mod WorkedFront
 mod WorkedSpelling
+pub mod TokenFacts
