@@ -1,12 +1,11 @@
 -- What stands at the front of a script is a token, and the longest one there.
-use Rattle.std.proofs.Common.{ℕ, zero, suc, ◌≡◌, ◌+◌, ◌-◌, ◌<◌, ◌≤◌, ◌==◌, nat_le, ◌⊎◌, inl, inr, Bool, true, false, not, ◌&&◌, ◌||◌, List, [], ◌∷◌, ◌++◌, length, take, drop, get_or, Option, Some, None, refl, sym, ap, ◌∙◌, arith, cond, if◌then◌else◌, lit<, length-drop, All}
-use Rattle.std.specs.Prelude.{IfSome, option_map, take_while, Contains, IsTrue}
-use Rattle.std.specs.List.{prefix_len, list_all}
+use Rattle.std.proofs.Common.{ℕ, zero, suc, ◌≡◌, ◌+◌, ◌-◌, ◌<◌, ◌≤◌, ◌==◌, nat_le, inl, inr, Bool, true, false, not, ◌&&◌, ◌||◌, List, [], ◌∷◌, ◌++◌, length, take, drop, get_or, Option, Some, None, refl, sym, ap, ◌∙◌, arith, cond, if◌then◌else◌, lit<, All}
+use Rattle.std.specs.Prelude.{IfSome, option_map, take_while, Contains}
+use Rattle.std.specs.List.{list_all}
 use Rattle.std.proofs.lemmas.List.{drop-drop, take-append-drop, length-take-le, append_assoc, length-append}
 use Rattle.std.proofs.lemmas.List.Elements.{All-contains}
-use Rattle.std.proofs.lemmas.List.Folds.{length-prefix_len}
 use Rattle.std.proofs.lemmas.List.Sums.{take_while-cons, AllPass-from_list_all}
-use Rattle.std.proofs.lemmas.Bool.{eqb-true, eqb-false, leb-true, leb-false, and_parts, or_left}
+use Rattle.std.proofs.lemmas.Bool.{eqb-true, eqb-false, leb-true, lt-leb, ne_eqb, and_parts, or_left}
 use Rattle.rs_value.specs.Number.{number_of, are_digits, greatest_int}
 use Rattle.rs_lex.specs.Bytes.{is_letter, is_digit, is_word_byte, is_blank, begins, quote, apostrophe}
 use Rattle.rs_lex.specs.Front.{front_of, run_length, closed_length, number_front, literal_front, quoted_front, symbol_front, begins_comment, is_pair, is_symbol}
@@ -16,9 +15,8 @@ use Rattle.rs_lex.specs.Tokens.{IsToken, is_word, symbols, doubled, between, fro
 use Rattle.rs_lex.specs.declared.token.Sort.{Sort}
 use Rattle.rs_lex.specs.declared.token.Sort.TheVariants.{Word, Quoted, Number, Literal, Symbol}
 use Rattle.rs_lex.specs.declared.token.Token.{Token}
-use Rattle.rs_lex.specs.declared.front.Front.{Front}
-use Rattle.rs_lex.specs.declared.front.Front.TheVariants.{End, Gap, Found, Bad, Open, Wide}
-use Rattle.rs_lex.proofs.SpellingFacts.{chosen, closed_length-within, front_of-found, InOrder-spelled}
+use Rattle.rs_lex.specs.declared.front.Front.TheVariants.{Gap, Found, Bad, Wide}
+use Rattle.rs_lex.proofs.SpellingFacts.{chosen, closed_length-within, InOrder-spelled}
 use Rattle.rs_lex.proofs.FrontFacts.{closed_length-other, closed_length-doubled}
 
 -- tokens in order from a place on begin there or behind it
@@ -87,9 +85,9 @@ number_front-found P bytes sort n found e =
     let digits = run_length is_digit bytes in
     elim (chosen (nat_le (number_of (take digits bytes)) greatest_int) (if begins is_letter (drop digits bytes) then Bad digits else Found Number digits) Wide (Found sort n) e) [
       | inl fits ↦ elim (chosen (begins is_letter (drop digits bytes)) (Bad digits) (Found Number digits) (Found sort n) fits.1) [
-          | inl letter ↦ let f = letter.1 in cc
-          | inr no_letter ↦ found_same P Number sort digits n no_letter.1 (found fits.0)
-        ]
+        | inl letter ↦ let f = letter.1 in cc
+        | inr no_letter ↦ found_same P Number sort digits n no_letter.1 (found fits.0)
+      ]
       | inr wide ↦ let f = wide.1 in cc
     ]
 
@@ -115,9 +113,9 @@ symbol_front-found P byte rest sort n pair single e =
     elim (chosen (begins (is_pair byte) rest) (Found Symbol 2) (if is_symbol byte then Found Symbol 1 else Bad 0) (Found sort n) e) [
       | inl two ↦ found_same P Symbol sort 2 n two.1 (pair two.0)
       | inr other ↦ elim (chosen (is_symbol byte) (Found Symbol 1) (Bad 0) (Found sort n) other.1) [
-          | inl one ↦ found_same P Symbol sort 1 n one.1 (single other.0 one.0)
-          | inr none ↦ let f = none.1 in cc
-        ]
+        | inl one ↦ found_same P Symbol sort 1 n one.1 (single other.0 one.0)
+        | inr none ↦ let f = none.1 in cc
+      ]
     ]
 
 -- what is found, is found in one of these ways
@@ -133,21 +131,21 @@ front_of-ways P byte rest sort n ways e =
     elim (chosen (is_blank byte) (Gap (run_length is_blank (byte ∷ rest))) comment (Found sort n) e) [
       | inl x ↦ let f = x.1 in cc
       | inr a ↦ elim (chosen (begins_comment byte rest) (Gap (run_length (λ c. not (c == 10)) (byte ∷ rest))) word (Found sort n) a.1) [
-          | inl x ↦ let f = x.1 in cc
-          | inr b ↦ elim (chosen (is_letter byte) (Found Word (run_length is_word_byte (byte ∷ rest))) number (Found sort n) b.1) [
-              | inl x ↦ found_same P Word sort (run_length is_word_byte (byte ∷ rest)) n x.1 (ways.word x.0 (rw x.0 refl))
-              | inr c ↦ elim (chosen (is_digit byte) (number_front (byte ∷ rest)) quoted (Found sort n) c.1) [
-                  | inl x ↦ number_front-found P (byte ∷ rest) sort n (ways.number x.0 (rw (c.0, x.0) refl)) x.1
-                  | inr d ↦ elim (chosen (byte == quote) (quoted_front (closed_length quote rest)) literal (Found sort n) d.1) [
-                      | inl x ↦ quoted_front-found P (closed_length quote rest) sort n (ways.quoted (eqb-true byte quote x.0) (rw (c.0, d.0, x.0) refl)) x.1
-                      | inr f ↦ elim (chosen (byte == apostrophe) (literal_front (closed_length apostrophe rest)) symbol (Found sort n) f.1) [
-                          | inl x ↦ literal_front-found P (closed_length apostrophe rest) sort n (ways.literal (eqb-true byte apostrophe x.0) (rw (c.0, d.0, f.0, x.0) refl)) x.1
-                          | inr g ↦ symbol_front-found P byte rest sort n (λ p. ways.pair p (rw (c.0, d.0, f.0, g.0) refl)) (λ p s. ways.single p s (rw (c.0, d.0, f.0, g.0) refl)) g.1
-                        ]
-                    ]
-                ]
+        | inl x ↦ let f = x.1 in cc
+        | inr b ↦ elim (chosen (is_letter byte) (Found Word (run_length is_word_byte (byte ∷ rest))) number (Found sort n) b.1) [
+          | inl x ↦ found_same P Word sort (run_length is_word_byte (byte ∷ rest)) n x.1 (ways.word x.0 (rw x.0 refl))
+          | inr c ↦ elim (chosen (is_digit byte) (number_front (byte ∷ rest)) quoted (Found sort n) c.1) [
+            | inl x ↦ number_front-found P (byte ∷ rest) sort n (ways.number x.0 (rw (c.0, x.0) refl)) x.1
+            | inr d ↦ elim (chosen (byte == quote) (quoted_front (closed_length quote rest)) literal (Found sort n) d.1) [
+              | inl x ↦ quoted_front-found P (closed_length quote rest) sort n (ways.quoted (eqb-true byte quote x.0) (rw (c.0, d.0, x.0) refl)) x.1
+              | inr f ↦ elim (chosen (byte == apostrophe) (literal_front (closed_length apostrophe rest)) symbol (Found sort n) f.1) [
+                | inl x ↦ literal_front-found P (closed_length apostrophe rest) sort n (ways.literal (eqb-true byte apostrophe x.0) (rw (c.0, d.0, f.0, x.0) refl)) x.1
+                | inr g ↦ symbol_front-found P byte rest sort n (λ p. ways.pair p (rw (c.0, d.0, f.0, g.0) refl)) (λ p s. ways.single p s (rw (c.0, d.0, f.0, g.0) refl)) g.1
+              ]
             ]
+          ]
         ]
+      ]
     ]
 
 -- the bytes of a run pass the test
@@ -229,9 +227,9 @@ Contains-pair byte next e =
     or_parts (below || not_equal) ((byte == 62) && (next == 61)) e
     (λ a. or_parts below not_equal a
     (λ b. let both = and_parts (byte == 60) ((next == 62) || (next == 61)) b in
-      or_parts (next == 62) (next == 61) both.1
-      (λ x. pair_at byte next 60 62 10 both.0 x (lit< tt) refl)
-      (λ x. pair_at byte next 60 61 13 both.0 x (lit< tt) refl))
+    or_parts (next == 62) (next == 61) both.1
+    (λ x. pair_at byte next 60 62 10 both.0 x (lit< tt) refl)
+    (λ x. pair_at byte next 60 61 13 both.0 x (lit< tt) refl))
     (λ b. let both = and_parts (byte == 33) (next == 61) b in pair_at byte next 33 61 11 both.0 both.1 (lit< tt) refl))
     (λ a. let both = and_parts (byte == 62) (next == 61) a in pair_at byte next 62 61 15 both.0 both.1 (lit< tt) refl)
 
@@ -309,13 +307,13 @@ doubled-is_closed mark (byte ∷ rest) after k e =
         → length (doubled mark (byte ∷ rest)) < k
     go true is h =
         let step : closed_length mark (doubled mark (byte ∷ rest) ++ (mark ∷ after)) ≡ option_map (λ n. n + 2) (closed_length mark (doubled mark rest ++ (mark ∷ after)))
-            = rw (doubled-mark mark byte rest is) (closed_length-doubled mark byte byte (doubled mark rest ++ (mark ∷ after)) is is) in
+        = rw (doubled-mark mark byte rest is) (closed_length-doubled mark byte byte (doubled mark rest ++ (mark ∷ after)) is is) in
         let (m, f, size) = option_map-some 2 k (closed_length mark (doubled mark rest ++ (mark ∷ after))) (sym step ∙ e) in
         let less = h m f in
         rw (doubled-mark mark byte rest is) (omega (arith, size, less))
     go false is h =
         let step : closed_length mark (doubled mark (byte ∷ rest) ++ (mark ∷ after)) ≡ option_map (λ n. n + 1) (closed_length mark (doubled mark rest ++ (mark ∷ after)))
-            = rw (doubled-other mark byte rest is) (closed_length-other mark byte (doubled mark rest ++ (mark ∷ after)) is) in
+        = rw (doubled-other mark byte rest is) (closed_length-other mark byte (doubled mark rest ++ (mark ∷ after)) is) in
         let (m, f, size) = option_map-some 1 k (closed_length mark (doubled mark rest ++ (mark ∷ after))) (sym step ∙ e) in
         let less = h m f in
         rw (doubled-other mark byte rest is) (omega (arith, size, less))
@@ -354,17 +352,20 @@ front-is_token (byte ∷ rest) sort n e =
         let all = run-passes is_word_byte (byte ∷ rest) in
         let size = run-first is_word_byte byte rest (or_left (is_letter byte) (is_digit byte) is) in
         rw (size, is) (and_parts (is_word_byte byte) (list_all is_word_byte (take (run_length is_word_byte rest) rest)) (rw size at all)).1
+
     number : is_digit byte ≡ true → nat_le (number_of (take (run_length is_digit (byte ∷ rest)) (byte ∷ rest))) greatest_int ≡ true → IsToken Number (take (run_length is_digit (byte ∷ rest)) (byte ∷ rest))
     number is fits =
         let all = run-passes is_digit (byte ∷ rest) in
         let size = run-first is_digit byte rest is in
         (rw size (rw size at all), leb-true (number_of (take (run_length is_digit (byte ∷ rest)) (byte ∷ rest))) greatest_int fits)
+
     quoted : (k : ℕ) → closed_length quote rest ≡ Some k → (k == 1) ≡ false → IsToken Quoted (take (k + 1) (quote ∷ rest))
     quoted k f some = go (between-found quote rest k f)
       where
         go : (text : List ℕ) × (take (k + 1) (quote ∷ rest) ≡ between quote text) → IsToken Quoted (take (k + 1) (quote ∷ rest))
         go ([], h) = absurd (eqb-false k 1 some (between-empty quote rest k f h))
         go (first ∷ more, h) = (first ∷ more, omega arith, h)
+
     pair : (after : List ℕ) → begins (is_pair byte) after ≡ true → Contains symbols (take 2 (byte ∷ after))
     pair [] is = cc
     pair (next ∷ after) is = Contains-pair byte next is
@@ -391,12 +392,16 @@ is_short (byte ∷ []) = true
 is_short (byte ∷ next ∷ []) = is_pair byte next
 is_short (byte ∷ next ∷ third ∷ rest) = false
 
+symbol-is_short : (bytes : List ℕ) → Contains symbols bytes → is_short bytes ≡ true
+unfolding is_short
+symbol-is_short bytes h = symbol-passes is_short bytes refl h
+
 -- a digit is no letter
 letter-digit : (byte : ℕ) → is_digit byte ≡ true → is_letter byte ≡ false
 letter-digit byte e =
     let parts = and_parts (nat_le 48 byte) (nat_le byte 57) e in
     let le = leb-true byte 57 parts.1 in
-    ?
+    rw (lt-leb 65 byte (omega (arith, le)), lt-leb 97 byte (omega (arith, le)), ne_eqb byte 95 (λ e. omega (arith, le, e))) refl
 
 -- a token's first byte tells its sort
 IsToken-first : (sort : Sort) (byte : ℕ) (rest : List ℕ) → IsToken sort (byte ∷ rest) → sort_of byte ≡ sort
@@ -409,5 +414,69 @@ IsToken-first Number byte rest h =
 IsToken-first Literal byte rest (text, e) = let same : byte ≡ apostrophe = cc in rw same refl
 IsToken-first Symbol byte rest h = sort_of-no_other byte (symbol-passes (λ symbol. begins no_other symbol) (byte ∷ rest) refl h)
 
+-- what stands behind the first byte of one list
+tail_of : {a b : ℕ} {xs ys : List ℕ} → a ∷ xs ≡ b ∷ ys → xs ≡ ys
+tail_of e = cc
+
+-- no more than so many bytes of these are a token
+abbrev IsLongest : List ℕ → Sort → ℕ → Type 0
+IsLongest bytes sort n = (other : Sort) (m : ℕ) → n < m → m ≤ length bytes → IsToken other (take m bytes) → ⊥
+
+-- it is enough that they are none of the one sort that the first byte tells
+IsLongest-sort : (byte : ℕ) (rest : List ℕ) (sort : Sort) (n : ℕ) → sort_of byte ≡ sort → ((m : ℕ) → n ≤ m → m ≤ length rest → IsToken sort (byte ∷ take m rest) → ⊥) → IsLongest (byte ∷ rest) sort n
+IsLongest-sort byte rest sort n first none other zero lt le h = omega (arith, lt)
+IsLongest-sort byte rest sort n first none other (suc m) lt le h =
+    let same : other ≡ sort = sym (IsToken-first other byte (take m rest) h) ∙ first in
+    none m (omega (arith, lt)) (omega (arith, le)) (rw same at h)
+
+-- a longer text between marks would have been closed before
+closed-is_longest : (mark : ℕ) (rest : List ℕ) (k : ℕ) → closed_length mark rest ≡ Some k → (m : ℕ) → k < m → m ≤ length rest → (text : List ℕ) → take m rest ≡ doubled mark text ++ (mark ∷ []) → ⊥
+closed-is_longest mark rest k e m lt le text h =
+    let split : rest ≡ doubled mark text ++ (mark ∷ drop m rest) = sym (take-append-drop m rest) ∙ ap (λ front. front ++ drop m rest) h ∙ append_assoc (doubled mark text) (mark ∷ []) (drop m rest) in
+    let closed : closed_length mark (doubled mark text ++ (mark ∷ drop m rest)) ≡ Some k = ap (closed_length mark) (sym split) ∙ e in
+    let before = doubled-is_closed mark text (drop m rest) k closed in
+    let size : m ≡ length (doubled mark text) + 1 = sym (length-take-le m rest le) ∙ ap length h ∙ length-append (doubled mark text) (mark ∷ []) in
+    omega (arith, lt, before, size)
+
+-- a run is the longest one
+run-is_longest : (test : ℕ → Bool) (byte : ℕ) (rest : List ℕ) → test byte ≡ true → (m : ℕ) → run_length test (byte ∷ rest) ≤ m → m ≤ length rest → list_all test (take m rest) ≡ true → ⊥
+run-is_longest test byte rest first m lt le all =
+    let size = run-first test byte rest first in
+    let most = run-longest test rest m le all in
+    omega (arith, lt, size, most)
+
+-- three bytes are no symbol, and two only where they are a pair
+three-are_no_symbol : (byte : ℕ) (rest : List ℕ) (m : ℕ) → 2 ≤ m → m ≤ length rest → is_short (byte ∷ take m rest) ≡ true → ⊥
+unfolding is_short
+three-are_no_symbol byte [] m lt le e = omega (arith, lt, le)
+three-are_no_symbol byte (next ∷ []) m lt le e = omega (arith, lt, le)
+three-are_no_symbol byte (next ∷ third ∷ rest) zero lt le e = omega (arith, lt)
+three-are_no_symbol byte (next ∷ third ∷ rest) (suc zero) lt le e = omega (arith, lt)
+three-are_no_symbol byte (next ∷ third ∷ rest) (suc (suc m)) lt le e = cc
+
+two-are_no_symbol : (byte : ℕ) (rest : List ℕ) (m : ℕ) → begins (is_pair byte) rest ≡ false → 1 ≤ m → m ≤ length rest → is_short (byte ∷ take m rest) ≡ true → ⊥
+unfolding is_short
+two-are_no_symbol byte rest zero none lt le e = omega (arith, lt)
+two-are_no_symbol byte [] (suc m) none lt le e = omega (arith, le)
+two-are_no_symbol byte (next ∷ rest) (suc zero) none lt le e = cc
+two-are_no_symbol byte (next ∷ rest) (suc (suc m)) none lt le e = three-are_no_symbol byte (next ∷ rest) (suc (suc m)) (omega arith) le e
+
+-- what was found at the front of some bytes is the longest token there
 pub front-is_longest : (rest : List ℕ) (sort : Sort) (n : ℕ) → front_of rest ≡ Found sort n → (other : Sort) (m : ℕ) → n < m → m ≤ length rest → IsToken other (take m rest) → ⊥
-front-is_longest = ?
+unfolding front_of
+front-is_longest [] sort n e = cc
+front-is_longest (byte ∷ rest) sort n e =
+    front_of-ways (IsLongest (byte ∷ rest)) byte rest sort n (record {
+      word = λ is first. IsLongest-sort byte rest Word (run_length is_word_byte (byte ∷ rest)) first (λ m lt le h.
+          run-is_longest is_word_byte byte rest (or_left (is_letter byte) (is_digit byte) is) m lt le (and_parts (is_letter byte) (list_all is_word_byte (take m rest)) h).1);
+      number = λ is first _. IsLongest-sort byte rest Number (run_length is_digit (byte ∷ rest)) first (λ m lt le h.
+          run-is_longest is_digit byte rest is m lt le (and_parts (is_digit byte) (list_all is_digit (take m rest)) h.0).1);
+      quoted = λ is first k f _. IsLongest-sort byte rest Quoted (k + 1) first (λ m lt le h.
+          let (name, some, g) = h in
+          closed-is_longest quote rest k f m (omega (arith, lt)) le name (tail_of g));
+      literal = λ is first k f. IsLongest-sort byte rest Literal (k + 1) first (λ m lt le h.
+          let (text, g) = h in
+          closed-is_longest apostrophe rest k f m (omega (arith, lt)) le text (tail_of g));
+      pair = λ is first. IsLongest-sort byte rest Symbol 2 first (λ m lt le h. three-are_no_symbol byte rest m lt le (symbol-is_short (byte ∷ take m rest) h));
+      single = λ none is first. IsLongest-sort byte rest Symbol 1 first (λ m lt le h. two-are_no_symbol byte rest m none lt le (symbol-is_short (byte ∷ take m rest) h));
+    }) e

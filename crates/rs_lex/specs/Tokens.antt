@@ -1,5 +1,5 @@
 -- What a token is, said of its bytes alone.
-use Rattle.std.specs.Prelude.{ℕ, ◌≡◌, ◌<◌, ◌≤◌, ◌-◌, ◌==◌, ◌&&◌, ◌++◌, Bool, false, IsTrue, Contains, List, [], ◌∷◌, codes, length, take, drop, if◌then◌else◌}
+use Rattle.std.specs.Prelude.{ℕ, ◌≡◌, ◌<◌, ◌≤◌, ◌-◌, ◌==◌, ◌&&◌, ◌++◌, Bool, false, IsTrue, Contains, List, [], ◌∷◌, codes, length, drop, if◌then◌else◌}
 use Rattle.std.specs.List.{list_all}
 use Rattle.rs_value.specs.Number.{number_of, are_digits, greatest_int}
 use Rattle.rs_lex.specs.Bytes.{is_letter, is_word_byte, quote, apostrophe}
