@@ -113,11 +113,11 @@ number_front-wide bytes h e =
     (sym (value_of_run greatest_int bytes h) ∙ e)
 
 -- one branch of a choice
-taken : (b : Bool) (x y : Front) → b ≡ true → (if b then x else y) ≡ x
+pub taken : (b : Bool) (x y : Front) → b ≡ true → (if b then x else y) ≡ x
 taken b x y e = rw e refl
 
 -- a branch that isn't taken
-passed : (b : Bool) (x y z : Front) → b ≡ false → y ≡ z → (if b then x else y) ≡ z
+pub passed : (b : Bool) (x y z : Front) → b ≡ false → y ≡ z → (if b then x else y) ≡ z
 passed b x y z e h = rw (e, h) refl
 
 -- what is behind the first byte

@@ -3,3 +3,4 @@ pub mod SpellingFacts
 pub mod WorkedFront
 mod WorkedSpelling
 pub mod TokenFacts
+pub mod TakenFacts

@@ -64,29 +64,30 @@ found_same P s sort k n e h =
     rw (← one, ← two) h
 
 -- the sort of what begins with a byte
-abbrev sort_of : ℕ → Sort
+abbrev pub sort_of : ℕ → Sort
 sort_of byte = if is_letter byte then Word else if is_digit byte then Number else if byte == quote then Quoted else if byte == apostrophe then Literal else Symbol
 
 -- the ways in which a token is found, by its first byte and what follows it
-record Ways (P : Sort → ℕ → Type 0) (byte : ℕ) (rest : List ℕ) : Type 0 where
-  word : is_letter byte ≡ true → sort_of byte ≡ Word → P Word (run_length is_word_byte (byte ∷ rest))
-  number : is_digit byte ≡ true → sort_of byte ≡ Number → nat_le (number_of (take (run_length is_digit (byte ∷ rest)) (byte ∷ rest))) greatest_int ≡ true
-      → P Number (run_length is_digit (byte ∷ rest))
-  quoted : byte ≡ quote → sort_of byte ≡ Quoted → (k : ℕ) → closed_length quote rest ≡ Some k → (k == 1) ≡ false → P Quoted (k + 1)
-  literal : byte ≡ apostrophe → sort_of byte ≡ Literal → (k : ℕ) → closed_length apostrophe rest ≡ Some k → P Literal (k + 1)
-  pair : begins (is_pair byte) rest ≡ true → sort_of byte ≡ Symbol → P Symbol 2
-  single : begins (is_pair byte) rest ≡ false → is_symbol byte ≡ true → sort_of byte ≡ Symbol → P Symbol 1
+pub record Ways (P : Sort → ℕ → Type 0) (byte : ℕ) (rest : List ℕ) : Type 0 where
+  pub word : is_letter byte ≡ true → sort_of byte ≡ Word → P Word (run_length is_word_byte (byte ∷ rest))
+  pub number : is_digit byte ≡ true → sort_of byte ≡ Number → nat_le (number_of (take (run_length is_digit (byte ∷ rest)) (byte ∷ rest))) greatest_int ≡ true
+      → begins is_letter (drop (run_length is_digit (byte ∷ rest)) (byte ∷ rest)) ≡ false → P Number (run_length is_digit (byte ∷ rest))
+  pub quoted : byte ≡ quote → sort_of byte ≡ Quoted → (k : ℕ) → closed_length quote rest ≡ Some k → (k == 1) ≡ false → P Quoted (k + 1)
+  pub literal : byte ≡ apostrophe → sort_of byte ≡ Literal → (k : ℕ) → closed_length apostrophe rest ≡ Some k → P Literal (k + 1)
+  pub pair : begins (is_pair byte) rest ≡ true → sort_of byte ≡ Symbol → P Symbol 2
+  pub single : begins (is_pair byte) rest ≡ false → is_symbol byte ≡ true → sort_of byte ≡ Symbol → begins_comment byte rest ≡ false → P Symbol 1
 
 -- a number that is found
 number_front-found : (P : Sort → ℕ → Type 0) (bytes : List ℕ) (sort : Sort) (n : ℕ)
-    → (nat_le (number_of (take (run_length is_digit bytes) bytes)) greatest_int ≡ true → P Number (run_length is_digit bytes))
+    → (nat_le (number_of (take (run_length is_digit bytes) bytes)) greatest_int ≡ true → begins is_letter (drop (run_length is_digit bytes) bytes) ≡ false
+    → P Number (run_length is_digit bytes))
     → number_front bytes ≡ Found sort n → P sort n
 number_front-found P bytes sort n found e =
     let digits = run_length is_digit bytes in
     elim (chosen (nat_le (number_of (take digits bytes)) greatest_int) (if begins is_letter (drop digits bytes) then Bad digits else Found Number digits) Wide (Found sort n) e) [
       | inl fits ↦ elim (chosen (begins is_letter (drop digits bytes)) (Bad digits) (Found Number digits) (Found sort n) fits.1) [
         | inl letter ↦ let f = letter.1 in cc
-        | inr no_letter ↦ found_same P Number sort digits n no_letter.1 (found fits.0)
+        | inr no_letter ↦ found_same P Number sort digits n no_letter.1 (found fits.0 no_letter.0)
       ]
       | inr wide ↦ let f = wide.1 in cc
     ]
@@ -119,7 +120,7 @@ symbol_front-found P byte rest sort n pair single e =
     ]
 
 -- what is found, is found in one of these ways
-front_of-ways : (P : Sort → ℕ → Type 0) (byte : ℕ) (rest : List ℕ) (sort : Sort) (n : ℕ) → Ways P byte rest → front_of (byte ∷ rest) ≡ Found sort n → P sort n
+pub front_of-ways : (P : Sort → ℕ → Type 0) (byte : ℕ) (rest : List ℕ) (sort : Sort) (n : ℕ) → Ways P byte rest → front_of (byte ∷ rest) ≡ Found sort n → P sort n
 unfolding front_of
 front_of-ways P byte rest sort n ways e =
     let symbol = symbol_front byte rest in
@@ -140,7 +141,7 @@ front_of-ways P byte rest sort n ways e =
               | inl x ↦ quoted_front-found P (closed_length quote rest) sort n (ways.quoted (eqb-true byte quote x.0) (rw (c.0, d.0, x.0) refl)) x.1
               | inr f ↦ elim (chosen (byte == apostrophe) (literal_front (closed_length apostrophe rest)) symbol (Found sort n) f.1) [
                 | inl x ↦ literal_front-found P (closed_length apostrophe rest) sort n (ways.literal (eqb-true byte apostrophe x.0) (rw (c.0, d.0, f.0, x.0) refl)) x.1
-                | inr g ↦ symbol_front-found P byte rest sort n (λ p. ways.pair p (rw (c.0, d.0, f.0, g.0) refl)) (λ p s. ways.single p s (rw (c.0, d.0, f.0, g.0) refl)) g.1
+                | inr g ↦ symbol_front-found P byte rest sort n (λ p. ways.pair p (rw (c.0, d.0, f.0, g.0) refl)) (λ p s. ways.single p s (rw (c.0, d.0, f.0, g.0) refl) b.0) g.1
               ]
             ]
           ]
@@ -159,7 +160,7 @@ run-passes test (byte ∷ rest) = rw take_while-cons (go (test byte) refl (run-p
     go false e h = refl
 
 -- so many bytes that pass the test are no more than the run
-run-longest : (test : ℕ → Bool) (bytes : List ℕ) (m : ℕ) → m ≤ length bytes → list_all test (take m bytes) ≡ true → m ≤ run_length test bytes
+pub run-longest : (test : ℕ → Bool) (bytes : List ℕ) (m : ℕ) → m ≤ length bytes → list_all test (take m bytes) ≡ true → m ≤ run_length test bytes
 run-longest test bytes zero le e = omega arith
 run-longest test [] (suc m) le e = absurd (omega (arith, le))
 run-longest test (byte ∷ rest) (suc m) le e =
@@ -168,7 +169,7 @@ run-longest test (byte ∷ rest) (suc m) le e =
     rw (take_while-cons, both.0) (omega (arith, more))
 
 -- a run whose first byte passes
-run-first : (test : ℕ → Bool) (byte : ℕ) (rest : List ℕ) → test byte ≡ true → run_length test (byte ∷ rest) ≡ suc (run_length test rest)
+pub run-first : (test : ℕ → Bool) (byte : ℕ) (rest : List ℕ) → test byte ≡ true → run_length test (byte ∷ rest) ≡ suc (run_length test rest)
 run-first test byte rest e = rw (take_while-cons, e) refl
 
 -- digits, of which there is at least one
@@ -180,7 +181,7 @@ symbol_at : (byte c k : ℕ) → (byte == c) ≡ true → k < 16 → get_or symb
 symbol_at byte c k e lt is = let same : byte ≡ c = eqb-true byte c e in rw same (k, lt, is)
 
 -- one of two
-or_parts : {P : Type 0} (a b : Bool) → (a || b) ≡ true → (a ≡ true → P) → (b ≡ true → P) → P
+pub or_parts : {P : Type 0} (a b : Bool) → (a || b) ≡ true → (a ≡ true → P) → (b ≡ true → P) → P
 or_parts true b e first second = first refl
 or_parts false b e first second = second e
 
@@ -220,7 +221,7 @@ pair_at byte next c d k e f lt is =
     let same2 : next ≡ d = eqb-true next d f in
     rw (same, same2) (k, lt, is)
 
-Contains-pair : (byte next : ℕ) → is_pair byte next ≡ true → Contains symbols (byte ∷ next ∷ [])
+pub Contains-pair : (byte next : ℕ) → is_pair byte next ≡ true → Contains symbols (byte ∷ next ∷ [])
 Contains-pair byte next e =
     let below = (byte == 60) && ((next == 62) || (next == 61)) in
     let not_equal = (byte == 33) && (next == 61) in
@@ -234,19 +235,19 @@ Contains-pair byte next e =
     (λ a. let both = and_parts (byte == 62) (next == 61) a in pair_at byte next 62 61 15 both.0 both.1 (lit< tt) refl)
 
 -- what each symbol has in common
-symbol-passes : (test : List ℕ → Bool) (bytes : List ℕ) → list_all test symbols ≡ true → Contains symbols bytes → test bytes ≡ true
+pub symbol-passes : (test : List ℕ → Bool) (bytes : List ℕ) → list_all test symbols ≡ true → Contains symbols bytes → test bytes ≡ true
 symbol-passes test bytes e h = All-contains (λ symbol. test symbol ≡ true) symbols bytes (AllPass-from_list_all test symbols e) h
 
 -- an end that lies so many bytes further
-option_map-some : (k n : ℕ) (end : Option ℕ) → option_map (λ i. i + k) end ≡ Some n → (m : ℕ) × (end ≡ Some m) × (n ≡ m + k)
+pub option_map-some : (k n : ℕ) (end : Option ℕ) → option_map (λ i. i + k) end ≡ Some n → (m : ℕ) × (end ≡ Some m) × (n ≡ m + k)
 option_map-some k n None e = cc
 option_map-some k n (Some m) e = (m, refl, cc)
 
 -- a doubled text whose first byte is a mark, or isn't
-doubled-mark : (mark byte : ℕ) (text : List ℕ) → (byte == mark) ≡ true → doubled mark (byte ∷ text) ≡ byte ∷ byte ∷ doubled mark text
+pub doubled-mark : (mark byte : ℕ) (text : List ℕ) → (byte == mark) ≡ true → doubled mark (byte ∷ text) ≡ byte ∷ byte ∷ doubled mark text
 doubled-mark mark byte text e = rw e refl
 
-doubled-other : (mark byte : ℕ) (text : List ℕ) → (byte == mark) ≡ false → doubled mark (byte ∷ text) ≡ byte ∷ doubled mark text
+pub doubled-other : (mark byte : ℕ) (text : List ℕ) → (byte == mark) ≡ false → doubled mark (byte ∷ text) ≡ byte ∷ doubled mark text
 doubled-other mark byte text e = rw e refl
 
 -- what closes a text, with a doubled mark in front, and with another byte
@@ -340,11 +341,11 @@ front-is_token [] sort n e = cc
 front-is_token (byte ∷ rest) sort n e =
     front_of-ways (λ s k. IsToken s (take k (byte ∷ rest))) byte rest sort n (record {
       word = λ is _. word is;
-      number = λ is _ fits. number is fits;
+      number = λ is _ fits _. number is fits;
       quoted = λ is _ k f some. rw is (quoted k f some);
       literal = λ is _ k f. rw is (between-found apostrophe rest k f);
       pair = λ is _. pair rest is;
-      single = λ _ is _. Contains-single byte is;
+      single = λ _ is _ _. Contains-single byte is;
     }) e
   where
     word : is_letter byte ≡ true → is_word (take (run_length is_word_byte (byte ∷ rest)) (byte ∷ rest)) ≡ true
@@ -371,7 +372,7 @@ front-is_token (byte ∷ rest) sort n e =
     pair (next ∷ after) is = Contains-pair byte next is
 
 -- a symbol begins with no letter, digit or mark
-no_other : ℕ → Bool
+unfoldable pub no_other : ℕ → Bool
 no_other byte = not (is_letter byte) && not (is_digit byte) && not (byte == quote) && not (byte == apostrophe)
 
 sort_of-no_other : (byte : ℕ) → no_other byte ≡ true → sort_of byte ≡ Symbol
@@ -385,26 +386,26 @@ sort_of-no_other byte e = go (is_letter byte) (is_digit byte) (byte == quote) (b
     go false false false true e = cc
     go false false false false e = refl
 
--- a symbol has one byte or two, which are then a pair
-is_short : List ℕ → Bool
-is_short [] = false
-is_short (byte ∷ []) = true
-is_short (byte ∷ next ∷ []) = is_pair byte next
-is_short (byte ∷ next ∷ third ∷ rest) = false
+-- the bytes of a symbol: one that may be alone, or a pair
+unfoldable pub is_spelling : List ℕ → Bool
+is_spelling [] = false
+is_spelling (byte ∷ []) = is_symbol byte
+is_spelling (byte ∷ next ∷ []) = is_pair byte next
+is_spelling (byte ∷ next ∷ third ∷ rest) = false
 
-symbol-is_short : (bytes : List ℕ) → Contains symbols bytes → is_short bytes ≡ true
-unfolding is_short
-symbol-is_short bytes h = symbol-passes is_short bytes refl h
+pub symbol-is_spelling : (bytes : List ℕ) → Contains symbols bytes → is_spelling bytes ≡ true
+unfolding is_spelling
+symbol-is_spelling bytes h = symbol-passes is_spelling bytes refl h
 
 -- a digit is no letter
-letter-digit : (byte : ℕ) → is_digit byte ≡ true → is_letter byte ≡ false
+pub letter-digit : (byte : ℕ) → is_digit byte ≡ true → is_letter byte ≡ false
 letter-digit byte e =
     let parts = and_parts (nat_le 48 byte) (nat_le byte 57) e in
     let le = leb-true byte 57 parts.1 in
     rw (lt-leb 65 byte (omega (arith, le)), lt-leb 97 byte (omega (arith, le)), ne_eqb byte 95 (λ e. omega (arith, le, e))) refl
 
 -- a token's first byte tells its sort
-IsToken-first : (sort : Sort) (byte : ℕ) (rest : List ℕ) → IsToken sort (byte ∷ rest) → sort_of byte ≡ sort
+pub IsToken-first : (sort : Sort) (byte : ℕ) (rest : List ℕ) → IsToken sort (byte ∷ rest) → sort_of byte ≡ sort
 unfolding no_other
 IsToken-first Word byte rest h = rw (and_parts (is_letter byte) (list_all is_word_byte rest) h).0 refl
 IsToken-first Quoted byte rest (name, some, e) = let same : byte ≡ quote = cc in rw same refl
@@ -415,7 +416,7 @@ IsToken-first Literal byte rest (text, e) = let same : byte ≡ apostrophe = cc 
 IsToken-first Symbol byte rest h = sort_of-no_other byte (symbol-passes (λ symbol. begins no_other symbol) (byte ∷ rest) refl h)
 
 -- what stands behind the first byte of one list
-tail_of : {a b : ℕ} {xs ys : List ℕ} → a ∷ xs ≡ b ∷ ys → xs ≡ ys
+pub tail_of : {a b : ℕ} {xs ys : List ℕ} → a ∷ xs ≡ b ∷ ys → xs ≡ ys
 tail_of e = cc
 
 -- no more than so many bytes of these are a token
@@ -446,16 +447,16 @@ run-is_longest test byte rest first m lt le all =
     omega (arith, lt, size, most)
 
 -- three bytes are no symbol, and two only where they are a pair
-three-are_no_symbol : (byte : ℕ) (rest : List ℕ) (m : ℕ) → 2 ≤ m → m ≤ length rest → is_short (byte ∷ take m rest) ≡ true → ⊥
-unfolding is_short
+three-are_no_symbol : (byte : ℕ) (rest : List ℕ) (m : ℕ) → 2 ≤ m → m ≤ length rest → is_spelling (byte ∷ take m rest) ≡ true → ⊥
+unfolding is_spelling
 three-are_no_symbol byte [] m lt le e = omega (arith, lt, le)
 three-are_no_symbol byte (next ∷ []) m lt le e = omega (arith, lt, le)
 three-are_no_symbol byte (next ∷ third ∷ rest) zero lt le e = omega (arith, lt)
 three-are_no_symbol byte (next ∷ third ∷ rest) (suc zero) lt le e = omega (arith, lt)
 three-are_no_symbol byte (next ∷ third ∷ rest) (suc (suc m)) lt le e = cc
 
-two-are_no_symbol : (byte : ℕ) (rest : List ℕ) (m : ℕ) → begins (is_pair byte) rest ≡ false → 1 ≤ m → m ≤ length rest → is_short (byte ∷ take m rest) ≡ true → ⊥
-unfolding is_short
+two-are_no_symbol : (byte : ℕ) (rest : List ℕ) (m : ℕ) → begins (is_pair byte) rest ≡ false → 1 ≤ m → m ≤ length rest → is_spelling (byte ∷ take m rest) ≡ true → ⊥
+unfolding is_spelling
 two-are_no_symbol byte rest zero none lt le e = omega (arith, lt)
 two-are_no_symbol byte [] (suc m) none lt le e = omega (arith, le)
 two-are_no_symbol byte (next ∷ rest) (suc zero) none lt le e = cc
@@ -469,7 +470,7 @@ front-is_longest (byte ∷ rest) sort n e =
     front_of-ways (IsLongest (byte ∷ rest)) byte rest sort n (record {
       word = λ is first. IsLongest-sort byte rest Word (run_length is_word_byte (byte ∷ rest)) first (λ m lt le h.
           run-is_longest is_word_byte byte rest (or_left (is_letter byte) (is_digit byte) is) m lt le (and_parts (is_letter byte) (list_all is_word_byte (take m rest)) h).1);
-      number = λ is first _. IsLongest-sort byte rest Number (run_length is_digit (byte ∷ rest)) first (λ m lt le h.
+      number = λ is first _ _. IsLongest-sort byte rest Number (run_length is_digit (byte ∷ rest)) first (λ m lt le h.
           run-is_longest is_digit byte rest is m lt le (and_parts (is_digit byte) (list_all is_digit (take m rest)) h.0).1);
       quoted = λ is first k f _. IsLongest-sort byte rest Quoted (k + 1) first (λ m lt le h.
           let (name, some, g) = h in
@@ -477,6 +478,6 @@ front-is_longest (byte ∷ rest) sort n e =
       literal = λ is first k f. IsLongest-sort byte rest Literal (k + 1) first (λ m lt le h.
           let (text, g) = h in
           closed-is_longest apostrophe rest k f m (omega (arith, lt)) le text (tail_of g));
-      pair = λ is first. IsLongest-sort byte rest Symbol 2 first (λ m lt le h. three-are_no_symbol byte rest m lt le (symbol-is_short (byte ∷ take m rest) h));
-      single = λ none is first. IsLongest-sort byte rest Symbol 1 first (λ m lt le h. two-are_no_symbol byte rest m none lt le (symbol-is_short (byte ∷ take m rest) h));
+      pair = λ is first. IsLongest-sort byte rest Symbol 2 first (λ m lt le h. three-are_no_symbol byte rest m lt le (symbol-is_spelling (byte ∷ take m rest) h));
+      single = λ none is first _. IsLongest-sort byte rest Symbol 1 first (λ m lt le h. two-are_no_symbol byte rest m none lt le (symbol-is_spelling (byte ∷ take m rest) h));
     }) e

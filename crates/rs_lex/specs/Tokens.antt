@@ -1,5 +1,5 @@
 -- What a token is, said of its bytes alone.
-use Rattle.std.specs.Prelude.{ℕ, ◌≡◌, ◌<◌, ◌≤◌, ◌-◌, ◌==◌, ◌&&◌, ◌++◌, Bool, false, IsTrue, Contains, List, [], ◌∷◌, codes, length, drop, if◌then◌else◌}
+use Rattle.std.specs.Prelude.{ℕ, ◌≡◌, ◌<◌, ◌≤◌, ◌-◌, ◌==◌, ◌&&◌, ◌++◌, ◌⊎◌, Bool, false, IsTrue, Contains, List, [], ◌∷◌, codes, length, take, drop, if◌then◌else◌}
 use Rattle.std.specs.List.{list_all}
 use Rattle.rs_value.specs.Number.{number_of, are_digits, greatest_int}
 use Rattle.rs_lex.specs.Bytes.{is_letter, is_word_byte, quote, apostrophe}
@@ -42,3 +42,16 @@ from_token at bytes token = drop (token.at.start - at) bytes
 -- how many bytes a token has
 abbrev pub token_length : Token → ℕ
 token_length token = token.at.end - token.at.start
+
+-- a byte directly behind a token of this sort would go on with it, so that none ends in front of that byte: a letter behind
+-- a number counts too, and two `-` begin a comment
+abbrev pub GoesOn : Sort → List ℕ → ℕ → Type 0
+GoesOn Word bytes next = IsTrue (is_word_byte next)
+GoesOn Quoted bytes next = next ≡ quote
+GoesOn Number bytes next = IsTrue (is_word_byte next)
+GoesOn Literal bytes next = next ≡ apostrophe
+GoesOn Symbol bytes next = Contains symbols (bytes ++ (next ∷ [])) ⊎ (bytes ++ (next ∷ []) ≡ codes "--")
+
+-- none of so many bytes goes on behind them
+abbrev pub EndsAt : Sort → ℕ → List ℕ → Type 0
+EndsAt sort n bytes = (next : ℕ) (rest : List ℕ) → drop n bytes ≡ next ∷ rest → GoesOn sort (take n bytes) next → ⊥
