@@ -4,3 +4,4 @@ pub mod WorkedFront
 mod WorkedSpelling
 pub mod TokenFacts
 pub mod TakenFacts
+mod WorkedTokens

@@ -161,7 +161,7 @@ digit-least : (byte : ℕ) → is_digit byte ≡ true → 48 ≤ byte
 digit-least byte e = leb-true 48 byte (and_parts (nat_le 48 byte) (nat_le byte 57) e).0
 
 -- a text with its marks doubled is no shorter
-doubled-longer : (mark : ℕ) (text : List ℕ) → length text ≤ length (doubled mark text)
+pub doubled-longer : (mark : ℕ) (text : List ℕ) → length text ≤ length (doubled mark text)
 doubled-longer mark [] = omega arith
 doubled-longer mark (byte ∷ text) = go (byte == mark) (doubled-longer mark text)
   where
