@@ -22,12 +22,12 @@ map_adds a b None = refl
 map_adds a b (Some n) = ap Some (omega arith)
 
 -- a byte that is no mark is counted
-closed_length-other : (mark byte : ℕ) (rest : List ℕ) → eqb byte mark ≡ false → closed_length mark (byte ∷ rest) ≡ option_map (λ n. n + 1) (closed_length mark rest)
+pub closed_length-other : (mark byte : ℕ) (rest : List ℕ) → eqb byte mark ≡ false → closed_length mark (byte ∷ rest) ≡ option_map (λ n. n + 1) (closed_length mark rest)
 closed_length-other mark byte [] e = rw e refl
 closed_length-other mark byte (next ∷ rest) e = rw e refl
 
 -- two marks are counted
-closed_length-doubled : (mark byte next : ℕ) (rest : List ℕ) → eqb byte mark ≡ true → eqb next mark ≡ true → closed_length mark (byte ∷ next ∷ rest) ≡ option_map (λ n. n + 2) (closed_length mark rest)
+pub closed_length-doubled : (mark byte next : ℕ) (rest : List ℕ) → eqb byte mark ≡ true → eqb next mark ≡ true → closed_length mark (byte ∷ next ∷ rest) ≡ option_map (λ n. n + 2) (closed_length mark rest)
 closed_length-doubled mark byte next rest e f = rw (e, f) refl
 
 -- the rest of a list, by its first items
@@ -113,11 +113,11 @@ number_front-wide bytes h e =
     (sym (value_of_run greatest_int bytes h) ∙ e)
 
 -- one branch of a choice
-taken : (b : Bool) (x y : Front) → b ≡ true → (if b then x else y) ≡ x
+pub taken : (b : Bool) (x y : Front) → b ≡ true → (if b then x else y) ≡ x
 taken b x y e = rw e refl
 
 -- a branch that isn't taken
-passed : (b : Bool) (x y z : Front) → b ≡ false → y ≡ z → (if b then x else y) ≡ z
+pub passed : (b : Bool) (x y z : Front) → b ≡ false → y ≡ z → (if b then x else y) ≡ z
 passed b x y z e h = rw (e, h) refl
 
 -- what is behind the first byte

@@ -2,3 +2,6 @@ pub mod FrontFacts
 pub mod SpellingFacts
 pub mod WorkedFront
 mod WorkedSpelling
+pub mod TokenFacts
+pub mod TakenFacts
+mod WorkedTokens

@@ -46,7 +46,7 @@ run_length-positive : (test : ℕ → Bool) (byte : ℕ) (rest : List ℕ) → t
 run_length-positive test byte rest passes = rw (take_while-cons, passes) (omega arith)
 
 -- the mark that closes a text lies within the bytes, and isn't empty
-abbrev ClosesWithin : ℕ → Option ℕ → Type 0
+abbrev pub ClosesWithin : ℕ → Option ℕ → Type 0
 ClosesWithin size end = IfSome end (λ n. (1 ≤ n) × (n ≤ size))
 
 ClosesWithin-more : (size more k : ℕ) (end : Option ℕ) → size + k ≤ more → ClosesWithin size end → ClosesWithin more (option_map (λ n. n + k) end)
@@ -59,7 +59,7 @@ ClosesWithin-if true size x y first second = first
 ClosesWithin-if false size x y first second = second
 
 -- a text that is closed ends within the bytes, behind at least one of them
-closed_length-within : (mark : ℕ) (bytes : List ℕ) → ClosesWithin (length bytes) (closed_length mark bytes)
+pub closed_length-within : (mark : ℕ) (bytes : List ℕ) → ClosesWithin (length bytes) (closed_length mark bytes)
 closed_length-within mark [] = tt
 closed_length-within mark (byte ∷ []) = ClosesWithin-if (byte == mark) 1 (Some 1) None (omega arith, omega arith) tt
 closed_length-within mark (byte ∷ next ∷ rest) =
@@ -292,7 +292,7 @@ pub Spells-end : (count from at : ℕ) (script : List ℕ) → End ≡ front_of 
 Spells-end count from at script is h = h.spelled [] (nothing at (drop at script) (sym is))
 
 -- a choice that is one of two
-chosen : {A : Type 0} (b : Bool) (x y z : A) → (if b then x else y) ≡ z → ((b ≡ true) × (x ≡ z)) ⊎ ((b ≡ false) × (y ≡ z))
+pub chosen : {A : Type 0} (b : Bool) (x y z : A) → (if b then x else y) ≡ z → ((b ≡ true) × (x ≡ z)) ⊎ ((b ≡ false) × (y ≡ z))
 chosen true x y z e = inl (refl, e)
 chosen false x y z e = inr (refl, e)
 

@@ -1,3 +1,4 @@
 pub mod Bytes
 pub mod Front
 pub mod Spelling
+pub mod Tokens

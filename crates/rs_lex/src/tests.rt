@@ -1,6 +1,10 @@
 //! What no clause says: that reading succeeds with ample memory.
 
-use crate::{LexFault, MOST_BYTES, MOST_TOKENS, Sort, Span, Token, tokens};
+use crate::{
+    LexFault, MOST_BYTES, MOST_TOKENS, Sort, Span, Token, one_list_of_tokens,
+    spelled_is_not_refused, tokens, tokens_are_longest, tokens_are_taken, tokens_are_tokens,
+    tokens_end,
+};
 use rs_value::Text;
 use std::alloc::Global;
 use std::process::Abort;
@@ -90,4 +94,14 @@ fn takes_so_many_tokens(rt: HostRuntime) -> Result<(), Fail> {
         Err(fault) => assert_eq!(rt; fault, LexFault::TooManyTokens { at: 100_000 }),
     }
     Ok(())
+}
+
+#[test]
+fn laws_hold_of_scripts() {
+    tokens_are_tokens();
+    tokens_are_longest();
+    tokens_end();
+    tokens_are_taken();
+    one_list_of_tokens();
+    spelled_is_not_refused();
 }

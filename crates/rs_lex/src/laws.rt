@@ -1,0 +1,47 @@
+//! What the definitions say: laws that hold of every script. The functions compute nothing; each is called for its
+//! contract.
+
+ghost use Rattle.std.specs.Prelude.{◌≡◌, ◌<◌, ◌≤◌, ◌+◌, ◌∷◌, ℕ, All, List, drop, length, take};
+ghost use Rattle.rs_lex.specs.Spelling.{Refuses, Spells, most_tokens, token_at};
+ghost use Rattle.rs_lex.specs.Tokens.{EndsAt, IsToken, from_token, token_length};
+ghost use Rattle.rs_lex.specs.declared.fault.LexFault.{LexFault};
+ghost use Rattle.rs_lex.specs.declared.token.Sort.{Sort};
+ghost use Rattle.rs_lex.specs.declared.token.Token.{Token};
+
+/// The bytes of each token are a token of its sort.
+pub fn tokens_are_tokens()
+    ensures { (at : ℕ) (bytes : List ℕ) (tokens : List Token) → Spells at bytes tokens
+        → All (λ token. IsToken token.sort (take (token_length token) (from_token at bytes token))) tokens }
+{}
+
+/// Where a token was taken, no longer piece of the script that begins there is a token of any sort.
+pub fn tokens_are_longest()
+    ensures { (at : ℕ) (bytes : List ℕ) (tokens : List Token) → Spells at bytes tokens
+        → All (λ token. (sort : Sort) (n : ℕ) → token_length token < n → n ≤ length (from_token at bytes token)
+        → IsToken sort (take n (from_token at bytes token)) → ⊥) tokens }
+{}
+
+/// The byte directly behind a token, if there is one, doesn't go on with it.
+pub fn tokens_end()
+    ensures { (at : ℕ) (bytes : List ℕ) (tokens : List Token) → Spells at bytes tokens
+        → All (λ token. EndsAt token.sort (token_length token) (from_token at bytes token)) tokens }
+{}
+
+/// A token that stands at a place, and ends where the next byte doesn't go on with it, is taken there.
+pub fn tokens_are_taken()
+    ensures { (at n : ℕ) (sort : Sort) (bytes : List ℕ) (tokens : List Token) → n ≤ length bytes
+        → IsToken sort (take n bytes) → EndsAt sort n bytes → Spells (at + n) (drop n bytes) tokens
+        → Spells at bytes (token_at at sort n ∷ tokens) }
+{}
+
+/// The bytes of a script spell one list of tokens at most.
+pub fn one_list_of_tokens()
+    ensures { (at : ℕ) (bytes : List ℕ) (tokens others : List Token) → Spells at bytes tokens → Spells at bytes others
+        → tokens ≡ others }
+{}
+
+/// A script that spells few enough tokens isn't refused.
+pub fn spelled_is_not_refused()
+    ensures { (at : ℕ) (bytes : List ℕ) (tokens : List Token) (fault : LexFault) → length tokens ≤ most_tokens
+        → Spells at bytes tokens → Refuses 0 at bytes fault → ⊥ }
+{}
