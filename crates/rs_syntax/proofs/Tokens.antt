@@ -10,6 +10,7 @@ use Rattle.rs_grammar.specs.Reading as reading
 use Rattle.rs_grammar.specs.Reading.{State, Read, Fails, next_is, is_too_deep, left_behind}
 use Rattle.rs_grammar.specs.declared.kind.Kind.{Kind}
 use Rattle.rs_grammar.specs.declared.lexeme.Lexeme.{Lexeme}
+use Rattle.rs_syntax.specs.Numbers.{IsNumber, AreNumbers}
 use Rattle.rs_syntax.specs.Reads.{Found, Halts}
 use Rattle.rs_syntax.specs.declared.parser.Fault.TheVariants.{Expected, TooDeep}
 use Rattle.rs_syntax.specs.Trees.{leaf}
@@ -65,3 +66,11 @@ Found-last kinds b xs front left now next l got pushed is same accepted shallow 
     let deep : is_too_deep l.kind b.left ≡ false = rw (← one, ← same) shallow in
     let behind : now ≡ left_behind l.kind b.left = rw (← one, ← same) spent in
     Found-token kinds b (record { rest = reverse front; left = now; last = l.at.end }) l (sym is ∙ LastOf-push xs front l pushed) accepted deep behind refl
+
+-- numbers in front of a token, and that of the token
+AreNumbers-split : (front : List Lexeme) (l : Lexeme) → AreNumbers (front ++ l ∷ []) → AreNumbers front × IsNumber l.number
+AreNumbers-split [] l h = (tt, h.0)
+AreNumbers-split (k ∷ front) l h = let rest = AreNumbers-split front l h.1 in ((h.0, rest.0), rest.1)
+
+pub AreNumbers-last : (xs front : List Lexeme) (l : Lexeme) → xs ≡ front ++ l ∷ [] → AreNumbers xs → AreNumbers front × IsNumber l.number
+AreNumbers-last xs front l e h = AreNumbers-split front l (rw e at h)
