@@ -4,6 +4,7 @@
 mod fault;
 mod name;
 mod node;
+mod parse;
 mod parser;
 mod select;
 mod statement;
@@ -11,5 +12,6 @@ mod statement;
 pub use fault::SyntaxFault;
 pub use name::{Arg, ColRef, Name};
 pub use node::{Node, Op};
+pub use parse::parse;
 pub use select::{BlockSyn, Items, Select, SetOp, TermSyn};
 pub use statement::Statement;
