@@ -4,7 +4,7 @@
 mod fault;
 mod name;
 mod node;
-mod parse;
+mod script;
 mod parser;
 mod select;
 mod statement;
@@ -12,6 +12,6 @@ mod statement;
 pub use fault::SyntaxFault;
 pub use name::{Arg, ColRef, Name};
 pub use node::{Node, Op};
-pub use parse::parse;
+pub use script::parse;
 pub use select::{BlockSyn, Items, Select, SetOp, TermSyn};
 pub use statement::Statement;
