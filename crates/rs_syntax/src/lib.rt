@@ -4,8 +4,8 @@
 mod fault;
 mod name;
 mod node;
-mod script;
 mod parser;
+mod script;
 mod select;
 mod statement;
 
