@@ -1,14 +1,14 @@
 -- A list is read item by item: what was read so far, and what the rest of the items makes of it.
-use Rattle.std.proofs.Common.{◌≡◌, ◌∙◌, ◌<◌, ◌+◌, true, false, List, [], ◌∷◌, ◌++◌, length, length-append, arith, refl, sym, ap, append_assoc}
-use Rattle.std.specs.Prelude.{map, Bool}
+use Rattle.std.proofs.Common.{◌≡◌, ◌∙◌, ◌<◌, ◌+◌, true, false, List, [], ◌∷◌, ◌++◌, length, length-append, arith, sym, ap, append_assoc}
+use Rattle.std.specs.Prelude.{map}
 use Rattle.std.proofs.lemmas.List.{append-nil}
-use Rattle.rs_grammar.specs.Grammar.{Rule, Part, Seq, Many, Use, Tree, Nothing, Pair, More, yield}
+use Rattle.rs_grammar.specs.Grammar.{Part, Seq, Many, Tree, Nothing, More, yield}
 use Rattle.rs_grammar.specs.Reading.{State, Read, opens, nullable}
 use Rattle.rs_grammar.proofs.Derivation.{Read-split, Read-some}
 use Rattle.rs_syntax.specs.Reads.{Found, Halts}
 use Rattle.rs_syntax.specs.Trees.{listed, items_of, last}
 use Rattle.rs_syntax.specs.declared.parser.Fault.{Fault}
-use Rattle.rs_syntax.proofs.Steps.{found, read-both, read-stop, read-more, halts-first, halts-then, halts-item, halts-later}
+use Rattle.rs_syntax.proofs.Steps.{found, read-both, read-stop, read-more, halts-then, halts-item, halts-later}
 
 -- a list that begins at b stands at x with these items
 pub record Listing {A : Type 0} (p item : Part) (f : Tree → A) (b x : State) (made : List A) : Type 0 where
