@@ -1,12 +1,20 @@
--- Which tokens open a part that begins with one kind or with others.
-use Rattle.std.proofs.Common.{◌≡◌, true, false, List, [], ◌∷◌, refl}
-use Rattle.std.specs.Prelude.{◌==◌}
+-- What the parts of a query stand for: the tokens that open them, numbers with a sign, and places.
+use Rattle.std.proofs.Common.{ℕ, ◌≡◌, ◌∙◌, ◌⊎◌, inl, inr, true, false, List, [], ◌∷◌, refl, sym, ap, arith}
+use Rattle.std.specs.Prelude.{◌==◌, ℤ, pos, neg_ℤ, ◌-ℤ◌}
 use Rattle.std.proofs.lemmas.Bool.{or_parts, or_from, or_left, or_right, or_cases}
-use Rattle.std.proofs.Common.{◌⊎◌, inl, inr}
+use Rattle.std.proofs.lemmas.Int.{ints}
+use mir.Syntax.{w64}
+use mir.Val.{to_z, of_z}
 use Rattle.rs_grammar.specs.Kinds.{code, accepts}
-use Rattle.rs_grammar.specs.Reading.{next_is}
+use Rattle.rs_grammar.specs.Grammar.{Part, Tree, Pair, This, start_of}
+use Rattle.rs_grammar.specs.Reading.{State, Read, next_is, nullable}
 use Rattle.rs_grammar.specs.declared.kind.Kind.{Kind}
 use Rattle.rs_grammar.specs.declared.lexeme.Lexeme.{Lexeme}
+use Rattle.rs_lex.specs.declared.token.Span.{Span}
+use Rattle.rs_syntax.specs.Numbers.{IsNumber}
+use Rattle.rs_syntax.specs.Statements.{signed_of, signed_number_of}
+use Rattle.rs_syntax.specs.Trees.{leaf, is_there, number_of, span, span_of}
+use Rattle.rs_syntax.proofs.Spans.{read-starts, read-ends}
 
 -- the next token is neither of this kind nor of one of those
 pub next_is-neither : (k : Kind) (ks : List Kind) (ls : List Lexeme) → next_is (k ∷ []) ls ≡ false → next_is ks ls ≡ false → next_is (k ∷ ks) ls ≡ false
@@ -26,3 +34,38 @@ next_is-one k ks (l ∷ ls) e = go (or_cases (code k == code l.kind) false e)
 pub next_is-others : (k : Kind) (ks : List Kind) (ls : List Lexeme) → next_is ks ls ≡ true → next_is (k ∷ ks) ls ≡ true
 next_is-others k ks [] e = e
 next_is-others k ks (l ∷ ls) e = or_right (code k == code l.kind) (accepts ks l.kind) e
+
+-- a number of a script fits where it is held, and so does its negation
+pub number-kept : (n : ℤ) → IsNumber n → to_z w64 (of_z w64 n) ≡ n
+number-kept n h = omega (arith, ints)
+
+pub number-negated : (n : ℤ) → IsNumber n → to_z w64 (of_z w64 (pos 0 -ℤ to_z w64 (of_z w64 n))) ≡ neg_ℤ n
+number-negated n h = omega (arith, ints)
+
+-- a number with a sign and one without
+signed_of-there : (t u : Tree) → is_there t ≡ true → signed_of t u ≡ neg_ℤ (leaf u).number
+signed_of-there (This s) u there = refl
+signed_of-there _ u there = cc
+
+signed_of-not_there : (t u : Tree) → is_there t ≡ false → signed_of t u ≡ (leaf u).number
+signed_of-not_there (This s) u there = cc
+signed_of-not_there _ u there = refl
+
+pub signed_number-negative : (t u : Tree) (n : ℤ) (place at : Span) → is_there t ≡ true → number_of u ≡ (n, place) → IsNumber n → span_of (Pair t u) ≡ at
+    → signed_number_of (Pair t u) ≡ (to_z w64 (of_z w64 (pos 0 -ℤ to_z w64 (of_z w64 n))), at)
+signed_number-negative t u n place at there e h s =
+    let number : signed_of t u ≡ to_z w64 (of_z w64 (pos 0 -ℤ to_z w64 (of_z w64 n))) = signed_of-there t u there ∙ ap (λ m. neg_ℤ m.0) e ∙ sym (number-negated n h) in
+    rw (number, s) refl
+
+pub signed_number-positive : (t u : Tree) (n : ℤ) (place at : Span) → is_there t ≡ false → number_of u ≡ (n, place) → IsNumber n → span_of (Pair t u) ≡ at
+    → signed_number_of (Pair t u) ≡ (to_z w64 (of_z w64 n), at)
+signed_number-positive t u n place at there e h s =
+    let number : signed_of t u ≡ to_z w64 (of_z w64 n) = signed_of-not_there t u there ∙ ap (λ m. m.0) e ∙ sym (number-kept n h) in
+    rw (number, s) refl
+
+-- the place of what was read from a place on
+pub span_of-read : {p : Part} {t : Tree} {b a : State} → Read p b t a → nullable p ≡ false → (from : ℕ) (at : Span) → from ≡ start_of b.rest → at ≡ span from a.last → span_of t ≡ at
+span_of-read {p = p} {t = t} {b = b} {a = a} r some from at starts is =
+    let first = read-starts r some in
+    let last = read-ends r some in
+    rw (first, last, is, starts) refl
