@@ -1,6 +1,6 @@
 -- What the parts of a query stand for: the tokens that open them, numbers with a sign, and places.
 use Rattle.std.proofs.Common.{ℕ, ◌≡◌, ◌∙◌, ◌⊎◌, inl, inr, true, false, List, [], ◌∷◌, refl, sym, ap, arith}
-use Rattle.std.specs.Prelude.{◌==◌, ℤ, pos, neg_ℤ, ◌-ℤ◌}
+use Rattle.std.specs.Prelude.{◌==◌, ℤ, pos, neg_ℤ, ◌-ℤ◌, Some, None}
 use Rattle.std.proofs.lemmas.Bool.{or_parts, or_from, or_left, or_right, or_cases}
 use Rattle.std.proofs.lemmas.Int.{ints}
 use mir.Syntax.{w64}
@@ -12,8 +12,9 @@ use Rattle.rs_grammar.specs.declared.kind.Kind.{Kind}
 use Rattle.rs_grammar.specs.declared.lexeme.Lexeme.{Lexeme}
 use Rattle.rs_lex.specs.declared.token.Span.{Span}
 use Rattle.rs_syntax.specs.Numbers.{IsNumber}
-use Rattle.rs_syntax.specs.Statements.{signed_of, signed_number_of}
-use Rattle.rs_syntax.specs.Trees.{leaf, is_there, number_of, span, span_of}
+use Rattle.rs_syntax.specs.Statements.{signed_of, signed_number_of, weight_of}
+use Rattle.rs_syntax.specs.declared.name.Name.{Name}
+use Rattle.rs_syntax.specs.Trees.{leaf, if_there, is_there, name_of, number_of, span, span_of, weight_in}
 use Rattle.rs_syntax.proofs.Spans.{read-starts, read-ends}
 
 -- the next token is neither of this kind nor of one of those
@@ -69,3 +70,12 @@ span_of-read {p = p} {t = t} {b = b} {a = a} r some from at starts is =
     let first = read-starts r some in
     let last = read-ends r some in
     rw (first, last, is, starts) refl
+
+-- a weight that is written, and one that isn't
+pub weight_of-some : (t u : Tree) (n : ℤ × Span) → if_there weight_in t ≡ Some n → weight_of t u ≡ n
+weight_of-some (This s) u n e = cc
+weight_of-some _ u n e = cc
+
+pub weight_of-none : (t u : Tree) (name : Name) → if_there weight_in t ≡ None → name_of u ≡ name → weight_of t u ≡ (pos 1, name.at)
+weight_of-none (This s) u name e f = cc
+weight_of-none _ u name e f = ap (λ m. (pos 1, m.at)) f
