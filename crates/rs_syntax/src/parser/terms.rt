@@ -20,7 +20,7 @@ impl Parser {
     {
         let mut terms = Vec::new(alloc);
         terms.push(self.term(alloc)?)?;
-        'more: while self.at(Kind::Plus) {
+        while self.at(Kind::Plus) {
             self.expect(Kind::Plus)?;
             terms.push(self.term(alloc)?)?;
         }
@@ -68,7 +68,7 @@ impl Parser {
     {
         let mut args = Vec::new(alloc);
         args.push(self.arg()?)?;
-        'more: while self.at(Kind::Comma) {
+        while self.at(Kind::Comma) {
             self.expect(Kind::Comma)?;
             args.push(self.arg()?)?;
         }

@@ -35,7 +35,7 @@ returns c =
     let p = c.in_ok-predicate.ensures.means in
     let a = c.in_ok-args.ensures.means in
     let weight : weight_of c.in_ok-weight.ensures.tree c.in_ok-predicate.ensures.tree ≡ c.match-weight.weight = elim c.match-weight.branch [
-      | in-Some w ↦ let h = w.in-Some in let k = w.weight-is in weight_of-some _ _ _ (c.in_ok-weight.ensures.means ∙ ?) ∙ ?
-      | in-None w ↦ let h = w.in-None in let k = w.weight-is in weight_of-none _ _ _ (c.in_ok-weight.ensures.means ∙ h.is) p ∙ sym w.weight-is
+      | in-Some w ↦ weight_of-some _ _ _ (c.in_ok-weight.ensures.means ∙ w.in-Some.is) ∙ sym w.weight-is
+      | in-None w ↦ weight_of-none _ _ _ (c.in_ok-weight.ensures.means ∙ w.in-None.is) p ∙ sym w.weight-is
     ] in
     found r (rw (weight, p, a, at) refl)
