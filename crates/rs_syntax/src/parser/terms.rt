@@ -20,7 +20,7 @@ impl Parser {
     {
         let mut terms = Vec::new(alloc);
         terms.push(self.term(alloc)?)?;
-        while self.at(Kind::Plus) {
+        'more: while self.at(Kind::Plus) {
             self.expect(Kind::Plus)?;
             terms.push(self.term(alloc)?)?;
         }
