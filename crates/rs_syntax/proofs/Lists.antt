@@ -1,8 +1,8 @@
 -- A list is read item by item: what was read so far, and what the rest of the items makes of it.
-use Rattle.std.proofs.Common.{◌≡◌, ◌∙◌, ◌<◌, ◌+◌, true, false, List, [], ◌∷◌, ◌++◌, length, length-append, arith, refl, sym, ap, append_assoc}
+use Rattle.std.proofs.Common.{◌≡◌, ◌∙◌, ◌<◌, ◌+◌, true, false, List, [], ◌∷◌, ◌++◌, length, length-append, arith, sym, ap, append_assoc}
 use Rattle.std.specs.Prelude.{map}
 use Rattle.std.proofs.lemmas.List.{append-nil}
-use Rattle.rs_grammar.specs.Grammar.{Part, Seq, Many, Tree, Nothing, Pair, More, yield}
+use Rattle.rs_grammar.specs.Grammar.{Part, Seq, Many, Tree, Nothing, More, yield}
 use Rattle.rs_grammar.specs.Reading.{State, Read, opens, nullable}
 use Rattle.rs_grammar.proofs.Derivation.{Read-split, Read-some}
 use Rattle.rs_syntax.specs.Reads.{Found, Halts}

@@ -3,7 +3,7 @@ use Rattle.rs_grammar.specs.Kinds.{names}
 use Rattle.rs_grammar.specs.Reading.{next_is}
 use Rattle.rs_grammar.specs.declared.kind.Kind.TheVariants.{As}
 use Rattle.rs_syntax.proofs.Blocks.{next_is-neither, next_is-one, next_is-others}
-use Rattle.rs_syntax.proofs.Steps.{read-both, read-not, read-this, found, halts-first, halts-then, halts-this, goes_on}
+use Rattle.rs_syntax.proofs.Steps.{read-both, read-not, read-this, found, halts-then, halts-this, goes_on}
 use Rattle.rs_syntax.proofs.parser.Parser.alias.Goals as goal
 use Rattle.rs_syntax.proofs.parser.Parser.alias.Goals.{else-not-at-via-then-not-at+else-not-at_name, else-not-at-via-else-not-at}
 

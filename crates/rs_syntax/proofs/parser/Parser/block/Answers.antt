@@ -21,14 +21,14 @@ pub returns-in_err-from : goal.returns-in_err-from
 returns-in_err-from c =
     goes_on _ _ (search rules)
     (halts-rule (halts-then c.in_ok-expect.ensures.read
-      (halts-then c.in_ok-distinct.ensures.read (halts-then c.in_ok-items.ensures.read (halts-then c.in_ok-expect-2.ensures.read (halts-first c.in_err-from.ensures))))))
+    (halts-then c.in_ok-distinct.ensures.read (halts-then c.in_ok-items.ensures.read (halts-then c.in_ok-expect-2.ensures.read (halts-first c.in_err-from.ensures))))))
 
 pub returns-in_err-filter : goal.returns-in_err-filter
 returns-in_err-filter c =
     goes_on _ _ (search rules)
     (halts-rule (halts-then c.in_ok-expect.ensures.read
-      (halts-then c.in_ok-distinct.ensures.read
-        (halts-then c.in_ok-items.ensures.read (halts-then c.in_ok-expect-2.ensures.read (halts-then c.in_ok-from.ensures.read c.in_err-filter.ensures))))))
+    (halts-then c.in_ok-distinct.ensures.read
+    (halts-then c.in_ok-items.ensures.read (halts-then c.in_ok-expect-2.ensures.read (halts-then c.in_ok-from.ensures.read c.in_err-filter.ensures))))))
 
 pub returns : goal.returns
 returns c =
@@ -38,6 +38,6 @@ returns c =
     let g = c.in_ok-filter.ensures.means in
     found
     (read-rule (read-both c.in_ok-expect.ensures.read
-      (read-both c.in_ok-distinct.ensures.read
-        (read-both c.in_ok-items.ensures.read (read-both c.in_ok-expect-2.ensures.read (read-both c.in_ok-from.ensures.read c.in_ok-filter.ensures.read))))))
+    (read-both c.in_ok-distinct.ensures.read
+    (read-both c.in_ok-items.ensures.read (read-both c.in_ok-expect-2.ensures.read (read-both c.in_ok-from.ensures.read c.in_ok-filter.ensures.read))))))
     (rw (m, n, f, g) refl)

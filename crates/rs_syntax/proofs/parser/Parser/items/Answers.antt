@@ -1,4 +1,4 @@
-use Rattle.std.proofs.Common.{◌≡◌, rules, sym, ap}
+use Rattle.std.proofs.Common.{rules, sym, ap}
 use Rattle.rs_syntax.specs.declared.select.Items.TheVariants as items
 use Rattle.rs_syntax.proofs.Steps.{read-rule, read-this, read-that, found, halts-this, halts-that, halts-rule, goes_on}
 use Rattle.rs_syntax.proofs.parser.Parser.items.Goals as goal

@@ -21,23 +21,23 @@ pub returns-in_err-terms : goal.returns-in_err-terms
 returns-in_err-terms c =
     goes_on _ _ (search rules)
     (halts-rule (halts-then c.in_ok-left.ensures.read
-      (halts-then c.in_ok-right.ensures.read (halts-then c.in_ok-expect.ensures.read (halts-then c.in_ok-expect-2.ensures.read (halts-first c.in_err-terms.ensures))))))
+    (halts-then c.in_ok-right.ensures.read (halts-then c.in_ok-expect.ensures.read (halts-then c.in_ok-expect-2.ensures.read (halts-first c.in_err-terms.ensures))))))
 
 pub returns-in_err-accept : goal.returns-in_err-accept
 returns-in_err-accept c =
     goes_on _ _ (search rules)
     (halts-rule (halts-then c.in_ok-left.ensures.read
-      (halts-then c.in_ok-right.ensures.read
-        (halts-then c.in_ok-expect.ensures.read
-          (halts-then c.in_ok-expect-2.ensures.read (halts-then c.in_ok-terms.ensures.read (halts-first c.in_err-accept.ensures)))))))
+    (halts-then c.in_ok-right.ensures.read
+    (halts-then c.in_ok-expect.ensures.read
+    (halts-then c.in_ok-expect-2.ensures.read (halts-then c.in_ok-terms.ensures.read (halts-first c.in_err-accept.ensures)))))))
 
 pub returns-in_err-limit : goal.returns-in_err-limit
 returns-in_err-limit c =
     goes_on _ _ (search rules)
     (halts-rule (halts-then c.in_ok-left.ensures.read
-      (halts-then c.in_ok-right.ensures.read
-        (halts-then c.in_ok-expect.ensures.read
-          (halts-then c.in_ok-expect-2.ensures.read (halts-then c.in_ok-terms.ensures.read (halts-then c.in_ok-accept.ensures.read c.in_err-limit.ensures)))))))
+    (halts-then c.in_ok-right.ensures.read
+    (halts-then c.in_ok-expect.ensures.read
+    (halts-then c.in_ok-expect-2.ensures.read (halts-then c.in_ok-terms.ensures.read (halts-then c.in_ok-accept.ensures.read c.in_err-limit.ensures)))))))
 
 pub returns : goal.returns
 returns c =
@@ -47,7 +47,7 @@ returns c =
     let n = c.in_ok-limit.ensures.means in
     found
     (read-rule (read-both c.in_ok-left.ensures.read
-      (read-both c.in_ok-right.ensures.read
-        (read-both c.in_ok-expect.ensures.read
-          (read-both c.in_ok-expect-2.ensures.read (read-both c.in_ok-terms.ensures.read (read-both c.in_ok-accept.ensures.read c.in_ok-limit.ensures.read)))))))
+    (read-both c.in_ok-right.ensures.read
+    (read-both c.in_ok-expect.ensures.read
+    (read-both c.in_ok-expect-2.ensures.read (read-both c.in_ok-terms.ensures.read (read-both c.in_ok-accept.ensures.read c.in_ok-limit.ensures.read)))))))
     (rw (l, r, t, n) refl)

@@ -25,12 +25,12 @@ pub returns-in_err-expect-2 : goal.returns-in_err-expect-2
 returns-in_err-expect-2 c =
     goes_on _ _ (search rules)
     (halts-rule (halts-then c.in_ok-weight.ensures.read
-      (halts-then c.in_ok-predicate.ensures.read (halts-then c.in_ok-expect.ensures.read (halts-then c.in_ok-args.ensures.read c.in_err-expect-2.ensures)))))
+    (halts-then c.in_ok-predicate.ensures.read (halts-then c.in_ok-expect.ensures.read (halts-then c.in_ok-args.ensures.read c.in_err-expect-2.ensures)))))
 
 pub returns : goal.returns
 returns c =
     let r = read-rule {r = term} (read-both c.in_ok-weight.ensures.read
-      (read-both c.in_ok-predicate.ensures.read (read-both c.in_ok-expect.ensures.read (read-both c.in_ok-args.ensures.read c.in_ok-expect-2.ensures.read)))) in
+    (read-both c.in_ok-predicate.ensures.read (read-both c.in_ok-expect.ensures.read (read-both c.in_ok-args.ensures.read c.in_ok-expect-2.ensures.read)))) in
     let at = span_of-read r refl c.start-from.result c.since-at.result c.start-from.ensures c.since-at.ensures in
     let p = c.in_ok-predicate.ensures.means in
     let a = c.in_ok-args.ensures.means in
