@@ -4,6 +4,7 @@ pub mod Spans
 pub mod Chains
 pub mod Lists
 pub mod Results
+pub mod Blocks
 pub mod Cutting
 pub mod Numbers
 pub mod ScriptFacts
