@@ -1,3 +1,5 @@
 pub mod Tokens
 pub mod Steps
 pub mod Lists
+pub mod Spans
+pub mod Scripting
