@@ -16,25 +16,25 @@ use Rattle.rs_syntax.proofs.Steps.{read-both, read-this, read-that, read-not, re
 
 -- what a call gives, it gives for a part around what it reads
 
-pub goes_rule : {A V : Type 0} {r : Rule} (meaning : Tree → A) (view : V → A) {b a : State} {result : Result V Fault} → Reads (rule r) (λ t. meaning (Node t)) view b a result
+pub goes_rule : {A V : Type 0} (r : Rule) (meaning : Tree → A) (view : V → A) (b a : State) (result : Result V Fault) → Reads (rule r) (λ t. meaning (Node t)) view b a result
     → Reads (Use r) meaning view b a result
-goes_rule meaning view {result = Ok value} h = found (read-rule h.read) h.means
-goes_rule meaning view {result = Err fault} h = halts-rule h
+goes_rule r meaning view b a (Ok value) h = found (read-rule h.read) h.means
+goes_rule r meaning view b a (Err fault) h = halts-rule h
 
-pub goes_this : {A V : Type 0} {p q : Part} (meaning : Tree → A) (view : V → A) {b a : State} {result : Result V Fault} → opens p b ≡ true → Reads p (λ t. meaning (This t)) view b a result
+pub goes_this : {A V : Type 0} (p q : Part) (meaning : Tree → A) (view : V → A) (b a : State) (result : Result V Fault) → opens p b ≡ true → Reads p (λ t. meaning (This t)) view b a result
     → Reads (Either p q) meaning view b a result
-goes_this meaning view {result = Ok value} o h = found (read-this o h.read) h.means
-goes_this meaning view {result = Err fault} o h = halts-this o h
+goes_this p q meaning view b a (Ok value) o h = found (read-this o h.read) h.means
+goes_this p q meaning view b a (Err fault) o h = halts-this o h
 
-pub goes_that : {A V : Type 0} {p q : Part} (meaning : Tree → A) (view : V → A) {b a : State} {result : Result V Fault} → opens p b ≡ false → Reads q (λ t. meaning (That t)) view b a result
+pub goes_that : {A V : Type 0} (p q : Part) (meaning : Tree → A) (view : V → A) (b a : State) (result : Result V Fault) → opens p b ≡ false → Reads q (λ t. meaning (That t)) view b a result
     → Reads (Either p q) meaning view b a result
-goes_that meaning view {result = Ok value} o h = found (read-that o h.read) h.means
-goes_that meaning view {result = Err fault} o h = halts-that o h
+goes_that p q meaning view b a (Ok value) o h = found (read-that o h.read) h.means
+goes_that p q meaning view b a (Err fault) o h = halts-that o h
 
-pub goes_then : {A V : Type 0} {p q : Part} (meaning : Tree → A) (view : V → A) {t : Tree} {b x a : State} {result : Result V Fault} → Read p b t x → Reads q (λ u. meaning (Pair t u)) view x a result
+pub goes_then : {A V : Type 0} {p : Part} (q : Part) (meaning : Tree → A) (view : V → A) {t : Tree} {b x : State} (a : State) (result : Result V Fault) → Read p b t x → Reads q (λ u. meaning (Pair t u)) view x a result
     → Reads (Seq p q) meaning view b a result
-goes_then meaning view {result = Ok value} r h = found (read-both r h.read) h.means
-goes_then meaning view {result = Err fault} r h = halts-then r h
+goes_then q meaning view a (Ok value) r h = found (read-both r h.read) h.means
+goes_then q meaning view a (Err fault) r h = halts-then r h
 
 -- a script that begins at b stands at x with these statements
 pub record Scripting (b x : State) (made : List Command) : Type 0 where
@@ -51,9 +51,9 @@ statements-next u s (This t) = refl
 statements-next u s t = refl
 
 -- a statement and `;` were read
-pub Scripting-more : {b x y z : State} {made : List Command} {u s : Tree} {value : Statement} {done : List Statement} → Scripting b x (commands_of done) → opens (Use statement) x ≡ true
+pub Scripting-more : {b x y z : State} {u s : Tree} (value : Statement) (done : List Statement) → Scripting b x (commands_of done) → opens (Use statement) x ≡ true
     → Read (Use statement) x u y → statement_of u ≡ command_of value → next_is (Semicolon ∷ []) y.rest ≡ true → Read (word Semicolon) y s z → Scripting b z (commands_of (done ++ value ∷ []))
-Scripting-more {b = b} {x = x} {y = y} {z = z} {u = u} {s = s} {value = value} {done = done} h o r e behind semicolon = record {
+Scripting-more {b = b} {x = x} {y = y} {z = z} {u = u} {s = s} value done h o r e behind semicolon = record {
   reads = λ t a rest.
     let whole = h.reads (This (Node (Pair u (This (Pair s t))))) a (read-this o (read-rule (read-both r (read-this behind (read-both semicolon rest))))) in
     found whole.read
@@ -63,15 +63,15 @@ Scripting-more {b = b} {x = x} {y = y} {z = z} {u = u} {s = s} {value = value} {
 }
 
 -- no further one stands there
-pub Scripting-end : {b x : State} {done : List Statement} → Scripting b x (commands_of done) → opens (Use statement) x ≡ false → Found script script_of b x (commands_of done)
-Scripting-end {b = b} {x = x} {done = done} h o =
+pub Scripting-end : {b x : State} (done : List Statement) → Scripting b x (commands_of done) → opens (Use statement) x ≡ false → Found script script_of b x (commands_of done)
+Scripting-end {b = b} {x = x} done h o =
     let whole = h.reads (That Nothing) x (read-not o) in
     found whole.read (whole.means ∙ append-nil (commands_of done))
 
 -- the last one was read, with no `;` behind it
-pub Scripting-last : {b x y : State} {u : Tree} {value : Statement} {done : List Statement} → Scripting b x (commands_of done) → opens (Use statement) x ≡ true
+pub Scripting-last : {b x y : State} {u : Tree} (value : Statement) (done : List Statement) → Scripting b x (commands_of done) → opens (Use statement) x ≡ true
     → Read (Use statement) x u y → statement_of u ≡ command_of value → next_is (Semicolon ∷ []) y.rest ≡ false → Found script script_of b y (commands_of (done ++ value ∷ []))
-Scripting-last {b = b} {x = x} {y = y} {u = u} {value = value} {done = done} h o r e behind =
+Scripting-last {b = b} {x = x} {y = y} {u = u} value done h o r e behind =
     let whole = h.reads (This (Node (Pair u (That Nothing)))) y (read-this o (read-rule (read-both r (read-not behind)))) in
     found whole.read (whole.means ∙ ap (λ v. commands_of done ++ v ∷ []) e ∙ sym (map-append command_of done (value ∷ [])))
 
