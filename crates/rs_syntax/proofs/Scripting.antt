@@ -1,8 +1,7 @@
 -- A script is read statement by statement: what was read so far, and what the rest of the script makes of it.
-use Rattle.std.proofs.Common.{ℕ, ◌≡◌, ◌∙◌, ◌<◌, ◌+◌, true, false, Result, Ok, Err, List, [], ◌∷◌, ◌++◌, length, refl, sym, ap, arith, append_assoc, length-append}
-use Rattle.std.specs.Prelude.{Bool, map}
+use Rattle.std.proofs.Common.{◌≡◌, ◌∙◌, ◌<◌, ◌+◌, true, false, Result, Ok, Err, List, [], ◌∷◌, ◌++◌, length, refl, sym, ap, arith, append_assoc, length-append}
 use Rattle.std.proofs.lemmas.List.{append-nil, map-append}
-use Rattle.rs_grammar.specs.Grammar.{Rule, Part, Seq, Either, Use, rule, word, script, statement, statements, Tree, Leaf, Nothing, Pair, This, That, More, Node, yield}
+use Rattle.rs_grammar.specs.Grammar.{Rule, Part, Seq, Either, Use, rule, word, script, statement, Tree, Nothing, Pair, This, That, Node, yield}
 use Rattle.rs_grammar.specs.Reading as reading
 use Rattle.rs_grammar.specs.Reading.{State, Read, next_is, opens}
 use Rattle.rs_grammar.specs.declared.kind.Kind.TheVariants.{Semicolon}
@@ -55,10 +54,10 @@ pub Scripting-more : {b x y z : State} {u s : Tree} (value : Statement) (done : 
     → Read (Use statement) x u y → statement_of u ≡ command_of value → next_is (Semicolon ∷ []) y.rest ≡ true → Read (word Semicolon) y s z → Scripting b z (commands_of (done ++ value ∷ []))
 Scripting-more {b = b} {x = x} {y = y} {z = z} {u = u} {s = s} value done h o r e behind semicolon = record {
   reads = λ t a rest.
-    let whole = h.reads (This (Node (Pair u (This (Pair s t))))) a (read-this o (read-rule (read-both r (read-this behind (read-both semicolon rest))))) in
-    found whole.read
+      let whole = h.reads (This (Node (Pair u (This (Pair s t))))) a (read-this o (read-rule (read-both r (read-this behind (read-both semicolon rest))))) in
+      found whole.read
       (whole.means ∙ ap (λ ts. commands_of done ++ ts) (statements-next u s t ∙ ap (λ v. v ∷ script_of t) e)
-        ∙ sym (append_assoc (commands_of done) (command_of value ∷ []) (script_of t)) ∙ ap (λ ts. ts ++ script_of t) (sym (map-append command_of done (value ∷ []))));
+      ∙ sym (append_assoc (commands_of done) (command_of value ∷ []) (script_of t)) ∙ ap (λ ts. ts ++ script_of t) (sym (map-append command_of done (value ∷ []))));
   halts = λ fault a k. h.halts fault a (halts-this o (halts-rule (halts-then r (halts-this behind (halts-then semicolon k)))));
 }
 

@@ -16,8 +16,8 @@ returns-in_err-select c = goes_on _ _ (search rules) (halts-rule (halts-then c.i
 pub returns : goal.returns
 returns c =
     elim c.if-is_analyze.branch [
-        then-is_analyze w ↦ (let m = c.in_ok-is_analyze.ensures.means in let n = c.in_ok-select.ensures.means in
-            found (read-rule (read-both c.in_ok-expect.ensures.read (read-both c.in_ok-is_analyze.ensures.read c.in_ok-select.ensures.read))) (rw (m, n, w.if-is_analyze.true) (sym (ap command_of w.result-is))))
+      | then-is_analyze w ↦ (let m = c.in_ok-is_analyze.ensures.means in let n = c.in_ok-select.ensures.means in
+          found (read-rule (read-both c.in_ok-expect.ensures.read (read-both c.in_ok-is_analyze.ensures.read c.in_ok-select.ensures.read))) (rw (m, n, w.if-is_analyze.true) (sym (ap command_of w.result-is))))
       | else-is_analyze w ↦ (let m = c.in_ok-is_analyze.ensures.means in let n = c.in_ok-select.ensures.means in
-            found (read-rule (read-both c.in_ok-expect.ensures.read (read-both c.in_ok-is_analyze.ensures.read c.in_ok-select.ensures.read))) (rw (m, n, w.if-is_analyze.false) (sym (ap command_of w.result-is))))
+          found (read-rule (read-both c.in_ok-expect.ensures.read (read-both c.in_ok-is_analyze.ensures.read c.in_ok-select.ensures.read))) (rw (m, n, w.if-is_analyze.false) (sym (ap command_of w.result-is))))
     ]

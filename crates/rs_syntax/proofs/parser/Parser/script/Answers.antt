@@ -12,8 +12,8 @@ returns-in_err-statement c = goes_on _ _ (search rules) (Scripting-halts c.state
 pub returns-then-not-at : goal.returns-then-not-at
 returns-then-not-at c =
     rw c.in_ok-push.ensures.items
-      (Scripting-last c.in_ok-statement.field-0 c.statements.statements.items c.statements.invariant (sym c.statements-test.ensures)
-        c.in_ok-statement.ensures.read c.in_ok-statement.ensures.means (sym c.if-not-at.ensures))
+    (Scripting-last c.in_ok-statement.field-0 c.statements.statements.items c.statements.invariant (sym c.statements-test.ensures)
+    c.in_ok-statement.ensures.read c.in_ok-statement.ensures.means (sym c.if-not-at.ensures))
 
 pub statements-smaller : goal.statements-smaller
 statements-smaller c = Scripting-shorter c.in_ok-statement.ensures.read c.in_ok-expect.ensures.read
@@ -21,13 +21,13 @@ statements-smaller c = Scripting-shorter c.in_ok-statement.ensures.read c.in_ok-
 pub statements-preserved : goal.statements-preserved
 statements-preserved c =
     rw c.in_ok-push.ensures.items
-      (Scripting-more c.in_ok-statement.field-0 c.statements.statements.items c.statements.invariant (sym c.statements-test.ensures)
-        c.in_ok-statement.ensures.read c.in_ok-statement.ensures.means (sym c.if-not-at.ensures) c.in_ok-expect.ensures.read)
+    (Scripting-more c.in_ok-statement.field-0 c.statements.statements.items c.statements.invariant (sym c.statements-test.ensures)
+    c.in_ok-statement.ensures.read c.in_ok-statement.ensures.means (sym c.if-not-at.ensures) c.in_ok-expect.ensures.read)
 
 pub returns-in_err-expect : goal.returns-in_err-expect
 returns-in_err-expect c =
     goes_on _ _ (search rules)
-      (Scripting-halts_behind c.statements.invariant (sym c.statements-test.ensures) c.in_ok-statement.ensures.read (sym c.if-not-at.ensures) c.in_err-expect.ensures)
+    (Scripting-halts_behind c.statements.invariant (sym c.statements-test.ensures) c.in_ok-statement.ensures.read (sym c.if-not-at.ensures) c.in_err-expect.ensures)
 
 pub returns : goal.returns
 returns c = Scripting-end c.statements.statements.items c.statements.invariant (sym c.statements-test.ensures)
