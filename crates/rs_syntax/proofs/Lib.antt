@@ -1,3 +1,4 @@
 pub mod Tokens
 pub mod Steps
 pub mod Lists
+pub mod Spans
