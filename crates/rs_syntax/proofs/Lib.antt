@@ -2,3 +2,4 @@ pub mod Tokens
 pub mod Steps
 pub mod Lists
 pub mod Spans
+pub mod Chains

@@ -1,5 +1,5 @@
 -- A tree that was read starts where the reader stood, and ends where the last token ended.
-use Rattle.std.proofs.Common.{◌≡◌, ◌∙◌, false, true, ℕ, ◌<◌, ◌≤◌, ◌==◌, length, refl, sym, ap, arith}
+use Rattle.std.proofs.Common.{◌≡◌, ◌∙◌, false, true, ℕ, ◌-◌, ◌<◌, ◌≤◌, ◌==◌, length, refl, sym, ap, arith, if◌then◌else◌}
 use Rattle.std.specs.Prelude.{Bool, List, [], ◌∷◌, ◌++◌, ◌&&◌}
 use Rattle.std.proofs.lemmas.Bool.{eqb-false}
 use Rattle.rs_grammar.specs.Grammar.{Rule, Part, One, Empty, Seq, Either, Many, Use, rule, Tree, yield, start_of, end_after}
