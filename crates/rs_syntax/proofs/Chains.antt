@@ -1,16 +1,19 @@
 -- A chain of operators that group to the left is read operand by operand: what was read so far, and what the rest of the chain makes of it.
-use Rattle.std.proofs.Common.{ℕ, ◌≡◌, ◌∙◌, true, false, List, [], ◌∷◌, refl, ap}
-use Rattle.std.specs.Prelude.{Bool}
-use Rattle.rs_grammar.specs.Grammar.{Part, Seq, Many, Tree, Leaf, Nothing, Pair, This, That, More, Node}
+use Rattle.std.proofs.Common.{ℕ, ◌≡◌, ◌∙◌, true, false, [], ◌∷◌, refl, sym, ap}
+use Rattle.rs_grammar.specs.Grammar.{Part, One, Seq, Many, Use, ◌⨟◌, word, expr, conj, neg, sum, prod, sign, Tree, Leaf, Nothing, Pair, This, That, More, Node, start_of}
 use Rattle.rs_grammar.specs.Reading.{State, Read, opens}
+use Rattle.rs_grammar.specs.declared.kind.Kind.TheVariants as kinds
 use Rattle.rs_grammar.specs.declared.lexeme.Lexeme.{Lexeme}
+use Rattle.rs_lex.specs.declared.token.Span.{Span}
 use Rattle.rs_syntax.specs.Cases.{whens_of, cases_in}
 use Rattle.rs_syntax.specs.Expressions.{adding_of, multiplying_of, rel_of, extreme_of, column_in, expr_of, ors, conj_of, ands, neg_of, comp_of, sum_of, sums, prod_of, prods, sign_of, base_of, absolute_of, extreme_in, brackets_of, case_of, cases, condition_of, result_of}
 use Rattle.rs_syntax.specs.Reads.{Found, Halts}
 use Rattle.rs_syntax.specs.Syntax.{Expression, Int, Text, Column, Neg, Arith, Abs, Case, Compare, And, Or, Not}
-use Rattle.rs_syntax.specs.Trees.{starts_at, ends_at, span, name_of, qualified}
+use Rattle.rs_syntax.specs.Trees.{starts_at, ends_at, span, name_of, place_of, qualified}
+use Rattle.rs_syntax.specs.declared.node.Op.{Op}
 use Rattle.rs_syntax.specs.declared.parser.Fault.{Fault}
-use Rattle.rs_syntax.proofs.Steps.{read-both, read-stop, read-more, found, halts-first, halts-then, halts-item, halts-later}
+use Rattle.rs_syntax.proofs.Spans.{read-starts, read-ends}
+use Rattle.rs_syntax.proofs.Steps.{read-both, read-stop, read-more, read-rule, found, halts-then, halts-item, halts-later, halts-rule}
 
 -- a chain that begins at b stands at x with this expression
 pub record Chaining (p item : Part) (whole : Tree → Expression) (go : Expression → Tree → Expression) (b x : State) (left : Expression) : Type 0 where
@@ -191,3 +194,87 @@ pub cases-list : (to : ℕ) (otherwise : Expression) (u : Tree) → cases to oth
 unfolding cases
 cases-list to otherwise (More t u) = ap (λ rest. Case (condition_of t) (result_of t) rest (span (starts_at t) to)) (cases-list to otherwise u)
 cases-list to otherwise _ = refl
+
+-- the four chains of the grammar, from where they start: the first operand was read, one more was, no further one stands there, or it isn't read
+
+-- expr: conj { OR conj }
+abbrev pub Ors : ℕ → State → State → Expression → Type 0
+Ors from b x left = Chaining (Use conj) (word kinds.Or ⨟ Use conj) (λ t. expr_of (Node t)) (ors from) b x left
+
+pub expr-start : (from : ℕ) {b x : State} {left : Expression} → from ≡ start_of b.rest → Found (Use conj) conj_of b x left → Ors from b x left
+expr-start from e h = Chaining-start h (λ u. expr_of-chain h.tree u ∙ ap (λ n. ors n (conj_of h.tree) u) (read-starts h.read refl ∙ sym e))
+
+pub expr-more : (from : ℕ) {b x y z : State} {left right next : Expression} {at place : Span} → Ors from b x left → opens (word kinds.Or ⨟ Use conj) x ≡ true
+    → Found (word kinds.Or) place_of x y place → Found (Use conj) conj_of y z right → at ≡ span from z.last → next ≡ Or left right at → Ors from b z next
+expr-more from {left = left} {right = right} {next = next} {at = at} h o k r e is =
+    let second = r.means in
+    let ends = read-ends r.read refl in
+    Chaining-more h o (read-both k.read r.read) (λ u. ors-more from left k.tree r.tree u ∙ ap (λ whole. ors from whole u) cc)
+
+pub expr-end : (from : ℕ) {b x : State} {left : Expression} → Ors from b x left → opens (word kinds.Or ⨟ Use conj) x ≡ false → Found (Use expr) expr_of b x left
+expr-end from {left = left} h o = let whole = Chaining-end h o (ors-end from left) in found (read-rule whole.read) whole.means
+
+pub expr-halts : (from : ℕ) {b x a : State} {left : Expression} {fault : Fault} → Ors from b x left → opens (word kinds.Or ⨟ Use conj) x ≡ true → Halts (word kinds.Or ⨟ Use conj) x fault a → Halts (Use expr) b fault a
+expr-halts from h o k = halts-rule (Chaining-halts h o k)
+
+-- conj: neg { AND neg }
+abbrev pub Ands : ℕ → State → State → Expression → Type 0
+Ands from b x left = Chaining (Use neg) (word kinds.And ⨟ Use neg) (λ t. conj_of (Node t)) (ands from) b x left
+
+pub conj-start : (from : ℕ) {b x : State} {left : Expression} → from ≡ start_of b.rest → Found (Use neg) neg_of b x left → Ands from b x left
+conj-start from e h = Chaining-start h (λ u. conj_of-chain h.tree u ∙ ap (λ n. ands n (neg_of h.tree) u) (read-starts h.read refl ∙ sym e))
+
+pub conj-more : (from : ℕ) {b x y z : State} {left right next : Expression} {at place : Span} → Ands from b x left → opens (word kinds.And ⨟ Use neg) x ≡ true
+    → Found (word kinds.And) place_of x y place → Found (Use neg) neg_of y z right → at ≡ span from z.last → next ≡ And left right at → Ands from b z next
+conj-more from {left = left} {right = right} {next = next} {at = at} h o k r e is =
+    let second = r.means in
+    let ends = read-ends r.read refl in
+    Chaining-more h o (read-both k.read r.read) (λ u. ands-more from left k.tree r.tree u ∙ ap (λ whole. ands from whole u) cc)
+
+pub conj-end : (from : ℕ) {b x : State} {left : Expression} → Ands from b x left → opens (word kinds.And ⨟ Use neg) x ≡ false → Found (Use conj) conj_of b x left
+conj-end from {left = left} h o = let whole = Chaining-end h o (ands-end from left) in found (read-rule whole.read) whole.means
+
+pub conj-halts : (from : ℕ) {b x a : State} {left : Expression} {fault : Fault} → Ands from b x left → opens (word kinds.And ⨟ Use neg) x ≡ true → Halts (word kinds.And ⨟ Use neg) x fault a → Halts (Use conj) b fault a
+conj-halts from h o k = halts-rule (Chaining-halts h o k)
+
+-- sum: prod { ( "+" | "-" ) prod }
+abbrev pub Sums : ℕ → State → State → Expression → Type 0
+Sums from b x left = Chaining (Use prod) (One (kinds.Plus ∷ kinds.Minus ∷ []) ⨟ Use prod) (λ t. sum_of (Node t)) (sums from) b x left
+
+pub sum-start : (from : ℕ) {b x : State} {left : Expression} → from ≡ start_of b.rest → Found (Use prod) prod_of b x left → Sums from b x left
+sum-start from e h = Chaining-start h (λ u. sum_of-chain h.tree u ∙ ap (λ n. sums n (prod_of h.tree) u) (read-starts h.read refl ∙ sym e))
+
+pub sum-more : (from : ℕ) {b x y z : State} {left right next : Expression} {op : Op} {at : Span} → Sums from b x left → opens (One (kinds.Plus ∷ kinds.Minus ∷ []) ⨟ Use prod) x ≡ true
+    → Found (One (kinds.Plus ∷ kinds.Minus ∷ [])) adding_of x y op → Found (Use prod) prod_of y z right → at ≡ span from z.last → next ≡ Arith op left right at → Sums from b z next
+sum-more from {left = left} {right = right} {next = next} {op = op} {at = at} h o k r e is =
+    let first = k.means in
+    let second = r.means in
+    let ends = read-ends r.read refl in
+    Chaining-more h o (read-both k.read r.read) (λ u. sums-more from left k.tree r.tree u ∙ ap (λ whole. sums from whole u) cc)
+
+pub sum-end : (from : ℕ) {b x : State} {left : Expression} → Sums from b x left → opens (One (kinds.Plus ∷ kinds.Minus ∷ []) ⨟ Use prod) x ≡ false → Found (Use sum) sum_of b x left
+sum-end from {left = left} h o = let whole = Chaining-end h o (sums-end from left) in found (read-rule whole.read) whole.means
+
+pub sum-halts : (from : ℕ) {b x a : State} {left : Expression} {fault : Fault} → Sums from b x left → opens (One (kinds.Plus ∷ kinds.Minus ∷ []) ⨟ Use prod) x ≡ true → Halts (One (kinds.Plus ∷ kinds.Minus ∷ []) ⨟ Use prod) x fault a → Halts (Use sum) b fault a
+sum-halts from h o k = halts-rule (Chaining-halts h o k)
+
+-- prod: sign { ( "*" | "/" ) sign }
+abbrev pub Prods : ℕ → State → State → Expression → Type 0
+Prods from b x left = Chaining (Use sign) (One (kinds.Star ∷ kinds.Slash ∷ []) ⨟ Use sign) (λ t. prod_of (Node t)) (prods from) b x left
+
+pub prod-start : (from : ℕ) {b x : State} {left : Expression} → from ≡ start_of b.rest → Found (Use sign) sign_of b x left → Prods from b x left
+prod-start from e h = Chaining-start h (λ u. prod_of-chain h.tree u ∙ ap (λ n. prods n (sign_of h.tree) u) (read-starts h.read refl ∙ sym e))
+
+pub prod-more : (from : ℕ) {b x y z : State} {left right next : Expression} {op : Op} {at : Span} → Prods from b x left → opens (One (kinds.Star ∷ kinds.Slash ∷ []) ⨟ Use sign) x ≡ true
+    → Found (One (kinds.Star ∷ kinds.Slash ∷ [])) multiplying_of x y op → Found (Use sign) sign_of y z right → at ≡ span from z.last → next ≡ Arith op left right at → Prods from b z next
+prod-more from {left = left} {right = right} {next = next} {op = op} {at = at} h o k r e is =
+    let first = k.means in
+    let second = r.means in
+    let ends = read-ends r.read refl in
+    Chaining-more h o (read-both k.read r.read) (λ u. prods-more from left k.tree r.tree u ∙ ap (λ whole. prods from whole u) cc)
+
+pub prod-end : (from : ℕ) {b x : State} {left : Expression} → Prods from b x left → opens (One (kinds.Star ∷ kinds.Slash ∷ []) ⨟ Use sign) x ≡ false → Found (Use prod) prod_of b x left
+prod-end from {left = left} h o = let whole = Chaining-end h o (prods-end from left) in found (read-rule whole.read) whole.means
+
+pub prod-halts : (from : ℕ) {b x a : State} {left : Expression} {fault : Fault} → Prods from b x left → opens (One (kinds.Star ∷ kinds.Slash ∷ []) ⨟ Use sign) x ≡ true → Halts (One (kinds.Star ∷ kinds.Slash ∷ []) ⨟ Use sign) x fault a → Halts (Use prod) b fault a
+prod-halts from h o k = halts-rule (Chaining-halts h o k)
