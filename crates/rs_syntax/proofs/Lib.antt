@@ -3,3 +3,4 @@ pub mod Steps
 pub mod Lists
 pub mod Spans
 pub mod Chains
+pub mod Cycle
