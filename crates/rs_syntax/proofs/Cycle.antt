@@ -1,9 +1,9 @@
 -- What the functions that read expressions give back: rule by rule, what was read stands for the node that they make of it.
-use Rattle.std.proofs.Common.{ℕ, ◌≡◌, ◌∙◌, ◌+◌, ◌*◌, ◌<◌, ◌≤◌, true, false, List, [], ◌∷◌, ◌++◌, Result, Ok, Err, Some, None, refl, sym, ap, arith, append_assoc, map}
-use Rattle.std.specs.Prelude.{ℤ, Bool}
+use Rattle.std.proofs.Common.{ℕ, ◌≡◌, ◌∙◌, ◌<◌, ◌≤◌, true, false, List, [], ◌∷◌, ◌++◌, Result, Ok, Err, refl, sym, ap, arith, append_assoc, map}
+use Rattle.std.specs.Prelude.{ℤ}
 use Rattle.std.proofs.lemmas.List.{append-nil, map-append}
 use Rattle.rs_expr.specs.declared.rel.Rel.{Rel}
-use Rattle.rs_grammar.specs.Grammar.{Rule, Part, One, Empty, Seq, Either, Many, Use, rule, Tree, Leaf, Nothing, Pair, This, That, More, Node, ◌⨟◌, ◌∣◌, word, name, optional, start_of, expr, neg, comp, sum, sign, base, plain, absolute, extreme, brackets, case, when}
+use Rattle.rs_grammar.specs.Grammar.{Part, One, Many, Use, Tree, Leaf, Nothing, Pair, This, That, More, Node, ◌⨟◌, word, name, optional, start_of, expr, neg, comp, sum, sign, base, plain, absolute, extreme, brackets, case, when}
 use Rattle.rs_grammar.specs.Kinds.{accepts, comparisons, counted}
 use Rattle.rs_grammar.specs.Reading as reading
 use Rattle.rs_grammar.specs.Reading.{State, Read, opens}
@@ -21,13 +21,12 @@ use Rattle.rs_syntax.specs.Syntax.{Expression, Int, Text, Column, Neg, Abs, Leas
 use Rattle.rs_syntax.specs.Syntax as syntax
 use Rattle.rs_syntax.specs.Trees.{starts_at, ends_at, span, span_of, leaf, is_kind, name_of, number_of, text_of, place_of, qualified}
 use Rattle.rs_syntax.specs.declared.name.ColRef.{ColRef}
-use Rattle.rs_syntax.specs.declared.name.Name.{Name}
 use Rattle.rs_syntax.specs.declared.node.Node as node
 use Rattle.rs_syntax.specs.declared.parser.Fault.{Fault}
 use Rattle.rs_syntax.specs.declared.parser.cases.When.{When}
 use Rattle.rs_syntax.specs.declared.parser.Fault.TheVariants.{Memory}
 use Rattle.rs_syntax.proofs.Chains.{neg_of-this, neg_of-that, comp_of-this, comp_of-that, sign_of-this, sign_of-that, base_of-number, base_of-literal, base_of-plain, base_of-absolute, base_of-extreme, base_of-brackets, base_of-case, absolute_of-this, absolute_of-that, extreme_in-this, extreme_in-that, brackets_of-node, case_of-node, condition_of-node, result_of-node, cases-list}
-use Rattle.rs_syntax.proofs.Spans.{read-starts, read-ends, counted-left, token-left, quiet-left, is_quiet, is_quiet_rule}
+use Rattle.rs_syntax.proofs.Spans.{read-starts, read-ends, counted-left, token-left, quiet-left, is_quiet}
 use Rattle.rs_syntax.proofs.Steps.{read-both, read-this, read-that, read-not, read-stop, read-more, read-rule, found, halts-this, halts-that, halts-item, halts-later, halts-rule, halts-memory}
 
 -- WHEN parts that begin at b stand at x with these read
@@ -241,8 +240,8 @@ extreme-read : {b x y z v w a : State} {l : Lexeme} {one two whole : Expression}
     → ((t u : Tree) → leaf t ≡ l → span_of (Pair t u) ≡ span l.at.start a.last → extreme_of t one two (Pair t u) ≡ whole) → Found (Use extreme) extreme_in b a whole
 extreme-read {a = a} {l = l} {one = one} k o i h c g j is =
     found (read-rule (read-both k.read (read-this o (read-both i.read (read-both h.read (read-both c.read (read-both g.read j.read))))))) (
-      extreme_in-this k.tree i.tree h.tree c.tree g.tree j.tree ∙ ap (λ e. extreme_of k.tree e (expr_of g.tree) (Pair k.tree j.tree)) h.means
-          ∙ ap (λ e. extreme_of k.tree one e (Pair k.tree j.tree)) g.means ∙ is k.tree j.tree k.means (tokens-span k.read j.read ∙ ap (λ q. span q.at.start a.last) k.means)
+    extreme_in-this k.tree i.tree h.tree c.tree g.tree j.tree ∙ ap (λ e. extreme_of k.tree e (expr_of g.tree) (Pair k.tree j.tree)) h.means
+    ∙ ap (λ e. extreme_of k.tree one e (Pair k.tree j.tree)) g.means ∙ is k.tree j.tree k.means (tokens-span k.read j.read ∙ ap (λ q. span q.at.start a.last) k.means)
     )
 
 pub extreme-least : (r : Result node.Node Fault) {b x y z v w a : State} {l : Lexeme} {one two : Expression} {at before between after : Span} → Found (One (kinds.Min ∷ kinds.Max ∷ [])) leaf b x l
@@ -251,8 +250,8 @@ pub extreme-least : (r : Result node.Node Fault) {b x y z v w a : State} {l : Le
     → accepts (kinds.Min ∷ []) l.kind ≡ true → Makes (Least one two at) r → Reads (Use extreme) extreme_in expression_of b a r
 extreme-least (Ok q) {l = l} {one = one} {two = two} k o i h c g j is least made =
     extreme-read k o i h c g j (λ t u e s.
-        let lesser : is_kind kinds.Min t ≡ true = ap (λ n. accepts (kinds.Min ∷ []) n.kind) e ∙ least in
-        rw lesser (ap (Least one two) (s ∙ sym is) ∙ sym made))
+    let lesser : is_kind kinds.Min t ≡ true = ap (λ n. accepts (kinds.Min ∷ []) n.kind) e ∙ least in
+    rw lesser (ap (Least one two) (s ∙ sym is) ∙ sym made))
 extreme-least (Err f) k o i h c g j is least made = halts-made made
 
 pub extreme-greatest : (r : Result node.Node Fault) {b x y z v w a : State} {l : Lexeme} {one two : Expression} {at before between after : Span} → Found (One (kinds.Min ∷ kinds.Max ∷ [])) leaf b x l
@@ -261,8 +260,8 @@ pub extreme-greatest : (r : Result node.Node Fault) {b x y z v w a : State} {l :
     → accepts (kinds.Min ∷ []) l.kind ≡ false → Makes (syntax.Greatest one two at) r → Reads (Use extreme) extreme_in expression_of b a r
 extreme-greatest (Ok q) {l = l} {one = one} {two = two} k o i h c g j is greater made =
     extreme-read k o i h c g j (λ t u e s.
-        let other : is_kind kinds.Min t ≡ false = ap (λ n. accepts (kinds.Min ∷ []) n.kind) e ∙ greater in
-        rw other (ap (syntax.Greatest one two) (s ∙ sym is) ∙ sym made))
+    let other : is_kind kinds.Min t ≡ false = ap (λ n. accepts (kinds.Min ∷ []) n.kind) e ∙ greater in
+    rw other (ap (syntax.Greatest one two) (s ∙ sym is) ∙ sym made))
 extreme-greatest (Err f) k o i h c g j is greater made = halts-made made
 
 -- brackets
@@ -284,8 +283,8 @@ case-found from (Ok q) {a = a} {first = first} {others = others} {otherwise = ot
     let outcome : result_of f.tree ≡ first.outcome = ap (λ p. p.outcome) f.means in
     let to : ends_at j.tree ≡ at.end = ends ∙ ap (λ s. s.end) (sym is) in
     let listed : cases (ends_at j.tree) (expr_of h.tree) os.tree ≡ more =
-        cases-list (ends_at j.tree) (expr_of h.tree) os.tree ∙ ap (λ n. cases_in n (whens_of os.tree) (expr_of h.tree)) to ∙ ap (λ ps. cases_in at.end ps (expr_of h.tree)) os.means
-            ∙ ap (cases_in at.end others) h.means ∙ sym rest in
+    cases-list (ends_at j.tree) (expr_of h.tree) os.tree ∙ ap (λ n. cases_in n (whens_of os.tree) (expr_of h.tree)) to ∙ ap (λ ps. cases_in at.end ps (expr_of h.tree)) os.means
+    ∙ ap (cases_in at.end others) h.means ∙ sym rest in
     found (read-rule (read-both k.read (read-both f.read (read-both os.read (read-both i.read (read-both h.read j.read)))))) (case_of-node k.tree f.tree os.tree i.tree h.tree j.tree ∙ cc)
 case-found from (Err f) e k fs os i h j is rest made = halts-made made
 

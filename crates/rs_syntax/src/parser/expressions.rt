@@ -147,7 +147,7 @@ impl Parser {
         if self.at(Kind::Abs) {
             return self.absolute(alloc);
         }
-        if self.at_any(&[Kind::Min, Kind::Max]) {
+        if self.at_any(&[Kind::Max, Kind::Min]) {
             return self.extreme(alloc);
         }
         if self.at(Kind::OpenBracket) {
