@@ -4,10 +4,12 @@
 mod fault;
 mod name;
 mod node;
-mod script;
 mod parser;
+mod script;
 mod select;
 mod statement;
+#[cfg(test)]
+mod tests;
 
 pub use fault::SyntaxFault;
 pub use name::{Arg, ColRef, Name};
