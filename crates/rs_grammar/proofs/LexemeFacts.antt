@@ -6,7 +6,7 @@ use Rattle.std.proofs.lemmas.Bool.{eqb-true, and_parts, or_cases, leb-true, cond
 use Rattle.std.proofs.Math.Seq.{drop-drop, take-append_seam, drop-append-add, get_or-append_seam}
 use Rattle.std.proofs.lemmas.List.Elements.{All-nil, All-cons, All-same, All-take}
 use Rattle.std.proofs.lemmas.List.Sums.{take_while-cons}
-use Rattle.std.proofs.lemmas.List.{take-append-drop, take-take, get_or-drop, length-take-le}
+use Rattle.std.proofs.lemmas.List.{append-nil, take-append-drop, take-take, get_or-drop, length-take-le}
 use Rattle.std.proofs.lemmas.Str.Ascii.{IsAscii-from_all}
 use Rattle.std.proofs.lemmas.Str.{IsUtf8-nil, IsUtf8-take, IsUtf8-drop, IsUtf8-between, IsUtf8-append, IsUtf8-from_ascii, IsCharBoundary-before_ascii, IsCharBoundary-after_ascii}
 use Rattle.rs_value.specs.Number.{number_of, decimal_value, are_digits, greatest_int}
@@ -42,6 +42,10 @@ tokens_from script at bytes tokens within is (spelling.Spells.takes _ n sort _ r
 -- so many of the tokens that a script spells are the first ones
 pub IsFront-take : (script : List ℕ) (n : ℕ) (tokens : List Token) → Spells 0 script tokens → IsFront script (take n tokens)
 IsFront-take script n tokens h = record { more = drop n tokens; spelled = rw (take-append-drop n tokens) h }
+
+-- all tokens of a script are its first ones
+pub IsFront-whole : (script : List ℕ) (tokens : List Token) → Spells 0 script tokens → IsFront script tokens
+IsFront-whole script tokens h = record { more = []; spelled = rw append-nil h }
 
 -- each of the first tokens of a script stands in it
 pub IsToken-each : (script : List ℕ) (tokens : List Token) → IsFront script tokens → All (IsToken script) tokens

@@ -6,7 +6,7 @@ use Rattle.std.proofs.lemmas.Bool.{eqb-true, cases_lt, cases_order}
 use Rattle.rs_grammar.specs.Grammar.{Part, Empty, Tree, Pair, Nothing, yield, Fits, Viable, script}
 use Rattle.rs_grammar.specs.Grammar as grammar
 use Rattle.rs_grammar.specs.Reading.{State, starts, left_behind, is_too_deep, Read, Fails, Cause, Expected, TooDeep}
-use Rattle.rs_grammar.specs.Places.{most_deep, most_statements, is_semicolon, is_counted, tally_from, tally, ended, is_foreign, IsScript, IsUnexpected, IsTooDeep, IsTooMany, Problem, Unexpected, Foreigner, TooMany, Stands, order_of, IsRefused}
+use Rattle.rs_grammar.specs.Places.{most_deep, most_statements, is_semicolon, is_counted, tally_from, tally, ended, is_foreign, IsScript, IsUnexpected, IsTooDeep, IsTooMany, IsWithinStatements, Problem, Unexpected, Foreigner, TooMany, Stands, order_of, IsRefused}
 use Rattle.rs_grammar.specs.Places as places
 use Rattle.rs_grammar.specs.declared.lexeme.Lexeme.{Lexeme}
 use Rattle.rs_grammar.proofs.Predict.{Clear}
@@ -151,10 +151,6 @@ Token-within (l ∷ ls) (suc at) h =
 -- the tokens up to and with the one behind some
 take-next : (before : List Lexeme) (token : Lexeme) (behind : List Lexeme) → take (length before + 1) (before ++ token ∷ behind) ≡ before ++ token ∷ []
 take-next before token behind = take-append-add before (token ∷ behind) 1
-
--- fewer than the most statements end in front of the last token
-abbrev pub IsWithinStatements : List Lexeme → Type 0
-IsWithinStatements ls = (i : ℕ) → i < length ls → ended (take i ls) < most_statements
 
 -- the tokens in front of a place begin a script, and are within the limits
 pub record Sound (ls front rest : List Lexeme) : Type 0 where

@@ -32,6 +32,10 @@ abbrev pub ended : List Lexeme → ℕ
 ended [] = 0
 ended (l ∷ ls) = (if is_semicolon l then 1 else 0) + ended ls
 
+-- in front of the last token fewer statements end than a script may have
+abbrev pub IsWithinStatements : List Lexeme → Type 0
+IsWithinStatements ls = (i : ℕ) → i < length ls → ended (take i ls) < most_statements
+
 -- whether the first token is a word out of the profile
 abbrev pub is_foreign : List Lexeme → Bool
 is_foreign [] = false

@@ -1,3 +1,9 @@
 pub mod Tokens
 pub mod Steps
+pub mod Spans
+pub mod Chains
 pub mod Lists
+pub mod Results
+pub mod Cutting
+pub mod Numbers
+pub mod ScriptFacts

@@ -6,3 +6,5 @@ pub mod Numbers
 pub mod Reads
 pub mod Makes
 pub mod Cases
+pub mod Scripts
+pub mod Cut

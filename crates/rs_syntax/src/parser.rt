@@ -9,6 +9,7 @@ mod statements;
 mod terms;
 mod tokens;
 
+use crate::parser::tokens::MOST_DEEP;
 use rs_grammar::Lexeme;
 use std::marker::Model;
 
@@ -43,4 +44,23 @@ pub enum Fault {
     /// It is one more token that counts towards the depth than a statement may have.
     TooDeep,
     Memory,
+}
+
+impl Parser {
+    ghost use Rattle.std.specs.Prelude.{◌≡◌};
+    ghost use Rattle.rs_grammar.specs.Places.{most_deep};
+    ghost use Rattle.rs_syntax.specs.Numbers.{AreNumbers};
+
+    /// A parser in front of these lexemes.
+    pub fn new(mut lexemes: Vec<Lexeme>) -> Parser
+        requires { AreNumbers lexemes.items }
+        ensures { result ≡ record { rest = lexemes.items; left = most_deep; last = 0 } }
+    {
+        lexemes.reverse();
+        Parser {
+            reversed: lexemes,
+            left: MOST_DEEP,
+            last: 0,
+        }
+    }
 }

@@ -1,21 +1,21 @@
-ghost use Rattle.std.specs.Prelude.{◌≡◌, ◌⊎◌, ◌≤◌, Err, IfOk, IfErr, List, MatchResult, length};
+ghost use Rattle.std.specs.Prelude.{◌≡◌, ◌⊎◌, ◌≤◌, Err, IfOk, IfErr, List, MatchResult, [], drop, length, take, ℕ};
+ghost use Rattle.rs_grammar.specs.Places.{IsWithinStatements};
 ghost use Rattle.rs_lex.specs.Spelling.{Spells};
+ghost use Rattle.rs_syntax.specs.Cut.{EndsLast, refusal_of};
 ghost use Rattle.rs_syntax.specs.Scripts.{IsSound, Parses, Refuses};
 ghost use Rattle.rs_syntax.specs.Syntax.{Command, commands_of};
 ghost use Rattle.rs_syntax.specs.declared.fault.SyntaxFault.{SyntaxFault};
 
 use crate::fault::SyntaxFault;
+use crate::parser::{Fault, Parser};
 use crate::statement::Statement;
+use rs_grammar::{Kind, Lexeme, lexemes};
 use rs_lex::Token;
 use rs_value::Text;
 use std::alloc::Global;
 
 /// The statements that the tokens of a script parse to, all of them, in their order.
-pub fn parse(
-    alloc: Global,
-    script: &Text,
-    tokens: &[Token],
-) -> Result<Vec<Statement>, SyntaxFault>
+pub fn parse(alloc: Global, script: &Text, tokens: &[Token]) -> Result<Vec<Statement>, SyntaxFault>
     requires spelled { Spells 0 script.now tokens.now }
     requires small { length script.now ≤ 1048576 }
     // What is answered is what the tokens parse to, and nothing is wrong with them.
@@ -28,11 +28,74 @@ pub fn parse(
     ensures refused { IfErr result (λ fault. (fault ≡ SyntaxFault.Memory) ⊎ Refuses script.now tokens.now fault) }
     ensures exact { (fault : SyntaxFault) → Refuses script.now tokens.now fault → (result ≡ Err fault) ⊎ (result ≡ Err SyntaxFault.Memory) }
 {
-    Err(SyntaxFault::Memory)
+    let Ok(mut lexemes) = lexemes(alloc, script, tokens) else {
+        return Err(SyntaxFault::Memory);
+    };
+    let end = statements_end(&lexemes);
+    lexemes.truncate(end);
+    let more = &tokens[end..];
+    let mut parser = Parser::new(lexemes);
+    let statements = match parser.script(alloc) {
+        Ok(statements) => statements,
+        Err(Fault::Expected) => return Err(refusal(&parser, more, script, false)),
+        Err(Fault::TooDeep) => return Err(refusal(&parser, more, script, true)),
+        Err(Fault::Memory) => return Err(SyntaxFault::Memory),
+    };
+    if !parser.is_done() {
+        return Err(refusal(&parser, more, script, false));
+    }
+    if !more.is_empty() {
+        return Err(refusal(&parser, more, script, false));
+    }
+    Ok(statements)
+}
+
+/// The most statements of a script.
+const MOST_STATEMENTS: u32 = 1000;
+
+/// How many lexemes stand up to and with the `;` that ends the last statement that a script may have.
+fn statements_end(lexemes: &[Lexeme]) -> usize
+    ensures within { result ≤ length lexemes.now }
+    ensures few { IsWithinStatements (take result lexemes.now) }
+    ensures cut { (drop result lexemes.now ≡ []) ⊎ EndsLast (take result lexemes.now) }
+{
+    let mut ended = 0;
+    for (index, lexeme) in lexemes.iter().enumerate() {
+        if lexeme.kind.is(Kind::Semicolon) {
+            ended += 1;
+            if ended == MOST_STATEMENTS {
+                return index + 1;
+            }
+        }
+    }
+    lexemes.len()
+}
+
+/// What is told where the parser can't go on: at its next lexeme, or where there is none, at the next token behind
+/// the last statement that a script may have, or at the end of the script.
+fn refusal(parser: &Parser, more: &[Token], script: &Text, is_too_deep: bool) -> SyntaxFault
+    requires { length script.now ≤ 1048576 }
+    ensures { result ≡ refusal_of parser.now.rest more.now (length script.now) is_too_deep }
+{
+    let Some(lexeme) = parser.next() else {
+        return match more.first() {
+            Some(token) => SyntaxFault::TooManyStatements { at: token.at.start },
+            None => SyntaxFault::Expected {
+                at: script.bytes().len() as u32,
+            },
+        };
+    };
+    let at = lexeme.at.start;
+    if is_too_deep {
+        SyntaxFault::TooDeep { at }
+    } else if lexeme.kind.is(Kind::Foreign) {
+        SyntaxFault::NotInProfile { at }
+    } else {
+        SyntaxFault::Expected { at }
+    }
 }
 
 /// The tokens of a script parse to one list of statements at most.
 pub fn one_meaning()
     ensures { (text : List ℕ) (tokens : List Token) (a b : List Command) → Parses text tokens a → Parses text tokens b → a ≡ b }
-{
-}
+{}

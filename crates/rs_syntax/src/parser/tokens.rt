@@ -1,8 +1,9 @@
-ghost use Rattle.std.specs.Prelude.{◌≡◌, [], ◌∷◌, Bool, List, IfOk, MatchOption, false, true};
+ghost use Rattle.std.specs.Prelude.{◌≡◌, [], ◌∷◌, Bool, List, IfOk, IsTrue, MatchOption, false, true, ◌↔◌};
 ghost use Rattle.rs_grammar.specs.Grammar.{One, name as name_part, optional, start_of, word};
 ghost use Rattle.rs_grammar.specs.Kinds.{names, plain_names};
 ghost use Rattle.rs_grammar.specs.Reading.{is_too_deep, left_behind, next_is};
 ghost use Rattle.rs_grammar.specs.declared.kind.Kind.{Kind};
+ghost use Rattle.rs_grammar.specs.declared.lexeme.Lexeme.{Lexeme};
 ghost use Rattle.rs_grammar.specs.declared.kind.Kind.TheVariants.{Literal, Number};
 ghost use Rattle.rs_syntax.specs.Numbers.{IsNumber};
 ghost use Rattle.rs_syntax.specs.Reads.{Reads};
@@ -70,6 +71,20 @@ impl Parser {
             Some(lexeme) => lexeme.kind.is_plain_name(),
             None => false,
         }
+    }
+
+    /// The next token.
+    pub fn next(&self) -> Option<&Lexeme>
+        ensures { MatchOption result (self.now.rest ≡ []) (λ l. (rest : List Lexeme) × (self.now.rest ≡ l.now ∷ rest)) }
+    {
+        self.reversed.last()
+    }
+
+    /// Whether no token is left.
+    pub fn is_done(&self) -> bool
+        ensures { IsTrue result ↔ (self.now.rest ≡ []) }
+    {
+        self.reversed.is_empty()
     }
 
     /// Where the next token starts.
