@@ -43,11 +43,17 @@ fn refuses_second_parts(
     alloc: Global,
     head: &str,
     rows: &[(&str, &str)],
+    is_foreign: bool,
 ) -> Result<(), Fail> {
     for (front, rest) in rows {
         let script = format!(in alloc; "{head}{front}{rest}")?;
         let at = behind(head, front)?;
-        compare(rt, alloc, &script, Some(SyntaxFault::Expected { at }))?;
+        let wanted = if is_foreign {
+            SyntaxFault::NotInProfile { at }
+        } else {
+            SyntaxFault::Expected { at }
+        };
+        compare(rt, alloc, &script, Some(wanted))?;
     }
     Ok(())
 }
@@ -350,12 +356,13 @@ const UNEXPECTED_IN_WHERE: [(&str, &str); 92] = [
 
 #[test]
 fn tells_where_something_else_is_expected(rt: HostRuntime) -> Result<(), Fail> {
-    refuses_second_parts(&rt, rt.alloc(), "", &UNEXPECTED)?;
+    refuses_second_parts(&rt, rt.alloc(), "", &UNEXPECTED, false)?;
     refuses_second_parts(
         &rt,
         rt.alloc(),
         "SELECT a FROM t WHERE ",
         &UNEXPECTED_IN_WHERE,
+        false,
     )
 }
 
@@ -392,16 +399,7 @@ const FOREIGN: [(&str, &str); 27] = [
 
 #[test]
 fn tells_words_out_of_the_profile(rt: HostRuntime) -> Result<(), Fail> {
-    for (front, rest) in FOREIGN {
-        let script = format!(in rt.alloc(); "{front}{rest}")?;
-        let at = behind("", front)?;
-        compare(
-            &rt,
-            rt.alloc(),
-            &script,
-            Some(SyntaxFault::NotInProfile { at }),
-        )?;
-    }
+    refuses_second_parts(&rt, rt.alloc(), "", &FOREIGN, true)?;
     // A fault in front of such a word is told first.
     compare(
         &rt,
@@ -507,7 +505,7 @@ const SHORTER: [(&str, &str); 11] = [
 /// fields that a name, a column, a list or a place has.
 fn shorter(alloc: Global, tree: &str) -> Result<String, Fail> {
     let mut shown = tree.replace(alloc, "\"", "'")?;
-    for (long, short) in SHORTER {
+    for &(long, short) in &SHORTER {
         shown = shown.as_str().replace(alloc, long, short)?;
     }
     Ok(shown)
@@ -565,7 +563,7 @@ const STATEMENTS: [(&str, &str); 13] = [
 
 #[test]
 fn reads_statements(rt: HostRuntime) -> Result<(), Fail> {
-    for (script, wanted) in STATEMENTS {
+    for &(script, wanted) in &STATEMENTS {
         let made = parsed(&rt, rt.alloc(), script)??;
         let tree = format!(in rt.alloc(); "{made:?}")?;
         assert_eq!(rt; shorter(rt.alloc(), &tree)?.as_str(), wanted, "at {script}");
@@ -666,7 +664,7 @@ const EXPRESSIONS: [(&str, &str); 26] = [
 
 #[test]
 fn reads_expressions(rt: HostRuntime) -> Result<(), Fail> {
-    for (expression, wanted) in EXPRESSIONS {
+    for &(expression, wanted) in &EXPRESSIONS {
         let script = format!(in rt.alloc(); "{FORMULA}{expression}")?;
         let made = parsed(&rt, rt.alloc(), &script)??;
         let [Statement::CreatePredicate { formula, .. }] = made.as_slice() else {
@@ -702,7 +700,7 @@ const DEEP: [(&str, &str, u32, &str, &str); 16] = [
 #[test]
 fn reads_so_many_levels(rt: HostRuntime) -> Result<(), Fail> {
     let predicate = "CREATE PREDICATE p (a INT) MAX 1 AS ";
-    for (head, front, place, middle, end) in DEEP {
+    for &(head, front, place, middle, end) in &DEEP {
         for levels in [255, 256] {
             let fronts = front.repeat(rt.alloc(), levels)?;
             let ends = end.repeat(rt.alloc(), levels)?;
@@ -932,7 +930,7 @@ const LONG: [(&str, &str, usize, &str, Option<SyntaxFault>); 33] = [
 
 #[test]
 fn keeps_the_limits(rt: HostRuntime) -> Result<(), Fail> {
-    for (front, repeated, times, rest, wanted) in LONG {
+    for &(front, repeated, times, rest, wanted) in &LONG {
         let repeated = repeated.repeat(rt.alloc(), times)?;
         let script = format!(in rt.alloc(); "{front}{repeated}{rest}")?;
         compare(&rt, rt.alloc(), &script, wanted)?;
