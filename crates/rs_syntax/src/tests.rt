@@ -699,6 +699,7 @@ const DEEP: [(&str, &str, u32, &str, &str); 16] = [
 
 #[test]
 fn reads_so_many_levels(rt: HostRuntime) -> Result<(), Fail> {
+    let query = "SELECT * FROM t ORDER BY p(a);";
     let predicate = "CREATE PREDICATE p (a INT) MAX 1 AS ";
     for &(head, front, place, middle, end) in &DEEP {
         for levels in [255, 256] {
@@ -706,10 +707,10 @@ fn reads_so_many_levels(rt: HostRuntime) -> Result<(), Fail> {
             let ends = end.repeat(rt.alloc(), levels)?;
             // Behind `;` the count starts again.
             let script = format!(in rt.alloc();
-                "CLOSE a;{predicate}{head}{fronts}{middle}{ends};FETCH 1 FROM a"
+                "{query}{predicate}{head}{fronts}{middle}{ends};FETCH 1 FROM a"
             )?;
             // With the bracket of the parameters, the 256th level is one too many.
-            let first = behind("CLOSE a;", predicate)?;
+            let first = behind(query, predicate)?;
             let within = behind(head, &front.repeat(rt.alloc(), 255)?)?;
             let at = first.saturating_add(within).saturating_add(place);
             let wanted = if levels == 255 {
