@@ -102,12 +102,10 @@ fn refusal(parser: &Parser, more: &[Token], script: &Text, is_too_deep: bool) ->
 /// The tokens of a script parse to one list of statements at most, whatever their number and depth.
 pub fn one_list_of_statements()
     ensures { (text : List ℕ) (tokens : List Token) (a b : List Command) → Parses text tokens a → Parses text tokens b → a ≡ b }
-{
-}
+{}
 
 /// The tokens of a script are refused with one fault at most, and not where nothing is wrong with them.
 pub fn one_refusal()
     ensures one { (text : List ℕ) (tokens : List Token) (a b : SyntaxFault) → Refuses text tokens a → Refuses text tokens b → a ≡ b }
     ensures sound { (text : List ℕ) (tokens : List Token) (a : SyntaxFault) → IsSound text tokens → Refuses text tokens a → ⊥ }
-{
-}
+{}
