@@ -3,4 +3,5 @@ pub mod Beginnings
 pub mod Derivation
 pub mod Verdict
 pub mod LexemeFacts
+pub mod Computed
 mod WorkedLexemes
