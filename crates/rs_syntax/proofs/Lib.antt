@@ -7,3 +7,4 @@ pub mod Results
 pub mod Cutting
 pub mod Numbers
 pub mod ScriptFacts
+mod WorkedScripts
