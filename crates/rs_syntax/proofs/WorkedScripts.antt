@@ -202,7 +202,148 @@ term predicate argument start end = record { weight = (pos 1, predicate.at); pre
 -- no statement
 only_a_comment : Means (codes "-- only this") []
 unfolding computes
-only_a_comment = means-by (codes "-- only this") [] refl (lit≤ tt) refl
+only_a_comment = means-by _ _ refl (lit≤ tt) refl
 
 nothing_at_all : IsScript []
 nothing_at_all = (That Nothing, tt, refl)
+
+-- four statements
+abbrev four : List ℕ
+four =
+    codes "CREATE TABLE h (name TEXT, price INT, city INT) FROM 'h.csv';\nCREATE PREDICATE p (v INT) MAX 100 AS v;\nSELECT name FROM h ORDER BY p(price) LIMIT 1;\nSELECT name FROM h WHERE name = 3 ORDER BY p(price) LIMIT 1;\n"
+
+abbrev four_tokens : List Token
+four_tokens =
+    token_at 0 sort.Word 6 ∷ token_at 7 sort.Word 5 ∷ token_at 13 sort.Word 1 ∷ token_at 15 sort.Symbol 1 ∷ token_at 16 sort.Word 4 ∷ token_at 21 sort.Word 4
+    ∷ token_at 25 sort.Symbol 1 ∷ token_at 27 sort.Word 5 ∷ token_at 33 sort.Word 3 ∷ token_at 36 sort.Symbol 1 ∷ token_at 38 sort.Word 4 ∷ token_at 43 sort.Word 3
+    ∷ token_at 46 sort.Symbol 1 ∷ token_at 48 sort.Word 4 ∷ token_at 53 sort.Literal 7 ∷ token_at 60 sort.Symbol 1
+    ∷ token_at 62 sort.Word 6 ∷ token_at 69 sort.Word 9 ∷ token_at 79 sort.Word 1 ∷ token_at 81 sort.Symbol 1 ∷ token_at 82 sort.Word 1 ∷ token_at 84 sort.Word 3
+    ∷ token_at 87 sort.Symbol 1 ∷ token_at 89 sort.Word 3 ∷ token_at 93 sort.Number 3 ∷ token_at 97 sort.Word 2 ∷ token_at 100 sort.Word 1 ∷ token_at 101 sort.Symbol 1
+    ∷ token_at 103 sort.Word 6 ∷ token_at 110 sort.Word 4 ∷ token_at 115 sort.Word 4 ∷ token_at 120 sort.Word 1 ∷ token_at 122 sort.Word 5 ∷ token_at 128 sort.Word 2
+    ∷ token_at 131 sort.Word 1 ∷ token_at 132 sort.Symbol 1 ∷ token_at 133 sort.Word 5 ∷ token_at 138 sort.Symbol 1 ∷ token_at 140 sort.Word 5 ∷ token_at 146 sort.Number 1
+    ∷ token_at 147 sort.Symbol 1
+    ∷ token_at 149 sort.Word 6 ∷ token_at 156 sort.Word 4 ∷ token_at 161 sort.Word 4 ∷ token_at 166 sort.Word 1 ∷ token_at 168 sort.Word 5 ∷ token_at 174 sort.Word 4
+    ∷ token_at 179 sort.Symbol 1 ∷ token_at 181 sort.Number 1 ∷ token_at 183 sort.Word 5 ∷ token_at 189 sort.Word 2 ∷ token_at 192 sort.Word 1 ∷ token_at 193 sort.Symbol 1
+    ∷ token_at 194 sort.Word 5 ∷ token_at 199 sort.Symbol 1 ∷ token_at 201 sort.Word 5 ∷ token_at 207 sort.Number 1 ∷ token_at 208 sort.Symbol 1 ∷ []
+
+four_spelled : Spells 0 four four_tokens
+unfolding computes
+four_spelled = spell-spells 200 0 _ _ refl
+
+-- what they say
+abbrev a_table : Command
+a_table =
+    CreateTable (named (codes "h") 13 14)
+    ((named (codes "name") 16 20, value.Text) ∷ (named (codes "price") 27 32, value.Int) ∷ (named (codes "city") 38 42, value.Int) ∷ []) (codes "h.csv")
+
+abbrev a_predicate : Command
+a_predicate =
+    CreatePredicate (named (codes "p") 79 80) ((named (codes "v") 82 83, value.Int) ∷ []) (pos 100, span 93 96) None (Column (column (codes "v") 100 101))
+
+abbrev a_query : Command
+a_query =
+    Ask (record {
+      left = record { distinct = false; items = items.List (column (codes "name") 110 114 ∷ []); from = (named (codes "h") 120 121, None) ∷ []; filter = None };
+      right = None;
+      terms = term (named (codes "p") 131 132) (column (codes "price") 133 138) 131 139 ∷ [];
+      limit = Some (pos 1, span 146 147);
+    })
+
+abbrev a_filter : Expression
+a_filter = Compare Eq (Column (column (codes "name") 174 178)) (Int (pos 3) (span 181 182)) (span 174 182)
+
+abbrev a_query_with_a_filter : Command
+a_query_with_a_filter =
+    Ask (record {
+      left = record { distinct = false; items = items.List (column (codes "name") 156 160 ∷ []); from = (named (codes "h") 166 167, None) ∷ []; filter = Some a_filter };
+      right = None;
+      terms = term (named (codes "p") 192 193) (column (codes "price") 194 199) 192 200 ∷ [];
+      limit = Some (pos 1, span 207 208);
+    })
+
+four_accepted : Accepts four four_tokens (a_table ∷ a_predicate ∷ a_query ∷ a_query_with_a_filter ∷ [])
+unfolding computes
+four_accepted = accepts-by 200 _ _ _ (lit≤ tt) refl
+
+four_parsed : Parses four four_tokens (a_table ∷ a_predicate ∷ a_query ∷ a_query_with_a_filter ∷ [])
+four_parsed = four_accepted.parses
+
+-- a word out of the profile
+abbrev ascending : List ℕ
+ascending = codes "SELECT * FROM h ORDER BY p(price) ASC;"
+
+abbrev ascending_tokens : List Token
+ascending_tokens =
+    token_at 0 sort.Word 6 ∷ token_at 7 sort.Symbol 1 ∷ token_at 9 sort.Word 4 ∷ token_at 14 sort.Word 1 ∷ token_at 16 sort.Word 5 ∷ token_at 22 sort.Word 2
+    ∷ token_at 25 sort.Word 1 ∷ token_at 26 sort.Symbol 1 ∷ token_at 27 sort.Word 5 ∷ token_at 32 sort.Symbol 1 ∷ token_at 34 sort.Word 3 ∷ token_at 37 sort.Symbol 1 ∷ []
+
+ascending_spelled : Spells 0 ascending ascending_tokens
+unfolding computes
+ascending_spelled = spell-spells 200 0 _ _ refl
+
+ascending_refused : Refuses ascending ascending_tokens (fault.NotInProfile 34)
+unfolding computes
+ascending_refused = refuses-by 200 _ _ _ (lit≤ tt) refl
+
+-- a keyword and a name between marks are names
+two_closed : Means (codes "CLOSE rank; CLOSE \"a\"\"b\"") (Close (named (codes "rank") 6 10) ∷ Close (named (codes "a\"b") 18 24) ∷ [])
+unfolding computes
+two_closed = means-by _ _ refl (lit≤ tt) refl
+
+-- an empty statement, a token behind a statement, and none where one is missing
+empty_statement : IsRefusedWith (codes ";") (fault.Expected 0)
+unfolding computes
+empty_statement = refused-by _ _ refl (lit≤ tt) refl
+
+two_names : IsRefusedWith (codes "CLOSE a b") (fault.Expected 8)
+unfolding computes
+two_names = refused-by _ _ refl (lit≤ tt) refl
+
+no_name : IsRefusedWith (codes "CLOSE") (fault.Expected 5)
+unfolding computes
+no_name = refused-by _ _ refl (lit≤ tt) refl
+
+-- queries of one block, of the column a, with a filter
+abbrev filtered : Expression → TermSyn → Command
+filtered filter ranked =
+    Ask (record {
+      left = record { distinct = false; items = items.List (column (codes "a") 7 8 ∷ []); from = (named (codes "h") 14 15, None) ∷ []; filter = Some filter };
+      right = None;
+      terms = ranked ∷ [];
+      limit = None;
+    })
+
+-- operators of one rank group to the left
+abbrev a_minus_b : Expression
+a_minus_b = Arith Sub (Column (column (codes "a") 22 23)) (Column (column (codes "b") 26 27)) (span 22 27)
+
+abbrev differences : Expression
+differences = Compare Eq (Arith Sub a_minus_b (Column (column (codes "c") 30 31)) (span 22 31)) (Int (pos 0) (span 34 35)) (span 22 35)
+
+groups_to_the_left : Means (codes "SELECT a FROM h WHERE a - b - c = 0 ORDER BY p(a)")
+    (filtered differences (term (named (codes "p") 45 46) (column (codes "a") 47 48) 45 49) ∷ [])
+unfolding computes
+groups_to_the_left = means-by _ _ refl (lit≤ tt) refl
+
+-- NOT takes a comparison, and AND stands round it
+abbrev denied : Expression
+denied = Not (Compare Eq (Column (column (codes "a") 26 27)) (Int (pos 1) (span 30 31)) (span 26 31)) (span 22 31)
+
+abbrev both : Expression
+both = And denied (Compare Eq (Column (column (codes "b") 36 37)) (Int (pos 2) (span 40 41)) (span 36 41)) (span 22 41)
+
+not_before_and : Means (codes "SELECT a FROM h WHERE NOT a = 1 AND b = 2 ORDER BY p(a)") (filtered both (term (named (codes "p") 51 52) (column (codes "a") 53 54) 51 55) ∷ [])
+unfolding computes
+not_before_and = means-by _ _ refl (lit≤ tt) refl
+
+-- the beginning of a query, which is none
+abbrev begun_tokens : List Token
+begun_tokens = token_at 0 sort.Word 6 ∷ token_at 7 sort.Word 1 ∷ token_at 9 sort.Word 4 ∷ []
+
+begun : Viable script (lexemes_of (codes "SELECT a FROM") begun_tokens)
+unfolding computes
+begun = viable-by 200 _ refl
+
+only_begun : Refuses (codes "SELECT a FROM") begun_tokens (fault.Expected 13)
+unfolding computes
+only_begun = refuses-by 200 _ _ _ (lit≤ tt) refl
