@@ -1,5 +1,5 @@
 -- What scripts are parsed to and refused with, computed on literals.
-use Rattle.std.proofs.Common.{ℕ, ◌≡◌, ◌+◌, ◌<◌, ◌≤◌, Bool, true, false, List, [], ◌∷◌, length, take, drop, refl, sym, ap, subst, ◌∙◌, ◌++◌, append-nil, arith, inl, Some, None, lit≤, if◌then◌else◌}
+use Rattle.std.proofs.Common.{ℕ, zero, suc, ◌≡◌, ◌+◌, ◌<◌, ◌≤◌, Bool, true, false, List, [], ◌∷◌, length, take, drop, refl, sym, ap, subst, ◌∙◌, ◌++◌, append-nil, arith, inl, Some, None, lit≤, if◌then◌else◌}
 use Rattle.std.specs.Prelude.{Option, codes, map, pos}
 use Rattle.std.proofs.lemmas.List.{length-map, length-take, length-take-le, drop_all}
 use Rattle.rs_expr.specs.declared.rel.Rel.TheVariants.{Eq}
@@ -340,6 +340,10 @@ not_before_and = means-by _ _ refl (lit≤ tt) refl
 abbrev begun_tokens : List Token
 begun_tokens = token_at 0 sort.Word 6 ∷ token_at 7 sort.Word 1 ∷ token_at 9 sort.Word 4 ∷ []
 
+begun_spelled : Spells 0 (codes "SELECT a FROM") begun_tokens
+unfolding computes
+begun_spelled = spell-spells 200 0 _ _ refl
+
 begun : Viable script (lexemes_of (codes "SELECT a FROM") begun_tokens)
 unfolding computes
 begun = viable-by 200 _ refl
@@ -347,3 +351,25 @@ begun = viable-by 200 _ refl
 only_begun : Refuses (codes "SELECT a FROM") begun_tokens (fault.Expected 13)
 unfolding computes
 only_begun = refuses-by 200 _ _ _ (lit≤ tt) refl
+
+-- so many times NOT, and their tokens from a place on
+abbrev denials : ℕ → List ℕ
+denials zero = []
+denials (suc n) = codes "NOT " ++ denials n
+
+abbrev denial_tokens : ℕ → ℕ → List Token
+denial_tokens zero at = []
+denial_tokens (suc n) at = token_at at sort.Word 3 ∷ denial_tokens n (at + 4)
+
+abbrev filter_tokens : ℕ → List Token
+filter_tokens n = token_at 0 sort.Word 6 ∷ token_at 7 sort.Word 1 ∷ token_at 9 sort.Word 4 ∷ token_at 14 sort.Word 1 ∷ token_at 16 sort.Word 5 ∷ denial_tokens n 22
+
+-- 256 of them are within the limit, so that only the comparison is missing, at the end
+at_the_limit : Refuses (codes "SELECT a FROM h WHERE " ++ denials 256) (filter_tokens 256) (fault.Expected 1046)
+unfolding computes
+at_the_limit = refuses-by 1000 (codes "SELECT a FROM h WHERE " ++ denials 256) (filter_tokens 256) (fault.Expected 1046) (lit≤ tt) refl
+
+-- the next one is one too many
+too_deep : Refuses (codes "SELECT a FROM h WHERE " ++ denials 257) (filter_tokens 257) (fault.TooDeep 1046)
+unfolding computes
+too_deep = refuses-by 1000 (codes "SELECT a FROM h WHERE " ++ denials 257) (filter_tokens 257) (fault.TooDeep 1046) (lit≤ tt) refl
