@@ -199,9 +199,73 @@ timeout 60 "$program" top f.csv n 9 1 2>"$work/said/err" | tr '\0' @ >"$work/sai
 echo "${PIPESTATUS[0]}" >"$work/said/status"
 compare 'a text with a byte 0' 0 $'1,1,1,a@b\n' ''
 
+# ---- scripts
+# The file s.sql of these bytes, written as printf writes its format.
+script() {
+    # shellcheck disable=SC2059
+    printf -- "$1" >s.sql
+}
+
+# So many times the same text.
+repeated() {
+    awk -v count="$1" -v what="$2" 'BEGIN { for (i = 0; i < count; i++) printf "%s", what }'
+}
+
+# Runs `plain s.sql` on a script that is refused.
+# refused NAME TEXT
+refused() {
+    expect "$1" 5 '' "script: $2"$'\n' -- plain s.sql
+}
+
+expect 'a missing script' 3 '' $'read: nope.sql: missing\n' -- plain nope.sql
+expect 'a folder in place of a script' 3 '' $'read: DIR: failed\n' -- plain DIR
+script ''
+expect 'an empty script' 0 '' '' -- plain s.sql
+script '-- only this'
+expect 'a comment alone' 0 '' '' -- plain s.sql
+script '\xef\xbb\xbf \r\n'
+expect 'a byte order mark and blanks' 0 '' '' -- plain s.sql
+repeated 1048576 ' ' >s.sql
+expect 'a script of 1,048,576 bytes' 0 '' '' -- plain s.sql
+printf ' ' >>s.sql
+expect 'a script of one byte more' 3 '' $'read: s.sql: too long\n' -- plain s.sql
+expect 'a script with no end' 3 '' $'read: /dev/zero: too long\n' -- plain /dev/zero
+script 'SELECT \xff'
+refused 'a script that is not UTF-8' 'NotUtf8 at 7'
+script '\xef\xbb\xbf$\xff'
+refused 'places count from behind the mark' 'NotUtf8 at 1'
+script '\xef\xbb\xbf$'
+refused 'a mark and a byte that begins no token' 'lex BadByte at 0'
+script '\xef\xbb\xbf\xef\xbb\xbf'
+refused 'two marks' 'lex BadByte at 0'
+script "SELECT 'a"
+refused 'a text that is never closed' 'lex OpenText at 7'
+script 4000000000000000001
+refused 'a number that is too great' 'lex NumberTooWide at 0'
+repeated 100001 ';' >s.sql
+refused '100,001 tokens' 'lex TooManyTokens at 100000'
+script 'SELECT SELECT; $'
+refused 'the tokens come before the parse' 'lex BadByte at 15'
+script 'SELECT'
+refused 'a statement that breaks off' 'parse Expected at 6'
+script 'CLOSE a; SELECT'
+refused 'the whole script is parsed first' 'parse Expected at 15'
+script 'SELECT * FROM h ORDER BY p(price) ASC;'
+refused 'a word out of the language' 'parse NotInProfile at 34'
+repeated 1001 'CLOSE a;' >s.sql
+refused '1,001 statements' 'parse TooManyStatements at 8000'
+repeated 1000 'CLOSE a;' >s.sql
+refused '1,000 statements' 'not built statement 1'
+{ printf 'CREATE PREDICATE p (v INT) MAX 10 AS ' && repeated 255 '(' && printf v && repeated 255 ')' && printf ';'; } >s.sql
+refused 'a formula as deep as may be' 'not built statement 1'
+{ printf 'CREATE PREDICATE p (v INT) MAX 10 AS ' && repeated 256 '(' && printf v && repeated 256 ')' && printf ';'; } >s.sql
+refused 'a formula that is too deep' 'parse TooDeep at 292'
+script 'CLOSE a;'
+refused 'a statement' 'not built statement 1'
+
 # ---- the words of the command line
 expect 'no words' 2 '' "$usage"$'\n' --
-for words in --help -h top TOP 'top h.csv' 'top h.csv price 100' 'top h.csv price 100 2 3' 'TOP h.csv price 100 2' \
+for words in --help -h top TOP plain 'plain s.sql s.sql' 'PLAIN s.sql' 'top h.csv' 'top h.csv price 100' 'top h.csv price 100 2 3' 'TOP h.csv price 100 2' \
     'top h.csv price 0 2' 'top h.csv price 4294967296 2' 'top h.csv price 100 1000001' 'top h.csv price x 2' \
     'top h.csv price 100 x' 'top h.csv price -1 2' 'top h.csv price +100 2' 'top h.csv price 100 2.0' \
     'top h.csv price 000000000000000000100 2' 'top h.csv price 100 000000000000000000002' \

@@ -1,6 +1,7 @@
 pub mod Predict
 pub mod Beginnings
 pub mod Derivation
+pub mod OneTree
 pub mod Verdict
 pub mod LexemeFacts
 pub mod Computed

@@ -14,11 +14,13 @@ use Rattle.rs_lines.specs.Row.{line_of}
 use Rattle.rs_run.specs.declared.fault.Fault.{Fault}
 use Rattle.rs_run.specs.declared.fault.Fault.TheVariants.{Memory, Usage, Write, Read}
 use Rattle.rs_run.specs.declared.ranked_row.RankedRow.{RankedRow}
-use Rattle.rs_run.specs.Words.{TopWords, top_words}
+use Rattle.rs_run.specs.Words.{Form, NoForm, Plain, Top, TopWords, form_of}
 use Rattle.rs_run.specs.Top.{top_table, top_lines, ranked_lines, lines_from, score_at, scored_from, best_rows}
-use Rattle.rs_run.specs.Run.{Event, Fetch, Put, Run, fetches, puts, fetch_then, run_of}
-use Rattle.rs_run.specs.Outcome.{Seen, Faulted, Ended, NoMemory, PutFailed, FetchFailed, Ran, ForFiles, fetched_more}
-use Rattle.rs_run.specs.Steps.{FetchesTable, NotFetched, FetchFails, Fetched, Ranks, PutsLines, PutsAll, PutsSome, PutsPart, IsRanked, IsRow, lines_of, row_in}
+use Rattle.rs_run.specs.Plain.{ScriptGives}
+use Rattle.rs_run.specs.Run.{Event, Fetch, Put, Run, fetches, puts, fetch_then, IsRunOf, IsCut}
+use Rattle.rs_run.specs.Outcome.{Seen, Faulted, Ended, NoMemory, PutFailed, FetchFailed, Ran, ForFiles, ForRun, fetched_more}
+use Rattle.rs_run.specs.Steps.{FetchesFile, IsPlain, IsTopTable, NotFetched, FetchFails, Fetched, no_lines, Ranks, PutsLines, PutsAll, PutsSome, PutsPart, IsRanked, IsRow, lines_of, row_in}
+use Rattle.rs_run.proofs.FetchFacts.{fault-at}
 
 -- a fact of what is there under a name holds for the files that are told, or for some files
 pub ForFiles-there : (told : Option FilesTold) (name : List ℕ) (there : Option (List ℕ)) (P : Option (List ℕ) → Type 0)
@@ -99,13 +101,9 @@ Ran-fetch_failed name lines result files out fs os fetched faulted same answers 
   answers = answers;
 }
 
--- the same fault, of a call that answers something else
-fault-at : {A B : Type 0} (f g : Fault) → ◌≡◌ {A = Result A Fault} (Err f) (Err g) → ◌≡◌ {A = Result B Fault} (Err f) (Err g)
-fault-at f g e = ap Err (let same : f ≡ g = cc in same)
-
 -- no table was fetched
 pub Ran-no_table : (name column : List ℕ) (there : Option (List ℕ)) (more : Relation → Result (List (List ℕ)) Fault) (fault : Fault) (files : Seen FilesTold) (out : Seen (List (List ℕ))) (fs os : Type 0)
-    → (NotFetched {A = Relation} (Err fault) files ⊎ FetchFails {A = Relation} name (Err fault) files fs) ⊎ Fetched name (top_table name column there) (Err fault) files
+    → (NotFetched {A = Relation} (Err fault) files ⊎ FetchFails {A = Relation} name (Err fault) files fs) ⊎ Fetched {A = Relation} name (IsTopTable name column there) (Err fault) files
     → out.after ≡ out.before
     → Ran (fetch_then name (top_table name column there >>= more)) (Err fault) files out fs os
 Ran-no_table name column there more fault files out fs os (inl (inl nothing)) same =
@@ -259,7 +257,7 @@ PutsLines-all lines out os put = record { done = lines; rest = []; split = sym (
 
 -- a table was fetched, and no memory or no score ended the run
 pub Ran-ranked_fault : (top : TopWords) (table : Relation) (there : Option (List ℕ)) (fault : Fault) (files : Seen FilesTold) (out : Seen (List (List ℕ))) (fs os : Type 0)
-    → (NotFetched (Ok table) files ⊎ FetchFails top.file (Ok table) files fs) ⊎ Fetched top.file (top_table top.file top.column there) (Ok table) files
+    → (NotFetched (Ok table) files ⊎ FetchFails top.file (Ok table) files fs) ⊎ Fetched top.file (IsTopTable top.file top.column there) (Ok table) files
     → (fault ≡ Memory) ⊎ (scored_from top.column top.max (unwrap_or (place_of top.column table.schema) 0) 1 table.rows ≡ Err fault)
     → out.after ≡ out.before
     → Ran (fetch_then top.file (top_lines top there)) (Err fault) files out fs os
@@ -276,7 +274,7 @@ Ran-ranked_fault top table there fault files out fs os (inr fetched) tells same 
 
 -- a table was fetched and its rows were ranked, and their lines were put
 pub Ran-ranked : (top : TopWords) (table : Relation) (ranked : List RankedRow) (there : Option (List ℕ)) (result : Result (Unit {0}) Fault) (files : Seen FilesTold) (out : Seen (List (List ℕ))) (fs os : Type 0)
-    → (NotFetched (Ok table) files ⊎ FetchFails top.file (Ok table) files fs) ⊎ Fetched top.file (top_table top.file top.column there) (Ok table) files
+    → (NotFetched (Ok table) files ⊎ FetchFails top.file (Ok table) files fs) ⊎ Fetched top.file (IsTopTable top.file top.column there) (Ok table) files
     → Ranks table top.column top.max (unwrap_or (place_of top.column table.schema) 0) ranked
     → PutsLines (lines_of table 1 (take top.count ranked)) result out os
     → Ran (fetch_then top.file (top_lines top there)) result files out fs os
@@ -290,14 +288,14 @@ Ran-ranked top table ranked there result files out fs os (inr fetched) ranks put
 
 -- the same three, for the files that are told or for some files
 pub ForFiles-no_table : (top : TopWords) (fault : Fault) (files : Seen FilesTold) (out : Seen (List (List ℕ))) (fs os : Type 0)
-    → FetchesTable top.file top.column (Err fault) files fs → out.after ≡ out.before
+    → FetchesFile {A = Relation} top.file (Err fault) (IsTopTable top.file top.column) files fs → out.after ≡ out.before
     → ForFiles files.before (λ there. Ran (fetch_then top.file (top_lines top (there top.file))) (Err fault) files out fs os)
 ForFiles-no_table top fault files out fs os f same =
     ForFiles-there files.before top.file f.there (λ there. Ran (fetch_then top.file (top_lines top there)) (Err fault) files out fs os) f.is_told
     (Ran-no_table top.file top.column f.there (ranked_lines top) fault files out fs os f.does same)
 
 pub ForFiles-ranked_fault : (top : TopWords) (table : Relation) (fault : Fault) (files : Seen FilesTold) (out : Seen (List (List ℕ))) (fs os : Type 0)
-    → FetchesTable top.file top.column (Ok table) files fs
+    → FetchesFile top.file (Ok table) (IsTopTable top.file top.column) files fs
     → (fault ≡ Memory) ⊎ (scored_from top.column top.max (unwrap_or (place_of top.column table.schema) 0) 1 table.rows ≡ Err fault)
     → out.after ≡ out.before
     → ForFiles files.before (λ there. Ran (fetch_then top.file (top_lines top (there top.file))) (Err fault) files out fs os)
@@ -306,7 +304,7 @@ ForFiles-ranked_fault top table fault files out fs os f tells same =
     (Ran-ranked_fault top table f.there fault files out fs os f.does tells same)
 
 pub ForFiles-ranked : (top : TopWords) (table : Relation) (ranked : List RankedRow) (result : Result (Unit {0}) Fault) (files : Seen FilesTold) (out : Seen (List (List ℕ))) (fs os : Type 0)
-    → FetchesTable top.file top.column (Ok table) files fs
+    → FetchesFile top.file (Ok table) (IsTopTable top.file top.column) files fs
     → Ranks table top.column top.max (unwrap_or (place_of top.column table.schema) 0) ranked
     → PutsLines (lines_of table 1 (take top.count ranked)) result out os
     → ForFiles files.before (λ there. Ran (fetch_then top.file (top_lines top (there top.file))) result files out fs os)
@@ -314,31 +312,55 @@ ForFiles-ranked top table ranked result files out fs os f ranks puts =
     ForFiles-there files.before top.file f.there (λ there. Ran (fetch_then top.file (top_lines top there)) result files out fs os) f.is_told
     (Ran-ranked top table ranked f.there result files out fs os f.does ranks puts)
 
-run_of-none : (there : List ℕ → Option (List ℕ)) (words : List (List ℕ)) → top_words words ≡ None → run_of there words ≡ record { events = []; fault = Some Usage }
-run_of-none there words e = rw e refl
-
-run_of-some : (there : List ℕ → Option (List ℕ)) (words : List (List ℕ)) (top : TopWords) → top_words words ≡ Some top
-    → run_of there words ≡ fetch_then top.file (top_lines top (there top.file))
-run_of-some there words top e = rw e refl
+-- a fact of the run of words whose form is known
+ForRun-form : (told : Option FilesTold) (words : List (List ℕ)) (form : Form) (P : Run → Type 0) → form_of words ≡ form
+    → ForFiles told (λ there. (run : Run) × (IsRunOf there form run ⊎ IsCut form run) × P run) → ForRun told words P
+ForRun-form told words form P e h = subst (λ f. ForFiles told (λ there. (run : Run) × (IsRunOf there f run ⊎ IsCut f run) × P run)) (sym e) h
 
 -- words of no form
-pub ForFiles-usage : (words : List (List ℕ)) (files : Seen FilesTold) (out : Seen (List (List ℕ))) (fs os : Type 0) → top_words words ≡ None
-    → files.after ≡ files.before → out.after ≡ out.before
-    → ForFiles files.before (λ there. Ran (run_of there words) (Err Usage) files out fs os)
-ForFiles-usage words files out fs os none files_same out_same = for files.before where
-  ran : (there : List ℕ → Option (List ℕ)) → Ran (run_of there words) (Err Usage) files out fs os
-  ran there = subst (λ run. Ran run (Err Usage) files out fs os) (sym (run_of-none there words none)) (record {
+pub ForRun-usage : (words : List (List ℕ)) (files : Seen FilesTold) (out : Seen (List (List ℕ))) (fs os : Type 0) → form_of words ≡ NoForm
+    → files.after ≡ files.before → out.after ≡ out.before → ForRun files.before words (λ run. Ran run (Err Usage) files out fs os)
+ForRun-usage words files out fs os none files_same out_same = ForRun-form files.before words NoForm (λ run. Ran run (Err Usage) files out fs os) none (for files.before) where
+  ran : Ran (record { events = []; fault = Some Usage }) (Err Usage) files out fs os
+  ran = record {
     halt = Ended;
     does = record { done = []; rest = []; split = refl; halts = refl; fetched = files_same ∙ fetched_more-nil files.before; put = out_same ∙ pieces-nil out.before };
     answers = inl refl;
-  })
+  }
 
-  for : (told : Option FilesTold) → ForFiles told (λ there. Ran (run_of there words) (Err Usage) files out fs os)
-  for (Some told) = ran (λ name. file_named name told.folder)
-  for None = ((λ name. None), ran (λ name. None))
+  for : (told : Option FilesTold) → ForFiles told (λ there. (run : Run) × (IsRunOf there NoForm run ⊎ IsCut NoForm run) × Ran run (Err Usage) files out fs os)
+  for (Some told) = (record { events = []; fault = Some Usage }, inl refl, ran)
+  for None = ((λ name. None), (record { events = []; fault = Some Usage }, inl refl, ran))
 
 -- a fact of the run of words of the form of `top`
-pub ForFiles-top : (told : Option FilesTold) (words : List (List ℕ)) (top : TopWords) (P : Run → Type 0) → top_words words ≡ Some top
-    → ForFiles told (λ there. P (fetch_then top.file (top_lines top (there top.file)))) → ForFiles told (λ there. P (run_of there words))
-ForFiles-top (Some told) words top P some h = subst P (sym (run_of-some (λ name. file_named name told.folder) words top some)) h
-ForFiles-top None words top P some h = (h.0, subst P (sym (run_of-some h.0 words top some)) h.1)
+pub ForRun-top : (told : Option FilesTold) (words : List (List ℕ)) (top : TopWords) (P : Run → Type 0) → form_of words ≡ Top top
+    → ForFiles told (λ there. P (fetch_then top.file (top_lines top (there top.file)))) → ForRun told words P
+ForRun-top told words top P is_top h = ForRun-form told words (Top top) P is_top (for told h) where
+  for : (told : Option FilesTold) → ForFiles told (λ there. P (fetch_then top.file (top_lines top (there top.file))))
+      → ForFiles told (λ there. (run : Run) × (IsRunOf there (Top top) run ⊎ IsCut (Top top) run) × P run)
+  for (Some told) p = (fetch_then top.file (top_lines top (file_named top.file told.folder)), inl refl, p)
+  for None p = (p.0, (fetch_then top.file (top_lines top (p.0 top.file)), inl refl, p.1))
+
+-- a run of `plain`, where a script has these bytes or isn't there
+abbrev RunsPlain : List ℕ → Result (Unit {0}) Fault → Seen FilesTold → Seen (List (List ℕ)) → Type 0 → Type 0 → Option (List ℕ) → Type 0
+RunsPlain name result files out fs os there =
+    (run : Run) × (((outcome : Result (List (List ℕ)) Fault) × ScriptGives name there outcome × (run ≡ fetch_then name outcome)) ⊎ (run ≡ fetch_then name (Err Memory)))
+    × Ran run result files out fs os
+
+-- words of the form of `plain`
+pub ForRun-plain : (words : List (List ℕ)) (name : List ℕ) (result : Result (Unit {0}) Fault) (files : Seen FilesTold) (out : Seen (List (List ℕ))) (fs os : Type 0) → form_of words ≡ Plain name
+    → FetchesFile name result (IsPlain name) files fs → out.after ≡ out.before → ForRun files.before words (λ run. Ran run result files out fs os)
+ForRun-plain words name result files out fs os is_plain f same =
+    ForRun-form files.before words (Plain name) (λ run. Ran run result files out fs os) is_plain
+    (ForFiles-there files.before name f.there (RunsPlain name result files out fs os) f.is_told (go f.does)) where
+      ended : (r : Result (Unit {0}) Fault) → files.after ≡ option_map (fetched_more (name ∷ [])) files.before → Ran (fetch_then name (no_lines r)) r files out fs os
+      ended (Ok done) fetched = Ran-lines name [] (Ok tt) files out fs os fetched (PutsLines-all [] out os (same ∙ pieces-nil out.before))
+      ended (Err fault) fetched = Ran-fault name fault files out fs os fetched same
+
+      go : (NotFetched result files ⊎ FetchFails name result files fs) ⊎ Fetched name (IsPlain name f.there) result files → RunsPlain name result files out fs os f.there
+      go (inl (inl nothing)) = (fetch_then name (Err Memory), inr refl, subst (λ r. Ran (fetch_then name (Err Memory)) r files out fs os) (sym nothing.memory) (Ran-unfetched name (Err Memory) files out fs os nothing.same same))
+      go (inl (inr failed)) = (fetch_then name (Err Memory), inr refl, Ran-fetch_failed name (Err Memory) result files out fs os failed.fetched failed.faulted same failed.answers)
+      go (inr fetched) = elim fetched.answers [
+        | inl gives ↦ (fetch_then name (no_lines result), inl (no_lines result, gives, refl), ended result fetched.fetched)
+        | inr e ↦ (fetch_then name (Err Memory), inr refl, subst (λ r. Ran (fetch_then name (Err Memory)) r files out fs os) (sym e) (Ran-fault name Memory files out fs os fetched.fetched same))
+      ]

@@ -1,9 +1,10 @@
 -- The definitions, computed on examples.
 use Rattle.std.proofs.Common.{ℕ, ◌≡◌, ◌++◌, List, [], ◌∷◌, Option, Some, None, refl}
-use Rattle.std.specs.Prelude.{codes, pos, negsuc}
+use Rattle.std.specs.Prelude.{codes, pos, negsuc, Ok, Err}
 use Rattle.csv.proofs.OnLiterals.{csv_on_literals}
 use Rattle.std.specs.Fmt.{digits}
 use Rattle.std.specs.Str.{chars, is_utf8}
+use Rattle.std.specs.Str.Lossy.{utf8_valid_len}
 use Rattle.std.specs.Char.{encode_utf8}
 use Rattle.csv.specs.Writing.{escaped, fields_text, is_blank}
 use Rattle.rs_outside.specs.declared.files.FetchFault.TheVariants as fetch
@@ -11,9 +12,14 @@ use Rattle.rs_table.specs.declared.fault.TableFault.{TableFault}
 use Rattle.rs_table.specs.declared.fault.TableFault.TheVariants as table
 use Rattle.rs_run.specs.declared.fault.Fault.{Fault}
 use Rattle.rs_run.specs.declared.fault.Fault.TheVariants as fault
-use Rattle.rs_run.specs.Words.{top_words}
-use Rattle.rs_run.specs.Faults.{fault_line}
-use Rattle.rs_run.specs.Run.{Event, Fetch, Put, Run, run_of}
+use Rattle.rs_run.specs.Words.{top_words, NoForm, Plain, Top, form_of}
+use Rattle.rs_run.specs.declared.script_fault.ScriptFault.TheVariants as script
+use Rattle.rs_run.specs.declared.status.Status.TheVariants as status
+use Rattle.rs_lex.specs.declared.fault.LexFault.TheVariants as lex
+use Rattle.rs_syntax.specs.declared.fault.SyntaxFault.TheVariants as syntax
+use Rattle.rs_run.specs.Faults.{fault_line, status_of}
+use Rattle.rs_run.specs.Plain.{source_of, without_mark}
+use Rattle.rs_run.specs.Run.{Event, Fetch, IsRun, Put, Run}
 
 hotels : List ℕ
 hotels = codes "name,price,city\na,40,1\nb,90,1\nc,40,2\n"
@@ -30,132 +36,132 @@ ends_at : TableFault → Run
 ends_at why = record { events = Fetch (codes "f") ∷ []; fault = Some (fault.Table (codes "f") why) }
 
 -- the two rows of greatest price, the tie to the earlier row
-best_two : run_of (λ name. Some hotels) (words (codes "100") (codes "2"))
-    ≡ record { events = Fetch (codes "h.csv") ∷ Put (codes "1,90,b,90,1\n") ∷ Put (codes "2,40,a,40,1\n") ∷ []; fault = None }
+best_two : IsRun (λ name. Some hotels) (words (codes "100") (codes "2"))
+    (record { events = Fetch (codes "h.csv") ∷ Put (codes "1,90,b,90,1\n") ∷ Put (codes "2,40,a,40,1\n") ∷ []; fault = None })
 unfolding hotels words csv_on_literals digits chars is_utf8 encode_utf8 escaped fields_text is_blank
 best_two = refl
 
 -- there are fewer rows than are asked for
-all_rows : run_of (λ name. Some hotels) (words (codes "100") (codes "9"))
-    ≡ record { events = Fetch (codes "h.csv") ∷ Put (codes "1,90,b,90,1\n") ∷ Put (codes "2,40,a,40,1\n") ∷ Put (codes "3,40,c,40,2\n") ∷ []; fault = None }
+all_rows : IsRun (λ name. Some hotels) (words (codes "100") (codes "9"))
+    (record { events = Fetch (codes "h.csv") ∷ Put (codes "1,90,b,90,1\n") ∷ Put (codes "2,40,a,40,1\n") ∷ Put (codes "3,40,c,40,2\n") ∷ []; fault = None })
 unfolding hotels words csv_on_literals digits chars is_utf8 encode_utf8 escaped fields_text is_blank
 all_rows = refl
 
 -- MAX itself is a score
-score_of_max : run_of (λ name. Some hotels) (words (codes "90") (codes "1"))
-    ≡ record { events = Fetch (codes "h.csv") ∷ Put (codes "1,90,b,90,1\n") ∷ []; fault = None }
+score_of_max : IsRun (λ name. Some hotels) (words (codes "90") (codes "1"))
+    (record { events = Fetch (codes "h.csv") ∷ Put (codes "1,90,b,90,1\n") ∷ []; fault = None })
 unfolding hotels words csv_on_literals digits chars is_utf8 encode_utf8 escaped fields_text is_blank
 score_of_max = refl
 
 -- a number above MAX ends the run before any put
-bad_score : run_of (λ name. Some hotels) (words (codes "80") (codes "2"))
-    ≡ record { events = Fetch (codes "h.csv") ∷ []; fault = Some (fault.BadScore (codes "price") 2 (pos 90) 80) }
+bad_score : IsRun (λ name. Some hotels) (words (codes "80") (codes "2"))
+    (record { events = Fetch (codes "h.csv") ∷ []; fault = Some (fault.BadScore (codes "price") 2 (pos 90) 80) })
 unfolding hotels words csv_on_literals digits chars is_utf8 encode_utf8 escaped fields_text is_blank
 bad_score = refl
 
 -- no row is asked for
-no_count : run_of (λ name. Some hotels) (words (codes "100") (codes "0"))
-    ≡ record { events = Fetch (codes "h.csv") ∷ []; fault = None }
+no_count : IsRun (λ name. Some hotels) (words (codes "100") (codes "0"))
+    (record { events = Fetch (codes "h.csv") ∷ []; fault = None })
 unfolding hotels words csv_on_literals digits chars is_utf8 encode_utf8 escaped fields_text is_blank
 no_count = refl
 
 -- the numbers are looked at all the same
-no_count_bad_score : run_of (λ name. Some hotels) (words (codes "80") (codes "0"))
-    ≡ record { events = Fetch (codes "h.csv") ∷ []; fault = Some (fault.BadScore (codes "price") 2 (pos 90) 80) }
+no_count_bad_score : IsRun (λ name. Some hotels) (words (codes "80") (codes "0"))
+    (record { events = Fetch (codes "h.csv") ∷ []; fault = Some (fault.BadScore (codes "price") 2 (pos 90) 80) })
 unfolding hotels words csv_on_literals digits chars is_utf8 encode_utf8 escaped fields_text is_blank
 no_count_bad_score = refl
 
 -- rows of one score stay in the order of the file
-ties : run_of (λ name. Some (codes "n,v\na,1\nb,2\nc,1\nd,2\n")) on_v
-    ≡ record { events = Fetch (codes "f") ∷ Put (codes "1,2,b,2\n") ∷ Put (codes "2,2,d,2\n") ∷ Put (codes "3,1,a,1\n") ∷ []; fault = None }
+ties : IsRun (λ name. Some (codes "n,v\na,1\nb,2\nc,1\nd,2\n")) on_v
+    (record { events = Fetch (codes "f") ∷ Put (codes "1,2,b,2\n") ∷ Put (codes "2,2,d,2\n") ∷ Put (codes "3,1,a,1\n") ∷ []; fault = None })
 unfolding on_v ends_at csv_on_literals digits chars is_utf8 encode_utf8 escaped fields_text is_blank
 ties = refl
 
 -- a header alone is a table without rows
-header_alone : run_of (λ name. Some (codes "n,v\n")) on_v
-    ≡ record { events = Fetch (codes "f") ∷ []; fault = None }
+header_alone : IsRun (λ name. Some (codes "n,v\n")) on_v
+    (record { events = Fetch (codes "f") ∷ []; fault = None })
 unfolding on_v ends_at csv_on_literals digits chars is_utf8 encode_utf8 escaped fields_text is_blank
 header_alone = refl
 
 -- a quoted field is printed as it must be to be read again
-quoted : run_of (λ name. Some (codes "n,v\r\n\"a,\"\"b\"\"\nc\",5\r\n")) on_v
-    ≡ record { events = Fetch (codes "f") ∷ Put (codes "1,5,\"a,\"\"b\"\"\nc\",5\n") ∷ []; fault = None }
+quoted : IsRun (λ name. Some (codes "n,v\r\n\"a,\"\"b\"\"\nc\",5\r\n")) on_v
+    (record { events = Fetch (codes "f") ∷ Put (codes "1,5,\"a,\"\"b\"\"\nc\",5\n") ∷ []; fault = None })
 unfolding on_v ends_at csv_on_literals digits chars is_utf8 encode_utf8 escaped fields_text is_blank
 quoted = refl
 
 -- 0 is a score
-score_of_zero : run_of (λ name. Some (codes "v\n0\n")) on_v
-    ≡ record { events = Fetch (codes "f") ∷ Put (codes "1,0,0\n") ∷ []; fault = None }
+score_of_zero : IsRun (λ name. Some (codes "v\n0\n")) on_v
+    (record { events = Fetch (codes "f") ∷ Put (codes "1,0,0\n") ∷ []; fault = None })
 unfolding on_v ends_at csv_on_literals digits chars is_utf8 encode_utf8 escaped fields_text is_blank
 score_of_zero = refl
 
 -- a number below 0 is no score
-negative : run_of (λ name. Some (codes "v\n5\n-1\n")) on_v
-    ≡ record { events = Fetch (codes "f") ∷ []; fault = Some (fault.BadScore (codes "v") 2 (negsuc 0) 9) }
+negative : IsRun (λ name. Some (codes "v\n5\n-1\n")) on_v
+    (record { events = Fetch (codes "f") ∷ []; fault = Some (fault.BadScore (codes "v") 2 (negsuc 0) 9) })
 unfolding on_v ends_at csv_on_literals digits chars is_utf8 encode_utf8 escaped fields_text is_blank
 negative = refl
 
 -- the first number that is no score is told
-first_bad_score : run_of (λ name. Some (codes "v\n10\n99\n")) on_v
-    ≡ record { events = Fetch (codes "f") ∷ []; fault = Some (fault.BadScore (codes "v") 1 (pos 10) 9) }
+first_bad_score : IsRun (λ name. Some (codes "v\n10\n99\n")) on_v
+    (record { events = Fetch (codes "f") ∷ []; fault = Some (fault.BadScore (codes "v") 1 (pos 10) 9) })
 unfolding on_v ends_at csv_on_literals digits chars is_utf8 encode_utf8 escaped fields_text is_blank
 first_bad_score = refl
 
 -- an empty file has no header
-no_header : run_of (λ name. Some ([])) on_v
-    ≡ ends_at table.NoHeader
+no_header : IsRun (λ name. Some ([])) on_v
+    (ends_at table.NoHeader)
 unfolding on_v ends_at csv_on_literals digits chars is_utf8 encode_utf8 escaped fields_text is_blank
 no_header = refl
 
 -- no column has the name
-no_column : run_of (λ name. Some (codes "w,V\n1,1\n")) on_v
-    ≡ ends_at table.NoColumn
+no_column : IsRun (λ name. Some (codes "w,V\n1,1\n")) on_v
+    (ends_at table.NoColumn)
 unfolding on_v ends_at csv_on_literals digits chars is_utf8 encode_utf8 escaped fields_text is_blank
 no_column = refl
 
 -- the first column of the name is the one of numbers
-first_column : run_of (λ name. Some (codes "v,v\n3,x\n")) on_v
-    ≡ record { events = Fetch (codes "f") ∷ Put (codes "1,3,3,x\n") ∷ []; fault = None }
+first_column : IsRun (λ name. Some (codes "v,v\n3,x\n")) on_v
+    (record { events = Fetch (codes "f") ∷ Put (codes "1,3,3,x\n") ∷ []; fault = None })
 unfolding on_v ends_at csv_on_literals digits chars is_utf8 encode_utf8 escaped fields_text is_blank
 first_column = refl
 
 -- a cell that is no number
-not_int : run_of (λ name. Some (codes "v\nx\n")) on_v
-    ≡ ends_at (table.NotInt 1 1)
+not_int : IsRun (λ name. Some (codes "v\nx\n")) on_v
+    (ends_at (table.NotInt 1 1))
 unfolding on_v ends_at csv_on_literals digits chars is_utf8 encode_utf8 escaped fields_text is_blank
 not_int = refl
 
 -- a row that is no row of the table comes before a number that is no score
-not_int_first : run_of (λ name. Some (codes "v\n99\nx\n")) on_v
-    ≡ ends_at (table.NotInt 2 1)
+not_int_first : IsRun (λ name. Some (codes "v\n99\nx\n")) on_v
+    (ends_at (table.NotInt 2 1))
 unfolding on_v ends_at csv_on_literals digits chars is_utf8 encode_utf8 escaped fields_text is_blank
 not_int_first = refl
 
 -- a row with too few fields
-field_count : run_of (λ name. Some (codes "v,w\n1\n")) on_v
-    ≡ ends_at (table.FieldCount 1 1)
+field_count : IsRun (λ name. Some (codes "v,w\n1\n")) on_v
+    (ends_at (table.FieldCount 1 1))
 unfolding on_v ends_at csv_on_literals digits chars is_utf8 encode_utf8 escaped fields_text is_blank
 field_count = refl
 
 -- a cell that is no text
-not_utf8 : run_of (λ name. Some (codes "v,w\n1," ++ 255 ∷ 10 ∷ [])) on_v
-    ≡ ends_at (table.NotUtf8 1 2)
+not_utf8 : IsRun (λ name. Some (codes "v,w\n1," ++ 255 ∷ 10 ∷ [])) on_v
+    (ends_at (table.NotUtf8 1 2))
 unfolding on_v ends_at csv_on_literals digits chars is_utf8 encode_utf8 escaped fields_text is_blank
 not_utf8 = refl
 
 -- a name that is no text
-name_not_utf8 : run_of (λ name. Some (codes "v," ++ 255 ∷ 10 ∷ [])) on_v
-    ≡ ends_at (table.NotUtf8 0 2)
+name_not_utf8 : IsRun (λ name. Some (codes "v," ++ 255 ∷ 10 ∷ [])) on_v
+    (ends_at (table.NotUtf8 0 2))
 unfolding on_v ends_at csv_on_literals digits chars is_utf8 encode_utf8 escaped fields_text is_blank
 name_not_utf8 = refl
 
 -- the file is not there
-missing : run_of (λ name. None) on_v ≡ record { events = Fetch (codes "f") ∷ []; fault = Some (fault.Read (codes "f") fetch.Missing) }
+missing : IsRun (λ name. None) on_v (record { events = Fetch (codes "f") ∷ []; fault = Some (fault.Read (codes "f") fetch.Missing) })
 unfolding on_v digits
 missing = refl
 
 -- words of another number fetch nothing
-no_words : run_of (λ name. None) [] ≡ record { events = []; fault = Some fault.Usage }
+no_words : IsRun (λ name. None) [] (record { events = []; fault = Some fault.Usage })
 no_words = refl
 
 -- a word too many
@@ -212,6 +218,72 @@ sign = refl
 no_digit : top_words (words (codes "") (codes "1")) ≡ None
 unfolding words digits
 no_digit = refl
+
+-- the form of `top`
+form_of_top : form_of (words (codes "1") (codes "0")) ≡ Top (record { file = codes "h.csv"; column = codes "price"; max = 1; count = 0 })
+unfolding words digits
+form_of_top = refl
+
+-- the form of `plain`
+form_of_plain : form_of (codes "plain" ∷ codes "s.sql" ∷ []) ≡ Plain (codes "s.sql")
+form_of_plain = refl
+
+-- a script may have any name
+form_of_plain_top : form_of (codes "plain" ∷ codes "top" ∷ []) ≡ Plain (codes "top")
+form_of_plain_top = refl
+
+-- words of no form
+form_of_nothing : form_of [] ≡ NoForm
+form_of_nothing = refl
+
+form_of_plain_alone : form_of (codes "plain" ∷ []) ≡ NoForm
+form_of_plain_alone = refl
+
+form_of_two_scripts : form_of (codes "plain" ∷ codes "s.sql" ∷ codes "t.sql" ∷ []) ≡ NoForm
+form_of_two_scripts = refl
+
+form_of_other_case : form_of (codes "Plain" ∷ codes "s.sql" ∷ []) ≡ NoForm
+form_of_other_case = refl
+
+form_of_bad_numbers : form_of (words (codes "0") (codes "1")) ≡ NoForm
+unfolding words digits
+form_of_bad_numbers = refl
+
+-- exactly one byte order mark is removed
+one_mark : without_mark (239 ∷ 187 ∷ 191 ∷ 36 ∷ []) ≡ 36 ∷ []
+one_mark = refl
+
+two_marks : without_mark (239 ∷ 187 ∷ 191 ∷ 239 ∷ 187 ∷ 191 ∷ 36 ∷ []) ≡ 239 ∷ 187 ∷ 191 ∷ 36 ∷ []
+two_marks = refl
+
+a_mark_alone : without_mark (239 ∷ 187 ∷ 191 ∷ []) ≡ []
+a_mark_alone = refl
+
+part_of_a_mark : without_mark (239 ∷ 187 ∷ []) ≡ 239 ∷ 187 ∷ []
+part_of_a_mark = refl
+
+mark_behind_a_byte : without_mark (36 ∷ 239 ∷ 187 ∷ 191 ∷ []) ≡ 36 ∷ 239 ∷ 187 ∷ 191 ∷ []
+mark_behind_a_byte = refl
+
+no_byte : without_mark [] ≡ []
+no_byte = refl
+
+-- the text of a script, and why there is none
+source : source_of (codes "s.sql") (Some (239 ∷ 187 ∷ 191 ∷ codes "SELECT 1")) ≡ Ok (codes "SELECT 1")
+unfolding chars is_utf8 encode_utf8
+source = refl
+
+source_missing : source_of (codes "s.sql") None ≡ Err (fault.Read (codes "s.sql") fetch.Missing)
+source_missing = refl
+
+source_not_utf8 : source_of (codes "s.sql") (Some (codes "SELECT " ++ 255 ∷ [])) ≡ Err (fault.Script (script.NotUtf8 7))
+unfolding chars is_utf8 encode_utf8 utf8_valid_len
+source_not_utf8 = refl
+
+-- places count from behind the mark
+source_not_utf8_behind_mark : source_of (codes "s.sql") (Some (239 ∷ 187 ∷ 191 ∷ 65 ∷ 255 ∷ [])) ≡ Err (fault.Script (script.NotUtf8 1))
+unfolding chars is_utf8 encode_utf8 utf8_valid_len
+source_not_utf8_behind_mark = refl
 
 -- the line of want of memory
 line_of_memory : fault_line fault.Memory ≡ codes "memory\n"
@@ -292,3 +364,51 @@ line_of_no_column = refl
 line_of_too_many_columns : fault_line (fault.Table (codes "h.csv") (table.TooManyColumns 65)) ≡ codes "table: h.csv: TooManyColumns found 65\n"
 unfolding digits
 line_of_too_many_columns = refl
+
+-- the line of a script that is no text
+line_of_script_not_utf8 : fault_line (fault.Script (script.NotUtf8 7)) ≡ codes "script: NotUtf8 at 7\n"
+unfolding digits
+line_of_script_not_utf8 = refl
+
+-- of one that has no tokens
+line_of_bad_byte : fault_line (fault.Script (script.Lex (lex.BadByte 0))) ≡ codes "script: lex BadByte at 0\n"
+unfolding digits
+line_of_bad_byte = refl
+
+line_of_open_text : fault_line (fault.Script (script.Lex (lex.OpenText 7))) ≡ codes "script: lex OpenText at 7\n"
+unfolding digits
+line_of_open_text = refl
+
+line_of_number_too_wide : fault_line (fault.Script (script.Lex (lex.NumberTooWide 1048557))) ≡ codes "script: lex NumberTooWide at 1048557\n"
+unfolding digits
+line_of_number_too_wide = refl
+
+line_of_too_many_tokens : fault_line (fault.Script (script.Lex (lex.TooManyTokens 100000))) ≡ codes "script: lex TooManyTokens at 100000\n"
+unfolding digits
+line_of_too_many_tokens = refl
+
+-- of one whose tokens are no statements
+line_of_expected : fault_line (fault.Script (script.Parse (syntax.Expected 12))) ≡ codes "script: parse Expected at 12\n"
+unfolding digits
+line_of_expected = refl
+
+line_of_too_deep : fault_line (fault.Script (script.Parse (syntax.TooDeep 292))) ≡ codes "script: parse TooDeep at 292\n"
+unfolding digits
+line_of_too_deep = refl
+
+line_of_too_many_statements : fault_line (fault.Script (script.Parse (syntax.TooManyStatements 8000))) ≡ codes "script: parse TooManyStatements at 8000\n"
+unfolding digits
+line_of_too_many_statements = refl
+
+line_of_not_in_profile : fault_line (fault.Script (script.Parse (syntax.NotInProfile 34))) ≡ codes "script: parse NotInProfile at 34\n"
+unfolding digits
+line_of_not_in_profile = refl
+
+-- of a statement that isn't there yet
+line_of_not_built : fault_line (fault.Script (script.NotBuilt 1)) ≡ codes "script: not built statement 1\n"
+unfolding digits
+line_of_not_built = refl
+
+-- the status of each
+status_of_script : status_of (Some (fault.Script (script.NotBuilt 1))) ≡ status.Script
+status_of_script = refl

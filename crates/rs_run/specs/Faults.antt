@@ -5,10 +5,16 @@ use Rattle.rs_outside.specs.declared.files.FetchFault.{FetchFault}
 use Rattle.rs_outside.specs.declared.files.FetchFault.TheVariants as fetch
 use Rattle.rs_table.specs.declared.fault.TableFault.{TableFault}
 use Rattle.rs_table.specs.declared.fault.TableFault.TheVariants as table
+use Rattle.rs_lex.specs.declared.fault.LexFault.{LexFault}
+use Rattle.rs_lex.specs.declared.fault.LexFault.TheVariants as lex
+use Rattle.rs_syntax.specs.declared.fault.SyntaxFault.{SyntaxFault}
+use Rattle.rs_syntax.specs.declared.fault.SyntaxFault.TheVariants as syntax
 use Rattle.rs_run.specs.declared.status.Status.{Status}
 use Rattle.rs_run.specs.declared.status.Status.TheVariants as status
 use Rattle.rs_run.specs.declared.fault.Fault.{Fault}
 use Rattle.rs_run.specs.declared.fault.Fault.TheVariants as fault
+use Rattle.rs_run.specs.declared.script_fault.ScriptFault.{ScriptFault}
+use Rattle.rs_run.specs.declared.script_fault.ScriptFault.TheVariants as script
 
 -- the status of a run that ends with this fault, or with none
 abbrev pub status_of : Option Fault → Status
@@ -19,6 +25,22 @@ status_of (Some (fault.Read name why)) = status.Read
 status_of (Some fault.Write) = status.Write
 status_of (Some (fault.Table name why)) = status.Table
 status_of (Some (fault.BadScore predicate row got max)) = status.BadScore
+status_of (Some (fault.Script why)) = status.Script
+
+-- the fault of a run whose script the lexer refuses, or the parser
+abbrev pub lex_fault : LexFault → Fault
+lex_fault lex.Memory = fault.Memory
+lex_fault (lex.BadByte at) = fault.Script (script.Lex (lex.BadByte at))
+lex_fault (lex.OpenText at) = fault.Script (script.Lex (lex.OpenText at))
+lex_fault (lex.NumberTooWide at) = fault.Script (script.Lex (lex.NumberTooWide at))
+lex_fault (lex.TooManyTokens at) = fault.Script (script.Lex (lex.TooManyTokens at))
+
+abbrev pub parse_fault : SyntaxFault → Fault
+parse_fault syntax.Memory = fault.Memory
+parse_fault (syntax.Expected at) = fault.Script (script.Parse (syntax.Expected at))
+parse_fault (syntax.TooDeep at) = fault.Script (script.Parse (syntax.TooDeep at))
+parse_fault (syntax.TooManyStatements at) = fault.Script (script.Parse (syntax.TooManyStatements at))
+parse_fault (syntax.NotInProfile at) = fault.Script (script.Parse (syntax.NotInProfile at))
 
 -- why a file was not read
 abbrev pub fetch_text : FetchFault → List ℕ
@@ -39,6 +61,29 @@ table_text table.Memory = codes "memory"
 table_text table.NoColumn = codes "NoColumn"
 table_text (table.TooManyColumns found) = codes "TooManyColumns found " ++ decimal found
 
+-- why a script has no tokens
+abbrev pub lex_text : LexFault → List ℕ
+lex_text (lex.BadByte at) = codes "BadByte at " ++ decimal at
+lex_text (lex.OpenText at) = codes "OpenText at " ++ decimal at
+lex_text (lex.NumberTooWide at) = codes "NumberTooWide at " ++ decimal at
+lex_text (lex.TooManyTokens at) = codes "TooManyTokens at " ++ decimal at
+lex_text lex.Memory = codes "memory"
+
+-- why tokens are no statements
+abbrev pub parse_text : SyntaxFault → List ℕ
+parse_text (syntax.Expected at) = codes "Expected at " ++ decimal at
+parse_text (syntax.TooDeep at) = codes "TooDeep at " ++ decimal at
+parse_text (syntax.TooManyStatements at) = codes "TooManyStatements at " ++ decimal at
+parse_text (syntax.NotInProfile at) = codes "NotInProfile at " ++ decimal at
+parse_text syntax.Memory = codes "memory"
+
+-- why a script ends
+abbrev pub script_text : ScriptFault → List ℕ
+script_text (script.NotUtf8 at) = codes "NotUtf8 at " ++ decimal at
+script_text (script.Lex why) = codes "lex " ++ lex_text why
+script_text (script.Parse why) = codes "parse " ++ parse_text why
+script_text (script.NotBuilt statement) = codes "not built statement " ++ decimal statement
+
 -- what a fault's line says
 abbrev pub fault_text : Fault → List ℕ
 fault_text fault.Memory = codes "memory"
@@ -48,6 +93,7 @@ fault_text fault.Write = codes "write"
 fault_text (fault.Table name why) = codes "table: " ++ name ++ codes ": " ++ table_text why
 fault_text (fault.BadScore predicate row got max) =
     codes "score: " ++ predicate ++ codes " rows " ++ decimal row ++ codes ": " ++ signed_decimal got ++ codes " is not in 0.." ++ decimal max
+fault_text (fault.Script why) = codes "script: " ++ script_text why
 
 -- the line of a fault
 abbrev pub fault_line : Fault → List ℕ

@@ -9,7 +9,8 @@ use Rattle.rs_run.specs.declared.status.Status.TheVariants as status
 use Rattle.rs_run.specs.declared.fault.Fault.{Fault}
 use Rattle.rs_run.specs.declared.fault.Fault.TheVariants.{Memory, Write, Read}
 use Rattle.rs_run.specs.Faults.{status_of, fault_line}
-use Rattle.rs_run.specs.Run.{Event, Fetch, Put, Run, fetches, puts}
+use Rattle.rs_run.specs.Words.{form_of}
+use Rattle.rs_run.specs.Run.{Event, Fetch, IsCut, IsRun, Put, Run, fetches, puts}
 
 -- an object of the outside before and after a call: what it tells, and its count of faults
 pub record Seen (T : Type 0) : Type 0 where
@@ -115,6 +116,10 @@ pub record Ran (run : Run) (result : Result (Unit {0}) Fault) (files : Seen File
 abbrev pub ForFiles : Option FilesTold → ((List ℕ → Option (List ℕ)) → Type 0) → Type 0
 ForFiles (Some told) P = P (λ name. file_named name told.folder)
 ForFiles None P = (there : List ℕ → Option (List ℕ)) × P there
+
+-- a fact of the run of these words over such files; where there was no memory to tell what a script gives, of its run up to there
+abbrev pub ForRun : Option FilesTold → List (List ℕ) → (Run → Type 0) → Type 0
+ForRun told words P = ForFiles told (λ there. (run : Run) × (IsRun there words run ⊎ IsCut (form_of words) run) × P run)
 
 -- every status has its cause: it is the definition's, or there was no memory, or a put failed, or a fetch
 abbrev pub HasCause : Run → Status → Seen FilesTold → Seen (List (List ℕ)) → Type 0 → Type 0 → Type 0

@@ -1,4 +1,4 @@
--- What the parts of `top` do.
+-- What the parts of `top` and `plain` do.
 use Rattle.std.specs.Prelude.{ℕ, ◌≡◌, ◌⊎◌, ◌≤◌, ◌-◌, ◌+◌, List, [], ◌∷◌, ◌++◌, length, Option, IfSome, unwrap_or, option_map, slice_get, Result, Ok, Err}
 use Rattle.std.specs.List.{AllByRecursion}
 use Rattle.std.specs.Prelude.{map}
@@ -14,8 +14,9 @@ use Rattle.rs_run.specs.declared.fault.Fault.TheVariants.{Memory, Write, Read}
 use Rattle.rs_run.specs.declared.ranked_row.RankedRow.{RankedRow}
 use Rattle.rs_run.specs.Outcome.{Seen, Faulted, fetched_more}
 use Rattle.rs_run.specs.Top.{top_table, score_at, scored_from}
+use Rattle.rs_run.specs.Plain.{ScriptGives, source_of}
 
--- fetching a table: there was no memory for the fetch
+-- there was no memory for a fetch
 pub record NotFetched {A : Type 0} (result : Result A Fault) (files : Seen FilesTold) : Type 0 where
   pub same : files.after ≡ files.before
   pub memory : result ≡ Err Memory
@@ -26,16 +27,33 @@ pub record FetchFails {A : Type 0} (file : List ℕ) (result : Result A Fault) (
   pub faulted : Faulted files steady
   pub answers : (result ≡ Err (Read file Failed)) ⊎ (result ≡ Err Memory)
 
--- the file was fetched, or isn't there, and this is what it gives
-pub record Fetched {A : Type 0} (file : List ℕ) (gives : Result A Fault) (result : Result A Fault) (files : Seen FilesTold) : Type 0 where
+-- the file was fetched, or isn't there, and the result is one that it gives
+pub record Fetched {A : Type 0} (file : List ℕ) (gives : Result A Fault → Type 0) (result : Result A Fault) (files : Seen FilesTold) : Type 0 where
   pub fetched : files.after ≡ option_map (fetched_more (file ∷ [])) files.before
-  pub answers : (result ≡ gives) ⊎ (result ≡ Err Memory)
+  pub answers : gives result ⊎ (result ≡ Err Memory)
 
--- a table of what is there under this name
-pub record FetchesTable (file column : List ℕ) (result : Result Relation Fault) (files : Seen FilesTold) (steady : Type 0) : Type 0 where
+-- what a call did that fetches a file: the bytes that are there under this name, or that there are none, give its result
+pub record FetchesFile {A : Type 0} (file : List ℕ) (result : Result A Fault) (gives : Option (List ℕ) → Result A Fault → Type 0) (files : Seen FilesTold) (steady : Type 0) : Type 0 where
   pub there : Option (List ℕ)
   pub is_told : IfSome files.before (λ told. file_named file told.folder ≡ there)
-  pub does : (NotFetched result files ⊎ FetchFails file result files steady) ⊎ Fetched file (top_table file column there) result files
+  pub does : (NotFetched result files ⊎ FetchFails file result files steady) ⊎ Fetched file (gives there) result files
+
+-- the table of the file
+abbrev pub IsTopTable : List ℕ → List ℕ → Option (List ℕ) → Result Relation Fault → Type 0
+IsTopTable file column there result = result ≡ top_table file column there
+
+-- the text of the script in the file
+abbrev pub IsSource : List ℕ → Option (List ℕ) → Result (List ℕ) Fault → Type 0
+IsSource file there result = result ≡ source_of file there
+
+-- what a call gives that puts no line
+abbrev pub no_lines : Result (Unit {0}) Fault → Result (List (List ℕ)) Fault
+no_lines (Ok done) = Ok []
+no_lines (Err fault) = Err fault
+
+-- what the script in the file gives
+abbrev pub IsPlain : List ℕ → Option (List ℕ) → Result (Unit {0}) Fault → Type 0
+IsPlain file there result = ScriptGives file there (no_lines result)
 
 -- the values of a row of this number
 abbrev pub row_in : Relation → ℕ → List Value

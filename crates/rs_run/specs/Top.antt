@@ -1,8 +1,7 @@
 -- The word `top`: the first rows of a table by the number in a column.
-use Rattle.std.specs.Prelude.{ℕ, ℤ, pos, negsuc, ◌+◌, nat_le, Bool, false, List, [], ◌∷◌, length, take, Option, Some, None, unwrap_or, option_map, slice_get, Result, Ok, Err, if◌then◌else◌}
+use Rattle.std.specs.Prelude.{ℕ, ℤ, pos, negsuc, ◌+◌, nat_le, Bool, false, List, [], ◌∷◌, take, Option, Some, None, unwrap_or, option_map, slice_get, Result, Ok, Err, if◌then◌else◌}
 use Rattle.rs_value.specs.declared.value.Value.{Value}
 use Rattle.rs_value.specs.declared.value.Value.TheVariants.{Int, Text}
-use Rattle.rs_outside.specs.declared.files.FetchFault.TheVariants.{Missing, TooLong}
 use Rattle.rs_table.specs.declared.fault.TableFault.{TableFault}
 use Rattle.rs_table.specs.Column.{place_of}
 use Rattle.rs_table.specs.Relation.{Relation}
@@ -10,17 +9,13 @@ use Rattle.rs_table.specs.Reading.{◌>>=◌, header_of, table_of}
 use Rattle.rs_rank.specs.Stable.{stable}
 use Rattle.rs_lines.specs.Row.{line_of}
 use Rattle.rs_run.specs.declared.fault.Fault.{Fault}
-use Rattle.rs_run.specs.declared.fault.Fault.TheVariants.{Read, Table, BadScore}
+use Rattle.rs_run.specs.declared.fault.Fault.TheVariants.{Table, BadScore}
 use Rattle.rs_run.specs.Words.{TopWords}
+use Rattle.rs_run.specs.Content.{content_of}
 
 -- the most bytes of a table's file
 abbrev pub table_limit : ℕ
 table_limit = 33554432
-
--- the bytes of a file, or why it is not read
-abbrev pub content_of : ℕ → List ℕ → Option (List ℕ) → Result (List ℕ) Fault
-content_of limit name None = Err (Read name Missing)
-content_of limit name (Some bytes) = if nat_le (length bytes) limit then Ok bytes else Err (Read name TooLong)
 
 -- a fault of this file's table ends the run
 abbrev pub or_table_fault : {A : Type 0} → List ℕ → Result A TableFault → Result A Fault

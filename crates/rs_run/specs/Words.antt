@@ -28,3 +28,22 @@ abbrev pub top_words : List (List ℕ) → Option TopWords
 top_words (word ∷ file ∷ column ∷ max ∷ count ∷ []) =
     if bytes_eq word (codes "top") then with_numbers file column (number_word 1 4294967295 max) (number_word 0 1000000 count) else None
 top_words _ = None
+
+-- the script of the words of the form `plain SCRIPT`
+abbrev pub plain_words : List (List ℕ) → Option (List ℕ)
+plain_words (word ∷ script ∷ []) = if bytes_eq word (codes "plain") then Some script else None
+plain_words _ = None
+
+-- what words ask for: the first rows of a table, the statements of a script, or nothing that is there
+pub data Form : Type 0 where
+  Top : TopWords → Form
+  Plain : List ℕ → Form
+  NoForm : Form
+
+-- the form of words
+abbrev pub form_of : List (List ℕ) → Form
+form_of words = of (top_words words) (plain_words words) where
+  of : Option TopWords → Option (List ℕ) → Form
+  of (Some top) script = Top top
+  of None (Some script) = Plain script
+  of None None = NoForm

@@ -1,13 +1,13 @@
-ghost use Rattle.std.specs.Prelude.{◌≡◌, ◌⊎◌, Some, None};
-ghost use Rattle.rs_run.specs.Outcome.{EndsOrNoMemory, Faulted, ForFiles, HasCause, Outcome, Ran, seen};
-ghost use Rattle.rs_run.specs.Run.{run_of};
-ghost use Rattle.rs_run.specs.Words.{top_words};
+ghost use Rattle.std.specs.Prelude.{◌≡◌, ◌⊎◌};
+ghost use Rattle.rs_run.specs.Outcome.{EndsOrNoMemory, Faulted, ForRun, HasCause, Outcome, Ran, seen};
+ghost use Rattle.rs_run.specs.Words.{NoForm, form_of};
 
 use crate::fault::Fault;
+use crate::plain::plain;
 use crate::report::report;
 use crate::status::Status;
 use crate::top::top;
-use crate::words::top_command;
+use crate::words::{Command, command_of};
 use rs_outside::{Files, Sink};
 use rs_value::Text;
 use std::alloc::Global;
@@ -22,28 +22,28 @@ pub fn run<F: Files, O: Sink, E: Sink>(
     err: &mut E,
 ) -> Status
     // The events of the run are done up to a halt, which has its cause, and the status and the line are the halt's.
-    ensures run { ForFiles (F.told files.old) (λ there. Outcome (run_of there words.now) result
+    ensures run { ForRun (F.told files.old) words.now (λ run. Outcome run result
         (seen (F.told files.old) (F.told files.new) (F.faults files.old) (F.faults files.new))
         (seen (O.pieces out.old) (O.pieces out.new) (O.faults out.old) (O.faults out.new))
         (seen (E.pieces err.old) (E.pieces err.new) (E.faults err.old) (E.faults err.new))
         (F.steady files.old) (O.steady out.old) (E.steady err.old)) }
 
     // Each status has its cause: the definition of the run, want of memory, or a put or a fetch that failed.
-    ensures causes { ForFiles (F.told files.old) (λ there. HasCause (run_of there words.now) result
+    ensures causes { ForRun (F.told files.old) words.now (λ run. HasCause run result
         (seen (F.told files.old) (F.told files.new) (F.faults files.old) (F.faults files.new))
         (seen (O.pieces out.old) (O.pieces out.new) (O.faults out.old) (O.faults out.new))
         (F.steady files.old) (O.steady out.old)) }
 
     // Usage comes exactly where the words are of no form, and Write only where a put on standard output failed.
-    ensures usage { result ≡ Status.Usage → top_words words.now ≡ None }
-    ensures no_form { top_words words.now ≡ None → (result ≡ Status.Usage) ⊎ (result ≡ Status.Memory) }
+    ensures usage { result ≡ Status.Usage → form_of words.now ≡ NoForm }
+    ensures no_form { form_of words.now ≡ NoForm → (result ≡ Status.Usage) ⊎ (result ≡ Status.Memory) }
     ensures write { result ≡ Status.Write → Faulted
         (seen (O.pieces out.old) (O.pieces out.new) (O.faults out.old) (O.faults out.new)) (O.steady out.old) }
 
     // Where no fetch and no put on standard output failed, the run ends as its definition says, after all its events.
     ensures complete { (Faulted (seen (F.told files.old) (F.told files.new) (F.faults files.old) (F.faults files.new)) (F.steady files.old) → ⊥)
         → (Faulted (seen (O.pieces out.old) (O.pieces out.new) (O.faults out.old) (O.faults out.new)) (O.steady out.old) → ⊥)
-        → ForFiles (F.told files.old) (λ there. EndsOrNoMemory (run_of there words.now) result
+        → ForRun (F.told files.old) words.now (λ run. EndsOrNoMemory run result
         (seen (F.told files.old) (F.told files.new) (F.faults files.old) (F.faults files.new))
         (seen (O.pieces out.old) (O.pieces out.new) (O.faults out.old) (O.faults out.new))) }
 {
@@ -60,21 +60,22 @@ fn answer<F: Files, O: Sink>(
     files: &mut F,
     out: &mut O,
 ) -> Result<(), Fault>
-    ensures { ForFiles (F.told files.old) (λ there. Ran (run_of there words.now) result
+    ensures { ForRun (F.told files.old) words.now (λ run. Ran run result
         (seen (F.told files.old) (F.told files.new) (F.faults files.old) (F.faults files.new))
         (seen (O.pieces out.old) (O.pieces out.new) (O.faults out.old) (O.faults out.new))
         (F.steady files.old) (O.steady out.old)) }
 {
-    match top_command(words) {
-        Some(command) => top(
+    match command_of(words) {
+        Some(Command::Top(top_words)) => top(
             alloc,
-            command.file,
-            command.column,
-            command.max,
-            command.count,
+            top_words.file,
+            top_words.column,
+            top_words.max,
+            top_words.count,
             files,
             out,
         ),
+        Some(Command::Plain(script)) => plain(alloc, script, files),
         None => Err(Fault::Usage),
     }
 }

@@ -2,8 +2,11 @@ ghost use Rattle.std.specs.Prelude.{◌≡◌, Some, IfOk};
 ghost use Rattle.std.specs.String.{string_bytes};
 ghost use Rattle.rs_run.specs.Faults.{fault_line, fetch_text, status_of, table_text};
 
+use crate::script_fault::ScriptFault;
 use crate::status::Status;
+use rs_lex::LexFault;
 use rs_outside::FetchFault;
+use rs_syntax::SyntaxFault;
 use rs_table::TableFault;
 use rs_value::{Memory, Text};
 use std::alloc::{AllocFailed, Global};
@@ -36,6 +39,8 @@ pub enum Fault {
         got: i128,
         max: u32,
     },
+    /// The script has a fault.
+    Script(ScriptFault),
 }
 
 impl From<Memory> for Fault {
@@ -58,6 +63,32 @@ impl<T: Drop> From<AllocFailed<T>> for Fault {
     }
 }
 
+impl From<LexFault> for Fault {
+    ghost use Rattle.rs_run.specs.Faults.{lex_fault};
+
+    ghost from_gives = { λ why f. f ≡ lex_fault why };
+
+    fn from(why: LexFault) -> Fault {
+        match why {
+            LexFault::Memory => Fault::Memory,
+            why => Fault::Script(ScriptFault::Lex(why)),
+        }
+    }
+}
+
+impl From<SyntaxFault> for Fault {
+    ghost use Rattle.rs_run.specs.Faults.{parse_fault};
+
+    ghost from_gives = { λ why f. f ≡ parse_fault why };
+
+    fn from(why: SyntaxFault) -> Fault {
+        match why {
+            SyntaxFault::Memory => Fault::Memory,
+            why => Fault::Script(ScriptFault::Parse(why)),
+        }
+    }
+}
+
 impl Fault {
     /// The status of a run that ends with this fault.
     pub fn status(&self) -> Status
@@ -70,6 +101,7 @@ impl Fault {
             Fault::Write => Status::Write,
             Fault::Table { .. } => Status::Table,
             Fault::BadScore { .. } => Status::BadScore,
+            Fault::Script(_) => Status::Script,
         }
     }
 
@@ -92,6 +124,7 @@ impl Fault {
                 let predicate = predicate.as_str();
                 Ok(format!(in alloc; "score: {predicate} rows {row}: {got} is not in 0..{max}\n")?)
             }
+            Fault::Script(why) => script_line(alloc, why),
         }
     }
 }
@@ -124,6 +157,15 @@ fn table_line(alloc: Global, name: &Text, why: &TableFault) -> Result<String, Me
     let name = name.as_str();
     let why = why.as_str();
     Ok(format!(in alloc; "table: {name}: {why}\n")?)
+}
+
+/// The line of a script that ends early.
+fn script_line(alloc: Global, why: &ScriptFault) -> Result<String, Memory>
+    ensures { IfOk result (λ line. string_bytes line ≡ fault_line (Fault.Script why.now)) }
+{
+    let why = why.text(alloc)?;
+    let why = why.as_str();
+    Ok(format!(in alloc; "script: {why}\n")?)
 }
 
 fn table_text(alloc: Global, why: &TableFault) -> Result<String, Memory>

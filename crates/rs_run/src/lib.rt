@@ -3,8 +3,12 @@
 
 mod command;
 mod fault;
+mod fetch;
+mod laws;
+mod plain;
 mod ranked_row;
 mod report;
+mod script_fault;
 mod status;
 #[cfg(test)]
 mod tests;
@@ -13,4 +17,6 @@ mod words;
 
 pub use command::run;
 pub use fault::Fault;
+pub use laws::one_run;
+pub use script_fault::ScriptFault;
 pub use status::Status;

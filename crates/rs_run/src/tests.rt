@@ -1,6 +1,6 @@
 //! What no clause says: that runs succeed, and what they print.
 
-use crate::{Status, run};
+use crate::{Status, one_run, run};
 use rs_outside::{MemFiles, MemSink};
 use rs_value::{Memory, Text};
 use std::alloc::Global;
@@ -70,7 +70,7 @@ struct Case {
     err: &'static str,
 }
 
-const CASES: [Case; 22] = [
+const CASES: [Case; 24] = [
     Case {
         words: &["top", "h.csv", "price", "100", "2"],
         file: b"",
@@ -135,6 +135,20 @@ const CASES: [Case; 22] = [
     },
     Case {
         words: &["top", "", "price", "100", "2"],
+        file: b"",
+        status: Status::Read,
+        out: "",
+        err: "read: : missing\n",
+    },
+    Case {
+        words: &["plain", "nope.sql"],
+        file: b"",
+        status: Status::Read,
+        out: "",
+        err: "read: nope.sql: missing\n",
+    },
+    Case {
+        words: &["plain", ""],
         file: b"",
         status: Status::Read,
         out: "",
@@ -251,7 +265,7 @@ fn runs_as_worked_by_hand(rt: HostRuntime) -> Result<(), Fail> {
 
 #[test]
 fn refuses_words_of_no_form(rt: HostRuntime) -> Result<(), Fail> {
-    let refused: [&[&str]; 23] = [
+    let refused: [&[&str]; 28] = [
         &[],
         &["--help"],
         &["top"],
@@ -275,6 +289,11 @@ fn refuses_words_of_no_form(rt: HostRuntime) -> Result<(), Fail> {
         &["top", "h.csv", "price", "100", "+1"],
         &["top", "h.csv", "price", "100", "2x"],
         &["top", "h.csv", "price", "100", ""],
+        &["plain"],
+        &["plain", "h.csv", "h.csv"],
+        &["PLAIN", "h.csv"],
+        &["plain ", "h.csv"],
+        &["", "h.csv"],
     ];
     for words in refused {
         let mut outside = Outside::with_file(rt.alloc(), Vec::new(rt.alloc()))?;
@@ -444,6 +463,143 @@ fn reads_as_many_bytes_as_a_file_may_have(rt: HostRuntime) -> Result<(), Fail> {
         outside.holds(&rt, &words, "", err);
     }
     Ok(())
+}
+
+/// Pieces of a script, each so many times.
+type Pieces = &'static [(&'static [u8], usize)];
+
+/// What `plain s.sql` must answer and put, for each script.
+const SCRIPTS: [(Pieces, Status, &str); 21] = [
+    (&[], Status::Done, ""),
+    (&[(b"-- only this", 1)], Status::Done, ""),
+    (&[(b"\xEF\xBB\xBF", 1)], Status::Done, ""),
+    (&[(b" ", 1_048_576)], Status::Done, ""),
+    (
+        &[(b" ", 1_048_577)],
+        Status::Read,
+        "read: s.sql: too long\n",
+    ),
+    (
+        &[(b"SELECT \xFF", 1)],
+        Status::Script,
+        "script: NotUtf8 at 7\n",
+    ),
+    (
+        &[(b"\xEF\xBB\xBF$\xFF", 1)],
+        Status::Script,
+        "script: NotUtf8 at 1\n",
+    ),
+    (
+        &[(b"\xEF\xBB\xBF$", 1)],
+        Status::Script,
+        "script: lex BadByte at 0\n",
+    ),
+    (
+        &[(b"\xEF\xBB\xBF", 2)],
+        Status::Script,
+        "script: lex BadByte at 0\n",
+    ),
+    (
+        &[(b"SELECT 'a", 1)],
+        Status::Script,
+        "script: lex OpenText at 7\n",
+    ),
+    (
+        &[(b"4000000000000000001", 1)],
+        Status::Script,
+        "script: lex NumberTooWide at 0\n",
+    ),
+    (
+        &[(b";", 100_001)],
+        Status::Script,
+        "script: lex TooManyTokens at 100000\n",
+    ),
+    (
+        &[(b"SELECT SELECT; $", 1)],
+        Status::Script,
+        "script: lex BadByte at 15\n",
+    ),
+    (
+        &[(b"SELECT", 1)],
+        Status::Script,
+        "script: parse Expected at 6\n",
+    ),
+    (
+        &[(b"CLOSE a; SELECT", 1)],
+        Status::Script,
+        "script: parse Expected at 15\n",
+    ),
+    (
+        &[(b"SELECT * FROM h ORDER BY p(price) ASC;", 1)],
+        Status::Script,
+        "script: parse NotInProfile at 34\n",
+    ),
+    (
+        &[(b"CLOSE a;", 1_001)],
+        Status::Script,
+        "script: parse TooManyStatements at 8000\n",
+    ),
+    (
+        &[
+            (b"CREATE PREDICATE p (v INT) MAX 10 AS ", 1),
+            (b"(", 256),
+            (b"v", 1),
+            (b")", 256),
+            (b";", 1),
+        ],
+        Status::Script,
+        "script: parse TooDeep at 292\n",
+    ),
+    (
+        &[
+            (b"CREATE PREDICATE p (v INT) MAX 10 AS ", 1),
+            (b"(", 255),
+            (b"v", 1),
+            (b")", 255),
+            (b";", 1),
+        ],
+        Status::Script,
+        "script: not built statement 1\n",
+    ),
+    (
+        &[(b"CLOSE a;", 1)],
+        Status::Script,
+        "script: not built statement 1\n",
+    ),
+    (
+        &[(b"CLOSE a;", 1_000)],
+        Status::Script,
+        "script: not built statement 1\n",
+    ),
+];
+
+#[test]
+fn runs_a_script_up_to_its_first_fault(rt: HostRuntime) -> Result<(), Fail> {
+    for (pieces, status, err) in SCRIPTS {
+        let mut script = Vec::new(rt.alloc());
+        for (piece, count) in pieces {
+            for _ in 0..*count {
+                script.extend_from_slice(piece)?;
+            }
+        }
+        let mut outside = Outside::with_file(rt.alloc(), Vec::new(rt.alloc()))?;
+        outside.files.add(text(rt.alloc(), "s.sql")?, script)?;
+        // Only the script is fetched, and nothing is put.
+        outside.files.fail_at(2)?;
+        outside.out.fail_at(1, 0)?;
+        assert_eq!(rt;
+            outside.run(rt.alloc(), &["plain", "s.sql"])?,
+            status,
+            "at {pieces:?}"
+        );
+        outside.holds(&rt, &["plain", "s.sql"], "", err);
+    }
+    Ok(())
+}
+
+#[test]
+fn law_holds_of_runs() {
+    one_run();
 }
 
 /// Made for a process in which one allocation fails: a run that lacks memory puts whole lines and then tells so.

@@ -8,12 +8,13 @@ ghost use Rattle.rs_lines.specs.Row.{line_of};
 ghost use Rattle.rs_run.specs.Outcome.{ForFiles, Ran, seen};
 ghost use Rattle.rs_run.specs.Run.{fetch_then};
 ghost use Rattle.rs_run.specs.Top.{is_score, named_table, number_at, score_of, scored_from, top_lines};
-ghost use Rattle.rs_run.specs.Steps.{FetchesTable, IsRanked, IsRow, PutsLines, Ranks, lines_of, row_in};
+ghost use Rattle.rs_run.specs.Steps.{FetchesFile, IsRanked, IsRow, IsTopTable, PutsLines, Ranks, lines_of, row_in};
 
 use crate::fault::Fault;
+use crate::fetch::fetch_file;
 use crate::ranked_row::RankedRow;
 use rs_lines::row_line;
-use rs_outside::{FetchFault, Files, Sink, SinkFault};
+use rs_outside::{Files, Sink, SinkFault};
 use rs_rank::sort_stably;
 use rs_table::{Schema, TABLE_LIMIT, Table, TableFault};
 use rs_value::{Text, Value};
@@ -54,32 +55,18 @@ fn fetch_table<F: Files>(
     column: &Text,
     files: &mut F,
 ) -> Result<Table, Fault>
-    ensures fetches { FetchesTable file.now column.now result
+    ensures fetches { FetchesFile file.now result (IsTopTable file.now column.now)
         (seen (F.told files.old) (F.told files.new) (F.faults files.old) (F.faults files.new))
         (F.steady files.old) }
     ensures number_column { IfOk result (λ table. HasNumberColumn column.now table.schema) }
 {
-    let mut bytes = Vec::new(alloc);
-    if let Err(why) = files.fetch(file, TABLE_LIMIT, &mut bytes) {
-        return Err(read_fault(file, why));
-    }
+    let bytes = match fetch_file(alloc, file, TABLE_LIMIT, files) {
+        Ok(bytes) => bytes,
+        Err(fault) => return Err(fault),
+    };
     match read_table(alloc, column, &bytes) {
         Ok(table) => Ok(table),
         Err(why) => Err(table_fault(file, why)),
-    }
-}
-
-/// The fault of a file that was not fetched.
-fn read_fault(file: &Text, why: FetchFault) -> Fault
-    ensures tells { (result ≡ Fault.Read file.now why) ⊎ (result ≡ Fault.Memory) }
-    ensures memory { why ≡ FetchFault.Memory → result ≡ Fault.Memory }
-{
-    if why == FetchFault::Memory {
-        return Fault::Memory;
-    }
-    match file.copy() {
-        Ok(name) => Fault::Read { name, why },
-        Err(_) => Fault::Memory,
     }
 }
 

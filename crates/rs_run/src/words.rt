@@ -1,6 +1,6 @@
 ghost use Rattle.std.specs.Prelude.{◌≡◌, Option, option_map};
-ghost use Rattle.rs_run.specs.Words.{number_word, top_words};
-ghost use Rattle.rs_run.specs.Command.{words_of};
+ghost use Rattle.rs_run.specs.Words.{form_of, number_word, plain_words, top_words};
+ghost use Rattle.rs_run.specs.Command.{form_of_command, words_of};
 
 use rs_value::{Text, decimal_of};
 
@@ -19,9 +19,27 @@ pub struct TopCommand<'a> {
     pub count: u32,
 }
 
-/// What the words of a command line ask for, without the program's name, where they are of the form
-/// `top FILE COLUMN MAX K`.
-pub fn top_command(words: &[Text]) -> Option<TopCommand<'_>>
+/// What the words of a command line ask for.
+#[derive(Clone, Copy)]
+pub enum Command<'a> {
+    Top(TopCommand<'a>),
+    /// The script of this name.
+    Plain(&'a Text),
+}
+
+/// What the words of a command line ask for, without the program's name, where they are of a form.
+pub fn command_of(words: &[Text]) -> Option<Command<'_>>
+    ensures { form_of_command result ≡ form_of words.now }
+{
+    if let Some(top) = top_command(words) {
+        return Some(Command::Top(top));
+    }
+    let script = plain_script(words)?;
+    Some(Command::Plain(script))
+}
+
+/// The words of the form `top FILE COLUMN MAX K`.
+fn top_command(words: &[Text]) -> Option<TopCommand<'_>>
     ensures { option_map words_of result ≡ top_words words.now }
 {
     let [word, file, column, max, count] = words else {
@@ -38,6 +56,19 @@ pub fn top_command(words: &[Text]) -> Option<TopCommand<'_>>
         max: max as u32,
         count: count as u32,
     })
+}
+
+/// The script of the words of the form `plain SCRIPT`.
+fn plain_script(words: &[Text]) -> Option<&Text>
+    ensures { option_map (λ script. script.now) result ≡ plain_words words.now }
+{
+    let [word, script] = words else {
+        return None;
+    };
+    if word.as_str() != "plain" {
+        return None;
+    }
+    Some(script)
 }
 
 /// A number of the command line: 1 to 20 decimal digits, that write a number from `least` to `most`.

@@ -4,7 +4,11 @@ pub mod Spans
 pub mod Chains
 pub mod Lists
 pub mod Results
+pub mod Blocks
+pub mod Cycle
+pub mod Scripting
 pub mod Cutting
 pub mod Numbers
 pub mod ScriptFacts
+pub mod SpanFacts
 mod WorkedScripts

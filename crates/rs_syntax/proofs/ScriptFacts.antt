@@ -13,6 +13,7 @@ use Rattle.rs_grammar.specs.Reading.{State, Read, Fails}
 use Rattle.rs_grammar.specs.declared.kind.Kind.TheVariants as kinds
 use Rattle.rs_grammar.specs.declared.lexeme.Lexeme.{Lexeme}
 use Rattle.rs_grammar.proofs.Derivation.{Front, Deep, Fails-front, Fails-deep, Read-split}
+use Rattle.rs_grammar.proofs.OneTree.{script-one}
 use Rattle.rs_grammar.proofs.Verdict.{Begins, IsCut, unexpected, IsRefused-one, Fails-unexpected, Fails-end, Fails-too_deep, Fails-too_many, Read-unexpected, Read-too_many, Read-whole, Read-none, HasNoProblem-refused}
 use Rattle.rs_lex.specs.declared.token.Token.{Token}
 use Rattle.rs_syntax.specs.Cut.{EndsLast, refusal_of}
@@ -23,6 +24,10 @@ use Rattle.rs_syntax.specs.Syntax.{Command}
 use Rattle.rs_syntax.specs.declared.fault.SyntaxFault.{SyntaxFault}
 use Rattle.rs_syntax.specs.declared.fault.SyntaxFault.TheVariants as fault
 use Rattle.rs_syntax.specs.declared.parser.Fault.TheVariants as parser
+
+-- tokens parse to one list of statements at most
+pub Parses-one : (text : List ℕ) (tokens : List Token) (a b : List Command) → Parses text tokens a → Parses text tokens b → a ≡ b
+Parses-one text tokens a b h k = sym h.means ∙ ap script_of (sym (script-one h.tree k.tree h.fits k.fits (k.spells ∙ sym h.spells))) ∙ k.means
 
 -- a script isn't refused in two ways
 pub Refuses-one : (text : List ℕ) (tokens : List Token) (x y : SyntaxFault) → Refuses text tokens x → Refuses text tokens y → x ≡ y

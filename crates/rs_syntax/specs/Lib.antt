@@ -8,3 +8,4 @@ pub mod Makes
 pub mod Cases
 pub mod Scripts
 pub mod Cut
+pub mod Spans

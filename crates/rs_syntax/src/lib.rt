@@ -12,6 +12,6 @@ mod statement;
 pub use fault::SyntaxFault;
 pub use name::{Arg, ColRef, Name};
 pub use node::{Node, Op};
-pub use script::parse;
+pub use script::{one_list_of_statements, one_refusal, parse};
 pub use select::{BlockSyn, Items, Select, SetOp, TermSyn};
 pub use statement::Statement;

@@ -14,7 +14,7 @@ pub enum Op {
 
 /// An expression, each part with its place: from its first token to its last. Brackets round a whole node aren't
 /// part of that node.
-#[derive(Debug, Drop)]
+#[derive(Debug, Drop, PartialEq, Eq)]
 pub enum Node {
     Int(i64, Span),
     Text(Text, Span),

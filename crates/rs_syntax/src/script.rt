@@ -1,8 +1,10 @@
 ghost use Rattle.std.specs.Prelude.{◌≡◌, ◌⊎◌, ◌≤◌, Err, IfOk, IfErr, List, MatchResult, [], drop, length, take, ℕ};
 ghost use Rattle.rs_grammar.specs.Places.{IsWithinStatements};
 ghost use Rattle.rs_lex.specs.Spelling.{Spells};
+ghost use Rattle.rs_lex.specs.declared.token.Token.{Token};
 ghost use Rattle.rs_syntax.specs.Cut.{EndsLast, refusal_of};
 ghost use Rattle.rs_syntax.specs.Scripts.{IsSound, Parses, Refuses};
+ghost use Rattle.rs_syntax.specs.Spans.{SpansInOrder};
 ghost use Rattle.rs_syntax.specs.Syntax.{Command, commands_of};
 ghost use Rattle.rs_syntax.specs.declared.fault.SyntaxFault.{SyntaxFault};
 
@@ -21,6 +23,8 @@ pub fn parse(alloc: Global, script: &Text, tokens: &[Token]) -> Result<Vec<State
     // What is answered is what the tokens parse to, and nothing is wrong with them.
     ensures found { IfOk result (λ made. Parses script.now tokens.now (commands_of made.items)) }
     ensures sound { IfOk result (λ _. IsSound script.now tokens.now) }
+    // Each span lies in the script, within that of what it is a part of, and those of its parts stand in order.
+    ensures ordered { IfOk result (λ made. SpansInOrder 0 (length script.now) (commands_of made.items)) }
     // Whatever the tokens parse to, where nothing is wrong with them, is answered: the grammar gives one list at most.
     ensures only { (commands : List Command) → Parses script.now tokens.now commands → IsSound script.now tokens.now
         → MatchResult result (λ made. commands_of made.items ≡ commands) (λ fault. fault ≡ SyntaxFault.Memory) }
@@ -95,7 +99,15 @@ fn refusal(parser: &Parser, more: &[Token], script: &Text, is_too_deep: bool) ->
     }
 }
 
-/// The tokens of a script parse to one list of statements at most.
-pub fn one_meaning()
+/// The tokens of a script parse to one list of statements at most, whatever their number and depth.
+pub fn one_list_of_statements()
     ensures { (text : List ℕ) (tokens : List Token) (a b : List Command) → Parses text tokens a → Parses text tokens b → a ≡ b }
-{}
+{
+}
+
+/// The tokens of a script are refused with one fault at most, and not where nothing is wrong with them.
+pub fn one_refusal()
+    ensures one { (text : List ℕ) (tokens : List Token) (a b : SyntaxFault) → Refuses text tokens a → Refuses text tokens b → a ≡ b }
+    ensures sound { (text : List ℕ) (tokens : List Token) (a : SyntaxFault) → IsSound text tokens → Refuses text tokens a → ⊥ }
+{
+}

@@ -131,7 +131,7 @@ impl Parser {
     {
         let mut columns = Vec::new(alloc);
         columns.push(self.colref()?)?;
-        'more: while self.at(Kind::Comma) {
+        while self.at(Kind::Comma) {
             self.expect(Kind::Comma)?;
             columns.push(self.colref()?)?;
         }
@@ -144,7 +144,7 @@ impl Parser {
     {
         let mut entries = Vec::new(alloc);
         entries.push(self.entry()?)?;
-        'more: while self.at(Kind::Comma) {
+        while self.at(Kind::Comma) {
             self.expect(Kind::Comma)?;
             entries.push(self.entry()?)?;
         }

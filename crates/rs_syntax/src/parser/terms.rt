@@ -68,7 +68,7 @@ impl Parser {
     {
         let mut args = Vec::new(alloc);
         args.push(self.arg()?)?;
-        'more: while self.at(Kind::Comma) {
+        while self.at(Kind::Comma) {
             self.expect(Kind::Comma)?;
             args.push(self.arg()?)?;
         }

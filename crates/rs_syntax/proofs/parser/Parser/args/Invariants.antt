@@ -1,0 +1,12 @@
+use Rattle.std.proofs.Common.{length}
+use Rattle.rs_grammar.specs.Grammar.{Use, arg, word, ◌⨟◌}
+use Rattle.rs_grammar.specs.declared.kind.Kind.TheVariants.{Comma}
+use Rattle.rs_syntax.specs.Statements.{arg_of}
+use Rattle.rs_syntax.proofs.Lists.{Listing}
+use Rattle.rs_syntax.proofs.parser.Parser.args.Given as goal
+
+abbrev pub invariant-loop-self : goal.invariant-loop-self
+invariant-loop-self l = Listing (Use arg) (word Comma ⨟ Use arg) arg_of l.fn.self l.self l.args.items
+
+abbrev pub decreases-loop-self : goal.decreases-loop-self
+decreases-loop-self l = length l.self.rest

@@ -1,0 +1,12 @@
+use Rattle.std.proofs.Common.{length}
+use Rattle.rs_grammar.specs.Grammar.{Use, colref, word, ◌⨟◌}
+use Rattle.rs_grammar.specs.declared.kind.Kind.TheVariants.{Comma}
+use Rattle.rs_syntax.specs.Trees.{colref_of}
+use Rattle.rs_syntax.proofs.Lists.{Listing}
+use Rattle.rs_syntax.proofs.parser.Parser.colrefs.Given as goal
+
+abbrev pub invariant-loop-self : goal.invariant-loop-self
+invariant-loop-self l = Listing (Use colref) (word Comma ⨟ Use colref) colref_of l.fn.self l.self l.columns.items
+
+abbrev pub decreases-loop-self : goal.decreases-loop-self
+decreases-loop-self l = length l.self.rest

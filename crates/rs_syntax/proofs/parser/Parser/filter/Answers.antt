@@ -1,0 +1,17 @@
+use Rattle.std.proofs.Common.{rules, sym, refl}
+use Rattle.rs_syntax.proofs.Steps.{read-both, read-not, read-this, found, halts-first, halts-then, halts-this, goes_on}
+use Rattle.rs_syntax.proofs.parser.Parser.filter.Goals as goal
+
+pub returns-then-not-at : goal.returns-then-not-at
+returns-then-not-at c = found (read-not (sym c.if-not-at.ensures)) refl
+
+pub returns-in_err-expect : goal.returns-in_err-expect
+returns-in_err-expect c = goes_on _ _ (search rules) (halts-this (sym c.if-not-at.ensures) (halts-first c.in_err-expect.ensures))
+
+pub returns-in_err-filter : goal.returns-in_err-filter
+returns-in_err-filter c = goes_on _ _ (search rules) (halts-this (sym c.if-not-at.ensures) (halts-then c.in_ok-expect.ensures.read c.in_err-filter.ensures))
+
+pub returns : goal.returns
+returns c =
+    let m = c.in_ok-filter.ensures.means in
+    found (read-this (sym c.if-not-at.ensures) (read-both c.in_ok-expect.ensures.read c.in_ok-filter.ensures.read)) cc
