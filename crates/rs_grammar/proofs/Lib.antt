@@ -4,4 +4,5 @@ pub mod Derivation
 pub mod OneTree
 pub mod Verdict
 pub mod LexemeFacts
+pub mod Computed
 mod WorkedLexemes

@@ -11,3 +11,4 @@ pub mod Cutting
 pub mod Numbers
 pub mod ScriptFacts
 pub mod SpanFacts
+mod WorkedScripts
