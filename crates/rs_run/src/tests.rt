@@ -573,15 +573,20 @@ const SCRIPTS: [(Pieces, Status, &str); 21] = [
     ),
 ];
 
+fn script_of(alloc: Global, pieces: &[(&[u8], usize)]) -> Result<Vec<u8>, Memory> {
+    let mut script = Vec::new(alloc);
+    for (piece, count) in pieces {
+        for _ in 0..*count {
+            script.extend_from_slice(piece)?;
+        }
+    }
+    Ok(script)
+}
+
 #[test]
 fn runs_a_script_up_to_its_first_fault(rt: HostRuntime) -> Result<(), Fail> {
     for (pieces, status, err) in SCRIPTS {
-        let mut script = Vec::new(rt.alloc());
-        for (piece, count) in pieces {
-            for _ in 0..*count {
-                script.extend_from_slice(piece)?;
-            }
-        }
+        let script = script_of(rt.alloc(), pieces)?;
         let mut outside = Outside::with_file(rt.alloc(), Vec::new(rt.alloc()))?;
         outside.files.add(text(rt.alloc(), "s.sql")?, script)?;
         // Only the script is fetched, and nothing is put.
