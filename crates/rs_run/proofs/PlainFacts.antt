@@ -1,6 +1,6 @@
 -- Words have one run at most.
 use Rattle.std.proofs.Common.{ℕ, ◌≡◌, ◌∙◌, List, [], ◌∷◌, refl, sym, ap, subst, arith}
-use Rattle.std.specs.Prelude.{Option, Result, Ok, Err}
+use Rattle.std.specs.Prelude.{Option, Result, Err}
 use Rattle.rs_lex.proofs.SpellingFacts.{Spells-unique, Refuses-unique, Spells-not_refused}
 use Rattle.rs_lex.specs.Spelling as lex
 use Rattle.rs_lex.specs.declared.fault.LexFault.{LexFault}
@@ -12,7 +12,7 @@ use Rattle.rs_run.specs.declared.fault.Fault.{Fault}
 use Rattle.rs_run.specs.declared.fault.Fault.TheVariants.{Script}
 use Rattle.rs_run.specs.declared.script_fault.ScriptFault.TheVariants.{Lex, Parse}
 use Rattle.rs_run.specs.Words.{Form, NoForm, Plain, Top, form_of}
-use Rattle.rs_run.specs.Plain.{HasTokens, HasStatements, ScriptGives, TextGives, unlexed, unparsed, unbuilt, nothing, unread, read, source_of}
+use Rattle.rs_run.specs.Plain.{HasTokens, HasStatements, ScriptGives, TextGives, unlexed, unparsed, unbuilt, nothing, unread, read}
 use Rattle.rs_run.specs.Run.{Run, IsRun, IsRunOf, fetch_then}
 use Rattle.rs_syntax.proofs.ScriptFacts.{Parses-one, Refuses-one, IsSound-not_refused}
 

@@ -12,7 +12,7 @@ use Rattle.rs_syntax.specs.declared.fault.SyntaxFault.TheVariants as syntax
 use Rattle.rs_syntax.specs.declared.statement.Statement.{Statement}
 use Rattle.rs_run.specs.declared.fault.Fault.{Fault}
 use Rattle.rs_run.specs.declared.fault.Fault.TheVariants.{Memory, Script}
-use Rattle.rs_run.specs.declared.script_fault.ScriptFault.TheVariants.{Lex, Parse, NotBuilt}
+use Rattle.rs_run.specs.declared.script_fault.ScriptFault.TheVariants.{NotBuilt}
 use Rattle.rs_run.specs.Faults.{lex_fault, parse_fault}
 use Rattle.rs_run.specs.Plain.{HasTokens, TextGives, unlexed, unparsed, unbuilt, nothing}
 use Rattle.rs_run.specs.Steps.{no_lines}

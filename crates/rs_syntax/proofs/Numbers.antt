@@ -1,6 +1,6 @@
 -- The numbers of lexemes are those that a script can write.
-use Rattle.std.proofs.Common.{ℕ, zero, suc, ◌≡◌, ◌+◌, ◌≤◌, nat_le, List, [], ◌∷◌, ◌++◌, length, take, drop, Some, None, refl, sym, subst, arith, ◌&&◌, Bool, true, false}
-use Rattle.std.specs.Prelude.{pos, ◌≤ℤ◌, map, reverse, if◌then◌else◌}
+use Rattle.std.proofs.Common.{ℕ, zero, suc, ◌≡◌, ◌+◌, ◌≤◌, nat_le, List, [], ◌∷◌, ◌++◌, take, Some, None, refl, sym, subst, arith, ◌&&◌, Bool, true, false}
+use Rattle.std.specs.Prelude.{map, reverse, if◌then◌else◌}
 use Rattle.std.specs.List.{All}
 use Rattle.std.proofs.lemmas.List.{reverse-append}
 use Rattle.std.proofs.Math.Seq.{take-nil}
@@ -8,7 +8,6 @@ use Rattle.std.proofs.lemmas.Bool.{leb-true}
 use Rattle.std.proofs.lemmas.List.Elements.{All-head, All-tail}
 use Rattle.std.proofs.lemmas.Int.{ints}
 use Rattle.rs_value.specs.Number.{number_of, greatest_int, decimal_value, are_digits}
-use Rattle.rs_lex.specs.Spelling.{Spells}
 use Rattle.rs_lex.specs.declared.token.Token.{Token}
 use Rattle.rs_lex.specs.declared.token.Sort.{Sort}
 use Rattle.rs_lex.specs.declared.token.Sort.TheVariants.{Word, Quoted, Number, Literal, Symbol}

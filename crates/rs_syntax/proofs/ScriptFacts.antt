@@ -1,23 +1,22 @@
 -- What the parser did on the tokens of a script, and what that says of the script.
-use Rattle.std.proofs.Common.{ℕ, suc, ◌==◌, ◌-◌, length-drop, ◌≡◌, ◌∙◌, ◌+◌, ◌≤◌, ◌⊎◌, inl, inr, Bool, true, false, List, [], ◌∷◌, ◌++◌, length, take, drop, refl, sym, ap, subst, arith, append_assoc, Ok, Err, if◌then◌else◌}
-use Rattle.std.specs.Prelude.{map, Result, MatchResult, IfErr}
+use Rattle.std.proofs.Common.{ℕ, suc, ◌==◌, ◌-◌, length-drop, ◌≡◌, ◌∙◌, ◌+◌, ◌⊎◌, inl, inr, Bool, true, false, List, [], ◌∷◌, ◌++◌, length, take, drop, refl, sym, ap, subst, arith, append_assoc}
 use Rattle.std.proofs.Math.Seq.{drop-append_seam, take-length}
 use Rattle.std.proofs.lemmas.Bool.{eqb-true}
 use Rattle.std.proofs.lemmas.List.{append-nil, drop-map, take-append-drop}
-use Rattle.rs_grammar.specs.Grammar.{Tree, Fits, yield, script, Viable}
+use Rattle.rs_grammar.specs.Grammar.{Tree, yield, script}
 use Rattle.rs_grammar.specs.Kinds.{accepts}
 use Rattle.rs_grammar.specs.Lexemes.{lexeme_of}
-use Rattle.rs_grammar.specs.Places.{Problem, Unexpected, Foreigner, TooDeep, TooMany, Stands, IsRefused, IsWithinStatements, is_foreign, most_deep}
+use Rattle.rs_grammar.specs.Places.{Unexpected, TooDeep, TooMany, IsRefused, IsWithinStatements, most_deep}
 use Rattle.rs_grammar.specs.Reading as reading
-use Rattle.rs_grammar.specs.Reading.{State, Read, Fails}
+use Rattle.rs_grammar.specs.Reading.{State, Read}
 use Rattle.rs_grammar.specs.declared.kind.Kind.TheVariants as kinds
 use Rattle.rs_grammar.specs.declared.lexeme.Lexeme.{Lexeme}
 use Rattle.rs_grammar.proofs.Derivation.{Front, Deep, Fails-front, Fails-deep, Read-split}
 use Rattle.rs_grammar.proofs.OneTree.{script-one}
-use Rattle.rs_grammar.proofs.Verdict.{Begins, IsCut, unexpected, IsRefused-one, Fails-unexpected, Fails-end, Fails-too_deep, Fails-too_many, Read-unexpected, Read-too_many, Read-whole, Read-none, HasNoProblem-refused}
+use Rattle.rs_grammar.proofs.Verdict.{Begins, IsCut, unexpected, IsRefused-one, Fails-unexpected, Fails-end, Fails-too_deep, Fails-too_many, Read-unexpected, Read-too_many, Read-whole, Read-none}
 use Rattle.rs_lex.specs.declared.token.Token.{Token}
 use Rattle.rs_syntax.specs.Cut.{EndsLast, refusal_of}
-use Rattle.rs_syntax.specs.Reads.{Found, Halts}
+use Rattle.rs_syntax.specs.Reads.{Halts}
 use Rattle.rs_syntax.specs.Scripts.{Parses, Refuses, IsSound, lexemes_of, byte_in, byte_at, fault_of}
 use Rattle.rs_syntax.specs.Statements.{script_of}
 use Rattle.rs_syntax.specs.Syntax.{Command}

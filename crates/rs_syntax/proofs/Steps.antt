@@ -1,10 +1,9 @@
 -- Steps of a reader, put together as the grammar's parts are.
 use Rattle.std.proofs.Common.{◌≡◌, true, false, Result, Err}
-use Rattle.std.specs.Prelude.{Bool}
 use Rattle.rs_grammar.specs.Grammar.{Rule, Part, Empty, Seq, Either, Many, Use, rule, Tree, Nothing, Pair, This, That, More, Node}
 use Rattle.rs_grammar.specs.Reading as reading
 use Rattle.rs_grammar.specs.Reading.{State, Read, Fails, opens}
-use Rattle.rs_syntax.specs.Reads.{Found, FailsWith, Halts, Reads}
+use Rattle.rs_syntax.specs.Reads.{Found, Halts, Reads}
 use Rattle.rs_syntax.specs.declared.parser.Fault.{Fault}
 use Rattle.rs_syntax.specs.declared.parser.Fault.TheVariants.{Expected, TooDeep, Memory}
 

@@ -5,7 +5,6 @@ use Rattle.std.proofs.lemmas.List.{reverse-append, take_more}
 use Rattle.std.proofs.Math.Seq.{take-length}
 use Rattle.std.proofs.lemmas.Option.{get_or_from_slice_get, slice_get_within}
 use Rattle.rs_grammar.specs.Grammar.{One, Leaf}
-use Rattle.rs_grammar.specs.Kinds.{accepts}
 use Rattle.rs_grammar.specs.Reading as reading
 use Rattle.rs_grammar.specs.Reading.{State, Read, Fails, next_is, is_too_deep, left_behind}
 use Rattle.rs_grammar.specs.declared.kind.Kind.{Kind}

@@ -1,5 +1,5 @@
 -- Where the parser ends, and what it tells.
-use Rattle.std.specs.Prelude.{ℕ, ◌≡◌, Bool, true, false, List, [], ◌∷◌, ◌++◌, if◌then◌else◌}
+use Rattle.std.specs.Prelude.{ℕ, ◌≡◌, Bool, true, List, [], ◌∷◌, ◌++◌, if◌then◌else◌}
 use Rattle.rs_grammar.specs.Kinds.{accepts}
 use Rattle.rs_grammar.specs.Places.{is_semicolon, ended, most_statements}
 use Rattle.rs_grammar.specs.declared.kind.Kind.TheVariants.{Foreign}

@@ -1,6 +1,5 @@
-use Rattle.std.proofs.Common.{◌≡◌, ◌∙◌, ◌-◌, length, sym, ap}
+use Rattle.std.proofs.Common.{◌∙◌, ◌-◌, length, sym, ap}
 use Rattle.std.specs.Prelude.{slice_get}
-use Rattle.rs_grammar.specs.Reading.{State}
 use Rattle.rs_syntax.proofs.Tokens.{AreNumbers-last, Fails-other, Fails-deep_last, Found-last}
 use Rattle.rs_syntax.proofs.parser.Parser.take.Goals as goal
 
