@@ -1,5 +1,5 @@
 -- The definitions, computed on examples.
-use Rattle.std.proofs.Common.{ℕ, ◌≡◌, ◌++◌, List, [], ◌∷◌, Option, Some, None, refl}
+use Rattle.std.proofs.Common.{ℕ, ◌≡◌, ◌++◌, List, [], ◌∷◌, Some, None, refl}
 use Rattle.std.specs.Prelude.{codes, pos, negsuc, Ok, Err}
 use Rattle.csv.proofs.OnLiterals.{csv_on_literals}
 use Rattle.std.specs.Fmt.{digits}
@@ -10,7 +10,6 @@ use Rattle.csv.specs.Writing.{escaped, fields_text, is_blank}
 use Rattle.rs_outside.specs.declared.files.FetchFault.TheVariants as fetch
 use Rattle.rs_table.specs.declared.fault.TableFault.{TableFault}
 use Rattle.rs_table.specs.declared.fault.TableFault.TheVariants as table
-use Rattle.rs_run.specs.declared.fault.Fault.{Fault}
 use Rattle.rs_run.specs.declared.fault.Fault.TheVariants as fault
 use Rattle.rs_run.specs.Words.{top_words, NoForm, Plain, Top, form_of}
 use Rattle.rs_run.specs.declared.script_fault.ScriptFault.TheVariants as script
@@ -19,7 +18,7 @@ use Rattle.rs_lex.specs.declared.fault.LexFault.TheVariants as lex
 use Rattle.rs_syntax.specs.declared.fault.SyntaxFault.TheVariants as syntax
 use Rattle.rs_run.specs.Faults.{fault_line, status_of}
 use Rattle.rs_run.specs.Plain.{source_of, without_mark}
-use Rattle.rs_run.specs.Run.{Event, Fetch, IsRun, Put, Run}
+use Rattle.rs_run.specs.Run.{Fetch, IsRun, Put, Run}
 
 hotels : List ℕ
 hotels = codes "name,price,city\na,40,1\nb,90,1\nc,40,2\n"
