@@ -627,3 +627,42 @@ fn puts_whole_lines_where_memory_ends(rt: HostRuntime) {
         assert_eq!(rt; err, b"memory\n".as_slice());
     }
 }
+
+/// A script with every form of statement and of expression.
+const EVERY_FORM: &str = "CREATE TABLE t (a INT, b TEXT, \"c d\" INTEGER) FROM 't.csv'; \
+    CREATE PREDICATE p (x INT) MAX 9 COST 2 AS CASE WHEN NOT x = 1 AND x <> 2 OR x < 3 THEN ABS(-x) + MIN(x, 4) \
+    WHEN (x) >= 8 THEN 0 ELSE MAX(x, x * 5) / 6 - 7 END; \
+    CREATE RANK INDEX i ON t (p(a)); \
+    SELECT DISTINCT a, u.b FROM t, t AS u WHERE b = 'it''s' UNION ALL SELECT a, b FROM t \
+    ORDER BY 2 * p(a) + p(-1) DESC LIMIT 3; \
+    DECLARE c CURSOR FOR SELECT * FROM t v ORDER BY p('y'); FETCH 4 FROM c; CLOSE c; \
+    EXPLAIN SELECT a FROM t INTERSECT SELECT b FROM t ORDER BY p(a); \
+    EXPLAIN ANALYZE SELECT a FROM t EXCEPT SELECT a FROM t ORDER BY p(a)";
+
+/// Made for a process in which one allocation fails: a script that lacks memory is told so, and in no other way.
+#[test]
+fn tells_where_a_script_lacks_memory(rt: HostRuntime) {
+    let Ok(mut outside) = Outside::with_file(rt.alloc(), Vec::new(rt.alloc())) else {
+        return;
+    };
+    let (Ok(name), Ok(script)) = (
+        text(rt.alloc(), "s.sql"),
+        script_of(rt.alloc(), &[(EVERY_FORM.as_bytes(), 1)]),
+    ) else {
+        return;
+    };
+    if outside.files.add(name, script).is_err() {
+        return;
+    }
+    let Ok(status) = outside.run(rt.alloc(), &["plain", "s.sql"]) else {
+        return;
+    };
+    let err = outside.err.bytes();
+    if status == Status::Script {
+        assert_eq!(rt; err, b"script: not built statement 1\n".as_slice());
+    } else {
+        assert_eq!(rt; status, Status::Memory);
+        assert_eq!(rt; err, b"memory\n".as_slice());
+    }
+    assert_eq!(rt; outside.out.bytes(), b"".as_slice());
+}
