@@ -1,0 +1,3 @@
+pub mod AsksFacts
+pub mod ClimbingFacts
+pub mod SortingFacts

@@ -1,0 +1,131 @@
+-- Sorting keeps the items, and where no two keys are equal, the keys of what is sorted rise.
+use Rattle.std.proofs.Common.{◌≡◌, List, [], ◌∷◌, Bool, true, false, cond, refl, sym, ◌∙◌, ap, ◌⊎◌, inl, inr}
+use Rattle.std.specs.List.{AllByRecursion}
+use Rattle.std.specs.Cmp.{IsTotalOrder, tied_back}
+use Rattle.std.specs.Ordering.{is_lt, ordering_reverse}
+use Rattle.std.specs.declared.cmp.Ordering.TheVariants.{Less, Equal, Greater}
+use Rattle.std.specs.declared.cmp.Ordering.{Ordering}
+use Rattle.rs_order.specs.Climbing.{In, Precedes, Differs, Climbs, HasDistinctKeys}
+use Rattle.rs_order.specs.Sorting.{put, put_each, sorted}
+use Rattle.rs_order.proofs.ClimbingFacts.{AllByRecursion-In, AllByRecursion-from_In, Climbs-same}
+
+-- an item that is put in is in the list, and so are those that were in it
+pub In-put : {X K : Type 0} (cmp : K → K → Ordering) (key : X → K) (x : X) (ys : List X) (z : X) → In z (x ∷ ys) → In z (put cmp key x ys)
+In-put cmp key x [] z h = h
+In-put cmp key x (y ∷ ys) z h =
+    elim (is_lt (cmp (key x) (key y))) as (λ b. In z (cond b (x ∷ y ∷ ys) (y ∷ put cmp key x ys))) [
+      | true ↦ h
+      | false ↦ elim h [
+          | inl e ↦ inr (In-put cmp key x ys z (inl e))
+          | inr k ↦ elim k [ inl e ↦ inl e | inr l ↦ inr (In-put cmp key x ys z (inr l)) ]
+        ]
+    ]
+
+-- and no others
+pub In-put-back : {X K : Type 0} (cmp : K → K → Ordering) (key : X → K) (x : X) (ys : List X) (z : X) → In z (put cmp key x ys) → In z (x ∷ ys)
+In-put-back cmp key x [] z h = h
+In-put-back cmp key x (y ∷ ys) z h =
+    (elim (is_lt (cmp (key x) (key y))) as (λ b. In z (cond b (x ∷ y ∷ ys) (y ∷ put cmp key x ys)) → In z (x ∷ y ∷ ys)) [
+      | true ↦ λ k. k
+      | false ↦ λ k. elim k [
+          | inl e ↦ inr (inl e)
+          | inr l ↦ elim (In-put-back cmp key x ys z l) [ inl e ↦ inl e | inr m ↦ inr (inr m) ]
+        ]
+    ]) h
+
+-- the same of items that are put in one after another
+pub In-put_each : {X K : Type 0} (cmp : K → K → Ordering) (key : X → K) (ordered xs : List X) (z : X) → In z ordered ⊎ In z xs → In z (put_each cmp key ordered xs)
+In-put_each cmp key ordered [] z h = elim h [ inl k ↦ k | inr k ↦ absurd k ]
+In-put_each cmp key ordered (x ∷ xs) z h =
+    In-put_each cmp key (put cmp key x ordered) xs z
+    (elim h [
+      | inl k ↦ inl (In-put cmp key x ordered z (inr k))
+      | inr k ↦ elim k [ inl e ↦ inl (In-put cmp key x ordered z (inl e)) | inr l ↦ inr l ]
+    ])
+
+pub In-put_each-back : {X K : Type 0} (cmp : K → K → Ordering) (key : X → K) (ordered xs : List X) (z : X) → In z (put_each cmp key ordered xs) → In z ordered ⊎ In z xs
+In-put_each-back cmp key ordered [] z h = inl h
+In-put_each-back cmp key ordered (x ∷ xs) z h =
+    elim (In-put_each-back cmp key (put cmp key x ordered) xs z h) [
+      | inl k ↦ elim (In-put-back cmp key x ordered z k) [ inl e ↦ inr (inl e) | inr l ↦ inl l ]
+      | inr k ↦ inr (inr k)
+    ]
+
+-- a sorted list has the items of the list
+pub In-sorted : {X K : Type 0} (cmp : K → K → Ordering) (key : X → K) (xs : List X) (z : X) → In z xs → In z (sorted cmp key xs)
+In-sorted cmp key xs z h = In-put_each cmp key [] xs z (inr h)
+
+pub In-sorted-back : {X K : Type 0} (cmp : K → K → Ordering) (key : X → K) (xs : List X) (z : X) → In z (sorted cmp key xs) → In z xs
+In-sorted-back cmp key xs z h = elim (In-put_each-back cmp key [] xs z h) [ inl k ↦ absurd k | inr k ↦ k ]
+
+-- what holds of an item and of each of a list holds of each once the item is put in
+AllByRecursion-put : {X K : Type 0} (cmp : K → K → Ordering) (key : X → K) (P : X → Type 0) (x : X) (ys : List X) → P x → AllByRecursion P ys → AllByRecursion P (put cmp key x ys)
+AllByRecursion-put cmp key P x ys here all =
+    AllByRecursion-from_In P (put cmp key x ys) (λ z h. AllByRecursion-In P (x ∷ ys) (here, all) z (In-put-back cmp key x ys z h))
+
+-- what the first item precedes, an item before the first one precedes
+AllByRecursion-Precedes : {X K : Type 0} (cmp : K → K → Ordering) → IsTotalOrder cmp → (key : X → K) (x y : X) (ys : List X) → Precedes cmp key x y → AllByRecursion (Precedes cmp key y) ys → AllByRecursion (Precedes cmp key x) ys
+AllByRecursion-Precedes cmp o key x y [] e all = tt
+AllByRecursion-Precedes cmp o key x y (z ∷ zs) e all = (o.trans (key x) (key y) (key z) e all.0, AllByRecursion-Precedes cmp o key x y zs e all.1)
+
+-- an item whose key is that of no other one is put in with keys still rising
+pub Climbs-put : {X K : Type 0} (cmp : K → K → Ordering) → IsTotalOrder cmp → (key : X → K) (x : X) (ys : List X) → AllByRecursion (Differs cmp key x) ys → Climbs cmp key ys → Climbs cmp key (put cmp key x ys)
+Climbs-put cmp o key x [] differs climbs = (tt, tt)
+Climbs-put cmp o key x (y ∷ ys) differs climbs =
+    (elim (cmp (key x) (key y)) as (λ r. cmp (key x) (key y) ≡ r → Climbs cmp key (cond (is_lt r) (x ∷ y ∷ ys) (y ∷ put cmp key x ys))) [
+      | Less ↦ λ e. ((e, AllByRecursion-Precedes cmp o key x y ys e climbs.0), climbs)
+      | Equal ↦ λ e. absurd (differs.0 e)
+      | Greater ↦ λ e.
+          (AllByRecursion-put cmp key (Precedes cmp key y) x ys (o.antisymm (key y) (key x) ∙ ap ordering_reverse e) climbs.0, Climbs-put cmp o key x ys differs.1 climbs.1)
+    ]) refl
+
+-- keys that differ do so both ways round
+Differs-turned : {X K : Type 0} (cmp : K → K → Ordering) → IsTotalOrder cmp → (key : X → K) (x y : X) → Differs cmp key x y → Differs cmp key y x
+Differs-turned cmp o key x y differs e = differs (tied_back o (key y) (key x) e)
+
+-- an item still differs from all, once another one that differs from it is put in
+Differs-put : {X K L : Type 0} (by : L → L → Ordering) (other : X → L) (cmp : K → K → Ordering) → IsTotalOrder cmp → (key : X → K) (x : X) (xs ordered : List X) → AllByRecursion (Differs cmp key x) xs → ((z : X) → In z (x ∷ xs) → AllByRecursion (Differs cmp key z) ordered) → (z : X) → In z xs → AllByRecursion (Differs cmp key z) (put by other x ordered)
+Differs-put by other cmp o key x xs ordered differs apart z h =
+    AllByRecursion-put by other (Differs cmp key z) x ordered (Differs-turned cmp o key x z (AllByRecursion-In (Differs cmp key x) xs differs z h)) (apart z (inr h))
+
+-- the same of items that are put in one after another
+pub Climbs-put_each : {X K : Type 0} (cmp : K → K → Ordering) → IsTotalOrder cmp → (key : X → K) (ordered xs : List X) → HasDistinctKeys cmp key xs → ((z : X) → In z xs → AllByRecursion (Differs cmp key z) ordered) → Climbs cmp key ordered → Climbs cmp key (put_each cmp key ordered xs)
+Climbs-put_each cmp o key ordered [] distinct apart climbs = climbs
+Climbs-put_each cmp o key ordered (x ∷ xs) distinct apart climbs =
+    Climbs-put_each cmp o key (put cmp key x ordered) xs distinct.1
+    (Differs-put cmp key cmp o key x xs ordered distinct.0 apart)
+    (Climbs-put cmp o key x ordered (apart x (inl refl)) climbs)
+
+-- the keys of a sorted list rise, if no two of them are equal
+pub Climbs-sorted : {X K : Type 0} (cmp : K → K → Ordering) → IsTotalOrder cmp → (key : X → K) (xs : List X) → HasDistinctKeys cmp key xs → Climbs cmp key (sorted cmp key xs)
+Climbs-sorted cmp o key xs distinct = Climbs-put_each cmp o key [] xs distinct (λ z h. tt) tt
+
+-- keys that are distinct stay so where an item is put in by another key
+HasDistinctKeys-put : {X K L : Type 0} (by : L → L → Ordering) (other : X → L) (cmp : K → K → Ordering) → IsTotalOrder cmp → (key : X → K) (x : X) (ys : List X) → AllByRecursion (Differs cmp key x) ys → HasDistinctKeys cmp key ys → HasDistinctKeys cmp key (put by other x ys)
+HasDistinctKeys-put by other cmp o key x [] differs distinct = (tt, tt)
+HasDistinctKeys-put by other cmp o key x (y ∷ ys) differs distinct =
+    elim (is_lt (by (other x) (other y))) as (λ b. HasDistinctKeys cmp key (cond b (x ∷ y ∷ ys) (y ∷ put by other x ys))) [
+      | true ↦ (differs, distinct)
+      | false ↦
+          (AllByRecursion-put by other (Differs cmp key y) x ys (Differs-turned cmp o key x y differs.0) distinct.0, HasDistinctKeys-put by other cmp o key x ys differs.1 distinct.1)
+    ]
+
+HasDistinctKeys-put_each : {X K L : Type 0} (by : L → L → Ordering) (other : X → L) (cmp : K → K → Ordering) → IsTotalOrder cmp → (key : X → K) (ordered xs : List X) → HasDistinctKeys cmp key xs → ((z : X) → In z xs → AllByRecursion (Differs cmp key z) ordered) → HasDistinctKeys cmp key ordered → HasDistinctKeys cmp key (put_each by other ordered xs)
+HasDistinctKeys-put_each by other cmp o key ordered [] distinct apart before = before
+HasDistinctKeys-put_each by other cmp o key ordered (x ∷ xs) distinct apart before =
+    HasDistinctKeys-put_each by other cmp o key (put by other x ordered) xs distinct.1
+    (Differs-put by other cmp o key x xs ordered distinct.0 apart)
+    (HasDistinctKeys-put by other cmp o key x ordered (apart x (inl refl)) before)
+
+-- and in a list that is sorted by another key
+pub HasDistinctKeys-sorted : {X K L : Type 0} (by : L → L → Ordering) (other : X → L) (cmp : K → K → Ordering) → IsTotalOrder cmp → (key : X → K) (xs : List X) → HasDistinctKeys cmp key xs → HasDistinctKeys cmp key (sorted by other xs)
+HasDistinctKeys-sorted by other cmp o key xs distinct = HasDistinctKeys-put_each by other cmp o key [] xs distinct (λ z h. tt) tt
+
+-- sorting what is sorted by another key is sorting the list itself
+pub sorted-sorted : {X K L : Type 0} (by : L → L → Ordering) (other : X → L) (cmp : K → K → Ordering) → IsTotalOrder cmp → (key : X → K) (xs : List X) → HasDistinctKeys cmp key xs → sorted cmp key (sorted by other xs) ≡ sorted cmp key xs
+sorted-sorted by other cmp o key xs distinct =
+    Climbs-same cmp o key (sorted cmp key (sorted by other xs)) (sorted cmp key xs)
+    (Climbs-sorted cmp o key (sorted by other xs) (HasDistinctKeys-sorted by other cmp o key xs distinct))
+    (Climbs-sorted cmp o key xs distinct)
+    (λ z h. In-sorted cmp key xs z (In-sorted-back by other xs z (In-sorted-back cmp key (sorted by other xs) z h)))
+    (λ z h. In-sorted cmp key (sorted by other xs) z (In-sorted by other xs z (In-sorted-back cmp key xs z h)))

@@ -1,0 +1,22 @@
+//! Laws of the order of a list by a key. The functions compute nothing; each is called for its contract.
+
+ghost use Rattle.std.specs.Prelude.{◌≡◌, List};
+ghost use Rattle.rs_order.specs.Climbing.{Climbs, HasDistinctKeys, SameItems};
+ghost use Rattle.rs_order.specs.Sorting.{sorted};
+
+/// The keys of a sorted list rise, if no two items have equal keys.
+pub fn sorted_climbs<X, K: Ord>()
+    ensures { (key : X → K) (xs : List X) → HasDistinctKeys K.cmp key xs → Climbs K.cmp key (sorted K.cmp key xs) }
+{}
+
+/// A sorted list has the items of the list.
+pub fn sorted_has_the_items<X, K: Ord>()
+    ensures { (key : X → K) (xs : List X) → SameItems xs (sorted K.cmp key xs) }
+{}
+
+/// A list that was sorted by some key, and then by a second one, is the list sorted by the second one, if no two items
+/// have equal second keys.
+pub fn sorted_twice_is_sorted_once<X, K: Ord, L: Ord>()
+    ensures { (first : X → K) (second : X → L) (xs : List X) → HasDistinctKeys L.cmp second xs
+        → sorted L.cmp second (sorted K.cmp first xs) ≡ sorted L.cmp second xs }
+{}

@@ -1,0 +1,14 @@
+use super::*;
+
+#[test]
+fn laws_hold_of_numbers(_rt: HostRuntime) {
+    same_items_make_one_list::<(u64, u32), u64>();
+    first_items_are_shared::<(u64, u32), u64>();
+    sorted_climbs::<(u64, u32), u64>();
+    sorted_has_the_items::<(u64, u32), u64>();
+    sorted_twice_is_sorted_once::<(u64, u32), u64, u32>();
+    those_before_come_first::<(u64, u32), u64>();
+    asks_are_exact::<(u64, u32), u64>();
+    asks_grow::<(u64, u32), u64>();
+    bars_rise::<(u64, u32), u64>();
+}
