@@ -77,9 +77,9 @@ comes_before_bar-further cmp o (Some b) None k h e = refl
 comes_before_bar-further cmp o None (Some f) k h e = absurd h
 comes_before_bar-further cmp o (Some b) (Some f) k h e =
     (elim (cmp b f) as (λ r. cmp b f ≡ r → is_gt r ≡ false → is_lt (cmp k f) ≡ true) [
-      | Less ↦ λ g no. ap is_lt (o.trans k b f (is_lt-Less (cmp k b) e) g)
-      | Equal ↦ λ g no. ap is_lt (sym (alike_right o b f k g)) ∙ e
-      | Greater ↦ λ g no. cc
+      | Less ↦ λ g test. ap is_lt (o.trans k b f (is_lt-Less (cmp k b) e) g)
+      | Equal ↦ λ g test. ap is_lt (sym (alike_right o b f k g)) ∙ e
+      | Greater ↦ λ g test. cc
     ]) refl h
 
 -- a test that passes wherever another one does keeps as many items at least

@@ -1,3 +1,4 @@
 pub mod AsksFacts
 pub mod ClimbingFacts
+pub mod MergingFacts
 pub mod SortingFacts

@@ -1,8 +1,8 @@
 -- Sorting keeps the items, and where no two keys are equal, the keys of what is sorted rise.
-use Rattle.std.proofs.Common.{◌≡◌, List, [], ◌∷◌, Bool, true, false, cond, refl, sym, ◌∙◌, ap, ◌⊎◌, inl, inr}
+use Rattle.std.proofs.Common.{◌≡◌, List, [], ◌∷◌, Bool, true, false, cond, refl, sym, ◌∙◌, ap, subst, ◌⊎◌, inl, inr}
 use Rattle.std.specs.List.{AllByRecursion}
 use Rattle.std.specs.Cmp.{IsTotalOrder, tied_back}
-use Rattle.std.specs.Ordering.{is_lt, ordering_reverse}
+use Rattle.std.specs.Ordering.{is_lt, on, ordering_reverse, ordering_then, then_cmp}
 use Rattle.std.specs.declared.cmp.Ordering.TheVariants.{Less, Equal, Greater}
 use Rattle.std.specs.declared.cmp.Ordering.{Ordering}
 use Rattle.rs_order.specs.Climbing.{In, Precedes, Differs, Climbs, HasDistinctKeys}
@@ -129,3 +129,37 @@ sorted-sorted by other cmp o key xs distinct =
     (Climbs-sorted cmp o key xs distinct)
     (λ z h. In-sorted cmp key xs z (In-sorted-back by other xs z (In-sorted-back cmp key (sorted by other xs) z h)))
     (λ z h. In-sorted cmp key (sorted by other xs) z (In-sorted by other xs z (In-sorted-back cmp key xs z h)))
+
+-- an item is put in at the same place where two tests agree
+put-same : {X K L : Type 0} (cmp : K → K → Ordering) (key : X → K) (by : L → L → Ordering) (other : X → L) (x : X) (ys : List X) → AllByRecursion (λ y. is_lt (cmp (key x) (key y)) ≡ is_lt (by (other x) (other y))) ys → put cmp key x ys ≡ put by other x ys
+put-same cmp key by other x [] agree = refl
+put-same cmp key by other x (y ∷ ys) agree =
+    subst (λ b. put cmp key x (y ∷ ys) ≡ cond b (x ∷ y ∷ ys) (y ∷ put by other x ys)) agree.0
+    (elim (is_lt (cmp (key x) (key y))) as (λ b. cond b (x ∷ y ∷ ys) (y ∷ put cmp key x ys) ≡ cond b (x ∷ y ∷ ys) (y ∷ put by other x ys)) [
+      | true ↦ refl
+      | false ↦ ap (λ zs. y ∷ zs) (put-same cmp key by other x ys agree.1)
+    ])
+
+-- a later place decides no test whether a key comes strictly before another one
+then_cmp-later : {X K L : Type 0} (cmp : K → K → Ordering) (key : X → K) (by : L → L → Ordering) → IsTotalOrder by → (place : X → L) (x y : X) → Precedes by place y x → is_lt (cmp (key x) (key y)) ≡ is_lt (then_cmp (on key cmp) (on place by) x y)
+then_cmp-later cmp key by o place x y before =
+    elim (cmp (key x) (key y)) as (λ r. is_lt r ≡ is_lt (ordering_then r (by (place x) (place y)))) [
+      | Less ↦ refl
+      | Equal ↦ sym (ap is_lt (o.antisymm (place x) (place y) ∙ ap ordering_reverse before))
+      | Greater ↦ refl
+    ]
+
+-- items that are put in by rising places are put in alike by the key alone and by the key and then the place
+put_each-places : {X K L : Type 0} (cmp : K → K → Ordering) (key : X → K) (by : L → L → Ordering) → IsTotalOrder by → (place : X → L) (ordered xs : List X) → Climbs by place xs → ((z : X) → In z xs → AllByRecursion (λ w. Precedes by place w z) ordered) → put_each cmp key ordered xs ≡ put_each (then_cmp (on key cmp) (on place by)) (λ x. x) ordered xs
+put_each-places cmp key by o place ordered [] climbs before = refl
+put_each-places {X} cmp key by o place ordered (x ∷ xs) climbs before =
+    put_each-places cmp key by o place (put cmp key x ordered) xs climbs.1
+    (λ z h. AllByRecursion-put cmp key (λ w. Precedes by place w z) x ordered (AllByRecursion-In (Precedes by place x) xs climbs.0 z h) (before z (inr h)))
+    ∙ ap (λ list. put_each (then_cmp (on key cmp) (on place by)) (λ (w : X). w) list xs)
+    (put-same cmp key (then_cmp (on key cmp) (on place by)) (λ (w : X). w) x ordered
+    (AllByRecursion-from_In (λ y. is_lt (cmp (key x) (key y)) ≡ is_lt (then_cmp (on key cmp) (on place by) x y)) ordered
+    (λ y h. then_cmp-later cmp key by o place x y (AllByRecursion-In (λ w. Precedes by place w x) ordered (before x (inl refl)) y h))))
+
+-- sorting by the key alone sorts by the key and then the place
+pub sorted-places : {X K L : Type 0} (cmp : K → K → Ordering) (key : X → K) (by : L → L → Ordering) → IsTotalOrder by → (place : X → L) (xs : List X) → Climbs by place xs → sorted cmp key xs ≡ sorted (then_cmp (on key cmp) (on place by)) (λ x. x) xs
+sorted-places cmp key by o place xs climbs = put_each-places cmp key by o place [] xs climbs (λ z h. tt)

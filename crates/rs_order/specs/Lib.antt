@@ -1,3 +1,4 @@
 pub mod Asks
 pub mod Climbing
+pub mod Merging
 pub mod Sorting

@@ -1,6 +1,7 @@
 //! Laws of the order of a list by a key. The functions compute nothing; each is called for its contract.
 
 ghost use Rattle.std.specs.Prelude.{◌≡◌, List};
+ghost use Rattle.std.specs.Ordering.{on, then_cmp};
 ghost use Rattle.rs_order.specs.Climbing.{Climbs, HasDistinctKeys, SameItems};
 ghost use Rattle.rs_order.specs.Sorting.{sorted};
 
@@ -19,4 +20,11 @@ pub fn sorted_has_the_items<X, K: Ord>()
 pub fn sorted_twice_is_sorted_once<X, K: Ord, L: Ord>()
     ensures { (first : X → K) (second : X → L) (xs : List X) → HasDistinctKeys L.cmp second xs
         → sorted L.cmp second (sorted K.cmp first xs) ≡ sorted L.cmp second xs }
+{}
+
+/// A list whose places rise, sorted by a key alone, is the list sorted by the key and then the place: items of equal
+/// keys stay in the order of their places.
+pub fn sorted_keeps_places<X, K: Ord, L: Ord>()
+    ensures { (key : X → K) (place : X → L) (xs : List X) → Climbs L.cmp place xs
+        → sorted K.cmp key xs ≡ sorted (then_cmp (on key K.cmp) (on place L.cmp)) (λ x. x) xs }
 {}

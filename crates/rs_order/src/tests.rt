@@ -7,6 +7,9 @@ fn laws_hold_of_numbers(_rt: HostRuntime) {
     sorted_climbs::<(u64, u32), u64>();
     sorted_has_the_items::<(u64, u32), u64>();
     sorted_twice_is_sorted_once::<(u64, u32), u64, u32>();
+    sorted_keeps_places::<(u64, u32), u64, u32>();
+    merged_climbs::<(u64, u32), u64>();
+    merged_has_the_items::<(u64, u32), u64>();
     those_before_come_first::<(u64, u32), u64>();
     asks_are_exact::<(u64, u32), u64>();
     asks_grow::<(u64, u32), u64>();
