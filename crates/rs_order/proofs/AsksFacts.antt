@@ -98,7 +98,7 @@ length-filter-more p q (x ∷ xs) follows =
 pub asks_for-more : {X K : Type 0} (cmp : K → K → Ordering) → IsTotalOrder cmp → (key : X → K) (xs : List X) (bar further : Option K) → IsNoFurther cmp bar further → asks_for cmp key xs bar ≤ asks_for cmp key xs further
 asks_for-more cmp o key xs bar further h =
     let more : length (those_before cmp key bar xs) ≤ length (those_before cmp key further xs) =
-        length-filter-more (λ x. comes_before_bar cmp bar (key x)) (λ x. comes_before_bar cmp further (key x)) xs (λ x. comes_before_bar-further cmp o bar further (key x) h) in
+    length-filter-more (λ x. comes_before_bar cmp bar (key x)) (λ x. comes_before_bar cmp further (key x)) xs (λ x. comes_before_bar-further cmp o bar further (key x) h) in
     omega arith
 
 -- the keys of answers behind an item lie further on than its own

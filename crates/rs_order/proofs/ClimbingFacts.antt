@@ -1,8 +1,8 @@
 -- Lists whose keys rise: their items determine them.
-use Rattle.std.proofs.Common.{◌≡◌, ℕ, zero, suc, List, [], ◌∷◌, take, refl, sym, ◌∙◌, ap, subst, ◌⊎◌, inl, inr}
+use Rattle.std.proofs.Common.{◌≡◌, ℕ, zero, suc, List, [], ◌∷◌, take, refl, sym, ◌∙◌, subst, ◌⊎◌, inl, inr}
 use Rattle.std.specs.List.{AllByRecursion}
 use Rattle.std.specs.Cmp.{IsTotalOrder, tied_itself}
-use Rattle.std.specs.declared.cmp.Ordering.TheVariants.{Less, Equal}
+use Rattle.std.specs.declared.cmp.Ordering.TheVariants.{Less}
 use Rattle.std.specs.declared.cmp.Ordering.{Ordering}
 use Rattle.rs_order.specs.Climbing.{In, Precedes, Climbs, IsBeyond}
 
@@ -52,9 +52,9 @@ Climbs-same cmp o key (x ∷ xs) [] c d f g = absurd (f x (inl refl))
 Climbs-same cmp o key (x ∷ xs) (y ∷ ys) c d f g =
     let first : x ≡ y = first-same cmp o key x y (In-first cmp key y x ys d (f x (inl refl))) (In-first cmp key x y xs c (g y (inl refl))) in
     let rest : xs ≡ ys =
-        Climbs-same cmp o key xs ys c.1 d.1
-        (λ z h. In-behind cmp o key x y z ys first (AllByRecursion-In (Precedes cmp key x) xs c.0 z h) (f z (inr h)))
-        (λ z h. In-behind cmp o key y x z xs (sym first) (AllByRecursion-In (Precedes cmp key y) ys d.0 z h) (g z (inr h))) in
+    Climbs-same cmp o key xs ys c.1 d.1
+    (λ z h. In-behind cmp o key x y z ys first (AllByRecursion-In (Precedes cmp key x) xs c.0 z h) (f z (inr h)))
+    (λ z h. In-behind cmp o key y x z xs (sym first) (AllByRecursion-In (Precedes cmp key y) ys d.0 z h) (g z (inr h))) in
     cc
 
 -- a part and a whole whose keys rise share their first n items, if what isn't in the part lies beyond its first n
@@ -67,10 +67,10 @@ Climbs-shared {X} cmp o key (suc n) (p ∷ ps) (w ∷ ws) c d f g =
     let behind : (w ≡ p) ⊎ Precedes cmp key p w = elim (g w (inl refl)) [ inl h ↦ In-first cmp key p w ps c h | inr h ↦ inr h.0 ] in
     let first : p ≡ w = first-same cmp o key p w (In-first cmp key w p ws d (f p (inl refl))) behind in
     let rest : take n ps ≡ take n ws =
-        Climbs-shared cmp o key n ps ws c.1 d.1
-        (λ z h. In-behind cmp o key p w z ws first (AllByRecursion-In (Precedes cmp key p) ps c.0 z h) (f z (inr h)))
-        (λ z h. elim (g z (inr h)) [
-          | inl k ↦ inl (In-behind cmp o key w p z ps (sym first) (AllByRecursion-In (Precedes cmp key w) ws d.0 z h) k)
-          | inr k ↦ inr k.1
-        ]) in
+    Climbs-shared cmp o key n ps ws c.1 d.1
+    (λ z h. In-behind cmp o key p w z ws first (AllByRecursion-In (Precedes cmp key p) ps c.0 z h) (f z (inr h)))
+    (λ z h. elim (g z (inr h)) [
+      | inl k ↦ inl (In-behind cmp o key w p z ps (sym first) (AllByRecursion-In (Precedes cmp key w) ws d.0 z h) k)
+      | inr k ↦ inr k.1
+    ]) in
     cc

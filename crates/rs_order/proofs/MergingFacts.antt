@@ -1,5 +1,5 @@
 -- The merge of two lists has the items of both, and its keys rise where theirs do.
-use Rattle.std.proofs.Common.{◌≡◌, List, [], ◌∷◌, Bool, true, false, cond, refl, ◌∙◌, ap, ◌⊎◌, inl, inr}
+use Rattle.std.proofs.Common.{◌≡◌, List, [], ◌∷◌, true, false, cond, refl, ◌∙◌, ap, ◌⊎◌, inl, inr}
 use Rattle.std.specs.Cmp.{IsTotalOrder}
 use Rattle.std.specs.Ordering.{is_gt, ordering_reverse}
 use Rattle.std.specs.declared.cmp.Ordering.{Ordering}
@@ -15,13 +15,13 @@ In-woven-back cmp key x rest z A [] back h =
 In-woven-back cmp key x rest z A (y ∷ ys) back h =
     (elim (is_gt (cmp (key x) (key y))) as (λ b. In z (cond b (y ∷ woven cmp key x rest ys) (x ∷ rest (y ∷ ys))) → ((z ≡ x) ⊎ A) ⊎ In z (y ∷ ys)) [
       | true ↦ λ k. elim k [
-          | inl e ↦ inr (inl e)
-          | inr l ↦ elim (In-woven-back cmp key x rest z A ys back l) [ inl m ↦ inl m | inr m ↦ inr (inr m) ]
-        ]
+        | inl e ↦ inr (inl e)
+        | inr l ↦ elim (In-woven-back cmp key x rest z A ys back l) [ inl m ↦ inl m | inr m ↦ inr (inr m) ]
+      ]
       | false ↦ λ k. elim k [
-          | inl e ↦ inl (inl e)
-          | inr l ↦ elim (back (y ∷ ys) l) [ inl a ↦ inl (inr a) | inr m ↦ inr m ]
-        ]
+        | inl e ↦ inl (inl e)
+        | inr l ↦ elim (back (y ∷ ys) l) [ inl a ↦ inl (inr a) | inr m ↦ inr m ]
+      ]
     ]) h
 
 -- and each of these is in what is woven
@@ -31,13 +31,13 @@ In-woven cmp key x rest z A [] there h =
 In-woven cmp key x rest z A (y ∷ ys) there h =
     elim (is_gt (cmp (key x) (key y))) as (λ b. In z (cond b (y ∷ woven cmp key x rest ys) (x ∷ rest (y ∷ ys)))) [
       | true ↦ elim h [
-          | inl k ↦ inr (In-woven cmp key x rest z A ys there (inl k))
-          | inr k ↦ elim k [ inl e ↦ inl e | inr l ↦ inr (In-woven cmp key x rest z A ys there (inr l)) ]
-        ]
+        | inl k ↦ inr (In-woven cmp key x rest z A ys there (inl k))
+        | inr k ↦ elim k [ inl e ↦ inl e | inr l ↦ inr (In-woven cmp key x rest z A ys there (inr l)) ]
+      ]
       | false ↦ elim h [
-          | inl k ↦ elim k [ inl e ↦ inl e | inr a ↦ inr (there (y ∷ ys) (inl a)) ]
-          | inr k ↦ inr (there (y ∷ ys) (inr k))
-        ]
+        | inl k ↦ elim k [ inl e ↦ inl e | inr a ↦ inr (there (y ∷ ys) (inl a)) ]
+        | inr k ↦ inr (there (y ∷ ys) (inr k))
+      ]
     ]
 
 -- the items of a merge are those of the two lists
@@ -58,25 +58,31 @@ Precedes-all {X} cmp o key x y ys e climbs =
 
 -- the keys of what is woven rise where those of the rest do
 Climbs-woven : {X K : Type 0} (cmp : K → K → Ordering) → IsTotalOrder cmp → (key : X → K) (x : X) (xs ys : List X) → ((ws : List X) → Climbs cmp key ws → ((v w : X) → In v xs → In w ws → Differs cmp key v w) → Climbs cmp key (merged cmp key xs ws)) → Climbs cmp key (x ∷ xs) → Climbs cmp key ys → ((v w : X) → In v (x ∷ xs) → In w ys → Differs cmp key v w) → Climbs cmp key (woven cmp key x (merged cmp key xs) ys)
-Climbs-woven {X} cmp o key x xs [] rest c d apart =
-    (AllByRecursion-from_In (Precedes cmp key x) (merged cmp key xs []) (λ z h. elim (In-merged-back cmp key z xs [] h) [
-      | inl k ↦ AllByRecursion-In (Precedes cmp key x) xs c.0 z k
-      | inr none ↦ absurd none
-    ]), rest [] tt (λ v w h none. absurd none))
+Climbs-woven {X} cmp o key x xs [] rest c d apart = (
+  AllByRecursion-from_In (Precedes cmp key x) (merged cmp key xs []) (λ z h. elim (In-merged-back cmp key z xs [] h) [
+    | inl k ↦ AllByRecursion-In (Precedes cmp key x) xs c.0 z k
+    | inr none ↦ absurd none
+  ]),
+  rest [] tt (λ v w h none. absurd none),
+)
 Climbs-woven {X} cmp o key x xs (y ∷ ys) rest c d apart =
     (elim (cmp (key x) (key y)) as (λ r. cmp (key x) (key y) ≡ r → Climbs cmp key (cond (is_gt r) (y ∷ woven cmp key x (merged cmp key xs) ys) (x ∷ merged cmp key xs (y ∷ ys)))) [
-      | Less ↦ λ e.
-          (AllByRecursion-from_In (Precedes cmp key x) (merged cmp key xs (y ∷ ys)) (λ z h. elim (In-merged-back cmp key z xs (y ∷ ys) h) [
-            | inl k ↦ AllByRecursion-In (Precedes cmp key x) xs c.0 z k
-            | inr k ↦ Precedes-all cmp o key x y ys e d z k
-          ]), rest (y ∷ ys) d (λ v w h k. apart v w (inr h) k))
+      | Less ↦ λ e. (
+        AllByRecursion-from_In (Precedes cmp key x) (merged cmp key xs (y ∷ ys)) (λ z h. elim (In-merged-back cmp key z xs (y ∷ ys) h) [
+          | inl k ↦ AllByRecursion-In (Precedes cmp key x) xs c.0 z k
+          | inr k ↦ Precedes-all cmp o key x y ys e d z k
+        ]),
+        rest (y ∷ ys) d (λ v w h k. apart v w (inr h) k),
+      )
       | Equal ↦ λ e. absurd (apart x y (inl refl) (inl refl) e)
       | Greater ↦ λ e.
-          let less : cmp (key y) (key x) ≡ Less = o.antisymm (key y) (key x) ∙ ap ordering_reverse e in
-          (AllByRecursion-from_In (Precedes cmp key y) (woven cmp key x (merged cmp key xs) ys) (λ z h. elim (In-merged-back cmp key z (x ∷ xs) ys h) [
-            | inl k ↦ Precedes-all cmp o key y x xs less c z k
-            | inr k ↦ AllByRecursion-In (Precedes cmp key y) ys d.0 z k
-          ]), Climbs-woven cmp o key x xs ys rest c d.1 (λ v w h k. apart v w h (inr k)))
+          let less : cmp (key y) (key x) ≡ Less = o.antisymm (key y) (key x) ∙ ap ordering_reverse e in (
+            AllByRecursion-from_In (Precedes cmp key y) (woven cmp key x (merged cmp key xs) ys) (λ z h. elim (In-merged-back cmp key z (x ∷ xs) ys h) [
+              | inl k ↦ Precedes-all cmp o key y x xs less c z k
+              | inr k ↦ AllByRecursion-In (Precedes cmp key y) ys d.0 z k
+            ]),
+            Climbs-woven cmp o key x xs ys rest c d.1 (λ v w h k. apart v w h (inr k)),
+          )
     ]) refl
 
 -- the keys of a merge rise where those of the two lists do, and none is in both

@@ -1,5 +1,5 @@
 -- Sorting keeps the items, and where no two keys are equal, the keys of what is sorted rise.
-use Rattle.std.proofs.Common.{◌≡◌, List, [], ◌∷◌, Bool, true, false, cond, refl, sym, ◌∙◌, ap, subst, ◌⊎◌, inl, inr}
+use Rattle.std.proofs.Common.{◌≡◌, List, [], ◌∷◌, true, false, cond, refl, sym, ◌∙◌, ap, subst, ◌⊎◌, inl, inr}
 use Rattle.std.specs.List.{AllByRecursion}
 use Rattle.std.specs.Cmp.{IsTotalOrder, tied_back}
 use Rattle.std.specs.Ordering.{is_lt, on, ordering_reverse, ordering_then, then_cmp}
@@ -16,9 +16,9 @@ In-put cmp key x (y ∷ ys) z h =
     elim (is_lt (cmp (key x) (key y))) as (λ b. In z (cond b (x ∷ y ∷ ys) (y ∷ put cmp key x ys))) [
       | true ↦ h
       | false ↦ elim h [
-          | inl e ↦ inr (In-put cmp key x ys z (inl e))
-          | inr k ↦ elim k [ inl e ↦ inl e | inr l ↦ inr (In-put cmp key x ys z (inr l)) ]
-        ]
+        | inl e ↦ inr (In-put cmp key x ys z (inl e))
+        | inr k ↦ elim k [ inl e ↦ inl e | inr l ↦ inr (In-put cmp key x ys z (inr l)) ]
+      ]
     ]
 
 -- and no others
@@ -28,9 +28,9 @@ In-put-back cmp key x (y ∷ ys) z h =
     (elim (is_lt (cmp (key x) (key y))) as (λ b. In z (cond b (x ∷ y ∷ ys) (y ∷ put cmp key x ys)) → In z (x ∷ y ∷ ys)) [
       | true ↦ λ k. k
       | false ↦ λ k. elim k [
-          | inl e ↦ inr (inl e)
-          | inr l ↦ elim (In-put-back cmp key x ys z l) [ inl e ↦ inl e | inr m ↦ inr (inr m) ]
-        ]
+        | inl e ↦ inr (inl e)
+        | inr l ↦ elim (In-put-back cmp key x ys z l) [ inl e ↦ inl e | inr m ↦ inr (inr m) ]
+      ]
     ]) h
 
 -- the same of items that are put in one after another
