@@ -2,3 +2,4 @@ pub mod AsksFacts
 pub mod ClimbingFacts
 pub mod MergingFacts
 pub mod SortingFacts
+pub mod Worked
