@@ -1,6 +1,8 @@
 -- Sorting keeps the items, and where no two keys are equal, the keys of what is sorted rise.
-use Rattle.std.proofs.Common.{◌≡◌, List, [], ◌∷◌, true, false, cond, refl, sym, ◌∙◌, ap, subst, ◌⊎◌, inl, inr}
+use Rattle.std.proofs.Common.{◌≡◌, List, [], ◌∷◌, true, false, cond, refl, sym, ◌∙◌, ap, subst, ◌⊎◌, inl, inr, ◌++◌, append-nil, arith}
 use Rattle.std.specs.List.{AllByRecursion}
+use Rattle.std.specs.List.Sorted.{IsPermutation}
+use Rattle.std.proofs.lemmas.List.Sorted.{IsPermutation-refl, IsPermutation-cons, IsPermutation-swap, IsPermutation-trans, IsPermutation-middle, IsPermutation-append_left}
 use Rattle.std.specs.Cmp.{IsTotalOrder, tied_back}
 use Rattle.std.specs.Ordering.{is_lt, on, ordering_reverse, ordering_then, then_cmp}
 use Rattle.std.specs.declared.cmp.Ordering.TheVariants.{Less, Equal, Greater}
@@ -163,3 +165,28 @@ put_each-places {X} cmp key by o place ordered (x ∷ xs) climbs before =
 -- sorting by the key alone sorts by the key and then the place
 pub sorted-places : {X K L : Type 0} (cmp : K → K → Ordering) (key : X → K) (by : L → L → Ordering) → IsTotalOrder by → (place : X → L) (xs : List X) → Climbs by place xs → sorted cmp key xs ≡ sorted (then_cmp (on key cmp) (on place by)) (λ x. x) xs
 sorted-places cmp key by o place xs climbs = put_each-places cmp key by o place [] xs climbs (λ z h. tt)
+
+-- putting an item in adds it to the list
+IsPermutation-put : {X K : Type 0} (cmp : K → K → Ordering) (key : X → K) (x : X) (ys : List X) → IsPermutation (x ∷ ys) (put cmp key x ys)
+IsPermutation-put cmp key x [] = IsPermutation-refl (x ∷ [])
+IsPermutation-put cmp key x (y ∷ ys) =
+    elim (is_lt (cmp (key x) (key y))) as (λ b. IsPermutation (x ∷ y ∷ ys) (cond b (x ∷ y ∷ ys) (y ∷ put cmp key x ys))) [
+      | true ↦ IsPermutation-refl (x ∷ y ∷ ys)
+      | false ↦ IsPermutation-trans (x ∷ y ∷ ys) (y ∷ x ∷ ys) (y ∷ put cmp key x ys)
+          (IsPermutation-swap (x ∷ y ∷ ys) (y ∷ x ∷ ys) 0 1 (omega arith) (omega arith) refl)
+          (IsPermutation-cons y (x ∷ ys) (put cmp key x ys) (IsPermutation-put cmp key x ys))
+    ]
+
+-- the items that were there and those that were put in
+IsPermutation-put_each : {X K : Type 0} (cmp : K → K → Ordering) (key : X → K) (ordered xs : List X) → IsPermutation (ordered ++ xs) (put_each cmp key ordered xs)
+IsPermutation-put_each cmp key ordered [] = rw append-nil (IsPermutation-refl ordered)
+IsPermutation-put_each cmp key ordered (x ∷ xs) =
+    IsPermutation-trans (ordered ++ x ∷ xs) (put cmp key x ordered ++ xs) (put_each cmp key ordered (x ∷ xs))
+    (IsPermutation-trans (ordered ++ x ∷ xs) (x ∷ (ordered ++ xs)) (put cmp key x ordered ++ xs)
+    (IsPermutation-middle ordered x xs)
+    (IsPermutation-append_left xs (x ∷ ordered) (put cmp key x ordered) (IsPermutation-put cmp key x ordered)))
+    (IsPermutation-put_each cmp key (put cmp key x ordered) xs)
+
+-- a sorted list has the items of the list, each as often
+pub IsPermutation-sorted : {X K : Type 0} (cmp : K → K → Ordering) (key : X → K) (xs : List X) → IsPermutation xs (sorted cmp key xs)
+IsPermutation-sorted cmp key xs = IsPermutation-put_each cmp key [] xs

@@ -12,5 +12,6 @@ pub use asks::{asks_are_exact, asks_grow, bars_rise, those_before_come_first};
 pub use climbing::{first_items_are_shared, same_items_make_one_list};
 pub use merging::{merged_climbs, merged_has_the_items};
 pub use sorting::{
-    sorted_climbs, sorted_has_the_items, sorted_keeps_places, sorted_twice_is_sorted_once,
+    sorted_climbs, sorted_has_the_items, sorted_is_permutation, sorted_keeps_places,
+    sorted_twice_is_sorted_once,
 };

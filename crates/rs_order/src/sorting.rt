@@ -1,6 +1,7 @@
 //! Laws of the order of a list by a key. The functions compute nothing; each is called for its contract.
 
 ghost use Rattle.std.specs.Prelude.{◌≡◌, List};
+ghost use Rattle.std.specs.List.Sorted.{IsPermutation};
 ghost use Rattle.std.specs.Ordering.{on, then_cmp};
 ghost use Rattle.rs_order.specs.Climbing.{Climbs, HasDistinctKeys, SameItems};
 ghost use Rattle.rs_order.specs.Sorting.{sorted};
@@ -13,6 +14,11 @@ pub fn sorted_climbs<X, K: Ord>()
 /// A sorted list has the items of the list.
 pub fn sorted_has_the_items<X, K: Ord>()
     ensures { (key : X → K) (xs : List X) → SameItems xs (sorted K.cmp key xs) }
+{}
+
+/// A sorted list has each item as often as the list has it.
+pub fn sorted_is_permutation<X, K: Ord>()
+    ensures { (key : X → K) (xs : List X) → IsPermutation xs (sorted K.cmp key xs) }
 {}
 
 /// A list that was sorted by some key, and then by a second one, is the list sorted by the second one, if no two items

@@ -6,6 +6,7 @@ fn laws_hold_of_numbers(_rt: HostRuntime) {
     first_items_are_shared::<(u64, u32), u64>();
     sorted_climbs::<(u64, u32), u64>();
     sorted_has_the_items::<(u64, u32), u64>();
+    sorted_is_permutation::<(u64, u32), u64>();
     sorted_twice_is_sorted_once::<(u64, u32), u64, u32>();
     sorted_keeps_places::<(u64, u32), u64, u32>();
     merged_climbs::<(u64, u32), u64>();
