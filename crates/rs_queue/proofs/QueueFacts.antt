@@ -1,6 +1,6 @@
 -- Pairs in order: putting one in, finding its place by halving, and the same pairs the other way round.
 use Rattle.std.proofs.Common.{◌≡◌, ℕ, zero, suc, ◌+◌, ◌<◌, ◌≤◌, Bool, true, false, cond, ◌||◌, ◌&&◌, ltb, List, [], ◌∷◌, ◌++◌, length, get_or, take, drop, reverse, refl, sym, ◌∙◌, ap, subst, arith, append_assoc, length-append, add-one}
-use Rattle.std.proofs.lemmas.Bool.{or_parts, true_not_false, le-ltb, lt-ltb}
+use Rattle.std.proofs.lemmas.Bool.{or_parts, true≢false}
 use Rattle.std.proofs.lemmas.List.{take-append-drop, reverse-append, reverse-reverse, drop_more, drop_all}
 use Rattle.std.proofs.lemmas.List.Sorted.{IsPermutation-refl, IsPermutation-cons, IsPermutation-swap, IsPermutation-trans}
 use Rattle.std.proofs.Math.Bool.{or_comm}
@@ -59,23 +59,40 @@ reverse-parts xs place = ap reverse (sym (take-append-drop place xs)) ∙ revers
 -- answers of an order by their tests
 lt-Less : (o : Ordering) → is_lt o ≡ true → o ≡ Less
 lt-Less Less e = refl
-lt-Less Equal e = absurd (true_not_false (sym e))
-lt-Less Greater e = absurd (true_not_false (sym e))
+lt-Less Equal e = absurd (true≢false (sym e))
+lt-Less Greater e = absurd (true≢false (sym e))
 
 gt-Greater : (o : Ordering) → is_gt o ≡ true → o ≡ Greater
-gt-Greater Less e = absurd (true_not_false (sym e))
-gt-Greater Equal e = absurd (true_not_false (sym e))
+gt-Greater Less e = absurd (true≢false (sym e))
+gt-Greater Equal e = absurd (true≢false (sym e))
 gt-Greater Greater e = refl
 
 neither-Greater : (o : Ordering) → is_lt o ≡ false → is_eq o ≡ false → o ≡ Greater
-neither-Greater Less e f = absurd (true_not_false e)
-neither-Greater Equal e f = absurd (true_not_false f)
+neither-Greater Less e f = absurd (true≢false e)
+neither-Greater Equal e f = absurd (true≢false f)
 neither-Greater Greater e f = refl
 
 not_gt-lt : (o : Ordering) → is_gt o ≡ false → is_eq o ≡ false → is_lt o ≡ true
 not_gt-lt Less e f = refl
-not_gt-lt Equal e f = absurd (true_not_false f)
-not_gt-lt Greater e f = absurd (true_not_false e)
+not_gt-lt Equal e f = absurd (true≢false f)
+not_gt-lt Greater e f = absurd (true≢false e)
+
+module _ {K : Type 0} {cmp : K → K → Ordering} (total : IsTotalOrder cmp) where
+  -- what comes after a key is what the key comes before
+  Greater-Less : (x y : K) → cmp x y ≡ Greater → cmp y x ≡ Less
+  Greater-Less x y e = total.antisymm y x ∙ ap ordering_reverse e
+
+  Less-Greater : (x y : K) → cmp x y ≡ Less → cmp y x ≡ Greater
+  Less-Greater x y e = total.antisymm y x ∙ ap ordering_reverse e
+
+  -- what comes before a key that isn't after another one comes before that one
+  Less-not_gt : (x y z : K) → cmp x y ≡ Less → is_gt (cmp y z) ≡ false → cmp x z ≡ Less
+  Less-not_gt x y z below most = go (cmp y z) refl
+    where
+      go : (o : Ordering) → cmp y z ≡ o → cmp x z ≡ Less
+      go Less e = total.trans x y z below e
+      go Equal e = total.antisymm x z ∙ ap ordering_reverse (sym (total.congr y z x e) ∙ Less-Greater x y below)
+      go Greater e = absurd (true≢false (sym (ap is_gt e) ∙ most))
 
 module _ {K V : Type 0} (cmp : K → K → Ordering) where
   -- what holds of a pair and of each pair of a list holds of each once the pair is put in
@@ -164,22 +181,6 @@ module _ {K V : Type 0} (cmp : K → K → Ordering) where
   All-has_key key (pair ∷ rest) e = let parts = or_parts (is_eq (cmp pair.0 key)) (has_key cmp key rest) e in (parts.0, All-has_key key rest parts.1)
 
   module _ (total : IsTotalOrder cmp) where
-    -- what comes after a key is what the key comes before
-    Greater-Less : (x y : K) → cmp x y ≡ Greater → cmp y x ≡ Less
-    Greater-Less x y e = total.antisymm y x ∙ ap ordering_reverse e
-
-    Less-Greater : (x y : K) → cmp x y ≡ Less → cmp y x ≡ Greater
-    Less-Greater x y e = total.antisymm y x ∙ ap ordering_reverse e
-
-    -- what comes before a key that isn't after another one comes before that one
-    Less-not_gt : (x y z : K) → cmp x y ≡ Less → is_gt (cmp y z) ≡ false → cmp x z ≡ Less
-    Less-not_gt x y z below most = go (cmp y z) refl
-      where
-        go : (o : Ordering) → cmp y z ≡ o → cmp x z ≡ Less
-        go Less e = total.trans x y z below e
-        go Equal e = total.antisymm x z ∙ ap ordering_reverse (sym (total.congr y z x e) ∙ Less-Greater x y below)
-        go Greater e = absurd (true_not_false (sym (ap is_gt e) ∙ most))
-
     -- a pair is put in with keys still rising
     pub Rises-insert_by : (key : K) (item : V) (pairs : List (K × V)) → Rises cmp pairs → has_key cmp key pairs ≡ false → Rises cmp (insert_by cmp key item pairs)
     Rises-insert_by key item [] rises free = (tt, tt)
@@ -188,7 +189,7 @@ module _ {K V : Type 0} (cmp : K → K → Ordering) where
         (elim (is_lt (cmp pair.0 key)) as (λ b. is_lt (cmp pair.0 key) ≡ b → Rises cmp (cond b (pair ∷ insert_by cmp key item rest) ((key, item) ∷ pair ∷ rest))) [
           | true ↦ λ e. (All-insert_by (λ later. cmp pair.0 later.0 ≡ Less) key item rest (lt-Less (cmp pair.0 key) e) rises.0, Rises-insert_by key item rest rises.1 parts.1)
           | false ↦ λ e.
-              let first = Greater-Less pair.0 key (neither-Greater (cmp pair.0 key) e parts.0) in
+              let first = Greater-Less total pair.0 key (neither-Greater (cmp pair.0 key) e parts.0) in
               ((first, All-weaker (λ later. cmp pair.0 later.0 ≡ Less) (λ later. cmp key later.0 ≡ Less) (λ later behind. total.trans key pair.0 later.0 first behind) rest rises.0), rises)
         ]) refl
 
@@ -199,14 +200,14 @@ module _ {K V : Type 0} (cmp : K → K → Ordering) where
     All-front key (pair ∷ rest) (suc i) d falls within after =
         let inner : i < length rest = omega arith in
         let below = All-at (λ later. cmp later.0 pair.0 ≡ Less) rest i d falls.0 inner in
-        let least = Greater-Less (get_or rest i d).0 key (gt-Greater (cmp (get_or rest i d).0 key) after) in
-        (ap is_gt (Less-Greater key pair.0 (total.trans key (get_or rest i d).0 pair.0 least below)), All-front key rest i d falls.1 inner after)
+        let least = Greater-Less total (get_or rest i d).0 key (gt-Greater (cmp (get_or rest i d).0 key) after) in
+        (ap is_gt (Less-Greater total key pair.0 (total.trans key (get_or rest i d).0 pair.0 least below)), All-front key rest i d falls.1 inner after)
 
     -- where it doesn't come after the other one, neither do all behind it
     pub All-back : (key : K) (pairs : List (K × V)) (i : ℕ) (d : K × V) → Falls pairs → i < length pairs → is_gt (cmp (get_or pairs i d).0 key) ≡ false → AllByRecursion (λ pair. is_gt (cmp pair.0 key) ≡ false) (drop i pairs)
     All-back key [] i d falls within most = absurd (omega arith)
     All-back key (pair ∷ rest) zero d falls within most =
-        (most, All-weaker (λ later. cmp later.0 pair.0 ≡ Less) (λ later. is_gt (cmp later.0 key) ≡ false) (λ later below. ap is_gt (Less-not_gt later.0 pair.0 key below most)) rest falls.0)
+        (most, All-weaker (λ later. cmp later.0 pair.0 ≡ Less) (λ later. is_gt (cmp later.0 key) ≡ false) (λ later below. ap is_gt (Less-not_gt total later.0 pair.0 key below most)) rest falls.0)
     All-back key (pair ∷ rest) (suc i) d falls within most = All-back key rest i d falls.1 (omega arith) most
 
     -- a pair that is put in at its place, the other way round
@@ -229,7 +230,7 @@ module _ {K V : Type 0} (cmp : K → K → Ordering) where
     -- no key behind one that doesn't come after another is equal to that one
     has_key-back : (key : K) (pair : K × V) (rest : List (K × V)) → Falls (pair ∷ rest) → is_gt (cmp pair.0 key) ≡ false → has_key cmp key rest ≡ false
     has_key-back key pair rest falls most =
-        has_key-none key rest (All-weaker (λ later. cmp later.0 pair.0 ≡ Less) (λ later. is_eq (cmp later.0 key) ≡ false) (λ later below. ap is_eq (Less-not_gt later.0 pair.0 key below most)) rest falls.0)
+        has_key-none key rest (All-weaker (λ later. cmp later.0 pair.0 ≡ Less) (λ later. is_eq (cmp later.0 key) ≡ false) (λ later below. ap is_eq (Less-not_gt total later.0 pair.0 key below most)) rest falls.0)
 
     Falls-drop : (pairs : List (K × V)) (place : ℕ) → Falls pairs → Falls (drop place pairs)
     Falls-drop pairs zero falls = falls
@@ -255,3 +256,9 @@ module _ {K V : Type 0} (cmp : K → K → Ordering) where
 
     pub has_key-past : (key : K) (pairs : List (K × V)) (place : ℕ) → AllByRecursion (λ pair. is_gt (cmp pair.0 key) ≡ true) (take place pairs) → length pairs ≤ place → has_key cmp key (reverse pairs) ≡ false
     has_key-past key pairs place after past = has_key-front key pairs place after ∙ ap (has_key cmp key) (drop_all place pairs past)
+
+    -- a push, of which the list of the pairs tells whether it went well
+    pub Rises-push : (key : K) (item : V) (pairs new : List (K × V)) (place : ℕ) (done : Bool) → new ≡ cond done (insert pairs place (key, item)) pairs → Rises cmp (reverse pairs) → AllByRecursion (λ pair. is_gt (cmp pair.0 key) ≡ true) (take place pairs) → AllByRecursion (λ pair. is_gt (cmp pair.0 key) ≡ false) (drop place pairs) → has_key cmp key (reverse pairs) ≡ false → Rises cmp (reverse new)
+    Rises-push key item pairs new place true is rises after rest free =
+        subst (Rises cmp) (sym (ap reverse is ∙ insert_by-reverse key item pairs place after rest free)) (Rises-insert_by key item (reverse pairs) rises free)
+    Rises-push key item pairs new place false is rises after rest free = subst (λ xs. Rises cmp (reverse xs)) (sym is) rises
