@@ -219,11 +219,14 @@ module _ {K V : Type 0} (cmp : K → K → Ordering) where
       where
         all_other : AllByRecursion (λ pair. is_eq (cmp pair.0 key) ≡ false) (take place pairs ++ drop place pairs)
         all_other = All-has_key key (take place pairs ++ drop place pairs) (ap (has_key cmp key) (take-append-drop place pairs) ∙ sym (has_key-reverse key pairs) ∙ free)
+
         both : (xs : List (K × V)) → AllByRecursion (λ pair. is_gt (cmp pair.0 key) ≡ false) xs → AllByRecursion (λ pair. is_eq (cmp pair.0 key) ≡ false) xs → AllByRecursion (λ pair. is_lt (cmp pair.0 key) ≡ true) xs
         both [] most other = tt
         both (pair ∷ xs) most other = (not_gt-lt (cmp pair.0 key) most.0 other.0, both xs most.1 other.1)
+
         before : AllByRecursion (λ pair. is_lt (cmp pair.0 key) ≡ true) (drop place pairs)
         before = both (drop place pairs) rest (All-parts (λ pair. is_eq (cmp pair.0 key) ≡ false) (take place pairs) (drop place pairs) all_other).1
+
         behind : AllByRecursion (λ pair. is_lt (cmp pair.0 key) ≡ false) (take place pairs)
         behind = All-weaker (λ pair. is_gt (cmp pair.0 key) ≡ true) (λ pair. is_lt (cmp pair.0 key) ≡ false) (λ pair e. ap is_lt (gt-Greater (cmp pair.0 key) e)) (take place pairs) after
 
@@ -251,6 +254,7 @@ module _ {K V : Type 0} (cmp : K → K → Ordering) where
       where
         here : drop place pairs ≡ get_or pairs place d ∷ drop (place + 1) pairs
         here = drop_more pairs place d within
+
         none : has_key cmp key (drop (place + 1) pairs) ≡ false
         none = has_key-back key (get_or pairs place d) (drop (place + 1) pairs) (subst Falls here (Falls-drop pairs place (Falls-reverse pairs rises))) (subst (AllByRecursion (λ pair. is_gt (cmp pair.0 key) ≡ false)) here rest).0
 

@@ -11,7 +11,7 @@ loop-low-preserved-then-is_gt g c =
     let most : c.loop-low.high ≤ length c.args.pairs.now = c.loop-low.invariant.1 in
     let within : c.loop-low.low + (c.loop-low.high - c.loop-low.low) / 2 < length c.args.pairs.now = omega arith in
     let front = All-front g.K.Ord.cmp g.met.K.Ord.total c.args.key.now c.args.pairs.now (c.loop-low.low + (c.loop-low.high - c.loop-low.low) / 2) c.index-pairs-middle.result
-          (Falls-reverse g.K.Ord.cmp c.args.pairs.now c.requires) within (ap is_gt (sym c.cmp.ensures) ∙ sym c.is_gt.ensures ∙ c.if-is_gt.true) in
+    (Falls-reverse g.K.Ord.cmp c.args.pairs.now c.requires) within (let answer = c.cmp.ensures in let test = c.is_gt.ensures in let branch = c.if-is_gt.true in cc) in
     (omega arith, most, rw add-one front, c.loop-low.invariant.3)
 
 pub loop-low-preserved : goal.loop-low-preserved
@@ -20,7 +20,7 @@ loop-low-preserved g c =
     let most : c.loop-low.high ≤ length c.args.pairs.now = c.loop-low.invariant.1 in
     let within : c.loop-low.low + (c.loop-low.high - c.loop-low.low) / 2 < length c.args.pairs.now = omega arith in
     let back = All-back g.K.Ord.cmp g.met.K.Ord.total c.args.key.now c.args.pairs.now (c.loop-low.low + (c.loop-low.high - c.loop-low.low) / 2) c.index-pairs-middle.result
-          (Falls-reverse g.K.Ord.cmp c.args.pairs.now c.requires) within (ap is_gt (sym c.cmp.ensures) ∙ sym c.is_gt.ensures ∙ c.if-is_gt.false) in
+    (Falls-reverse g.K.Ord.cmp c.args.pairs.now c.requires) within (let answer = c.cmp.ensures in let test = c.is_gt.ensures in let branch = c.if-is_gt.false in cc) in
     (omega arith, omega arith, c.loop-low.invariant.2, back)
 
 pub returns-clause-rest : goal.returns-clause-rest

@@ -18,9 +18,9 @@ invariant_of-self g c =
 pub returns-clause-ok : goal.returns-clause-ok
 returns-clause-ok g c =
     let put = insert_by-reverse g.K.Ord.cmp g.met.K.Ord.total c.args.key c.args.item c.self.inside.pairs.items c.place_of-place.result
-          (subst (λ pairs. AllByRecursion (λ pair. is_gt (g.K.Ord.cmp pair.0 c.args.key) ≡ true) (take c.place_of-place.result pairs)) c.deref.ensures.value c.place_of-place.ensures.after)
-          (subst (λ pairs. AllByRecursion (λ pair. is_gt (g.K.Ord.cmp pair.0 c.args.key) ≡ false) (drop c.place_of-place.result pairs)) c.deref.ensures.value c.place_of-place.ensures.rest)
-          (ap (has_key g.K.Ord.cmp c.args.key) c.self.view_is ∙ c.requires) in
+    (subst (λ pairs. AllByRecursion (λ pair. is_gt (g.K.Ord.cmp pair.0 c.args.key) ≡ true) (take c.place_of-place.result pairs)) c.deref.ensures.value c.place_of-place.ensures.after)
+    (subst (λ pairs. AllByRecursion (λ pair. is_gt (g.K.Ord.cmp pair.0 c.args.key) ≡ false) (drop c.place_of-place.result pairs)) c.deref.ensures.value c.place_of-place.ensures.rest)
+    (ap (has_key g.K.Ord.cmp c.args.key) c.self.view_is ∙ c.requires) in
     elim c.match-insert.branch [
       | in-Ok w ↦ rw w.result-is (ap reverse w.in-Ok.ensures.items ∙ put ∙ ap (insert_by g.K.Ord.cmp c.args.key c.args.item) c.self.view_is)
       | in-Err w ↦ rw w.result-is tt
