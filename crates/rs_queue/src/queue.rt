@@ -9,7 +9,7 @@ use std::alloc::Global;
 use std::marker::Model;
 
 /// Pairs of a key and an item, which contracts see as a list in the order of the keys. No two keys are equal by
-/// that order. A push moves the pairs that come before its own; a pop moves none.
+/// that order. A push finds its place by halving and moves the pairs that come before its own; a pop moves none.
 #[derive(Drop)]
 pub struct Queue<K: Ord, V> {
     // The first pair stands last.
