@@ -1,15 +1,14 @@
-ghost use Rattle.std.specs.Prelude.{◌≡◌, ◌≤◌, ◌<◌, ◌↔◌, ℕ, true, false, Some, None, List, [], length, take, drop, reverse, IsTrue, OnOk, OnErr, IfErr, IfSome, slice_index_or};
+ghost use Rattle.std.specs.Prelude.{◌≡◌, ◌≤◌, ◌↔◌, true, false, List, [], length, take, drop, reverse, IsTrue, OnOk, OnErr, IfErr};
 ghost use Rattle.std.specs.List.{AllByRecursion, slice_get};
 ghost use Rattle.std.specs.Option.{option_map};
 ghost use Rattle.std.specs.Ordering.{is_gt};
-ghost use Rattle.std.specs.declared.cmp.Ordering.TheVariants.{Less};
 ghost use Rattle.rs_queue.specs.Queue.{Rises, has_key, insert_by};
 
 use std::alloc::Global;
 use std::marker::Model;
 
 /// Pairs of a key and an item, which contracts see as a list in the order of the keys. No two keys are equal by
-/// that order. A push moves the pairs that come before its own; a pop moves none.
+/// that order. A push finds its place by halving and moves the pairs that come before its own; a pop moves none.
 #[derive(Drop)]
 pub struct Queue<K: Ord, V> {
     // The first pair stands last.

@@ -1,6 +1,5 @@
 //! What no clause says: that pushes are granted memory, and that keys come in their order.
 
-ghost use Rattle.std.specs.Prelude.{false};
 ghost use Rattle.std.proofs.Common.{rules};
 ghost use Rattle.std.specs.Cmp.{partial_order_from_own_ties};
 ghost use Rattle.std.specs.Cmp.Rules.{comparing};

@@ -1,8 +1,8 @@
 -- A key that is there stands at its place.
-use Rattle.std.proofs.Common.{◌≡◌, ◌<◌, ◌≤◌, true, false, length, reverse, take, drop, subst, sym, ap, ◌∙◌}
+use Rattle.std.proofs.Common.{◌≡◌, ◌<◌, ◌≤◌, true, false, length, take, drop, subst, sym, ap, ◌∙◌}
 use Rattle.std.proofs.lemmas.Bool.{le-ltb}
 use Rattle.std.specs.List.{AllByRecursion}
-use Rattle.std.specs.Ordering.{is_eq, is_gt}
+use Rattle.std.specs.Ordering.{is_gt}
 use Rattle.rs_queue.specs.Queue.{has_key}
 use Rattle.rs_queue.proofs.QueueFacts.{has_key-at, has_key-past}
 use Rattle.rs_queue.proofs.queue.Queue.has_key.Goals as goal

@@ -1,9 +1,9 @@
 -- The place divides the pairs that come before the new one from those that come after it.
-use Rattle.std.proofs.Common.{◌≡◌, true, false, reverse, take, drop, subst, sym, ap, ◌∙◌}
+use Rattle.std.proofs.Common.{◌≡◌, true, false, take, drop, subst, ap, ◌∙◌}
 use Rattle.std.specs.List.{AllByRecursion}
 use Rattle.std.specs.Result.{is_ok}
 use Rattle.std.specs.Ordering.{is_gt}
-use Rattle.rs_queue.specs.Queue.{has_key, insert_by}
+use Rattle.rs_queue.specs.Queue.{has_key}
 use Rattle.rs_queue.proofs.QueueFacts.{Rises-push, insert_by-reverse}
 use Rattle.rs_queue.proofs.queue.Queue.push.Goals.{in-Ok, in-Err}
 use Rattle.rs_queue.proofs.queue.Queue.push.Goals as goal
@@ -22,6 +22,6 @@ returns-clause-ok g c =
     (subst (λ pairs. AllByRecursion (λ pair. is_gt (g.K.Ord.cmp pair.0 c.args.key) ≡ false) (drop c.place_of-place.result pairs)) c.deref.ensures.value c.place_of-place.ensures.rest)
     (ap (has_key g.K.Ord.cmp c.args.key) c.self.view_is ∙ c.requires) in
     elim c.match-insert.branch [
-      | in-Ok w ↦ rw w.result-is (ap reverse w.in-Ok.ensures.items ∙ put ∙ ap (insert_by g.K.Ord.cmp c.args.key c.args.item) c.self.view_is)
+      | in-Ok w ↦ rw w.result-is (let items = w.in-Ok.ensures.items in let pairs = c.self.view_is in cc)
       | in-Err w ↦ rw w.result-is tt
     ]
