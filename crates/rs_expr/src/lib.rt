@@ -1,6 +1,4 @@
 //! Expressions. Only the comparisons stand so far.
 #![tactic(auto)]
 
-mod rel;
-
-pub use rel::Rel;
+pub use rs_value::Rel;

@@ -4,7 +4,7 @@ use Rattle.std.specs.Prelude.{codes}
 use Rattle.std.specs.List.{concat}
 use Rattle.rs_outside.specs.declared.files.FetchFault.TheVariants as fetch
 use Rattle.rs_outside.specs.declared.sink.SinkFault.TheVariants as sink
-use Rattle.rs_outside.specs.Faults.{raised}
+use Rattle.rs_value.specs.Faults.{raised}
 use Rattle.rs_outside.specs.Files.{Folder, file_named, with_file}
 use Rattle.rs_outside.specs.MemFiles.{MemFilesState, no_files, after_add, after_fail_at, fetch_answer, after_fetch}
 use Rattle.rs_outside.specs.MemSink.{MemSinkState, no_pieces, after_fail_put_at, put_answer, after_put}

@@ -4,7 +4,7 @@ use Rattle.std.specs.declared.io.ErrorKind.{ErrorKind}
 use Rattle.std.specs.declared.io.ErrorKind.TheVariants.{NotFound, OutOfMemory}
 use Rattle.rs_outside.specs.declared.files.FetchFault.{FetchFault}
 use Rattle.rs_outside.specs.declared.files.FetchFault.TheVariants.{Missing, TooLong, Failed, Memory}
-use Rattle.rs_outside.specs.Faults.{raised}
+use Rattle.rs_value.specs.Faults.{raised}
 use Rattle.rs_outside.specs.Sink.{IsPrefix}
 
 -- the fault that an error of the system is when a file is opened

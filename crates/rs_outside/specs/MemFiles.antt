@@ -3,7 +3,7 @@ use Rattle.std.specs.Prelude.{ℕ, ◌+◌, ◌≡◌, ◌==◌, nat_le, Bool, L
 use Rattle.std.specs.List.{list_any}
 use Rattle.rs_outside.specs.declared.files.FetchFault.{FetchFault}
 use Rattle.rs_outside.specs.declared.files.FetchFault.TheVariants.{Missing, TooLong, Failed, Memory}
-use Rattle.rs_outside.specs.Faults.{raised}
+use Rattle.rs_value.specs.Faults.{raised}
 use Rattle.rs_outside.specs.Files.{Folder, FilesTold, file_named, with_file}
 
 -- the files, the names that were fetched, the numbers of the fetches that are to fail, and how many failed

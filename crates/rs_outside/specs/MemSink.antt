@@ -2,7 +2,7 @@
 use Rattle.std.specs.Prelude.{ℕ, ◌+◌, ◌≡◌, ◌==◌, List, [], ◌∷◌, ◌++◌, length, take, find, Option, Some, None, option_map, is_some, Result, Ok, Err, if◌then◌else◌}
 use Rattle.rs_outside.specs.declared.sink.SinkFault.{SinkFault}
 use Rattle.rs_outside.specs.declared.sink.SinkFault.TheVariants.{Failed, Memory}
-use Rattle.rs_outside.specs.Faults.{raised}
+use Rattle.rs_value.specs.Faults.{raised}
 
 -- a put that is to fail: its number, counted from 1, and how many bytes it takes first
 pub record PutFailure : Type 0 where

@@ -3,7 +3,7 @@ use Rattle.std.specs.Prelude.{ℕ, ◌≡◌, List, Option, Result, Ok, Err, OnO
 use Rattle.std.specs.Io.KnownBytes.{Appends}
 use Rattle.rs_outside.specs.declared.sink.SinkFault.{SinkFault}
 use Rattle.rs_outside.specs.declared.sink.SinkFault.TheVariants.{Failed, Memory}
-use Rattle.rs_outside.specs.Faults.{raised}
+use Rattle.rs_value.specs.Faults.{raised}
 use Rattle.rs_outside.specs.Sink.{IsPrefix}
 
 -- a writer, and how many puts on it failed

@@ -3,7 +3,7 @@ ghost use Rattle.std.specs.Io.{ReadsAtMost};
 ghost use Rattle.std.specs.Io.KnownBytes.{ReadConsumes};
 ghost use Rattle.std.specs.IoError.{error_kind};
 ghost use Rattle.rs_outside.specs.DirFiles.{open_fault, read_fault, AppendsRest, AppendsSome, faults_after_fetch};
-ghost use Rattle.rs_outside.specs.Faults.{Rose};
+ghost use Rattle.rs_value.specs.Faults.{Rose};
 ghost use Rattle.rs_outside.specs.Files.{Fetches};
 
 use crate::files::{FetchFault, Files};

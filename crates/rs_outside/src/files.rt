@@ -1,5 +1,5 @@
 ghost use Rattle.std.specs.Prelude.{◌≡◌, ◌≢◌, ◌≤◌, ℕ, List, Option, IfSome, option_map};
-ghost use Rattle.rs_outside.specs.Faults.{Rose};
+ghost use Rattle.rs_value.specs.Faults.{Rose};
 ghost use Rattle.rs_outside.specs.Files.{FilesTold, file_named, Fetches, told_after};
 
 use rs_value::Text;

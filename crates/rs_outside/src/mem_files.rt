@@ -1,7 +1,7 @@
 ghost use Rattle.std.specs.Prelude.{◌≡◌, ◌≢◌, ◌≤◌, MatchOption, ℕ, List, Option, Some, None, IfSome, option_map, OnOk, OnErr, position};
 ghost use Rattle.std.specs.Str.{bytes_eq};
 ghost use Rattle.rs_value.specs.Answer.{Gives};
-ghost use Rattle.rs_outside.specs.Faults.{Rose};
+ghost use Rattle.rs_value.specs.Faults.{Rose};
 ghost use Rattle.rs_outside.specs.Files.{file_named, Fetches, told_after};
 ghost use Rattle.rs_outside.specs.MemFiles.{no_files, after_add, after_fail_at, is_fetch_planned, found_answer, fetch_answer, after_fetch, files_told, NoFetchFails};
 

@@ -1,7 +1,7 @@
 ghost use Rattle.std.specs.Prelude.{◌≡◌, ◌≢◌, ◌≤◌, Option, Some, OnOk, OnErr, ◌∷◌, ◌++◌, []};
 ghost use Rattle.std.specs.List.{concat};
 ghost use Rattle.rs_value.specs.Answer.{Gives};
-ghost use Rattle.rs_outside.specs.Faults.{Rose};
+ghost use Rattle.rs_value.specs.Faults.{Rose};
 ghost use Rattle.rs_outside.specs.Sink.{IsPrefix, Puts};
 ghost use Rattle.rs_outside.specs.MemSink.{no_pieces, after_fail_put_at, next_failure, taken_of, put_answer, after_put, NoPutFails};
 

@@ -1,5 +1,5 @@
 ghost use Rattle.std.specs.Prelude.{◌≡◌, ◌≢◌, ◌≤◌, ℕ, List, Option};
-ghost use Rattle.rs_outside.specs.Faults.{Rose};
+ghost use Rattle.rs_value.specs.Faults.{Rose};
 ghost use Rattle.rs_outside.specs.Sink.{Puts};
 
 /// Why bytes could not be put.

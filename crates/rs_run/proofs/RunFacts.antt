@@ -3,7 +3,7 @@ use Rattle.std.proofs.Common.{ℕ, ◌≡◌, ◌∙◌, ◌+◌, ◌≤◌, ◌
 use Rattle.std.specs.Prelude.{Option, Result, Ok, Err, IfSome, option_map, unwrap_or, ◌⊎◌}
 use Rattle.std.proofs.Common.{inl, inr}
 use Rattle.std.specs.List.{AllByRecursion}
-use Rattle.rs_outside.specs.Faults.{Rose}
+use Rattle.rs_value.specs.Faults.{Rose}
 use Rattle.rs_outside.specs.Files.{FilesTold, file_named}
 use Rattle.rs_outside.specs.Sink.{IsPrefix}
 use Rattle.rs_outside.specs.declared.files.FetchFault.TheVariants.{Failed}

@@ -1,6 +1,6 @@
 -- What a run did, beside what its definition says.
 use Rattle.std.specs.Prelude.{ℕ, ◌≡◌, ◌⊎◌, ⊤, Result, Ok, Err, List, [], ◌∷◌, ◌++◌, Option, Some, None, option_map}
-use Rattle.rs_outside.specs.Faults.{Rose}
+use Rattle.rs_value.specs.Faults.{Rose}
 use Rattle.rs_outside.specs.Files.{FilesTold, file_named}
 use Rattle.rs_outside.specs.Sink.{IsPrefix}
 use Rattle.rs_outside.specs.declared.files.FetchFault.TheVariants.{Failed}

@@ -2,7 +2,7 @@
 use Rattle.std.proofs.Common.{ℕ, ◌≡◌, ◌∙◌, ◌<◌, ◌≤◌, true, false, List, [], ◌∷◌, ◌++◌, Result, Ok, Err, refl, sym, ap, arith, append_assoc, map}
 use Rattle.std.specs.Prelude.{ℤ}
 use Rattle.std.proofs.lemmas.List.{append-nil, map-append}
-use Rattle.rs_expr.specs.declared.rel.Rel.{Rel}
+use Rattle.rs_value.specs.declared.rel.Rel.{Rel}
 use Rattle.rs_grammar.specs.Grammar.{Part, One, Many, Use, Tree, Leaf, Nothing, Pair, This, That, More, Node, ◌⨟◌, word, name, optional, start_of, expr, neg, comp, sum, sign, base, plain, absolute, extreme, brackets, case, when}
 use Rattle.rs_grammar.specs.Kinds.{accepts, comparisons, counted}
 use Rattle.rs_grammar.specs.Reading as reading

@@ -2,7 +2,7 @@
 use Rattle.std.proofs.Common.{ℕ, zero, suc, ◌≡◌, ◌+◌, ◌≤◌, Bool, true, false, List, [], ◌∷◌, length, take, drop, refl, sym, ap, subst, ◌∙◌, ◌++◌, append-nil, arith, inl, Some, None, lit≤, if◌then◌else◌}
 use Rattle.std.specs.Prelude.{Option, codes, pos}
 use Rattle.std.proofs.lemmas.List.{length-map, length-take, length-take-le, drop_all}
-use Rattle.rs_expr.specs.declared.rel.Rel.TheVariants.{Eq}
+use Rattle.rs_value.specs.declared.rel.Rel.TheVariants.{Eq}
 use Rattle.rs_value.specs.declared.kind.Kind.TheVariants as value
 use Rattle.rs_lex.specs.Front.{front_of}
 use Rattle.rs_lex.specs.Spelling.{Spells, token_at}

@@ -1,8 +1,8 @@
 -- The expression that a tree of derivation stands for, rule by rule. Repeated operators group to the left, and the span of a node
 -- runs from its first token to its last one.
 use Rattle.std.specs.Prelude.{ℕ, [], if◌then◌else◌}
-use Rattle.rs_expr.specs.declared.rel.Rel.{Rel}
-use Rattle.rs_expr.specs.declared.rel.Rel.TheVariants.{Eq, Ne, Lt, Le, Gt, Ge}
+use Rattle.rs_value.specs.declared.rel.Rel.{Rel}
+use Rattle.rs_value.specs.declared.rel.Rel.TheVariants.{Eq, Ne, Lt, Le, Gt, Ge}
 use Rattle.rs_grammar.specs.Grammar.{Tree, Leaf, Pair, This, That, More, Node}
 use Rattle.rs_grammar.specs.declared.kind.Kind.TheVariants.{Plus, Star, Equal, NotEqual, Less, LessEqual, Greater, Min}
 use Rattle.rs_syntax.specs.declared.name.ColRef.{ColRef}

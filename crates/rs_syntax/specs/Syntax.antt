@@ -1,6 +1,6 @@
 -- Statements, without where their parts lie in memory.
 use Rattle.std.specs.Prelude.{ℕ, ℤ, Bool, List, Option, option_map, map}
-use Rattle.rs_expr.specs.declared.rel.Rel.{Rel}
+use Rattle.rs_value.specs.declared.rel.Rel.{Rel}
 use Rattle.rs_lex.specs.declared.token.Span.{Span}
 use Rattle.rs_value.specs.declared.kind.Kind.{Kind}
 use Rattle.rs_syntax.specs.declared.name.Name.{Name}

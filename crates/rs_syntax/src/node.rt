@@ -1,7 +1,6 @@
 use crate::name::ColRef;
-use rs_expr::Rel;
 use rs_lex::Span;
-use rs_value::Text;
+use rs_value::{Rel, Text};
 
 /// An operator of arithmetic.
 #[derive(Clone, Copy, Debug, PartialEq, Eq)]

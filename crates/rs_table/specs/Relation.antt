@@ -1,11 +1,8 @@
 -- What a table is: columns, and rows that fit them.
-use Rattle.std.specs.Prelude.{ℕ, nat_abs, nat_le, ◌≡◌, ◌≤◌, ◌&&◌, Bool, true, false, List, [], ◌∷◌, length, Option, option_and_then, slice_get, ◌-◌}
+use Rattle.std.specs.Prelude.{ℕ, ◌≡◌, ◌≤◌, ◌&&◌, Bool, true, false, List, [], ◌∷◌, length, Option, option_and_then, slice_get, ◌-◌}
 use Rattle.std.specs.List.{AllByRecursion}
-use Rattle.rs_value.specs.Number.{greatest_int}
-use Rattle.rs_value.specs.declared.kind.Kind.{Kind}
-use Rattle.rs_value.specs.declared.kind.Kind.TheVariants as kind
+use Rattle.rs_value.specs.Value.{fits}
 use Rattle.rs_value.specs.declared.value.Value.{Value}
-use Rattle.rs_value.specs.declared.value.Value.TheVariants.{Int, Text}
 use Rattle.rs_table.specs.Column.{Column}
 
 pub record Relation : Type 0 where
@@ -15,13 +12,6 @@ pub record Relation : Type 0 where
 -- the most rows of a table
 abbrev pub most_rows : ℕ
 most_rows = 131072
-
--- a value is of this kind, and a number is in range
-abbrev pub fits : Kind → Value → Bool
-fits kind.Int (Int n) = nat_le (nat_abs n) greatest_int
-fits kind.Int (Text t) = false
-fits kind.Text (Int n) = false
-fits kind.Text (Text t) = true
 
 -- a row has a value for each column, each of its column's kind
 abbrev pub row_fits : List Column → List Value → Bool

@@ -1,4 +1,6 @@
 pub mod Answer
+pub mod Faults
 pub mod Text
 pub mod Number
+pub mod Rel
 pub mod Value

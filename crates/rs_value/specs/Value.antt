@@ -1,5 +1,6 @@
 -- Values: whole numbers and texts.
-use Rattle.std.specs.Prelude.{ℕ, List}
+use Rattle.std.specs.Prelude.{ℕ, nat_abs, nat_le, ◌&&◌, Bool, true, false, List, [], ◌∷◌}
+use Rattle.rs_value.specs.Number.{greatest_int}
 use Rattle.std.specs.Fmt.{signed_decimal}
 use Rattle.std.specs.Ordering.{nat_cmp, int_cmp}
 use Rattle.std.specs.Cmp.Lexicographic.{slice_cmp}
@@ -25,3 +26,17 @@ value_cmp (Int a) (Int b) = int_cmp a b
 value_cmp (Text a) (Text b) = slice_cmp nat_cmp a b
 value_cmp (Int a) (Text b) = Less
 value_cmp (Text a) (Int b) = Greater
+
+-- a value is of this kind, and a number is in range
+abbrev pub fits : Kind → Value → Bool
+fits kind.Int (Int n) = nat_le (nat_abs n) greatest_int
+fits kind.Int (Text t) = false
+fits kind.Text (Int n) = false
+fits kind.Text (Text t) = true
+
+-- values, each of its kind
+abbrev pub all_fit : List Kind → List Value → Bool
+all_fit [] [] = true
+all_fit [] (value ∷ values) = false
+all_fit (kind ∷ kinds) [] = false
+all_fit (kind ∷ kinds) (value ∷ values) = fits kind value && all_fit kinds values

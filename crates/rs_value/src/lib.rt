@@ -5,6 +5,7 @@ mod kind;
 mod list;
 mod memory;
 mod number;
+mod rel;
 mod text;
 mod value;
 
@@ -12,6 +13,7 @@ pub use kind::Kind;
 pub use list::List;
 pub use memory::Memory;
 pub use number::{GREATEST_INT, decimal_of, int_of};
+pub use rel::Rel;
 pub use text::{Text, TextFault};
 pub use value::Value;
 

@@ -194,3 +194,20 @@ fn says_why_bytes_are_no_text(rt: HostRuntime) -> Result<(), Fail> {
     );
     Ok(())
 }
+
+#[test]
+fn compares_by_each_comparison(rt: HostRuntime) {
+    let rows = [
+        (Rel::Eq, [false, true, false]),
+        (Rel::Ne, [true, false, true]),
+        (Rel::Lt, [true, false, false]),
+        (Rel::Le, [true, true, false]),
+        (Rel::Gt, [false, false, true]),
+        (Rel::Ge, [false, true, true]),
+    ];
+    for (rel, want) in rows {
+        for (number, holds) in [3, 4, 5].iter().zip(want) {
+            assert_eq!(rt; rel.holds(number.cmp(&4)), holds, "at {number} {rel:?} 4");
+        }
+    }
+}

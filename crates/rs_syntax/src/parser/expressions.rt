@@ -12,9 +12,9 @@ use crate::name::{ColRef, Name};
 use crate::node::{Node, Op};
 use crate::parser::nodes::{abs, and, arith, compare, greatest, least, neg, not, or};
 use crate::parser::{Fault, Parser};
-use rs_expr::Rel;
 use rs_grammar::{Kind, Lexeme};
 use rs_lex::Span;
+use rs_value::Rel;
 use std::alloc::Global;
 
 impl Parser {

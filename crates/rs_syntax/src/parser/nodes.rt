@@ -3,8 +3,8 @@ ghost use Rattle.rs_syntax.specs.Syntax.{Abs, And, Arith, Case, Compare, Greates
 
 use crate::node::{Node, Op};
 use crate::parser::Fault;
-use rs_expr::Rel;
 use rs_lex::Span;
+use rs_value::Rel;
 use std::alloc::{AllocFailed, Global};
 
 impl<T: Drop> From<AllocFailed<T>> for Fault {

@@ -3,7 +3,7 @@ use Rattle.rs_value.specs.declared.kind.Kind.{Kind}
 use Rattle.rs_value.specs.declared.kind.Kind.TheVariants.{Int}
 use Rattle.rs_value.specs.declared.value.Value.{Value}
 use Rattle.rs_value.specs.declared.value.Value.TheVariants.{Text}
-use Rattle.rs_table.specs.Relation.{fits}
+use Rattle.rs_value.specs.Value.{fits}
 use Rattle.rs_run.proofs.top.number_in.Goals as goal
 
 -- no text fits a column of numbers

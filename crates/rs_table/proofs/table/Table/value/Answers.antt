@@ -1,7 +1,8 @@
 use Rattle.std.proofs.Common.{◌≡◌, ◌-◌, true, List, length, get_or, subst, ap, arith}
 use Rattle.std.specs.Prelude.{Some}
 use Rattle.rs_value.specs.declared.value.Value.{Value}
-use Rattle.rs_table.specs.Relation.{Relation, IsTable, cell_at, fits}
+use Rattle.rs_table.specs.Relation.{Relation, IsTable, cell_at}
+use Rattle.rs_value.specs.Value.{fits}
 use Rattle.rs_table.proofs.RelationFacts.{IfOk-copy, IsCell-read, kind_of-fits, length-row}
 use Rattle.rs_table.proofs.table.Table.value.Goals as goal
 
