@@ -257,11 +257,54 @@ refused '1,001 statements' 'parse TooManyStatements at 8000'
 repeated 1000 'CLOSE a;' >s.sql
 refused '1,000 statements' 'not built statement 1'
 { printf 'CREATE PREDICATE p (v INT) MAX 10 AS ' && repeated 255 '(' && printf v && repeated 255 ')' && printf ';'; } >s.sql
-refused 'a formula as deep as may be' 'not built statement 1'
+expect 'a formula as deep as may be' 0 '' '' -- plain s.sql
 { printf 'CREATE PREDICATE p (v INT) MAX 10 AS ' && repeated 256 '(' && printf v && repeated 256 ')' && printf ';'; } >s.sql
 refused 'a formula that is too deep' 'parse TooDeep at 292'
 script 'CLOSE a;'
 refused 'a statement' 'not built statement 1'
+
+# ---- tables, predicates and rank indexes
+printf 'x,y\n10,3\n8,9\n5,1\n2,10\n' >t.csv
+base='CREATE TABLE h (name TEXT, price INT, city INT) FROM '"'h.csv'"';
+CREATE TABLE t (x INT, y INT) FROM '"'t.csv'"';
+CREATE PREDICATE p (v INT) MAX 10 AS v;
+CREATE PREDICATE near (a INT, b INT) MAX 100 AS 100 - ABS(a - b);
+CREATE RANK INDEX px ON t (p(x));
+'
+script "$base"
+expect 'tables, predicates and an index' 0 '' '' -- plain s.sql
+script "${base}CREATE RANK INDEX n ON h (near(h.price, -7)); CREATE RANK INDEX m ON h (near(price, city))"
+expect 'indexes of two arguments' 0 '' '' -- plain s.sql
+script "${base}CREATE RANK INDEX hx ON h (p(price));"
+expect 'a score that is too great' 7 '' $'score: p rows 1: 40 is not in 0..10\n' -- plain s.sql
+script "${base}CREATE PREDICATE less (v INT) MAX 9 AS v - 50; CREATE RANK INDEX l ON h (less(price));"
+expect 'a score below 0' 7 '' $'score: less rows 1: -10 is not in 0..9\n' -- plain s.sql
+script "${base}SELECT x FROM t ORDER BY p(x);"
+refused 'a query behind an index' 'not built statement 6'
+script "CREATE TABLE n (x INT) FROM 'nope.csv';"
+expect 'a table of a missing file' 3 '' $'read: nope.csv: missing\n' -- plain s.sql
+script "CREATE TABLE n (x INT) FROM 'DIR';"
+expect 'a table of a folder' 3 '' $'read: DIR: failed\n' -- plain s.sql
+script "CREATE TABLE n (x INT, z INT) FROM 't.csv';"
+expect 'a table of other columns' 6 '' $'table: t.csv: HeaderDiffers column 2\n' -- plain s.sql
+script "CREATE TABLE h (name INT, price INT, city INT) FROM 'h.csv';"
+expect 'a table of other kinds' 6 '' $'table: h.csv: NotInt row 1 column 1\n' -- plain s.sql
+script "CREATE TABLE t (x INT, x INT) FROM 'nope.csv';"
+refused 'a name twice' 'bind NameTwice at 23'
+script "CREATE TABLE t (x INT, y INT) FROM 't.csv'; CREATE TABLE t (x INT, y INT) FROM 'nope.csv';"
+refused 'a name that is taken' 'catalogue NameTaken at 57'
+script 'CREATE PREDICATE r (v INT) MAX 1 AS 1 + (v * v * v);'
+refused 'a formula that is too wide' 'bind TooWide at 41'
+script 'CREATE PREDICATE r (v INT) MAX 1 AS v / (1 + 1);'
+refused 'a divisor that is no number' 'bind BadDivisor at 41'
+script "CREATE PREDICATE r (v INT) MAX 1 AS CASE WHEN v = 'a' THEN 1 ELSE 0 END;"
+refused 'a number and a text' 'bind WrongKind at 46'
+(cd "$root" && timeout 60 "$program" plain examples/indexes.sql >"$work/said/out" 2>"$work/said/err"
+echo $? >"$work/said/status")
+compare 'the example of indexes' 0 '' ''
+(cd "$root" && timeout 60 "$program" plain examples/hotels.sql >"$work/said/out" 2>"$work/said/err"
+echo $? >"$work/said/status")
+compare 'the example of queries' 5 '' $'script: not built statement 5\n'
 
 # ---- the words of the command line
 expect 'no words' 2 '' "$usage"$'\n' --

@@ -1,4 +1,21 @@
-//! Expressions. Only the comparisons stand so far.
+//! Formulas over values, the predicates that rank by them, and the scorers that answer what a predicate's score is.
 #![tactic(auto)]
 
+mod eval;
+mod expr;
+mod formula_scorer;
+mod laws;
+mod mem_scorer;
+mod predicate;
+mod scorer;
+#[cfg(test)]
+mod tests;
+mod width;
+
+pub use expr::{Cond, Expr, TextSide};
+pub use formula_scorer::FormulaScorer;
+pub use laws::values_stay_within_widths;
+pub use mem_scorer::MemScorer;
+pub use predicate::Predicate;
 pub use rs_value::Rel;
+pub use scorer::{Call, Scorer, ScorerFault};

@@ -1,2 +1,9 @@
+pub mod IdsFacts
+pub mod MaskFacts
+pub mod OrderFacts
 pub mod StableFacts
-pub mod Worked
+pub mod TurnFacts
+pub mod WeightFacts
+pub mod WorkedKeys
+pub mod WorkedStable
+pub mod WorkedTurns

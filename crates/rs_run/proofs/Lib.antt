@@ -1,7 +1,12 @@
 pub mod Worked
+mod WorkedStatements
 pub mod FetchFacts
-pub mod TextFacts
 pub mod RunFacts
 pub mod RowFacts
+pub mod StepFacts
+pub mod IndexSteps
+pub mod LoopFacts
+pub mod TextFacts
+pub mod OwnFaults
 pub mod OutcomeFacts
-pub mod PlainFacts
+pub mod OneRun

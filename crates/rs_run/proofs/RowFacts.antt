@@ -11,8 +11,9 @@ use Rattle.rs_table.specs.Reading.{◌>>=◌}
 use Rattle.rs_table.proofs.RelationFacts.{row_fits-at, length-row_fits}
 use Rattle.rs_run.specs.declared.fault.Fault.{Fault}
 use Rattle.rs_run.specs.declared.fault.Fault.TheVariants.{BadScore}
-use Rattle.rs_run.specs.declared.ranked_row.RankedRow.{RankedRow}
-use Rattle.rs_run.specs.Top.{number_at, is_score, score_at, scored_from}
+use Rattle.rs_rank.specs.declared.scored_row.ScoredRow.{ScoredRow}
+use Rattle.rs_run.specs.Top.{number_at, score_at, scored_from}
+use Rattle.rs_expr.specs.Scores.{is_score}
 use Rattle.rs_lines.specs.Row.{line_of}
 use Rattle.rs_run.specs.Steps.{IsRow, IsRanked, lines_of, row_in}
 
@@ -95,13 +96,13 @@ appended-all column max place i rows all =
     ∙ ap Ok (append-nil (take i rows) ∙ take_all i rows all)
 
 -- ranked rows have the scores of their values
-pub scores-ranked : (table : Relation) (place : ℕ) (ranked : List RankedRow) → AllByRecursion (λ r. IsRanked table place r.score r.row) ranked
+pub scores-ranked : (table : Relation) (place : ℕ) (ranked : List ScoredRow) → AllByRecursion (λ r. IsRanked table place r.score r.row) ranked
     → AllByRecursion (λ r. score_at place (row_in table r.row) ≡ r.score) ranked
 scores-ranked table place [] each = tt
 scores-ranked table place (r ∷ rest) each = (sym each.0.scored, scores-ranked table place rest each.1)
 
 -- the lines of rows are those of the first and those of the rest
-pub lines_of-split : (table : Relation) (rank i : ℕ) (ranked : List RankedRow)
+pub lines_of-split : (table : Relation) (rank i : ℕ) (ranked : List ScoredRow)
     → lines_of table rank ranked ≡ lines_of table rank (take i ranked) ++ lines_of table (rank + i) (drop i ranked)
 lines_of-split table rank zero ranked = ap (λ r. lines_of table r ranked) (let same : rank ≡ rank + 0 = omega arith in same)
 lines_of-split table rank (suc i) [] = refl
@@ -110,10 +111,10 @@ lines_of-split table rank (suc i) (r ∷ rest) =
     ∙ ap (λ n. lines_of table (rank + 1) (take i rest) ++ lines_of table n (drop i rest)) (let same : rank + 1 + i ≡ rank + suc i = omega arith in same))
 
 -- one more line
-pub lines_of-more : (table : Relation) (i : ℕ) (ranked : List RankedRow) (other : RankedRow) → i < length ranked
+pub lines_of-more : (table : Relation) (i : ℕ) (ranked : List ScoredRow) (other : ScoredRow) → i < length ranked
     → lines_of table 1 (take (i + 1) ranked) ≡ lines_of table 1 (take i ranked) ++ line_of (i + 1) (get_or ranked i other).score (row_in table (get_or ranked i other).row) ∷ []
 lines_of-more table i ranked other within =
-    let r : RankedRow = get_or ranked i other in
+    let r : ScoredRow = get_or ranked i other in
     let first : take i (take (i + 1) ranked) ≡ take i ranked = take-take i (i + 1) ranked (omega arith) in
     let size : length (take i ranked) ≡ i = omega (arith, length-take i ranked, within) in
     let last : drop i (take (i + 1) ranked) ≡ r ∷ [] = ap (drop i) (take_more ranked i other within) ∙ drop_at (take i ranked) (r ∷ []) i size in
@@ -123,14 +124,14 @@ lines_of-more table i ranked other within =
     ∙ ap (λ n. lines_of table 1 (take i ranked) ++ line_of n r.score (row_in table r.row) ∷ []) (let same : 1 + i ≡ i + 1 = omega arith in same)
 
 -- the lines behind the first ones, of as many rows as are wanted
-pub lines_of-rest : (table : Relation) (i count : ℕ) (ranked : List RankedRow) → i ≤ count
+pub lines_of-rest : (table : Relation) (i count : ℕ) (ranked : List ScoredRow) → i ≤ count
     → lines_of table 1 (take count ranked) ≡ lines_of table 1 (take i ranked) ++ lines_of table (1 + i) (drop i (take count ranked))
 lines_of-rest table i count ranked le =
     lines_of-split table 1 i (take count ranked)
     ∙ ap (λ rows. lines_of table 1 rows ++ lines_of table (1 + i) (drop i (take count ranked))) (take-take i count ranked le)
 
 -- the same, with the next line
-pub lines_of-next : (table : Relation) (i count : ℕ) (ranked : List RankedRow) (other : RankedRow) → i < count → i < length ranked
+pub lines_of-next : (table : Relation) (i count : ℕ) (ranked : List ScoredRow) (other : ScoredRow) → i < count → i < length ranked
     → lines_of table 1 (take count ranked) ≡ lines_of table 1 (take i ranked)
     ++ (line_of (i + 1) (get_or ranked i other).score (row_in table (get_or ranked i other).row) ∷ [] ++ lines_of table (1 + (i + 1)) (drop (i + 1) (take count ranked)))
 lines_of-next table i count ranked other lt within =

@@ -13,30 +13,38 @@ use Rattle.rs_table.specs.Reading.{◌>>=◌}
 use Rattle.rs_lines.specs.Row.{line_of}
 use Rattle.rs_run.specs.declared.fault.Fault.{Fault}
 use Rattle.rs_run.specs.declared.fault.Fault.TheVariants.{Memory, Usage, Write, Read}
-use Rattle.rs_run.specs.declared.ranked_row.RankedRow.{RankedRow}
+use Rattle.rs_rank.specs.declared.scored_row.ScoredRow.{ScoredRow}
 use Rattle.rs_run.specs.Words.{Form, NoForm, Plain, Top, TopWords, form_of}
 use Rattle.rs_run.specs.Top.{top_table, top_lines, ranked_lines, lines_from, score_at, scored_from, best_rows}
-use Rattle.rs_run.specs.Plain.{ScriptGives}
-use Rattle.rs_run.specs.Run.{Event, Fetch, Put, Run, fetches, puts, fetch_then, IsRunOf, IsCut}
-use Rattle.rs_run.specs.Outcome.{Seen, Faulted, Ended, NoMemory, PutFailed, FetchFailed, Ran, ForFiles, ForRun, fetched_more}
-use Rattle.rs_run.specs.Steps.{FetchesFile, IsPlain, IsTopTable, NotFetched, FetchFails, Fetched, no_lines, Ranks, PutsLines, PutsAll, PutsSome, PutsPart, IsRanked, IsRow, lines_of, row_in}
+use Rattle.rs_run.specs.Run.{Answering, Event, Fetch, Put, Run, calls, fails, fetches, finds_in, puts, fetch_then}
+use Rattle.rs_run.specs.Running.{IsRunOf, IsCut}
+use Rattle.rs_expr.specs.declared.scorer.Call.{Call}
+use Rattle.rs_expr.specs.Scoring.{Asks, ScorerFaulted, ScorerSeen}
+use Rattle.rs_run.specs.Outcome.{Seen, Faulted, Halt, Ended, NoMemory, PutFailed, FetchFailed, CallFailed, HaltsAt, Did, Ran, QuietlyRan, ForRun, call_of, fetched_more, no_out, piece_of}
+use Rattle.rs_run.specs.Steps.{FetchesFile, IsTopTable, NotFetched, FetchFails, Fetched, RanScript, RanTop, Ranks, UnaskedRan, no_scorer, PutsLines, PutsAll, PutsSome, PutsPart, IsRanked, IsRow, lines_of, row_in}
 use Rattle.rs_run.proofs.FetchFacts.{fault-at}
 
--- a fact of what is there under a name holds for the files that are told, or for some files
-pub ForFiles-there : (told : Option FilesTold) (name : List ℕ) (there : Option (List ℕ)) (P : Option (List ℕ) → Type 0)
-    → IfSome told (λ t. file_named name t.folder ≡ there) → P there → ForFiles told (λ files. P (files name))
-ForFiles-there (Some told) name there P e p = subst P (sym e) p
-ForFiles-there None name there P e p = ((λ other. there), p)
-
 -- what is told stays as it is when no name is fetched
-fetched_more-nil : (told : Option FilesTold) → told ≡ option_map (fetched_more []) told
+pub fetched_more-nil : (told : Option FilesTold) → told ≡ option_map (fetched_more []) told
 fetched_more-nil None = refl
 fetched_more-nil (Some told) = ap (λ names. Some (record told { fetched = names })) (sym (append-nil told.fetched))
 
 -- pieces stay as they are when none is put
-pieces-nil : (pieces : Option (List (List ℕ))) → pieces ≡ option_map (λ held. held ++ []) pieces
+pub pieces-nil : (pieces : Option (List (List ℕ))) → pieces ≡ option_map (λ held. held ++ []) pieces
 pieces-nil None = refl
 pieces-nil (Some held) = ap Some (sym (append-nil held))
+
+-- calls stay as they are when none is made
+calls-nil : (told : Option (List Call)) → told ≡ option_map (λ held. held ++ []) told
+calls-nil None = refl
+calls-nil (Some held) = ap Some (sym (append-nil held))
+
+-- no call was made
+pub Asks-none : (scorer : ScorerSeen) → scorer.after ≡ scorer.before → scorer.count_after ≡ scorer.count_before → Asks [] scorer
+Asks-none scorer same count = record { told = same ∙ calls-nil scorer.before; counted = count }
+
+pub unasked : Asks [] no_scorer
+unasked = record { told = refl; counted = refl }
 
 -- what is left of a run behind its fetch
 rest_of : Result (List (List ℕ)) Fault → List Event
@@ -52,6 +60,10 @@ fetches-puts : (lines : List (List ℕ)) → fetches (map Put lines) ≡ []
 fetches-puts [] = refl
 fetches-puts (line ∷ rest) = fetches-puts rest
 
+calls-puts : (lines : List (List ℕ)) → calls (map Put lines) ≡ []
+calls-puts [] = refl
+calls-puts (line ∷ rest) = calls-puts rest
+
 puts-puts : (lines : List (List ℕ)) → puts (map Put lines) ≡ lines
 puts-puts [] = refl
 puts-puts (line ∷ rest) = ap (λ rest. line ∷ rest) (puts-puts rest)
@@ -63,30 +75,30 @@ map_put-append (line ∷ rest) b = ap (λ rest. Put line ∷ rest) (map_put-appe
 -- a fault before any put ends the run
 pub Ran-fault : (name : List ℕ) (fault : Fault) (files : Seen FilesTold) (out : Seen (List (List ℕ))) (fs os : Type 0)
     → files.after ≡ option_map (fetched_more (name ∷ [])) files.before → out.after ≡ out.before
-    → Ran (fetch_then name (Err fault)) (Err fault) files out fs os
+    → UnaskedRan (fetch_then name (Err fault)) (Err fault) files out fs os
 Ran-fault name fault files out fs os fetched same = record {
   halt = Ended;
-  does = record { done = Fetch name ∷ []; rest = []; split = refl; halts = refl; fetched = fetched; put = same ∙ pieces-nil out.before };
+  did = record { done = Fetch name ∷ []; rest = []; split = refl; halts = refl; fetched = fetched; called = unasked; put = same ∙ pieces-nil out.before };
   answers = inl refl;
 }
 
 -- there was no memory behind the fetch
 pub Ran-no_memory : (name : List ℕ) (lines : Result (List (List ℕ)) Fault) (files : Seen FilesTold) (out : Seen (List (List ℕ))) (fs os : Type 0)
     → files.after ≡ option_map (fetched_more (name ∷ [])) files.before → out.after ≡ out.before
-    → Ran (fetch_then name lines) (Err Memory) files out fs os
+    → UnaskedRan (fetch_then name lines) (Err Memory) files out fs os
 Ran-no_memory name lines files out fs os fetched same = record {
   halt = NoMemory;
-  does = record { done = Fetch name ∷ []; rest = rest_of lines; split = events-fetch_then name lines; halts = tt; fetched = fetched; put = same ∙ pieces-nil out.before };
+  did = record { done = Fetch name ∷ []; rest = rest_of lines; split = events-fetch_then name lines; halts = tt; fetched = fetched; called = unasked; put = same ∙ pieces-nil out.before };
   answers = inl refl;
 }
 
 -- there was no memory for the fetch
 pub Ran-unfetched : (name : List ℕ) (lines : Result (List (List ℕ)) Fault) (files : Seen FilesTold) (out : Seen (List (List ℕ))) (fs os : Type 0)
     → files.after ≡ files.before → out.after ≡ out.before
-    → Ran (fetch_then name lines) (Err Memory) files out fs os
+    → UnaskedRan (fetch_then name lines) (Err Memory) files out fs os
 Ran-unfetched name lines files out fs os fetched same = record {
   halt = NoMemory;
-  does = record { done = []; rest = (fetch_then name lines).events; split = refl; halts = tt; fetched = fetched ∙ fetched_more-nil files.before; put = same ∙ pieces-nil out.before };
+  did = record { done = []; rest = (fetch_then name lines).events; split = refl; halts = tt; fetched = fetched ∙ fetched_more-nil files.before; called = unasked; put = same ∙ pieces-nil out.before };
   answers = inl refl;
 }
 
@@ -94,10 +106,10 @@ Ran-unfetched name lines files out fs os fetched same = record {
 pub Ran-fetch_failed : (name : List ℕ) (lines : Result (List (List ℕ)) Fault) (result : Result (Unit {0}) Fault) (files : Seen FilesTold) (out : Seen (List (List ℕ))) (fs os : Type 0)
     → files.after ≡ option_map (fetched_more (name ∷ [])) files.before → Faulted files fs → out.after ≡ out.before
     → (result ≡ Err (Read name Failed)) ⊎ (result ≡ Err Memory)
-    → Ran (fetch_then name lines) result files out fs os
+    → UnaskedRan (fetch_then name lines) result files out fs os
 Ran-fetch_failed name lines result files out fs os fetched faulted same answers = record {
   halt = FetchFailed name;
-  does = record { done = []; rest = Fetch name ∷ rest_of lines; split = events-fetch_then name lines; halts = (rest_of lines, refl, faulted); fetched = fetched; put = same ∙ pieces-nil out.before };
+  did = record { done = []; rest = Fetch name ∷ rest_of lines; split = events-fetch_then name lines; halts = (rest_of lines, refl, faulted); fetched = fetched; called = unasked; put = same ∙ pieces-nil out.before };
   answers = answers;
 }
 
@@ -105,17 +117,17 @@ Ran-fetch_failed name lines result files out fs os fetched faulted same answers 
 pub Ran-no_table : (name column : List ℕ) (there : Option (List ℕ)) (more : Relation → Result (List (List ℕ)) Fault) (fault : Fault) (files : Seen FilesTold) (out : Seen (List (List ℕ))) (fs os : Type 0)
     → (NotFetched {A = Relation} (Err fault) files ⊎ FetchFails {A = Relation} name (Err fault) files fs) ⊎ Fetched {A = Relation} name (IsTopTable name column there) (Err fault) files
     → out.after ≡ out.before
-    → Ran (fetch_then name (top_table name column there >>= more)) (Err fault) files out fs os
+    → UnaskedRan (fetch_then name (top_table name column there >>= more)) (Err fault) files out fs os
 Ran-no_table name column there more fault files out fs os (inl (inl nothing)) same =
-    subst (λ r. Ran (fetch_then name (top_table name column there >>= more)) r files out fs os) (sym (fault-at fault Memory nothing.memory))
+    subst (λ r. UnaskedRan (fetch_then name (top_table name column there >>= more)) r files out fs os) (sym (fault-at fault Memory nothing.memory))
     (Ran-unfetched name _ files out fs os nothing.same same)
 Ran-no_table name column there more fault files out fs os (inl (inr failed)) same =
     Ran-fetch_failed name _ (Err fault) files out fs os failed.fetched failed.faulted same
     (elim failed.answers [ inl e ↦ inl (fault-at fault (Read name Failed) e) | inr e ↦ inr (fault-at fault Memory e) ])
 Ran-no_table name column there more fault files out fs os (inr fetched) same =
     elim fetched.answers [
-      | inl e ↦ subst (λ r. Ran (fetch_then name (r >>= more)) (Err fault) files out fs os) e (Ran-fault name fault files out fs os fetched.fetched same)
-      | inr e ↦ subst (λ r. Ran (fetch_then name (top_table name column there >>= more)) r files out fs os) (sym (fault-at fault Memory e))
+      | inl e ↦ subst (λ r. UnaskedRan (fetch_then name (r >>= more)) (Err fault) files out fs os) e (Ran-fault name fault files out fs os fetched.fetched same)
+      | inr e ↦ subst (λ r. UnaskedRan (fetch_then name (top_table name column there >>= more)) r files out fs os) (sym (fault-at fault Memory e))
           (Ran-no_memory name _ files out fs os fetched.fetched same)
     ]
 
@@ -123,7 +135,7 @@ Ran-no_table name column there more fault files out fs os (inr fetched) same =
 pub Ran-lines : (name : List ℕ) (lines : List (List ℕ)) (result : Result (Unit {0}) Fault) (files : Seen FilesTold) (out : Seen (List (List ℕ))) (fs os : Type 0)
     → files.after ≡ option_map (fetched_more (name ∷ [])) files.before
     → PutsLines lines result out os
-    → Ran (fetch_then name (Ok lines)) result files out fs os
+    → UnaskedRan (fetch_then name (Ok lines)) result files out fs os
 Ran-lines name lines result files out fs os fetched p = go p.ends where
   events : (fetch_then name (Ok lines)).events ≡ (Fetch name ∷ map Put p.done) ++ map Put p.rest
   events = ap (λ rest. Fetch name ∷ rest) (ap (map Put) p.split ∙ map_put-append p.done p.rest)
@@ -131,36 +143,39 @@ Ran-lines name lines result files out fs os fetched p = go p.ends where
   names : (halt : List (List ℕ)) → halt ≡ [] → files.after ≡ option_map (fetched_more (fetches (Fetch name ∷ map Put p.done) ++ halt)) files.before
   names halt none = fetched ∙ ap (λ names. option_map (fetched_more names) files.before) (sym (ap (λ rest. name ∷ rest) (ap (λ none. none ++ halt) (fetches-puts p.done) ∙ none)))
 
+  asked : Asks (calls (map Put p.done) ++ []) no_scorer
+  asked = subst (λ made. Asks made no_scorer) (sym (append-nil (calls (map Put p.done)) ∙ calls-puts p.done)) unasked
+
   pieces : (piece : List (List ℕ)) → out.after ≡ option_map (λ held. held ++ (p.done ++ piece)) out.before → out.after ≡ option_map (λ held. held ++ (puts (Fetch name ∷ map Put p.done) ++ piece)) out.before
   pieces piece e = e ∙ ap (λ done. option_map (λ held. held ++ (done ++ piece)) out.before) (sym (puts-puts p.done))
 
   unended : out.after ≡ option_map (λ held. held ++ p.done) out.before → out.after ≡ option_map (λ held. held ++ (p.done ++ [])) out.before
   unended e = e ∙ ap (λ done. option_map (λ held. held ++ done) out.before) (sym (append-nil p.done))
 
-  go : (PutsAll p.done p.rest result out ⊎ PutsSome p.done result out) ⊎ PutsPart p.done p.rest result out os → Ran (fetch_then name (Ok lines)) result files out fs os
+  go : (PutsAll p.done p.rest result out ⊎ PutsSome p.done result out) ⊎ PutsPart p.done p.rest result out os → UnaskedRan (fetch_then name (Ok lines)) result files out fs os
   go (inl (inl all)) = record {
     halt = Ended;
-    does = record { done = Fetch name ∷ map Put p.done; rest = map Put p.rest; split = events; halts = ap (map Put) all.all; fetched = names [] refl; put = pieces [] (unended all.put) };
+    did = record { done = Fetch name ∷ map Put p.done; rest = map Put p.rest; split = events; halts = ap (map Put) all.all; fetched = names [] refl; called = asked; put = pieces [] (unended all.put) };
     answers = all.ok;
   }
   go (inl (inr some)) = record {
     halt = NoMemory;
-    does = record { done = Fetch name ∷ map Put p.done; rest = map Put p.rest; split = events; halts = tt; fetched = names [] refl; put = pieces [] (unended some.put) };
+    did = record { done = Fetch name ∷ map Put p.done; rest = map Put p.rest; split = events; halts = tt; fetched = names [] refl; called = asked; put = pieces [] (unended some.put) };
     answers = inl some.memory;
   }
   go (inr part) = record {
     halt = PutFailed part.part;
-    does = record { done = Fetch name ∷ map Put p.done; rest = map Put p.rest; split = events; halts = (part.line, map Put part.more, ap (map Put) part.next, part.prefix, part.faulted); fetched = names [] refl; put = pieces (part.part ∷ []) part.put };
+    did = record { done = Fetch name ∷ map Put p.done; rest = map Put p.rest; split = events; halts = (part.line, map Put part.more, ap (map Put) part.next, part.prefix, part.faulted); fetched = names [] refl; called = asked; put = pieces (part.part ∷ []) part.put };
     answers = inl part.write;
   }
 
 -- ranked rows are rows of the table
-pub are_rows : (table : Relation) (place : ℕ) (ranked : List RankedRow) → AllByRecursion (λ r. IsRanked table place r.score r.row) ranked → AllByRecursion (λ r. IsRow table r.row) ranked
+pub are_rows : (table : Relation) (place : ℕ) (ranked : List ScoredRow) → AllByRecursion (λ r. IsRanked table place r.score r.row) ranked → AllByRecursion (λ r. IsRow table r.row) ranked
 are_rows table place [] each = tt
 are_rows table place (r ∷ rest) each = (each.0.is_row, are_rows table place rest each.1)
 
 -- the lines of ranked rows are those of the rows by the number at the place
-pub lines_of-ranked : (table : Relation) (place rank count : ℕ) (ranked : List RankedRow) → AllByRecursion (λ r. IsRanked table place r.score r.row) ranked
+pub lines_of-ranked : (table : Relation) (place rank count : ℕ) (ranked : List ScoredRow) → AllByRecursion (λ r. IsRanked table place r.score r.row) ranked
     → lines_of table rank (take count ranked) ≡ lines_from rank place (take count (map (λ r. row_in table r.row) ranked))
 lines_of-ranked table place rank zero ranked each = refl
 lines_of-ranked table place rank (suc count) [] each = refl
@@ -168,7 +183,7 @@ lines_of-ranked table place rank (suc count) (r ∷ rest) each =
     rw each.0.scored (ap (λ lines. line_of rank (score_at place (row_in table r.row)) (row_in table r.row) ∷ lines) (lines_of-ranked table place (rank + 1) count rest each.1))
 
 -- the lines of a table's first rows are those of the rows that were ranked
-pub ranked_lines-ranks : (top : TopWords) (table : Relation) (ranked : List RankedRow) → Ranks table top.column top.max (unwrap_or (place_of top.column table.schema) 0) ranked
+pub ranked_lines-ranks : (top : TopWords) (table : Relation) (ranked : List ScoredRow) → Ranks table top.column top.max (unwrap_or (place_of top.column table.schema) 0) ranked
     → ranked_lines top table ≡ Ok (lines_of table 1 (take top.count ranked))
 ranked_lines-ranks top table ranked ranks =
     let place = unwrap_or (place_of top.column table.schema) 0 in
@@ -260,107 +275,150 @@ pub Ran-ranked_fault : (top : TopWords) (table : Relation) (there : Option (List
     → (NotFetched (Ok table) files ⊎ FetchFails top.file (Ok table) files fs) ⊎ Fetched top.file (IsTopTable top.file top.column there) (Ok table) files
     → (fault ≡ Memory) ⊎ (scored_from top.column top.max (unwrap_or (place_of top.column table.schema) 0) 1 table.rows ≡ Err fault)
     → out.after ≡ out.before
-    → Ran (fetch_then top.file (top_lines top there)) (Err fault) files out fs os
+    → UnaskedRan (fetch_then top.file (top_lines top there)) (Err fault) files out fs os
 Ran-ranked_fault top table there fault files out fs os (inl (inl nothing)) tells same = absurd (let e = nothing.memory in cc)
 Ran-ranked_fault top table there fault files out fs os (inl (inr failed)) tells same = absurd (elim failed.answers [ inl e ↦ cc | inr e ↦ cc ])
 Ran-ranked_fault top table there fault files out fs os (inr fetched) tells same = elim fetched.answers [ inl e ↦ go e tells | inr e ↦ absurd cc ] where
-  go : Ok table ≡ top_table top.file top.column there → (fault ≡ Memory) ⊎ (scored_from top.column top.max (unwrap_or (place_of top.column table.schema) 0) 1 table.rows ≡ Err fault) → Ran (fetch_then top.file (top_lines top there)) (Err fault) files out fs os
-  go e (inl memory) = subst (λ f. Ran (fetch_then top.file (top_lines top there)) (Err f) files out fs os) (sym memory) (Ran-no_memory top.file _ files out fs os fetched.fetched same)
+  go : Ok table ≡ top_table top.file top.column there → (fault ≡ Memory) ⊎ (scored_from top.column top.max (unwrap_or (place_of top.column table.schema) 0) 1 table.rows ≡ Err fault) → UnaskedRan (fetch_then top.file (top_lines top there)) (Err fault) files out fs os
+  go e (inl memory) = subst (λ f. UnaskedRan (fetch_then top.file (top_lines top there)) (Err f) files out fs os) (sym memory) (Ran-no_memory top.file _ files out fs os fetched.fetched same)
   go e (inr bad) =
       let lines : Err fault ≡ top_lines top there =
       sym (ap (λ r. r >>= (λ rows. Ok (lines_from 1 (unwrap_or (place_of top.column table.schema) 0) (best_rows top.count (unwrap_or (place_of top.column table.schema) 0) rows)))) bad)
       ∙ ap (λ r. r >>= ranked_lines top) e in
-      subst (λ r. Ran (fetch_then top.file r) (Err fault) files out fs os) lines (Ran-fault top.file fault files out fs os fetched.fetched same)
+      subst (λ r. UnaskedRan (fetch_then top.file r) (Err fault) files out fs os) lines (Ran-fault top.file fault files out fs os fetched.fetched same)
 
 -- a table was fetched and its rows were ranked, and their lines were put
-pub Ran-ranked : (top : TopWords) (table : Relation) (ranked : List RankedRow) (there : Option (List ℕ)) (result : Result (Unit {0}) Fault) (files : Seen FilesTold) (out : Seen (List (List ℕ))) (fs os : Type 0)
+pub Ran-ranked : (top : TopWords) (table : Relation) (ranked : List ScoredRow) (there : Option (List ℕ)) (result : Result (Unit {0}) Fault) (files : Seen FilesTold) (out : Seen (List (List ℕ))) (fs os : Type 0)
     → (NotFetched (Ok table) files ⊎ FetchFails top.file (Ok table) files fs) ⊎ Fetched top.file (IsTopTable top.file top.column there) (Ok table) files
     → Ranks table top.column top.max (unwrap_or (place_of top.column table.schema) 0) ranked
     → PutsLines (lines_of table 1 (take top.count ranked)) result out os
-    → Ran (fetch_then top.file (top_lines top there)) result files out fs os
+    → UnaskedRan (fetch_then top.file (top_lines top there)) result files out fs os
 Ran-ranked top table ranked there result files out fs os (inl (inl nothing)) ranks puts = absurd (let e = nothing.memory in cc)
 Ran-ranked top table ranked there result files out fs os (inl (inr failed)) ranks puts = absurd (elim failed.answers [ inl e ↦ cc | inr e ↦ cc ])
 Ran-ranked top table ranked there result files out fs os (inr fetched) ranks puts = elim fetched.answers [
-  | inl e ↦ subst (λ r. Ran (fetch_then top.file r) result files out fs os) (sym (ranked_lines-ranks top table ranked ranks) ∙ ap (λ r. r >>= ranked_lines top) e)
+  | inl e ↦ subst (λ r. UnaskedRan (fetch_then top.file r) result files out fs os) (sym (ranked_lines-ranks top table ranked ranks) ∙ ap (λ r. r >>= ranked_lines top) e)
       (Ran-lines top.file (lines_of table 1 (take top.count ranked)) result files out fs os fetched.fetched puts)
   | inr e ↦ absurd cc
 ]
 
--- the same three, for the files that are told or for some files
-pub ForFiles-no_table : (top : TopWords) (fault : Fault) (files : Seen FilesTold) (out : Seen (List (List ℕ))) (fs os : Type 0)
+-- the same three, of what a call did
+pub RanTop-no_table : (top : TopWords) (fault : Fault) (files : Seen FilesTold) (out : Seen (List (List ℕ))) (fs os : Type 0)
     → FetchesFile {A = Relation} top.file (Err fault) (IsTopTable top.file top.column) files fs → out.after ≡ out.before
-    → ForFiles files.before (λ there. Ran (fetch_then top.file (top_lines top (there top.file))) (Err fault) files out fs os)
-ForFiles-no_table top fault files out fs os f same =
-    ForFiles-there files.before top.file f.there (λ there. Ran (fetch_then top.file (top_lines top there)) (Err fault) files out fs os) f.is_told
-    (Ran-no_table top.file top.column f.there (ranked_lines top) fault files out fs os f.does same)
+    → RanTop (finds_in files.before) top (Err fault) files out fs os
+RanTop-no_table top fault files out fs os f same = record {
+  there = f.there;
+  found = f.is_told;
+  ran = Ran-no_table top.file top.column f.there (ranked_lines top) fault files out fs os f.does same;
+}
 
-pub ForFiles-ranked_fault : (top : TopWords) (table : Relation) (fault : Fault) (files : Seen FilesTold) (out : Seen (List (List ℕ))) (fs os : Type 0)
+pub RanTop-ranked_fault : (top : TopWords) (table : Relation) (fault : Fault) (files : Seen FilesTold) (out : Seen (List (List ℕ))) (fs os : Type 0)
     → FetchesFile top.file (Ok table) (IsTopTable top.file top.column) files fs
     → (fault ≡ Memory) ⊎ (scored_from top.column top.max (unwrap_or (place_of top.column table.schema) 0) 1 table.rows ≡ Err fault)
-    → out.after ≡ out.before
-    → ForFiles files.before (λ there. Ran (fetch_then top.file (top_lines top (there top.file))) (Err fault) files out fs os)
-ForFiles-ranked_fault top table fault files out fs os f tells same =
-    ForFiles-there files.before top.file f.there (λ there. Ran (fetch_then top.file (top_lines top there)) (Err fault) files out fs os) f.is_told
-    (Ran-ranked_fault top table f.there fault files out fs os f.does tells same)
+    → out.after ≡ out.before → RanTop (finds_in files.before) top (Err fault) files out fs os
+RanTop-ranked_fault top table fault files out fs os f tells same = record {
+  there = f.there;
+  found = f.is_told;
+  ran = Ran-ranked_fault top table f.there fault files out fs os f.does tells same;
+}
 
-pub ForFiles-ranked : (top : TopWords) (table : Relation) (ranked : List RankedRow) (result : Result (Unit {0}) Fault) (files : Seen FilesTold) (out : Seen (List (List ℕ))) (fs os : Type 0)
+pub RanTop-ranked : (top : TopWords) (table : Relation) (ranked : List ScoredRow) (result : Result (Unit {0}) Fault) (files : Seen FilesTold) (out : Seen (List (List ℕ))) (fs os : Type 0)
     → FetchesFile top.file (Ok table) (IsTopTable top.file top.column) files fs
     → Ranks table top.column top.max (unwrap_or (place_of top.column table.schema) 0) ranked
     → PutsLines (lines_of table 1 (take top.count ranked)) result out os
-    → ForFiles files.before (λ there. Ran (fetch_then top.file (top_lines top (there top.file))) result files out fs os)
-ForFiles-ranked top table ranked result files out fs os f ranks puts =
-    ForFiles-there files.before top.file f.there (λ there. Ran (fetch_then top.file (top_lines top there)) result files out fs os) f.is_told
-    (Ran-ranked top table ranked f.there result files out fs os f.does ranks puts)
+    → RanTop (finds_in files.before) top result files out fs os
+RanTop-ranked top table ranked result files out fs os f ranks puts = record {
+  there = f.there;
+  found = f.is_told;
+  ran = Ran-ranked top table ranked f.there result files out fs os f.does ranks puts;
+}
+
+-- a count that stands at 0 didn't rise
+pub Rose-none : Rose 0 0 → ⊥
+Rose-none (inl more) = omega (arith, more)
+Rose-none (inr end) = omega (arith, end)
+
+-- a run without a put, beside standard output, which stays as it is
+HaltsAt-out : (halt : Halt) (rest : List Event) (files : Seen FilesTold) (scorer : ScorerSeen) (out : Seen (List (List ℕ))) (fs ss os : Type 0)
+    → HaltsAt halt rest files scorer no_out fs ss (Unit {0}) → HaltsAt halt rest files scorer out fs ss os
+HaltsAt-out Ended rest files scorer out fs ss os halts = halts
+HaltsAt-out NoMemory rest files scorer out fs ss os halts = tt
+HaltsAt-out (PutFailed part) rest files scorer out fs ss os halts = absurd (Rose-none halts.4.rose)
+HaltsAt-out (FetchFailed name) rest files scorer out fs ss os halts = halts
+HaltsAt-out (CallFailed call) rest files scorer out fs ss os halts = halts
+
+pub Ran-quietly : (run : Run) (result : Result (Unit {0}) Fault) (files : Seen FilesTold) (scorer : ScorerSeen) (out : Seen (List (List ℕ))) (fs ss os : Type 0)
+    → out.after ≡ out.before → QuietlyRan run result files scorer fs ss → Ran run result files scorer out fs ss os
+Ran-quietly run result files scorer out fs ss os same ran = record {
+  halt = ran.halt;
+  did = record {
+    done = ran.did.done;
+    rest = ran.did.rest;
+    split = ran.did.split;
+    halts = HaltsAt-out ran.halt ran.did.rest files scorer out fs ss os ran.did.halts;
+    fetched = ran.did.fetched;
+    called = ran.did.called;
+    put = same ∙ pieces-nil out.before ∙ ap (λ more. option_map (λ pieces. pieces ++ more) out.before) none;
+  };
+  answers = ran.answers;
+} where
+  none : [] ≡ puts ran.did.done ++ piece_of ran.halt
+  none = let e = ran.did.put in cc
+
+-- a run without a call, beside a scorer, which stays as it is
+HaltsAt-scorer : (halt : Halt) (rest : List Event) (files : Seen FilesTold) (scorer : ScorerSeen) (out : Seen (List (List ℕ))) (fs ss os : Type 0)
+    → HaltsAt halt rest files no_scorer out fs (Unit {0}) os → HaltsAt halt rest files scorer out fs ss os
+HaltsAt-scorer Ended rest files scorer out fs ss os halts = halts
+HaltsAt-scorer NoMemory rest files scorer out fs ss os halts = tt
+HaltsAt-scorer (PutFailed part) rest files scorer out fs ss os halts = halts
+HaltsAt-scorer (FetchFailed name) rest files scorer out fs ss os halts = halts
+HaltsAt-scorer (CallFailed call) rest files scorer out fs ss os halts = absurd (Rose-none halts.2.rose)
+
+pub Ran-unasked : (run : Run) (result : Result (Unit {0}) Fault) (files : Seen FilesTold) (scorer : ScorerSeen) (out : Seen (List (List ℕ))) (fs ss os : Type 0)
+    → Asks [] scorer → UnaskedRan run result files out fs os → Ran run result files scorer out fs ss os
+Ran-unasked run result files scorer out fs ss os asks ran = record {
+  halt = ran.halt;
+  did = record {
+    done = ran.did.done;
+    rest = ran.did.rest;
+    split = ran.did.split;
+    halts = HaltsAt-scorer ran.halt ran.did.rest files scorer out fs ss os ran.did.halts;
+    fetched = ran.did.fetched;
+    called = subst (λ made. Asks made scorer) none asks;
+    put = ran.did.put;
+  };
+  answers = ran.answers;
+} where
+  none : [] ≡ calls ran.did.done ++ call_of ran.halt
+  none = let e = ran.did.called.told in cc
 
 -- a fact of the run of words whose form is known
-ForRun-form : (told : Option FilesTold) (words : List (List ℕ)) (form : Form) (P : Run → Type 0) → form_of words ≡ form
-    → ForFiles told (λ there. (run : Run) × (IsRunOf there form run ⊎ IsCut form run) × P run) → ForRun told words P
-ForRun-form told words form P e h = subst (λ f. ForFiles told (λ there. (run : Run) × (IsRunOf there f run ⊎ IsCut f run) × P run)) (sym e) h
+ForRun-form : (told : Option FilesTold) (answer : Answering) (words : List (List ℕ)) (form : Form) (P : Run → Type 0) → form_of words ≡ form
+    → (run : Run) → IsRunOf (finds_in told) answer form run ⊎ IsCut form run → P run → ForRun told answer words P
+ForRun-form told answer words form P e run is p = (run, subst (λ f. IsRunOf (finds_in told) answer f run ⊎ IsCut f run) (sym e) is, p)
 
 -- words of no form
-pub ForRun-usage : (words : List (List ℕ)) (files : Seen FilesTold) (out : Seen (List (List ℕ))) (fs os : Type 0) → form_of words ≡ NoForm
-    → files.after ≡ files.before → out.after ≡ out.before → ForRun files.before words (λ run. Ran run (Err Usage) files out fs os)
-ForRun-usage words files out fs os none files_same out_same = ForRun-form files.before words NoForm (λ run. Ran run (Err Usage) files out fs os) none (for files.before) where
-  ran : Ran (record { events = []; fault = Some Usage }) (Err Usage) files out fs os
-  ran = record {
-    halt = Ended;
-    does = record { done = []; rest = []; split = refl; halts = refl; fetched = files_same ∙ fetched_more-nil files.before; put = out_same ∙ pieces-nil out.before };
-    answers = inl refl;
-  }
+pub ForRun-usage : (told : Option FilesTold) (answer : Answering) (words : List (List ℕ)) (files : Seen FilesTold) (scorer : ScorerSeen) (out : Seen (List (List ℕ))) (fs ss os : Type 0)
+    → form_of words ≡ NoForm → files.after ≡ files.before → Asks [] scorer → out.after ≡ out.before
+    → ForRun told answer words (λ run. Ran run (Err Usage) files scorer out fs ss os)
+ForRun-usage told answer words files scorer out fs ss os none files_same asks out_same =
+    ForRun-form told answer words NoForm (λ run. Ran run (Err Usage) files scorer out fs ss os) none (fails Usage) (inl refl) (record {
+      halt = Ended;
+      did = record { done = []; rest = []; split = refl; halts = refl; fetched = files_same ∙ fetched_more-nil files.before; called = asks; put = out_same ∙ pieces-nil out.before };
+      answers = inl refl;
+    })
 
-  for : (told : Option FilesTold) → ForFiles told (λ there. (run : Run) × (IsRunOf there NoForm run ⊎ IsCut NoForm run) × Ran run (Err Usage) files out fs os)
-  for (Some told) = (record { events = []; fault = Some Usage }, inl refl, ran)
-  for None = ((λ name. None), (record { events = []; fault = Some Usage }, inl refl, ran))
-
--- a fact of the run of words of the form of `top`
-pub ForRun-top : (told : Option FilesTold) (words : List (List ℕ)) (top : TopWords) (P : Run → Type 0) → form_of words ≡ Top top
-    → ForFiles told (λ there. P (fetch_then top.file (top_lines top (there top.file)))) → ForRun told words P
-ForRun-top told words top P is_top h = ForRun-form told words (Top top) P is_top (for told h) where
-  for : (told : Option FilesTold) → ForFiles told (λ there. P (fetch_then top.file (top_lines top (there top.file))))
-      → ForFiles told (λ there. (run : Run) × (IsRunOf there (Top top) run ⊎ IsCut (Top top) run) × P run)
-  for (Some told) p = (fetch_then top.file (top_lines top (file_named top.file told.folder)), inl refl, p)
-  for None p = (p.0, (fetch_then top.file (top_lines top (p.0 top.file)), inl refl, p.1))
-
--- a run of `plain`, where a script has these bytes or isn't there
-abbrev RunsPlain : List ℕ → Result (Unit {0}) Fault → Seen FilesTold → Seen (List (List ℕ)) → Type 0 → Type 0 → Option (List ℕ) → Type 0
-RunsPlain name result files out fs os there =
-    (run : Run) × (((outcome : Result (List (List ℕ)) Fault) × ScriptGives name there outcome × (run ≡ fetch_then name outcome)) ⊎ (run ≡ fetch_then name (Err Memory)))
-    × Ran run result files out fs os
+-- words of the form of `top`
+pub ForRun-top : (told : Option FilesTold) (answer : Answering) (words : List (List ℕ)) (top : TopWords) (result : Result (Unit {0}) Fault)
+    (files : Seen FilesTold) (scorer : ScorerSeen) (out : Seen (List (List ℕ))) (fs ss os : Type 0) → form_of words ≡ Top top
+    → RanTop (finds_in told) top result files out fs os → Asks [] scorer → ForRun told answer words (λ run. Ran run result files scorer out fs ss os)
+ForRun-top told answer words top result files scorer out fs ss os is_top ran asks =
+    ForRun-form told answer words (Top top) (λ run. Ran run result files scorer out fs ss os) is_top
+    (fetch_then top.file (top_lines top ran.there)) (inl (ran.there, ran.found, refl)) (Ran-unasked _ result files scorer out fs ss os asks ran.ran)
 
 -- words of the form of `plain`
-pub ForRun-plain : (words : List (List ℕ)) (name : List ℕ) (result : Result (Unit {0}) Fault) (files : Seen FilesTold) (out : Seen (List (List ℕ))) (fs os : Type 0) → form_of words ≡ Plain name
-    → FetchesFile name result (IsPlain name) files fs → out.after ≡ out.before → ForRun files.before words (λ run. Ran run result files out fs os)
-ForRun-plain words name result files out fs os is_plain f same =
-    ForRun-form files.before words (Plain name) (λ run. Ran run result files out fs os) is_plain
-    (ForFiles-there files.before name f.there (RunsPlain name result files out fs os) f.is_told (go f.does)) where
-      ended : (r : Result (Unit {0}) Fault) → files.after ≡ option_map (fetched_more (name ∷ [])) files.before → Ran (fetch_then name (no_lines r)) r files out fs os
-      ended (Ok done) fetched = Ran-lines name [] (Ok tt) files out fs os fetched (PutsLines-all [] out os (same ∙ pieces-nil out.before))
-      ended (Err fault) fetched = Ran-fault name fault files out fs os fetched same
-
-      go : (NotFetched result files ⊎ FetchFails name result files fs) ⊎ Fetched name (IsPlain name f.there) result files → RunsPlain name result files out fs os f.there
-      go (inl (inl nothing)) = (fetch_then name (Err Memory), inr refl, subst (λ r. Ran (fetch_then name (Err Memory)) r files out fs os) (sym nothing.memory) (Ran-unfetched name (Err Memory) files out fs os nothing.same same))
-      go (inl (inr failed)) = (fetch_then name (Err Memory), inr refl, Ran-fetch_failed name (Err Memory) result files out fs os failed.fetched failed.faulted same failed.answers)
-      go (inr fetched) = elim fetched.answers [
-        | inl gives ↦ (fetch_then name (no_lines result), inl (no_lines result, gives, refl), ended result fetched.fetched)
-        | inr e ↦ (fetch_then name (Err Memory), inr refl, subst (λ r. Ran (fetch_then name (Err Memory)) r files out fs os) (sym e) (Ran-fault name Memory files out fs os fetched.fetched same))
-      ]
+pub ForRun-plain : (told : Option FilesTold) (answer : Answering) (words : List (List ℕ)) (name : List ℕ) (result : Result (Unit {0}) Fault)
+    (files : Seen FilesTold) (scorer : ScorerSeen) (out : Seen (List (List ℕ))) (fs ss os : Type 0) → form_of words ≡ Plain name
+    → RanScript (finds_in told) answer name result files scorer fs ss → out.after ≡ out.before → ForRun told answer words (λ run. Ran run result files scorer out fs ss os)
+ForRun-plain told answer words name result files scorer out fs ss os is_plain ran same =
+    ForRun-form told answer words (Plain name) (λ run. Ran run result files scorer out fs ss os) is_plain
+    ran.run ran.is (Ran-quietly ran.run result files scorer out fs ss os same ran.ran)

@@ -16,9 +16,12 @@ use Rattle.rs_run.specs.declared.script_fault.ScriptFault.TheVariants as script
 use Rattle.rs_run.specs.declared.status.Status.TheVariants as status
 use Rattle.rs_lex.specs.declared.fault.LexFault.TheVariants as lex
 use Rattle.rs_syntax.specs.declared.fault.SyntaxFault.TheVariants as syntax
+use Rattle.rs_catalog.specs.declared.room.RoomFault.TheVariants as room
+use Rattle.rs_bind.specs.declared.fault.Why.TheVariants as why
 use Rattle.rs_run.specs.Faults.{fault_line, status_of}
 use Rattle.rs_run.specs.Plain.{source_of, without_mark}
-use Rattle.rs_run.specs.Run.{Fetch, IsRun, Put, Run}
+use Rattle.rs_run.specs.Run.{Answering, Fetch, Put, Run, found_in}
+use Rattle.rs_run.specs.Running.{IsRun}
 
 hotels : List ℕ
 hotels = codes "name,price,city\na,40,1\nb,90,1\nc,40,2\n"
@@ -30,137 +33,141 @@ words max count = codes "top" ∷ codes "h.csv" ∷ codes "price" ∷ max ∷ co
 on_v : List (List ℕ)
 on_v = codes "top" ∷ codes "f" ∷ codes "v" ∷ codes "9" ∷ codes "3" ∷ []
 
+-- the answers of a scorer that isn't asked
+unasked : Answering
+unasked predicate args = pos 0
+
 -- a run that fetches `f` and ends with a fault of its table
 ends_at : TableFault → Run
 ends_at why = record { events = Fetch (codes "f") ∷ []; fault = Some (fault.Table (codes "f") why) }
 
 -- the two rows of greatest price, the tie to the earlier row
-best_two : IsRun (λ name. Some hotels) (words (codes "100") (codes "2"))
+best_two : IsRun (found_in (λ name. Some hotels)) unasked (words (codes "100") (codes "2"))
     (record { events = Fetch (codes "h.csv") ∷ Put (codes "1,90,b,90,1\n") ∷ Put (codes "2,40,a,40,1\n") ∷ []; fault = None })
 unfolding hotels words csv_on_literals digits chars is_utf8 encode_utf8 escaped fields_text is_blank
-best_two = refl
+best_two = (Some hotels, refl, refl)
 
 -- there are fewer rows than are asked for
-all_rows : IsRun (λ name. Some hotels) (words (codes "100") (codes "9"))
+all_rows : IsRun (found_in (λ name. Some hotels)) unasked (words (codes "100") (codes "9"))
     (record { events = Fetch (codes "h.csv") ∷ Put (codes "1,90,b,90,1\n") ∷ Put (codes "2,40,a,40,1\n") ∷ Put (codes "3,40,c,40,2\n") ∷ []; fault = None })
 unfolding hotels words csv_on_literals digits chars is_utf8 encode_utf8 escaped fields_text is_blank
-all_rows = refl
+all_rows = (Some hotels, refl, refl)
 
 -- MAX itself is a score
-score_of_max : IsRun (λ name. Some hotels) (words (codes "90") (codes "1"))
+score_of_max : IsRun (found_in (λ name. Some hotels)) unasked (words (codes "90") (codes "1"))
     (record { events = Fetch (codes "h.csv") ∷ Put (codes "1,90,b,90,1\n") ∷ []; fault = None })
 unfolding hotels words csv_on_literals digits chars is_utf8 encode_utf8 escaped fields_text is_blank
-score_of_max = refl
+score_of_max = (Some hotels, refl, refl)
 
 -- a number above MAX ends the run before any put
-bad_score : IsRun (λ name. Some hotels) (words (codes "80") (codes "2"))
+bad_score : IsRun (found_in (λ name. Some hotels)) unasked (words (codes "80") (codes "2"))
     (record { events = Fetch (codes "h.csv") ∷ []; fault = Some (fault.BadScore (codes "price") 2 (pos 90) 80) })
 unfolding hotels words csv_on_literals digits chars is_utf8 encode_utf8 escaped fields_text is_blank
-bad_score = refl
+bad_score = (Some hotels, refl, refl)
 
 -- no row is asked for
-no_count : IsRun (λ name. Some hotels) (words (codes "100") (codes "0"))
+no_count : IsRun (found_in (λ name. Some hotels)) unasked (words (codes "100") (codes "0"))
     (record { events = Fetch (codes "h.csv") ∷ []; fault = None })
 unfolding hotels words csv_on_literals digits chars is_utf8 encode_utf8 escaped fields_text is_blank
-no_count = refl
+no_count = (Some hotels, refl, refl)
 
 -- the numbers are looked at all the same
-no_count_bad_score : IsRun (λ name. Some hotels) (words (codes "80") (codes "0"))
+no_count_bad_score : IsRun (found_in (λ name. Some hotels)) unasked (words (codes "80") (codes "0"))
     (record { events = Fetch (codes "h.csv") ∷ []; fault = Some (fault.BadScore (codes "price") 2 (pos 90) 80) })
 unfolding hotels words csv_on_literals digits chars is_utf8 encode_utf8 escaped fields_text is_blank
-no_count_bad_score = refl
+no_count_bad_score = (Some hotels, refl, refl)
 
 -- rows of one score stay in the order of the file
-ties : IsRun (λ name. Some (codes "n,v\na,1\nb,2\nc,1\nd,2\n")) on_v
+ties : IsRun (found_in (λ name. Some (codes "n,v\na,1\nb,2\nc,1\nd,2\n"))) unasked on_v
     (record { events = Fetch (codes "f") ∷ Put (codes "1,2,b,2\n") ∷ Put (codes "2,2,d,2\n") ∷ Put (codes "3,1,a,1\n") ∷ []; fault = None })
 unfolding on_v ends_at csv_on_literals digits chars is_utf8 encode_utf8 escaped fields_text is_blank
-ties = refl
+ties = (Some (codes "n,v\na,1\nb,2\nc,1\nd,2\n"), refl, refl)
 
 -- a header alone is a table without rows
-header_alone : IsRun (λ name. Some (codes "n,v\n")) on_v
+header_alone : IsRun (found_in (λ name. Some (codes "n,v\n"))) unasked on_v
     (record { events = Fetch (codes "f") ∷ []; fault = None })
 unfolding on_v ends_at csv_on_literals digits chars is_utf8 encode_utf8 escaped fields_text is_blank
-header_alone = refl
+header_alone = (Some (codes "n,v\n"), refl, refl)
 
 -- a quoted field is printed as it must be to be read again
-quoted : IsRun (λ name. Some (codes "n,v\r\n\"a,\"\"b\"\"\nc\",5\r\n")) on_v
+quoted : IsRun (found_in (λ name. Some (codes "n,v\r\n\"a,\"\"b\"\"\nc\",5\r\n"))) unasked on_v
     (record { events = Fetch (codes "f") ∷ Put (codes "1,5,\"a,\"\"b\"\"\nc\",5\n") ∷ []; fault = None })
 unfolding on_v ends_at csv_on_literals digits chars is_utf8 encode_utf8 escaped fields_text is_blank
-quoted = refl
+quoted = (Some (codes "n,v\r\n\"a,\"\"b\"\"\nc\",5\r\n"), refl, refl)
 
 -- 0 is a score
-score_of_zero : IsRun (λ name. Some (codes "v\n0\n")) on_v
+score_of_zero : IsRun (found_in (λ name. Some (codes "v\n0\n"))) unasked on_v
     (record { events = Fetch (codes "f") ∷ Put (codes "1,0,0\n") ∷ []; fault = None })
 unfolding on_v ends_at csv_on_literals digits chars is_utf8 encode_utf8 escaped fields_text is_blank
-score_of_zero = refl
+score_of_zero = (Some (codes "v\n0\n"), refl, refl)
 
 -- a number below 0 is no score
-negative : IsRun (λ name. Some (codes "v\n5\n-1\n")) on_v
+negative : IsRun (found_in (λ name. Some (codes "v\n5\n-1\n"))) unasked on_v
     (record { events = Fetch (codes "f") ∷ []; fault = Some (fault.BadScore (codes "v") 2 (negsuc 0) 9) })
 unfolding on_v ends_at csv_on_literals digits chars is_utf8 encode_utf8 escaped fields_text is_blank
-negative = refl
+negative = (Some (codes "v\n5\n-1\n"), refl, refl)
 
 -- the first number that is no score is told
-first_bad_score : IsRun (λ name. Some (codes "v\n10\n99\n")) on_v
+first_bad_score : IsRun (found_in (λ name. Some (codes "v\n10\n99\n"))) unasked on_v
     (record { events = Fetch (codes "f") ∷ []; fault = Some (fault.BadScore (codes "v") 1 (pos 10) 9) })
 unfolding on_v ends_at csv_on_literals digits chars is_utf8 encode_utf8 escaped fields_text is_blank
-first_bad_score = refl
+first_bad_score = (Some (codes "v\n10\n99\n"), refl, refl)
 
 -- an empty file has no header
-no_header : IsRun (λ name. Some ([])) on_v
+no_header : IsRun (found_in (λ name. Some [])) unasked on_v
     (ends_at table.NoHeader)
 unfolding on_v ends_at csv_on_literals digits chars is_utf8 encode_utf8 escaped fields_text is_blank
-no_header = refl
+no_header = (Some [], refl, refl)
 
 -- no column has the name
-no_column : IsRun (λ name. Some (codes "w,V\n1,1\n")) on_v
+no_column : IsRun (found_in (λ name. Some (codes "w,V\n1,1\n"))) unasked on_v
     (ends_at table.NoColumn)
 unfolding on_v ends_at csv_on_literals digits chars is_utf8 encode_utf8 escaped fields_text is_blank
-no_column = refl
+no_column = (Some (codes "w,V\n1,1\n"), refl, refl)
 
 -- the first column of the name is the one of numbers
-first_column : IsRun (λ name. Some (codes "v,v\n3,x\n")) on_v
+first_column : IsRun (found_in (λ name. Some (codes "v,v\n3,x\n"))) unasked on_v
     (record { events = Fetch (codes "f") ∷ Put (codes "1,3,3,x\n") ∷ []; fault = None })
 unfolding on_v ends_at csv_on_literals digits chars is_utf8 encode_utf8 escaped fields_text is_blank
-first_column = refl
+first_column = (Some (codes "v,v\n3,x\n"), refl, refl)
 
 -- a cell that is no number
-not_int : IsRun (λ name. Some (codes "v\nx\n")) on_v
+not_int : IsRun (found_in (λ name. Some (codes "v\nx\n"))) unasked on_v
     (ends_at (table.NotInt 1 1))
 unfolding on_v ends_at csv_on_literals digits chars is_utf8 encode_utf8 escaped fields_text is_blank
-not_int = refl
+not_int = (Some (codes "v\nx\n"), refl, refl)
 
 -- a row that is no row of the table comes before a number that is no score
-not_int_first : IsRun (λ name. Some (codes "v\n99\nx\n")) on_v
+not_int_first : IsRun (found_in (λ name. Some (codes "v\n99\nx\n"))) unasked on_v
     (ends_at (table.NotInt 2 1))
 unfolding on_v ends_at csv_on_literals digits chars is_utf8 encode_utf8 escaped fields_text is_blank
-not_int_first = refl
+not_int_first = (Some (codes "v\n99\nx\n"), refl, refl)
 
 -- a row with too few fields
-field_count : IsRun (λ name. Some (codes "v,w\n1\n")) on_v
+field_count : IsRun (found_in (λ name. Some (codes "v,w\n1\n"))) unasked on_v
     (ends_at (table.FieldCount 1 1))
 unfolding on_v ends_at csv_on_literals digits chars is_utf8 encode_utf8 escaped fields_text is_blank
-field_count = refl
+field_count = (Some (codes "v,w\n1\n"), refl, refl)
 
 -- a cell that is no text
-not_utf8 : IsRun (λ name. Some (codes "v,w\n1," ++ 255 ∷ 10 ∷ [])) on_v
+not_utf8 : IsRun (found_in (λ name. Some (codes "v,w\n1," ++ 255 ∷ 10 ∷ []))) unasked on_v
     (ends_at (table.NotUtf8 1 2))
 unfolding on_v ends_at csv_on_literals digits chars is_utf8 encode_utf8 escaped fields_text is_blank
-not_utf8 = refl
+not_utf8 = (Some (codes "v,w\n1," ++ 255 ∷ 10 ∷ []), refl, refl)
 
 -- a name that is no text
-name_not_utf8 : IsRun (λ name. Some (codes "v," ++ 255 ∷ 10 ∷ [])) on_v
+name_not_utf8 : IsRun (found_in (λ name. Some (codes "v," ++ 255 ∷ 10 ∷ []))) unasked on_v
     (ends_at (table.NotUtf8 0 2))
 unfolding on_v ends_at csv_on_literals digits chars is_utf8 encode_utf8 escaped fields_text is_blank
-name_not_utf8 = refl
+name_not_utf8 = (Some (codes "v," ++ 255 ∷ 10 ∷ []), refl, refl)
 
 -- the file is not there
-missing : IsRun (λ name. None) on_v (record { events = Fetch (codes "f") ∷ []; fault = Some (fault.Read (codes "f") fetch.Missing) })
+missing : IsRun (found_in (λ name. None)) unasked on_v (record { events = Fetch (codes "f") ∷ []; fault = Some (fault.Read (codes "f") fetch.Missing) })
 unfolding on_v digits
-missing = refl
+missing = (None, refl, refl)
 
 -- words of another number fetch nothing
-no_words : IsRun (λ name. None) [] (record { events = []; fault = Some fault.Usage })
+no_words : IsRun (found_in (λ name. None)) unasked [] (record { events = []; fault = Some fault.Usage })
 no_words = refl
 
 -- a word too many
@@ -324,6 +331,16 @@ line_of_negative : fault_line (fault.BadScore (codes "v") 131072 (negsuc 3999999
 unfolding digits
 line_of_negative = refl
 
+-- of a predicate's score
+line_of_bad_predicate : fault_line (fault.BadScore (codes "p") 1 (pos 40) 10) ≡ codes "score: p rows 1: 40 is not in 0..10\n"
+unfolding digits
+line_of_bad_predicate = refl
+
+-- the line of a call that failed
+line_of_probe : fault_line (fault.Probe (codes "q")) ≡ codes "probe: q\n"
+unfolding digits
+line_of_probe = refl
+
 -- the line of a file without a header
 line_of_no_header : fault_line (fault.Table (codes "h.csv") table.NoHeader) ≡ codes "table: h.csv: NoHeader\n"
 unfolding digits
@@ -403,6 +420,28 @@ line_of_not_in_profile : fault_line (fault.Script (script.Parse (syntax.NotInPro
 unfolding digits
 line_of_not_in_profile = refl
 
+-- of a statement that breaks a rule
+line_of_wrong_kind : fault_line (fault.Script (script.Bind why.WrongKind 174)) ≡ codes "script: bind WrongKind at 174\n"
+unfolding digits
+line_of_wrong_kind = refl
+
+line_of_no_table : fault_line (fault.Script (script.Bind why.NoTable 0)) ≡ codes "script: bind NoTable at 0\n"
+unfolding digits
+line_of_no_table = refl
+
+line_of_bad_divisor : fault_line (fault.Script (script.Bind why.BadDivisor 1048575)) ≡ codes "script: bind BadDivisor at 1048575\n"
+unfolding digits
+line_of_bad_divisor = refl
+
+-- of one for whose name there is no room
+line_of_full : fault_line (fault.Script (script.Room room.Full 637)) ≡ codes "script: catalogue Full at 637\n"
+unfolding digits
+line_of_full = refl
+
+line_of_name_taken : fault_line (fault.Script (script.Room room.NameTaken 13)) ≡ codes "script: catalogue NameTaken at 13\n"
+unfolding digits
+line_of_name_taken = refl
+
 -- of a statement that isn't there yet
 line_of_not_built : fault_line (fault.Script (script.NotBuilt 1)) ≡ codes "script: not built statement 1\n"
 unfolding digits
@@ -411,3 +450,6 @@ line_of_not_built = refl
 -- the status of each
 status_of_script : status_of (Some (fault.Script (script.NotBuilt 1))) ≡ status.Script
 status_of_script = refl
+
+status_of_probe : status_of (Some (fault.Probe (codes "q"))) ≡ status.Probe
+status_of_probe = refl

@@ -9,6 +9,10 @@ use Rattle.rs_lex.specs.declared.fault.LexFault.{LexFault}
 use Rattle.rs_lex.specs.declared.fault.LexFault.TheVariants as lex
 use Rattle.rs_syntax.specs.declared.fault.SyntaxFault.{SyntaxFault}
 use Rattle.rs_syntax.specs.declared.fault.SyntaxFault.TheVariants as syntax
+use Rattle.rs_catalog.specs.declared.room.RoomFault.{RoomFault}
+use Rattle.rs_catalog.specs.declared.room.RoomFault.TheVariants as room
+use Rattle.rs_bind.specs.declared.fault.Why.{Why}
+use Rattle.rs_bind.specs.declared.fault.Why.TheVariants as why
 use Rattle.rs_run.specs.declared.status.Status.{Status}
 use Rattle.rs_run.specs.declared.status.Status.TheVariants as status
 use Rattle.rs_run.specs.declared.fault.Fault.{Fault}
@@ -25,6 +29,7 @@ status_of (Some (fault.Read name why)) = status.Read
 status_of (Some fault.Write) = status.Write
 status_of (Some (fault.Table name why)) = status.Table
 status_of (Some (fault.BadScore predicate row got max)) = status.BadScore
+status_of (Some (fault.Probe predicate)) = status.Probe
 status_of (Some (fault.Script why)) = status.Script
 
 -- the fault of a run whose script the lexer refuses, or the parser
@@ -77,11 +82,34 @@ parse_text (syntax.TooManyStatements at) = codes "TooManyStatements at " ++ deci
 parse_text (syntax.NotInProfile at) = codes "NotInProfile at " ++ decimal at
 parse_text syntax.Memory = codes "memory"
 
+-- the rule that a statement breaks
+abbrev pub why_text : Why → List ℕ
+why_text why.NoTable = codes "NoTable"
+why_text why.NoColumn = codes "NoColumn"
+why_text why.Ambiguous = codes "Ambiguous"
+why_text why.NoPredicate = codes "NoPredicate"
+why_text why.WrongKind = codes "WrongKind"
+why_text why.WrongCount = codes "WrongCount"
+why_text why.NameTwice = codes "NameTwice"
+why_text why.TooWide = codes "TooWide"
+why_text why.DistinctNeedsOutput = codes "DistinctNeedsOutput"
+why_text why.SetColumnsDiffer = codes "SetColumnsDiffer"
+why_text why.LimitOf = codes "LimitOf"
+why_text why.ConstantTerm = codes "ConstantTerm"
+why_text why.BadDivisor = codes "BadDivisor"
+
+-- why the catalogue has no room for a name
+abbrev pub room_text : RoomFault → List ℕ
+room_text room.NameTaken = codes "NameTaken"
+room_text room.Full = codes "Full"
+
 -- why a script ends
 abbrev pub script_text : ScriptFault → List ℕ
 script_text (script.NotUtf8 at) = codes "NotUtf8 at " ++ decimal at
 script_text (script.Lex why) = codes "lex " ++ lex_text why
 script_text (script.Parse why) = codes "parse " ++ parse_text why
+script_text (script.Bind why at) = codes "bind " ++ why_text why ++ codes " at " ++ decimal at
+script_text (script.Room why at) = codes "catalogue " ++ room_text why ++ codes " at " ++ decimal at
 script_text (script.NotBuilt statement) = codes "not built statement " ++ decimal statement
 
 -- what a fault's line says
@@ -93,6 +121,7 @@ fault_text fault.Write = codes "write"
 fault_text (fault.Table name why) = codes "table: " ++ name ++ codes ": " ++ table_text why
 fault_text (fault.BadScore predicate row got max) =
     codes "score: " ++ predicate ++ codes " rows " ++ decimal row ++ codes ": " ++ signed_decimal got ++ codes " is not in 0.." ++ decimal max
+fault_text (fault.Probe predicate) = codes "probe: " ++ predicate
 fault_text (fault.Script why) = codes "script: " ++ script_text why
 
 -- the line of a fault

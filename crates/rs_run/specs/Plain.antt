@@ -1,4 +1,4 @@
--- The word `plain`: the statements of a script, one after another. No statement is built yet.
+-- The word `plain`: the statements of a script, one after another.
 use Rattle.std.specs.Prelude.{ℕ, ◌≡◌, ◌≤◌, List, [], ◌∷◌, length, take, drop, Option, Result, Ok, Err, if◌then◌else◌}
 use Rattle.std.specs.Str.{bytes_eq}
 use Rattle.rs_value.specs.Text.{text_of}
@@ -13,8 +13,11 @@ use Rattle.rs_syntax.specs.Syntax.{Command}
 use Rattle.rs_syntax.specs.declared.fault.SyntaxFault.{SyntaxFault}
 use Rattle.rs_run.specs.declared.fault.Fault.{Fault}
 use Rattle.rs_run.specs.declared.fault.Fault.TheVariants.{Memory, Script}
-use Rattle.rs_run.specs.declared.script_fault.ScriptFault.TheVariants.{NotUtf8, Lex, Parse, NotBuilt}
+use Rattle.rs_run.specs.declared.script_fault.ScriptFault.TheVariants.{NotUtf8, Lex, Parse}
+use Rattle.rs_catalog.specs.Catalogue.{empty}
 use Rattle.rs_run.specs.Content.{content_of}
+use Rattle.rs_run.specs.Run.{Answering, Fetch, Finds, Run, behind, fails}
+use Rattle.rs_run.specs.Statements.{RunOf}
 
 -- the most bytes of a script's file, a byte order mark counted
 abbrev pub script_limit : ℕ
@@ -51,15 +54,14 @@ pub record HasStatements (script : List ℕ) (commands : List Command) : Type 0 
   pub parsed : Parses script tokens commands
   pub sound : IsSound script tokens
 
--- what the text of a script gives: the lines that are put, or the fault that comes before any. The lexer comes first, then
--- the parser, and then the first statement, which counts as 1
-pub data TextGives (script : List ℕ) : Result (List (List ℕ)) Fault → Type 0 where
-  unlexed : (fault : LexFault) → lex.Refuses 0 0 script fault → TextGives script (Err (Script (Lex fault)))
-  unparsed : (tokens : List Token) (fault : SyntaxFault) → HasTokens script tokens → Refuses script tokens fault → TextGives script (Err (Script (Parse fault)))
-  unbuilt : (command : Command) (more : List Command) → HasStatements script (command ∷ more) → TextGives script (Err (Script (NotBuilt 1)))
-  nothing : HasStatements script [] → TextGives script (Ok [])
+-- what the text of a script does: the lexer comes first, then the parser, and then the statements one after another, over an empty catalogue
+pub data TextRuns (finds : Finds) (answer : Answering) (script : List ℕ) : Run → Type 0 where
+  unlexed : (fault : LexFault) → lex.Refuses 0 0 script fault → TextRuns finds answer script (fails (Script (Lex fault)))
+  unparsed : (tokens : List Token) (fault : SyntaxFault) → HasTokens script tokens → Refuses script tokens fault → TextRuns finds answer script (fails (Script (Parse fault)))
+  runs : (commands : List Command) (run : Run) → HasStatements script commands → RunOf finds answer 1 empty commands run → TextRuns finds answer script run
 
--- what a script gives, where its file has these bytes, or isn't there
-pub data ScriptGives (name : List ℕ) (there : Option (List ℕ)) : Result (List (List ℕ)) Fault → Type 0 where
-  unread : (fault : Fault) → source_of name there ≡ Err fault → ScriptGives name there (Err fault)
-  read : (script : List ℕ) (outcome : Result (List (List ℕ)) Fault) → source_of name there ≡ Ok script → TextGives script outcome → ScriptGives name there outcome
+-- what a script does: its file is fetched first
+pub data ScriptRuns (finds : Finds) (answer : Answering) (name : List ℕ) : Run → Type 0 where
+  unread : (there : Option (List ℕ)) (fault : Fault) → finds name there → source_of name there ≡ Err fault → ScriptRuns finds answer name (behind (Fetch name ∷ []) (fails fault))
+  read : (there : Option (List ℕ)) (script : List ℕ) (run : Run) → finds name there → source_of name there ≡ Ok script → TextRuns finds answer script run
+      → ScriptRuns finds answer name (behind (Fetch name ∷ []) run)

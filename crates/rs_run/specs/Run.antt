@@ -1,14 +1,15 @@
--- A run: its events in order, and the fault that ends it.
-use Rattle.std.specs.Prelude.{ℕ, ◌≡◌, List, [], ◌∷◌, map, Option, Some, None, Result, Ok, Err}
+-- What a run of the command does: its events, in order, and the fault that ends it.
+use Rattle.std.specs.Prelude.{ℕ, ℤ, ◌≡◌, List, [], ◌∷◌, ◌++◌, map, Option, Some, None, IfSome, Result, Ok, Err}
+use Rattle.rs_value.specs.declared.value.Value.{Value}
+use Rattle.rs_outside.specs.Files.{FilesTold, file_named}
+use Rattle.rs_expr.specs.Predicates.{PredicateDef}
+use Rattle.rs_expr.specs.declared.scorer.Call.{Call}
 use Rattle.rs_run.specs.declared.fault.Fault.{Fault}
-use Rattle.rs_run.specs.declared.fault.Fault.TheVariants.{Memory, Usage}
-use Rattle.rs_run.specs.Words.{Form, NoForm, Plain, Top, form_of}
-use Rattle.rs_run.specs.Top.{top_lines}
-use Rattle.rs_run.specs.Plain.{ScriptGives}
 
--- a fetch of the file of this name, or a put of these bytes on standard output
+-- a fetch of the file of this name, a call of the scorer, or a put of these bytes on standard output
 pub data Event : Type 0 where
   Fetch : List ℕ → Event
+  Ask : Call → Event
   Put : List ℕ → Event
 
 -- what a run does, and the fault that ends it, if one does
@@ -20,31 +21,48 @@ pub record Run : Type 0 where
 abbrev pub fetches : List Event → List (List ℕ)
 fetches [] = []
 fetches (Fetch name ∷ rest) = name ∷ fetches rest
+fetches (Ask call ∷ rest) = fetches rest
 fetches (Put bytes ∷ rest) = fetches rest
+
+-- the calls of the scorer, in order
+abbrev pub calls : List Event → List Call
+calls [] = []
+calls (Fetch name ∷ rest) = calls rest
+calls (Ask call ∷ rest) = call ∷ calls rest
+calls (Put bytes ∷ rest) = calls rest
 
 -- what is put, in order
 abbrev pub puts : List Event → List (List ℕ)
 puts [] = []
 puts (Fetch name ∷ rest) = puts rest
+puts (Ask call ∷ rest) = puts rest
 puts (Put bytes ∷ rest) = bytes ∷ puts rest
+
+-- a run that ends with a fault before any event
+abbrev pub fails : Fault → Run
+fails fault = record { events = []; fault = Some fault }
+
+-- events, and then a run
+abbrev pub behind : List Event → Run → Run
+behind events run = record { events = events ++ run.events; fault = run.fault }
 
 -- a run that fetches a file and then puts these lines, or ends with a fault before any put
 abbrev pub fetch_then : List ℕ → Result (List (List ℕ)) Fault → Run
 fetch_then name (Ok lines) = record { events = Fetch name ∷ map Put lines; fault = None }
 fetch_then name (Err fault) = record { events = Fetch name ∷ []; fault = Some fault }
 
--- the run of words of this form, where a file of a name has these bytes, or isn't there
-abbrev pub IsRunOf : (List ℕ → Option (List ℕ)) → Form → Run → Type 0
-IsRunOf there (Top top) run = run ≡ fetch_then top.file (top_lines top (there top.file))
-IsRunOf there (Plain name) run = (outcome : Result (List (List ℕ)) Fault) × ScriptGives name (there name) outcome × (run ≡ fetch_then name outcome)
-IsRunOf there NoForm run = run ≡ record { events = []; fault = Some Usage }
+-- what a fetch finds under a name: these bytes, or no file. Where files tell what they hold, it is that; a disk tells nothing, and may change between
+-- two fetches
+abbrev pub Finds : Type 1
+Finds = List ℕ → Option (List ℕ) → Type 0
 
--- the run of these words
-abbrev pub IsRun : (List ℕ → Option (List ℕ)) → List (List ℕ) → Run → Type 0
-IsRun there words run = IsRunOf there (form_of words) run
+abbrev pub finds_in : Option FilesTold → Finds
+finds_in told name there = IfSome told (λ t. file_named name t.folder ≡ there)
 
--- what is done of a script where there is no memory to tell what it gives: its file is fetched, and nothing is put
-abbrev pub IsCut : Form → Run → Type 0
-IsCut (Top top) run = ⊥
-IsCut (Plain name) run = run ≡ fetch_then name (Err Memory)
-IsCut NoForm run = ⊥
+-- files that stay as they are: these bytes are under a name, or no file is
+abbrev pub found_in : (List ℕ → Option (List ℕ)) → Finds
+found_in there name found = there name ≡ found
+
+-- what a scorer answers
+abbrev pub Answering : Type 0
+Answering = PredicateDef → List Value → ℤ

@@ -1,5 +1,5 @@
 -- The word `top`: the first rows of a table by the number in a column.
-use Rattle.std.specs.Prelude.{ℕ, ℤ, pos, negsuc, ◌+◌, nat_le, Bool, false, List, [], ◌∷◌, take, Option, unwrap_or, option_map, slice_get, Result, Ok, Err, if◌then◌else◌}
+use Rattle.std.specs.Prelude.{ℕ, ℤ, pos, ◌+◌, List, [], ◌∷◌, take, Option, unwrap_or, option_map, slice_get, Result, Ok, Err, if◌then◌else◌}
 use Rattle.rs_value.specs.declared.value.Value.{Value}
 use Rattle.rs_value.specs.declared.value.Value.TheVariants.{Int, Text}
 use Rattle.rs_table.specs.declared.fault.TableFault.{TableFault}
@@ -7,6 +7,7 @@ use Rattle.rs_table.specs.Column.{place_of}
 use Rattle.rs_table.specs.Relation.{Relation}
 use Rattle.rs_table.specs.Reading.{◌>>=◌, header_of, table_of}
 use Rattle.rs_rank.specs.Stable.{stable}
+use Rattle.rs_expr.specs.Scores.{is_score, score_of}
 use Rattle.rs_lines.specs.Row.{line_of}
 use Rattle.rs_run.specs.declared.fault.Fault.{Fault}
 use Rattle.rs_run.specs.declared.fault.Fault.TheVariants.{Table, BadScore}
@@ -31,19 +32,9 @@ number_in (Text t) = pos 0
 abbrev pub number_at : ℕ → List Value → ℤ
 number_at place values = unwrap_or (option_map number_in (slice_get values place)) (pos 0)
 
--- a number as a score, which is never below 0
-abbrev pub score_of : ℤ → ℕ
-score_of (pos n) = n
-score_of (negsuc n) = 0
-
 -- the score of a row by the number at a place
 abbrev pub score_at : ℕ → List Value → ℕ
 score_at place values = score_of (number_at place values)
-
--- whether a number lies in 0..max
-abbrev pub is_score : ℕ → ℤ → Bool
-is_score max (pos n) = nat_le n max
-is_score max (negsuc n) = false
 
 -- the rows, from the row of this number on, or the first whose number is no score
 abbrev pub scored_from : List ℕ → ℕ → ℕ → ℕ → List (List Value) → Result (List (List Value)) Fault

@@ -4,6 +4,7 @@ ghost use Rattle.rs_run.specs.Faults.{fault_line, fetch_text, status_of, table_t
 
 use crate::script_fault::ScriptFault;
 use crate::status::Status;
+use rs_bind::BindFault;
 use rs_lex::LexFault;
 use rs_outside::FetchFault;
 use rs_syntax::SyntaxFault;
@@ -38,6 +39,10 @@ pub enum Fault {
         row: u32,
         got: i128,
         max: u32,
+    },
+    /// A call of the scorer for this predicate failed.
+    Probe {
+        predicate: Text,
     },
     /// The script has a fault.
     Script(ScriptFault),
@@ -89,6 +94,19 @@ impl From<SyntaxFault> for Fault {
     }
 }
 
+impl From<BindFault> for Fault {
+    ghost use Rattle.rs_run.specs.Statements.{bind_fault};
+
+    ghost from_gives = { λ why f. f ≡ bind_fault why };
+
+    fn from(why: BindFault) -> Fault {
+        match why {
+            BindFault::Memory => Fault::Memory,
+            BindFault::At(why, at) => Fault::Script(ScriptFault::Bind { why, at: at.start }),
+        }
+    }
+}
+
 impl Fault {
     /// The status of a run that ends with this fault.
     pub fn status(&self) -> Status
@@ -101,6 +119,7 @@ impl Fault {
             Fault::Write => Status::Write,
             Fault::Table { .. } => Status::Table,
             Fault::BadScore { .. } => Status::BadScore,
+            Fault::Probe { .. } => Status::Probe,
             Fault::Script(_) => Status::Script,
         }
     }
@@ -123,6 +142,10 @@ impl Fault {
             } => {
                 let predicate = predicate.as_str();
                 Ok(format!(in alloc; "score: {predicate} rows {row}: {got} is not in 0..{max}\n")?)
+            }
+            Fault::Probe { predicate } => {
+                let predicate = predicate.as_str();
+                Ok(format!(in alloc; "probe: {predicate}\n")?)
             }
             Fault::Script(why) => script_line(alloc, why),
         }

@@ -1,10 +1,11 @@
 ghost use Rattle.std.specs.Prelude.{◌≡◌, ◌⊎◌, ◌≤◌, Ok, Err, IfOk, MatchResult, length};
 ghost use Rattle.rs_run.specs.Content.{content_of};
 ghost use Rattle.rs_run.specs.Outcome.{seen};
-ghost use Rattle.rs_run.specs.Steps.{FetchesFile};
+ghost use Rattle.rs_run.specs.Steps.{FetchesFile, Keeps};
 
 use crate::fault::Fault;
 use rs_outside::{FetchFault, Files};
+use rs_table::TableFault;
 use rs_value::Text;
 use std::alloc::Global;
 
@@ -20,6 +21,7 @@ pub fn fetch_file<F: Files>(
         (seen (F.told files.old) (F.told files.new) (F.faults files.old) (F.faults files.new))
         (F.steady files.old) }
     ensures within { IfOk result (λ bytes. length bytes.items ≤ limit) }
+    ensures keeps { Keeps (seen (F.told files.old) (F.told files.new) (F.faults files.old) (F.faults files.new)) (F.steady files.old) (F.steady files.new) }
 {
     let mut bytes = Vec::new(alloc);
     match files.fetch(file, limit, &mut bytes) {
@@ -38,6 +40,20 @@ fn read_fault(file: &Text, why: FetchFault) -> Fault
     }
     match file.copy() {
         Ok(name) => Fault::Read { name, why },
+        Err(_) => Fault::Memory,
+    }
+}
+
+/// The fault of a file that is no table.
+pub fn table_fault(file: &Text, why: TableFault) -> Fault
+    ensures tells { (result ≡ Fault.Table file.now why) ⊎ (result ≡ Fault.Memory) }
+    ensures memory { why ≡ TableFault.Memory → result ≡ Fault.Memory }
+{
+    if let TableFault::Memory = why {
+        return Fault::Memory;
+    }
+    match file.copy() {
+        Ok(name) => Fault::Table { name, why },
         Err(_) => Fault::Memory,
     }
 }

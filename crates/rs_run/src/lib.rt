@@ -6,9 +6,9 @@ mod fault;
 mod fetch;
 mod laws;
 mod plain;
-mod ranked_row;
 mod report;
 mod script_fault;
+mod statement;
 mod status;
 #[cfg(test)]
 mod tests;

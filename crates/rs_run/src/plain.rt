@@ -1,13 +1,16 @@
-ghost use Rattle.std.specs.Prelude.{◌≡◌, ◌⊎◌, ◌≤◌, Err, IfOk, length};
+ghost use Rattle.std.specs.Prelude.{◌≡◌, ◌≤◌, IfOk, length};
 ghost use Rattle.rs_value.specs.Answer.{Gives};
-ghost use Rattle.rs_run.specs.Outcome.{seen};
-ghost use Rattle.rs_run.specs.Plain.{TextGives, or_text_fault, without_mark};
 ghost use Rattle.rs_value.specs.Text.{text_of};
-ghost use Rattle.rs_run.specs.Steps.{FetchesFile, IsPlain, IsSource, no_lines};
+ghost use Rattle.rs_run.specs.Outcome.{seen};
+ghost use Rattle.rs_run.specs.Plain.{or_text_fault, without_mark};
+ghost use Rattle.rs_run.specs.Run.{finds_in};
+ghost use Rattle.rs_run.specs.Steps.{FetchesFile, IsSource, Keeps, RanScript, RanText, seen_scorer};
 
 use crate::fault::Fault;
 use crate::fetch::fetch_file;
 use crate::script_fault::ScriptFault;
+use crate::statement::run_statements;
+use rs_expr::Scorer;
 use rs_lex::{MOST_BYTES, tokens};
 use rs_outside::Files;
 use rs_syntax::parse;
@@ -18,16 +21,22 @@ use std::alloc::Global;
 const BYTE_ORDER_MARK: &[u8] = b"\xEF\xBB\xBF";
 
 /// Does what a script says, statement by statement, up to the first fault.
-pub fn plain<F: Files>(alloc: Global, name: &Text, files: &mut F) -> Result<(), Fault>
-    ensures { FetchesFile name.now result (IsPlain name.now)
+pub fn plain<F: Files, S: Scorer>(
+    alloc: Global,
+    name: &Text,
+    files: &mut F,
+    scorer: &mut S,
+) -> Result<(), Fault>
+    ensures { RanScript (finds_in (F.told files.old)) (S.answer scorer.old) name.now result
         (seen (F.told files.old) (F.told files.new) (F.faults files.old) (F.faults files.new))
-        (F.steady files.old) }
+        (seen_scorer (S.told scorer.old) (S.told scorer.new) (S.calls scorer.old) (S.calls scorer.new) (S.faults scorer.old) (S.faults scorer.new))
+        (F.steady files.old) (S.steady scorer.old) }
 {
     let script = match fetch_script(alloc, name, files) {
         Ok(script) => script,
         Err(fault) => return Err(fault),
     };
-    run_script(alloc, &script)
+    run_text(alloc, &script, files, scorer)
 }
 
 /// Fetches the text of a script, without the byte order mark at its start.
@@ -36,6 +45,7 @@ fn fetch_script<F: Files>(alloc: Global, name: &Text, files: &mut F) -> Result<T
         (seen (F.told files.old) (F.told files.new) (F.faults files.old) (F.faults files.new))
         (F.steady files.old) }
     ensures small { IfOk result (λ script. length script ≤ 1048576) }
+    ensures keeps { Keeps (seen (F.told files.old) (F.told files.new) (F.faults files.old) (F.faults files.new)) (F.steady files.old) (F.steady files.new) }
 {
     let bytes = match fetch_file(alloc, name, MOST_BYTES, files) {
         Ok(bytes) => bytes,
@@ -67,15 +77,20 @@ fn without_mark(bytes: &[u8]) -> &[u8]
     }
 }
 
-/// Does what the text of a script says. No statement is built yet.
-fn run_script(alloc: Global, script: &Text) -> Result<(), Fault>
+/// Does what the text of a script says.
+fn run_text<F: Files, S: Scorer>(
+    alloc: Global,
+    script: &Text,
+    files: &mut F,
+    scorer: &mut S,
+) -> Result<(), Fault>
     requires { length script.now ≤ 1048576 }
-    ensures { TextGives script.now (no_lines result) ⊎ (result ≡ Err Fault.Memory) }
+    ensures { RanText (finds_in (F.told files.old)) (S.answer scorer.old) script.now result
+        (seen (F.told files.old) (F.told files.new) (F.faults files.old) (F.faults files.new))
+        (seen_scorer (S.told scorer.old) (S.told scorer.new) (S.calls scorer.old) (S.calls scorer.new) (S.faults scorer.old) (S.faults scorer.new))
+        (F.steady files.old) (S.steady scorer.old) }
 {
     let tokens = tokens(alloc, script)?;
     let statements = parse(alloc, script, &tokens)?;
-    match statements.first() {
-        Some(_) => Err(Fault::Script(ScriptFault::NotBuilt { statement: 1 })),
-        None => Ok(()),
-    }
+    run_statements(alloc, &statements, files, scorer)
 }

@@ -1,7 +1,9 @@
 ghost use Rattle.std.specs.Prelude.{◌≡◌, IfOk};
 ghost use Rattle.std.specs.String.{string_bytes};
-ghost use Rattle.rs_run.specs.Faults.{lex_text, parse_text, script_text};
+ghost use Rattle.rs_run.specs.Faults.{lex_text, parse_text, room_text, script_text, why_text};
 
+use rs_bind::Why;
+use rs_catalog::RoomFault;
 use rs_lex::LexFault;
 use rs_syntax::SyntaxFault;
 use rs_value::Memory;
@@ -16,8 +18,12 @@ pub enum ScriptFault {
     Lex(LexFault),
     /// The tokens are no statements.
     Parse(SyntaxFault),
+    /// A statement breaks a rule of names and types at this place.
+    Bind { why: Why, at: u32 },
+    /// The catalogue has no room for a statement's name, which stands at this place.
+    Room { why: RoomFault, at: u32 },
     /// The statement is of a kind that isn't there yet. Statements count from 1.
-    NotBuilt { statement: u32 },
+    NotBuilt { statement: usize },
 }
 
 impl ScriptFault {
@@ -36,6 +42,14 @@ impl ScriptFault {
                 let why = parse_text(alloc, *why)?;
                 let why = why.as_str();
                 Ok(format!(in alloc; "parse {why}")?)
+            }
+            ScriptFault::Bind { why, at } => {
+                let why = why_text(*why);
+                Ok(format!(in alloc; "bind {why} at {at}")?)
+            }
+            ScriptFault::Room { why, at } => {
+                let why = room_text(*why);
+                Ok(format!(in alloc; "catalogue {why} at {at}")?)
             }
             ScriptFault::NotBuilt { statement } => {
                 Ok(format!(in alloc; "not built statement {statement}")?)
@@ -67,5 +81,35 @@ fn parse_text(alloc: Global, why: SyntaxFault) -> Result<String, Memory>
         }
         SyntaxFault::NotInProfile { at } => Ok(format!(in alloc; "NotInProfile at {at}")?),
         SyntaxFault::Memory => Ok(String::from_str(alloc, "memory")?),
+    }
+}
+
+/// The name of the rule.
+fn why_text(why: Why) -> &'static str
+    ensures { result.now ≡ why_text why }
+{
+    match why {
+        Why::NoTable => "NoTable",
+        Why::NoColumn => "NoColumn",
+        Why::Ambiguous => "Ambiguous",
+        Why::NoPredicate => "NoPredicate",
+        Why::WrongKind => "WrongKind",
+        Why::WrongCount => "WrongCount",
+        Why::NameTwice => "NameTwice",
+        Why::TooWide => "TooWide",
+        Why::DistinctNeedsOutput => "DistinctNeedsOutput",
+        Why::SetColumnsDiffer => "SetColumnsDiffer",
+        Why::LimitOf => "LimitOf",
+        Why::ConstantTerm => "ConstantTerm",
+        Why::BadDivisor => "BadDivisor",
+    }
+}
+
+fn room_text(why: RoomFault) -> &'static str
+    ensures { result.now ≡ room_text why }
+{
+    match why {
+        RoomFault::NameTaken => "NameTaken",
+        RoomFault::Full => "Full",
     }
 }

@@ -1,6 +1,9 @@
 //! What no clause says: that runs succeed, and what they print.
 
+mod create;
+
 use crate::{Status, one_run, run};
+use rs_expr::FormulaScorer;
 use rs_outside::{MemFiles, MemSink};
 use rs_value::{Memory, Text};
 use std::alloc::Global;
@@ -50,7 +53,8 @@ impl Outside {
             texts.push(text(alloc, word)?)?;
         }
         let Outside { files, out, err } = self;
-        Ok(run(alloc, &texts, files, out, err))
+        let mut scorer = FormulaScorer::new();
+        Ok(run(alloc, &texts, files, &mut scorer, out, err))
     }
 
     /// Asserts that a run of these words put just these bytes.
@@ -469,7 +473,7 @@ fn reads_as_many_bytes_as_a_file_may_have(rt: HostRuntime) -> Result<(), Fail> {
 type Pieces = &'static [(&'static [u8], usize)];
 
 /// What `plain s.sql` must answer and put, for each script.
-const SCRIPTS: [(Pieces, Status, &str); 21] = [
+const SCRIPTS: [(Pieces, Status, &str); 19] = [
     (&[], Status::Done, ""),
     (&[(b"-- only this", 1)], Status::Done, ""),
     (&[(b"\xEF\xBB\xBF", 1)], Status::Done, ""),
@@ -540,28 +544,6 @@ const SCRIPTS: [(Pieces, Status, &str); 21] = [
         "script: parse TooManyStatements at 8000\n",
     ),
     (
-        &[
-            (b"CREATE PREDICATE p (v INT) MAX 10 AS ", 1),
-            (b"(", 256),
-            (b"v", 1),
-            (b")", 256),
-            (b";", 1),
-        ],
-        Status::Script,
-        "script: parse TooDeep at 292\n",
-    ),
-    (
-        &[
-            (b"CREATE PREDICATE p (v INT) MAX 10 AS ", 1),
-            (b"(", 255),
-            (b"v", 1),
-            (b")", 255),
-            (b";", 1),
-        ],
-        Status::Script,
-        "script: not built statement 1\n",
-    ),
-    (
         &[(b"CLOSE a;", 1)],
         Status::Script,
         "script: not built statement 1\n",
@@ -629,7 +611,7 @@ fn puts_whole_lines_where_memory_ends(rt: HostRuntime) {
 }
 
 /// A script with every form of statement and of expression.
-const EVERY_FORM: &str = "CREATE TABLE t (a INT, b TEXT, \"c d\" INTEGER) FROM 't.csv'; \
+const EVERY_FORM: &str = "CLOSE k; CREATE TABLE t (a INT, b TEXT, \"c d\" INTEGER) FROM 't.csv'; \
     CREATE PREDICATE p (x INT) MAX 9 COST 2 AS CASE WHEN NOT x = 1 AND x <> 2 OR x < 3 THEN ABS(-x) + MIN(x, 4) \
     WHEN (x) >= 8 THEN 0 ELSE MAX(x, x * 5) / 6 - 7 END; \
     CREATE RANK INDEX i ON t (p(a)); \

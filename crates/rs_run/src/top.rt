@@ -5,17 +5,17 @@ ghost use Rattle.rs_value.specs.declared.kind.Kind.TheVariants as kind;
 ghost use Rattle.rs_table.specs.Column.{Column, place_of};
 ghost use Rattle.rs_table.specs.NumberColumn.{HasNumberColumn};
 ghost use Rattle.rs_lines.specs.Row.{line_of};
-ghost use Rattle.rs_run.specs.Outcome.{ForFiles, Ran, seen};
-ghost use Rattle.rs_run.specs.Run.{fetch_then};
-ghost use Rattle.rs_run.specs.Top.{is_score, named_table, number_at, score_of, scored_from, top_lines};
-ghost use Rattle.rs_run.specs.Steps.{FetchesFile, IsRanked, IsRow, IsTopTable, PutsLines, Ranks, lines_of, row_in};
+ghost use Rattle.rs_run.specs.Outcome.{seen};
+ghost use Rattle.rs_run.specs.Run.{finds_in};
+ghost use Rattle.rs_run.specs.Top.{named_table, number_at, scored_from};
+ghost use Rattle.rs_expr.specs.Scores.{is_score, score_of};
+ghost use Rattle.rs_run.specs.Steps.{FetchesFile, IsRanked, IsRow, IsTopTable, PutsLines, RanTop, Ranks, lines_of, row_in};
 
 use crate::fault::Fault;
-use crate::fetch::fetch_file;
-use crate::ranked_row::RankedRow;
+use crate::fetch::{fetch_file, table_fault};
 use rs_lines::row_line;
 use rs_outside::{Files, Sink, SinkFault};
-use rs_rank::sort_stably;
+use rs_rank::{ScoredRow, sort_stably};
 use rs_table::{Schema, TABLE_LIMIT, Table, TableFault};
 use rs_value::{Text, Value};
 use std::alloc::Global;
@@ -30,12 +30,10 @@ pub fn top<F: Files, O: Sink>(
     files: &mut F,
     out: &mut O,
 ) -> Result<(), Fault>
-    ensures { ForFiles (F.told files.old) (λ there. Ran
-        (fetch_then file.now (top_lines (record { file = file.now; column = column.now; max = max; count = count }) (there file.now)))
-        result
+    ensures { RanTop (finds_in (F.told files.old)) (record { file = file.now; column = column.now; max = max; count = count }) result
         (seen (F.told files.old) (F.told files.new) (F.faults files.old) (F.faults files.new))
         (seen (O.pieces out.old) (O.pieces out.new) (O.faults out.old) (O.faults out.new))
-        (F.steady files.old) (O.steady out.old)) }
+        (F.steady files.old) (O.steady out.old) }
 {
     let table = match fetch_table(alloc, file, column, files) {
         Ok(table) => table,
@@ -70,20 +68,6 @@ fn fetch_table<F: Files>(
     }
 }
 
-/// The fault of a file that is no table.
-fn table_fault(file: &Text, why: TableFault) -> Fault
-    ensures tells { (result ≡ Fault.Table file.now why) ⊎ (result ≡ Fault.Memory) }
-    ensures memory { why ≡ TableFault.Memory → result ≡ Fault.Memory }
-{
-    if let TableFault::Memory = why {
-        return Fault::Memory;
-    }
-    match file.copy() {
-        Ok(name) => Fault::Table { name, why },
-        Err(_) => Fault::Memory,
-    }
-}
-
 /// The table of a file's bytes, in which the column is of numbers.
 fn read_table(alloc: Global, column: &Text, bytes: &[u8]) -> Result<Table, TableFault>
     requires { length bytes.now ≤ 33554432 }
@@ -97,7 +81,7 @@ fn read_table(alloc: Global, column: &Text, bytes: &[u8]) -> Result<Table, Table
 }
 
 /// The rows of a table in the stable order of the numbers in a column.
-fn rank_rows(alloc: Global, table: &Table, column: &Text, max: u32) -> Result<Vec<RankedRow>, Fault>
+fn rank_rows(alloc: Global, table: &Table, column: &Text, max: u32) -> Result<Vec<ScoredRow>, Fault>
     requires { HasNumberColumn column.now table.now.schema }
     ensures { let place = unwrap_or (place_of column.now table.now.schema) 0 in
         MatchResult result
@@ -115,7 +99,7 @@ fn score_rows(
     table: &Table,
     column: &Text,
     max: u32,
-) -> Result<Vec<RankedRow>, Fault>
+) -> Result<Vec<ScoredRow>, Fault>
     requires { HasNumberColumn column.now table.now.schema }
     ensures { let place = unwrap_or (place_of column.now table.now.schema) 0 in
         MatchResult result
@@ -132,7 +116,7 @@ fn score_rows(
         let Some(score) = score_of(number, max) else {
             return Err(bad_score(column, row, number, max));
         };
-        ranked.push(RankedRow { score, row })?;
+        ranked.push(ScoredRow { score, row })?;
     }
     Ok(ranked)
 }
@@ -190,7 +174,7 @@ fn bad_score(column: &Text, row: u32, number: i64, max: u32) -> Fault
 fn put_rows<O: Sink>(
     alloc: Global,
     table: &Table,
-    ranked: &[RankedRow],
+    ranked: &[ScoredRow],
     count: u32,
     out: &mut O,
 ) -> Result<(), Fault>
@@ -237,7 +221,7 @@ fn ranked_line(
     alloc: Global,
     table: &Table,
     rank: u32,
-    ranked: &RankedRow,
+    ranked: &ScoredRow,
 ) -> Result<Vec<u8>, Fault>
     requires { IsRow table.now ranked.now.row }
     ensures ok { IfOk result (λ line. line.items ≡ line_of rank ranked.now.score (row_in table.now ranked.now.row)) }

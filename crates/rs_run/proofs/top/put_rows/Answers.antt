@@ -2,13 +2,13 @@ use Rattle.std.proofs.Common.{◌≡◌, ◌<◌, ◌≤◌, ◌+◌, ◌∙◌,
 use Rattle.std.specs.Prelude.{option_map}
 use Rattle.std.proofs.lemmas.List.{take_all}
 use Rattle.rs_lines.specs.Row.{line_of}
-use Rattle.rs_run.specs.declared.ranked_row.RankedRow.{RankedRow}
+use Rattle.rs_rank.specs.declared.scored_row.ScoredRow.{ScoredRow}
 use Rattle.rs_run.specs.Steps.{lines_of, row_in}
 use Rattle.rs_run.proofs.RunFacts.{PutsLines-all, PutsLines-some, PutsLines-append, PutsLines-ok, pieces-append}
 use Rattle.rs_run.proofs.RowFacts.{lines_of-more, lines_of-rest, lines_of-next}
 use Rattle.rs_run.proofs.top.put_rows.Goals as goal
 
-no_row : RankedRow
+no_row : ScoredRow
 no_row = record { score = 0; row = 0 }
 
 pub returns-then-rank-count : goal.returns-then-rank-count

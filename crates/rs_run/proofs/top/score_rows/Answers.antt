@@ -5,9 +5,10 @@ use mir.Val.{SFits}
 use mir.Syntax.{w64}
 use Rattle.std.proofs.lemmas.List.{take_more, take_all, map-append}
 use Rattle.rs_run.specs.declared.fault.Fault.TheVariants.{BadScore}
-use Rattle.rs_run.specs.Top.{scored_from, is_score, score_of}
+use Rattle.rs_run.specs.Top.{scored_from}
+use Rattle.rs_expr.specs.Scores.{is_score, score_of}
 use Rattle.std.specs.List.{AllByRecursion}
-use Rattle.rs_run.specs.declared.ranked_row.RankedRow.{RankedRow}
+use Rattle.rs_rank.specs.declared.scored_row.ScoredRow.{ScoredRow}
 use Rattle.rs_run.specs.Steps.{IsRanked, row_in}
 use Rattle.rs_run.proofs.RowFacts.{get_or-next, score-some, score-none, scored_from-score, scored_from-no_score, appended-all, AllByRecursion-push}
 use Rattle.rs_run.proofs.top.score_rows.Goals as goal
@@ -46,7 +47,7 @@ loop-index-preserved c =
     let some = score-some (is_score c.args.max number) (score_of number) c.in-Some.score (sym score ∙ c.in-Some.is) in
     let is = ap (is_score c.args.max) (sym c.number_in-number.ensures) ∙ some.0 in
     let next = get_or-next table i (row_in table (i + 1)) within in
-    let row : RankedRow = record { score = c.in-Some.score; row = i + 1 } in
+    let row : ScoredRow = record { score = c.in-Some.score; row = i + 1 } in
     record {
       rest = sym (scored_from-score c.args.column.now c.args.max place i table.rows (row_in table (i + 1)) within next is) ∙ c.loop-index.invariant.rest;
       rows = ap (map (λ r. row_in table r.row)) c.in_ok-push.ensures.items ∙ map-append (λ r. row_in table r.row) c.loop-index.ranked.items (row ∷ [])

@@ -1,0 +1,163 @@
+-- The statements that the tokens of a script parse to are well written.
+use Rattle.std.proofs.Common.{ℕ, zero, suc, ◌≡◌, ◌≤◌, List, [], ◌∷◌, ◌++◌, length, Bool, true, false, refl, sym, subst, arith}
+use Rattle.std.specs.Prelude.{ℤ, pos, negsuc, nat_abs, neg_ℤ, map, if◌then◌else◌}
+use Rattle.std.specs.List.{AllByRecursion}
+use Rattle.std.proofs.lemmas.Int.{ints}
+use Rattle.rs_value.specs.Number.{greatest_int}
+use Rattle.rs_lex.specs.Spelling.{Spells}
+use Rattle.rs_lex.specs.declared.token.Token.{Token}
+use Rattle.rs_grammar.specs.Grammar.{Tree, Leaf, Nothing, Pair, This, That, More, Node, yield}
+use Rattle.rs_grammar.specs.declared.lexeme.Lexeme.{Lexeme}
+use Rattle.rs_grammar.proofs.LexemeFacts.{IsFront-whole}
+use Rattle.rs_syntax.specs.Numbers.{IsNumber, AreNumbers}
+use Rattle.rs_syntax.specs.Scripts.{Parses}
+use Rattle.rs_syntax.specs.Statements.{signed_of, arg_in, arg_of, args_of, term_of, terms_of, select_of, columns_of, create_in, create_of, statement_in, statement_of, statements_of, script_of}
+use Rattle.rs_syntax.specs.Syntax.{Command, Explain, ExplainAnalyze}
+use Rattle.rs_syntax.specs.Trees.{leaf, last, part, inside, of_rule, last_of_rule, is_there, items_of, listed}
+use Rattle.rs_syntax.proofs.Numbers.{AreNumbers-lexemes}
+use Rattle.rs_bind.specs.Written.{IsWrittenArg, AreWrittenArgs, IsWrittenTerm, IsWrittenQuery, IsWritten, AreWritten}
+
+-- the numbers of a tree's tokens are such that a script can write them
+abbrev HasNumbers : Tree → Type 0
+HasNumbers (Leaf l) = IsNumber l.number
+HasNumbers Nothing = Unit {0}
+HasNumbers (Pair t u) = HasNumbers t × HasNumbers u
+HasNumbers (This t) = HasNumbers t
+HasNumbers (That t) = HasNumbers t
+HasNumbers (More t u) = HasNumbers t × HasNumbers u
+HasNumbers (Node t) = HasNumbers t
+
+AreNumbers-front : (xs ys : List Lexeme) → AreNumbers (xs ++ ys) → AreNumbers xs
+AreNumbers-front [] ys h = tt
+AreNumbers-front (x ∷ xs) ys h = (h.0, AreNumbers-front xs ys h.1)
+
+AreNumbers-rest : (xs ys : List Lexeme) → AreNumbers (xs ++ ys) → AreNumbers ys
+AreNumbers-rest [] ys h = h
+AreNumbers-rest (x ∷ xs) ys h = AreNumbers-rest xs ys h.1
+
+HasNumbers-yield : (t : Tree) → AreNumbers (yield t) → HasNumbers t
+HasNumbers-yield (Leaf l) h = h.0
+HasNumbers-yield Nothing h = tt
+HasNumbers-yield (Pair t u) h =
+    (HasNumbers-yield t (AreNumbers-front (yield t) (yield u) h), HasNumbers-yield u (AreNumbers-rest (yield t) (yield u) h))
+HasNumbers-yield (This t) h = HasNumbers-yield t h
+HasNumbers-yield (That t) h = HasNumbers-yield t h
+HasNumbers-yield (More t u) h =
+    (HasNumbers-yield t (AreNumbers-front (yield t) (yield u) h), HasNumbers-yield u (AreNumbers-rest (yield t) (yield u) h))
+HasNumbers-yield (Node t) h = HasNumbers-yield t h
+
+-- the parts of a tree have them too
+HasNumbers-last : (n : ℕ) (t : Tree) → HasNumbers t → HasNumbers (last n t)
+HasNumbers-last zero t h = h
+HasNumbers-last (suc n) (Pair t u) h = HasNumbers-last n u h.1
+HasNumbers-last (suc n) t h = h
+
+HasNumbers-first : (t : Tree) → HasNumbers t → HasNumbers (part zero t)
+HasNumbers-first (Pair t u) h = h.0
+HasNumbers-first t h = h
+
+HasNumbers-part : (n : ℕ) (t : Tree) → HasNumbers t → HasNumbers (part n t)
+HasNumbers-part n t h = HasNumbers-first (last n t) (HasNumbers-last n t h)
+
+HasNumbers-inside : (t : Tree) → HasNumbers t → HasNumbers (inside t)
+HasNumbers-inside (Node t) h = h
+HasNumbers-inside t h = h
+
+HasNumbers-of_rule : (n : ℕ) (t : Tree) → HasNumbers t → HasNumbers (of_rule n t)
+HasNumbers-of_rule n t h = HasNumbers-part n (inside t) (HasNumbers-inside t h)
+
+HasNumbers-last_of_rule : (n : ℕ) (t : Tree) → HasNumbers t → HasNumbers (last_of_rule n t)
+HasNumbers-last_of_rule n t h = HasNumbers-last n (inside t) (HasNumbers-inside t h)
+
+-- what holds of all that trees with such numbers stand for holds of the items that are listed in one
+AllByRecursion-items : {A : Type 0} (P : A → Type 0) (f : Tree → A) → ((t : Tree) → HasNumbers t → P (f t)) → (t : Tree) → HasNumbers t
+    → AllByRecursion P (map (λ u. f (last 1 u)) (items_of t))
+AllByRecursion-items P f each (More t u) h = (each (last 1 t) (HasNumbers-last 1 t h.0), AllByRecursion-items P f each u h.1)
+AllByRecursion-items P f each t h = tt
+
+AllByRecursion-listed : {A : Type 0} (P : A → Type 0) (f : Tree → A) → ((t : Tree) → HasNumbers t → P (f t)) → (t : Tree) → HasNumbers t
+    → AllByRecursion P (listed f t)
+AllByRecursion-listed P f each t h =
+    (each (part 0 t) (HasNumbers-part 0 t h), AllByRecursion-items P f each (last 1 t) (HasNumbers-last 1 t h))
+
+-- a list of columns has one
+length-columns : (t : Tree) → 1 ≤ length (columns_of t)
+length-columns t = omega arith
+
+-- the number of a token, with a sign or without
+IsNumber-size : (n : ℤ) → IsNumber n → nat_abs n ≤ greatest_int
+IsNumber-size (pos n) h = omega (arith, ints, h.1)
+IsNumber-size (negsuc n) h = absurd (omega (arith, ints, h.0))
+
+nat_abs-negated : (n : ℤ) → nat_abs (neg_ℤ n) ≡ nat_abs n
+nat_abs-negated (pos zero) = refl
+nat_abs-negated (pos (suc n)) = refl
+nat_abs-negated (negsuc n) = refl
+
+leaf-size : (t : Tree) → HasNumbers t → nat_abs (leaf t).number ≤ greatest_int
+leaf-size (Leaf l) h = IsNumber-size l.number h
+leaf-size t h = omega arith
+
+signed_of-size : (sign number : Tree) → HasNumbers number → nat_abs (signed_of sign number) ≤ greatest_int
+signed_of-size (This sign) number h = omega (arith, leaf-size number h, nat_abs-negated (leaf number).number)
+signed_of-size sign number h = leaf-size number h
+
+-- arguments, terms and queries
+arg_in-written : (t : Tree) → HasNumbers t → IsWrittenArg (arg_in t)
+arg_in-written (This t) h = tt
+arg_in-written (That (This t)) h = signed_of-size (part 0 t) (last 1 t) (HasNumbers-last 1 t h)
+arg_in-written (That (That t)) h = tt
+arg_in-written t h = tt
+
+args_of-written : (t : Tree) → HasNumbers t → AreWrittenArgs (args_of t)
+args_of-written t h =
+    AllByRecursion-listed IsWrittenArg arg_of (λ u k. arg_in-written (inside u) (HasNumbers-inside u k)) (inside t) (HasNumbers-inside t h)
+
+terms_of-written : (t : Tree) → HasNumbers t → AllByRecursion IsWrittenTerm (terms_of t)
+terms_of-written t h =
+    AllByRecursion-listed IsWrittenTerm term_of (λ u k. args_of-written (of_rule 3 u) (HasNumbers-of_rule 3 u k)) (inside t) (HasNumbers-inside t h)
+
+select_of-written : (t : Tree) → HasNumbers t → IsWrittenQuery (select_of t)
+select_of-written t h = terms_of-written (of_rule 4 t) (HasNumbers-of_rule 4 t h)
+
+-- statements
+create_in-written : (t : Tree) → HasNumbers t → IsWritten (create_in t)
+create_in-written (This t) h = length-columns (of_rule 3 t)
+create_in-written (That (This t)) h = length-columns (of_rule 3 t)
+create_in-written (That (That t)) h = args_of-written (of_rule 8 t) (HasNumbers-of_rule 8 t h)
+create_in-written t h = length-columns (of_rule 3 t)
+
+create_of-written : (t : Tree) → HasNumbers t → IsWritten (create_of t)
+create_of-written t h = create_in-written (last_of_rule 1 t) (HasNumbers-last_of_rule 1 t h)
+
+explained-written : (b : Bool) (t : Tree) → HasNumbers t → IsWritten (if b then ExplainAnalyze (select_of t) else Explain (select_of t))
+explained-written true t h = select_of-written t h
+explained-written false t h = select_of-written t h
+
+statement_in-written : (t : Tree) → HasNumbers t → IsWritten (statement_in t)
+statement_in-written (This t) h = create_of-written t h
+statement_in-written (That (This t)) h = select_of-written t h
+statement_in-written (That (That (This t))) h = select_of-written (last_of_rule 4 t) (HasNumbers-last_of_rule 4 t h)
+statement_in-written (That (That (That (This t)))) h = tt
+statement_in-written (That (That (That (That (This t))))) h = tt
+statement_in-written (That (That (That (That (That t))))) h =
+    explained-written (is_there (of_rule 1 t)) (last_of_rule 2 t) (HasNumbers-last_of_rule 2 t h)
+statement_in-written t h = tt
+
+statement_of-written : (t : Tree) → HasNumbers t → IsWritten (statement_of t)
+statement_of-written t h = statement_in-written (inside t) (HasNumbers-inside t h)
+
+statements_of-written : (t : Tree) → HasNumbers t → AreWritten (statements_of t)
+statements_of-written (Node (Pair t (This (Pair semicolon (This more))))) h = (statement_of-written t h.0, statements_of-written more h.1.1)
+statements_of-written (Node (Pair t u)) h = (statement_of-written t h.0, tt)
+statements_of-written t h = tt
+
+script_of-written : (t : Tree) → HasNumbers t → AreWritten (script_of t)
+script_of-written (This t) h = statements_of-written t h
+script_of-written t h = tt
+
+pub AreWritten-parsed : (script : List ℕ) (tokens : List Token) (commands : List Command) → Spells 0 script tokens → Parses script tokens commands
+    → AreWritten commands
+AreWritten-parsed script tokens commands spelled h =
+    subst AreWritten h.means (script_of-written h.tree (HasNumbers-yield h.tree
+    (subst AreNumbers (sym h.spells) (AreNumbers-lexemes script tokens (IsFront-whole script tokens spelled)))))

@@ -1,0 +1,41 @@
+-- What the statements of a script hold, beyond their types.
+use Rattle.std.specs.Prelude.{nat_abs, ◌≤◌, List, length}
+use Rattle.std.specs.List.{AllByRecursion}
+use Rattle.rs_value.specs.Number.{greatest_int}
+use Rattle.rs_syntax.specs.Syntax.{Query, Command, CreateTable, CreatePredicate, CreateRankIndex, Ask, Declare, Fetch, Close, Explain, ExplainAnalyze}
+use Rattle.rs_syntax.specs.declared.name.Arg.{Arg}
+use Rattle.rs_syntax.specs.declared.name.Arg.TheVariants.{Column, Int, Text}
+use Rattle.rs_syntax.specs.declared.select.TermSyn.{TermSyn}
+
+-- an argument that is a number is in range
+abbrev pub IsWrittenArg : Arg → Type 0
+IsWrittenArg (Column column) = Unit {0}
+IsWrittenArg (Int n at) = nat_abs n ≤ greatest_int
+IsWrittenArg (Text text at) = Unit {0}
+
+abbrev pub AreWrittenArgs : List Arg → Type 0
+AreWrittenArgs args = AllByRecursion IsWrittenArg args
+
+-- the arguments of a term are such
+abbrev pub IsWrittenTerm : TermSyn → Type 0
+IsWrittenTerm term = AreWrittenArgs term.args
+
+-- the arguments of each term of a query are such
+abbrev pub IsWrittenQuery : Query → Type 0
+IsWrittenQuery query = AllByRecursion IsWrittenTerm query.terms
+
+-- a table has a column, a predicate a parameter, and the numbers among arguments are in range
+abbrev pub IsWritten : Command → Type 0
+IsWritten (CreateTable name columns file) = 1 ≤ length columns
+IsWritten (CreatePredicate name params max cost formula) = 1 ≤ length params
+IsWritten (CreateRankIndex name table predicate args at) = AreWrittenArgs args
+IsWritten (Ask query) = IsWrittenQuery query
+IsWritten (Declare name query) = IsWrittenQuery query
+IsWritten (Fetch count name) = Unit {0}
+IsWritten (Close name) = Unit {0}
+IsWritten (Explain query) = IsWrittenQuery query
+IsWritten (ExplainAnalyze query) = IsWrittenQuery query
+
+-- each statement of a script is such
+abbrev pub AreWritten : List Command → Type 0
+AreWritten commands = AllByRecursion IsWritten commands

@@ -1,0 +1,25 @@
+ghost use Rattle.std.specs.Prelude.{◌≤◌, length};
+ghost use Rattle.rs_value.specs.Answer.{Gives};
+ghost use Rattle.rs_bind.specs.Names.{columns_of};
+
+use crate::fault::BindFault;
+use crate::names::named;
+use rs_syntax::Name;
+use rs_table::Schema;
+use rs_value::Kind;
+use std::alloc::Global;
+
+/// The greatest number of columns of a table.
+const MOST_COLUMNS: usize = 64;
+
+/// The columns of a CREATE TABLE statement: at most 64, no two of one name. From left to right, at each column its number
+/// is looked at first (`LimitOf`), and then its name (`NameTwice`).
+pub fn bind_table(alloc: Global, columns: &[(Name, Kind)]) -> Result<Schema, BindFault>
+    requires { 1 ≤ length columns.now }
+    ensures { Gives BindFault.Memory (columns_of columns.now) result }
+{
+    match named(alloc, columns, MOST_COLUMNS) {
+        Ok(columns) => Ok(Schema::make(columns)),
+        Err(fault) => Err(fault),
+    }
+}

@@ -1,0 +1,130 @@
+-- Maps may be inside a catalogue once an entry is put last.
+use Rattle.std.proofs.Common.{◌≡◌, ℕ, ◌≤◌, List, [], ◌∷◌, ◌++◌, length, length-append, map, Some, None, Option, Ok, Err, Result, refl, sym, ap, ◌∙◌, subst, arith}
+use Rattle.std.proofs.lemmas.List.{map-append}
+use Rattle.std.specs.Prelude.{option_map, unwrap_or, slice_get, OnOk, OnErr}
+use Rattle.std.specs.List.{AllByRecursion}
+use Rattle.std.specs.Map.{keys_of, values_of}
+use Rattle.rs_value.specs.declared.memory.Memory.{Memory}
+use Rattle.rs_table.specs.Relation.{Relation}
+use Rattle.rs_expr.specs.Predicates.{PredicateDef}
+use Rattle.rs_catalog.specs.Catalogue.{Catalogue, NamedTable, RankIndex}
+use Rattle.rs_catalog.specs.Indexes.{IsRanking, predicate_for, rows_for}
+use Rattle.rs_catalog.specs.Inside.{IsInside, IsRanked, catalogue_of}
+use Rattle.rs_catalog.specs.declared.catalog.RankIndex.{RankIndex as StoredIndex}
+use Rattle.rs_catalog.specs.declared.index.IndexDef.{IndexDef}
+use Rattle.rs_catalog.proofs.NameFacts.{IsFree, length-keys}
+use Rattle.rs_catalog.proofs.PlaceFacts.{slice_get-push, All-push, All-weaker}
+
+-- each table and predicate of a catalogue has its place in another one
+record Grows (old new : Catalogue) : Type 0 where
+  tables : (n : ℕ) (t : NamedTable) → slice_get old.tables n ≡ Some t → slice_get new.tables n ≡ Some t
+  predicates : (n : ℕ) (p : PredicateDef) → slice_get old.predicates n ≡ Some p → slice_get new.predicates n ≡ Some p
+
+rows_for-index : (catalogue : Catalogue) (def : IndexDef) (table : NamedTable) → slice_get catalogue.tables def.table ≡ Some table → rows_for catalogue def ≡ table.table.rows
+rows_for-index catalogue def table at = ap (λ found. unwrap_or (option_map (λ t. t.table.rows) found) []) at
+
+pub max_for-index : (catalogue : Catalogue) (def : IndexDef) (predicate : PredicateDef) → slice_get catalogue.predicates def.predicate ≡ Some predicate → (predicate_for catalogue def).max ≡ predicate.max
+max_for-index catalogue def predicate at = rw at refl
+
+-- the rows of an index are those of its table
+pub rows_for-table : (catalogue : Catalogue) (def : IndexDef) (table : Relation) → option_map (λ t. t.table) (slice_get catalogue.tables def.table) ≡ Some table → rows_for catalogue def ≡ table.rows
+rows_for-table catalogue def table at = by (slice_get catalogue.tables def.table) at
+  where
+    by : (found : Option NamedTable) → option_map (λ t. t.table) found ≡ Some table → unwrap_or (option_map (λ t. t.table.rows) found) [] ≡ table.rows
+    by (Some t) same = let is : t.table ≡ table = cc in ap (λ t. t.rows) is
+    by None same = cc
+
+-- an index stays one of a catalogue that grows
+IsRanked-grows : (old new : Catalogue) → Grows old new → (index : RankIndex) → IsRanked old index → IsRanked new index
+IsRanked-grows old new grows index ranked =
+    let fits = ranked.fits in
+    let table = grows.tables index.def.table fits.table fits.has_table in
+    let predicate = grows.predicates index.def.predicate fits.predicate fits.has_predicate in
+    let rows : rows_for old index.def ≡ rows_for new index.def = rows_for-index old index.def fits.table fits.has_table ∙ sym (rows_for-index new index.def fits.table table) in
+    let max : (predicate_for old index.def).max ≡ (predicate_for new index.def).max = max_for-index old index.def fits.predicate fits.has_predicate ∙ sym (max_for-index new index.def fits.predicate predicate) in
+    record {
+      fits = record { table = fits.table; has_table = table; predicate = fits.predicate; has_predicate = predicate; fits = fits.fits };
+      ranking = subst (λ most. IsRanking (length (rows_for new index.def)) most index.ranking) max (subst (λ rows. IsRanking (length rows) (predicate_for old index.def).max index.ranking) rows ranked.ranking);
+    }
+
+-- one more entry of a list that isn't full
+one_more : {A : Type 0} (xs : List A) (last : A) (most : ℕ) → length xs ≤ most → (length xs ≡ most → ⊥) → length (xs ++ last ∷ []) ≤ most
+one_more xs last most few not_full = omega (arith, length-append xs (last ∷ []))
+
+module _ (tables : List (List ℕ × Relation)) (predicates : List (List ℕ × PredicateDef)) (indexes : List (List ℕ × StoredIndex)) (inside : IsInside tables predicates indexes) where
+  IsInside-table : (name : List ℕ) (table : Relation) → IsFree name 16 (keys_of tables) → IsInside (tables ++ (name, table) ∷ []) predicates indexes
+  IsInside-table name table free =
+      let old = catalogue_of tables predicates indexes in
+      let new = catalogue_of (tables ++ (name, table) ∷ []) predicates indexes in
+      let grows : Grows old new = record {
+        tables = λ n t at. subst (λ list. slice_get list n ≡ Some t) (sym (map-append (λ t. record { name = t.0; table = t.1 }) tables ((name, table) ∷ []))) (slice_get-push old.tables n t (record { name = name; table = table }) at);
+        predicates = λ n p at. at;
+      } in
+      record {
+        few_tables = one_more tables (name, table) 16 inside.few_tables (λ same. free.not_full (length-keys tables ∙ same));
+        few_predicates = inside.few_predicates;
+        few_indexes = inside.few_indexes;
+        predicate_keys = inside.predicate_keys;
+        index_keys = inside.index_keys;
+        ranked = All-weaker (IsRanked old) (IsRanked new) (IsRanked-grows old new grows) old.indexes inside.ranked;
+      }
+
+  -- a table was put last, or there was no memory for it
+  pub IsInside-table_put : (name : List ℕ) (table : Relation) (new : List (List ℕ × Relation)) (result : Result (Unit {0}) Memory)
+      → OnOk result (new ≡ tables ++ (name, table) ∷ []) → OnErr result (new ≡ tables) → IsFree name 16 (keys_of tables) → IsInside new predicates indexes
+  IsInside-table_put name table new (Ok done) put kept free = subst (λ list. IsInside list predicates indexes) (sym put) (IsInside-table name table free)
+  IsInside-table_put name table new (Err memory) put kept free = subst (λ list. IsInside list predicates indexes) (sym kept) inside
+
+  IsInside-predicate : (predicate : PredicateDef) → IsFree predicate.name 64 (keys_of predicates) → IsInside tables (predicates ++ (predicate.name, predicate) ∷ []) indexes
+  IsInside-predicate predicate free =
+      let old = catalogue_of tables predicates indexes in
+      let more = predicates ++ (predicate.name, predicate) ∷ [] in
+      let new = catalogue_of tables more indexes in
+      let values : values_of more ≡ old.predicates ++ predicate ∷ [] = map-append (λ e. e.1) predicates ((predicate.name, predicate) ∷ []) in
+      let grows : Grows old new = record {
+        tables = λ n t at. at;
+        predicates = λ n p at. subst (λ list. slice_get list n ≡ Some p) (sym values) (slice_get-push old.predicates n p predicate at);
+      } in
+      record {
+        few_tables = inside.few_tables;
+        few_predicates = one_more predicates (predicate.name, predicate) 64 inside.few_predicates (λ same. free.not_full (length-keys predicates ∙ same));
+        few_indexes = inside.few_indexes;
+        predicate_keys = map-append (λ e. e.0) predicates ((predicate.name, predicate) ∷ []) ∙ ap (λ names. names ++ predicate.name ∷ []) inside.predicate_keys
+            ∙ sym (ap (map (λ p. p.name)) values ∙ map-append (λ p. p.name) old.predicates (predicate ∷ []));
+        index_keys = inside.index_keys;
+        ranked = All-weaker (IsRanked old) (IsRanked new) (IsRanked-grows old new grows) old.indexes inside.ranked;
+      }
+
+  -- a predicate was put last, or there was no memory for it
+  pub IsInside-predicate_put : (predicate : PredicateDef) (new : List (List ℕ × PredicateDef)) (result : Result (Unit {0}) Memory)
+      → OnOk result (new ≡ predicates ++ (predicate.name, predicate) ∷ []) → OnErr result (new ≡ predicates) → IsFree predicate.name 64 (keys_of predicates) → IsInside tables new indexes
+  IsInside-predicate_put predicate new (Ok done) put kept free = subst (λ list. IsInside tables list indexes) (sym put) (IsInside-predicate predicate free)
+  IsInside-predicate_put predicate new (Err memory) put kept free = subst (λ list. IsInside tables list indexes) (sym kept) inside
+
+  IsInside-index : (stored : StoredIndex) → IsRanked (catalogue_of tables predicates indexes) (record { def = stored.def; ranking = stored.ranking.items }) → IsFree stored.def.name 64 (keys_of indexes) → IsInside tables predicates (indexes ++ (stored.def.name, stored) ∷ [])
+  IsInside-index stored ranked free =
+      let old = catalogue_of tables predicates indexes in
+      let more = indexes ++ (stored.def.name, stored) ∷ [] in
+      let new = catalogue_of tables predicates more in
+      let last : RankIndex = record { def = stored.def; ranking = stored.ranking.items } in
+      let grown : new.indexes ≡ old.indexes ++ last ∷ [] =
+      ap (map (λ i. record { def = i.def; ranking = i.ranking.items })) (map-append (λ e. e.1) indexes ((stored.def.name, stored) ∷ []))
+      ∙ map-append (λ i. record { def = i.def; ranking = i.ranking.items }) (values_of indexes) (stored ∷ []) in
+      let grows : Grows old new = record { tables = λ n t at. at; predicates = λ n p at. at } in
+      record {
+        few_tables = inside.few_tables;
+        few_predicates = inside.few_predicates;
+        few_indexes = one_more indexes (stored.def.name, stored) 64 inside.few_indexes (λ same. free.not_full (length-keys indexes ∙ same));
+        predicate_keys = inside.predicate_keys;
+        index_keys = map-append (λ e. e.0) indexes ((stored.def.name, stored) ∷ []) ∙ ap (λ names. names ++ stored.def.name ∷ []) inside.index_keys
+            ∙ sym (ap (map (λ i. i.def.name)) grown ∙ map-append (λ i. i.def.name) old.indexes (last ∷ []));
+        ranked = subst (AllByRecursion (IsRanked new)) (sym grown)
+            (All-push (IsRanked new) old.indexes last (All-weaker (IsRanked old) (IsRanked new) (IsRanked-grows old new grows) old.indexes inside.ranked) (IsRanked-grows old new grows last ranked));
+      }
+
+  -- an index was put last, or there was no memory for it
+  pub IsInside-index_put : (stored : StoredIndex) (new : List (List ℕ × StoredIndex)) (result : Result (Unit {0}) Memory)
+      → OnOk result (new ≡ indexes ++ (stored.def.name, stored) ∷ []) → OnErr result (new ≡ indexes)
+      → IsRanked (catalogue_of tables predicates indexes) (record { def = stored.def; ranking = stored.ranking.items }) → IsFree stored.def.name 64 (keys_of indexes) → IsInside tables predicates new
+  IsInside-index_put stored new (Ok done) put kept ranked free = subst (λ list. IsInside tables predicates list) (sym put) (IsInside-index stored ranked free)
+  IsInside-index_put stored new (Err memory) put kept ranked free = subst (λ list. IsInside tables predicates list) (sym kept) inside

@@ -1,0 +1,11 @@
+mod ArgumentFacts
+mod GrowthFacts
+mod InsideFacts
+mod MakeFacts
+mod NameFacts
+mod PlaceFacts
+mod RankingFacts
+mod SameArguments
+mod ScoreFacts
+mod WorkedRankings
+mod WorkedCatalogue

@@ -1,0 +1,22 @@
+use Rattle.std.proofs.Common.{map, ap}
+use Rattle.rs_expr.specs.Scoring.{call_of}
+use Rattle.rs_catalog.specs.Indexes.{args_in}
+use Rattle.rs_catalog.proofs.RankingFacts.{IsFirstBad-made, IsRanking-made, asked_rows-bad, asked_rows-made, scores-made}
+use Rattle.rs_catalog.proofs.laws.rankings_are_in_order.Goals as goal
+
+pub returns-clause-ranking : goal.returns-clause-ranking
+returns-clause-ranking c answer predicate args rows ranking e = IsRanking-made (λ row. answer predicate (args_in args row)) predicate.max rows ranking e
+
+pub returns-clause-scores : goal.returns-clause-scores
+returns-clause-scores c answer predicate args rows ranking e = scores-made (λ row. answer predicate (args_in args row)) predicate.max rows ranking e
+
+pub returns-clause-calls : goal.returns-clause-calls
+returns-clause-calls c answer predicate args rows ranking e =
+    ap (map (λ row. call_of predicate (args_in args row))) (asked_rows-made (λ row. answer predicate (args_in args row)) predicate.max rows ranking e)
+
+pub returns-clause-bad : goal.returns-clause-bad
+returns-clause-bad c answer predicate args rows fault e = IsFirstBad-made (λ row. answer predicate (args_in args row)) predicate.max rows fault e
+
+pub returns-clause-bad_calls : goal.returns-clause-bad_calls
+returns-clause-bad_calls c answer predicate args rows row got max e =
+    ap (map (λ row. call_of predicate (args_in args row))) (asked_rows-bad (λ row. answer predicate (args_in args row)) predicate.max rows row got max e)

@@ -1,0 +1,32 @@
+-- What holds inside a catalogue: of the maps that hold its lists by name.
+use Rattle.std.specs.Prelude.{ℕ, ◌≡◌, ◌≤◌, List, length, map}
+use Rattle.std.specs.List.{AllByRecursion}
+use Rattle.std.specs.Map.{keys_of, values_of}
+use Rattle.rs_table.specs.Relation.{Relation}
+use Rattle.rs_expr.specs.Predicates.{PredicateDef}
+use Rattle.rs_catalog.specs.Catalogue.{Catalogue, RankIndex, names_of}
+use Rattle.rs_catalog.specs.Indexes.{IsIndex, IsRanking, rows_for, predicate_for}
+use Rattle.rs_catalog.specs.declared.catalog.RankIndex.{RankIndex as StoredIndex}
+use Rattle.rs_catalog.specs.declared.room.What.TheVariants.{Predicate, Index}
+
+-- the catalogue that the entries of the maps make
+abbrev pub catalogue_of : List (List ℕ × Relation) → List (List ℕ × PredicateDef) → List (List ℕ × StoredIndex) → Catalogue
+catalogue_of tables predicates indexes = record {
+  tables = map (λ t. record { name = t.0; table = t.1 }) tables;
+  predicates = values_of predicates;
+  indexes = map (λ i. record { def = i.def; ranking = i.ranking.items }) (values_of indexes);
+}
+
+-- an index of a catalogue, and its ranking is one of its table's rows by scores of its predicate
+pub record IsRanked (catalogue : Catalogue) (index : RankIndex) : Type 0 where
+  pub fits : IsIndex catalogue index.def
+  pub ranking : IsRanking (length (rows_for catalogue index.def)) (predicate_for catalogue index.def).max index.ranking
+
+-- no list is over its limit, each entry's key is its name, and each index is one of the catalogue
+pub record IsInside (tables : List (List ℕ × Relation)) (predicates : List (List ℕ × PredicateDef)) (indexes : List (List ℕ × StoredIndex)) : Type 0 where
+  pub few_tables : length tables ≤ 16
+  pub few_predicates : length predicates ≤ 64
+  pub few_indexes : length indexes ≤ 64
+  pub predicate_keys : keys_of predicates ≡ names_of Predicate (catalogue_of tables predicates indexes)
+  pub index_keys : keys_of indexes ≡ names_of Index (catalogue_of tables predicates indexes)
+  pub ranked : AllByRecursion (IsRanked (catalogue_of tables predicates indexes)) (catalogue_of tables predicates indexes).indexes

@@ -1,0 +1,5 @@
+pub mod Catalogue
+pub mod Indexes
+pub mod Making
+pub mod Inside
+pub mod Stored

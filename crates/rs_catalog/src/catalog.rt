@@ -1,0 +1,249 @@
+ghost use Rattle.std.specs.Prelude.{◌≡◌, ◌<◌, ◌≤◌, ◌-◌, ◌∷◌, [], ◌++◌, List, Ok, false, OnErr, OnOk, length, slice_get, Some, IfSome, option_map};
+ghost use Rattle.indexmap.specs.IndexMap.{index_map_len, keys};
+ghost use Rattle.rs_catalog.specs.Catalogue.{empty, has_name, names_of, number_in, number_of, room_for, room_in, with_predicate, with_table};
+ghost use Rattle.rs_catalog.specs.Indexes.{IsEntry, IsIndex, IsRanking, index_of, making, predicate_for, ranking_at, rows_for};
+ghost use Rattle.rs_catalog.specs.Making.{MakesIndex};
+ghost use Rattle.rs_catalog.specs.declared.room.What.TheVariants as what;
+
+use crate::index::{BoundArg, IndexDef, IndexFault};
+use crate::make::rank_rows;
+use crate::room::{RoomFault, What};
+use indexmap::IndexMap;
+use rs_expr::{Predicate, Scorer};
+use rs_rank::ScoredRow;
+use rs_table::Table;
+use rs_value::{Memory, Text};
+use std::alloc::Global;
+use std::marker::Model;
+
+/// The most tables of a catalogue.
+const MOST_TABLES: usize = 16;
+
+/// The most predicates of a catalogue.
+const MOST_PREDICATES: usize = 64;
+
+/// The most rank indexes of a catalogue.
+const MOST_INDEXES: usize = 64;
+
+/// A rank index: what it is of, and its rows, the best one first.
+#[derive(Drop)]
+struct RankIndex {
+    def: IndexDef,
+    ranking: Vec<ScoredRow>,
+}
+
+/// The tables, predicates and rank indexes that a session has made, each list in the order of making and without two of
+/// one name. Names are compared byte by byte.
+#[derive(Drop)]
+pub struct Catalog {
+    tables: IndexMap<Text, Table>,
+    predicates: IndexMap<Text, Predicate>,
+    indexes: IndexMap<Text, RankIndex>,
+}
+
+impl Model for Catalog {
+    ghost use Rattle.rs_catalog.specs.Catalogue.{Catalogue};
+    ghost use Rattle.rs_catalog.specs.Inside.{IsInside, catalogue_of};
+    ghost use Rattle.rs_catalog.specs.Stored.{catalogue_code};
+
+    ghost Value = { Catalogue };
+
+    ghost coded = { catalogue_code };
+
+    ghost view = { λ c. catalogue_of c.tables.entries c.predicates.entries c.indexes.entries };
+
+    ghost invariant = { λ c. IsInside c.tables.entries c.predicates.entries c.indexes.entries };
+}
+
+impl Catalog {
+    /// A catalogue of nothing. It takes no memory.
+    pub fn new(alloc: Global) -> Catalog
+        ensures { result ≡ empty }
+    {
+        Catalog {
+            tables: IndexMap::new(alloc),
+            predicates: IndexMap::new(alloc),
+            indexes: IndexMap::new(alloc),
+        }
+    }
+
+    /// Whether one more of this name may join a list: not where the list has the name, and not where it is full. It takes
+    /// no memory.
+    pub fn room(&self, what: What, name: &Text) -> Result<(), RoomFault>
+        ensures { result ≡ room_for what name.now self.now }
+    {
+        match what {
+            What::Table => room_in(&self.tables, MOST_TABLES, name),
+            What::Predicate => room_in(&self.predicates, MOST_PREDICATES, name),
+            What::Index => room_in(&self.indexes, MOST_INDEXES, name),
+        }
+    }
+
+    /// The number of the one of this name in a list, counted from 0. It takes no memory.
+    pub fn find(&self, what: What, name: &Text) -> Option<u8>
+        ensures value { result ≡ number_of what name.now self.now }
+        ensures within { IfSome result (λ number. number < length (names_of what self.now)) }
+    {
+        match what {
+            What::Table => number_in(&self.tables, name),
+            What::Predicate => number_in(&self.predicates, name),
+            What::Index => number_in(&self.indexes, name),
+        }
+    }
+
+    /// Makes a table the last one. Where there is no memory, nothing joins.
+    pub fn add_table(&mut self, name: Text, table: Table) -> Result<(), Memory>
+        requires { room_for what.Table name self.old ≡ Ok tt }
+        ensures ok { OnOk result (self.new ≡ with_table name table self.old) }
+        ensures err { OnErr result (self.new ≡ self.old) }
+    {
+        put_last(&mut self.tables, name, table)
+    }
+
+    /// Makes a predicate the last one. Where there is no memory, nothing joins.
+    pub fn add_predicate(&mut self, predicate: Predicate) -> Result<(), Memory>
+        requires { room_for what.Predicate predicate.name self.old ≡ Ok tt }
+        ensures ok { OnOk result (self.new ≡ with_predicate predicate self.old) }
+        ensures err { OnErr result (self.new ≡ self.old) }
+    {
+        let name = predicate.name().copy()?;
+        put_last(&mut self.predicates, name, predicate)
+    }
+
+    /// Makes a rank index the last one. The scorer is called once a row, in the order of the rows, up to the first fault.
+    /// After a fault nothing joins.
+    pub fn add_index<S: Scorer>(
+        &mut self,
+        alloc: Global,
+        def: IndexDef,
+        scorer: &mut S,
+    ) -> Result<(), IndexFault>
+        requires room { room_for what.Index def.name self.old ≡ Ok tt }
+        requires fits { IsIndex self.old def }
+        ensures makes { MakesIndex (making (S.answer scorer.old) self.old def) def self.old self.new result
+            (record {
+              before = S.told scorer.old;
+              after = S.told scorer.new;
+              count_before = S.calls scorer.old;
+              count_after = S.calls scorer.new;
+              faults_before = S.faults scorer.old;
+              faults_after = S.faults scorer.new;
+            })
+            (S.steady scorer.old) }
+        ensures same { S.answer scorer.new ≡ S.answer scorer.old }
+        ensures faults { S.faults scorer.old ≤ S.faults scorer.new }
+        ensures steady { S.steady scorer.old → S.steady scorer.new }
+    {
+        let table = self.table(def.table);
+        let predicate = self.predicate(def.predicate);
+        let ranking = match rank_rows(alloc, table, predicate, def.args.items(), scorer) {
+            Ok(ranking) => ranking,
+            Err(fault) => return Err(fault),
+        };
+        let name = match def.name.copy() {
+            Ok(name) => name,
+            Err(Memory) => return Err(IndexFault::Memory),
+        };
+        match put_last(&mut self.indexes, name, RankIndex { def, ranking }) {
+            Ok(()) => Ok(()),
+            Err(Memory) => Err(IndexFault::Memory),
+        }
+    }
+
+    /// The table of this number.
+    pub fn table(&self, number: u8) -> &Table
+        requires { number < length self.now.tables }
+        ensures { option_map (λ t. t.table) (slice_get self.now.tables number) ≡ Some result.now }
+    {
+        &self.tables[number as usize]
+    }
+
+    /// The name of the table of this number.
+    pub fn table_name(&self, number: u8) -> &Text
+        requires { number < length self.now.tables }
+        ensures { option_map (λ t. t.name) (slice_get self.now.tables number) ≡ Some result.now }
+    {
+        let (name, _) = self.tables.get_index(number as usize).unwrap();
+        name
+    }
+
+    /// The predicate of this number.
+    pub fn predicate(&self, number: u8) -> &Predicate
+        requires { number < length self.now.predicates }
+        ensures { slice_get self.now.predicates number ≡ Some result.now }
+    {
+        &self.predicates[number as usize]
+    }
+
+    /// What the index of this number is of. Its ranking has each row of its table once.
+    pub fn index(&self, number: u8) -> &IndexDef
+        requires { number < length self.now.indexes }
+        ensures value { option_map (λ i. i.def) (slice_get self.now.indexes number) ≡ Some result.now }
+        ensures fits { IsIndex self.now result.now }
+        ensures ranking { IsRanking (length (rows_for self.now result.now)) (predicate_for self.now result.now).max
+            (ranking_at self.now number) }
+    {
+        &self.indexes[number as usize].def
+    }
+
+    /// The number of the first index of this table and predicate and these arguments, where a column of FROM entry
+    /// `entry` is read as that of entry 1. It takes no memory.
+    pub fn index_for(&self, table: u8, predicate: u8, args: &[BoundArg], entry: u8) -> Option<u8>
+        ensures value { result ≡ index_of table predicate args.now entry self.now }
+        ensures within { IfSome result (λ number. number < length self.now.indexes) }
+    {
+        let number = self
+            .indexes
+            .values()
+            .position(|index| index.def.is_for(table, predicate, args, entry))?;
+        Some(number as u8)
+    }
+
+    /// The score and the row at a place of an index, counted from 1.
+    pub fn index_row(&self, index: u8, place: u32) -> (u32, u32)
+        requires index_in { index < length self.now.indexes }
+        requires some_place { 1 ≤ place }
+        requires place_in { place ≤ length (ranking_at self.now index) }
+        ensures entry { slice_get (ranking_at self.now index) (place - 1) ≡ Some (record { score = result.0; row = result.1 }) }
+        ensures fits { (def : IndexDef) → option_map (λ i. i.def) (slice_get self.now.indexes index) ≡ Some def
+            → IsEntry (length (rows_for self.now def)) (predicate_for self.now def).max (record { score = result.0; row = result.1 }) }
+    {
+        let entry = self.indexes[index as usize].ranking[place as usize - 1];
+        (entry.score, entry.row)
+    }
+}
+
+/// Whether one more of this name may join a list of at most this many.
+#[tactic(auto, using(crate::proofs::NameFacts::rooms))]
+fn room_in<V>(list: &IndexMap<Text, V>, most: usize, name: &Text) -> Result<(), RoomFault>
+    ensures { result ≡ room_in name.now most (keys list.now) }
+{
+    if list.contains_key(name) {
+        return Err(RoomFault::NameTaken);
+    }
+    if list.len() == most {
+        return Err(RoomFault::Full);
+    }
+    Ok(())
+}
+
+/// The number of a name in a list.
+fn number_in<V>(list: &IndexMap<Text, V>, name: &Text) -> Option<u8>
+    requires { index_map_len list.now ≤ 64 }
+    ensures value { result ≡ number_in name.now (keys list.now) }
+    ensures within { IfSome result (λ number. number < index_map_len list.now) }
+{
+    let number = list.get_index_of(name)?;
+    Some(number as u8)
+}
+
+/// Puts a value last into a list that doesn't have its name. Where there is no memory, the list stays as it was.
+#[tactic(auto, using(crate::proofs::NameFacts::places))]
+fn put_last<V: Drop>(list: &mut IndexMap<Text, V>, name: Text, value: V) -> Result<(), Memory>
+    requires { has_name name (keys list.old) ≡ false }
+    ensures ok { OnOk result (list.new.entries ≡ list.old.entries ++ (name, value) ∷ []) }
+    ensures err { OnErr result (list.new.entries ≡ list.old.entries) }
+{
+    list.insert(name, value)?;
+    Ok(())
+}

@@ -1,0 +1,174 @@
+ghost use Rattle.std.specs.Prelude.{◌≡◌, ◌≤◌, true, IfOk, List, length, if◌then◌else◌, Ok, Err};
+ghost use Rattle.rs_value.specs.Value.{all_fit, fits};
+ghost use Rattle.rs_value.specs.declared.kind.Kind.{Kind as ValueKind};
+ghost use Rattle.rs_expr.specs.Scores.{is_score, score_of};
+ghost use Rattle.rs_expr.specs.Scoring.{call_of};
+ghost use Rattle.rs_catalog.specs.Indexes.{IsRanking, arg_fits, arg_value, args_fit, args_in, making_of, row_at};
+ghost use Rattle.rs_catalog.specs.Making.{Ranks, ScoresRow, items_of, score_for, scoring_of};
+
+use crate::index::{BoundArg, IndexFault};
+use rs_expr::{Predicate, Scorer, ScorerFault};
+use rs_rank::{ScoredRow, sort_stably};
+use rs_table::Table;
+use rs_value::{Memory, Value};
+use std::alloc::Global;
+
+/// The rows of a table by the score that a predicate gives them, the greatest first. The scorer is called once a row, in
+/// the order of the rows, up to the first fault.
+pub fn rank_rows<S: Scorer>(
+    alloc: Global,
+    table: &Table,
+    predicate: &Predicate,
+    args: &[BoundArg],
+    scorer: &mut S,
+) -> Result<Vec<ScoredRow>, IndexFault>
+    requires { args_fit table.now.schema predicate.now.params args.now ≡ true }
+    ensures ranks { Ranks (making_of (S.answer scorer.old) predicate.now args.now table.now.rows)
+        (items_of result)
+        (record {
+          before = S.told scorer.old;
+          after = S.told scorer.new;
+          count_before = S.calls scorer.old;
+          count_after = S.calls scorer.new;
+          faults_before = S.faults scorer.old;
+          faults_after = S.faults scorer.new;
+        })
+        (S.steady scorer.old) }
+    ensures ranking { IfOk result (λ ranking. IsRanking (length table.now.rows) predicate.now.max ranking.items) }
+    ensures same { S.answer scorer.new ≡ S.answer scorer.old }
+    ensures faults { S.faults scorer.old ≤ S.faults scorer.new }
+    ensures steady { S.steady scorer.old → S.steady scorer.new }
+{
+    let mut entries = match score_rows(alloc, table, predicate, args, scorer) {
+        Ok(entries) => entries,
+        Err(fault) => return Err(fault),
+    };
+    match sort_stably(&mut entries) {
+        Ok(()) => Ok(entries),
+        Err(Memory) => Err(IndexFault::Memory),
+    }
+}
+
+/// The rows of a table in their order, each with its score.
+fn score_rows<S: Scorer>(
+    alloc: Global,
+    table: &Table,
+    predicate: &Predicate,
+    args: &[BoundArg],
+    scorer: &mut S,
+) -> Result<Vec<ScoredRow>, IndexFault>
+    requires { args_fit table.now.schema predicate.now.params args.now ≡ true }
+    ensures scores { Ranks (scoring_of (S.answer scorer.old) predicate.now args.now table.now.rows)
+        (items_of result)
+        (record {
+          before = S.told scorer.old;
+          after = S.told scorer.new;
+          count_before = S.calls scorer.old;
+          count_after = S.calls scorer.new;
+          faults_before = S.faults scorer.old;
+          faults_after = S.faults scorer.new;
+        })
+        (S.steady scorer.old) }
+    ensures same { S.answer scorer.new ≡ S.answer scorer.old }
+    ensures faults { S.faults scorer.old ≤ S.faults scorer.new }
+    ensures steady { S.steady scorer.old → S.steady scorer.new }
+{
+    let mut entries = Vec::new(alloc);
+    for index in 0..table.len() {
+        match score_row(alloc, table, index + 1, predicate, args, scorer) {
+            Ok(entry) => {
+                if entries.push(entry).is_err() {
+                    return Err(IndexFault::Memory);
+                }
+            }
+            Err(fault) => return Err(fault),
+        }
+    }
+    Ok(entries)
+}
+
+/// A row with its score, for which the scorer is called.
+fn score_row<S: Scorer>(
+    alloc: Global,
+    table: &Table,
+    row: u32,
+    predicate: &Predicate,
+    args: &[BoundArg],
+    scorer: &mut S,
+) -> Result<ScoredRow, IndexFault>
+    requires some { 1 ≤ row }
+    requires within { row ≤ length table.now.rows }
+    requires fits { args_fit table.now.schema predicate.now.params args.now ≡ true }
+    ensures scores { let values = args_in args.now (row_at table.now.rows row) in
+        ScoresRow (call_of predicate.now values) (score_for predicate.now.max row (S.answer scorer.old predicate.now values)) result
+        (record {
+          before = S.told scorer.old;
+          after = S.told scorer.new;
+          count_before = S.calls scorer.old;
+          count_after = S.calls scorer.new;
+          faults_before = S.faults scorer.old;
+          faults_after = S.faults scorer.new;
+        })
+        (S.steady scorer.old) }
+    ensures same { S.answer scorer.new ≡ S.answer scorer.old }
+    ensures faults { S.faults scorer.old ≤ S.faults scorer.new }
+    ensures steady { S.steady scorer.old → S.steady scorer.new }
+{
+    let values = match arguments_of(alloc, table, row, args) {
+        Ok(values) => values,
+        Err(Memory) => return Err(IndexFault::Memory),
+    };
+    match scorer.score(predicate, &values) {
+        Ok(got) => score_for(predicate.max(), row, got),
+        Err(ScorerFault::Failed) => Err(IndexFault::Probe),
+        Err(ScorerFault::Memory) => Err(IndexFault::Memory),
+    }
+}
+
+/// A row with the number that it got, where that is a score.
+fn score_for(max: u32, row: u32, got: i128) -> Result<ScoredRow, IndexFault>
+    ensures { result ≡ score_for max row got }
+{
+    if got < 0 || got > max as i128 {
+        return Err(IndexFault::BadScore { row, got, max });
+    }
+    Ok(ScoredRow {
+        score: got as u32,
+        row,
+    })
+}
+
+/// The values that the arguments have for a row.
+fn arguments_of(
+    alloc: Global,
+    table: &Table,
+    row: u32,
+    args: &[BoundArg],
+) -> Result<Vec<Value>, Memory>
+    requires some { 1 ≤ row }
+    requires within { row ≤ length table.now.rows }
+    requires fits { (kinds : List ValueKind) × (args_fit table.now.schema kinds args.now ≡ true) }
+    ensures values { IfOk result (λ values. values.items ≡ args_in args.now (row_at table.now.rows row)) }
+    ensures fit { (kinds : List ValueKind) → args_fit table.now.schema kinds args.now ≡ true → IfOk result (λ values. all_fit kinds values.items ≡ true) }
+{
+    let mut values = Vec::new(alloc);
+    for arg in args {
+        values.push(argument_of(table, row, arg)?)?;
+    }
+    Ok(values)
+}
+
+/// The value that an argument has for a row.
+fn argument_of(table: &Table, row: u32, arg: &BoundArg) -> Result<Value, Memory>
+    requires some { 1 ≤ row }
+    requires within { row ≤ length table.now.rows }
+    requires fits { (kind : ValueKind) × (arg_fits table.now.schema kind arg.now ≡ true) }
+    ensures value { IfOk result (λ value. value ≡ arg_value (row_at table.now.rows row) arg.now) }
+    ensures fit { (kind : ValueKind) → arg_fits table.now.schema kind arg.now ≡ true → IfOk result (λ value. fits kind value ≡ true) }
+{
+    match arg {
+        BoundArg::Column(_, column) => table.value(row, *column),
+        BoundArg::Int(number) => Ok(Value::Int(*number)),
+        BoundArg::Text(text) => Ok(Value::Text(text.copy()?)),
+    }
+}

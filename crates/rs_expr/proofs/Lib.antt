@@ -1,0 +1,7 @@
+pub mod ScoringFacts
+pub mod UsesFacts
+pub mod WidthFacts
+pub mod EvalFacts
+pub mod WrittenFacts
+mod WorkedFormulas
+mod WorkedScorers

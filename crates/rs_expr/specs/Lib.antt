@@ -1,0 +1,9 @@
+pub mod Formulas
+pub mod Meaning
+pub mod Widths
+pub mod Uses
+pub mod Predicates
+pub mod Scores
+pub mod Scoring
+pub mod MemScorer
+pub mod Stored

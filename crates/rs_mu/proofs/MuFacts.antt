@@ -1,0 +1,43 @@
+-- Sums with one more term, and keys that no held row has.
+use Rattle.std.proofs.Common.{◌≡◌, ℕ, ◌+◌, ◌-◌, ◌*◌, ◌<◌, ◌≤◌, ◌||◌, false, List, [], ◌∷◌, length, get_or, bit_or, refl, ◌∙◌, ap, arith}
+use Rattle.std.proofs.lemmas.Nat.{mul-le}
+use Rattle.std.specs.List.{AllByRecursion}
+use Rattle.std.specs.Ordering.{is_eq}
+use Rattle.std.specs.declared.cmp.Ordering.TheVariants.{Less, Equal, Greater}
+use Rattle.rs_queue.specs.Queue.{has_key}
+use Rattle.rs_rank.proofs.OrderFacts.{IsTied-parts}
+use Rattle.rs_rank.proofs.WeightFacts.{sum_inside-one}
+use Rattle.rs_rank.specs.declared.key.Key.{Key}
+use Rattle.rs_rank.specs.declared.row.RankRow.{RankRow}
+use Rattle.rs_rank.specs.declared.weights.Weights.{Weights}
+use Rattle.rs_rank.specs.Keys.{key_cmp}
+use Rattle.rs_rank.specs.Masks.{mask_of}
+use Rattle.rs_rank.specs.Weights.{IsWeights, most_evaluated}
+use Rattle.rs_mu.specs.Mu.{AreOtherIds, IsNewTerm}
+
+-- a sum with the share of one more term is one that the terms can give
+pub sum_with-term : (weights : Weights) (terms term sum worth : ℕ) → IsWeights weights → IsNewTerm terms term → sum ≤ most_evaluated weights terms → worth ≤ get_or weights.max (term - 1) 0 →
+    sum + get_or weights.weight (term - 1) 0 * worth ≤ most_evaluated weights (bit_or terms (mask_of term))
+sum_with-term weights terms term sum worth limits is_new within limit =
+    let least = is_new.least in
+    let most = is_new.most in
+    let w : term - 1 < length weights.weight = let n = limits.weight_count in omega arith in
+    let m : term - 1 < length weights.max = let n = limits.max_count in omega arith in
+    let more = sum_inside-one (term - 1) terms weights.weight weights.max w m is_new.absent in
+    let share = mul-le (get_or weights.weight (term - 1) 0) worth (get_or weights.weight (term - 1) 0) (get_or weights.max (term - 1) 0) (omega arith) limit in
+    omega arith
+
+-- keys of other ids aren't equal
+other_ids-apart : (key other : Key) → AreOtherIds key.ids other.ids → is_eq (key_cmp key other) ≡ false
+other_ids-apart key other differ =
+    (elim (key_cmp key other) as (λ o. key_cmp key other ≡ o → is_eq o ≡ false) [
+      | Less ↦ λ e. refl
+      | Equal ↦ λ e. let parts = IsTied-parts key other e in absurd (differ parts.1 parts.2)
+      | Greater ↦ λ e. refl
+    ]) refl
+
+-- no held row has a key of other ids than all of theirs
+pub has_key-other_ids : (key : Key) (held : List (Key × RankRow)) → AllByRecursion (λ pair. AreOtherIds pair.0.ids key.ids) held → has_key key_cmp key held ≡ false
+has_key-other_ids key [] all = refl
+has_key-other_ids key (pair ∷ rest) all =
+    ap (λ b. b || has_key key_cmp key rest) (other_ids-apart pair.0 key all.0) ∙ has_key-other_ids key rest all.1

@@ -1,0 +1,2 @@
+pub mod Mu
+pub mod Stands

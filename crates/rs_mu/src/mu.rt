@@ -1,0 +1,155 @@
+ghost use Rattle.std.specs.Prelude.{◌≡◌, ◌-◌, ◌*◌, ◌+◌, ◌≤◌, bit_or, false, true, slice_index, OnOk, OnErr};
+ghost use Rattle.rs_rank.specs.Masks.{mask_of};
+ghost use Rattle.rs_rank.specs.Rows.{HasSum};
+ghost use Rattle.rs_rank.specs.Weights.{IsWeights};
+ghost use Rattle.rs_mu.specs.Mu.{CanEnd, CanFeed, IsNewTerm, ask_of, fed, is_reached, left_for, new_mu, scored, taken_for};
+
+use rs_queue::Queue;
+use rs_rank::{Ask, Key, RankRow, Weights, mask_of, union};
+use rs_value::Memory;
+use std::alloc::Global;
+use std::marker::Model;
+
+/// The rank operator over one input, whose rows come in the order of their keys by the terms below. It knows no input:
+/// it says what it needs, is fed, and gives.
+///
+/// After a call that answered `Memory` it is spent, and no further call is allowed.
+#[derive(Drop)]
+pub struct MuCore {
+    weights: Weights,
+    terms: u8,
+    term: u8,
+    // The key of the last row that was fed, by the terms below.
+    last: Option<Key>,
+    ended: bool,
+    held: Queue<Key, RankRow>,
+    spent: bool,
+}
+
+impl Model for MuCore {
+    ghost use Rattle.rs_rank.specs.Weights.{IsWeights};
+    ghost use Rattle.rs_mu.specs.Mu.{IsNewTerm, Mu};
+
+    ghost Value = { Mu };
+
+    ghost view = { λ m. record {
+      weights = m.weights;
+      terms = m.terms;
+      term = m.term;
+      last = m.last;
+      ended = m.ended;
+      held = m.held;
+      spent = m.spent;
+    } };
+
+    ghost invariant = { λ m. IsWeights m.weights × IsNewTerm m.terms m.term };
+}
+
+impl MuCore {
+    /// The operator that evaluates `term`, from 1 to 8, over rows of which `terms` are evaluated. It takes no memory.
+    pub fn new(alloc: Global, weights: Weights, terms: u8, term: u8) -> MuCore
+        requires weights { IsWeights weights }
+        requires term { IsNewTerm terms term }
+        ensures { result ≡ new_mu weights terms term }
+    {
+        MuCore {
+            weights,
+            terms,
+            term,
+            last: None,
+            ended: false,
+            held: Queue::new(alloc),
+            spent: false,
+        }
+    }
+
+    /// What the operator does next.
+    pub fn ask(&self) -> Ask
+        requires { self.now.spent ≡ false }
+        ensures { result ≡ ask_of self.now }
+    {
+        match self.held.peek() {
+            Some(first) => {
+                if self.ended || is_reached(&self.last, first) {
+                    Ask::Ready
+                } else {
+                    Ask::Need
+                }
+            }
+            None => { if self.ended { Ask::End } else { Ask::Need } }
+        }
+    }
+
+    /// Takes the input's next row, and what the operator's term is worth on it.
+    pub fn feed(&mut self, row: RankRow, worth: u32) -> Result<(), Memory>
+        requires { CanFeed row worth self.old }
+        ensures ok { OnOk result (self.new ≡ fed row worth self.old) }
+        ensures err { OnErr result (self.new ≡ record self.old { spent = true }) }
+    {
+        let last = row.key(&self.weights, self.terms);
+        let scored = self.scored(&row, worth);
+        let key = scored.key(&self.weights, union(self.terms, mask_of(self.term)));
+        match self.held.push(key, scored) {
+            Ok(()) => {
+                self.last = Some(last);
+                Ok(())
+            }
+            Err(_) => {
+                self.spent = true;
+                Err(Memory)
+            }
+        }
+    }
+
+    /// The row with the term's share of the score.
+    fn scored(&self, row: &RankRow, worth: u32) -> RankRow
+        requires sum { HasSum self.now.weights self.now.terms row.now }
+        requires limit { worth ≤ slice_index self.now.weights.max (self.now.term - 1) }
+        ensures value { result ≡ scored self.now row.now worth }
+        ensures sum { HasSum self.now.weights (bit_or self.now.terms (mask_of self.now.term)) result }
+    {
+        let weight = self.weights.weight[usize::from(self.term - 1)];
+        RankRow {
+            ids: row.ids,
+            sum: row.sum + share(weight, worth),
+        }
+    }
+
+    /// The input has no more rows.
+    pub fn feed_end(&mut self)
+        requires { CanEnd self.old }
+        ensures { self.new ≡ record self.old { ended = true } }
+    {
+        self.ended = true;
+    }
+
+    /// Takes the first held row, if the operator is ready.
+    pub fn take(&mut self) -> Option<RankRow>
+        requires { self.old.spent ≡ false }
+        ensures row { result ≡ taken_for (ask_of self.old) self.old }
+        ensures left { self.new ≡ left_for (ask_of self.old) self.old }
+    {
+        match self.ask() {
+            Ask::Ready => self.held.pop().map(|pair| pair.1),
+            Ask::Need => None,
+            Ask::End => None,
+        }
+    }
+}
+
+/// Whether a key comes at or before the last row's.
+fn is_reached(last: &Option<Key>, key: &Key) -> bool
+    ensures { result ≡ is_reached last.now key.now }
+{
+    match last {
+        Some(last) => key.cmp(last).is_le(),
+        None => false,
+    }
+}
+
+/// What a term adds to a score.
+fn share(weight: u32, worth: u32) -> u64
+    ensures { result ≡ weight * worth }
+{
+    u64::from(weight) * u64::from(worth)
+}

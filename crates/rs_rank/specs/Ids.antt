@@ -1,0 +1,36 @@
+-- Which rows of the entries of a block make up a row: row numbers count from 1, and 0 stands where there is no entry.
+use Rattle.std.specs.Prelude.{ℕ, ◌≡◌, ◌<◌, ◌/◌, ◌%◌, ◌^◌, ◌==◌, List, [], ◌∷◌, length, bit_or, if◌then◌else◌}
+use Rattle.rs_rank.specs.declared.ids.Ids.{Ids}
+use Rattle.rs_rank.specs.Masks.{AreDisjoint}
+
+-- the row numbers are 0 at all entries outside the mask
+abbrev pub IsWithin : ℕ → List ℕ → Type 0
+IsWithin mask [] = Unit {0}
+IsWithin mask (row ∷ rows) = (mask % 2 ≡ 0 → row ≡ 0) × IsWithin (mask / 2) rows
+
+-- the ids are those of entries among six
+pub record IsIds (ids : Ids) : Type 0 where
+  pub sized : length ids.rows ≡ 6
+  pub entries : ids.mask < 2 ^ 6
+  pub within : IsWithin ids.mask ids.rows
+
+-- at each entry the left row, or the right one where there is none
+abbrev pub merge_rows : List ℕ → List ℕ → List ℕ
+merge_rows [] rights = []
+merge_rows (left ∷ lefts) [] = []
+merge_rows (left ∷ lefts) (right ∷ rights) = (if left == 0 then right else left) ∷ merge_rows lefts rights
+
+-- the entries of both
+abbrev pub merge_ids : Ids → Ids → Ids
+merge_ids left right = record {
+  block = left.block;
+  mask = bit_or left.mask right.mask;
+  rows = merge_rows left.rows right.rows;
+}
+
+-- two sides of one row: they are of the same block and have no entry in common
+pub record AreSides (left right : Ids) : Type 0 where
+  pub left_ids : IsIds left
+  pub right_ids : IsIds right
+  pub block : left.block ≡ right.block
+  pub entries : AreDisjoint left.mask right.mask

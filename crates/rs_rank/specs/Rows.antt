@@ -1,0 +1,25 @@
+-- Rows by the rows of their entries and the sum of their evaluated terms, and their keys.
+use Rattle.std.specs.Prelude.{ℕ, ◌≤◌, ◌+◌}
+use Rattle.rs_rank.specs.declared.key.Key.{Key}
+use Rattle.rs_rank.specs.declared.row.RankRow.{RankRow}
+use Rattle.rs_rank.specs.declared.weights.Weights.{Weights}
+use Rattle.rs_rank.specs.Ids.{AreSides, merge_ids}
+use Rattle.rs_rank.specs.Weights.{most_evaluated, rest, score_limit}
+
+-- the key of a row of which the terms in a mask are evaluated
+abbrev pub key_of : Weights → ℕ → RankRow → Key
+key_of weights terms row = record { bound = row.sum + rest weights terms; ids = row.ids }
+
+-- a row's sum is one that the terms in a mask can give
+abbrev pub HasSum : Weights → ℕ → RankRow → Type 0
+HasSum weights terms row = row.sum ≤ most_evaluated weights terms
+
+-- the entries of both rows, and the sum of both sums
+abbrev pub merge_row : RankRow → RankRow → RankRow
+merge_row left right = record { ids = merge_ids left.ids right.ids; sum = left.sum + right.sum }
+
+-- two rows are sides of one row, and have sums within the limit
+pub record CanMergeRows (left right : RankRow) : Type 0 where
+  pub sides : AreSides left.ids right.ids
+  pub left_sum : left.sum ≤ score_limit
+  pub right_sum : right.sum ≤ score_limit

@@ -1,0 +1,252 @@
+-- The faults that the definition of a run can end with: never that a put failed or a call of the scorer, and Usage only where the words are of no form.
+use Rattle.std.proofs.Common.{ℕ, ℤ, ◌≡◌, ◌+◌, List, [], ◌∷◌, Some, None, Bool, true, false, refl, sym, subst, inl, inr, nat_le, length, if◌then◌else◌}
+use Rattle.std.specs.Prelude.{suc, Option, Result, Ok, Err, unwrap_or, ◌⊎◌}
+use Rattle.rs_value.specs.Text.{text_of}
+use Rattle.rs_value.specs.declared.text.TextFault.{TextFault}
+use Rattle.rs_value.specs.declared.text.TextFault.TheVariants as text
+use Rattle.rs_value.specs.declared.value.Value.{Value}
+use Rattle.rs_outside.specs.declared.files.FetchFault.TheVariants.{TooLong}
+use Rattle.rs_table.specs.Column.{Column, place_of}
+use Rattle.rs_table.specs.Reading.{◌>>=◌, table_of}
+use Rattle.rs_table.specs.declared.fault.TableFault.{TableFault}
+use Rattle.rs_rank.specs.declared.scored_row.ScoredRow.{ScoredRow}
+use Rattle.rs_expr.specs.Scores.{is_score}
+use Rattle.rs_syntax.specs.Syntax.{Command, CreateTable, CreatePredicate, CreateRankIndex}
+use Rattle.rs_syntax.specs.declared.name.Name.{Name}
+use Rattle.rs_catalog.specs.Catalogue.{Catalogue, empty, room_for, with_predicate, with_table}
+use Rattle.rs_catalog.specs.Indexes as indexes
+use Rattle.rs_catalog.specs.declared.index.IndexDef.{IndexDef}
+use Rattle.rs_catalog.specs.declared.index.IndexFault.{IndexFault}
+use Rattle.rs_catalog.specs.declared.index.IndexFault.TheVariants as index
+use Rattle.rs_catalog.specs.declared.room.RoomFault.{RoomFault}
+use Rattle.rs_catalog.specs.declared.room.What.{What}
+use Rattle.rs_catalog.specs.declared.room.What.TheVariants as what
+use Rattle.rs_bind.specs.Indexes.{index_def_of}
+use Rattle.rs_bind.specs.Names.{columns_of}
+use Rattle.rs_bind.specs.Predicates.{predicate_of}
+use Rattle.rs_bind.specs.declared.fault.BindFault.{BindFault}
+use Rattle.rs_bind.specs.declared.fault.BindFault.TheVariants as bind
+use Rattle.rs_run.specs.declared.fault.Fault.{Fault}
+use Rattle.rs_run.specs.declared.fault.Fault.TheVariants.{Memory, Usage, Write, Read, Table, BadScore, Probe, Script}
+use Rattle.rs_run.specs.Words.{Form, NoForm, Plain, Top, TopWords, form_of}
+use Rattle.rs_run.specs.Content.{content_of}
+use Rattle.rs_run.specs.Top.{or_table_fault, table_limit, named_table, top_table, top_lines, ranked_lines, scored_from, number_at}
+use Rattle.rs_run.specs.Plain.{ScriptRuns, TextRuns, unlexed, unparsed, runs, unread, read, or_text_fault, script_limit, source_of, without_mark}
+use Rattle.rs_run.specs.Run.{Answering, Event, Finds, Run, fetch_then}
+use Rattle.rs_run.specs.Running.{IsRun, IsRunOf, IsCut}
+use Rattle.rs_run.specs.Statements.{Does, DoesTable, RunOf, RunsOn, Step, index_outcome, index_step, or_bind_fault, or_room_fault, refused_or, table_step, with_room}
+
+-- the faults of `top` and of `plain`
+IsOwn : Fault → Type 0
+IsOwn Memory = Unit {0}
+IsOwn Usage = ⊥
+IsOwn (Read name why) = Unit {0}
+IsOwn Write = ⊥
+IsOwn (Table name why) = Unit {0}
+IsOwn (BadScore predicate row got max) = Unit {0}
+IsOwn (Probe predicate) = ⊥
+IsOwn (Script why) = Unit {0}
+
+-- something, or a fault of their own
+Own : {A : Type 0} → Result A Fault → Type 0
+Own (Ok a) = Unit {0}
+Own (Err fault) = IsOwn fault
+
+-- an end without a fault, or with one of their own
+OwnEnd : Option Fault → Type 0
+OwnEnd None = Unit {0}
+OwnEnd (Some fault) = IsOwn fault
+
+Own-then : {A B : Type 0} (r : Result A Fault) (next : A → Result B Fault) → Own r → ((a : A) → Own (next a)) → Own (r >>= next)
+unfolding Own
+Own-then (Ok a) next own goes = goes a
+Own-then (Err fault) next own goes = own
+
+Own-content : (limit : ℕ) (name : List ℕ) (there : Option (List ℕ)) → Own (content_of limit name there)
+unfolding Own IsOwn
+Own-content limit name None = tt
+Own-content limit name (Some bytes) = elim (nat_le (length bytes) limit) as (λ b. Own (if b then Ok bytes else Err (Read name TooLong))) [ true ↦ tt | false ↦ tt ]
+
+Own-table : {A : Type 0} (name : List ℕ) (r : Result A TableFault) → Own (or_table_fault name r)
+unfolding Own IsOwn
+Own-table name (Ok a) = tt
+Own-table name (Err why) = tt
+
+Own-text : (r : Result (List ℕ) TextFault) → Own (or_text_fault r)
+unfolding Own IsOwn
+Own-text (Ok script) = tt
+Own-text (Err (text.NotUtf8 at)) = tt
+Own-text (Err text.Memory) = tt
+
+Own-source : (name : List ℕ) (there : Option (List ℕ)) → Own (source_of name there)
+Own-source name there = Own-then (content_of script_limit name there) (λ bytes. or_text_fault (text_of (without_mark bytes)))
+    (Own-content script_limit name there) (λ bytes. Own-text (text_of (without_mark bytes)))
+
+-- `top`
+Own-scored : (column : List ℕ) (max place row : ℕ) (rows : List (List Value)) → Own (scored_from column max place row rows)
+unfolding Own IsOwn
+Own-scored column max place row [] = tt
+Own-scored column max place row (values ∷ rest) =
+    elim (is_score max (number_at place values)) as (λ b. Own (if b then (scored_from column max place (row + 1) rest >>= (λ rows. Ok (values ∷ rows))) else Err (BadScore column row (number_at place values) max))) [
+      | true ↦ Own-then _ _ (Own-scored column max place (row + 1) rest) (λ rows. tt)
+      | false ↦ tt
+    ]
+
+Own-top : (top : TopWords) (there : Option (List ℕ)) → Own (top_lines top there)
+unfolding Own IsOwn
+Own-top top there =
+    Own-then (top_table top.file top.column there) (ranked_lines top)
+    (Own-then (content_of table_limit top.file there) (λ bytes. or_table_fault top.file (named_table top.column bytes))
+    (Own-content table_limit top.file there) (λ bytes. Own-table top.file (named_table top.column bytes)))
+    (λ table. Own-then _ _ (Own-scored top.column top.max (unwrap_or (place_of top.column table.schema) 0) 1 table.rows) (λ rows. tt))
+
+-- what a statement binds
+Own-bind : {A : Type 0} (r : Result A BindFault) → Own (or_bind_fault r)
+unfolding Own IsOwn
+Own-bind (Ok a) = tt
+Own-bind (Err (bind.At why at)) = tt
+Own-bind (Err bind.Memory) = tt
+
+Own-room : (name : Name) (r : Result (Unit {0}) RoomFault) → Own (or_room_fault name r)
+unfolding Own IsOwn
+Own-room name (Ok room) = tt
+Own-room name (Err why) = tt
+
+Own-with_room : {A : Type 0} (catalogue : Catalogue) (what : What) (name : Name) (bound : Result A BindFault) → Own (with_room catalogue what name bound)
+unfolding Own
+Own-with_room catalogue what name bound =
+    Own-then (or_bind_fault bound) (λ a. or_room_fault name (room_for what name.text catalogue) >>= (λ room. Ok a)) (Own-bind bound)
+    (λ a. Own-then (or_room_fault name (room_for what name.text catalogue)) (λ room. Ok a) (Own-room name (room_for what name.text catalogue)) (λ room. tt))
+
+-- making an index ends with its rows or with a bad score
+abbrev OwnRanking : Result (List ScoredRow) IndexFault → Type 0
+OwnRanking (Ok ranking) = Unit {0}
+OwnRanking (Err (index.BadScore row got max)) = Unit {0}
+OwnRanking (Err index.Probe) = ⊥
+OwnRanking (Err index.Memory) = ⊥
+
+OwnRanking-scored : (answer : List Value → ℤ) (max row : ℕ) (rows : List (List Value)) → OwnRanking (indexes.scored_from answer max row rows)
+OwnRanking-scored answer max row [] = tt
+OwnRanking-scored answer max row (values ∷ rest) =
+    go (is_score max (answer values)) refl (indexes.scored_from answer max (row + 1) rest) refl (OwnRanking-scored answer max (row + 1) rest) where
+      go : (b : Bool) → is_score max (answer values) ≡ b → (others : Result (List ScoredRow) IndexFault) → indexes.scored_from answer max (row + 1) rest ≡ others → OwnRanking others
+          → OwnRanking (indexes.scored_from answer max row (values ∷ rest))
+      go true score (Ok entries) e own = rw (score, e) tt
+      go true score (Err fault) e own = rw (score, e) own
+      go false score others e own = rw score tt
+
+OwnRanking-stable : (scored : Result (List ScoredRow) IndexFault) → OwnRanking scored → OwnRanking (indexes.ranking_of scored)
+OwnRanking-stable (Ok entries) own = tt
+OwnRanking-stable (Err fault) own = own
+
+Own-index : (catalogue : Catalogue) (def : IndexDef) (ranking : Result (List ScoredRow) IndexFault) → OwnRanking ranking → Own (index_outcome catalogue def ranking)
+unfolding Own IsOwn
+Own-index catalogue def (Ok ranking) own = tt
+Own-index catalogue def (Err (index.BadScore row got max)) own = tt
+Own-index catalogue def (Err index.Probe) own = own
+Own-index catalogue def (Err index.Memory) own = tt
+
+Own-index_step : (answer : Answering) (catalogue : Catalogue) (def : IndexDef) → Own (index_step answer catalogue def).outcome
+Own-index_step answer catalogue def =
+    Own-index catalogue def (indexes.making answer catalogue def).outcome
+    (OwnRanking-stable _ (OwnRanking-scored (λ row. answer (indexes.predicate_for catalogue def) (indexes.args_in def.args row)) (indexes.predicate_for catalogue def).max 1 (indexes.rows_for catalogue def)))
+
+-- a statement
+Own-refused : {A : Type 0} (does : A → Step) (r : Result A Fault) → Own r → ((a : A) → Own (does a).outcome) → Own (refused_or does r).outcome
+unfolding Own
+Own-refused does (Ok a) own goes = goes a
+Own-refused does (Err fault) own goes = own
+
+Own-table_step : (catalogue : Catalogue) (name : Name) (file : List ℕ) (columns : List Column) (there : Option (List ℕ)) → Own (table_step catalogue name file columns there).outcome
+unfolding Own
+Own-table_step catalogue name file columns there =
+    Own-then (content_of table_limit file there) (λ bytes. or_table_fault file (table_of columns bytes) >>= (λ table. Ok (with_table name.text table catalogue)))
+    (Own-content table_limit file there)
+    (λ bytes. Own-then (or_table_fault file (table_of columns bytes)) (λ table. Ok (with_table name.text table catalogue)) (Own-table file (table_of columns bytes)) (λ table. tt))
+
+Own-does_table : (finds : Finds) (catalogue : Catalogue) (name : Name) (file : List ℕ) (columns : Result (List Column) Fault) (step : Step) → Own columns
+    → DoesTable finds catalogue name file columns step → Own step.outcome
+unfolding Own
+Own-does_table finds catalogue name file (Err fault) step own does = subst (λ s. Own s.outcome) (sym does) own
+Own-does_table finds catalogue name file (Ok columns) step own does = subst (λ s. Own s.outcome) (sym does.2) (Own-table_step catalogue name file columns does.0)
+
+Own-step : (finds : Finds) (answer : Answering) (number : ℕ) (catalogue : Catalogue) (command : Command) (step : Step) → Does finds answer number catalogue command step → Own step.outcome
+unfolding Own IsOwn
+Own-step finds answer number catalogue (CreateTable name columns file) step does =
+    Own-does_table finds catalogue name file (with_room catalogue what.Table name (columns_of columns)) step (Own-with_room catalogue what.Table name (columns_of columns)) does
+Own-step finds answer number catalogue (CreatePredicate name params max cost formula) step does =
+    subst (λ s. Own s.outcome) (sym does)
+    (Own-then _ (λ predicate. Ok (with_predicate predicate catalogue))
+    (Own-with_room catalogue what.Predicate name (predicate_of (CreatePredicate name params max cost formula))) (λ predicate. tt))
+Own-step finds answer number catalogue (CreateRankIndex name table predicate args at) step does =
+    subst (λ s. Own s.outcome) (sym does)
+    (Own-refused (index_step answer catalogue) _ (Own-with_room catalogue what.Index name (index_def_of catalogue (CreateRankIndex name table predicate args at)))
+    (Own-index_step answer catalogue))
+Own-step finds answer number catalogue _ step does = subst (λ s. Own s.outcome) (sym does) tt
+
+-- the statements of a script
+Own-behind : (rest : Catalogue → Run → Type 0) (events : List Event) (outcome : Result Catalogue Fault) (run : Run) → Own outcome
+    → ((next : Catalogue) (more : Run) → rest next more → OwnEnd more.fault) → RunsOn rest events outcome run → OwnEnd run.fault
+unfolding Own OwnEnd
+Own-behind rest events (Err fault) run own goes on = subst (λ r. OwnEnd r.fault) (sym on) own
+Own-behind rest events (Ok next) run own goes on = subst (λ r. OwnEnd r.fault) (sym on.2) (goes next on.0 on.1)
+
+Own-statements : (finds : Finds) (answer : Answering) (number : ℕ) (catalogue : Catalogue) (commands : List Command) (run : Run) → RunOf finds answer number catalogue commands run → OwnEnd run.fault
+unfolding OwnEnd
+Own-statements finds answer number catalogue [] run is = subst (λ r. OwnEnd r.fault) (sym is) tt
+Own-statements finds answer number catalogue (command ∷ rest) run is =
+    Own-behind (λ next more. RunOf finds answer (suc number) next rest more) is.0.events is.0.outcome run
+    (Own-step finds answer number catalogue command is.0 is.1) (λ next more. Own-statements finds answer (suc number) next rest more) is.2
+
+Own-runs : (finds : Finds) (answer : Answering) (script : List ℕ) (run : Run) → TextRuns finds answer script run → OwnEnd run.fault
+unfolding OwnEnd IsOwn
+Own-runs finds answer script _ (unlexed fault refuses) = tt
+Own-runs finds answer script _ (unparsed tokens fault lexed refuses) = tt
+Own-runs finds answer script run (runs commands _ made is) = Own-statements finds answer 1 empty commands run is
+
+Own-script : (finds : Finds) (answer : Answering) (name : List ℕ) (run : Run) → ScriptRuns finds answer name run → OwnEnd run.fault
+unfolding Own OwnEnd
+Own-script finds answer name _ (unread there fault found e) = subst Own e (Own-source name there)
+Own-script finds answer name _ (read there script run found e is) = Own-runs finds answer script run is
+
+-- the faults that the definition of a run ends with
+unfoldable pub OwnFault : List (List ℕ) → Option Fault → Type 0
+OwnFault words None = Unit {0}
+OwnFault words (Some Memory) = Unit {0}
+OwnFault words (Some Usage) = form_of words ≡ NoForm
+OwnFault words (Some (Read name why)) = Unit {0}
+OwnFault words (Some Write) = ⊥
+OwnFault words (Some (Table name why)) = Unit {0}
+OwnFault words (Some (BadScore predicate row got max)) = Unit {0}
+OwnFault words (Some (Probe predicate)) = ⊥
+OwnFault words (Some (Script why)) = Unit {0}
+
+OwnFault-end : (words : List (List ℕ)) (fault : Option Fault) → OwnEnd fault → OwnFault words fault
+unfolding OwnFault OwnEnd IsOwn
+OwnFault-end words None own = tt
+OwnFault-end words (Some Memory) own = tt
+OwnFault-end words (Some Usage) own = absurd own
+OwnFault-end words (Some (Read name why)) own = tt
+OwnFault-end words (Some Write) own = own
+OwnFault-end words (Some (Table name why)) own = tt
+OwnFault-end words (Some (BadScore predicate row got max)) own = tt
+OwnFault-end words (Some (Probe predicate)) own = own
+OwnFault-end words (Some (Script why)) own = tt
+
+OwnEnd-lines : (name : List ℕ) (lines : Result (List (List ℕ)) Fault) → Own lines → OwnEnd (fetch_then name lines).fault
+unfolding Own OwnEnd
+OwnEnd-lines name (Ok lines) own = tt
+OwnEnd-lines name (Err fault) own = own
+
+OwnFault-form : (finds : Finds) (answer : Answering) (words : List (List ℕ)) (run : Run) (form : Form) → form_of words ≡ form → IsRunOf finds answer form run ⊎ IsCut form run → OwnFault words run.fault
+unfolding OwnFault OwnEnd IsOwn
+OwnFault-form finds answer words run (Top top) is_form (inl is) =
+    OwnFault-end words run.fault (subst (λ r. OwnEnd r.fault) (sym is.2) (OwnEnd-lines top.file (top_lines top is.0) (Own-top top is.0)))
+OwnFault-form finds answer words run (Top top) is_form (inr cut) = absurd cut
+OwnFault-form finds answer words run (Plain name) is_form (inl is) = OwnFault-end words run.fault (Own-script finds answer name run is)
+OwnFault-form finds answer words run (Plain name) is_form (inr cut) = OwnFault-end words run.fault (subst (λ r. OwnEnd r.fault) (sym cut) tt)
+OwnFault-form finds answer words run NoForm is_form (inl is) = subst (λ r. OwnFault words r.fault) (sym is) is_form
+OwnFault-form finds answer words run NoForm is_form (inr cut) = absurd cut
+
+pub own_fault : (finds : Finds) (answer : Answering) (words : List (List ℕ)) (run : Run) → IsRun finds answer words run ⊎ IsCut (form_of words) run → OwnFault words run.fault
+own_fault finds answer words run is = OwnFault-form finds answer words run (form_of words) refl is

@@ -1,0 +1,107 @@
+-- The runs of statements, computed on examples.
+use Rattle.std.proofs.Common.{ℕ, ℤ, ◌+◌, List, [], ◌∷◌, Some, None, refl}
+use Rattle.std.specs.Prelude.{Option, codes, pos}
+use Rattle.csv.proofs.OnLiterals.{csv_on_literals}
+use Rattle.std.specs.Fmt.{digits}
+use Rattle.std.specs.Str.{chars, is_utf8}
+use Rattle.std.specs.Char.{encode_utf8}
+use Rattle.rs_value.specs.declared.kind.Kind.TheVariants as kind
+use Rattle.rs_value.specs.declared.value.Value.TheVariants as value
+use Rattle.rs_outside.specs.declared.files.FetchFault.TheVariants as fetch
+use Rattle.rs_table.specs.declared.fault.TableFault.TheVariants as table
+use Rattle.rs_expr.specs.Meaning.{value_of}
+use Rattle.rs_expr.specs.declared.scorer.Call.{Call}
+use Rattle.rs_syntax.specs.Syntax.{Command, CreateTable, CreatePredicate, CreateRankIndex, Close}
+use Rattle.rs_syntax.specs.Syntax as syntax
+use Rattle.rs_syntax.specs.declared.name.Name.{Name}
+use Rattle.rs_syntax.specs.declared.name.Arg.TheVariants as arg
+use Rattle.rs_catalog.specs.Catalogue.{empty}
+use Rattle.rs_catalog.specs.declared.room.RoomFault.TheVariants as room
+use Rattle.rs_bind.specs.declared.fault.Why.TheVariants as why
+use Rattle.rs_run.specs.declared.fault.Fault.TheVariants as fault
+use Rattle.rs_run.specs.declared.script_fault.ScriptFault.TheVariants as script
+use Rattle.rs_run.specs.Run.{Answering, Ask, Fetch, Finds, found_in}
+use Rattle.rs_run.specs.Statements.{RunOf}
+
+-- a name at a place
+abbrev name_at : List ℕ → ℕ → Name
+name_at text start = record { text = text; at = record { start = start; end = start + 1 } }
+
+-- CREATE TABLE t (v INTEGER) FROM 'f'
+create_table : Command
+create_table = CreateTable (name_at (codes "t") 13) ((name_at (codes "v") 16, kind.Int) ∷ []) (codes "f")
+
+-- CREATE RANKING PREDICATE p (x INTEGER) MAX 10 AS x
+create_predicate : Command
+create_predicate = CreatePredicate (name_at (codes "p") 50) ((name_at (codes "x") 53, kind.Int) ∷ []) (pos 10, record { start = 60; end = 62 }) None
+    (syntax.Column (record { alias = None; column = name_at (codes "x") 66 }))
+
+-- CREATE RANK INDEX i ON t USING p (v)
+create_index : Command
+create_index = CreateRankIndex (name_at (codes "i") 80) (name_at (codes "t") 85) (name_at (codes "p") 92)
+    (arg.Column (record { alias = None; column = name_at (codes "v") 95 }) ∷ []) (record { start = 92; end = 97 })
+
+-- every name has a file of these bytes, or none has one
+finds : Option (List ℕ) → Finds
+finds there = found_in (λ name. there)
+
+answer : Answering
+answer predicate args = value_of predicate.formula args
+
+-- the call of p for a number
+call : ℤ → Call
+call n = record { predicate = codes "p"; args = value.Int n ∷ [] }
+
+-- the table, the predicate and the index are made, and each row is asked for, in their order
+makes_all : RunOf (finds (Some (codes "v\n3\n10\n"))) answer 1 empty (create_table ∷ create_predicate ∷ create_index ∷ [])
+    (record { events = Fetch (codes "f") ∷ Ask (call (pos 3)) ∷ Ask (call (pos 10)) ∷ []; fault = None })
+unfolding create_table create_predicate create_index finds answer call csv_on_literals digits chars is_utf8 encode_utf8
+makes_all = (_, (Some (codes "v\n3\n10\n"), refl, refl), (_, (_, refl, (_, (_, refl, (_, refl, refl)), refl)), refl))
+
+-- the first number that is no score ends the run, and no row behind it is asked for
+bad_score : RunOf (finds (Some (codes "v\n3\n40\n5\n"))) answer 1 empty (create_table ∷ create_predicate ∷ create_index ∷ create_table ∷ [])
+    (record { events = Fetch (codes "f") ∷ Ask (call (pos 3)) ∷ Ask (call (pos 40)) ∷ []; fault = Some (fault.BadScore (codes "p") 2 (pos 40) 10) })
+unfolding create_table create_predicate create_index finds answer call csv_on_literals digits chars is_utf8 encode_utf8
+bad_score = (_, (Some (codes "v\n3\n40\n5\n"), refl, refl), (_, (_, refl, (_, (_, refl, refl), refl)), refl))
+
+-- a name that is taken ends the run before the fetch
+name_taken : RunOf (finds (Some (codes "v\n3\n"))) answer 1 empty (create_table ∷ create_table ∷ [])
+    (record { events = Fetch (codes "f") ∷ []; fault = Some (fault.Script (script.Room room.NameTaken 13)) })
+unfolding create_table create_predicate create_index finds answer call csv_on_literals digits chars is_utf8 encode_utf8
+name_taken = (_, (Some (codes "v\n3\n"), refl, refl), (_, (_, refl, refl), refl))
+
+-- the file isn't there
+missing : RunOf (finds None) answer 1 empty (create_table ∷ create_predicate ∷ [])
+    (record { events = Fetch (codes "f") ∷ []; fault = Some (fault.Read (codes "f") fetch.Missing) })
+unfolding create_table create_predicate create_index finds answer call csv_on_literals digits chars is_utf8 encode_utf8
+missing = (_, (None, refl, refl), refl)
+
+-- the file is no table
+no_table_file : RunOf (finds (Some (codes "v\nx\n"))) answer 1 empty (create_table ∷ create_predicate ∷ [])
+    (record { events = Fetch (codes "f") ∷ []; fault = Some (fault.Table (codes "f") (table.NotInt 1 1)) })
+unfolding create_table create_predicate create_index finds answer call csv_on_literals digits chars is_utf8 encode_utf8
+no_table_file = (_, (Some (codes "v\nx\n"), refl, refl), refl)
+
+-- an index of a table that isn't there
+no_table : RunOf (finds None) answer 1 empty (create_predicate ∷ create_index ∷ [])
+    (record { events = []; fault = Some (fault.Script (script.Bind why.NoTable 85)) })
+unfolding create_table create_predicate create_index finds answer call csv_on_literals digits chars is_utf8 encode_utf8
+no_table = (_, refl, (_, (_, refl, refl), refl))
+
+-- an index of a predicate that isn't there
+no_predicate : RunOf (finds (Some (codes "v\n3\n"))) answer 1 empty (create_table ∷ create_index ∷ [])
+    (record { events = Fetch (codes "f") ∷ []; fault = Some (fault.Script (script.Bind why.NoPredicate 92)) })
+unfolding create_table create_predicate create_index finds answer call csv_on_literals digits chars is_utf8 encode_utf8
+no_predicate = (_, (Some (codes "v\n3\n"), refl, refl), (_, (_, refl, refl), refl))
+
+-- a statement of a kind that isn't there yet, with its number
+not_built : RunOf (finds None) answer 1 empty (create_predicate ∷ Close (name_at (codes "c") 70) ∷ create_table ∷ [])
+    (record { events = []; fault = Some (fault.Script (script.NotBuilt 2)) })
+unfolding create_table create_predicate create_index finds answer call csv_on_literals digits chars is_utf8 encode_utf8
+not_built = (_, refl, (_, (_, refl, refl), refl))
+
+-- no statement
+no_statement : RunOf (finds None) answer 1 empty []
+    (record { events = []; fault = None })
+unfolding create_table create_predicate create_index finds answer call csv_on_literals digits chars is_utf8 encode_utf8
+no_statement = refl

@@ -1,0 +1,118 @@
+-- The statements of a script, one after another: what each does, and the catalogue that it leaves.
+use Rattle.std.specs.Prelude.{ℕ, suc, ◌≡◌, List, [], ◌∷◌, map, Option, Some, None, Result, Ok, Err}
+use Rattle.rs_value.specs.declared.kind.Kind.{Kind}
+use Rattle.rs_lex.specs.declared.token.Span.{Span}
+use Rattle.rs_rank.specs.declared.scored_row.ScoredRow.{ScoredRow}
+use Rattle.rs_syntax.specs.declared.name.Name.{Name}
+use Rattle.rs_syntax.specs.Syntax.{Command, CreateTable, CreatePredicate, CreateRankIndex}
+use Rattle.rs_table.specs.Column.{Column}
+use Rattle.rs_table.specs.Reading.{◌>>=◌, table_of}
+use Rattle.rs_expr.specs.Predicates.{PredicateDef}
+use Rattle.rs_catalog.specs.Catalogue.{Catalogue, room_for, with_index, with_predicate, with_table}
+use Rattle.rs_catalog.specs.Indexes.{Making, making, predicate_for}
+use Rattle.rs_catalog.specs.declared.index.IndexDef.{IndexDef}
+use Rattle.rs_catalog.specs.declared.index.IndexFault.{IndexFault}
+use Rattle.rs_catalog.specs.declared.index.IndexFault.TheVariants as index
+use Rattle.rs_catalog.specs.declared.room.RoomFault.{RoomFault}
+use Rattle.rs_catalog.specs.declared.room.What.{What}
+use Rattle.rs_catalog.specs.declared.room.What.TheVariants as what
+use Rattle.rs_bind.specs.Indexes.{index_def_of}
+use Rattle.rs_bind.specs.Names.{columns_of}
+use Rattle.rs_bind.specs.Predicates.{predicate_of}
+use Rattle.rs_bind.specs.declared.fault.BindFault.{BindFault}
+use Rattle.rs_bind.specs.declared.fault.BindFault.TheVariants as bind
+use Rattle.rs_run.specs.declared.fault.Fault.{Fault}
+use Rattle.rs_run.specs.declared.fault.Fault.TheVariants.{BadScore, Memory, Probe, Script}
+use Rattle.rs_run.specs.declared.script_fault.ScriptFault.TheVariants.{Bind, Room, NotBuilt}
+use Rattle.rs_run.specs.Content.{content_of}
+use Rattle.rs_run.specs.Run.{Answering, Ask, Event, Fetch, Finds, Run, behind}
+use Rattle.rs_run.specs.Top.{or_table_fault, table_limit}
+
+-- a rule that a statement breaks ends the run
+abbrev pub bind_fault : BindFault → Fault
+bind_fault (bind.At why at) = Script (Bind why at.start)
+bind_fault bind.Memory = Memory
+
+abbrev pub or_bind_fault : {A : Type 0} → Result A BindFault → Result A Fault
+or_bind_fault (Ok a) = Ok a
+or_bind_fault (Err why) = Err (bind_fault why)
+
+-- so does a name for which the catalogue has no room, at the name
+abbrev pub or_room_fault : Name → Result (Unit {0}) RoomFault → Result (Unit {0}) Fault
+or_room_fault name (Ok room) = Ok room
+or_room_fault name (Err why) = Err (Script (Room why name.at.start))
+
+-- what a statement binds, where the catalogue has room for its name
+abbrev pub with_room : {A : Type 0} → Catalogue → What → Name → Result A BindFault → Result A Fault
+with_room catalogue what name bound = do
+  a ← or_bind_fault bound
+  room ← or_room_fault name (room_for what name.text catalogue)
+  Ok a
+
+-- what a statement does: its events, and the catalogue that it leaves, or the fault that ends the run
+pub record Step : Type 0 where
+  pub events : List Event
+  pub outcome : Result Catalogue Fault
+
+-- a statement without an event
+abbrev pub still : Result Catalogue Fault → Step
+still outcome = record { events = []; outcome = outcome }
+
+-- the table of the file joins
+abbrev pub table_step : Catalogue → Name → List ℕ → List Column → Option (List ℕ) → Step
+table_step catalogue name file columns there = record {
+  events = Fetch file ∷ [];
+  outcome = (do
+    bytes ← content_of table_limit file there
+    table ← or_table_fault file (table_of columns bytes)
+    Ok (with_table name.text table catalogue));
+}
+
+-- the index joins, with its rows by score; a bad score of a row ends the run
+abbrev pub index_outcome : Catalogue → IndexDef → Result (List ScoredRow) IndexFault → Result Catalogue Fault
+index_outcome catalogue def (Ok ranking) = Ok (with_index def ranking catalogue)
+index_outcome catalogue def (Err (index.BadScore row got max)) = Err (BadScore (predicate_for catalogue def).name row got max)
+index_outcome catalogue def (Err index.Probe) = Err (Probe (predicate_for catalogue def).name)
+index_outcome catalogue def (Err index.Memory) = Err Memory
+
+abbrev pub index_step : Answering → Catalogue → IndexDef → Step
+index_step answer catalogue def =
+    let made = making answer catalogue def in
+    record { events = map Ask made.calls; outcome = index_outcome catalogue def made.outcome }
+
+-- the predicate joins
+abbrev pub predicate_outcome : Catalogue → Name → Command → Result Catalogue Fault
+predicate_outcome catalogue name command =
+    with_room catalogue what.Predicate name (predicate_of command) >>= λ predicate. Ok (with_predicate predicate catalogue)
+
+-- a statement that is refused, or one that goes on with what it binds
+abbrev pub refused_or : {A : Type 0} → (A → Step) → Result A Fault → Step
+refused_or does (Ok a) = does a
+refused_or does (Err fault) = still (Err fault)
+
+-- the fetch of a table's file, where the statement isn't refused before it
+abbrev pub DoesTable : Finds → Catalogue → Name → List ℕ → Result (List Column) Fault → Step → Type 0
+DoesTable finds catalogue name file (Err fault) step = step ≡ still (Err fault)
+DoesTable finds catalogue name file (Ok columns) step = (there : Option (List ℕ)) × finds file there × (step ≡ table_step catalogue name file columns there)
+
+-- what a statement of this number does: first its names and types count, then whether there is room for its name, and then what it does
+abbrev pub Does : Finds → Answering → ℕ → Catalogue → Command → Step → Type 0
+Does finds answer number catalogue (CreateTable name columns file) step =
+    DoesTable finds catalogue name file (with_room catalogue what.Table name (columns_of columns)) step
+Does finds answer number catalogue (CreatePredicate name params max cost formula) step =
+    step ≡ still (predicate_outcome catalogue name (CreatePredicate name params max cost formula))
+Does finds answer number catalogue (CreateRankIndex name table predicate args at) step =
+    step ≡ refused_or (index_step answer catalogue) (with_room catalogue what.Index name (index_def_of catalogue (CreateRankIndex name table predicate args at)))
+Does finds answer number catalogue _ step = step ≡ still (Err (Script (NotBuilt number)))
+
+-- the run of a statement and those behind it, which only go on where it ends without a fault
+abbrev pub RunsOn : (Catalogue → Run → Type 0) → List Event → Result Catalogue Fault → Run → Type 0
+RunsOn rest events (Err fault) run = run ≡ record { events = events; fault = Some fault }
+RunsOn rest events (Ok next) run = (more : Run) × rest next more × (run ≡ behind events more)
+
+-- the run of statements one after another, the first of this number, up to the first fault
+abbrev pub RunOf : Finds → Answering → ℕ → Catalogue → List Command → Run → Type 0
+RunOf finds answer number catalogue [] run = run ≡ record { events = []; fault = None }
+RunOf finds answer number catalogue (command ∷ rest) run =
+    (step : Step) × Does finds answer number catalogue command step
+    × RunsOn (λ next more. RunOf finds answer (suc number) next rest more) step.events step.outcome run

@@ -1,0 +1,285 @@
+ghost use Rattle.std.specs.Prelude.{◌≡◌, ◌≤◌, Ok, IfOk, length};
+ghost use Rattle.rs_value.specs.Answer.{Gives};
+ghost use Rattle.rs_syntax.specs.Syntax.{command_of, commands_of};
+ghost use Rattle.rs_bind.specs.Indexes.{index_def_of};
+ghost use Rattle.rs_bind.specs.Names.{columns_of};
+ghost use Rattle.rs_bind.specs.Predicates.{predicate_of};
+ghost use Rattle.rs_bind.specs.Written.{AreWritten, IsWritten};
+ghost use Rattle.rs_catalog.specs.Catalogue.{room_for};
+ghost use Rattle.rs_catalog.specs.Indexes.{IsIndex};
+ghost use Rattle.rs_catalog.specs.declared.room.What.TheVariants as what;
+ghost use Rattle.rs_run.specs.Outcome.{seen};
+ghost use Rattle.rs_run.specs.Run.{finds_in};
+ghost use Rattle.rs_run.specs.Statements.{or_room_fault, predicate_outcome, with_room};
+ghost use Rattle.rs_run.specs.Steps.{FetchesFile, IsIndexNamed, IsPredicateNamed, IsReadTable, Keeps, KeepsScorer, Leaves, RanIndex, RanStatements, RanTable, Stepped, index_fault, seen_scorer};
+
+use crate::fault::Fault;
+use crate::fetch::{fetch_file, table_fault};
+use crate::script_fault::ScriptFault;
+use rs_bind::{bind_index, bind_predicate, bind_table};
+use rs_catalog::{Catalog, IndexDef, IndexFault, What};
+use rs_expr::{Predicate, Scorer};
+use rs_outside::Files;
+use rs_syntax::{Name, Statement};
+use rs_table::{Schema, TABLE_LIMIT, Table};
+use rs_value::{Kind, Text};
+use std::alloc::Global;
+
+/// Runs the statements of a script one after another, up to the first fault, over an empty catalogue.
+pub fn run_statements<F: Files, S: Scorer>(
+    alloc: Global,
+    statements: &[Statement],
+    files: &mut F,
+    scorer: &mut S,
+) -> Result<(), Fault>
+    requires written { AreWritten (commands_of statements.now) }
+    ensures { RanStatements (finds_in (F.told files.old)) (S.answer scorer.old) (commands_of statements.now) result
+        (seen (F.told files.old) (F.told files.new) (F.faults files.old) (F.faults files.new))
+        (seen_scorer (S.told scorer.old) (S.told scorer.new) (S.calls scorer.old) (S.calls scorer.new) (S.faults scorer.old) (S.faults scorer.new))
+        (F.steady files.old) (S.steady scorer.old) }
+{
+    let mut catalog = Catalog::new(alloc);
+    for (index, statement) in statements.iter().enumerate() {
+        match run_statement(alloc, index + 1, statement, &mut catalog, files, scorer) {
+            Ok(()) => {}
+            Err(fault) => return Err(fault),
+        }
+    }
+    Ok(())
+}
+
+/// Runs a statement, which counts from 1 in its script.
+fn run_statement<F: Files, S: Scorer>(
+    alloc: Global,
+    number: usize,
+    statement: &Statement,
+    catalog: &mut Catalog,
+    files: &mut F,
+    scorer: &mut S,
+) -> Result<(), Fault>
+    requires written { IsWritten (command_of statement.now) }
+    ensures stepped { Stepped (finds_in (F.told files.old)) (S.answer scorer.old) number (command_of statement.now) catalog.old catalog.new result
+        (seen (F.told files.old) (F.told files.new) (F.faults files.old) (F.faults files.new))
+        (seen_scorer (S.told scorer.old) (S.told scorer.new) (S.calls scorer.old) (S.calls scorer.new) (S.faults scorer.old) (S.faults scorer.new))
+        (F.steady files.old) (S.steady scorer.old) }
+    ensures files { Keeps (seen (F.told files.old) (F.told files.new) (F.faults files.old) (F.faults files.new)) (F.steady files.old) (F.steady files.new) }
+    ensures scorer { KeepsScorer
+        (seen_scorer (S.told scorer.old) (S.told scorer.new) (S.calls scorer.old) (S.calls scorer.new) (S.faults scorer.old) (S.faults scorer.new))
+        (S.answer scorer.old) (S.answer scorer.new) (S.steady scorer.old) (S.steady scorer.new) }
+{
+    match statement {
+        Statement::CreateTable {
+            name,
+            columns,
+            file,
+        } => create_table(alloc, name, columns.items(), file, catalog, files),
+        Statement::CreatePredicate { name, .. } => create_predicate(
+            alloc, name, statement, catalog,
+        ),
+        Statement::CreateRankIndex { name, .. } => {
+            create_index(alloc, name, statement, catalog, scorer)
+        }
+        _ => Err(Fault::Script(ScriptFault::NotBuilt { statement: number })),
+    }
+}
+
+/// Whether the catalogue has room for a name, or the fault at the name.
+fn room(catalog: &Catalog, what: What, name: &Name) -> Result<(), Fault>
+    ensures { result ≡ or_room_fault name.now (room_for what name.now.text catalog.now) }
+{
+    match catalog.room(what, &name.text) {
+        Ok(()) => Ok(()),
+        Err(why) => Err(Fault::Script(ScriptFault::Room {
+            why,
+            at: name.at.start,
+        })),
+    }
+}
+
+/// The columns of a table for which the catalogue has room.
+fn table_schema(
+    alloc: Global,
+    name: &Name,
+    columns: &[(Name, Kind)],
+    catalog: &Catalog,
+) -> Result<Schema, Fault>
+    requires { 1 ≤ length columns.now }
+    ensures gives { Gives Fault.Memory (with_room catalog.now what.Table name.now (columns_of columns.now)) result }
+    ensures room { IfOk result (λ _. room_for what.Table name.now.text catalog.now ≡ Ok tt) }
+{
+    let schema = match bind_table(alloc, columns) {
+        Ok(schema) => schema,
+        Err(why) => return Err(Fault::from(why)),
+    };
+    match room(catalog, What::Table, name) {
+        Ok(()) => Ok(schema),
+        Err(fault) => Err(fault),
+    }
+}
+
+/// The table in a file.
+fn read_table<F: Files>(
+    alloc: Global,
+    file: &Text,
+    schema: Schema,
+    files: &mut F,
+) -> Result<Table, Fault>
+    ensures fetches { FetchesFile file.now result (IsReadTable file.now schema)
+        (seen (F.told files.old) (F.told files.new) (F.faults files.old) (F.faults files.new))
+        (F.steady files.old) }
+    ensures keeps { Keeps (seen (F.told files.old) (F.told files.new) (F.faults files.old) (F.faults files.new)) (F.steady files.old) (F.steady files.new) }
+{
+    let bytes = match fetch_file(alloc, file, TABLE_LIMIT, files) {
+        Ok(bytes) => bytes,
+        Err(fault) => return Err(fault),
+    };
+    match Table::read(alloc, schema, &bytes) {
+        Ok(table) => Ok(table),
+        Err(why) => Err(table_fault(file, why)),
+    }
+}
+
+/// Makes a table of a file. Names and types count first, then whether there is room for the name.
+fn create_table<F: Files>(
+    alloc: Global,
+    name: &Name,
+    columns: &[(Name, Kind)],
+    file: &Text,
+    catalog: &mut Catalog,
+    files: &mut F,
+) -> Result<(), Fault>
+    requires { 1 ≤ length columns.now }
+    ensures ran { RanTable (finds_in (F.told files.old)) catalog.old name.now file.now (with_room catalog.old what.Table name.now (columns_of columns.now)) catalog.new result
+        (seen (F.told files.old) (F.told files.new) (F.faults files.old) (F.faults files.new))
+        (F.steady files.old) }
+    ensures keeps { Keeps (seen (F.told files.old) (F.told files.new) (F.faults files.old) (F.faults files.new)) (F.steady files.old) (F.steady files.new) }
+{
+    let schema = match table_schema(alloc, name, columns, catalog) {
+        Ok(schema) => schema,
+        Err(fault) => return Err(fault),
+    };
+    let table = match read_table(alloc, file, schema, files) {
+        Ok(table) => table,
+        Err(fault) => return Err(fault),
+    };
+    let Ok(name) = name.text.copy() else {
+        return Err(Fault::Memory);
+    };
+    match catalog.add_table(name, table) {
+        Ok(()) => Ok(()),
+        Err(_) => Err(Fault::Memory),
+    }
+}
+
+/// The predicate of a statement for whose name the catalogue has room.
+fn roomy_predicate(
+    alloc: Global,
+    name: &Name,
+    statement: &Statement,
+    catalog: &Catalog,
+) -> Result<Predicate, Fault>
+    requires form { IsPredicateNamed name.now (command_of statement.now) }
+    requires written { IsWritten (command_of statement.now) }
+    ensures gives { Gives Fault.Memory (with_room catalog.now what.Predicate name.now (predicate_of (command_of statement.now))) result }
+    ensures room { IfOk result (λ predicate. room_for what.Predicate predicate.name catalog.now ≡ Ok tt) }
+{
+    let predicate = match bind_predicate(alloc, statement) {
+        Ok(predicate) => predicate,
+        Err(why) => return Err(Fault::from(why)),
+    };
+    match room(catalog, What::Predicate, name) {
+        Ok(()) => Ok(predicate),
+        Err(fault) => Err(fault),
+    }
+}
+
+/// Makes a predicate. Names and types count first, then whether there is room for the name.
+fn create_predicate(
+    alloc: Global,
+    name: &Name,
+    statement: &Statement,
+    catalog: &mut Catalog,
+) -> Result<(), Fault>
+    requires form { IsPredicateNamed name.now (command_of statement.now) }
+    requires written { IsWritten (command_of statement.now) }
+    ensures { Leaves (predicate_outcome catalog.old name.now (command_of statement.now)) catalog.new result }
+{
+    let predicate = match roomy_predicate(alloc, name, statement, catalog) {
+        Ok(predicate) => predicate,
+        Err(fault) => return Err(fault),
+    };
+    match catalog.add_predicate(predicate) {
+        Ok(()) => Ok(()),
+        Err(_) => Err(Fault::Memory),
+    }
+}
+
+/// What the rank index of a statement is of, where the catalogue has room for its name.
+fn roomy_index(
+    alloc: Global,
+    name: &Name,
+    statement: &Statement,
+    catalog: &Catalog,
+) -> Result<IndexDef, Fault>
+    requires form { IsIndexNamed name.now (command_of statement.now) }
+    requires written { IsWritten (command_of statement.now) }
+    ensures gives { Gives Fault.Memory (with_room catalog.now what.Index name.now (index_def_of catalog.now (command_of statement.now))) result }
+    ensures room { IfOk result (λ def. room_for what.Index def.name catalog.now ≡ Ok tt) }
+    ensures fits { IfOk result (λ def. IsIndex catalog.now def) }
+{
+    let def = match bind_index(alloc, catalog, statement) {
+        Ok(def) => def,
+        Err(why) => return Err(Fault::from(why)),
+    };
+    match room(catalog, What::Index, name) {
+        Ok(()) => Ok(def),
+        Err(fault) => Err(fault),
+    }
+}
+
+/// Makes a rank index. Names and types count first, then whether there is room for the name, and then the scores.
+fn create_index<S: Scorer>(
+    alloc: Global,
+    name: &Name,
+    statement: &Statement,
+    catalog: &mut Catalog,
+    scorer: &mut S,
+) -> Result<(), Fault>
+    requires form { IsIndexNamed name.now (command_of statement.now) }
+    requires written { IsWritten (command_of statement.now) }
+    ensures ran { RanIndex (S.answer scorer.old) catalog.old (with_room catalog.old what.Index name.now (index_def_of catalog.old (command_of statement.now))) catalog.new result
+        (seen_scorer (S.told scorer.old) (S.told scorer.new) (S.calls scorer.old) (S.calls scorer.new) (S.faults scorer.old) (S.faults scorer.new))
+        (S.steady scorer.old) }
+    ensures keeps { KeepsScorer
+        (seen_scorer (S.told scorer.old) (S.told scorer.new) (S.calls scorer.old) (S.calls scorer.new) (S.faults scorer.old) (S.faults scorer.new))
+        (S.answer scorer.old) (S.answer scorer.new) (S.steady scorer.old) (S.steady scorer.new) }
+{
+    let def = match roomy_index(alloc, name, statement, catalog) {
+        Ok(def) => def,
+        Err(fault) => return Err(fault),
+    };
+    let predicate = match catalog.predicate(def.predicate).name().copy() {
+        Ok(predicate) => predicate,
+        Err(_) => return Err(Fault::Memory),
+    };
+    match catalog.add_index(alloc, def, scorer) {
+        Ok(()) => Ok(()),
+        Err(why) => Err(index_fault(predicate, why)),
+    }
+}
+
+/// The fault of a rank index of this predicate that wasn't made.
+fn index_fault(predicate: Text, why: IndexFault) -> Fault
+    ensures { result ≡ index_fault predicate why }
+{
+    match why {
+        IndexFault::BadScore { row, got, max } => Fault::BadScore {
+            predicate,
+            row,
+            got,
+            max,
+        },
+        IndexFault::Probe => Fault::Probe { predicate },
+        IndexFault::Memory => Fault::Memory,
+    }
+}
