@@ -27,7 +27,10 @@ pub use key_laws::{
     equal_keys_have_equal_rows, key_order_is_total, merged_rows_have_merged_keys,
     merging_keeps_the_order, merging_keeps_the_strict_order,
 };
-pub use laws::{stable_is_permutation, stable_is_sorted, stable_is_unique, stable_keeps_equals};
+pub use laws::{
+    stable_is_permutation, stable_is_sorted, stable_is_sorted_by_key, stable_is_sorted_by_score,
+    stable_is_unique, stable_keeps_equals,
+};
 pub use mask::{are_disjoint, has_number, mask_of, union};
 pub use matcher::Matcher;
 pub use row::RankRow;

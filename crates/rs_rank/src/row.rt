@@ -5,6 +5,7 @@ ghost use Rattle.rs_rank.specs.Weights.{IsBound, IsWeights, bound, evaluated};
 
 use crate::ids::Ids;
 use crate::key::Key;
+use crate::stable::Scored;
 use crate::weights::Weights;
 
 /// A row on its way through the operators: which rows of the tables it is made of, and the sum of weight times worth
@@ -42,5 +43,13 @@ impl RankRow {
             ids: self.ids.merge(&other.ids),
             sum: self.sum + other.sum,
         }
+    }
+}
+
+impl Scored for RankRow {
+    ghost score_of = { λ row. row.sum };
+
+    fn score(&self) -> u64 {
+        self.sum
     }
 }

@@ -70,6 +70,8 @@ fn laws_hold_of_rows() {
     stable_is_sorted::<Row>();
     stable_keeps_equals::<Row>();
     stable_is_unique::<Row>();
+    stable_is_sorted_by_score::<Row>();
+    stable_is_sorted_by_key();
 }
 
 #[test]
@@ -335,6 +337,33 @@ fn answers_hold_values(rt: HostRuntime) -> Result<(), Fail> {
     assert_eq!(rt; answer.ids, BOTH);
     assert_eq!(rt; answer.score, 127);
     assert_eq!(rt; answer.values.len(), 2);
+    Ok(())
+}
+
+// An answer of one row of block 1, without values.
+fn answer_of(alloc: Global, score: u64, row: u32) -> Answer {
+    Answer {
+        ids: Ids {
+            block: 1,
+            mask: 0b1,
+            rows: [row, 0, 0, 0, 0, 0],
+        },
+        score,
+        values: List::of(Vec::new(alloc)),
+    }
+}
+
+#[test]
+fn answers_are_sorted_by_their_scores(rt: HostRuntime) -> Result<(), Fail> {
+    let mut answers = Vec::new(rt.alloc());
+    for (score, row) in [(5, 1), (9, 2), (5, 3)] {
+        answers.push(answer_of(rt.alloc(), score, row))?;
+    }
+    sort_stably(&mut answers)?;
+    assert_eq!(rt; answers.len(), 3);
+    for (answer, row) in answers.iter().zip([2u32, 1, 3]) {
+        assert_eq!(rt; answer.ids.rows[0], row);
+    }
     Ok(())
 }
 
