@@ -1,0 +1,5 @@
+pub mod AskFacts
+pub mod FirstFacts
+pub mod ListFacts
+pub mod QuestionFacts
+pub mod RowFacts

@@ -1,0 +1,4 @@
+pub mod Asking
+pub mod Evaluating
+pub mod Lists
+pub mod Plain

@@ -1,0 +1,12 @@
+//! The plain way to answer queries: everything is joined, filtered, scored and stably sorted.
+#![tactic(auto)]
+
+mod answer;
+mod ask;
+mod fault;
+mod outputs;
+mod rows;
+mod sets;
+
+pub use answer::plain;
+pub use fault::PlainFault;

@@ -1,0 +1,188 @@
+ghost use Rattle.std.specs.Prelude.{◌≡◌, ◌≤◌, map};
+ghost use Rattle.std.specs.List.{AllByRecursion, flat_map};
+ghost use Rattle.rs_query.specs.Answers.{base_of, row_of, rows_of, score_of};
+ghost use Rattle.rs_query.specs.Combinations.{all_combinations};
+ghost use Rattle.rs_query.specs.Tables.{HasRows, all_entries};
+ghost use Rattle.rs_query.specs.WellFormed.{IsBlock, IsQuery};
+ghost use Rattle.rs_plain.specs.Asking.{evaluating, row_questions, seen};
+ghost use Rattle.rs_plain.specs.Evaluating.{Evaluates, items_of};
+ghost use Rattle.rs_plain.specs.Plain.{block_questions, questions_of};
+
+use crate::ask::ask_term;
+use crate::fault::PlainFault;
+use crate::sets::{first_rows, set_rows};
+use rs_catalog::Catalog;
+use rs_expr::Scorer;
+use rs_query::{Block, Query};
+use rs_rank::{Answer, Ids};
+use rs_value::List;
+use std::alloc::Global;
+
+/// The rows of a query, each with its score, before they are put into order.
+pub(crate) fn query_rows<S: Scorer>(
+    alloc: Global,
+    catalog: &Catalog,
+    query: &Query,
+    scorer: &mut S,
+) -> Result<Vec<Answer>, PlainFault>
+    requires { IsQuery catalog.now query.now }
+    ensures evaluates { Evaluates catalog.now
+        (evaluating (S.answer scorer.old) catalog.now (questions_of catalog.now query.now) (rows_of (S.answer scorer.old) catalog.now query.now))
+        (items_of result)
+        (seen (S.told scorer.old) (S.told scorer.new) (S.calls scorer.old) (S.calls scorer.new) (S.faults scorer.old) (S.faults scorer.new))
+        (S.steady scorer.old) }
+    ensures same { S.answer scorer.new ≡ S.answer scorer.old }
+    ensures faults { S.faults scorer.old ≤ S.faults scorer.new }
+    ensures steady { S.steady scorer.old → S.steady scorer.new }
+{
+    match query {
+        Query::One(block, _) => base_rows(alloc, catalog, block, 1, scorer),
+        Query::Set(op, left, right, _) => {
+            let first = base_rows(alloc, catalog, left, 1, scorer)?;
+            let second = base_rows(alloc, catalog, right, 2, scorer)?;
+            Ok(set_rows(alloc, *op, first, second)?)
+        }
+    }
+}
+
+/// The rows of a block of this number: with DISTINCT the first one of each list of output values.
+fn base_rows<S: Scorer>(
+    alloc: Global,
+    catalog: &Catalog,
+    block: &Block,
+    number: u8,
+    scorer: &mut S,
+) -> Result<Vec<Answer>, PlainFault>
+    requires { IsBlock catalog.now block.now }
+    ensures evaluates { Evaluates catalog.now
+        (evaluating (S.answer scorer.old) catalog.now (block_questions catalog.now number block.now)
+        (base_of (S.answer scorer.old) catalog.now number block.now))
+        (items_of result)
+        (seen (S.told scorer.old) (S.told scorer.new) (S.calls scorer.old) (S.calls scorer.new) (S.faults scorer.old) (S.faults scorer.new))
+        (S.steady scorer.old) }
+    ensures same { S.answer scorer.new ≡ S.answer scorer.old }
+    ensures faults { S.faults scorer.old ≤ S.faults scorer.new }
+    ensures steady { S.steady scorer.old → S.steady scorer.new }
+{
+    let rows = block_rows(alloc, catalog, block, number, scorer)?;
+    if block.distinct {
+        return Ok(first_rows(alloc, rows)?);
+    }
+    Ok(rows)
+}
+
+/// All combinations of a block of this number, each with its score and its output values.
+fn block_rows<S: Scorer>(
+    alloc: Global,
+    catalog: &Catalog,
+    block: &Block,
+    number: u8,
+    scorer: &mut S,
+) -> Result<Vec<Answer>, PlainFault>
+    requires { IsBlock catalog.now block.now }
+    ensures evaluates { Evaluates catalog.now
+        (evaluating (S.answer scorer.old) catalog.now (block_questions catalog.now number block.now)
+        (map (row_of (S.answer scorer.old) catalog.now block.now number) (all_combinations catalog.now block.now)))
+        (items_of result)
+        (seen (S.told scorer.old) (S.told scorer.new) (S.calls scorer.old) (S.calls scorer.new) (S.faults scorer.old) (S.faults scorer.new))
+        (S.steady scorer.old) }
+    ensures same { S.answer scorer.new ≡ S.answer scorer.old }
+    ensures faults { S.faults scorer.old ≤ S.faults scorer.new }
+    ensures steady { S.steady scorer.old → S.steady scorer.new }
+{
+    let combinations = block.combinations(alloc, catalog)?;
+    scored_rows(alloc, catalog, block, number, &combinations, scorer)
+}
+
+/// Some combinations of a block of this number, each with its score and its output values.
+fn scored_rows<S: Scorer>(
+    alloc: Global,
+    catalog: &Catalog,
+    block: &Block,
+    number: u8,
+    combinations: &[[u32; 6]],
+    scorer: &mut S,
+) -> Result<Vec<Answer>, PlainFault>
+    requires block { IsBlock catalog.now block.now }
+    requires rows { AllByRecursion (HasRows catalog.now block.now (all_entries block.now)) combinations.now }
+    ensures evaluates { Evaluates catalog.now
+        (evaluating (S.answer scorer.old) catalog.now (flat_map (row_questions number block.now) combinations.now)
+        (map (row_of (S.answer scorer.old) catalog.now block.now number) combinations.now))
+        (items_of result)
+        (seen (S.told scorer.old) (S.told scorer.new) (S.calls scorer.old) (S.calls scorer.new) (S.faults scorer.old) (S.faults scorer.new))
+        (S.steady scorer.old) }
+    ensures same { S.answer scorer.new ≡ S.answer scorer.old }
+    ensures faults { S.faults scorer.old ≤ S.faults scorer.new }
+    ensures steady { S.steady scorer.old → S.steady scorer.new }
+{
+    let mut answers = Vec::new(alloc);
+    for rows in combinations {
+        let ids = Ids {
+            block: number,
+            mask: block.all_entries(),
+            rows: *rows,
+        };
+        let answer = row_for(alloc, catalog, block, &ids, scorer)?;
+        answers.push(answer)?;
+    }
+    Ok(answers)
+}
+
+/// A combination of all entries as a row of the answer.
+fn row_for<S: Scorer>(
+    alloc: Global,
+    catalog: &Catalog,
+    block: &Block,
+    ids: &Ids,
+    scorer: &mut S,
+) -> Result<Answer, PlainFault>
+    requires block { IsBlock catalog.now block.now }
+    requires all { ids.now.mask ≡ all_entries block.now }
+    requires rows { HasRows catalog.now block.now (all_entries block.now) ids.now.rows }
+    ensures evaluates { Evaluates catalog.now
+        (evaluating (S.answer scorer.old) catalog.now (row_questions ids.now.block block.now ids.now.rows)
+        (row_of (S.answer scorer.old) catalog.now block.now ids.now.block ids.now.rows))
+        result
+        (seen (S.told scorer.old) (S.told scorer.new) (S.calls scorer.old) (S.calls scorer.new) (S.faults scorer.old) (S.faults scorer.new))
+        (S.steady scorer.old) }
+    ensures same { S.answer scorer.new ≡ S.answer scorer.old }
+    ensures faults { S.faults scorer.old ≤ S.faults scorer.new }
+    ensures steady { S.steady scorer.old → S.steady scorer.new }
+{
+    let score = score_for(alloc, catalog, block, ids, scorer)?;
+    let values = block.outputs(alloc, catalog, ids)?;
+    Ok(Answer {
+        ids: *ids,
+        score,
+        values: List::of(values),
+    })
+}
+
+/// The score of a combination of all entries: the sum of weight times worth over the terms, which are asked in order.
+fn score_for<S: Scorer>(
+    alloc: Global,
+    catalog: &Catalog,
+    block: &Block,
+    ids: &Ids,
+    scorer: &mut S,
+) -> Result<u64, PlainFault>
+    requires block { IsBlock catalog.now block.now }
+    requires all { ids.now.mask ≡ all_entries block.now }
+    requires rows { HasRows catalog.now block.now (all_entries block.now) ids.now.rows }
+    ensures evaluates { Evaluates catalog.now
+        (evaluating (S.answer scorer.old) catalog.now (row_questions ids.now.block block.now ids.now.rows)
+        (score_of (S.answer scorer.old) catalog.now block.now ids.now.rows block.now.terms))
+        result
+        (seen (S.told scorer.old) (S.told scorer.new) (S.calls scorer.old) (S.calls scorer.new) (S.faults scorer.old) (S.faults scorer.new))
+        (S.steady scorer.old) }
+    ensures same { S.answer scorer.new ≡ S.answer scorer.old }
+    ensures faults { S.faults scorer.old ≤ S.faults scorer.new }
+    ensures steady { S.steady scorer.old → S.steady scorer.new }
+{
+    let mut score = 0;
+    for (index, term) in block.terms.items().iter().enumerate() {
+        let worth = ask_term(alloc, catalog, block, index as u8 + 1, ids, scorer)?;
+        score += u64::from(term.weight) * u64::from(worth);
+    }
+    Ok(score)
+}

@@ -1,0 +1,12 @@
+pub mod ArgFacts
+pub mod CellFacts
+pub mod ChoiceFacts
+pub mod EntryFacts
+pub mod ExtendFacts
+pub mod HoldFacts
+pub mod ItemFacts
+pub mod ListFacts
+pub mod LocalFacts
+pub mod WeightFacts
+pub mod WithinFacts
+pub mod WorkedCombinations

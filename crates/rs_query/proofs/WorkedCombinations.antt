@@ -1,0 +1,29 @@
+-- Choices, worked by hand.
+use Rattle.std.proofs.Common.{◌≡◌, [], ◌∷◌, refl}
+use Rattle.rs_query.specs.Combinations.{choices, numbers_to}
+
+-- the row numbers of a table of four rows
+numbers_to-four : numbers_to 4 ≡ 1 ∷ 2 ∷ 3 ∷ 4 ∷ []
+numbers_to-four = refl
+
+-- of the entries 1 and 3, with two rows each; entry 2 isn't in the mask
+choices-first_and_third : choices 5 (2 ∷ 3 ∷ 2 ∷ []) ≡
+    (1 ∷ 0 ∷ 1 ∷ []) ∷ (1 ∷ 0 ∷ 2 ∷ []) ∷ (2 ∷ 0 ∷ 1 ∷ []) ∷ (2 ∷ 0 ∷ 2 ∷ []) ∷ []
+choices-first_and_third = refl
+
+-- of both of two entries; the first one varies slowest
+choices-both : choices 3 (2 ∷ 3 ∷ []) ≡
+    (1 ∷ 1 ∷ []) ∷ (1 ∷ 2 ∷ []) ∷ (1 ∷ 3 ∷ []) ∷ (2 ∷ 1 ∷ []) ∷ (2 ∷ 2 ∷ []) ∷ (2 ∷ 3 ∷ []) ∷ []
+choices-both = refl
+
+-- of no entry there is one choice, which has no row
+choices-none : choices 0 (2 ∷ 3 ∷ []) ≡ (0 ∷ 0 ∷ []) ∷ []
+choices-none = refl
+
+-- where one entry in the mask has no row there is no choice
+choices-empty : choices 3 (2 ∷ 0 ∷ []) ≡ []
+choices-empty = refl
+
+-- six entries, of which the last four are none
+choices-padded : choices 3 (1 ∷ 2 ∷ 0 ∷ 0 ∷ 0 ∷ 0 ∷ []) ≡ (1 ∷ 1 ∷ 0 ∷ 0 ∷ 0 ∷ 0 ∷ []) ∷ (1 ∷ 2 ∷ 0 ∷ 0 ∷ 0 ∷ 0 ∷ []) ∷ []
+choices-padded = refl

@@ -1,0 +1,37 @@
+-- The value of the next column is its cell, of its kind.
+use Rattle.std.proofs.Common.{ℕ, ◌≡◌, ◌∙◌, ◌++◌, [], ◌∷◌, Some, get_or, map, take, sym, ap}
+use Rattle.std.specs.Prelude.{slice_get}
+use Rattle.std.proofs.lemmas.Option.{slice_get-get_or}
+use Rattle.rs_query.specs.Meaning.{cell_of}
+use Rattle.rs_query.specs.WellFormed.{IsColumn}
+use Rattle.rs_query.proofs.CellFacts.{HaveKinds-more}
+use Rattle.rs_query.proofs.EntryFacts.{column-inside}
+use Rattle.rs_query.proofs.ListFacts.{All-at, map-take-more}
+use Rattle.rs_query.proofs.block.Block.cells_of.Goals as goal
+
+pub cell_of-requires-clause-column : goal.cell_of-requires-clause-column
+cell_of-requires-clause-column c =
+    let columns = c.args.columns.now in
+    let i = c.loop-column.column-index in
+    All-at (IsColumn c.args.catalog.now c.args.self.now) columns i (get_or columns i (0, 0)) c.requires.columns (slice_get-get_or columns i (0, 0) c.loop-column-test.true)
+
+pub cell_of-requires-clause-inside : goal.cell_of-requires-clause-inside
+cell_of-requires-clause-inside c =
+    let columns = c.args.columns.now in
+    let i = c.loop-column.column-index in
+    column-inside columns i (get_or columns i (0, 0)) c.args.ids.now.mask c.requires.inside (slice_get-get_or columns i (0, 0) c.loop-column-test.true)
+
+pub loop-column-preserved : goal.loop-column-preserved
+loop-column-preserved c =
+    let columns = c.args.columns.now in
+    let i = c.loop-column.column-index in
+    let column : ℕ × ℕ = get_or columns i (0, 0) in
+    let at : slice_get columns i ≡ Some column = slice_get-get_or columns i (0, 0) c.loop-column-test.true in
+    record {
+      values = c.in_ok-push.ensures.items
+          ∙ ap (λ made. made ++ c.in_ok-cell_of.field-0 ∷ []) c.loop-column.invariant.values
+          ∙ ap (λ v. map (cell_of c.args.catalog.now c.args.self.now c.args.ids.now.rows) (take i columns) ++ v ∷ []) c.in_ok-cell_of.ensures.value
+          ∙ sym (map-take-more (cell_of c.args.catalog.now c.args.self.now c.args.ids.now.rows) columns i column at);
+      kinds = HaveKinds-more c.args.catalog.now c.args.self.now c.args.ids.now.rows columns c.loop-column.values.items c.push.new.self.items i column c.in_ok-cell_of.field-0 at
+          c.loop-column.invariant.values c.in_ok-push.ensures.items c.loop-column.invariant.kinds c.in_ok-cell_of.ensures.fit;
+    }

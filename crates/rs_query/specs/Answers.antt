@@ -1,0 +1,126 @@
+-- The answer of a query: every combination is scored, duplicates are dropped where the query says so, and the rest is put into the stable order.
+use Rattle.std.specs.Prelude.{ℕ, zero, suc, ℤ, pos, negsuc, min, not, ◌+◌, ◌*◌, ◌&&◌, Bool, true, false, List, [], ◌∷◌, ◌++◌, map, take, Option, Some, None, slice_get, unwrap_or}
+use Rattle.std.specs.List.{filter, list_any}
+use Rattle.std.specs.Ordering.{int_eq}
+use Rattle.std.specs.Str.{bytes_eq}
+use Rattle.rs_value.specs.declared.value.Value.{Value}
+use Rattle.rs_value.specs.declared.value.Value.TheVariants as value
+use Rattle.rs_rank.specs.Stable.{stable}
+use Rattle.rs_rank.specs.declared.answer.Answer.{Answer}
+use Rattle.rs_rank.specs.declared.weights.Weights.{Weights}
+use Rattle.rs_expr.specs.Formulas.{Constant}
+use Rattle.rs_expr.specs.Predicates.{PredicateDef}
+use Rattle.rs_catalog.specs.Catalogue.{Catalogue}
+use Rattle.rs_syntax.specs.declared.select.SetOp.{SetOp}
+use Rattle.rs_syntax.specs.declared.select.SetOp.TheVariants.{UnionAll, Union, Intersect, Except}
+use Rattle.rs_query.specs.declared.block.Block.{Block}
+use Rattle.rs_query.specs.declared.term.Term.{Term}
+use Rattle.rs_query.specs.declared.query.Query.{Query}
+use Rattle.rs_query.specs.declared.query.Query.TheVariants.{One, Set}
+use Rattle.rs_query.specs.Combinations.{all_combinations}
+use Rattle.rs_query.specs.Meaning.{args_of, outputs_of}
+use Rattle.rs_query.specs.Tables.{all_entries}
+
+-- what a scorer answers to a predicate and arguments
+abbrev pub Answering : Type 0
+Answering = PredicateDef → List Value → ℤ
+
+-- the predicate of this number
+abbrev pub predicate_at : Catalogue → ℕ → PredicateDef
+predicate_at catalogue number =
+    unwrap_or (slice_get catalogue.predicates number) (record { name = []; params = []; max = 0; cost = 0; formula = Constant (pos 0) })
+
+-- a number put into 0..max
+abbrev pub clamped : ℕ → ℤ → ℕ
+clamped max (pos n) = min n max
+clamped max (negsuc n) = 0
+
+-- what the scorer answers to a term for these rows
+abbrev pub number_of : Answering → Catalogue → Block → List ℕ → Term → ℤ
+number_of answer catalogue block rows term = answer (predicate_at catalogue term.predicate) (args_of catalogue block rows term)
+
+-- the worth of a term: that number, put into 0..MAX of its predicate
+abbrev pub worth_of : Answering → Catalogue → Block → List ℕ → Term → ℕ
+worth_of answer catalogue block rows term = clamped (predicate_at catalogue term.predicate).max (number_of answer catalogue block rows term)
+
+-- the score: the sum of weight times worth over the terms
+abbrev pub score_of : Answering → Catalogue → Block → List ℕ → List Term → ℕ
+score_of answer catalogue block rows [] = 0
+score_of answer catalogue block rows (term ∷ terms) = term.weight * worth_of answer catalogue block rows term + score_of answer catalogue block rows terms
+
+-- a combination of all entries of a block of this number as a row of the answer
+abbrev pub row_of : Answering → Catalogue → Block → ℕ → List ℕ → Answer
+row_of answer catalogue block number rows = record {
+  ids = record { block = number; mask = all_entries block; rows = rows };
+  score = score_of answer catalogue block rows block.terms;
+  values = outputs_of catalogue block rows;
+}
+
+-- equal values
+abbrev pub same_value : Value → Value → Bool
+same_value (value.Int n) (value.Int m) = int_eq n m
+same_value (value.Text t) (value.Text u) = bytes_eq t u
+same_value (value.Int n) (value.Text u) = false
+same_value (value.Text t) (value.Int m) = false
+
+abbrev pub same_values : List Value → List Value → Bool
+same_values [] [] = true
+same_values [] (v ∷ vs) = false
+same_values (u ∷ us) [] = false
+same_values (u ∷ us) (v ∷ vs) = same_value u v && same_values us vs
+
+-- whether a row's output values are those of one of these rows
+abbrev pub occurs_in : List Answer → Answer → Bool
+occurs_in rows row = list_any (λ (other : Answer). same_values other.values row.values) rows
+
+-- the rows with other output values
+abbrev pub others : Answer → List Answer → List Answer
+others row rows = filter (λ (other : Answer). not (same_values row.values other.values)) rows
+
+-- the first row of each list of output values
+abbrev pub firsts : List Answer → List Answer
+firsts [] = []
+firsts (row ∷ rows) = row ∷ others row (firsts rows)
+
+-- the rows of a block: all its combinations, and with DISTINCT the first one of each list of output values
+abbrev pub distinct_if : Bool → List Answer → List Answer
+distinct_if true rows = firsts rows
+distinct_if false rows = rows
+
+abbrev pub base_of : Answering → Catalogue → ℕ → Block → List Answer
+base_of answer catalogue number block = distinct_if block.distinct (map (row_of answer catalogue block number) (all_combinations catalogue block))
+
+-- the rows that a set operator makes of those of two blocks
+abbrev pub set_base : SetOp → List Answer → List Answer → List Answer
+set_base UnionAll left right = left ++ right
+set_base Union left right = firsts (left ++ right)
+set_base Intersect left right = firsts (filter (occurs_in right) left)
+set_base Except left right = firsts (filter (λ row. not (occurs_in right row)) left)
+
+-- the first rows, as many as LIMIT says
+abbrev pub cut : {T : Type 0} → Option ℕ → List T → List T
+cut None rows = rows
+cut (Some limit) rows = take limit rows
+
+abbrev pub limit_of : Query → Option ℕ
+limit_of (One block limit) = limit
+limit_of (Set op left right limit) = limit
+
+-- the rows of a query, before they are put into order
+abbrev pub rows_of : Answering → Catalogue → Query → List Answer
+rows_of answer catalogue (One block limit) = base_of answer catalogue 1 block
+rows_of answer catalogue (Set op left right limit) = set_base op (base_of answer catalogue 1 left) (base_of answer catalogue 2 right)
+
+-- the answer of a query
+abbrev pub answer_of : Answering → Catalogue → Query → List Answer
+answer_of answer catalogue query = cut (limit_of query) (stable (λ (row : Answer). row.score) (rows_of answer catalogue query))
+
+-- numbers, with 0 behind them up to a length
+abbrev pub padded : ℕ → List ℕ → List ℕ
+padded zero numbers = []
+padded (suc n) [] = 0 ∷ padded n []
+padded (suc n) (number ∷ numbers) = number ∷ padded n numbers
+
+-- the weights of the terms of a block, and their maxima
+abbrev pub weights_of : Block → Weights
+weights_of block = record { weight = padded 8 (map (λ (t : Term). t.weight) block.terms); max = padded 8 (map (λ (t : Term). t.max) block.terms) }

@@ -1,0 +1,10 @@
+pub mod Answers
+pub mod Choices
+pub mod Combinations
+pub mod Conjuncts
+pub mod Extending
+pub mod Joined
+pub mod Meaning
+pub mod Stored
+pub mod Tables
+pub mod WellFormed

@@ -1,0 +1,183 @@
+//! What a block computes for rows of its entries: whether conjuncts hold, and values of columns.
+
+ghost use Rattle.std.specs.Prelude.{◌≡◌, ◌≤◌, ◌-◌, ◌∷◌, [], IfOk, List, Some, length, map, slice_get, true, ℕ};
+ghost use Rattle.std.specs.List.{AllByRecursion};
+ghost use Rattle.rs_expr.specs.Predicates.{PredicateDef};
+ghost use Rattle.rs_expr.specs.Uses.{has_argument};
+ghost use Rattle.rs_query.specs.Meaning.{AreInside, all_hold, arg_of, args_of, cell_of, conjunct_holds, is_inside, outputs_of};
+ghost use Rattle.rs_query.specs.Tables.{HasRows, table_of};
+ghost use Rattle.rs_query.specs.WellFormed.{AreArgs, IsArg, IsBlock, IsColumn, IsConjunct, columns_of, entries_of, has_kind, kind_of};
+ghost use Rattle.rs_query.specs.declared.term.Term.{Term as BoundTerm};
+ghost use Rattle.rs_rank.specs.Masks.{mask_of};
+ghost use Rattle.rs_value.specs.Value.{all_fit, fits};
+ghost use Rattle.rs_value.specs.declared.kind.Kind.{Kind as ValueKind};
+
+use crate::block::Block;
+use crate::conjunct::Conjunct;
+use rs_catalog::{BoundArg, Catalog};
+use rs_rank::Ids;
+use rs_table::Table;
+use rs_value::{Memory, Value};
+use std::alloc::Global;
+
+impl Block {
+    /// Whether every conjunct in a mask holds of these rows. The first conjunct has the lowest bit.
+    pub fn holds(
+        &self,
+        alloc: Global,
+        catalog: &Catalog,
+        conjuncts: u32,
+        ids: &Ids,
+    ) -> Result<bool, Memory>
+        requires block { IsBlock catalog.now self.now }
+        requires inside { AreInside conjuncts ids.now.mask self.now.conjuncts }
+        requires rows { HasRows catalog.now self.now ids.now.mask ids.now.rows }
+        ensures { IfOk result (λ holds. holds ≡ all_hold catalog.now self.now conjuncts ids.now.rows self.now.conjuncts) }
+    {
+        for (place, conjunct) in self.conjuncts.items().iter().enumerate() {
+            if (conjuncts >> place) % 2 == 0 {
+                continue;
+            }
+            if !self.conjunct_holds(alloc, catalog, conjunct, ids)? {
+                return Ok(false);
+            }
+        }
+        Ok(true)
+    }
+
+    /// The arguments of a term, counted from 1, for these rows. They are those that its predicate takes.
+    pub fn args(
+        &self,
+        alloc: Global,
+        catalog: &Catalog,
+        term: u8,
+        ids: &Ids,
+    ) -> Result<Vec<Value>, Memory>
+        requires block { IsBlock catalog.now self.now }
+        requires least { 1 ≤ term }
+        requires most { term ≤ length self.now.terms }
+        requires inside { (t : BoundTerm) → slice_get self.now.terms (term - 1) ≡ Some t → is_inside t.entries ids.now.mask ≡ true }
+        requires rows { HasRows catalog.now self.now ids.now.mask ids.now.rows }
+        ensures value { (t : BoundTerm) → slice_get self.now.terms (term - 1) ≡ Some t
+            → IfOk result (λ args. args.items ≡ args_of catalog.now self.now ids.now.rows t) }
+        ensures fit { (t : BoundTerm) (p : PredicateDef) → slice_get self.now.terms (term - 1) ≡ Some t
+            → slice_get catalog.now.predicates t.predicate ≡ Some p
+            → IfOk result (λ args. all_fit p.params args.items ≡ true) }
+    {
+        let args = self.terms.items()[term as usize - 1].args.items();
+        self.args_of(alloc, catalog, args, ids)
+    }
+
+    /// The values of the output columns for these rows.
+    pub fn outputs(&self, alloc: Global, catalog: &Catalog, ids: &Ids) -> Result<Vec<Value>, Memory>
+        requires block { IsBlock catalog.now self.now }
+        requires inside { is_inside (entries_of self.now.items) ids.now.mask ≡ true }
+        requires rows { HasRows catalog.now self.now ids.now.mask ids.now.rows }
+        ensures { IfOk result (λ values. values.items ≡ outputs_of catalog.now self.now ids.now.rows) }
+    {
+        self.cells_of(alloc, catalog, self.items.items(), ids)
+    }
+
+    /// Whether a conjunct of the block holds of these rows.
+    fn conjunct_holds(
+        &self,
+        alloc: Global,
+        catalog: &Catalog,
+        conjunct: &Conjunct,
+        ids: &Ids,
+    ) -> Result<bool, Memory>
+        requires block { IsBlock catalog.now self.now }
+        requires conjunct { IsConjunct catalog.now self.now conjunct.now }
+        requires inside { is_inside conjunct.now.entries ids.now.mask ≡ true }
+        requires rows { HasRows catalog.now self.now ids.now.mask ids.now.rows }
+        ensures { IfOk result (λ holds. holds ≡ conjunct_holds catalog.now self.now ids.now.rows conjunct.now) }
+    {
+        let values = self.cells_of(alloc, catalog, conjunct.columns(), ids)?;
+        Ok(conjunct.condition().test(&values))
+    }
+
+    /// The values of columns for these rows, each of its column's kind.
+    fn cells_of(
+        &self,
+        alloc: Global,
+        catalog: &Catalog,
+        columns: &[(u8, u8)],
+        ids: &Ids,
+    ) -> Result<Vec<Value>, Memory>
+        requires block { IsBlock catalog.now self.now }
+        requires columns { AllByRecursion (IsColumn catalog.now self.now) columns.now }
+        requires inside { is_inside (entries_of columns.now) ids.now.mask ≡ true }
+        requires rows { HasRows catalog.now self.now ids.now.mask ids.now.rows }
+        ensures value { IfOk result (λ values. values.items ≡ map (cell_of catalog.now self.now ids.now.rows) columns.now) }
+        ensures fit { IfOk result (λ values. (kind : ValueKind) (i : ℕ) → has_kind catalog.now self.now columns.now kind i ≡ true
+            → has_argument values.items kind i ≡ true) }
+    {
+        let mut values = Vec::new(alloc);
+        for column in columns {
+            values.push(self.cell_of(catalog, *column, ids)?)?;
+        }
+        Ok(values)
+    }
+
+    /// The values of arguments for these rows.
+    fn args_of(
+        &self,
+        alloc: Global,
+        catalog: &Catalog,
+        args: &[BoundArg],
+        ids: &Ids,
+    ) -> Result<Vec<Value>, Memory>
+        requires block { IsBlock catalog.now self.now }
+        requires args { (kinds : List ValueKind) × AreArgs catalog.now self.now kinds args.now }
+        requires inside { is_inside (entries_of (columns_of args.now)) ids.now.mask ≡ true }
+        requires rows { HasRows catalog.now self.now ids.now.mask ids.now.rows }
+        ensures value { IfOk result (λ values. values.items ≡ map (arg_of catalog.now self.now ids.now.rows) args.now) }
+        ensures fit { (kinds : List ValueKind) → AreArgs catalog.now self.now kinds args.now
+            → IfOk result (λ values. all_fit kinds values.items ≡ true) }
+    {
+        let mut values = Vec::new(alloc);
+        for arg in args {
+            values.push(self.arg_of(catalog, arg, ids)?)?;
+        }
+        Ok(values)
+    }
+
+    /// The value of an argument for these rows. A number takes no memory.
+    fn arg_of(&self, catalog: &Catalog, arg: &BoundArg, ids: &Ids) -> Result<Value, Memory>
+        requires block { IsBlock catalog.now self.now }
+        requires arg { (kind : ValueKind) × IsArg catalog.now self.now kind arg.now }
+        requires inside { is_inside (entries_of (columns_of (arg.now ∷ []))) ids.now.mask ≡ true }
+        requires rows { HasRows catalog.now self.now ids.now.mask ids.now.rows }
+        ensures value { IfOk result (λ value. value ≡ arg_of catalog.now self.now ids.now.rows arg.now) }
+        ensures fit { (kind : ValueKind) → IsArg catalog.now self.now kind arg.now → IfOk result (λ value. fits kind value ≡ true) }
+    {
+        match arg {
+            BoundArg::Column(entry, column) => self.cell_of(catalog, (*entry, *column), ids),
+            BoundArg::Int(number) => Ok(Value::Int(*number)),
+            BoundArg::Text(text) => Ok(Value::Text(text.copy()?)),
+        }
+    }
+
+    /// The value of a column for these rows, of the column's kind. A number takes no memory.
+    fn cell_of(&self, catalog: &Catalog, column: (u8, u8), ids: &Ids) -> Result<Value, Memory>
+        requires block { IsBlock catalog.now self.now }
+        requires column { IsColumn catalog.now self.now column }
+        requires inside { is_inside (mask_of column.0) ids.now.mask ≡ true }
+        requires rows { HasRows catalog.now self.now ids.now.mask ids.now.rows }
+        ensures value { IfOk result (λ value. value ≡ cell_of catalog.now self.now ids.now.rows column) }
+        ensures fit { (kind : ValueKind) → kind_of catalog.now self.now column ≡ Some kind → IfOk result (λ value. fits kind value ≡ true) }
+    {
+        let row = ids.rows[column.0 as usize - 1];
+        self.table(catalog, column.0).value(row, column.1)
+    }
+
+    /// The table of an entry.
+    fn table<'a>(&self, catalog: &'a Catalog, entry: u8) -> &'a Table
+        requires block { IsBlock catalog.now self.now }
+        requires least { 1 ≤ entry }
+        requires most { entry ≤ length self.now.from }
+        ensures { table_of catalog.now self.now entry ≡ Some result.now }
+    {
+        catalog.table(self.from.items()[entry as usize - 1].0)
+    }
+}

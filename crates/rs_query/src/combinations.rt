@@ -1,0 +1,102 @@
+ghost use Rattle.std.specs.Prelude.{◌≡◌, ◌<◌, ◌≤◌, ◌+◌, ◌-◌, ◌^◌, ◌++◌, IfOk, OnOk, length, slice_set};
+ghost use Rattle.std.specs.List.{AllByRecursion};
+ghost use Rattle.rs_query.specs.Combinations.{all_combinations, satisfies};
+ghost use Rattle.rs_query.specs.Extending.{IsPrefix, combinations_from};
+ghost use Rattle.rs_query.specs.Tables.{HasRows, all_entries, size_of};
+ghost use Rattle.rs_query.specs.WellFormed.{IsBlock};
+
+use crate::block::Block;
+use rs_catalog::Catalog;
+use rs_rank::Ids;
+use rs_value::Memory;
+use std::alloc::Global;
+
+impl Block {
+    /// The combinations of all entries of which every conjunct holds, in lexicographic order: for each entry the number of
+    /// its row, counted from 1, and 0 past the last entry. A condition is looked at as soon as its entries have rows, so
+    /// the memory is that of the answer and not of the product.
+    pub fn combinations(&self, alloc: Global, catalog: &Catalog) -> Result<Vec<[u32; 6]>, Memory>
+        requires { IsBlock catalog.now self.now }
+        ensures value { IfOk result (λ rows. rows.items ≡ all_combinations catalog.now self.now) }
+        ensures each { IfOk result (λ rows. AllByRecursion (HasRows catalog.now self.now (all_entries self.now)) rows.items) }
+    {
+        let mut found = Vec::new(alloc);
+        self.extend(alloc, catalog, 0, [0; 6], &mut found)?;
+        Ok(found)
+    }
+
+    /// Finds the combinations whose rows at the first entries, `chosen` many, are these.
+    fn extend(
+        &self,
+        alloc: Global,
+        catalog: &Catalog,
+        chosen: u8,
+        rows: [u32; 6],
+        found: &mut Vec<[u32; 6]>,
+    ) -> Result<(), Memory>
+        requires block { IsBlock catalog.now self.now }
+        requires prefix { IsPrefix catalog.now self.now chosen rows }
+        ensures { OnOk result (found.new.items ≡ found.old.items ++ combinations_from catalog.now self.now chosen rows) }
+    {
+        if !self.prefix_holds(alloc, catalog, chosen, rows)? {
+            return Ok(());
+        }
+        if chosen as usize == self.from.len() {
+            found.push(rows)?;
+            return Ok(());
+        }
+        for row in 0..self.rows_at(catalog, chosen) {
+            let longer = with_row(rows, chosen, row + 1);
+            self.extend(alloc, catalog, chosen + 1, longer, found)?;
+        }
+        Ok(())
+    }
+
+    /// Whether all conjuncts hold that speak of the first entries alone, `chosen` many.
+    fn prefix_holds(
+        &self,
+        alloc: Global,
+        catalog: &Catalog,
+        chosen: u8,
+        rows: [u32; 6],
+    ) -> Result<bool, Memory>
+        requires block { IsBlock catalog.now self.now }
+        requires prefix { IsPrefix catalog.now self.now chosen rows }
+        ensures { IfOk result (λ holds. holds ≡ satisfies catalog.now self.now (2 ^ chosen - 1) rows) }
+    {
+        let mask = first_entries(chosen);
+        let ids = Ids {
+            block: 1,
+            mask,
+            rows,
+        };
+        self.holds(alloc, catalog, self.within(mask), &ids)
+    }
+
+    /// The number of rows of an entry, counted from 0.
+    fn rows_at(&self, catalog: &Catalog, place: u8) -> u32
+        requires block { IsBlock catalog.now self.now }
+        requires within { place < length self.now.from }
+        ensures { result ≡ size_of catalog.now self.now (place + 1) }
+    {
+        let (table, _) = &self.from.items()[place as usize];
+        catalog.table(*table).len()
+    }
+}
+
+/// The mask of the first entries, so many.
+fn first_entries(count: u8) -> u8
+    requires { count ≤ 6 }
+    ensures { result ≡ 2 ^ count - 1 }
+{
+    (1 << count) - 1
+}
+
+/// The rows with another one at a place.
+fn with_row(mut rows: [u32; 6], place: u8, row: u32) -> [u32; 6]
+    requires { place < 6 }
+    ensures { result ≡ slice_set rows place row }
+{
+    rows[place as usize] = row;
+    rows
+}

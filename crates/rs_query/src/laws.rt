@@ -1,0 +1,55 @@
+//! What combinations are, and which rows the parts of a block depend on: laws that hold of every catalogue and block. The
+//! functions compute nothing; each is called for its contract.
+
+ghost use Rattle.std.specs.Prelude.{◌≡◌, ℕ, ◌≤◌, ◌↔◌, List, true};
+ghost use Rattle.std.specs.Cmp.Lexicographic.{slice_cmp};
+ghost use Rattle.std.specs.Ordering.{nat_cmp};
+ghost use Rattle.rs_order.specs.Climbing.{Climbs, In};
+ghost use Rattle.rs_rank.specs.Masks.{has_number};
+ghost use Rattle.rs_catalog.specs.Catalogue.{Catalogue};
+ghost use Rattle.rs_query.specs.Answers.{Answering, number_of, worth_of};
+ghost use Rattle.rs_query.specs.Choices.{AgreeOn, IsChoice};
+ghost use Rattle.rs_query.specs.Combinations.{combinations, satisfies};
+ghost use Rattle.rs_query.specs.Conjuncts.{ConjunctDef};
+ghost use Rattle.rs_query.specs.Meaning.{args_of, cell_of, conjunct_holds, is_inside, outputs_of};
+ghost use Rattle.rs_query.specs.WellFormed.{IsBlock, entries_of};
+ghost use Rattle.rs_query.specs.declared.block.Block.{Block as Bound};
+ghost use Rattle.rs_query.specs.declared.term.Term.{Term as BoundTerm};
+
+/// The combinations of the entries in a mask are the choices of a row for each of them for which all conjuncts hold that
+/// speak of these entries alone.
+pub fn combinations_are_choices_that_satisfy()
+    ensures { (catalogue : Catalogue) (block : Bound) (sizes : List ℕ) (mask : ℕ) (rows : List ℕ)
+        → In rows (combinations catalogue block sizes mask)
+        ↔ (IsChoice mask sizes rows × (satisfies catalogue block mask rows ≡ true)) }
+{}
+
+/// Combinations rise strictly in lexicographic order. With the law above this determines the list of them.
+pub fn combinations_climb()
+    ensures { (catalogue : Catalogue) (block : Bound) (sizes : List ℕ) (mask : ℕ)
+        → Climbs (slice_cmp nat_cmp) (λ rows. rows) (combinations catalogue block sizes mask) }
+{}
+
+/// Of two lists of row numbers that have the same at each entry in a mask, what speaks of these entries alone is the same:
+/// whether a conjunct holds, the arguments of a term, and with them the number and the worth that a scorer gives it, and
+/// the values of output columns.
+pub fn parts_are_local()
+    ensures conjunct { (catalogue : Catalogue) (block : Bound) (mask : ℕ) (xs ys : List ℕ) (conjunct : ConjunctDef)
+        → IsBlock catalogue block → AgreeOn mask xs ys → In conjunct block.conjuncts → is_inside conjunct.entries mask ≡ true
+        → conjunct_holds catalogue block xs conjunct ≡ conjunct_holds catalogue block ys conjunct }
+    ensures args { (catalogue : Catalogue) (block : Bound) (mask : ℕ) (xs ys : List ℕ) (term : BoundTerm)
+        → IsBlock catalogue block → AgreeOn mask xs ys → In term block.terms → is_inside term.entries mask ≡ true
+        → args_of catalogue block xs term ≡ args_of catalogue block ys term }
+    ensures number { (answer : Answering) (catalogue : Catalogue) (block : Bound) (mask : ℕ) (xs ys : List ℕ) (term : BoundTerm)
+        → IsBlock catalogue block → AgreeOn mask xs ys → In term block.terms → is_inside term.entries mask ≡ true
+        → number_of answer catalogue block xs term ≡ number_of answer catalogue block ys term }
+    ensures worth { (answer : Answering) (catalogue : Catalogue) (block : Bound) (mask : ℕ) (xs ys : List ℕ) (term : BoundTerm)
+        → IsBlock catalogue block → AgreeOn mask xs ys → In term block.terms → is_inside term.entries mask ≡ true
+        → worth_of answer catalogue block xs term ≡ worth_of answer catalogue block ys term }
+    ensures output { (catalogue : Catalogue) (block : Bound) (mask : ℕ) (xs ys : List ℕ) (column : ℕ × ℕ)
+        → IsBlock catalogue block → AgreeOn mask xs ys → In column block.items → has_number mask column.0 ≡ true
+        → cell_of catalogue block xs column ≡ cell_of catalogue block ys column }
+    ensures outputs { (catalogue : Catalogue) (block : Bound) (mask : ℕ) (xs ys : List ℕ)
+        → IsBlock catalogue block → AgreeOn mask xs ys → is_inside (entries_of block.items) mask ≡ true
+        → outputs_of catalogue block xs ≡ outputs_of catalogue block ys }
+{}

@@ -1,0 +1,22 @@
+//! Bound queries: what their parts stand for among the tables of a catalogue, and what their answers are.
+#![tactic(auto)]
+
+mod block;
+mod calls;
+#[cfg(test)]
+mod combination_tests;
+mod combinations;
+mod conjunct;
+mod inside;
+mod laws;
+mod masks;
+mod query;
+mod term;
+mod weights;
+
+pub use block::Block;
+pub use conjunct::Conjunct;
+pub use inside::parts_are_inside;
+pub use laws::{combinations_are_choices_that_satisfy, combinations_climb, parts_are_local};
+pub use query::Query;
+pub use term::Term;
