@@ -1,12 +1,29 @@
-pub mod IndexFacts
-pub mod NameFacts
-pub mod PlaceFacts
-pub mod RuleFacts
-pub mod StepFacts
-pub mod TypingFacts
-pub mod UsesFacts
 mod WorkedIndexes
 mod WorkedNames
 mod WorkedTyping
 mod WorkedWritten
+pub mod ArgFacts
+pub mod ArgumentFacts
+pub mod ColumnFacts
+pub mod ConjunctFacts
+pub mod EachFacts
+pub mod EntryFacts
+pub mod FilterFacts
+pub mod FormedFacts
+pub mod IndexFacts
+pub mod MaskFacts
+pub mod NameFacts
+pub mod NumberingFacts
+pub mod OutputFacts
+pub mod PlaceFacts
+pub mod ResultFacts
+pub mod RuleFacts
+pub mod SameTermFacts
+pub mod SourceFacts
+pub mod StepFacts
+pub mod TermFacts
+pub mod TermSteps
+pub mod TypingFacts
+pub mod UnrankedFacts
+pub mod UsesFacts
 pub mod WrittenFacts

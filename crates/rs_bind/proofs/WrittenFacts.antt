@@ -1,6 +1,6 @@
 -- The statements that the tokens of a script parse to are well written.
 use Rattle.std.proofs.Common.{ℕ, zero, suc, ◌≡◌, ◌≤◌, List, [], ◌∷◌, ◌++◌, length, Bool, true, false, refl, sym, subst, arith}
-use Rattle.std.specs.Prelude.{ℤ, pos, negsuc, nat_abs, neg_ℤ, map, if◌then◌else◌}
+use Rattle.std.specs.Prelude.{ℤ, pos, negsuc, nat_abs, neg_ℤ, map, IfSome, if◌then◌else◌}
 use Rattle.std.specs.List.{AllByRecursion}
 use Rattle.std.proofs.lemmas.Int.{ints}
 use Rattle.rs_value.specs.Number.{greatest_int}
@@ -11,11 +11,12 @@ use Rattle.rs_grammar.specs.declared.lexeme.Lexeme.{Lexeme}
 use Rattle.rs_grammar.proofs.LexemeFacts.{IsFront-whole}
 use Rattle.rs_syntax.specs.Numbers.{IsNumber, AreNumbers}
 use Rattle.rs_syntax.specs.Scripts.{Parses}
-use Rattle.rs_syntax.specs.Statements.{signed_of, arg_in, arg_of, args_of, term_of, terms_of, select_of, columns_of, create_in, create_of, statement_in, statement_of, statements_of, script_of}
-use Rattle.rs_syntax.specs.Syntax.{Command, Explain, ExplainAnalyze}
-use Rattle.rs_syntax.specs.Trees.{leaf, last, part, inside, of_rule, last_of_rule, is_there, items_of, listed}
+use Rattle.rs_syntax.specs.Statements.{signed_of, arg_in, arg_of, args_of, term_of, terms_of, block_of, right_of, select_of, columns_of, create_in, create_of, statement_in, statement_of, statements_of, script_of}
+use Rattle.rs_syntax.specs.Syntax.{Block, Command, Explain, ExplainAnalyze}
+use Rattle.rs_syntax.specs.Trees.{leaf, last, part, inside, of_rule, last_of_rule, if_there, is_there, items_of, listed}
+use Rattle.rs_syntax.specs.declared.select.SetOp.{SetOp}
 use Rattle.rs_syntax.proofs.Numbers.{AreNumbers-lexemes}
-use Rattle.rs_bind.specs.Written.{IsWrittenArg, AreWrittenArgs, IsWrittenTerm, IsWrittenQuery, IsWritten, AreWritten}
+use Rattle.rs_bind.specs.Written.{IsWrittenArg, AreWrittenArgs, IsWrittenBlock, IsWrittenTerm, IsWrittenQuery, IsWritten, AreWritten}
 
 -- the numbers of a tree's tokens are such that a script can write them
 abbrev HasNumbers : Tree → Type 0
@@ -117,8 +118,20 @@ terms_of-written : (t : Tree) → HasNumbers t → AllByRecursion IsWrittenTerm 
 terms_of-written t h =
     AllByRecursion-listed IsWrittenTerm term_of (λ u k. args_of-written (of_rule 3 u) (HasNumbers-of_rule 3 u k)) (inside t) (HasNumbers-inside t h)
 
+-- a block has a FROM entry
+block_of-written : (t : Tree) → IsWrittenBlock (block_of t)
+block_of-written t = omega arith
+
+right_of-written : (t : Tree) → IfSome (if_there right_of t) (λ (second : SetOp × Block). IsWrittenBlock second.1)
+right_of-written (This t) = block_of-written (last 1 t)
+right_of-written t = tt
+
 select_of-written : (t : Tree) → HasNumbers t → IsWrittenQuery (select_of t)
-select_of-written t h = terms_of-written (of_rule 4 t) (HasNumbers-of_rule 4 t h)
+select_of-written t h = record {
+  left = block_of-written (of_rule 0 t);
+  right = right_of-written (of_rule 1 t);
+  terms = terms_of-written (of_rule 4 t) (HasNumbers-of_rule 4 t h);
+}
 
 -- statements
 create_in-written : (t : Tree) → HasNumbers t → IsWritten (create_in t)

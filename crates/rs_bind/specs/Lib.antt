@@ -5,3 +5,8 @@ pub mod Rules
 pub mod Predicates
 pub mod Indexes
 pub mod Views
+pub mod Sources
+pub mod Conditions
+pub mod Queries
+pub mod Terms
+pub mod Limits

@@ -1,10 +1,11 @@
 -- What the statements of a script hold, beyond their types.
-use Rattle.std.specs.Prelude.{nat_abs, ◌≤◌, List, length}
+use Rattle.std.specs.Prelude.{nat_abs, ◌≤◌, List, length, IfSome}
 use Rattle.std.specs.List.{AllByRecursion}
 use Rattle.rs_value.specs.Number.{greatest_int}
-use Rattle.rs_syntax.specs.Syntax.{Query, Command, CreateTable, CreatePredicate, CreateRankIndex, Ask, Declare, Fetch, Close, Explain, ExplainAnalyze}
+use Rattle.rs_syntax.specs.Syntax.{Block, Query, Command, CreateTable, CreatePredicate, CreateRankIndex, Ask, Declare, Fetch, Close, Explain, ExplainAnalyze}
 use Rattle.rs_syntax.specs.declared.name.Arg.{Arg}
 use Rattle.rs_syntax.specs.declared.name.Arg.TheVariants.{Column, Int, Text}
+use Rattle.rs_syntax.specs.declared.select.SetOp.{SetOp}
 use Rattle.rs_syntax.specs.declared.select.TermSyn.{TermSyn}
 
 -- an argument that is a number is in range
@@ -20,9 +21,15 @@ AreWrittenArgs args = AllByRecursion IsWrittenArg args
 abbrev pub IsWrittenTerm : TermSyn → Type 0
 IsWrittenTerm term = AreWrittenArgs term.args
 
--- the arguments of each term of a query are such
-abbrev pub IsWrittenQuery : Query → Type 0
-IsWrittenQuery query = AllByRecursion IsWrittenTerm query.terms
+-- a block has a FROM entry
+abbrev pub IsWrittenBlock : Block → Type 0
+IsWrittenBlock block = 1 ≤ length block.from
+
+-- the blocks of a query, and the arguments of each of its terms, are such
+pub record IsWrittenQuery (query : Query) : Type 0 where
+  pub left : IsWrittenBlock query.left
+  pub right : IfSome query.right (λ (second : SetOp × Block). IsWrittenBlock second.1)
+  pub terms : AllByRecursion IsWrittenTerm query.terms
 
 -- a table has a column, a predicate a parameter, and the numbers among arguments are in range
 abbrev pub IsWritten : Command → Type 0

@@ -2,24 +2,36 @@
 #![tactic(auto)]
 
 mod columns;
+mod count;
 mod fault;
+mod filter;
+mod from;
 mod index;
+mod items;
 mod laws;
 mod names;
+mod outputs;
 mod predicate;
+mod query;
+mod renumber;
 mod rules;
 mod scope;
+mod sources;
 mod table;
 mod term;
+mod terms;
 #[cfg(test)]
 mod tests;
 mod typed;
 mod typing;
+mod unranked;
 mod written;
 
+pub use count::bind_count;
 pub use fault::{BindFault, Why};
 pub use index::bind_index;
 pub use laws::expressions_are_typed_by_rules;
 pub use predicate::bind_predicate;
+pub use query::bind;
 pub use table::bind_table;
 pub use written::statements_are_written;

@@ -2,6 +2,7 @@
 
 mod indexes;
 mod predicates;
+mod queries;
 
 use crate::{expressions_are_typed_by_rules, statements_are_written};
 

@@ -15,7 +15,7 @@ use std::process::Abort;
 use std::test::Fail;
 
 /// The statements of a script.
-fn parsed(rt: &impl Abort, alloc: Global, script: &str) -> Result<Vec<Statement>, Fail>
+pub(super) fn parsed(rt: &impl Abort, alloc: Global, script: &str) -> Result<Vec<Statement>, Fail>
     ensures { IfOk result (λ made. AreWritten (commands_of made.items)) }
 {
     let text = Text::from_bytes(alloc, script.as_bytes())?;
@@ -44,7 +44,7 @@ fn bound(
 }
 
 /// Adds a table of these columns, without rows.
-fn add_table(
+pub(super) fn add_table(
     rt: &impl Abort,
     alloc: Global,
     catalog: &mut Catalog,
@@ -87,7 +87,7 @@ fn add_predicate(
 
 /// The tables u (x TEXT) and t (x INT, y INT, s TEXT), and the predicates p (v INT), near (a INT, b INT), name (s TEXT) and
 /// tag (v INT, s TEXT).
-fn catalog(rt: &impl Abort, alloc: Global) -> Result<Catalog, Fail> {
+pub(super) fn catalog(rt: &impl Abort, alloc: Global) -> Result<Catalog, Fail> {
     let mut catalog = Catalog::new(alloc);
     add_table(rt, alloc, &mut catalog, "u", &[("x", Kind::Text)])?;
     add_table(
