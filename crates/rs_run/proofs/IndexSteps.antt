@@ -24,19 +24,19 @@ use Rattle.rs_run.specs.Steps.{RanIndex, index_fault, no_files, run_of}
 use Rattle.rs_run.proofs.FetchFacts.{fault-at}
 use Rattle.rs_run.proofs.StepFacts.{Ran-all, Ran-first, Ran-still, Untouched, bound-ok, events-run_of, fault_in, step_of}
 
-calls-asks : (asked : List Call) → calls (map Ask asked) ≡ asked
+pub calls-asks : (asked : List Call) → calls (map Ask asked) ≡ asked
 calls-asks [] = refl
 calls-asks (call ∷ rest) = ap (λ more. call ∷ more) (calls-asks rest)
 
-fetches-asks : (asked : List Call) → fetches (map Ask asked) ≡ []
+pub fetches-asks : (asked : List Call) → fetches (map Ask asked) ≡ []
 fetches-asks [] = refl
 fetches-asks (call ∷ rest) = fetches-asks rest
 
-puts-asks : (asked : List Call) → puts (map Ask asked) ≡ []
+pub puts-asks : (asked : List Call) → puts (map Ask asked) ≡ []
 puts-asks [] = refl
 puts-asks (call ∷ rest) = puts-asks rest
 
-asks-append : (a b : List Call) → map Ask (a ++ b) ≡ map Ask a ++ map Ask b
+pub asks-append : (a b : List Call) → map Ask (a ++ b) ≡ map Ask a ++ map Ask b
 asks-append [] b = refl
 asks-append (call ∷ rest) b = ap (λ more. Ask call ∷ more) (asks-append rest b)
 
@@ -48,14 +48,14 @@ none-put : (asked : List Call) → no_out.after ≡ option_map (λ pieces. piece
 none-put asked = rw (puts-asks asked) refl
 
 -- all calls were made
-Ran-asks : (asked : List Call) (outcome : Result Catalogue Fault) (result : Result (Unit {0}) Fault) (scorer : ScorerSeen) (ss : Type 0) → Asks asked scorer
+pub Ran-asks : (asked : List Call) (outcome : Result Catalogue Fault) (result : Result (Unit {0}) Fault) (scorer : ScorerSeen) (ss : Type 0) → Asks asked scorer
     → Answers (fault_in outcome) result ⊎ (result ≡ Err Memory) → Ran (run_of (step_of (map Ask asked) outcome)) result no_files scorer no_out (Unit {0}) ss (Unit {0})
 Ran-asks asked outcome result scorer ss asks answers =
     Ran-all (map Ask asked) outcome result no_files scorer no_out (Unit {0}) ss (Unit {0}) (none-fetched asked)
     (subst (λ made. Asks made scorer) (sym (append-nil (calls (map Ask asked)) ∙ calls-asks asked)) asks) (none-put asked) answers
 
 -- there was no memory to go on with the calls
-Ran-some_asks : (all done rest : List Call) (outcome : Result Catalogue Fault) (scorer : ScorerSeen) (ss : Type 0) → all ≡ done ++ rest → Asks done scorer
+pub Ran-some_asks : (all done rest : List Call) (outcome : Result Catalogue Fault) (scorer : ScorerSeen) (ss : Type 0) → all ≡ done ++ rest → Asks done scorer
     → Ran (run_of (step_of (map Ask all) outcome)) (Err Memory) no_files scorer no_out (Unit {0}) ss (Unit {0})
 Ran-some_asks all done rest outcome scorer ss split asks = record {
   halt = NoMemory;
@@ -72,7 +72,7 @@ Ran-some_asks all done rest outcome scorer ss split asks = record {
 }
 
 -- a call failed
-Ran-failed_ask : (all done rest : List Call) (failed : Call) (outcome : Result Catalogue Fault) (result : Result (Unit {0}) Fault) (scorer : ScorerSeen) (ss : Type 0)
+pub Ran-failed_ask : (all done rest : List Call) (failed : Call) (outcome : Result Catalogue Fault) (result : Result (Unit {0}) Fault) (scorer : ScorerSeen) (ss : Type 0)
     → all ≡ (done ++ failed ∷ rest) → Asks (done ++ failed ∷ []) scorer → ScorerFaulted scorer ss → (result ≡ Err (Probe failed.predicate)) ⊎ (result ≡ Err Memory)
     → Ran (run_of (step_of (map Ask all) outcome)) result no_files scorer no_out (Unit {0}) ss (Unit {0})
 Ran-failed_ask all done rest failed outcome result scorer ss split asks faulted answers = record {

@@ -16,27 +16,27 @@ use Rattle.rs_bind.specs.Written.{AreWritten, IsWritten}
 use Rattle.rs_run.specs.declared.fault.Fault.{Fault}
 use Rattle.rs_outside.specs.declared.files.FetchFault.TheVariants.{Failed}
 use Rattle.rs_run.specs.declared.fault.Fault.TheVariants.{Memory, Probe, Read, Write}
-use Rattle.rs_run.specs.Outcome.{Seen, Faulted, Ended, NoMemory, PutFailed, FetchFailed, CallFailed, Halt, HaltsAt, Did, Ran, QuietlyRan, Answers, call_of, fault_of, fetched_more, name_of, no_out, piece_of, seen}
+use Rattle.rs_run.specs.Outcome.{Seen, Faulted, Ended, NoMemory, PutFailed, FetchFailed, CallFailed, Halt, HaltsAt, Did, Ran, Answers, call_of, fault_of, fetched_more, name_of, piece_of, seen}
 use Rattle.rs_run.specs.Run.{Answering, Event, Finds, Run, behind, calls, fetches, finds_in, puts}
 use Rattle.rs_run.specs.Run as run
 use Rattle.rs_run.specs.Statements.{Does, DoesTable, RunOf, RunsOn, Step, refused_or, index_step, predicate_outcome, still, with_room, table_step}
 use Rattle.rs_run.specs.Steps.{Keeps, KeepsScorer, RanStatements, Stepped, run_of, seen_scorer}
-use Rattle.rs_run.proofs.RunFacts.{fetched_more-nil}
+use Rattle.rs_run.proofs.RunFacts.{fetched_more-nil, pieces-append, pieces-nil}
 use Rattle.rs_run.proofs.StepFacts.{events-run_of, some-table, step_of}
 
-fetches-append : (a b : List Event) → fetches (a ++ b) ≡ fetches a ++ fetches b
+pub fetches-append : (a b : List Event) → fetches (a ++ b) ≡ fetches a ++ fetches b
 fetches-append [] b = refl
 fetches-append (run.Fetch name ∷ rest) b = ap (λ more. name ∷ more) (fetches-append rest b)
 fetches-append (run.Ask call ∷ rest) b = fetches-append rest b
 fetches-append (run.Put bytes ∷ rest) b = fetches-append rest b
 
-calls-append : (a b : List Event) → calls (a ++ b) ≡ calls a ++ calls b
+pub calls-append : (a b : List Event) → calls (a ++ b) ≡ calls a ++ calls b
 calls-append [] b = refl
 calls-append (run.Fetch name ∷ rest) b = calls-append rest b
 calls-append (run.Ask call ∷ rest) b = ap (λ more. call ∷ more) (calls-append rest b)
 calls-append (run.Put bytes ∷ rest) b = calls-append rest b
 
-puts-append : (a b : List Event) → puts (a ++ b) ≡ puts a ++ puts b
+pub puts-append : (a b : List Event) → puts (a ++ b) ≡ puts a ++ puts b
 puts-append [] b = refl
 puts-append (run.Fetch name ∷ rest) b = puts-append rest b
 puts-append (run.Ask call ∷ rest) b = puts-append rest b
@@ -134,7 +134,7 @@ fault-broken a b (FetchFailed name) unended = refl
 fault-broken a b (CallFailed call) unended = refl
 
 -- a run that broke off is the beginning of each run that goes on from it
-Ran-longer : (events : List Event) (more : Run) (fault : Fault) (files : Seen FilesTold) (scorer : ScorerSeen) (out : Seen (List (List ℕ))) (fs ss os : Type 0)
+pub Ran-longer : (events : List Event) (more : Run) (fault : Fault) (files : Seen FilesTold) (scorer : ScorerSeen) (out : Seen (List (List ℕ))) (fs ss os : Type 0)
     → Ran (record { events = events; fault = None }) (Err fault) files scorer out fs ss os → Ran (behind events more) (Err fault) files scorer out fs ss os
 Ran-longer events more fault files scorer out fs ss os ran = record {
   halt = ran.halt;
@@ -153,13 +153,10 @@ Ran-longer events more fault files scorer out fs ss os ran = record {
   unended e = let answers = subst (λ halt. Answers (fault_of (record { events = events; fault = None }) halt) (Err fault)) e ran.answers in cc
 
 -- all events of a run without a fault were done where its answer is Ok
-pub record Done (events : List Event) (files : Seen FilesTold) (scorer : ScorerSeen) : Type 0 where
+pub record Done (events : List Event) (files : Seen FilesTold) (scorer : ScorerSeen) (out : Seen (List (List ℕ))) : Type 0 where
   pub fetched : files.after ≡ option_map (fetched_more (fetches events)) files.before
   pub called : Asks (calls events) scorer
-  pub put : puts events ≡ []
-
-quiet-put : (made : List (List ℕ)) → ◌≡◌ {A = Option (List (List ℕ))} (Some []) (Some ([] ++ made)) → made ≡ []
-quiet-put made e = cc
+  pub put : out.after ≡ option_map (λ pieces. pieces ++ puts events) out.before
 
 some-ok : (fault : Fault) → Answers (Some fault) (Ok tt) → ⊥
 some-ok fault (inl e) = cc
@@ -170,26 +167,27 @@ unfaulted None answers = refl
 unfaulted (Some fault) answers = absurd (some-ok fault answers)
 
 -- such a run had no fault
-record DoneWell (run : Run) (files : Seen FilesTold) (scorer : ScorerSeen) : Type 0 where
-  pub all : Done run.events files scorer
+record DoneWell (run : Run) (files : Seen FilesTold) (scorer : ScorerSeen) (out : Seen (List (List ℕ))) : Type 0 where
+  pub all : Done run.events files scorer out
   pub well : run.fault ≡ None
 
-Ran-done : (run : Run) (files : Seen FilesTold) (scorer : ScorerSeen) (fs ss : Type 0) → QuietlyRan run (Ok tt) files scorer fs ss → DoneWell run files scorer
-Ran-done run files scorer fs ss ran = go ran.halt refl where
+Ran-done : (run : Run) (files : Seen FilesTold) (scorer : ScorerSeen) (out : Seen (List (List ℕ))) (fs ss os : Type 0) → Ran run (Ok tt) files scorer out fs ss os
+    → DoneWell run files scorer out
+Ran-done run files scorer out fs ss os ran = go ran.halt refl where
   answers-at : (halt : Halt) → ran.halt ≡ halt → Answers (fault_of run halt) (Ok tt)
   answers-at halt e = subst (λ halt. Answers (fault_of run halt) (Ok tt)) e ran.answers
 
-  go : (halt : Halt) → ran.halt ≡ halt → DoneWell run files scorer
+  go : (halt : Halt) → ran.halt ≡ halt → DoneWell run files scorer out
   go Ended e =
-      let none : ran.did.rest ≡ [] = subst (λ halt. HaltsAt halt ran.did.rest files scorer no_out fs ss (Unit {0})) e ran.did.halts in
+      let none : ran.did.rest ≡ [] = subst (λ halt. HaltsAt halt ran.did.rest files scorer out fs ss os) e ran.did.halts in
       let all : run.events ≡ ran.did.done = ran.did.split ∙ ap (λ rest. ran.did.done ++ rest) none ∙ append-nil ran.did.done in
       record {
         all = record {
           fetched = ran.did.fetched ∙ ap (λ names. option_map (fetched_more names) files.before)
               (ap (λ halt. fetches ran.did.done ++ name_of halt) e ∙ append-nil (fetches ran.did.done) ∙ ap fetches (sym all));
           called = subst (λ made. Asks made scorer) (ap (λ halt. calls ran.did.done ++ call_of halt) e ∙ append-nil (calls ran.did.done) ∙ ap calls (sym all)) ran.did.called;
-          put = ap puts all ∙ sym (append-nil (puts ran.did.done)) ∙ ap (λ halt. puts ran.did.done ++ piece_of halt) (sym e)
-              ∙ quiet-put (puts ran.did.done ++ piece_of ran.halt) ran.did.put;
+          put = ran.did.put ∙ ap (λ more. option_map (λ pieces. pieces ++ more) out.before)
+              (ap (λ halt. puts ran.did.done ++ piece_of halt) e ∙ append-nil (puts ran.did.done) ∙ ap puts (sym all));
         };
         well = unfaulted run.fault (answers-at Ended e);
       }
@@ -199,16 +197,17 @@ Ran-done run files scorer fs ss ran = go ran.halt refl where
   go (CallFailed call) e = absurd (some-ok (Probe call.predicate) (answers-at (CallFailed call) e))
 
 -- events that were done, and a run behind them
-HaltsAt-later : (halt : Halt) (rest : List Event) (tb tm te : Option FilesTold) (fb fm fe : ℕ) (sb sm se : Option (List Call)) (cb cm ce xb xm xe : ℕ) (fs fs_mid ss ss_mid : Type 0)
-    → fb ≤ fm → (fs → fs_mid) → xb ≤ xm → (ss → ss_mid)
-    → HaltsAt halt rest (seen tm te fm fe) (seen_scorer sm se cm ce xm xe) no_out fs_mid ss_mid (Unit {0})
-    → HaltsAt halt rest (seen tb te fb fe) (seen_scorer sb se cb ce xb xe) no_out fs ss (Unit {0})
-HaltsAt-later Ended rest tb tm te fb fm fe sb sm se cb cm ce xb xm xe fs fs_mid ss ss_mid le stays more keeps halts = halts
-HaltsAt-later NoMemory rest tb tm te fb fm fe sb sm se cb cm ce xb xm xe fs fs_mid ss ss_mid le stays more keeps halts = tt
-HaltsAt-later (PutFailed part) rest tb tm te fb fm fe sb sm se cb cm ce xb xm xe fs fs_mid ss ss_mid le stays more keeps halts = halts
-HaltsAt-later (FetchFailed name) rest tb tm te fb fm fe sb sm se cb cm ce xb xm xe fs fs_mid ss ss_mid le stays more keeps halts =
+HaltsAt-later : (halt : Halt) (rest : List Event) (tb tm te : Option FilesTold) (fb fm fe : ℕ) (sb sm se : Option (List Call)) (cb cm ce xb xm xe : ℕ) (pb pm pe : Option (List (List ℕ))) (gb gm ge : ℕ)
+    (fs fs_mid ss ss_mid os os_mid : Type 0) → fb ≤ fm → (fs → fs_mid) → xb ≤ xm → (ss → ss_mid) → gb ≤ gm → (os → os_mid)
+    → HaltsAt halt rest (seen tm te fm fe) (seen_scorer sm se cm ce xm xe) (seen pm pe gm ge) fs_mid ss_mid os_mid
+    → HaltsAt halt rest (seen tb te fb fe) (seen_scorer sb se cb ce xb xe) (seen pb pe gb ge) fs ss os
+HaltsAt-later Ended rest tb tm te fb fm fe sb sm se cb cm ce xb xm xe pb pm pe gb gm ge fs fs_mid ss ss_mid os os_mid le stays more keeps up holds halts = halts
+HaltsAt-later NoMemory rest tb tm te fb fm fe sb sm se cb cm ce xb xm xe pb pm pe gb gm ge fs fs_mid ss ss_mid os os_mid le stays more keeps up holds halts = tt
+HaltsAt-later (PutFailed part) rest tb tm te fb fm fe sb sm se cb cm ce xb xm xe pb pm pe gb gm ge fs fs_mid ss ss_mid os os_mid le stays more keeps up holds halts =
+    (halts.0, halts.1, halts.2, halts.3, record { rose = Rose-from gb gm ge up halts.4.rose; unsteady = λ s. halts.4.unsteady (holds s) })
+HaltsAt-later (FetchFailed name) rest tb tm te fb fm fe sb sm se cb cm ce xb xm xe pb pm pe gb gm ge fs fs_mid ss ss_mid os os_mid le stays more keeps up holds halts =
     (halts.0, halts.1, record { rose = Rose-from fb fm fe le halts.2.rose; unsteady = λ s. halts.2.unsteady (stays s) })
-HaltsAt-later (CallFailed call) rest tb tm te fb fm fe sb sm se cb cm ce xb xm xe fs fs_mid ss ss_mid le stays more keeps halts =
+HaltsAt-later (CallFailed call) rest tb tm te fb fm fe sb sm se cb cm ce xb xm xe pb pm pe gb gm ge fs fs_mid ss ss_mid os os_mid le stays more keeps up holds halts =
     (halts.0, halts.1, record { rose = Rose-from xb xm xe more halts.2.rose; unsteady = λ s. halts.2.unsteady (keeps s) })
 
 fault-behind : (made : List Event) (run : Run) (halt : Halt) → fault_of (behind made run) halt ≡ fault_of run halt
@@ -218,43 +217,48 @@ fault-behind made run (PutFailed part) = refl
 fault-behind made run (FetchFailed name) = refl
 fault-behind made run (CallFailed call) = refl
 
-pub Ran-behind : (made : List Event) (run : Run) (result : Result (Unit {0}) Fault) (tb tm te : Option FilesTold) (fb fm fe : ℕ) (sb sm se : Option (List Call)) (cb cm ce xb xm xe : ℕ) (fs fs_mid ss ss_mid : Type 0)
-    → Done made (seen tb tm fb fm) (seen_scorer sb sm cb cm xb xm) → fb ≤ fm → (fs → fs_mid) → xb ≤ xm → (ss → ss_mid)
-    → QuietlyRan run result (seen tm te fm fe) (seen_scorer sm se cm ce xm xe) fs_mid ss_mid
-    → QuietlyRan (behind made run) result (seen tb te fb fe) (seen_scorer sb se cb ce xb xe) fs ss
-Ran-behind made run result tb tm te fb fm fe sb sm se cb cm ce xb xm xe fs fs_mid ss ss_mid first le stays more keeps ran = record {
+pub Ran-behind : (made : List Event) (run : Run) (result : Result (Unit {0}) Fault) (tb tm te : Option FilesTold) (fb fm fe : ℕ) (sb sm se : Option (List Call)) (cb cm ce xb xm xe : ℕ)
+    (pb pm pe : Option (List (List ℕ))) (gb gm ge : ℕ) (fs fs_mid ss ss_mid os os_mid : Type 0)
+    → Done made (seen tb tm fb fm) (seen_scorer sb sm cb cm xb xm) (seen pb pm gb gm) → fb ≤ fm → (fs → fs_mid) → xb ≤ xm → (ss → ss_mid) → gb ≤ gm → (os → os_mid)
+    → Ran run result (seen tm te fm fe) (seen_scorer sm se cm ce xm xe) (seen pm pe gm ge) fs_mid ss_mid os_mid
+    → Ran (behind made run) result (seen tb te fb fe) (seen_scorer sb se cb ce xb xe) (seen pb pe gb ge) fs ss os
+Ran-behind made run result tb tm te fb fm fe sb sm se cb cm ce xb xm xe pb pm pe gb gm ge fs fs_mid ss ss_mid os os_mid first le stays more keeps up holds ran = record {
   halt = ran.halt;
   did = record {
     done = made ++ ran.did.done;
     rest = ran.did.rest;
     split = ap (λ rest. made ++ rest) ran.did.split ∙ sym (append_assoc made ran.did.done ran.did.rest);
-    halts = HaltsAt-later ran.halt ran.did.rest tb tm te fb fm fe sb sm se cb cm ce xb xm xe fs fs_mid ss ss_mid le stays more keeps ran.did.halts;
+    halts = HaltsAt-later ran.halt ran.did.rest tb tm te fb fm fe sb sm se cb cm ce xb xm xe pb pm pe gb gm ge fs fs_mid ss ss_mid os os_mid le stays more keeps up holds ran.did.halts;
     fetched = ran.did.fetched ∙ ap (option_map (fetched_more (fetches ran.did.done ++ name_of ran.halt))) first.fetched
         ∙ fetched_more-append (fetches made) (fetches ran.did.done ++ name_of ran.halt) tb
         ∙ ap (λ names. option_map (fetched_more names) tb) (sym (append_assoc (fetches made) (fetches ran.did.done) (name_of ran.halt)) ∙ ap (λ names. names ++ name_of ran.halt) (sym (fetches-append made ran.did.done)));
     called = subst (λ all. Asks all (seen_scorer sb se cb ce xb xe)) (sym (append_assoc (calls made) (calls ran.did.done) (call_of ran.halt)) ∙ ap (λ all. all ++ call_of ran.halt) (sym (calls-append made ran.did.done)))
         (Asks-append (calls made) (calls ran.did.done ++ call_of ran.halt) sb sm se cb cm ce xb xm xe first.called ran.did.called);
-    put = ran.did.put ∙ ap (λ pieces. Some (pieces ++ piece_of ran.halt)) (ap (λ none. none ++ puts ran.did.done) (sym first.put) ∙ sym (puts-append made ran.did.done));
+    put = ran.did.put ∙ ap (option_map (λ pieces. pieces ++ (puts ran.did.done ++ piece_of ran.halt))) first.put
+        ∙ pieces-append (puts made) (puts ran.did.done ++ piece_of ran.halt) pb
+        ∙ ap (λ all. option_map (λ pieces. pieces ++ all) pb) (sym (append_assoc (puts made) (puts ran.did.done) (piece_of ran.halt)) ∙ ap (λ all. all ++ piece_of ran.halt) (sym (puts-append made ran.did.done)));
   };
   answers = subst (λ fault. Answers fault result) (sym (fault-behind made run ran.halt)) ran.answers;
 }
 
 -- what the statements up to a place did, and what is left of the run
-pub record Between (told : Option FilesTold) (answer : Answering) (commands : List Command) (i : ℕ) (catalogue : Catalogue) (files : Seen FilesTold) (scorer : ScorerSeen) : Type 0 where
+pub record Between (told : Option FilesTold) (answer : Answering) (commands : List Command) (i : ℕ) (catalogue : Catalogue) (files : Seen FilesTold) (scorer : ScorerSeen)
+    (out : Seen (List (List ℕ))) : Type 0 where
   pub made : List Event
   pub leads : (run : Run) → RunOf (finds_in told) answer (suc i) catalogue (drop i commands) run → RunOf (finds_in told) answer 1 empty commands (behind made run)
-  pub done : Done made files scorer
+  pub done : Done made files scorer out
 
-pub Between-start : (told : Option FilesTold) (answer : Answering) (commands : List Command) (catalogue : Catalogue) (files : Seen FilesTold) (scorer : ScorerSeen) → catalogue ≡ empty
-    → files.after ≡ files.before → Asks [] scorer → Between told answer commands 0 catalogue files scorer
-Between-start told answer commands catalogue files scorer e same unasked = record {
+pub Between-start : (told : Option FilesTold) (answer : Answering) (commands : List Command) (catalogue : Catalogue) (files : Seen FilesTold) (scorer : ScorerSeen)
+    (out : Seen (List (List ℕ))) → catalogue ≡ empty → files.after ≡ files.before → Asks [] scorer → out.after ≡ out.before → Between told answer commands 0 catalogue files scorer out
+Between-start told answer commands catalogue files scorer out e same unasked unput = record {
   made = [];
   leads = λ run r. subst (λ catalogue. RunOf (finds_in told) answer 1 catalogue commands run) e r;
-  done = record { fetched = same ∙ fetched_more-nil files.before; called = unasked; put = refl };
+  done = record { fetched = same ∙ fetched_more-nil files.before; called = unasked; put = unput ∙ pieces-nil out.before };
 }
 
 module _ (told tm te : Option FilesTold) (answer answer_mid : Answering) (commands rest : List Command) (command : Command) (i : ℕ) (old new : Catalogue) (fb fm fe : ℕ) (sb sm se : Option (List Call)) (cb cm ce xb xm xe : ℕ)
-    (fs fs_mid ss ss_mid : Type 0) (between : Between told answer commands i old (seen told tm fb fm) (seen_scorer sb sm cb cm xb xm)) (same : answer_mid ≡ answer) (here : drop i commands ≡ command ∷ rest) where
+    (pb pm pe : Option (List (List ℕ))) (gb gm ge : ℕ) (fs fs_mid ss ss_mid os os_mid : Type 0)
+    (between : Between told answer commands i old (seen told tm fb fm) (seen_scorer sb sm cb cm xb xm) (seen pb pm gb gm)) (same : answer_mid ≡ answer) (here : drop i commands ≡ command ∷ rest) where
   -- the step of the next statement, over the files that were there at first
   Here : Step → Type 0
   Here step = Does (finds_in told) answer (suc i) old command step
@@ -270,13 +274,13 @@ module _ (told tm te : Option FilesTold) (answer answer_mid : Answering) (comman
   leads-step step does run on = between.leads run (subst (λ left. RunOf (finds_in told) answer (suc i) old left run) (sym here) (step, does, on))
 
   pub Between-next : (number : ℕ) → number ≡ suc i → drop (suc i) commands ≡ rest
-      → Stepped (finds_in tm) answer_mid number command old new (Ok tt) (seen tm te fm fe) (seen_scorer sm se cm ce xm xe) fs_mid ss_mid
-      → Between told answer commands number new (seen told te fb fe) (seen_scorer sb se cb ce xb xe)
+      → Stepped (finds_in tm) answer_mid number command old new (Ok tt) (seen tm te fm fe) (seen_scorer sm se cm ce xm xe) (seen pm pe gm ge) fs_mid ss_mid os_mid
+      → Between told answer commands number new (seen told te fb fe) (seen_scorer sb se cb ce xb xe) (seen pb pe gb ge)
   Between-next number is next stepped =
-      let well = Ran-done (run_of stepped.step) (seen tm te fm fe) (seen_scorer sm se cm ce xm xe) fs_mid ss_mid stepped.ran in
+      let well = Ran-done (run_of stepped.step) (seen tm te fm fe) (seen_scorer sm se cm ce xm xe) (seen pm pe gm ge) fs_mid ss_mid os_mid stepped.ran in
       let events : (run_of stepped.step).events ≡ stepped.step.events = events-run_of stepped.step.events stepped.step.outcome in
-      let all : Done stepped.step.events (seen tm te fm fe) (seen_scorer sm se cm ce xm xe) = subst (λ events. Done events (seen tm te fm fe) (seen_scorer sm se cm ce xm xe)) events well.all in
-      subst (λ n. Between told answer commands n new (seen told te fb fe) (seen_scorer sb se cb ce xb xe)) (sym is) (record {
+      let all : Done stepped.step.events (seen tm te fm fe) (seen_scorer sm se cm ce xm xe) (seen pm pe gm ge) = subst (λ events. Done events (seen tm te fm fe) (seen_scorer sm se cm ce xm xe) (seen pm pe gm ge)) events well.all in
+      subst (λ n. Between told answer commands n new (seen told te fb fe) (seen_scorer sb se cb ce xb xe) (seen pb pe gb ge)) (sym is) (record {
         made = between.made ++ stepped.step.events;
         leads = λ run r. subst (RunOf (finds_in told) answer 1 empty commands)
             (ap (λ (events : List Event). record { events = events; fault = run.fault }) (sym (append_assoc between.made stepped.step.events run.events)))
@@ -288,40 +292,42 @@ module _ (told tm te : Option FilesTold) (answer answer_mid : Answering) (comman
               ∙ fetched_more-append (fetches between.made) (fetches stepped.step.events) told ∙ ap (λ names. option_map (fetched_more names) told) (sym (fetches-append between.made stepped.step.events));
           called = subst (λ made. Asks made (seen_scorer sb se cb ce xb xe)) (sym (calls-append between.made stepped.step.events))
               (Asks-append (calls between.made) (calls stepped.step.events) sb sm se cb cm ce xb xm xe between.done.called all.called);
-          put = puts-append between.made stepped.step.events ∙ ap (λ none. none ++ puts stepped.step.events) between.done.put ∙ all.put;
+          put = all.put ∙ ap (option_map (λ pieces. pieces ++ puts stepped.step.events)) between.done.put
+              ∙ pieces-append (puts between.made) (puts stepped.step.events) pb ∙ ap (λ pieces. option_map (λ held. held ++ pieces) pb) (sym (puts-append between.made stepped.step.events));
         };
       })
 
-  pub RanStatements-stops : (number : ℕ) → number ≡ suc i → (fault : Fault) → fb ≤ fm → (fs → fs_mid) → xb ≤ xm → (ss → ss_mid)
-      → Stepped (finds_in tm) answer_mid number command old new (Err fault) (seen tm te fm fe) (seen_scorer sm se cm ce xm xe) fs_mid ss_mid
-      → RanStatements (finds_in told) answer commands (Err fault) (seen told te fb fe) (seen_scorer sb se cb ce xb xe) fs ss
-  RanStatements-stops number is fault le stays more keeps stepped = go stepped.step (does-here number is stepped.step stepped.does) stepped.ran stepped.step.outcome refl where
-    behind-made : (run : Run) → RunOf (finds_in told) answer 1 empty commands (behind between.made run) → QuietlyRan run (Err fault) (seen tm te fm fe) (seen_scorer sm se cm ce xm xe) fs_mid ss_mid
-        → RanStatements (finds_in told) answer commands (Err fault) (seen told te fb fe) (seen_scorer sb se cb ce xb xe) fs ss
+  pub RanStatements-stops : (number : ℕ) → number ≡ suc i → (fault : Fault) → fb ≤ fm → (fs → fs_mid) → xb ≤ xm → (ss → ss_mid) → gb ≤ gm → (os → os_mid)
+      → Stepped (finds_in tm) answer_mid number command old new (Err fault) (seen tm te fm fe) (seen_scorer sm se cm ce xm xe) (seen pm pe gm ge) fs_mid ss_mid os_mid
+      → RanStatements (finds_in told) answer commands (Err fault) (seen told te fb fe) (seen_scorer sb se cb ce xb xe) (seen pb pe gb ge) fs ss os
+  RanStatements-stops number is fault le stays more keeps up holds stepped = go stepped.step (does-here number is stepped.step stepped.does) stepped.ran stepped.step.outcome refl where
+    behind-made : (run : Run) → RunOf (finds_in told) answer 1 empty commands (behind between.made run) → Ran run (Err fault) (seen tm te fm fe) (seen_scorer sm se cm ce xm xe) (seen pm pe gm ge) fs_mid ss_mid os_mid
+        → RanStatements (finds_in told) answer commands (Err fault) (seen told te fb fe) (seen_scorer sb se cb ce xb xe) (seen pb pe gb ge) fs ss os
     behind-made run is ran = record {
       run = behind between.made run;
       is = is;
-      ran = Ran-behind between.made run (Err fault) told tm te fb fm fe sb sm se cb cm ce xb xm xe fs fs_mid ss ss_mid between.done le stays more keeps ran;
+      ran = Ran-behind between.made run (Err fault) told tm te fb fm fe sb sm se cb cm ce xb xm xe pb pm pe gb gm ge fs fs_mid ss ss_mid os os_mid between.done le stays more keeps up holds ran;
     }
 
-    go : (step : Step) → Here step → QuietlyRan (run_of step) (Err fault) (seen tm te fm fe) (seen_scorer sm se cm ce xm xe) fs_mid ss_mid → (outcome : Result Catalogue Fault) → step.outcome ≡ outcome
-        → RanStatements (finds_in told) answer commands (Err fault) (seen told te fb fe) (seen_scorer sb se cb ce xb xe) fs ss
+    go : (step : Step) → Here step → Ran (run_of step) (Err fault) (seen tm te fm fe) (seen_scorer sm se cm ce xm xe) (seen pm pe gm ge) fs_mid ss_mid os_mid → (outcome : Result Catalogue Fault) → step.outcome ≡ outcome
+        → RanStatements (finds_in told) answer commands (Err fault) (seen told te fb fe) (seen_scorer sb se cb ce xb xe) (seen pb pe gb ge) fs ss os
     go step does ran (Err own) e = behind-made (record { events = step.events; fault = Some own })
         (leads-step step does (record { events = step.events; fault = Some own })
         (subst (λ o. RunsOn (λ next more. RunOf (finds_in told) answer (suc (suc i)) next rest more) step.events o (record { events = step.events; fault = Some own })) (sym e) refl))
-        (subst (λ o. QuietlyRan (run_of (step_of step.events o)) (Err fault) (seen tm te fm fe) (seen_scorer sm se cm ce xm xe) fs_mid ss_mid) e ran)
+        (subst (λ o. Ran (run_of (step_of step.events o)) (Err fault) (seen tm te fm fe) (seen_scorer sm se cm ce xm xe) (seen pm pe gm ge) fs_mid ss_mid os_mid) e ran)
     go step does ran (Ok next) e =
         let later = some-run told answer (suc (suc i)) next rest in
         behind-made (behind step.events later.0)
         (leads-step step does (behind step.events later.0)
         (subst (λ o. RunsOn (λ next more. RunOf (finds_in told) answer (suc (suc i)) next rest more) step.events o (behind step.events later.0)) (sym e) (later.0, later.1, refl)))
-        (Ran-longer step.events later.0 fault (seen tm te fm fe) (seen_scorer sm se cm ce xm xe) no_out fs_mid ss_mid (Unit {0})
-        (subst (λ o. QuietlyRan (run_of (step_of step.events o)) (Err fault) (seen tm te fm fe) (seen_scorer sm se cm ce xm xe) fs_mid ss_mid) e ran))
+        (Ran-longer step.events later.0 fault (seen tm te fm fe) (seen_scorer sm se cm ce xm xe) (seen pm pe gm ge) fs_mid ss_mid os_mid
+        (subst (λ o. Ran (run_of (step_of step.events o)) (Err fault) (seen tm te fm fe) (seen_scorer sm se cm ce xm xe) (seen pm pe gm ge) fs_mid ss_mid os_mid) e ran))
 
 -- all statements were run
-pub RanStatements-all : (told : Option FilesTold) (answer : Answering) (commands : List Command) (i : ℕ) (catalogue : Catalogue) (files : Seen FilesTold) (scorer : ScorerSeen) (fs ss : Type 0)
-    → files.before ≡ told → drop i commands ≡ [] → Between told answer commands i catalogue files scorer → RanStatements (finds_in told) answer commands (Ok tt) files scorer fs ss
-RanStatements-all told answer commands i catalogue files scorer fs ss first none between = record {
+pub RanStatements-all : (told : Option FilesTold) (answer : Answering) (commands : List Command) (i : ℕ) (catalogue : Catalogue) (files : Seen FilesTold) (scorer : ScorerSeen)
+    (out : Seen (List (List ℕ))) (fs ss os : Type 0) → files.before ≡ told → drop i commands ≡ [] → Between told answer commands i catalogue files scorer out
+    → RanStatements (finds_in told) answer commands (Ok tt) files scorer out fs ss os
+RanStatements-all told answer commands i catalogue files scorer out fs ss os first none between = record {
   run = behind between.made (record { events = []; fault = None });
   is = between.leads (record { events = []; fault = None })
       (subst (λ left. RunOf (finds_in told) answer (suc i) catalogue left (record { events = []; fault = None })) (sym none) refl);
@@ -334,7 +340,7 @@ RanStatements-all told answer commands i catalogue files scorer fs ss first none
       halts = refl;
       fetched = between.done.fetched ∙ ap (λ names. option_map (fetched_more names) files.before) (ap fetches (sym (append-nil between.made)) ∙ sym (append-nil (fetches (between.made ++ []))));
       called = subst (λ made. Asks made scorer) (ap calls (sym (append-nil between.made)) ∙ sym (append-nil (calls (between.made ++ [])))) between.done.called;
-      put = ap Some (sym between.done.put ∙ ap puts (sym (append-nil between.made)) ∙ sym (append-nil (puts (between.made ++ []))));
+      put = between.done.put ∙ ap (λ more. option_map (λ pieces. pieces ++ more) out.before) (ap puts (sym (append-nil between.made)) ∙ sym (append-nil (puts (between.made ++ []))));
     };
     answers = refl;
   };

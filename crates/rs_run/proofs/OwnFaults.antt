@@ -11,7 +11,8 @@ use Rattle.rs_table.specs.Reading.{◌>>=◌, table_of}
 use Rattle.rs_table.specs.declared.fault.TableFault.{TableFault}
 use Rattle.rs_rank.specs.declared.scored_row.ScoredRow.{ScoredRow}
 use Rattle.rs_expr.specs.Scores.{is_score}
-use Rattle.rs_syntax.specs.Syntax.{Command, CreateTable, CreatePredicate, CreateRankIndex}
+use Rattle.rs_syntax.specs.Syntax.{Command, CreateTable, CreatePredicate, CreateRankIndex, Explain, ExplainAnalyze}
+use Rattle.rs_syntax.specs.Syntax as syntax
 use Rattle.rs_syntax.specs.declared.name.Name.{Name}
 use Rattle.rs_catalog.specs.Catalogue.{Catalogue, empty, room_for, with_predicate, with_table}
 use Rattle.rs_catalog.specs.Indexes as indexes
@@ -24,6 +25,12 @@ use Rattle.rs_catalog.specs.declared.room.What.TheVariants as what
 use Rattle.rs_bind.specs.Indexes.{index_def_of}
 use Rattle.rs_bind.specs.Names.{columns_of}
 use Rattle.rs_bind.specs.Predicates.{predicate_of}
+use Rattle.rs_bind.specs.Queries.{bound_query}
+use Rattle.rs_query.specs.declared.query.Query.{Query}
+use Rattle.rs_plain.specs.Plain.{Question, evaluation_of, first_of, is_bad, questions_of}
+use Rattle.rs_plain.specs.declared.fault.PlainFault.{PlainFault}
+use Rattle.rs_plain.specs.declared.fault.PlainFault.TheVariants as plain
+use Rattle.rs_rank.specs.declared.answer.Answer.{Answer}
 use Rattle.rs_bind.specs.declared.fault.BindFault.{BindFault}
 use Rattle.rs_bind.specs.declared.fault.BindFault.TheVariants as bind
 use Rattle.rs_run.specs.declared.fault.Fault.{Fault}
@@ -34,7 +41,8 @@ use Rattle.rs_run.specs.Top.{or_table_fault, table_limit, named_table, top_table
 use Rattle.rs_run.specs.Plain.{ScriptRuns, TextRuns, unlexed, unparsed, runs, unread, read, or_text_fault, script_limit, source_of, without_mark}
 use Rattle.rs_run.specs.Run.{Answering, Event, Finds, Run, fetch_then}
 use Rattle.rs_run.specs.Running.{IsRun, IsRunOf, IsCut}
-use Rattle.rs_run.specs.Statements.{Does, DoesTable, RunOf, RunsOn, Step, index_outcome, index_step, or_bind_fault, or_room_fault, refused_or, table_step, with_room}
+use Rattle.rs_run.specs.Faults.{only}
+use Rattle.rs_run.specs.Statements.{Does, DoesTable, RunOf, RunsOn, Step, explain_outcome, index_outcome, index_step, or_bind_fault, or_room_fault, query_outcome, query_step, refused_or, table_step, with_room}
 
 -- the faults of `top` and of `plain`
 IsOwn : Fault → Type 0
@@ -87,7 +95,7 @@ Own-scored : (column : List ℕ) (max place row : ℕ) (rows : List (List Value)
 unfolding Own IsOwn
 Own-scored column max place row [] = tt
 Own-scored column max place row (values ∷ rest) =
-    elim (is_score max (number_at place values)) as (λ b. Own (if b then (scored_from column max place (row + 1) rest >>= (λ rows. Ok (values ∷ rows))) else Err (BadScore column row (number_at place values) max))) [
+    elim (is_score max (number_at place values)) as (λ b. Own (if b then (scored_from column max place (row + 1) rest >>= (λ rows. Ok (values ∷ rows))) else Err (BadScore column (only row) (number_at place values) max))) [
       | true ↦ Own-then _ _ (Own-scored column max place (row + 1) rest) (λ rows. tt)
       | false ↦ tt
     ]
@@ -151,6 +159,33 @@ Own-index_step answer catalogue def =
     Own-index catalogue def (indexes.making answer catalogue def).outcome
     (OwnRanking-stable _ (OwnRanking-scored (λ row. answer (indexes.predicate_for catalogue def) (indexes.args_in def.args row)) (indexes.predicate_for catalogue def).max 1 (indexes.rows_for catalogue def)))
 
+-- a query ends with its rows or with a bad score
+abbrev OwnAnswer : Result (List Answer) PlainFault → Type 0
+OwnAnswer (Ok rows) = Unit {0}
+OwnAnswer (Err (plain.BadScore predicate ids got max)) = Unit {0}
+OwnAnswer (Err (plain.Probe predicate)) = ⊥
+OwnAnswer (Err plain.Memory) = ⊥
+
+OwnAnswer-evaluation : (answer : Answering) (catalogue : Catalogue) (query : Query) → OwnAnswer (evaluation_of answer catalogue query).outcome
+OwnAnswer-evaluation answer catalogue query = go (first_of (is_bad answer catalogue) (questions_of catalogue query)) refl where
+  go : (bad : Option Question) → first_of (is_bad answer catalogue) (questions_of catalogue query) ≡ bad → OwnAnswer (evaluation_of answer catalogue query).outcome
+  go None e = rw e tt
+  go (Some question) e = rw e tt
+
+Own-query : (catalogue : Catalogue) (outcome : Result (List Answer) PlainFault) → OwnAnswer outcome → Own (query_outcome catalogue outcome)
+unfolding Own IsOwn
+Own-query catalogue (Ok rows) own = tt
+Own-query catalogue (Err (plain.BadScore predicate ids got max)) own = tt
+Own-query catalogue (Err (plain.Probe predicate)) own = own
+Own-query catalogue (Err plain.Memory) own = tt
+
+Own-query_step : (answer : Answering) (catalogue : Catalogue) (query : Query) → Own (query_step answer catalogue query).outcome
+Own-query_step answer catalogue query = Own-query catalogue (evaluation_of answer catalogue query).outcome (OwnAnswer-evaluation answer catalogue query)
+
+Own-explain : (catalogue : Catalogue) (query : syntax.Query) → Own (explain_outcome catalogue query)
+unfolding Own
+Own-explain catalogue query = Own-then (or_bind_fault (bound_query catalogue query)) (λ bound. Ok catalogue) (Own-bind (bound_query catalogue query)) (λ bound. tt)
+
 -- a statement
 Own-refused : {A : Type 0} (does : A → Step) (r : Result A Fault) → Own r → ((a : A) → Own (does a).outcome) → Own (refused_or does r).outcome
 unfolding Own
@@ -182,6 +217,10 @@ Own-step finds answer number catalogue (CreateRankIndex name table predicate arg
     subst (λ s. Own s.outcome) (sym does)
     (Own-refused (index_step answer catalogue) _ (Own-with_room catalogue what.Index name (index_def_of catalogue (CreateRankIndex name table predicate args at)))
     (Own-index_step answer catalogue))
+Own-step finds answer number catalogue (syntax.Ask query) step does =
+    subst (λ s. Own s.outcome) (sym does) (Own-refused (query_step answer catalogue) _ (Own-bind (bound_query catalogue query)) (Own-query_step answer catalogue))
+Own-step finds answer number catalogue (Explain query) step does = subst (λ s. Own s.outcome) (sym does) (Own-explain catalogue query)
+Own-step finds answer number catalogue (ExplainAnalyze query) step does = subst (λ s. Own s.outcome) (sym does) (Own-explain catalogue query)
 Own-step finds answer number catalogue _ step does = subst (λ s. Own s.outcome) (sym does) tt
 
 -- the statements of a script

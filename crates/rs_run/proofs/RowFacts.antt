@@ -12,6 +12,7 @@ use Rattle.rs_table.proofs.RelationFacts.{row_fits-at, length-row_fits}
 use Rattle.rs_run.specs.declared.fault.Fault.{Fault}
 use Rattle.rs_run.specs.declared.fault.Fault.TheVariants.{BadScore}
 use Rattle.rs_rank.specs.declared.scored_row.ScoredRow.{ScoredRow}
+use Rattle.rs_run.specs.Faults.{only}
 use Rattle.rs_run.specs.Top.{number_at, score_at, scored_from}
 use Rattle.rs_expr.specs.Scores.{is_score}
 use Rattle.rs_lines.specs.Row.{line_of}
@@ -55,17 +56,17 @@ pub scored_from-score : (column : List ℕ) (max place i : ℕ) (rows : List (Li
     → appended (take i rows) (scored_from column max place (i + 1) (drop i rows)) ≡ appended (take (i + 1) rows) (scored_from column max place (i + 1 + 1) (drop (i + 1) rows))
 scored_from-score column max place i rows values within is score =
     ap (λ left. appended (take i rows) (scored_from column max place (i + 1) left)) (drop_more rows i values within ∙ ap (λ v. v ∷ drop (i + 1) rows) is)
-    ∙ ap (λ b. appended (take i rows) (if b then (scored_from column max place (i + 1 + 1) (drop (i + 1) rows) >>= (λ rows. Ok (values ∷ rows))) else Err (BadScore column (i + 1) (number_at place values) max))) score
+    ∙ ap (λ b. appended (take i rows) (if b then (scored_from column max place (i + 1 + 1) (drop (i + 1) rows) >>= (λ rows. Ok (values ∷ rows))) else Err (BadScore column (only (i + 1)) (number_at place values) max))) score
     ∙ appended-next values (take i rows) (scored_from column max place (i + 1 + 1) (drop (i + 1) rows))
     ∙ ap (λ made. appended made (scored_from column max place (i + 1 + 1) (drop (i + 1) rows))) (sym (take_more rows i values within ∙ ap (λ v. take i rows ++ v ∷ []) is))
 
 -- the next row has none
 pub scored_from-no_score : (column : List ℕ) (max place i : ℕ) (rows : List (List Value)) (values : List Value) → i < length rows → get_or rows i values ≡ values
     → is_score max (number_at place values) ≡ false
-    → appended (take i rows) (scored_from column max place (i + 1) (drop i rows)) ≡ Err (BadScore column (i + 1) (number_at place values) max)
+    → appended (take i rows) (scored_from column max place (i + 1) (drop i rows)) ≡ Err (BadScore column (only (i + 1)) (number_at place values) max)
 scored_from-no_score column max place i rows values within is score =
     ap (λ left. appended (take i rows) (scored_from column max place (i + 1) left)) (drop_more rows i values within ∙ ap (λ v. v ∷ drop (i + 1) rows) is)
-    ∙ ap (λ b. appended (take i rows) (if b then (scored_from column max place (i + 1 + 1) (drop (i + 1) rows) >>= (λ rows. Ok (values ∷ rows))) else Err (BadScore column (i + 1) (number_at place values) max))) score
+    ∙ ap (λ b. appended (take i rows) (if b then (scored_from column max place (i + 1 + 1) (drop (i + 1) rows) >>= (λ rows. Ok (values ∷ rows))) else Err (BadScore column (only (i + 1)) (number_at place values) max))) score
 
 -- the row behind the first i rows
 pub get_or-next : (table : Relation) (i : ℕ) (other : List Value) → i < length table.rows → get_or table.rows i other ≡ row_in table (i + 1)

@@ -56,19 +56,19 @@ unfolding rest_of
 events-fetch_then name (Ok lines) = refl
 events-fetch_then name (Err fault) = refl
 
-fetches-puts : (lines : List (List ℕ)) → fetches (map Put lines) ≡ []
+pub fetches-puts : (lines : List (List ℕ)) → fetches (map Put lines) ≡ []
 fetches-puts [] = refl
 fetches-puts (line ∷ rest) = fetches-puts rest
 
-calls-puts : (lines : List (List ℕ)) → calls (map Put lines) ≡ []
+pub calls-puts : (lines : List (List ℕ)) → calls (map Put lines) ≡ []
 calls-puts [] = refl
 calls-puts (line ∷ rest) = calls-puts rest
 
-puts-puts : (lines : List (List ℕ)) → puts (map Put lines) ≡ lines
+pub puts-puts : (lines : List (List ℕ)) → puts (map Put lines) ≡ lines
 puts-puts [] = refl
 puts-puts (line ∷ rest) = ap (λ rest. line ∷ rest) (puts-puts rest)
 
-map_put-append : (a b : List (List ℕ)) → map Put (a ++ b) ≡ map Put a ++ map Put b
+pub map_put-append : (a b : List (List ℕ)) → map Put (a ++ b) ≡ map Put a ++ map Put b
 map_put-append [] b = refl
 map_put-append (line ∷ rest) b = ap (λ rest. Put line ∷ rest) (map_put-append rest b)
 
@@ -418,7 +418,6 @@ ForRun-top told answer words top result files scorer out fs ss os is_top ran ask
 -- words of the form of `plain`
 pub ForRun-plain : (told : Option FilesTold) (answer : Answering) (words : List (List ℕ)) (name : List ℕ) (result : Result (Unit {0}) Fault)
     (files : Seen FilesTold) (scorer : ScorerSeen) (out : Seen (List (List ℕ))) (fs ss os : Type 0) → form_of words ≡ Plain name
-    → RanScript (finds_in told) answer name result files scorer fs ss → out.after ≡ out.before → ForRun told answer words (λ run. Ran run result files scorer out fs ss os)
-ForRun-plain told answer words name result files scorer out fs ss os is_plain ran same =
-    ForRun-form told answer words (Plain name) (λ run. Ran run result files scorer out fs ss os) is_plain
-    ran.run ran.is (Ran-quietly ran.run result files scorer out fs ss os same ran.ran)
+    → RanScript (finds_in told) answer name result files scorer out fs ss os → ForRun told answer words (λ run. Ran run result files scorer out fs ss os)
+ForRun-plain told answer words name result files scorer out fs ss os is_plain ran =
+    ForRun-form told answer words (Plain name) (λ run. Ran run result files scorer out fs ss os) is_plain ran.run ran.is ran.ran

@@ -17,22 +17,25 @@ use Rattle.rs_run.specs.declared.script_fault.ScriptFault.TheVariants.{NotBuilt}
 use Rattle.rs_catalog.specs.declared.index.IndexDef.{IndexDef}
 use Rattle.rs_lex.specs.declared.token.Span.{Span}
 use Rattle.rs_value.specs.declared.kind.Kind.{Kind}
-use Rattle.rs_syntax.specs.Syntax.{Command, command_of}
+use Rattle.rs_syntax.specs.Syntax.{Command, command_of, query_of}
 use Rattle.rs_syntax.specs.declared.name.Arg.{Arg}
 use Rattle.rs_syntax.specs.declared.node.Node.{Node}
+use Rattle.rs_syntax.specs.declared.select.Select.{Select}
 use Rattle.rs_syntax.specs.declared.statement.Statement.{Statement}
 use Rattle.rs_syntax.specs.declared.statement.Statement.TheVariants as statement
 use Rattle.rs_run.specs.Content.{content_of}
-use Rattle.rs_run.specs.Outcome.{Seen, Faulted, Ended, NoMemory, PutFailed, FetchFailed, CallFailed, Halt, HaltsAt, Did, Ran, QuietlyRan, Answers, call_of, fetched_more, name_of, no_out, piece_of}
+use Rattle.rs_run.specs.Outcome.{Seen, Faulted, Ended, NoMemory, PutFailed, FetchFailed, CallFailed, Halt, HaltsAt, Did, Ran, Answers, call_of, fetched_more, name_of, no_out, piece_of}
 use Rattle.rs_run.specs.Run.{Answering, Ask, Event, Fetch, Finds, Put, Run, calls, fetches, finds_in, puts}
 use Rattle.rs_bind.specs.Indexes.{index_def_of}
 use Rattle.rs_bind.specs.Names.{columns_of}
+use Rattle.rs_bind.specs.Queries.{bound_query}
+use Rattle.rs_query.specs.declared.query.Query.{Query}
 use Rattle.rs_catalog.specs.declared.room.What.TheVariants as what
-use Rattle.rs_run.specs.Statements.{Does, DoesTable, Step, index_step, predicate_outcome, refused_or, still, table_step, with_room}
-use Rattle.rs_run.specs.Steps.{FetchesFile, NotFetched, FetchFails, Fetched, IsReadTable, Leaves, RanIndex, RanTable, Stepped, no_files, no_scorer, run_of}
+use Rattle.rs_run.specs.Statements.{Does, DoesTable, Step, explain_outcome, index_step, or_bind_fault, predicate_outcome, query_step, refused_or, still, table_step, with_room}
+use Rattle.rs_run.specs.Steps.{FetchesFile, NotFetched, FetchFails, Fetched, IsReadTable, Leaves, RanIndex, RanQuery, RanTable, Stepped, no_files, no_scorer, run_of}
 use Rattle.rs_run.specs.Top.{or_table_fault, table_limit}
 use Rattle.rs_run.proofs.FetchFacts.{fault-at}
-use Rattle.rs_run.proofs.RunFacts.{Ran-unasked, Rose-none, fetched_more-nil, pieces-nil, unasked}
+use Rattle.rs_run.proofs.RunFacts.{Ran-quietly, Ran-unasked, Rose-none, fetched_more-nil, pieces-nil, unasked}
 
 -- the fault of an outcome, if it is one
 abbrev pub fault_in : Result Catalogue Fault → Option Fault
@@ -242,23 +245,24 @@ leaves-ok outcome new (Err fault) leaves = tt
 
 -- a statement without an event was run
 pub Stepped-still : (finds : Finds) (answer : Answering) (number : ℕ) (command : Command) (old new : Catalogue) (outcome : Result Catalogue Fault) (result : Result (Unit {0}) Fault) (files : Seen FilesTold) (scorer : ScorerSeen)
-    (fs ss : Type 0) → Untouched files scorer no_out → Does finds answer number old command (still outcome) → Leaves outcome new result
-    → Stepped finds answer number command old new result files scorer fs ss
-Stepped-still finds answer number command old new outcome result files scorer fs ss u does leaves = record {
+    (out : Seen (List (List ℕ))) (fs ss os : Type 0) → Untouched files scorer out → Does finds answer number old command (still outcome) → Leaves outcome new result
+    → Stepped finds answer number command old new result files scorer out fs ss os
+Stepped-still finds answer number command old new outcome result files scorer out fs ss os u does leaves = record {
   step = still outcome;
   does = does;
-  ran = Ran-still outcome result files scorer no_out fs ss (Unit {0}) u (leaves-answers outcome new result leaves);
+  ran = Ran-still outcome result files scorer out fs ss os u (leaves-answers outcome new result leaves);
   leaves = leaves-ok outcome new result leaves;
 }
 
 -- a table was made, and no scorer asked
 pub Stepped-table : (finds : Finds) (answer : Answering) (number : ℕ) (command : Command) (old new : Catalogue) (name : Name) (file : List ℕ) (bound : Result (List Column) Fault) (result : Result (Unit {0}) Fault)
-    (files : Seen FilesTold) (scorer : ScorerSeen) (fs ss : Type 0) → Asks [] scorer → ((step : Step) → DoesTable finds old name file bound step → Does finds answer number old command step)
-    → RanTable finds old name file bound new result files fs → Stepped finds answer number command old new result files scorer fs ss
-Stepped-table finds answer number command old new name file bound result files scorer fs ss none turn made = record {
+    (files : Seen FilesTold) (scorer : ScorerSeen) (out : Seen (List (List ℕ))) (fs ss os : Type 0) → Asks [] scorer → out.after ≡ out.before
+    → ((step : Step) → DoesTable finds old name file bound step → Does finds answer number old command step)
+    → RanTable finds old name file bound new result files fs → Stepped finds answer number command old new result files scorer out fs ss os
+Stepped-table finds answer number command old new name file bound result files scorer out fs ss os none unput turn made = record {
   step = made.step;
   does = turn made.step made.does;
-  ran = Ran-unasked (run_of made.step) result files scorer no_out fs ss (Unit {0}) none made.ran;
+  ran = Ran-quietly (run_of made.step) result files scorer out fs ss os unput (Ran-unasked (run_of made.step) result files scorer no_out fs ss (Unit {0}) none made.ran);
   leaves = made.leaves;
 }
 
@@ -300,12 +304,26 @@ Ran-no_fetch run result files scorer out fs ss os same ran = record {
 
 -- a rank index was made, and no file fetched
 pub Stepped-index : (finds : Finds) (answer : Answering) (number : ℕ) (command : Command) (old new : Catalogue) (bound : Result IndexDef Fault) (result : Result (Unit {0}) Fault)
-    (files : Seen FilesTold) (scorer : ScorerSeen) (fs ss : Type 0) → files.after ≡ files.before → Does finds answer number old command (refused_or (index_step answer old) bound)
-    → RanIndex answer old bound new result scorer ss → Stepped finds answer number command old new result files scorer fs ss
-Stepped-index finds answer number command old new bound result files scorer fs ss same does made = record {
+    (files : Seen FilesTold) (scorer : ScorerSeen) (out : Seen (List (List ℕ))) (fs ss os : Type 0) → files.after ≡ files.before → out.after ≡ out.before
+    → Does finds answer number old command (refused_or (index_step answer old) bound)
+    → RanIndex answer old bound new result scorer ss → Stepped finds answer number command old new result files scorer out fs ss os
+Stepped-index finds answer number command old new bound result files scorer out fs ss os same unput does made = record {
   step = refused_or (index_step answer old) bound;
   does = does;
-  ran = Ran-no_fetch (run_of (refused_or (index_step answer old) bound)) result files scorer no_out fs ss (Unit {0}) same made.ran;
+  ran = Ran-quietly (run_of (refused_or (index_step answer old) bound)) result files scorer out fs ss os unput
+      (Ran-no_fetch (run_of (refused_or (index_step answer old) bound)) result files scorer no_out fs ss (Unit {0}) same made.ran);
+  leaves = made.leaves;
+}
+
+-- a query was answered, and no file fetched
+pub Stepped-query : (finds : Finds) (answer : Answering) (number : ℕ) (command : Command) (catalogue : Catalogue) (bound : Result Query Fault) (result : Result (Unit {0}) Fault)
+    (files : Seen FilesTold) (scorer : ScorerSeen) (out : Seen (List (List ℕ))) (fs ss os : Type 0) → files.after ≡ files.before
+    → Does finds answer number catalogue command (refused_or (query_step answer catalogue) bound)
+    → RanQuery answer catalogue bound result scorer out ss os → Stepped finds answer number command catalogue catalogue result files scorer out fs ss os
+Stepped-query finds answer number command catalogue bound result files scorer out fs ss os same does made = record {
+  step = refused_or (query_step answer catalogue) bound;
+  does = does;
+  ran = Ran-no_fetch (run_of (refused_or (query_step answer catalogue) bound)) result files scorer out fs ss os same made.ran;
   leaves = made.leaves;
 }
 
@@ -314,16 +332,29 @@ pub Does-not_built : (finds : Finds) (answer : Answering) (number : ℕ) (catalo
     → ((name : Name) (columns : List (Name × Kind)) (file : List ℕ) → s ≡ statement.CreateTable name columns file → ⊥)
     → ((name : Name) (params : List (Name × Kind)) (max : ℤ × Span) (cost : Option (ℤ × Span)) (formula : Node) → s ≡ statement.CreatePredicate name params max cost formula → ⊥)
     → ((name table predicate : Name) (args : List Arg) (at : Span) → s ≡ statement.CreateRankIndex name table predicate args at → ⊥)
+    → ((select : Select) → s ≡ statement.Query select → ⊥) → ((select : Select) → s ≡ statement.Explain select → ⊥) → ((select : Select) → s ≡ statement.ExplainAnalyze select → ⊥)
     → Does finds answer number catalogue (command_of s) (still (Err (Script (NotBuilt number))))
-Does-not_built finds answer number catalogue (statement.CreateTable name columns file) a b c = absurd (a name columns file refl)
-Does-not_built finds answer number catalogue (statement.CreatePredicate name params max cost formula) a b c = absurd (b name params max cost formula refl)
-Does-not_built finds answer number catalogue (statement.CreateRankIndex name table predicate args at) a b c = absurd (c name table predicate args at refl)
-Does-not_built finds answer number catalogue (statement.Query select) a b c = refl
-Does-not_built finds answer number catalogue (statement.Declare name select) a b c = refl
-Does-not_built finds answer number catalogue (statement.Fetch count name) a b c = refl
-Does-not_built finds answer number catalogue (statement.Close name) a b c = refl
-Does-not_built finds answer number catalogue (statement.Explain select) a b c = refl
-Does-not_built finds answer number catalogue (statement.ExplainAnalyze select) a b c = refl
+Does-not_built finds answer number catalogue (statement.CreateTable name columns file) a b c d e f = absurd (a name columns file refl)
+Does-not_built finds answer number catalogue (statement.CreatePredicate name params max cost formula) a b c d e f = absurd (b name params max cost formula refl)
+Does-not_built finds answer number catalogue (statement.CreateRankIndex name table predicate args at) a b c d e f = absurd (c name table predicate args at refl)
+Does-not_built finds answer number catalogue (statement.Query select) a b c d e f = absurd (d select refl)
+Does-not_built finds answer number catalogue (statement.Declare name select) a b c d e f = refl
+Does-not_built finds answer number catalogue (statement.Fetch count name) a b c d e f = refl
+Does-not_built finds answer number catalogue (statement.Close name) a b c d e f = refl
+Does-not_built finds answer number catalogue (statement.Explain select) a b c d e f = absurd (e select refl)
+Does-not_built finds answer number catalogue (statement.ExplainAnalyze select) a b c d e f = absurd (f select refl)
+
+-- what a query does, and what the two forms of EXPLAIN do
+pub Does-query : (finds : Finds) (answer : Answering) (number : ℕ) (catalogue : Catalogue) (s : Statement) (select : Select) → s ≡ statement.Query select
+    → Does finds answer number catalogue (command_of s) (refused_or (query_step answer catalogue) (or_bind_fault (bound_query catalogue (query_of select))))
+Does-query finds answer number catalogue s select e =
+    subst (λ s. Does finds answer number catalogue (command_of s) (refused_or (query_step answer catalogue) (or_bind_fault (bound_query catalogue (query_of select))))) (sym e) refl
+
+pub Does-explain : (finds : Finds) (answer : Answering) (number : ℕ) (catalogue : Catalogue) (s : Statement) (select : Select)
+    → (s ≡ statement.Explain select) ⊎ (s ≡ statement.ExplainAnalyze select)
+    → Does finds answer number catalogue (command_of s) (still (explain_outcome catalogue (query_of select)))
+Does-explain finds answer number catalogue s select (inl e) = subst (λ s. Does finds answer number catalogue (command_of s) (still (explain_outcome catalogue (query_of select)))) (sym e) refl
+Does-explain finds answer number catalogue s select (inr e) = subst (λ s. Does finds answer number catalogue (command_of s) (still (explain_outcome catalogue (query_of select)))) (sym e) refl
 
 -- what a statement does that makes a predicate
 pub Does-predicate : (finds : Finds) (answer : Answering) (number : ℕ) (catalogue : Catalogue) (s : Statement) (name : Name) (params : List (Name × Kind)) (max : ℤ × Span) (cost : Option (ℤ × Span)) (formula : Node)

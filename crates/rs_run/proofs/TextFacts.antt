@@ -19,28 +19,28 @@ use Rattle.rs_run.specs.declared.fault.Fault.{Fault}
 use Rattle.rs_run.specs.declared.fault.Fault.TheVariants.{Memory, Read, Script}
 use Rattle.rs_run.specs.declared.script_fault.ScriptFault.TheVariants.{Lex, Parse}
 use Rattle.rs_run.specs.Faults.{lex_fault, parse_fault}
-use Rattle.rs_run.specs.Outcome.{Seen, Faulted, Ended, NoMemory, FetchFailed, QuietlyRan, fetched_more, no_out, seen}
+use Rattle.rs_run.specs.Outcome.{Seen, Faulted, Ended, NoMemory, FetchFailed, Ran, fetched_more, seen}
 use Rattle.rs_run.specs.Plain.{HasTokens, HasStatements, ScriptRuns, TextRuns, unlexed, unparsed, runs, unread, read, source_of}
 use Rattle.rs_run.specs.Run.{Answering, Event, Fetch, Finds, Run, behind, fails, fetch_then, finds_in}
 use Rattle.rs_run.specs.Statements.{RunOf, RunsOn}
 use Rattle.rs_run.specs.Steps.{FetchesFile, NotFetched, FetchFails, Fetched, IsSource, Keeps, RanScript, RanStatements, RanText, seen_scorer}
 use Rattle.rs_run.proofs.FetchFacts.{fault-at}
 use Rattle.rs_run.proofs.LoopFacts.{Does-finds, Done, Ran-behind, finds-after}
-use Rattle.rs_run.proofs.RunFacts.{fetched_more-nil}
+use Rattle.rs_run.proofs.RunFacts.{fetched_more-nil, pieces-nil}
 use Rattle.rs_run.proofs.StepFacts.{Ran-first, Untouched}
 
 -- a run that ends with a fault before any event
-Ran-fails : (fault : Fault) (files : Seen FilesTold) (scorer : ScorerSeen) (fs ss : Type 0) → Untouched files scorer no_out → QuietlyRan (fails fault) (Err fault) files scorer fs ss
-Ran-fails fault files scorer fs ss u = record {
+Ran-fails : (fault : Fault) (files : Seen FilesTold) (scorer : ScorerSeen) (out : Seen (List (List ℕ))) (fs ss os : Type 0) → Untouched files scorer out → Ran (fails fault) (Err fault) files scorer out fs ss os
+Ran-fails fault files scorer out fs ss os u = record {
   halt = Ended;
-  did = record { done = []; rest = []; split = refl; halts = refl; fetched = u.files_same ∙ fetched_more-nil files.before; called = u.unasked; put = refl };
+  did = record { done = []; rest = []; split = refl; halts = refl; fetched = u.files_same ∙ fetched_more-nil files.before; called = u.unasked; put = u.out_same ∙ pieces-nil out.before };
   answers = inl refl;
 }
 
-RanText-fails : (finds : Finds) (answer : Answering) (script : List ℕ) (fault : Fault) (files : Seen FilesTold) (scorer : ScorerSeen) (fs ss : Type 0) → Untouched files scorer no_out
-    → TextRuns finds answer script (fails fault) ⊎ (fault ≡ Memory) → RanText finds answer script (Err fault) files scorer fs ss
-RanText-fails finds answer script fault files scorer fs ss u (inl is) = record { run = fails fault; is = inl is; ran = Ran-fails fault files scorer fs ss u }
-RanText-fails finds answer script fault files scorer fs ss u (inr e) = record { run = fails fault; is = inr (ap fails e); ran = Ran-fails fault files scorer fs ss u }
+RanText-fails : (finds : Finds) (answer : Answering) (script : List ℕ) (fault : Fault) (files : Seen FilesTold) (scorer : ScorerSeen) (out : Seen (List (List ℕ))) (fs ss os : Type 0) → Untouched files scorer out
+    → TextRuns finds answer script (fails fault) ⊎ (fault ≡ Memory) → RanText finds answer script (Err fault) files scorer out fs ss os
+RanText-fails finds answer script fault files scorer out fs ss os u (inl is) = record { run = fails fault; is = inl is; ran = Ran-fails fault files scorer out fs ss os u }
+RanText-fails finds answer script fault files scorer out fs ss os u (inr e) = record { run = fails fault; is = inr (ap fails e); ran = Ran-fails fault files scorer out fs ss os u }
 
 -- the lexer refuses the text
 unlexed-runs : (finds : Finds) (answer : Answering) (script : List ℕ) (why : LexFault) → (why ≡ lex.Memory) ⊎ spelling.Refuses 0 0 script why
@@ -60,27 +60,27 @@ unparsed-runs finds answer script tokens (syntax.TooDeep at) lexed refused = eli
 unparsed-runs finds answer script tokens (syntax.TooManyStatements at) lexed refused = elim refused [ inl e ↦ absurd cc | inr r ↦ inl (unparsed tokens _ lexed r) ]
 unparsed-runs finds answer script tokens (syntax.NotInProfile at) lexed refused = elim refused [ inl e ↦ absurd cc | inr r ↦ inl (unparsed tokens _ lexed r) ]
 
-pub RanText-unlexed : (finds : Finds) (answer : Answering) (script : List ℕ) (why : LexFault) (result : Result (Unit {0}) Fault) (files : Seen FilesTold) (scorer : ScorerSeen) (fs ss : Type 0)
-    → Untouched files scorer no_out → IsErr result × IsErrAnd result (λ fault. fault ≡ lex_fault why) → (why ≡ lex.Memory) ⊎ spelling.Refuses 0 0 script why
-    → RanText finds answer script result files scorer fs ss
-RanText-unlexed finds answer script why (Ok done) files scorer fs ss u err refused = absurd err.1
-RanText-unlexed finds answer script why (Err fault) files scorer fs ss u err refused =
-    subst (λ fault. RanText finds answer script (Err fault) files scorer fs ss) (sym err.1)
-    (RanText-fails finds answer script (lex_fault why) files scorer fs ss u (unlexed-runs finds answer script why refused))
+pub RanText-unlexed : (finds : Finds) (answer : Answering) (script : List ℕ) (why : LexFault) (result : Result (Unit {0}) Fault) (files : Seen FilesTold) (scorer : ScorerSeen) (out : Seen (List (List ℕ))) (fs ss os : Type 0)
+    → Untouched files scorer out → IsErr result × IsErrAnd result (λ fault. fault ≡ lex_fault why) → (why ≡ lex.Memory) ⊎ spelling.Refuses 0 0 script why
+    → RanText finds answer script result files scorer out fs ss os
+RanText-unlexed finds answer script why (Ok done) files scorer out fs ss os u err refused = absurd err.1
+RanText-unlexed finds answer script why (Err fault) files scorer out fs ss os u err refused =
+    subst (λ fault. RanText finds answer script (Err fault) files scorer out fs ss os) (sym err.1)
+    (RanText-fails finds answer script (lex_fault why) files scorer out fs ss os u (unlexed-runs finds answer script why refused))
 
-pub RanText-unparsed : (finds : Finds) (answer : Answering) (script : List ℕ) (tokens : List Token) (why : SyntaxFault) (result : Result (Unit {0}) Fault) (files : Seen FilesTold) (scorer : ScorerSeen) (fs ss : Type 0)
-    → Untouched files scorer no_out → IsErr result × IsErrAnd result (λ fault. fault ≡ parse_fault why) → HasTokens script tokens → (why ≡ syntax.Memory) ⊎ Refuses script tokens why
-    → RanText finds answer script result files scorer fs ss
-RanText-unparsed finds answer script tokens why (Ok done) files scorer fs ss u err lexed refused = absurd err.1
-RanText-unparsed finds answer script tokens why (Err fault) files scorer fs ss u err lexed refused =
-    subst (λ fault. RanText finds answer script (Err fault) files scorer fs ss) (sym err.1)
-    (RanText-fails finds answer script (parse_fault why) files scorer fs ss u (unparsed-runs finds answer script tokens why lexed refused))
+pub RanText-unparsed : (finds : Finds) (answer : Answering) (script : List ℕ) (tokens : List Token) (why : SyntaxFault) (result : Result (Unit {0}) Fault) (files : Seen FilesTold) (scorer : ScorerSeen) (out : Seen (List (List ℕ))) (fs ss os : Type 0)
+    → Untouched files scorer out → IsErr result × IsErrAnd result (λ fault. fault ≡ parse_fault why) → HasTokens script tokens → (why ≡ syntax.Memory) ⊎ Refuses script tokens why
+    → RanText finds answer script result files scorer out fs ss os
+RanText-unparsed finds answer script tokens why (Ok done) files scorer out fs ss os u err lexed refused = absurd err.1
+RanText-unparsed finds answer script tokens why (Err fault) files scorer out fs ss os u err lexed refused =
+    subst (λ fault. RanText finds answer script (Err fault) files scorer out fs ss os) (sym err.1)
+    (RanText-fails finds answer script (parse_fault why) files scorer out fs ss os u (unparsed-runs finds answer script tokens why lexed refused))
 
 -- the tokens parse, and the statements were run
-pub RanText-runs : (finds : Finds) (answer : Answering) (script : List ℕ) (tokens : List Token) (commands : List Command) (result : Result (Unit {0}) Fault) (files : Seen FilesTold) (scorer : ScorerSeen) (fs ss : Type 0)
-    → HasTokens script tokens → Parses script tokens commands → IsSound script tokens → RanStatements finds answer commands result files scorer fs ss
-    → RanText finds answer script result files scorer fs ss
-RanText-runs finds answer script tokens commands result files scorer fs ss lexed parsed sound ran = record {
+pub RanText-runs : (finds : Finds) (answer : Answering) (script : List ℕ) (tokens : List Token) (commands : List Command) (result : Result (Unit {0}) Fault) (files : Seen FilesTold) (scorer : ScorerSeen) (out : Seen (List (List ℕ))) (fs ss os : Type 0)
+    → HasTokens script tokens → Parses script tokens commands → IsSound script tokens → RanStatements finds answer commands result files scorer out fs ss os
+    → RanText finds answer script result files scorer out fs ss os
+RanText-runs finds answer script tokens commands result files scorer out fs ss os lexed parsed sound ran = record {
   run = ran.run;
   is = inl (runs commands ran.run (record { tokens = tokens; lexed = lexed; parsed = parsed; sound = sound }) ran.is);
   ran = ran.ran;
@@ -108,25 +108,25 @@ TextRuns-finds a b more answer script _ (unparsed tokens fault lexed refuses) = 
 TextRuns-finds a b more answer script run (runs commands _ made is) = runs commands run made (RunOf-finds a b more answer 1 _ commands run is)
 
 -- there was no script
-pub RanScript-unread : (answer : Answering) (name : List ℕ) (fault : Fault) (files : Seen FilesTold) (scorer : ScorerSeen) (fs ss : Type 0) → Asks [] scorer
-    → FetchesFile {A = List ℕ} name (Err fault) (IsSource name) files fs → RanScript (finds_in files.before) answer name (Err fault) files scorer fs ss
-RanScript-unread answer name fault files scorer fs ss none f = go f.does where
+pub RanScript-unread : (answer : Answering) (name : List ℕ) (fault : Fault) (files : Seen FilesTold) (scorer : ScorerSeen) (out : Seen (List (List ℕ))) (fs ss os : Type 0) → Asks [] scorer → out.after ≡ out.before
+    → FetchesFile {A = List ℕ} name (Err fault) (IsSource name) files fs → RanScript (finds_in files.before) answer name (Err fault) files scorer out fs ss os
+RanScript-unread answer name fault files scorer out fs ss os none unput f = go f.does where
   goal : Result (Unit {0}) Fault → Type 0
-  goal result = RanScript (finds_in files.before) answer name result files scorer fs ss
+  goal result = RanScript (finds_in files.before) answer name result files scorer out fs ss os
 
   go : (NotFetched {A = List ℕ} (Err fault) files ⊎ FetchFails {A = List ℕ} name (Err fault) files fs) ⊎ Fetched name (IsSource name f.there) (Err fault) files
-      → RanScript (finds_in files.before) answer name (Err fault) files scorer fs ss
-  go (inl (inl nothing)) = subst (λ r. RanScript (finds_in files.before) answer name r files scorer fs ss) (sym (fault-at fault Memory nothing.memory)) (record {
+      → RanScript (finds_in files.before) answer name (Err fault) files scorer out fs ss os
+  go (inl (inl nothing)) = subst (λ r. RanScript (finds_in files.before) answer name r files scorer out fs ss os) (sym (fault-at fault Memory nothing.memory)) (record {
     run = fetch_then name (Err Memory);
     is = inr refl;
-    ran = Ran-first (fetch_then name (Err Memory)) files scorer no_out fs ss (Unit {0}) (record { files_same = nothing.same; unasked = none; out_same = refl });
+    ran = Ran-first (fetch_then name (Err Memory)) files scorer out fs ss os (record { files_same = nothing.same; unasked = none; out_same = unput });
   })
   go (inl (inr failed)) = record {
     run = fetch_then name (Err Memory);
     is = inr refl;
     ran = record {
       halt = FetchFailed name;
-      did = record { done = []; rest = Fetch name ∷ []; split = refl; halts = ([], refl, failed.faulted); fetched = failed.fetched; called = none; put = refl };
+      did = record { done = []; rest = Fetch name ∷ []; split = refl; halts = ([], refl, failed.faulted); fetched = failed.fetched; called = none; put = unput ∙ pieces-nil out.before };
       answers = elim failed.answers [ inl e ↦ inl (fault-at fault (Read name Failed) e) | inr e ↦ inr (fault-at fault Memory e) ];
     };
   }
@@ -136,7 +136,7 @@ RanScript-unread answer name fault files scorer fs ss none f = go f.does where
       is = inl (unread f.there fault f.is_told (sym e));
       ran = record {
         halt = Ended;
-        did = record { done = Fetch name ∷ []; rest = []; split = refl; halts = refl; fetched = fetched.fetched; called = none; put = refl };
+        did = record { done = Fetch name ∷ []; rest = []; split = refl; halts = refl; fetched = fetched.fetched; called = none; put = unput ∙ pieces-nil out.before };
         answers = inl refl;
       };
     }
@@ -145,15 +145,15 @@ RanScript-unread answer name fault files scorer fs ss none f = go f.does where
       is = inr refl;
       ran = record {
         halt = Ended;
-        did = record { done = Fetch name ∷ []; rest = []; split = refl; halts = refl; fetched = fetched.fetched; called = none; put = refl };
+        did = record { done = Fetch name ∷ []; rest = []; split = refl; halts = refl; fetched = fetched.fetched; called = none; put = unput ∙ pieces-nil out.before };
         answers = inl (fault-at fault Memory e);
       };
     }
   ]
 
 -- the script was read, and its text was run
-module _ (answer : Answering) (name script : List ℕ) (result : Result (Unit {0}) Fault) (tb tm te : Option FilesTold) (fb fm fe : ℕ) (sb se : Option (List Call)) (cb ce xb xe : ℕ) (fs fs_mid ss : Type 0)
-    (f : FetchesFile name (Ok script) (IsSource name) (seen tb tm fb fm) fs) where
+module _ (answer : Answering) (name script : List ℕ) (result : Result (Unit {0}) Fault) (tb tm te : Option FilesTold) (fb fm fe : ℕ) (sb se : Option (List Call)) (cb ce xb xe : ℕ)
+    (pb pe : Option (List (List ℕ))) (gb ge : ℕ) (fs fs_mid ss os : Type 0) (f : FetchesFile name (Ok script) (IsSource name) (seen tb tm fb fm) fs) where
   fetched-source : (tm ≡ option_map (fetched_more (name ∷ [])) tb) × (Ok script ≡ source_of name f.there)
   fetched-source = go f.does where
     go : (NotFetched (Ok script) (seen tb tm fb fm) ⊎ FetchFails name (Ok script) (seen tb tm fb fm) fs) ⊎ Fetched name (IsSource name f.there) (Ok script) (seen tb tm fb fm)
@@ -163,8 +163,8 @@ module _ (answer : Answering) (name script : List ℕ) (result : Result (Unit {0
     go (inr fetched) = (fetched.fetched, elim fetched.answers [ inl e ↦ e | inr e ↦ absurd cc ])
 
   pub RanScript-read : Asks [] (seen_scorer sb sb cb cb xb xb) → Keeps (seen tb tm fb fm) fs fs_mid
-      → RanText (finds_in tm) answer script result (seen tm te fm fe) (seen_scorer sb se cb ce xb xe) fs_mid ss
-      → RanScript (finds_in tb) answer name result (seen tb te fb fe) (seen_scorer sb se cb ce xb xe) fs ss
+      → RanText (finds_in tm) answer script result (seen tm te fm fe) (seen_scorer sb se cb ce xb xe) (seen pb pe gb ge) fs_mid ss os
+      → RanScript (finds_in tb) answer name result (seen tb te fb fe) (seen_scorer sb se cb ce xb xe) (seen pb pe gb ge) fs ss os
   RanScript-read none kept text = record {
     run = behind (Fetch name ∷ []) text.run;
     is = elim text.is [
@@ -172,6 +172,6 @@ module _ (answer : Answering) (name script : List ℕ) (result : Result (Unit {0
           (TextRuns-finds (finds_in tm) (finds_in tb) (finds-after tb tm (name ∷ []) fetched-source.0) answer script text.run is))
       | inr e ↦ inr (ap (behind (Fetch name ∷ [])) e)
     ];
-    ran = Ran-behind (Fetch name ∷ []) text.run result tb tm te fb fm fe sb sb se cb cb ce xb xb xe fs fs_mid ss ss
-        (record { fetched = fetched-source.0; called = none; put = refl }) kept.grows kept.keeps (omega arith) (λ s. s) text.ran;
+    ran = Ran-behind (Fetch name ∷ []) text.run result tb tm te fb fm fe sb sb se cb cb ce xb xb xe pb pb pe gb gb ge fs fs_mid ss ss os os
+        (record { fetched = fetched-source.0; called = none; put = pieces-nil pb }) kept.grows kept.keeps (omega arith) (λ s. s) (omega arith) (λ s. s) text.ran;
   }

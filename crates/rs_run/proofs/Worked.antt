@@ -18,7 +18,7 @@ use Rattle.rs_lex.specs.declared.fault.LexFault.TheVariants as lex
 use Rattle.rs_syntax.specs.declared.fault.SyntaxFault.TheVariants as syntax
 use Rattle.rs_catalog.specs.declared.room.RoomFault.TheVariants as room
 use Rattle.rs_bind.specs.declared.fault.Why.TheVariants as why
-use Rattle.rs_run.specs.Faults.{fault_line, status_of}
+use Rattle.rs_run.specs.Faults.{fault_line, only, status_of}
 use Rattle.rs_run.specs.Plain.{source_of, without_mark}
 use Rattle.rs_run.specs.Run.{Answering, Fetch, Put, Run, found_in}
 use Rattle.rs_run.specs.Running.{IsRun}
@@ -61,7 +61,7 @@ score_of_max = (Some hotels, refl, refl)
 
 -- a number above MAX ends the run before any put
 bad_score : IsRun (found_in (λ name. Some hotels)) unasked (words (codes "80") (codes "2"))
-    (record { events = Fetch (codes "h.csv") ∷ []; fault = Some (fault.BadScore (codes "price") 2 (pos 90) 80) })
+    (record { events = Fetch (codes "h.csv") ∷ []; fault = Some (fault.BadScore (codes "price") (only 2) (pos 90) 80) })
 unfolding hotels words csv_on_literals digits chars is_utf8 encode_utf8 escaped fields_text is_blank
 bad_score = (Some hotels, refl, refl)
 
@@ -73,7 +73,7 @@ no_count = (Some hotels, refl, refl)
 
 -- the numbers are looked at all the same
 no_count_bad_score : IsRun (found_in (λ name. Some hotels)) unasked (words (codes "80") (codes "0"))
-    (record { events = Fetch (codes "h.csv") ∷ []; fault = Some (fault.BadScore (codes "price") 2 (pos 90) 80) })
+    (record { events = Fetch (codes "h.csv") ∷ []; fault = Some (fault.BadScore (codes "price") (only 2) (pos 90) 80) })
 unfolding hotels words csv_on_literals digits chars is_utf8 encode_utf8 escaped fields_text is_blank
 no_count_bad_score = (Some hotels, refl, refl)
 
@@ -103,13 +103,13 @@ score_of_zero = (Some (codes "v\n0\n"), refl, refl)
 
 -- a number below 0 is no score
 negative : IsRun (found_in (λ name. Some (codes "v\n5\n-1\n"))) unasked on_v
-    (record { events = Fetch (codes "f") ∷ []; fault = Some (fault.BadScore (codes "v") 2 (negsuc 0) 9) })
+    (record { events = Fetch (codes "f") ∷ []; fault = Some (fault.BadScore (codes "v") (only 2) (negsuc 0) 9) })
 unfolding on_v ends_at csv_on_literals digits chars is_utf8 encode_utf8 escaped fields_text is_blank
 negative = (Some (codes "v\n5\n-1\n"), refl, refl)
 
 -- the first number that is no score is told
 first_bad_score : IsRun (found_in (λ name. Some (codes "v\n10\n99\n"))) unasked on_v
-    (record { events = Fetch (codes "f") ∷ []; fault = Some (fault.BadScore (codes "v") 1 (pos 10) 9) })
+    (record { events = Fetch (codes "f") ∷ []; fault = Some (fault.BadScore (codes "v") (only 1) (pos 10) 9) })
 unfolding on_v ends_at csv_on_literals digits chars is_utf8 encode_utf8 escaped fields_text is_blank
 first_bad_score = (Some (codes "v\n10\n99\n"), refl, refl)
 
@@ -322,19 +322,24 @@ unfolding digits
 line_of_write = refl
 
 -- the line of a number that is no score
-line_of_bad_score : fault_line (fault.BadScore (codes "price") 2 (pos 90) 80) ≡ codes "score: price rows 2: 90 is not in 0..80\n"
+line_of_bad_score : fault_line (fault.BadScore (codes "price") (only 2) (pos 90) 80) ≡ codes "score: price rows 2: 90 is not in 0..80\n"
 unfolding digits
 line_of_bad_score = refl
 
 -- of a number below 0
-line_of_negative : fault_line (fault.BadScore (codes "v") 131072 (negsuc 3999999999999999999) 4294967295) ≡ codes "score: v rows 131072: -4000000000000000000 is not in 0..4294967295\n"
+line_of_negative : fault_line (fault.BadScore (codes "v") (only 131072) (negsuc 3999999999999999999) 4294967295) ≡ codes "score: v rows 131072: -4000000000000000000 is not in 0..4294967295\n"
 unfolding digits
 line_of_negative = refl
 
 -- of a predicate's score
-line_of_bad_predicate : fault_line (fault.BadScore (codes "p") 1 (pos 40) 10) ≡ codes "score: p rows 1: 40 is not in 0..10\n"
+line_of_bad_predicate : fault_line (fault.BadScore (codes "p") (only 1) (pos 40) 10) ≡ codes "score: p rows 1: 40 is not in 0..10\n"
 unfolding digits
 line_of_bad_predicate = refl
+
+-- of a term that speaks of the second FROM entry and the fourth
+line_of_bad_term : fault_line (fault.BadScore (codes "near") (0 ∷ 3 ∷ 0 ∷ 120 ∷ 0 ∷ 0 ∷ []) (negsuc 4) 100) ≡ codes "score: near rows 3 120: -5 is not in 0..100\n"
+unfolding digits
+line_of_bad_term = refl
 
 -- the line of a call that failed
 line_of_probe : fault_line (fault.Probe (codes "q")) ≡ codes "probe: q\n"

@@ -20,6 +20,7 @@ use Rattle.rs_catalog.specs.declared.room.RoomFault.TheVariants as room
 use Rattle.rs_bind.specs.declared.fault.Why.TheVariants as why
 use Rattle.rs_run.specs.declared.fault.Fault.TheVariants as fault
 use Rattle.rs_run.specs.declared.script_fault.ScriptFault.TheVariants as script
+use Rattle.rs_run.specs.Faults.{only}
 use Rattle.rs_run.specs.Run.{Answering, Ask, Fetch, Finds, found_in}
 use Rattle.rs_run.specs.Statements.{RunOf}
 
@@ -60,7 +61,7 @@ makes_all = (_, (Some (codes "v\n3\n10\n"), refl, refl), (_, (_, refl, (_, (_, r
 
 -- the first number that is no score ends the run, and no row behind it is asked for
 bad_score : RunOf (finds (Some (codes "v\n3\n40\n5\n"))) answer 1 empty (create_table ∷ create_predicate ∷ create_index ∷ create_table ∷ [])
-    (record { events = Fetch (codes "f") ∷ Ask (call (pos 3)) ∷ Ask (call (pos 40)) ∷ []; fault = Some (fault.BadScore (codes "p") 2 (pos 40) 10) })
+    (record { events = Fetch (codes "f") ∷ Ask (call (pos 3)) ∷ Ask (call (pos 40)) ∷ []; fault = Some (fault.BadScore (codes "p") (only 2) (pos 40) 10) })
 unfolding create_table create_predicate create_index finds answer call csv_on_literals digits chars is_utf8 encode_utf8
 bad_score = (_, (Some (codes "v\n3\n40\n5\n"), refl, refl), (_, (_, refl, (_, (_, refl, refl), refl)), refl))
 

@@ -1,5 +1,6 @@
 -- What ends a run early: its status, and its line on standard error.
-use Rattle.std.specs.Prelude.{ℕ, List, [], ◌∷◌, ◌++◌, Option, Some, None, codes}
+use Rattle.std.specs.Prelude.{ℕ, ◌==◌, not, List, [], ◌∷◌, ◌++◌, Option, Some, None, codes}
+use Rattle.std.specs.List.{filter}
 use Rattle.std.specs.Fmt.{decimal, signed_decimal}
 use Rattle.rs_outside.specs.declared.files.FetchFault.{FetchFault}
 use Rattle.rs_outside.specs.declared.files.FetchFault.TheVariants as fetch
@@ -28,7 +29,7 @@ status_of (Some fault.Usage) = status.Usage
 status_of (Some (fault.Read name why)) = status.Read
 status_of (Some fault.Write) = status.Write
 status_of (Some (fault.Table name why)) = status.Table
-status_of (Some (fault.BadScore predicate row got max)) = status.BadScore
+status_of (Some (fault.BadScore predicate rows got max)) = status.BadScore
 status_of (Some (fault.Probe predicate)) = status.Probe
 status_of (Some (fault.Script why)) = status.Script
 
@@ -112,6 +113,20 @@ script_text (script.Bind why at) = codes "bind " ++ why_text why ++ codes " at "
 script_text (script.Room why at) = codes "catalogue " ++ room_text why ++ codes " at " ++ decimal at
 script_text (script.NotBuilt statement) = codes "not built statement " ++ decimal statement
 
+-- the row numbers of six entries, of which only the first one has a row
+abbrev pub only : ℕ → List ℕ
+only row = row ∷ 0 ∷ 0 ∷ 0 ∷ 0 ∷ 0 ∷ []
+
+-- the row numbers without the zeros, which stand for no row
+abbrev pub numbers_of : List ℕ → List ℕ
+numbers_of rows = filter (λ row. not (row == 0)) rows
+
+-- numbers in decimal, with one space between
+abbrev pub spaced : List ℕ → List ℕ
+spaced [] = []
+spaced (number ∷ []) = decimal number
+spaced (number ∷ next ∷ rest) = decimal number ++ 32 ∷ spaced (next ∷ rest)
+
 -- what a fault's line says
 abbrev pub fault_text : Fault → List ℕ
 fault_text fault.Memory = codes "memory"
@@ -119,8 +134,8 @@ fault_text fault.Usage = codes "usage: ranksql top FILE COLUMN MAX K, run SCRIPT
 fault_text (fault.Read name why) = codes "read: " ++ name ++ codes ": " ++ fetch_text why
 fault_text fault.Write = codes "write"
 fault_text (fault.Table name why) = codes "table: " ++ name ++ codes ": " ++ table_text why
-fault_text (fault.BadScore predicate row got max) =
-    codes "score: " ++ predicate ++ codes " rows " ++ decimal row ++ codes ": " ++ signed_decimal got ++ codes " is not in 0.." ++ decimal max
+fault_text (fault.BadScore predicate rows got max) =
+    codes "score: " ++ predicate ++ codes " rows " ++ spaced (numbers_of rows) ++ codes ": " ++ signed_decimal got ++ codes " is not in 0.." ++ decimal max
 fault_text (fault.Probe predicate) = codes "probe: " ++ predicate
 fault_text (fault.Script why) = codes "script: " ++ script_text why
 

@@ -1,10 +1,13 @@
 -- The statements of a script, one after another: what each does, and the catalogue that it leaves.
-use Rattle.std.specs.Prelude.{ℕ, suc, ◌≡◌, List, [], ◌∷◌, map, Option, Some, None, Result, Ok, Err}
+use Rattle.std.specs.Prelude.{ℕ, suc, ◌≡◌, ◌+◌, List, [], ◌∷◌, ◌++◌, map, Option, Some, None, Result, Ok, Err}
 use Rattle.rs_value.specs.declared.kind.Kind.{Kind}
 use Rattle.rs_lex.specs.declared.token.Span.{Span}
+use Rattle.rs_rank.specs.declared.answer.Answer.{Answer}
 use Rattle.rs_rank.specs.declared.scored_row.ScoredRow.{ScoredRow}
+use Rattle.rs_lines.specs.Row.{line_of}
 use Rattle.rs_syntax.specs.declared.name.Name.{Name}
-use Rattle.rs_syntax.specs.Syntax.{Command, CreateTable, CreatePredicate, CreateRankIndex}
+use Rattle.rs_syntax.specs.Syntax.{Command, CreateTable, CreatePredicate, CreateRankIndex, Explain, ExplainAnalyze}
+use Rattle.rs_syntax.specs.Syntax as syntax
 use Rattle.rs_table.specs.Column.{Column}
 use Rattle.rs_table.specs.Reading.{◌>>=◌, table_of}
 use Rattle.rs_expr.specs.Predicates.{PredicateDef}
@@ -19,13 +22,20 @@ use Rattle.rs_catalog.specs.declared.room.What.TheVariants as what
 use Rattle.rs_bind.specs.Indexes.{index_def_of}
 use Rattle.rs_bind.specs.Names.{columns_of}
 use Rattle.rs_bind.specs.Predicates.{predicate_of}
+use Rattle.rs_bind.specs.Queries.{bound_query}
 use Rattle.rs_bind.specs.declared.fault.BindFault.{BindFault}
 use Rattle.rs_bind.specs.declared.fault.BindFault.TheVariants as bind
+use Rattle.rs_query.specs.Answers.{predicate_at}
+use Rattle.rs_query.specs.declared.query.Query.{Query}
+use Rattle.rs_plain.specs.Plain.{Evaluation, evaluation_of}
+use Rattle.rs_plain.specs.declared.fault.PlainFault.{PlainFault}
+use Rattle.rs_plain.specs.declared.fault.PlainFault.TheVariants as plain
 use Rattle.rs_run.specs.declared.fault.Fault.{Fault}
 use Rattle.rs_run.specs.declared.fault.Fault.TheVariants.{BadScore, Memory, Probe, Script}
 use Rattle.rs_run.specs.declared.script_fault.ScriptFault.TheVariants.{Bind, Room, NotBuilt}
 use Rattle.rs_run.specs.Content.{content_of}
-use Rattle.rs_run.specs.Run.{Answering, Ask, Event, Fetch, Finds, Run, behind}
+use Rattle.rs_run.specs.Faults.{only}
+use Rattle.rs_run.specs.Run.{Answering, Ask, Event, Fetch, Finds, Put, Run, behind}
 use Rattle.rs_run.specs.Top.{or_table_fault, table_limit}
 
 -- a rule that a statement breaks ends the run
@@ -71,7 +81,7 @@ table_step catalogue name file columns there = record {
 -- the index joins, with its rows by score; a bad score of a row ends the run
 abbrev pub index_outcome : Catalogue → IndexDef → Result (List ScoredRow) IndexFault → Result Catalogue Fault
 index_outcome catalogue def (Ok ranking) = Ok (with_index def ranking catalogue)
-index_outcome catalogue def (Err (index.BadScore row got max)) = Err (BadScore (predicate_for catalogue def).name row got max)
+index_outcome catalogue def (Err (index.BadScore row got max)) = Err (BadScore (predicate_for catalogue def).name (only row) got max)
 index_outcome catalogue def (Err index.Probe) = Err (Probe (predicate_for catalogue def).name)
 index_outcome catalogue def (Err index.Memory) = Err Memory
 
@@ -84,6 +94,39 @@ index_step answer catalogue def =
 abbrev pub predicate_outcome : Catalogue → Name → Command → Result Catalogue Fault
 predicate_outcome catalogue name command =
     with_room catalogue what.Predicate name (predicate_of command) >>= λ predicate. Ok (with_predicate predicate catalogue)
+
+-- the lines of the rows of an answer, from this rank on
+abbrev pub rank_lines : ℕ → List Answer → List (List ℕ)
+rank_lines rank [] = []
+rank_lines rank (row ∷ rest) = line_of rank row.score row.values ∷ rank_lines (rank + 1) rest
+
+-- the lines of an answer, the first one at rank 1; where a fault came, there is none
+abbrev pub answer_lines : Result (List Answer) PlainFault → List (List ℕ)
+answer_lines (Ok rows) = rank_lines 1 rows
+answer_lines (Err fault) = []
+
+-- the fault of a run whose query has no answer
+abbrev pub query_fault : Catalogue → PlainFault → Fault
+query_fault catalogue (plain.BadScore predicate ids got max) = BadScore (predicate_at catalogue predicate).name ids.rows got max
+query_fault catalogue (plain.Probe predicate) = Probe (predicate_at catalogue predicate).name
+query_fault catalogue plain.Memory = Memory
+
+-- a query leaves the catalogue as it is
+abbrev pub query_outcome : Catalogue → Result (List Answer) PlainFault → Result Catalogue Fault
+query_outcome catalogue (Ok rows) = Ok catalogue
+query_outcome catalogue (Err fault) = Err (query_fault catalogue fault)
+
+-- a query: all its calls, and then its rows, each as one line
+abbrev pub evaluation_step : Catalogue → Evaluation (List Answer) → Step
+evaluation_step catalogue evaluated =
+    record { events = map Ask evaluated.calls ++ map Put (answer_lines evaluated.outcome); outcome = query_outcome catalogue evaluated.outcome }
+
+abbrev pub query_step : Answering → Catalogue → Query → Step
+query_step answer catalogue query = evaluation_step catalogue (evaluation_of answer catalogue query)
+
+-- EXPLAIN: the query has to be bound, and nothing is told of it
+abbrev pub explain_outcome : Catalogue → syntax.Query → Result Catalogue Fault
+explain_outcome catalogue query = or_bind_fault (bound_query catalogue query) >>= λ bound. Ok catalogue
 
 -- a statement that is refused, or one that goes on with what it binds
 abbrev pub refused_or : {A : Type 0} → (A → Step) → Result A Fault → Step
@@ -103,6 +146,9 @@ Does finds answer number catalogue (CreatePredicate name params max cost formula
     step ≡ still (predicate_outcome catalogue name (CreatePredicate name params max cost formula))
 Does finds answer number catalogue (CreateRankIndex name table predicate args at) step =
     step ≡ refused_or (index_step answer catalogue) (with_room catalogue what.Index name (index_def_of catalogue (CreateRankIndex name table predicate args at)))
+Does finds answer number catalogue (syntax.Ask query) step = step ≡ refused_or (query_step answer catalogue) (or_bind_fault (bound_query catalogue query))
+Does finds answer number catalogue (Explain query) step = step ≡ still (explain_outcome catalogue query)
+Does finds answer number catalogue (ExplainAnalyze query) step = step ≡ still (explain_outcome catalogue query)
 Does finds answer number catalogue _ step = step ≡ still (Err (Script (NotBuilt number)))
 
 -- the run of a statement and those behind it, which only go on where it ends without a fault

@@ -16,17 +16,19 @@ use Rattle.rs_lines.specs.Row.{line_of}
 use Rattle.rs_run.specs.declared.fault.Fault.{Fault}
 use Rattle.rs_run.specs.declared.fault.Fault.TheVariants.{BadScore, Memory, Probe, Read, Write}
 use Rattle.rs_rank.specs.declared.scored_row.ScoredRow.{ScoredRow}
-use Rattle.rs_run.specs.Outcome.{Seen, Faulted, QuietlyRan, Ran, fetched_more, no_out, seen}
+use Rattle.rs_run.specs.Outcome.{Seen, Faulted, Ran, fetched_more, no_out, seen}
 use Rattle.rs_run.specs.Top.{or_table_fault, table_limit, top_lines, top_table, score_at, scored_from}
 use Rattle.rs_run.specs.Words.{TopWords}
 use Rattle.rs_run.specs.Plain.{ScriptRuns, TextRuns, source_of}
 use Rattle.rs_run.specs.Run.{Answering, Finds, Run, fails, fetch_then}
 use Rattle.rs_run.specs.Content.{content_of}
-use Rattle.rs_run.specs.Statements.{Does, DoesTable, RunOf, Step, index_step, refused_or}
+use Rattle.rs_run.specs.Faults.{only}
+use Rattle.rs_run.specs.Statements.{Does, DoesTable, RunOf, Step, index_step, or_bind_fault, query_step, refused_or}
 use Rattle.rs_catalog.specs.Catalogue.{Catalogue, empty}
 use Rattle.rs_expr.specs.Scoring.{ScorerSeen}
 use Rattle.rs_expr.specs.declared.scorer.Call.{Call}
 use Rattle.rs_syntax.specs.Syntax.{Command, CreatePredicate, CreateRankIndex, CreateTable, Ask, Declare, Fetch, Close, Explain, ExplainAnalyze}
+use Rattle.rs_query.specs.declared.query.Query.{Query}
 use Rattle.rs_catalog.specs.declared.index.IndexFault.{IndexFault}
 use Rattle.rs_catalog.specs.declared.index.IndexFault.TheVariants as index
 
@@ -140,38 +142,44 @@ IsIndexNamed name _ = ⊥
 
 -- the fault of a run in which an index of this predicate wasn't made
 abbrev pub index_fault : List ℕ → IndexFault → Fault
-index_fault predicate (index.BadScore row got max) = BadScore predicate row got max
+index_fault predicate (index.BadScore row got max) = BadScore predicate (only row) got max
 index_fault predicate index.Probe = Probe predicate
 index_fault predicate index.Memory = Memory
 
+-- what a call did that answers a query; the catalogue stays as it is
+pub record RanQuery (answer : Answering) (catalogue : Catalogue) (bound : Result Query Fault) (result : Result (Unit {0}) Fault) (scorer : ScorerSeen) (out : Seen (List (List ℕ)))
+    (scorer_steady out_steady : Type 0) : Type 0 where
+  pub ran : Ran (run_of (refused_or (query_step answer catalogue) bound)) result no_files scorer out (Unit {0}) scorer_steady out_steady
+  pub leaves : IfOk result (λ done. (refused_or (query_step answer catalogue) bound).outcome ≡ Ok catalogue)
+
 -- what a call did that runs a statement, and the catalogue that it leaves
 pub record Stepped (finds : Finds) (answer : Answering) (number : ℕ) (command : Command) (old new : Catalogue) (result : Result (Unit {0}) Fault) (files : Seen FilesTold) (scorer : ScorerSeen)
-    (files_steady scorer_steady : Type 0) : Type 0 where
+    (out : Seen (List (List ℕ))) (files_steady scorer_steady out_steady : Type 0) : Type 0 where
   pub step : Step
   pub does : Does finds answer number old command step
-  pub ran : QuietlyRan (run_of step) result files scorer files_steady scorer_steady
+  pub ran : Ran (run_of step) result files scorer out files_steady scorer_steady out_steady
   pub leaves : IfOk result (λ done. step.outcome ≡ Ok new)
 
 -- what a call did that runs statements, from the first one on
 pub record RanStatements (finds : Finds) (answer : Answering) (commands : List Command) (result : Result (Unit {0}) Fault) (files : Seen FilesTold) (scorer : ScorerSeen)
-    (files_steady scorer_steady : Type 0) : Type 0 where
+    (out : Seen (List (List ℕ))) (files_steady scorer_steady out_steady : Type 0) : Type 0 where
   pub run : Run
   pub is : RunOf finds answer 1 empty commands run
-  pub ran : QuietlyRan run result files scorer files_steady scorer_steady
+  pub ran : Ran run result files scorer out files_steady scorer_steady out_steady
 
 -- what a call did that runs the text of a script, or what it did before there was no memory to tell what the text does: nothing
 pub record RanText (finds : Finds) (answer : Answering) (script : List ℕ) (result : Result (Unit {0}) Fault) (files : Seen FilesTold) (scorer : ScorerSeen)
-    (files_steady scorer_steady : Type 0) : Type 0 where
+    (out : Seen (List (List ℕ))) (files_steady scorer_steady out_steady : Type 0) : Type 0 where
   pub run : Run
   pub is : TextRuns finds answer script run ⊎ (run ≡ fails Memory)
-  pub ran : QuietlyRan run result files scorer files_steady scorer_steady
+  pub ran : Ran run result files scorer out files_steady scorer_steady out_steady
 
 -- what a call did that runs a script; where there was no memory to tell what it does, it was fetched
 pub record RanScript (finds : Finds) (answer : Answering) (name : List ℕ) (result : Result (Unit {0}) Fault) (files : Seen FilesTold) (scorer : ScorerSeen)
-    (files_steady scorer_steady : Type 0) : Type 0 where
+    (out : Seen (List (List ℕ))) (files_steady scorer_steady out_steady : Type 0) : Type 0 where
   pub run : Run
   pub is : ScriptRuns finds answer name run ⊎ (run ≡ fetch_then name (Err Memory))
-  pub ran : QuietlyRan run result files scorer files_steady scorer_steady
+  pub ran : Ran run result files scorer out files_steady scorer_steady out_steady
 
 -- the values of a row of this number
 abbrev pub row_in : Relation → ℕ → List Value

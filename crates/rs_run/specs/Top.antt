@@ -11,6 +11,7 @@ use Rattle.rs_expr.specs.Scores.{is_score, score_of}
 use Rattle.rs_lines.specs.Row.{line_of}
 use Rattle.rs_run.specs.declared.fault.Fault.{Fault}
 use Rattle.rs_run.specs.declared.fault.Fault.TheVariants.{Table, BadScore}
+use Rattle.rs_run.specs.Faults.{only}
 use Rattle.rs_run.specs.Words.{TopWords}
 use Rattle.rs_run.specs.Content.{content_of}
 
@@ -43,7 +44,7 @@ scored_from column max place row (values ∷ rest) =
     if is_score max (number_at place values) then (do
       rows ← scored_from column max place (row + 1) rest
       Ok (values ∷ rows))
-    else Err (BadScore column row (number_at place values) max)
+    else Err (BadScore column (only row) (number_at place values) max)
 
 -- the lines of rows, from this rank on
 abbrev pub lines_from : ℕ → ℕ → List (List Value) → List (List ℕ)

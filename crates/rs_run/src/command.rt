@@ -91,7 +91,7 @@ fn answer<F: Files, S: Scorer, O: Sink>(
             files,
             out,
         ),
-        Some(Command::Plain(script)) => plain(alloc, script, files, scorer),
+        Some(Command::Plain(script)) => plain(alloc, script, files, scorer, out),
         None => Err(Fault::Usage),
     }
 }

@@ -1,6 +1,6 @@
 ghost use Rattle.std.specs.Prelude.{◌≡◌, Some, IfOk};
 ghost use Rattle.std.specs.String.{string_bytes};
-ghost use Rattle.rs_run.specs.Faults.{fault_line, fetch_text, status_of, table_text};
+ghost use Rattle.rs_run.specs.Faults.{fault_line, fetch_text, numbers_of, only, spaced, status_of, table_text};
 
 use crate::script_fault::ScriptFault;
 use crate::status::Status;
@@ -33,10 +33,11 @@ pub enum Fault {
         name: Text,
         why: TableFault,
     },
-    /// A row's number is no score. Rows count from 1.
+    /// What was answered for these rows is no score. For each FROM entry that the predicate's arguments speak of it is
+    /// the number of its row, counted from 1, and 0 for the others.
     BadScore {
         predicate: Text,
-        row: u32,
+        rows: [u32; 6],
         got: i128,
         max: u32,
     },
@@ -136,12 +137,14 @@ impl Fault {
             Fault::Table { name, why } => table_line(alloc, name, why),
             Fault::BadScore {
                 predicate,
-                row,
+                rows,
                 got,
                 max,
             } => {
                 let predicate = predicate.as_str();
-                Ok(format!(in alloc; "score: {predicate} rows {row}: {got} is not in 0..{max}\n")?)
+                let rows = spaced_rows(alloc, rows)?;
+                let rows = rows.as_str();
+                Ok(format!(in alloc; "score: {predicate} rows {rows}: {got} is not in 0..{max}\n")?)
             }
             Fault::Probe { predicate } => {
                 let predicate = predicate.as_str();
@@ -180,6 +183,30 @@ fn table_line(alloc: Global, name: &Text, why: &TableFault) -> Result<String, Me
     let name = name.as_str();
     let why = why.as_str();
     Ok(format!(in alloc; "table: {name}: {why}\n")?)
+}
+
+/// The row numbers that aren't 0, with one space between.
+fn spaced_rows(alloc: Global, rows: &[u32]) -> Result<String, Memory>
+    ensures { IfOk result (λ text. string_bytes text ≡ spaced (numbers_of rows.now)) }
+{
+    let mut text = String::new(alloc);
+    let mut space = "";
+    for row in rows {
+        if *row == 0 {
+            continue;
+        }
+        text.push_str(space)?;
+        text.push_str(row.to_string(alloc)?.as_str())?;
+        space = " ";
+    }
+    Ok(text)
+}
+
+/// The row numbers of six entries, of which only the first one has a row.
+pub fn only_row(row: u32) -> [u32; 6]
+    ensures { result ≡ only row }
+{
+    [row, 0, 0, 0, 0, 0]
 }
 
 /// The line of a script that ends early.

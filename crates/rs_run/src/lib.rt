@@ -6,6 +6,8 @@ mod fault;
 mod fetch;
 mod laws;
 mod plain;
+mod put;
+mod query;
 mod report;
 mod script_fault;
 mod statement;

@@ -12,7 +12,7 @@ use crate::script_fault::ScriptFault;
 use crate::statement::run_statements;
 use rs_expr::Scorer;
 use rs_lex::{MOST_BYTES, tokens};
-use rs_outside::Files;
+use rs_outside::{Files, Sink};
 use rs_syntax::parse;
 use rs_value::{Text, TextFault};
 use std::alloc::Global;
@@ -21,22 +21,24 @@ use std::alloc::Global;
 const BYTE_ORDER_MARK: &[u8] = b"\xEF\xBB\xBF";
 
 /// Does what a script says, statement by statement, up to the first fault.
-pub fn plain<F: Files, S: Scorer>(
+pub fn plain<F: Files, S: Scorer, O: Sink>(
     alloc: Global,
     name: &Text,
     files: &mut F,
     scorer: &mut S,
+    out: &mut O,
 ) -> Result<(), Fault>
     ensures { RanScript (finds_in (F.told files.old)) (S.answer scorer.old) name.now result
         (seen (F.told files.old) (F.told files.new) (F.faults files.old) (F.faults files.new))
         (seen_scorer (S.told scorer.old) (S.told scorer.new) (S.calls scorer.old) (S.calls scorer.new) (S.faults scorer.old) (S.faults scorer.new))
-        (F.steady files.old) (S.steady scorer.old) }
+        (seen (O.pieces out.old) (O.pieces out.new) (O.faults out.old) (O.faults out.new))
+        (F.steady files.old) (S.steady scorer.old) (O.steady out.old) }
 {
     let script = match fetch_script(alloc, name, files) {
         Ok(script) => script,
         Err(fault) => return Err(fault),
     };
-    run_text(alloc, &script, files, scorer)
+    run_text(alloc, &script, files, scorer, out)
 }
 
 /// Fetches the text of a script, without the byte order mark at its start.
@@ -78,19 +80,21 @@ fn without_mark(bytes: &[u8]) -> &[u8]
 }
 
 /// Does what the text of a script says.
-fn run_text<F: Files, S: Scorer>(
+fn run_text<F: Files, S: Scorer, O: Sink>(
     alloc: Global,
     script: &Text,
     files: &mut F,
     scorer: &mut S,
+    out: &mut O,
 ) -> Result<(), Fault>
     requires { length script.now ≤ 1048576 }
     ensures { RanText (finds_in (F.told files.old)) (S.answer scorer.old) script.now result
         (seen (F.told files.old) (F.told files.new) (F.faults files.old) (F.faults files.new))
         (seen_scorer (S.told scorer.old) (S.told scorer.new) (S.calls scorer.old) (S.calls scorer.new) (S.faults scorer.old) (S.faults scorer.new))
-        (F.steady files.old) (S.steady scorer.old) }
+        (seen (O.pieces out.old) (O.pieces out.new) (O.faults out.old) (O.faults out.new))
+        (F.steady files.old) (S.steady scorer.old) (O.steady out.old) }
 {
     let tokens = tokens(alloc, script)?;
     let statements = parse(alloc, script, &tokens)?;
-    run_statements(alloc, &statements, files, scorer)
+    run_statements(alloc, &statements, files, scorer, out)
 }

@@ -13,34 +13,45 @@ ghost use Rattle.rs_run.specs.Run.{finds_in};
 ghost use Rattle.rs_run.specs.Statements.{or_room_fault, predicate_outcome, with_room};
 ghost use Rattle.rs_run.specs.Steps.{FetchesFile, IsIndexNamed, IsPredicateNamed, IsReadTable, Keeps, KeepsScorer, Leaves, RanIndex, RanStatements, RanTable, Stepped, index_fault, seen_scorer};
 
-use crate::fault::Fault;
+use crate::fault::{Fault, only_row};
 use crate::fetch::{fetch_file, table_fault};
+use crate::query::{explain_query, run_query};
 use crate::script_fault::ScriptFault;
 use rs_bind::{bind_index, bind_predicate, bind_table};
 use rs_catalog::{Catalog, IndexDef, IndexFault, What};
 use rs_expr::{Predicate, Scorer};
-use rs_outside::Files;
+use rs_outside::{Files, Sink};
 use rs_syntax::{Name, Statement};
 use rs_table::{Schema, TABLE_LIMIT, Table};
 use rs_value::{Kind, Text};
 use std::alloc::Global;
 
 /// Runs the statements of a script one after another, up to the first fault, over an empty catalogue.
-pub fn run_statements<F: Files, S: Scorer>(
+pub fn run_statements<F: Files, S: Scorer, O: Sink>(
     alloc: Global,
     statements: &[Statement],
     files: &mut F,
     scorer: &mut S,
+    out: &mut O,
 ) -> Result<(), Fault>
     requires written { AreWritten (commands_of statements.now) }
     ensures { RanStatements (finds_in (F.told files.old)) (S.answer scorer.old) (commands_of statements.now) result
         (seen (F.told files.old) (F.told files.new) (F.faults files.old) (F.faults files.new))
         (seen_scorer (S.told scorer.old) (S.told scorer.new) (S.calls scorer.old) (S.calls scorer.new) (S.faults scorer.old) (S.faults scorer.new))
-        (F.steady files.old) (S.steady scorer.old) }
+        (seen (O.pieces out.old) (O.pieces out.new) (O.faults out.old) (O.faults out.new))
+        (F.steady files.old) (S.steady scorer.old) (O.steady out.old) }
 {
     let mut catalog = Catalog::new(alloc);
     for (index, statement) in statements.iter().enumerate() {
-        match run_statement(alloc, index + 1, statement, &mut catalog, files, scorer) {
+        match run_statement(
+            alloc,
+            index + 1,
+            statement,
+            &mut catalog,
+            files,
+            scorer,
+            out,
+        ) {
             Ok(()) => {}
             Err(fault) => return Err(fault),
         }
@@ -49,23 +60,26 @@ pub fn run_statements<F: Files, S: Scorer>(
 }
 
 /// Runs a statement, which counts from 1 in its script.
-fn run_statement<F: Files, S: Scorer>(
+fn run_statement<F: Files, S: Scorer, O: Sink>(
     alloc: Global,
     number: usize,
     statement: &Statement,
     catalog: &mut Catalog,
     files: &mut F,
     scorer: &mut S,
+    out: &mut O,
 ) -> Result<(), Fault>
     requires written { IsWritten (command_of statement.now) }
     ensures stepped { Stepped (finds_in (F.told files.old)) (S.answer scorer.old) number (command_of statement.now) catalog.old catalog.new result
         (seen (F.told files.old) (F.told files.new) (F.faults files.old) (F.faults files.new))
         (seen_scorer (S.told scorer.old) (S.told scorer.new) (S.calls scorer.old) (S.calls scorer.new) (S.faults scorer.old) (S.faults scorer.new))
-        (F.steady files.old) (S.steady scorer.old) }
+        (seen (O.pieces out.old) (O.pieces out.new) (O.faults out.old) (O.faults out.new))
+        (F.steady files.old) (S.steady scorer.old) (O.steady out.old) }
     ensures files { Keeps (seen (F.told files.old) (F.told files.new) (F.faults files.old) (F.faults files.new)) (F.steady files.old) (F.steady files.new) }
     ensures scorer { KeepsScorer
         (seen_scorer (S.told scorer.old) (S.told scorer.new) (S.calls scorer.old) (S.calls scorer.new) (S.faults scorer.old) (S.faults scorer.new))
         (S.answer scorer.old) (S.answer scorer.new) (S.steady scorer.old) (S.steady scorer.new) }
+    ensures out { Keeps (seen (O.pieces out.old) (O.pieces out.new) (O.faults out.old) (O.faults out.new)) (O.steady out.old) (O.steady out.new) }
 {
     match statement {
         Statement::CreateTable {
@@ -79,6 +93,9 @@ fn run_statement<F: Files, S: Scorer>(
         Statement::CreateRankIndex { name, .. } => {
             create_index(alloc, name, statement, catalog, scorer)
         }
+        Statement::Query(select) => run_query(alloc, select, catalog, scorer, out),
+        Statement::Explain(select) => explain_query(alloc, select, catalog),
+        Statement::ExplainAnalyze(select) => explain_query(alloc, select, catalog),
         _ => Err(Fault::Script(ScriptFault::NotBuilt { statement: number })),
     }
 }
@@ -275,7 +292,7 @@ fn index_fault(predicate: Text, why: IndexFault) -> Fault
     match why {
         IndexFault::BadScore { row, got, max } => Fault::BadScore {
             predicate,
-            row,
+            rows: only_row(row),
             got,
             max,
         },

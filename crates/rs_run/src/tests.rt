@@ -1,6 +1,8 @@
 //! What no clause says: that runs succeed, and what they print.
 
 mod create;
+mod queries;
+mod scripts;
 
 use crate::{Status, one_run, run};
 use rs_expr::FormulaScorer;

@@ -6,15 +6,17 @@ ghost use Rattle.rs_table.specs.Column.{Column, place_of};
 ghost use Rattle.rs_table.specs.NumberColumn.{HasNumberColumn};
 ghost use Rattle.rs_lines.specs.Row.{line_of};
 ghost use Rattle.rs_run.specs.Outcome.{seen};
+ghost use Rattle.rs_run.specs.Faults.{only};
 ghost use Rattle.rs_run.specs.Run.{finds_in};
 ghost use Rattle.rs_run.specs.Top.{named_table, number_at, scored_from};
 ghost use Rattle.rs_expr.specs.Scores.{is_score, score_of};
 ghost use Rattle.rs_run.specs.Steps.{FetchesFile, IsRanked, IsRow, IsTopTable, PutsLines, RanTop, Ranks, lines_of, row_in};
 
-use crate::fault::Fault;
+use crate::fault::{Fault, only_row};
 use crate::fetch::{fetch_file, table_fault};
+use crate::put::put_line;
 use rs_lines::row_line;
-use rs_outside::{Files, Sink, SinkFault};
+use rs_outside::{Files, Sink};
 use rs_rank::{ScoredRow, sort_stably};
 use rs_table::{Schema, TABLE_LIMIT, Table, TableFault};
 use rs_value::{Text, Value};
@@ -157,12 +159,12 @@ fn score_of(number: i64, max: u32) -> Option<u32>
 
 /// The fault of a row whose number is no score.
 fn bad_score(column: &Text, row: u32, number: i64, max: u32) -> Fault
-    ensures { (result ≡ Fault.BadScore column.now row number max) ⊎ (result ≡ Fault.Memory) }
+    ensures { (result ≡ Fault.BadScore column.now (only row) number max) ⊎ (result ≡ Fault.Memory) }
 {
     match column.copy() {
         Ok(predicate) => Fault::BadScore {
             predicate,
-            row,
+            rows: only_row(row),
             got: number as i128,
             max,
         },
@@ -199,21 +201,6 @@ fn put_rows<O: Sink>(
         }
     }
     Ok(())
-}
-
-/// Puts a line.
-fn put_line<O: Sink>(line: &[u8], out: &mut O) -> Result<(), Fault>
-    ensures puts { PutsLines (line.now ∷ []) result
-        (seen (O.pieces out.old) (O.pieces out.new) (O.faults out.old) (O.faults out.new))
-        (O.steady out.old) }
-    ensures faults { O.faults out.old ≤ O.faults out.new }
-    ensures steady { O.steady out.old → O.steady out.new }
-{
-    match out.put(line) {
-        Ok(()) => Ok(()),
-        Err(SinkFault::Failed) => Err(Fault::Write),
-        Err(SinkFault::Memory) => Err(Fault::Memory),
-    }
 }
 
 /// The printed line of a row.

@@ -1,36 +1,12 @@
 //! Scripts of CREATE statements: what they end with, and the calls of the scorer.
 
+use super::scripts::{BASE_CALLS, assert_calls, behind_base, plain, told};
 use super::text;
-use crate::{Status, run};
-use rs_expr::{Call, MemScorer};
-use rs_outside::{MemFiles, MemSink};
+use crate::Status;
+use rs_expr::MemScorer;
 use rs_value::{Memory, Value};
 use std::alloc::Global;
-use std::process::Abort;
 use std::test::Fail;
-
-/// The script in front of each case.
-const BASE: &str = "CREATE TABLE h (name TEXT, price INT, city INT) FROM 'h.csv';\n\
-    CREATE TABLE t (x INT, y INT) FROM 't.csv';\n\
-    CREATE PREDICATE p (v INT) MAX 10 AS v;\n\
-    CREATE PREDICATE q (v INT) MAX 10 COST 100 AS v;\n\
-    CREATE PREDICATE c (v INT) MAX 100 AS v;\n\
-    CREATE PREDICATE near (a INT, b INT) MAX 100 AS 100 - ABS(a - b);\n\
-    CREATE RANK INDEX px ON t (p(x));\n";
-
-/// The calls that BASE makes.
-const BASE_CALLS: [&str; 4] = ["p 10", "p 8", "p 5", "p 2"];
-
-/// The files of every run here.
-const FILES: [(&str, &str); 7] = [
-    ("h.csv", "name,price,city\na,40,1\nb,90,1\nc,40,2\n"),
-    ("t.csv", "x,y\n10,3\n8,9\n5,1\n2,10\n"),
-    ("u.csv", "v\n3\n1\n3\n4\n"),
-    ("e.csv", "v\n"),
-    ("s.csv", "a b\nx\nit's\n"),
-    ("empty", ""),
-    ("short.csv", "x,y\n1,2\n3\n"),
-];
 
 /// A script behind BASE, what it ends with, and the calls behind those of BASE: the predicate's name and the arguments.
 type Case = (&'static str, Status, &'static str, &'static [&'static str]);
@@ -95,7 +71,7 @@ const CASES: [Case; 35] = [
     (
         "SELECT x FROM nope ORDER BY nope(x);",
         Status::Script,
-        "script: not built statement 8\n",
+        "script: bind NoTable at 350\n",
         &[],
     ),
     (
@@ -249,65 +225,6 @@ const CASES: [Case; 35] = [
         &[],
     ),
 ];
-
-/// What a run left.
-#[derive(Drop)]
-struct Ended {
-    status: Status,
-    out: MemSink,
-    err: MemSink,
-    scorer: MemScorer,
-}
-
-/// Runs a script over these files and a scorer.
-fn plain(alloc: Global, script: Vec<u8>, mut scorer: MemScorer) -> Result<Ended, Memory> {
-    let mut files = MemFiles::new(alloc);
-    for (name, bytes) in FILES {
-        files.add(text(alloc, name)?, bytes.as_bytes().to_vec(alloc)?)?;
-    }
-    files.add(text(alloc, "s.sql")?, script)?;
-    let words = vec![in alloc; text(alloc, "plain")?, text(alloc, "s.sql")?]?;
-    let mut out = MemSink::new(alloc);
-    let mut err = MemSink::new(alloc);
-    let status = run(alloc, &words, &mut files, &mut scorer, &mut out, &mut err);
-    Ok(Ended {
-        status,
-        out,
-        err,
-        scorer,
-    })
-}
-
-/// BASE, and then a script.
-fn behind_base(alloc: Global, script: &str) -> Result<Vec<u8>, Memory> {
-    let mut bytes = BASE.as_bytes().to_vec(alloc)?;
-    bytes.extend_from_slice(script.as_bytes())?;
-    Ok(bytes)
-}
-
-/// The predicate's name and the arguments of a call.
-fn told(alloc: Global, call: &Call) -> Result<Vec<u8>, Memory> {
-    let mut line = call.predicate.bytes().to_vec(alloc)?;
-    for value in call.args.items() {
-        line.push(b' ')?;
-        value.print(&mut line)?;
-    }
-    Ok(line)
-}
-
-/// Asserts that these calls were made, and no others.
-fn assert_calls(
-    rt: &impl Abort,
-    alloc: Global,
-    calls: &[Call],
-    wanted: &[&str],
-) -> Result<(), Fail> {
-    assert_eq!(rt; calls.len(), wanted.len());
-    for (call, line) in calls.iter().zip(wanted) {
-        assert_eq!(rt; told(alloc, call)?.as_slice(), line.as_bytes());
-    }
-    Ok(())
-}
 
 #[test]
 fn makes_what_scripts_say(rt: HostRuntime) -> Result<(), Fail> {

@@ -27,6 +27,6 @@ returns-in-Some-Plain g c = ForRun-plain (g.F.Files.told c.args.files.now) (g.S.
     (seen (g.F.Files.told c.args.files.now) (g.F.Files.told c.plain.new.files) (g.F.Files.faults c.args.files.now) (g.F.Files.faults c.plain.new.files))
     (seen_scorer (g.S.Scorer.told c.args.scorer.now) (g.S.Scorer.told c.plain.new.scorer) (g.S.Scorer.calls c.args.scorer.now) (g.S.Scorer.calls c.plain.new.scorer)
     (g.S.Scorer.faults c.args.scorer.now) (g.S.Scorer.faults c.plain.new.scorer))
-    (seen (g.O.Sink.pieces c.args.out.now) (g.O.Sink.pieces c.args.out.now) (g.O.Sink.faults c.args.out.now) (g.O.Sink.faults c.args.out.now))
+    (seen (g.O.Sink.pieces c.args.out.now) (g.O.Sink.pieces c.plain.new.out) (g.O.Sink.faults c.args.out.now) (g.O.Sink.faults c.plain.new.out))
     (g.F.Files.steady c.args.files.now) (g.S.Scorer.steady c.args.scorer.now) (g.O.Sink.steady c.args.out.now)
-    (sym (rw c.in-Some-Plain.field-0-is at c.in-Some-Plain.ensures)) c.plain.ensures refl
+    (sym (rw c.in-Some-Plain.field-0-is at c.in-Some-Plain.ensures)) c.plain.ensures

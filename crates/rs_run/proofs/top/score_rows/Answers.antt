@@ -5,6 +5,7 @@ use mir.Val.{SFits}
 use mir.Syntax.{w64}
 use Rattle.std.proofs.lemmas.List.{take_more, take_all, map-append}
 use Rattle.rs_run.specs.declared.fault.Fault.TheVariants.{BadScore}
+use Rattle.rs_run.specs.Faults.{only}
 use Rattle.rs_run.specs.Top.{scored_from}
 use Rattle.rs_expr.specs.Scores.{is_score, score_of}
 use Rattle.std.specs.List.{AllByRecursion}
@@ -31,7 +32,7 @@ returns-in_default c =
     let found = ap (λ p. scored_from c.args.column.now c.args.max p 1 table.rows) (sym (place_is _ place c.number_column-place.ensures)) in
     let tells = simp to_z-of_z at c.bad_score.ensures in
     elim tells [
-      | inl e ↦ inr (found ∙ sym c.loop-index.invariant.rest ∙ bad ∙ ap (λ got. Err (BadScore c.args.column.now (i + 1) got c.args.max)) (sym c.number_in-number.ensures) ∙ ap Err (sym e))
+      | inl e ↦ inr (found ∙ sym c.loop-index.invariant.rest ∙ bad ∙ ap (λ got. Err (BadScore c.args.column.now (only (i + 1)) got c.args.max)) (sym c.number_in-number.ensures) ∙ ap Err (sym e))
       | inr e ↦ inl e
     ]
 

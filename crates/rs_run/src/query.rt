@@ -1,0 +1,149 @@
+ghost use Rattle.std.specs.Prelude.{◌≡◌, ◌⊎◌, ◌+◌, IfErr, IfOk, IfSome};
+ghost use Rattle.rs_syntax.specs.Syntax.{query_of};
+ghost use Rattle.rs_lines.specs.Row.{line_of};
+ghost use Rattle.rs_query.specs.Answers.{predicate_at};
+ghost use Rattle.rs_query.specs.WellFormed.{IsBlock, IsQuery};
+ghost use Rattle.rs_bind.specs.Queries.{bound_query};
+ghost use Rattle.rs_bind.specs.Written.{IsWrittenQuery};
+ghost use Rattle.rs_run.specs.Outcome.{seen};
+ghost use Rattle.rs_run.specs.Statements.{explain_outcome, or_bind_fault, query_fault, rank_lines};
+ghost use Rattle.rs_run.specs.Steps.{Keeps, KeepsScorer, Leaves, PutsLines, RanQuery, seen_scorer};
+
+use crate::fault::Fault;
+use crate::put::put_line;
+use rs_bind::bind;
+use rs_catalog::Catalog;
+use rs_expr::Scorer;
+use rs_lines::row_line;
+use rs_outside::Sink;
+use rs_plain::{PlainFault, plain};
+use rs_query::{Block, Query};
+use rs_rank::Answer;
+use rs_syntax::Select;
+use rs_value::Text;
+use std::alloc::Global;
+
+/// Prints the rows of a query: makes all its calls, and then puts the rows, each as one line.
+pub fn run_query<S: Scorer, O: Sink>(
+    alloc: Global,
+    select: &Select,
+    catalog: &Catalog,
+    scorer: &mut S,
+    out: &mut O,
+) -> Result<(), Fault>
+    requires written { IsWrittenQuery (query_of select.now) }
+    ensures ran { RanQuery (S.answer scorer.old) catalog.now (or_bind_fault (bound_query catalog.now (query_of select.now))) result
+        (seen_scorer (S.told scorer.old) (S.told scorer.new) (S.calls scorer.old) (S.calls scorer.new) (S.faults scorer.old) (S.faults scorer.new))
+        (seen (O.pieces out.old) (O.pieces out.new) (O.faults out.old) (O.faults out.new))
+        (S.steady scorer.old) (O.steady out.old) }
+    ensures scorer { KeepsScorer
+        (seen_scorer (S.told scorer.old) (S.told scorer.new) (S.calls scorer.old) (S.calls scorer.new) (S.faults scorer.old) (S.faults scorer.new))
+        (S.answer scorer.old) (S.answer scorer.new) (S.steady scorer.old) (S.steady scorer.new) }
+    ensures out { Keeps (seen (O.pieces out.old) (O.pieces out.new) (O.faults out.old) (O.faults out.new)) (O.steady out.old) (O.steady out.new) }
+{
+    let query = match bind(alloc, catalog, select) {
+        Ok(query) => query,
+        Err(why) => return Err(Fault::from(why)),
+    };
+    let rows = match plain(alloc, catalog, &query, scorer) {
+        Ok(rows) => rows,
+        Err(why) => return Err(query_fault(catalog, &query, why)),
+    };
+    put_answers(alloc, &rows, out)
+}
+
+/// Binds the query of an EXPLAIN. Nothing is told of it, and no scorer is called.
+pub fn explain_query(alloc: Global, select: &Select, catalog: &Catalog) -> Result<(), Fault>
+    requires written { IsWrittenQuery (query_of select.now) }
+    ensures { Leaves (explain_outcome catalog.now (query_of select.now)) catalog.now result }
+{
+    match bind(alloc, catalog, select) {
+        Ok(_) => Ok(()),
+        Err(why) => Err(Fault::from(why)),
+    }
+}
+
+/// The fault of a query that has no answer, with the name of the predicate.
+fn query_fault(catalog: &Catalog, query: &Query, why: PlainFault) -> Fault
+    requires { IsQuery catalog.now query.now }
+    ensures { (result ≡ query_fault catalog.now why) ⊎ (result ≡ Fault.Memory) }
+{
+    match why {
+        PlainFault::BadScore {
+            predicate,
+            ids,
+            got,
+            max,
+        } => {
+            let rows = ids.rows;
+            match name_in_query(catalog, query, predicate) {
+                Some(predicate) => Fault::BadScore {
+                    predicate,
+                    rows,
+                    got,
+                    max,
+                },
+                None => Fault::Memory,
+            }
+        }
+        PlainFault::Probe { predicate } => match name_in_query(catalog, query, predicate) {
+            Some(predicate) => Fault::Probe { predicate },
+            None => Fault::Memory,
+        },
+        PlainFault::Memory => Fault::Memory,
+    }
+}
+
+/// A copy of the name of the predicate of this number, which a term of the query calls. There is none where there is no
+/// memory for it.
+fn name_in_query(catalog: &Catalog, query: &Query, number: u8) -> Option<Text>
+    requires { IsQuery catalog.now query.now }
+    ensures { IfSome result (λ name. name ≡ (predicate_at catalog.now number).name) }
+{
+    match query {
+        Query::One(block, _) => name_in_block(catalog, block, number),
+        // The terms of the right block call the same predicates.
+        Query::Set(_, left, _, _) => name_in_block(catalog, left, number),
+    }
+}
+
+/// The same, of a block.
+fn name_in_block(catalog: &Catalog, block: &Block, number: u8) -> Option<Text>
+    requires { IsBlock catalog.now block.now }
+    ensures { IfSome result (λ name. name ≡ (predicate_at catalog.now number).name) }
+{
+    for term in block.terms.items() {
+        if term.predicate == number {
+            return catalog.predicate(number).name().copy().ok();
+        }
+    }
+    None
+}
+
+/// Puts the lines of the rows of an answer, ranked from 1, each in one put before the next row is looked at.
+fn put_answers<O: Sink>(alloc: Global, rows: &[Answer], out: &mut O) -> Result<(), Fault>
+    ensures puts { PutsLines (rank_lines 1 rows.now) result
+        (seen (O.pieces out.old) (O.pieces out.new) (O.faults out.old) (O.faults out.new))
+        (O.steady out.old) }
+    ensures keeps { Keeps (seen (O.pieces out.old) (O.pieces out.new) (O.faults out.old) (O.faults out.new)) (O.steady out.old) (O.steady out.new) }
+{
+    for (index, row) in rows.iter().enumerate() {
+        let line = match answer_line(alloc, index + 1, row) {
+            Ok(line) => line,
+            Err(fault) => return Err(fault),
+        };
+        match put_line(&line, out) {
+            Ok(()) => {}
+            Err(fault) => return Err(fault),
+        }
+    }
+    Ok(())
+}
+
+/// The printed line of a row.
+fn answer_line(alloc: Global, rank: usize, row: &Answer) -> Result<Vec<u8>, Fault>
+    ensures ok { IfOk result (λ line. line.items ≡ line_of rank row.now.score row.now.values) }
+    ensures err { IfErr result (λ fault. fault ≡ Fault.Memory) }
+{
+    Ok(row_line(alloc, rank as u128, row.score, row.values.items())?)
+}
