@@ -68,18 +68,21 @@ import time
 
 program, folder, runs, most = sys.argv[1], sys.argv[2], int(sys.argv[3]), sys.argv[4]
 shares = [("whole", 1), ("half", 2), ("quarter", 4)]
+# What starts a process counts towards its greatest memory. `time` is small, and Python isn't.
+peak = folder + "/peak"
+meter = ["/usr/bin/time", "-f", "%M", "-o", peak] if os.access("/usr/bin/time", os.X_OK) else []
 
 
 # The time of a run in seconds, and the greatest memory of its process in kB.
 def spent(words):
     start = time.perf_counter()
-    run = subprocess.Popen(words, stdout=subprocess.DEVNULL, stderr=subprocess.PIPE, stdin=subprocess.DEVNULL)
+    run = subprocess.Popen(meter + words, stdout=subprocess.DEVNULL, stderr=subprocess.PIPE, stdin=subprocess.DEVNULL)
     told = run.stderr.read().decode(errors="replace").strip()
     _, status, usage = os.wait4(run.pid, 0)
     time_of_run = time.perf_counter() - start
     if status != 0:
         sys.exit("bench: %s ended with %d: %s" % (" ".join(words), os.waitstatus_to_exitcode(status), told))
-    return time_of_run, usage.ru_maxrss
+    return time_of_run, int(open(peak).read().split()[-1]) if meter else usage.ru_maxrss
 
 
 def indexed(share):

@@ -279,8 +279,6 @@ script "${base}CREATE RANK INDEX hx ON h (p(price));"
 expect 'a score that is too great' 7 '' $'score: p rows 1: 40 is not in 0..10\n' -- plain s.sql
 script "${base}CREATE PREDICATE less (v INT) MAX 9 AS v - 50; CREATE RANK INDEX l ON h (less(price));"
 expect 'a score below 0' 7 '' $'score: less rows 1: -10 is not in 0..9\n' -- plain s.sql
-script "${base}SELECT x FROM t ORDER BY p(x);"
-refused 'a query behind an index' 'not built statement 6'
 script "CREATE TABLE n (x INT) FROM 'nope.csv';"
 expect 'a table of a missing file' 3 '' $'read: nope.csv: missing\n' -- plain s.sql
 script "CREATE TABLE n (x INT) FROM 'DIR';"
@@ -304,7 +302,66 @@ echo $? >"$work/said/status")
 compare 'the example of indexes' 0 '' ''
 (cd "$root" && timeout 60 "$program" plain examples/hotels.sql >"$work/said/out" 2>"$work/said/err"
 echo $? >"$work/said/status")
-compare 'the example of queries' 5 '' $'script: not built statement 5\n'
+compare 'the example of queries' 0 '1,400,Black Bear Lodge,Killarney,0
+2,351,Mountain Star Hostel,Zermatt,49
+3,342,Hostal La Paloma,Seville,58
+4,338,The Railway Arms,Crewe,62
+5,331,Hotel Baltica,Gdańsk,69
+1,89,Riverside Guest House,Inverness,84,89
+2,88,Auberge du Lac,Annecy,147,88
+3,85,Albergo del Sole,Siena,99,85
+4,82,Pension Edelweiss,Innsbruck,76,82
+5,81,Hotel Kastanienhof,Berlin,132,81
+1,583,Riverside Guest House,Inverness,84,89
+2,583,Black Bear Lodge,Killarney,0,61
+3,573,Hostal La Paloma,Seville,58,77
+4,570,Pension Edelweiss,Innsbruck,76,82
+5,568,Hotel Baltica,Gdańsk,69,79
+6,559,Gasthof Post,Garmisch,81,80
+7,556,Albergo del Sole,Siena,99,85
+8,555,Mountain Star Hostel,Zermatt,49,68
+9,552,Posada del Puerto,Cádiz,88,80
+10,549,Hotel Jadran,Zadar,73,74
+' ''
+(cd "$root" && timeout 60 "$program" plain examples/travel/evening.sql >"$work/said/out" 2>"$work/said/err"
+echo $? >"$work/said/status")
+compare 'the example of an evening' 0 '1,814,Kraków,Stare Miasto,Hotel Bursztyn,97,Ogród Smaków,95,Muzeum Książąt Czartoryskich
+2,805,Kraków,Stare Miasto,"Kamienica ""Pod Sową""",108,Ogród Smaków,95,Collegium Maius
+3,803,Lisbon,Alfama,Pensão Andorinha,64,Tasca do Fadista,92,Museu do Fado
+4,803,Vienna,Alsergrund,Hotel Alte Wäscherei,86,Gasthaus Zwei Linden,94,Sigmund Freud Museum
+5,799,Kraków,Kazimierz,Gościniec Wolnica,58,Bistro Cymes,91,Muzeum Etnograficzne
+' ''
+
+# ---- queries
+script "${base}SELECT x FROM t ORDER BY p(x); SELECT y, x FROM t WHERE y < 9 ORDER BY p(y) + 2 * p(x) LIMIT 1;"
+expect 'two queries' 0 $'1,10,10\n2,8,8\n3,5,5\n4,2,2\n1,23,3,10\n' '' -- plain s.sql
+script "${base}SELECT x.name, y.name FROM h x, h y WHERE x.city = y.city ORDER BY near(x.price, y.price) LIMIT 3;"
+expect 'a table that is joined with itself' 0 $'1,100,a,a\n2,100,b,b\n3,100,c,c\n' '' -- plain s.sql
+script "${base}SELECT DISTINCT city FROM h ORDER BY p(city);"
+expect 'distinct values' 0 $'1,2,2\n2,1,1\n' '' -- plain s.sql
+script "${base}SELECT city FROM h UNION ALL SELECT y FROM t WHERE y < 4 ORDER BY p(city);"
+expect 'all rows of two blocks' 0 $'1,3,3\n2,2,2\n3,1,1\n4,1,1\n5,1,1\n' '' -- plain s.sql
+script "${base}SELECT city FROM h EXCEPT SELECT y FROM t ORDER BY p(city);"
+expect 'values that the right block lacks' 0 $'1,2,2\n' '' -- plain s.sql
+script "${base}SELECT x FROM t WHERE 1 = 2 ORDER BY p(x); SELECT x FROM t ORDER BY p(x) LIMIT 0;"
+expect 'queries without a row' 0 '' '' -- plain s.sql
+script "${base}EXPLAIN SELECT x FROM t ORDER BY p(x); EXPLAIN ANALYZE SELECT price FROM h ORDER BY p(price);"
+expect 'plans' 0 '' '' -- plain s.sql
+script "${base}SELECT x FROM t ORDER BY p(x) LIMIT 1; SELECT x.name FROM h x, h y ORDER BY near(x.city, y.price) + near(y.price, -50);"
+expect 'a bad score behind a query' 7 $'1,10,10\n' $'score: near rows 2: -40 is not in 0..100\n' -- plain s.sql
+script "${base}CREATE PREDICATE less (a INT, b INT) MAX 99 AS a - b; SELECT y.name FROM h x, t z, h y ORDER BY less(y.price, x.price);"
+expect 'a bad score of two tables' 7 '' $'score: less rows 2 1: -50 is not in 0..99\n' -- plain s.sql
+front="${base}SELECT DISTINCT name FROM h ORDER BY "
+script "${front}near(price, 1);"
+refused 'a column that DISTINCT drops' "bind DistinctNeedsOutput at ${#front}"
+front="${base}SELECT name FROM h WHERE "
+script "${front}name = 3 ORDER BY p(city);"
+refused 'a text and a number in a query' "bind WrongKind at ${#front}"
+front="${base}EXPLAIN SELECT "
+script "${front}z FROM h ORDER BY p(city);"
+refused 'a column that is not there in a plan' "bind NoColumn at ${#front}"
+script "${base}SELECT x FROM t ORDER BY p(x); DECLARE c CURSOR FOR SELECT x FROM t ORDER BY p(x);"
+expect 'a cursor behind a query' 5 $'1,10,10\n2,8,8\n3,5,5\n4,2,2\n' $'script: not built statement 7\n' -- plain s.sql
 
 # ---- the words of the command line
 expect 'no words' 2 '' "$usage"$'\n' --
@@ -338,6 +395,11 @@ compare 'a full device, and nothing to write' 0 '' ''
 timeout 60 "$program" top h.csv price 100 2 >&- 2>"$work/said/err"
 echo $? >"$work/said/status"
 compare 'standard output is closed' 4 '' $'write\n'
+script "${base}SELECT x FROM t ORDER BY p(x);"
+timeout 60 "$program" plain s.sql >/dev/full 2>"$work/said/err"
+echo $? >"$work/said/status"
+: >"$work/said/out"
+compare 'a full device under a query' 4 '' $'write\n'
 timeout 60 "$program" top nope.csv price 100 2 >"$work/said/out" 2>&-
 echo $? >"$work/said/status"
 : >"$work/said/err"

@@ -1,0 +1,151 @@
+#!/usr/bin/env bash
+# Measures `ranksql plain` on a query over three tables, and beside it, in the same run, sqlite3 on the same join with
+# the score as an expression. Each table has 600 rows, and 60,000 combinations of rows satisfy the condition. `plain`
+# scores each of them by each of the three terms, sorts all, and prints the first ten. Each runs five times, in turn,
+# and the shortest time counts. It is that of a whole process, which reads the files too. Both have to print the same
+# rows. How long they take decides nothing.
+# The program is the one that ./ranksql builds, or the one that the variable RANKSQL names.
+set -u -o pipefail
+
+ROWS=600
+NUMBER=7
+TERMS=3
+RUNS=5
+export LC_ALL=C
+
+root=$(cd "$(dirname "$0")/.." && pwd -P)
+work=$(mktemp -d) || exit 1
+trap 'rm -rf "$work"' EXIT
+
+if ! command -v sqlite3 >/dev/null 2>&1; then
+    echo "bench: sqlite3 is not found (on Debian: apt-get install sqlite3): nothing is measured without it" >&2
+    exit 1
+fi
+
+# Hotels, restaurants and museums in one city for each ten rows. The numbers follow from the row and from NUMBER, so
+# each run makes the same files.
+make_tables() {
+    awk -v rows="$ROWS" -v number="$NUMBER" -v folder="$work" '
+        BEGIN {
+            cities = rows < 10 ? 1 : int(rows / 10)
+            hotel = folder "/hotel.csv"
+            restaurant = folder "/restaurant.csv"
+            museum = folder "/museum.csv"
+            print "name,price,city" >hotel
+            print "name,city,rating" >restaurant
+            print "name,city,fame" >museum
+            for (row = 1; row <= rows; row++) {
+                printf "h%d,%d,%d\n", row, 40 + (37 * row + 11 * number) % 300, (row + number) % cities >hotel
+                printf "r%d,%d,%d\n", row, (3 * row + number) % cities, (13 * row + 5 * number) % 101 >restaurant
+                printf "m%d,%d,%d\n", row, (7 * row + number) % cities, (29 * row + 3 * number) % 201 >museum
+            }
+        }'
+}
+
+make_script() {
+    cat <<SQL
+CREATE TABLE hotel (name TEXT, price INT, city INT) FROM '$work/hotel.csv';
+CREATE TABLE restaurant (name TEXT, city INT, rating INT) FROM '$work/restaurant.csv';
+CREATE TABLE museum (name TEXT, city INT, fame INT) FROM '$work/museum.csv';
+CREATE PREDICATE cheap (price INT) MAX 300 COST 2 AS 340 - price;
+CREATE PREDICATE tasty (rating INT) MAX 100 AS rating;
+CREATE PREDICATE famous (fame INT) MAX 200 COST 50 AS fame;
+SELECT h.name, r.name, m.name FROM hotel h, restaurant r, museum m
+  WHERE h.city = r.city AND r.city = m.city
+  ORDER BY cheap(h.price) + 3 * tasty(r.rating) + 2 * famous(m.fame) LIMIT 10;
+SQL
+}
+
+run_ranksql() {
+    "$program" plain "$work/plain.sql"
+}
+
+# The tables are in memory, and number columns are declared, so that sqlite3 has nothing to convert in the query. The
+# rows of a table are put in as they stand in the file, so a rowid is the number of a row.
+ask_sqlite() {
+    sqlite3 -batch :memory: \
+        -cmd 'CREATE TABLE hotel(name TEXT, price INTEGER, city INTEGER);' \
+        -cmd 'CREATE TABLE restaurant(name TEXT, city INTEGER, rating INTEGER);' \
+        -cmd 'CREATE TABLE museum(name TEXT, city INTEGER, fame INTEGER);' \
+        -cmd ".import --csv --skip 1 $work/hotel.csv hotel" \
+        -cmd ".import --csv --skip 1 $work/restaurant.csv restaurant" \
+        -cmd ".import --csv --skip 1 $work/museum.csv museum" \
+        -cmd '.mode list' -cmd '.separator ,' \
+        "SELECT $1 FROM hotel h, restaurant r, museum m WHERE h.city = r.city AND r.city = m.city $2;" </dev/null
+}
+
+run_sqlite() {
+    ask_sqlite '340 - h.price + 3 * r.rating + 2 * m.fame AS score, h.name, r.name, m.name' \
+        'ORDER BY score DESC, h.rowid, r.rowid, m.rowid LIMIT 10'
+}
+
+# Runs a command, adds its time in microseconds to the file NAME.times, and keeps what it prints.
+time_once() {
+    local name=$1 start end
+    start=${EPOCHREALTIME/[.,]/}
+    "run_$name" >"$work/$name.out" || { echo "bench: $name failed" >&2; exit 1; }
+    end=${EPOCHREALTIME/[.,]/}
+    echo $((end - start)) >>"$work/$name.times"
+}
+
+# The shortest time, in microseconds.
+best_of() {
+    sort -n "$work/$1.times" | head -n 1
+}
+
+# The greatest memory of a run of the program, in kB: as GNU time tells it, or else the last value that was seen in
+# /proc, where it never falls. It prints nothing where neither is there.
+peak_of_program() {
+    local pid
+    if [ -x /usr/bin/time ]; then
+        /usr/bin/time -f %M -o "$work/peak" "$program" plain "$work/plain.sql" >/dev/null && cat "$work/peak"
+        return
+    fi
+    [ -r /proc/self/status ] || return
+    "$program" plain "$work/plain.sql" >/dev/null &
+    pid=$!
+    while kill -0 "$pid" 2>/dev/null; do
+        awk '/^VmHWM/ { print $2 }' "/proc/$pid/status" 2>/dev/null
+    done | tail -n 1
+}
+
+make_tables
+make_script >"$work/plain.sql"
+combinations=$(ask_sqlite 'count(*)' '') || exit
+
+if [ -n "${RANKSQL:-}" ]; then
+    program=$RANKSQL
+else
+    "$root/ranksql" plain "$work/plain.sql" >/dev/null || exit
+    program=$root/crates/ranksql/out/ranksql
+fi
+
+echo "three tables of $ROWS rows; the first 10 of $combinations combinations by score; the best of $RUNS runs"
+for _ in $(seq "$RUNS"); do
+    for name in ranksql sqlite; do
+        time_once "$name"
+    done
+    # sqlite3 prints no rank.
+    awk '{ print NR "," $0 }' "$work/sqlite.out" >"$work/wanted"
+    if ! cmp -s "$work/wanted" "$work/ranksql.out"; then
+        echo "bench: the rows differ" >&2
+        diff "$work/wanted" "$work/ranksql.out" >&2
+        exit 1
+    fi
+done
+if [ "$(wc -l <"$work/ranksql.out")" -ne 10 ]; then
+    echo "bench: there are not ten rows" >&2
+    exit 1
+fi
+echo "both print the same 10 rows"
+for name in ranksql sqlite; do
+    awk -v name="$name" -v best="$(best_of "$name")" 'BEGIN { printf "%-8s %7.1f ms\n", name, best / 1000 }'
+done
+awk -v ours="$(best_of ranksql)" -v theirs="$(best_of sqlite)" \
+    'BEGIN { printf "ranksql takes %.2f of the time of sqlite3\n", ours / theirs }'
+calls=$((combinations * TERMS))
+echo "ranksql calls the scorer $calls times, as reckoned: once for each combination and each of $TERMS terms"
+peak=$(peak_of_program)
+if [ -n "$peak" ]; then
+    awk -v peak="$peak" 'BEGIN { printf "ranksql holds at most %.1f MB of memory\n", peak * 1024 / 1000000 }'
+fi
