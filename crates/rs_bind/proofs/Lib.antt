@@ -10,6 +10,9 @@ pub mod EachFacts
 pub mod EntryFacts
 pub mod FilterFacts
 pub mod FormedFacts
+pub mod BlockRuleFacts
+pub mod QueryRuleFacts
+pub mod InOrderFacts
 pub mod IndexFacts
 pub mod MaskFacts
 pub mod NameFacts

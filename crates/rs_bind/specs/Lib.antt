@@ -10,3 +10,6 @@ pub mod Conditions
 pub mod Queries
 pub mod Terms
 pub mod Limits
+pub mod InOrder
+pub mod BlockRules
+pub mod QueryRules

@@ -1,0 +1,771 @@
+-- A query is typed, and refused, by its rules.
+use Rattle.std.proofs.Common.{ℕ, suc, ◌≡◌, ◌≢◌, ◌≤◌, ◌==◌, Bool, true, false, ◌||◌, ◌&&◌, List, [], ◌∷◌, length, refl, sym, subst, ap, ◌∙◌, inl, inr, arith}
+use Rattle.std.specs.Prelude.{◌⊎◌, ◌↔◌, ℤ, pos, negsuc, nat_le, Option, Some, None, Result, Ok, Err, if◌then◌else◌}
+use Rattle.std.specs.List.{list_any, zip}
+use Rattle.std.specs.Str.{bytes_eq}
+use Rattle.std.proofs.lemmas.Bool.Decides.{nat_tests}
+use Rattle.rs_value.specs.declared.kind.Kind.{Kind}
+use Rattle.rs_value.specs.declared.kind.Kind.TheVariants as kind
+use Rattle.rs_lex.specs.declared.token.Span.{Span}
+use Rattle.rs_syntax.specs.declared.name.Arg.{Arg}
+use Rattle.rs_syntax.specs.declared.name.Arg.TheVariants as arg
+use Rattle.rs_syntax.specs.declared.name.ColRef.{ColRef}
+use Rattle.rs_syntax.specs.declared.name.Name.{Name}
+use Rattle.rs_syntax.specs.declared.select.SetOp.{SetOp}
+use Rattle.rs_syntax.specs.declared.select.TermSyn.{TermSyn}
+use Rattle.rs_syntax.specs.Syntax as syntax
+use Rattle.rs_table.specs.Reading.{◌>>=◌}
+use Rattle.rs_expr.specs.Uses.{is_kind}
+use Rattle.rs_catalog.specs.Catalogue.{Catalogue, number_of}
+use Rattle.rs_catalog.specs.declared.index.BoundArg.{BoundArg}
+use Rattle.rs_catalog.specs.declared.index.BoundArg.TheVariants as bound
+use Rattle.rs_catalog.specs.declared.room.What.TheVariants as what
+use Rattle.rs_query.specs.WellFormed.{columns_of, entries_of}
+use Rattle.rs_query.specs.declared.query.Query.{Query}
+use Rattle.rs_query.specs.declared.query.Query.TheVariants.{One, Set}
+use Rattle.rs_query.specs.declared.term.Term.{Term}
+use Rattle.rs_bind.specs.declared.fault.BindFault.{BindFault}
+use Rattle.rs_bind.specs.declared.fault.BindFault.TheVariants.{At}
+use Rattle.rs_bind.specs.declared.fault.Why.TheVariants.{ConstantTerm, DistinctNeedsOutput, LimitOf, NoPredicate, SetColumnsDiffer, WrongCount, WrongKind}
+use Rattle.rs_bind.specs.BlockRules.{RefusedBlock, TypesBlock}
+use Rattle.rs_bind.specs.Indexes.{Entries, arg_of, args_of, is_column, of_kind, params_in, term_args}
+use Rattle.rs_bind.specs.InOrder.{Each, FirstRefused, none, and}
+use Rattle.rs_bind.specs.Names.{number_in, or_fault}
+use Rattle.rs_bind.specs.Queries.{Unranked, agree, are_outputs, as_argument, block_columns, bound_query, called, first_item, limit_of, max_in, names_of, needed_by, one_of, output_columns, set_of, terms_behind, terms_of, unranked_of, with_terms}
+use Rattle.rs_bind.specs.QueryRules.{HasArgs, HasPredicate, IsOutside, IsWithin, RefusedArg, RefusedLimit, RefusedQuery, RefusedTerm, RefusedTerms, TypesArg, TypesLimit, TypesQuery, TypesTerm, TypesTerms, columns_in, outputs_in}
+use Rattle.rs_bind.specs.QueryRules.{from_column, from_number, from_text, no_column, wrong_column, wrong_number, wrong_text, too_many, wrong_weight, no_predicate, wrong_count, in_args, constant, no_output, no_limit, within, outside, one_block, two_blocks, in_left, in_right, differ, in_terms, in_set_terms, in_limit, in_set_limit}
+use Rattle.rs_bind.specs.Sources.{Found, sources_of, the_only}
+use Rattle.rs_bind.specs.Typing.{span_of_column}
+use Rattle.rs_bind.proofs.BlockRuleFacts.{Err-else, Err-or_fault, Err-test, apart-test, block-is, block-is_refused, block-refused, block-typed, equal-test, is-apart, is-equal}
+use Rattle.rs_bind.proofs.ColumnFacts.{the_only-is}
+use Rattle.rs_bind.proofs.EachFacts.{both_true, parts_true}
+use Rattle.rs_bind.proofs.InOrderFacts.{Each-steps, FirstRefused-steps, Follows, steps, steps-Each, steps-FirstRefused}
+use Rattle.rs_bind.proofs.ResultFacts.{Ok-else, same_Ok, well}
+use Rattle.rs_bind.proofs.StepFacts.{Err-steps, Ok-or_fault, Ok-steps, Ok-test}
+use Rattle.rs_bind.proofs.TermFacts.{same-kind, term_with}
+
+-- a number in its limits
+within-typed : (least most : ℕ) (written : ℤ × Span) (n : ℕ) → number_in least most written ≡ Ok n → IsWithin least most written.0 n
+within-typed least most (pos m, at) n h =
+    let test = Ok-test (nat_le least m && nat_le m most) (well m) (At LimitOf at) n h in
+    let both = parts_true (nat_le least m) (nat_le m most) test.0 in
+    let same = same_Ok m n test.1 in
+    subst (IsWithin least most (pos m)) same (record { is = refl; no_less = grind (arith, nat_tests, both.0); no_more = grind (arith, nat_tests, both.1) })
+within-typed least most (negsuc m, at) n h = cc
+
+in-limits : (least most n : ℕ) → least ≤ n → n ≤ most → (nat_le least n && nat_le n most) ≡ true
+in-limits least most n h k =
+    let first : nat_le least n ≡ true = grind (arith, nat_tests) in
+    let second : nat_le n most ≡ true = grind (arith, nat_tests) in
+    both_true (nat_le least n) (nat_le n most) first second
+
+within-is : (least most : ℕ) (written : ℤ × Span) (n : ℕ) → IsWithin least most written.0 n → number_in least most written ≡ Ok n
+within-is least most (w, at) n h =
+    subst (λ z. number_in least most (z, at) ≡ Ok n) (sym h.is)
+    (ap (λ b. if b then well n else Err (At LimitOf at)) (in-limits least most n h.no_less h.no_more))
+
+outside-refused : (least most : ℕ) (written : ℤ × Span) (fault : BindFault) → number_in least most written ≡ Err fault
+    → IsOutside least most written.0 × (At LimitOf written.1 ≡ fault)
+outside-refused least most (pos m, at) fault h =
+    let test = Err-test (nat_le least m && nat_le m most) (well m) (At LimitOf at) fault h in
+    (λ n inside. (let is = within-is least most (pos m, at) n inside in cc), elim test [
+      | inl fails ↦ fails.1
+      | inr holds ↦ cc
+    ])
+outside-refused least most (negsuc m, at) fault h = (λ n inside. (let is = inside.is in cc), cc)
+
+outside-is : (least most : ℕ) (written : ℤ × Span) → IsOutside least most written.0 → number_in least most written ≡ Err (At LimitOf written.1)
+outside-is least most (pos m, at) out = go (nat_le least m && nat_le m most) refl where
+  go : (test : Bool) → (nat_le least m && nat_le m most) ≡ test → (if test then well m else Err (At LimitOf at)) ≡ Err (At LimitOf at)
+  go true e = absurd (out m (within-typed least most (pos m, at) m (ap (λ b. if b then well m else Err (At LimitOf at)) e)))
+  go false e = refl
+outside-is least most (negsuc m, at) out = refl
+
+-- arguments
+module _ (entries : Entries) where
+  abbrev arg_step : List BoundArg → Kind × Arg → Result BoundArg BindFault
+  arg_step before pair = arg_of entries pair.0 pair.1
+
+  arg-typed : (before : List BoundArg) (pair : Kind × Arg) (made : BoundArg) → arg_step before pair ≡ Ok made → TypesArg entries before pair made
+  arg-typed before (wanted, arg.Column c) made h =
+      let found = Ok-steps (entries c) (of_kind wanted (span_of_column c)) made h in
+      let test = Ok-test (is_kind wanted (Some found.0.1)) (well found.0.0) (At WrongKind (span_of_column c)) made found.2 in
+      let same = same_Ok found.0.0 made test.1 in
+      let own = same-kind wanted found.0.1 test.0 in
+      from_column wanted c made (found.1 ∙ (ap (λ k. well (found.0.0, k)) own ∙ ap (λ m. well (m, wanted)) same))
+  arg-typed before (kind.Int, arg.Int n at) made h = subst (TypesArg entries before (kind.Int, arg.Int n at)) (same_Ok (bound.Int n) made h) (from_number n at)
+  arg-typed before (kind.Text, arg.Int n at) made h = cc
+  arg-typed before (kind.Int, arg.Text t at) made h = cc
+  arg-typed before (kind.Text, arg.Text t at) made h = subst (TypesArg entries before (kind.Text, arg.Text t at)) (same_Ok (bound.Text t) made h) (from_text t at)
+
+  kind-test : (wanted : Kind) → is_kind wanted (Some wanted) ≡ true
+  kind-test kind.Int = refl
+  kind-test kind.Text = refl
+
+  other-kind : (wanted own : Kind) → own ≢ wanted → is_kind wanted (Some own) ≡ false
+  other-kind kind.Int kind.Int h = absurd (h refl)
+  other-kind kind.Text kind.Text h = absurd (h refl)
+  other-kind kind.Int kind.Text h = refl
+  other-kind kind.Text kind.Int h = refl
+
+  is-other-kind : (wanted own : Kind) → is_kind wanted (Some own) ≡ false → own ≢ wanted
+  is-other-kind kind.Int kind.Int h = cc
+  is-other-kind kind.Text kind.Text h = cc
+  is-other-kind kind.Int kind.Text h = λ e. cc
+  is-other-kind kind.Text kind.Int h = λ e. cc
+
+  arg-is : (before : List BoundArg) (pair : Kind × Arg) (made : BoundArg) → TypesArg entries before pair made → arg_step before pair ≡ Ok made
+  arg-is before pair made (from_column wanted c found is) =
+      ap (λ r. r >>= of_kind wanted (span_of_column c)) is
+      ∙ ap (λ b. if b then well found else Err (At WrongKind (span_of_column c))) (kind-test wanted)
+  arg-is before pair made (from_number n at) = refl
+  arg-is before pair made (from_text t at) = refl
+
+  arg-refused : (before : List BoundArg) (pair : Kind × Arg) (fault : BindFault) → arg_step before pair ≡ Err fault → RefusedArg entries before pair fault
+  arg-refused before (wanted, arg.Column c) fault h = elim (Err-steps (entries c) (of_kind wanted (span_of_column c)) fault h) [
+    | inl refuses ↦ no_column wanted c fault refuses
+    | inr found ↦ elim (Err-test (is_kind wanted (Some found.0.1)) (well found.0.0) (At WrongKind (span_of_column c)) fault found.2) [
+      | inl wrong ↦ subst (RefusedArg entries before (wanted, arg.Column c)) wrong.1
+        (wrong_column wanted found.0.1 c found.0.0 found.1 (is-other-kind wanted found.0.1 wrong.0))
+      | inr right ↦ cc
+    ]
+  ]
+  arg-refused before (kind.Int, arg.Int n at) fault h = cc
+  arg-refused before (kind.Text, arg.Int n at) fault h =
+      let same : At WrongKind at ≡ fault = cc in subst (RefusedArg entries before (kind.Text, arg.Int n at)) same (wrong_number n at)
+  arg-refused before (kind.Int, arg.Text t at) fault h =
+      let same : At WrongKind at ≡ fault = cc in subst (RefusedArg entries before (kind.Int, arg.Text t at)) same (wrong_text t at)
+  arg-refused before (kind.Text, arg.Text t at) fault h = cc
+
+  arg-is_refused : (before : List BoundArg) (pair : Kind × Arg) (fault : BindFault) → RefusedArg entries before pair fault → arg_step before pair ≡ Err fault
+  arg-is_refused before pair fault (no_column wanted c f is) = ap (λ r. r >>= of_kind wanted (span_of_column c)) is
+  arg-is_refused before pair fault (wrong_column wanted own c found is apart) =
+      ap (λ r. r >>= of_kind wanted (span_of_column c)) is
+      ∙ ap (λ b. if b then well found else Err (At WrongKind (span_of_column c))) (other-kind wanted own apart)
+  arg-is_refused before pair fault (wrong_number n at) = refl
+  arg-is_refused before pair fault (wrong_text t at) = refl
+
+  arg-follows : Follows (TypesArg entries) (RefusedArg entries) arg_step
+  arg-follows = record { typed = arg-typed; is_typed = arg-is; refused = arg-refused; is_refused = arg-is_refused }
+
+  args-steps : (before : List BoundArg) (kinds : List Kind) (args : List Arg) → args_of entries kinds args ≡ steps arg_step before (zip kinds args)
+  args-steps before [] args = refl
+  args-steps before (wanted ∷ kinds) [] = refl
+  args-steps before (wanted ∷ kinds) (a ∷ args) = go (λ b. args-steps (b ∷ before) kinds args) (arg_of entries wanted a) where
+    go : ((b : BoundArg) → args_of entries kinds args ≡ steps arg_step (b ∷ before) (zip kinds args)) → (r : Result BoundArg BindFault)
+        → (r >>= λ first. args_of entries kinds args >>= λ rest. Ok (first ∷ rest))
+        ≡ (r >>= λ first. steps arg_step (first ∷ before) (zip kinds args) >>= λ more. Ok (first ∷ more))
+    go again (Err fault) = refl
+    go again (Ok first) = ap (λ s. s >>= λ more. Ok (first ∷ more)) (again first)
+
+  args-typed : (kinds : List Kind) (args : List Arg) (made : List BoundArg) → args_of entries kinds args ≡ Ok made → Each (TypesArg entries) [] (zip kinds args) made
+  args-typed kinds args made h =
+      Each-steps (TypesArg entries) (RefusedArg entries) arg_step arg-follows [] (zip kinds args) made (sym (args-steps [] kinds args) ∙ h)
+
+  args-are : (kinds : List Kind) (args : List Arg) (made : List BoundArg) → Each (TypesArg entries) [] (zip kinds args) made → args_of entries kinds args ≡ Ok made
+  args-are kinds args made each = args-steps [] kinds args ∙ steps-Each (TypesArg entries) (RefusedArg entries) arg_step arg-follows each
+
+  args-refused : (kinds : List Kind) (args : List Arg) (fault : BindFault) → args_of entries kinds args ≡ Err fault
+      → FirstRefused (TypesArg entries) (RefusedArg entries) [] (zip kinds args) fault
+  args-refused kinds args fault h =
+      FirstRefused-steps (TypesArg entries) (RefusedArg entries) arg_step arg-follows [] (zip kinds args) fault (sym (args-steps [] kinds args) ∙ h)
+
+  args-are_refused : (kinds : List Kind) (args : List Arg) (fault : BindFault) → FirstRefused (TypesArg entries) (RefusedArg entries) [] (zip kinds args) fault
+      → args_of entries kinds args ≡ Err fault
+  args-are_refused kinds args fault first = args-steps [] kinds args ∙ steps-FirstRefused (TypesArg entries) (RefusedArg entries) arg_step arg-follows first
+
+-- terms
+module _ (catalogue : Catalogue) (entries : Entries) (needed : Option (List Found)) where
+  abbrev params_of : ℕ → List Kind
+  params_of predicate = params_in catalogue predicate
+
+  abbrev some_column : TermSyn → List BoundArg → Result (List BoundArg) BindFault
+  some_column term made = if list_any is_column made then well made else Err (At ConstantTerm term.at)
+
+  abbrev args_step : TermSyn → ℕ → Result (List BoundArg) BindFault
+  args_step term predicate =
+      if length term.args == length (params_of predicate) then (args_of entries (params_of predicate) term.args >>= some_column term) else Err (At WrongCount term.at)
+
+  abbrev behind_args : TermSyn → ℕ → ℕ → List BoundArg → Result Term BindFault
+  behind_args term w predicate made =
+      if are_outputs needed (columns_of made) then well (term_with catalogue w predicate made) else Err (At DistinctNeedsOutput term.at)
+
+  abbrev predicate_of : TermSyn → Result ℕ BindFault
+  predicate_of term = or_fault (At NoPredicate term.predicate.at) (number_of what.Predicate term.predicate.text catalogue)
+
+  abbrev behind_predicate : TermSyn → ℕ → ℕ → Result Term BindFault
+  behind_predicate term w predicate = args_step term predicate >>= behind_args term w predicate
+
+  abbrev behind_weight : TermSyn → ℕ → Result Term BindFault
+  behind_weight term w = predicate_of term >>= behind_predicate term w
+
+  abbrev behind_room : TermSyn → Result Term BindFault
+  behind_room term = number_in 1 1000000 term.weight >>= behind_weight term
+
+  abbrev term_step : List Term → TermSyn → Result Term BindFault
+  term_step before term = if length before == 8 then Err (At LimitOf term.at) else behind_room term
+
+  -- what is known of a term up to its predicate
+  predicated : (before : List Term) (term : TermSyn) (w predicate : ℕ) → (length before == 8) ≡ false → number_in 1 1000000 term.weight ≡ Ok w
+      → predicate_of term ≡ Ok predicate → HasPredicate catalogue before term predicate
+  predicated before term w predicate room weighs is = record {
+    room = is-apart (length before) 8 room;
+    weight = w;
+    is_weight = within-typed 1 1000000 term.weight w weighs;
+    is_predicate = Ok-or_fault (At NoPredicate term.predicate.at) (number_of what.Predicate term.predicate.text catalogue) predicate is;
+  }
+
+  -- and up to its arguments
+  record Argued (term : TermSyn) (predicate : ℕ) (made : List BoundArg) : Type 0 where
+    count : length term.args ≡ length (params_of predicate)
+    args : args_of entries (params_of predicate) term.args ≡ Ok made
+    column : list_any is_column made ≡ true
+
+  argued : (term : TermSyn) (predicate : ℕ) (made : List BoundArg) → args_step term predicate ≡ Ok made → Argued term predicate made
+  argued term predicate made h =
+      let count = Ok-test (length term.args == length (params_of predicate)) (args_of entries (params_of predicate) term.args >>= some_column term) (At WrongCount term.at) made h in
+      let found = Ok-steps (args_of entries (params_of predicate) term.args) (some_column term) made count.1 in
+      let some = Ok-test (list_any is_column found.0) (well found.0) (At ConstantTerm term.at) made found.2 in
+      let same = same_Ok found.0 made some.1 in
+      record {
+        count = is-equal (length term.args) (length (params_of predicate)) count.0;
+        args = found.1 ∙ ap (λ m. well m) same;
+        column = ap (λ m. list_any is_column m) (sym same) ∙ some.0;
+      }
+
+  term-typed : (before : List Term) (term : TermSyn) (made : Term) → term_step before term ≡ Ok made → TypesTerm catalogue entries needed before term made
+  term-typed before term made h =
+      let past = Ok-else (length before == 8) (behind_room term) (At LimitOf term.at) made h in
+      let first = Ok-steps (number_in 1 1000000 term.weight) (behind_weight term) made past.1 in
+      let second = Ok-steps (predicate_of term) (behind_predicate term first.0) made first.2 in
+      let third = Ok-steps (args_step term second.0) (behind_args term first.0 second.0) made second.2 in
+      let test = Ok-test (are_outputs needed (columns_of third.0)) (well (term_with catalogue first.0 second.0 third.0)) (At DistinctNeedsOutput term.at) made third.2 in
+      let same = same_Ok (term_with catalogue first.0 second.0 third.0) made test.1 in
+      let has = predicated before term first.0 second.0 past.0 first.1 second.1 in
+      let own = argued term second.0 third.0 third.1 in
+      subst (TypesTerm catalogue entries needed before term) same (record {
+        room = has.room;
+        weight = within-typed 1 1000000 term.weight first.0 first.1;
+        predicate = has.is_predicate;
+        count = own.count;
+        args = args-typed entries (params_of second.0) term.args third.0 own.args;
+        column = own.column;
+        outputs = test.0;
+        max = refl;
+        entries_are = refl;
+      })
+
+  -- the steps of a term whose parts are known
+  past-room : (before : List Term) (term : TermSyn) → length before ≢ 8 → term_step before term ≡ behind_room term
+  past-room before term room = ap (λ b. if b then Err (At LimitOf term.at) else behind_room term) (apart-test (length before) 8 room)
+
+  past-weight : (before : List Term) (term : TermSyn) (w : ℕ) → length before ≢ 8 → IsWithin 1 1000000 term.weight.0 w → term_step before term ≡ behind_weight term w
+  past-weight before term w room weighs = past-room before term room ∙ ap (λ r. r >>= behind_weight term) (within-is 1 1000000 term.weight w weighs)
+
+  past-predicate : (before : List Term) (term : TermSyn) (w predicate : ℕ) → length before ≢ 8 → IsWithin 1 1000000 term.weight.0 w
+      → number_of what.Predicate term.predicate.text catalogue ≡ Some predicate → term_step before term ≡ behind_predicate term w predicate
+  past-predicate before term w predicate room weighs is =
+      past-weight before term w room weighs ∙ ap (λ p. or_fault (At NoPredicate term.predicate.at) p >>= behind_predicate term w) is
+
+  past-count : (term : TermSyn) (predicate : ℕ) → length term.args ≡ length (params_of predicate)
+      → args_step term predicate ≡ (args_of entries (params_of predicate) term.args >>= some_column term)
+  past-count term predicate count =
+      ap (λ b. if b then (args_of entries (params_of predicate) term.args >>= some_column term) else Err (At WrongCount term.at))
+      (equal-test (length term.args) (length (params_of predicate)) count)
+
+  past-args : (term : TermSyn) (predicate : ℕ) (made : List BoundArg) → length term.args ≡ length (params_of predicate)
+      → Each (TypesArg entries) [] (zip (params_of predicate) term.args) made → args_step term predicate ≡ some_column term made
+  past-args term predicate made count each =
+      past-count term predicate count ∙ ap (λ r. r >>= some_column term) (args-are entries (params_of predicate) term.args made each)
+
+  past-column : (term : TermSyn) (predicate : ℕ) (made : List BoundArg) → length term.args ≡ length (params_of predicate)
+      → Each (TypesArg entries) [] (zip (params_of predicate) term.args) made → list_any is_column made ≡ true → args_step term predicate ≡ Ok made
+  past-column term predicate made count each some =
+      past-args term predicate made count each ∙ ap (λ b. if b then well made else Err (At ConstantTerm term.at)) some
+
+  term-is : (before : List Term) (term : TermSyn) (made : Term) → TypesTerm catalogue entries needed before term made → term_step before term ≡ Ok made
+  term-is before term made t =
+      past-predicate before term made.weight made.predicate t.room t.weight t.predicate
+      ∙ (ap (λ r. r >>= behind_args term made.weight made.predicate) (past-column term made.predicate made.args t.count t.args t.column)
+      ∙ (ap (λ b. if b then well (term_with catalogue made.weight made.predicate made.args) else Err (At DistinctNeedsOutput term.at)) t.outputs
+      ∙ (ap (λ m. well (record { weight = made.weight; predicate = made.predicate; args = made.args; max = m; entries = entries_of (columns_of made.args) })) (sym t.max)
+      ∙ ap (λ e. well (record { weight = made.weight; predicate = made.predicate; args = made.args; max = made.max; entries = e })) (sym t.entries_are))))
+
+  term-refused : (before : List Term) (term : TermSyn) (fault : BindFault) → term_step before term ≡ Err fault → RefusedTerm catalogue entries needed before term fault
+  term-refused before term fault h =
+      elim (Err-else (length before == 8) (behind_room term) (At LimitOf term.at) fault h) [
+        | inl full ↦ subst (RefusedTerm catalogue entries needed before term) full.1 (too_many (is-equal (length before) 8 full.0))
+        | inr past ↦ elim (Err-steps (number_in 1 1000000 term.weight) (behind_weight term) fault past.1) [
+          | inl refuses ↦ (let out = outside-refused 1 1000000 term.weight fault refuses in
+              subst (RefusedTerm catalogue entries needed before term) out.1 (wrong_weight (is-apart (length before) 8 past.0) out.0))
+          | inr first ↦ elim (Err-steps (predicate_of term) (behind_predicate term first.0) fault first.2) [
+            | inl refuses ↦ (let missing = Err-or_fault (At NoPredicate term.predicate.at) fault (number_of what.Predicate term.predicate.text catalogue) refuses in
+                subst (RefusedTerm catalogue entries needed before term) missing.1
+                (no_predicate first.0 (is-apart (length before) 8 past.0) (within-typed 1 1000000 term.weight first.0 first.1) missing.0))
+            | inr second ↦ behind_known first.0 second.0 (predicated before term first.0 second.0 past.0 first.1 second.1) second.2
+          ]
+        ]
+      ] where
+        outputs_refused : (w predicate : ℕ) (made : List BoundArg) → HasPredicate catalogue before term predicate → Argued term predicate made
+            → behind_args term w predicate made ≡ Err fault → RefusedTerm catalogue entries needed before term fault
+        outputs_refused w predicate made has own k =
+            elim (Err-test (are_outputs needed (columns_of made)) (well (term_with catalogue w predicate made)) (At DistinctNeedsOutput term.at) fault k) [
+              | inl fails ↦ subst (RefusedTerm catalogue entries needed before term) fails.1
+                (no_output made (record { predicate = predicate; has_predicate = has; count = own.count; args = args-typed entries (params_of predicate) term.args made own.args })
+                own.column fails.0)
+              | inr passes ↦ cc
+            ]
+        args_refused : (predicate : ℕ) → HasPredicate catalogue before term predicate → args_step term predicate ≡ Err fault
+            → RefusedTerm catalogue entries needed before term fault
+        args_refused predicate has k =
+            elim (Err-test (length term.args == length (params_of predicate)) (args_of entries (params_of predicate) term.args >>= some_column term) (At WrongCount term.at) fault k) [
+              | inl fails ↦ subst (RefusedTerm catalogue entries needed before term) fails.1
+                (wrong_count predicate has (is-apart (length term.args) (length (params_of predicate)) fails.0))
+              | inr counts ↦ (let count = is-equal (length term.args) (length (params_of predicate)) counts.0 in
+                  elim (Err-steps (args_of entries (params_of predicate) term.args) (some_column term) fault counts.1) [
+                    | inl refuses ↦ in_args predicate fault has count (args-refused entries (params_of predicate) term.args fault refuses)
+                    | inr found ↦ elim (Err-test (list_any is_column found.0) (well found.0) (At ConstantTerm term.at) fault found.2) [
+                      | inl lacks ↦ subst (RefusedTerm catalogue entries needed before term) lacks.1
+                        (constant found.0 (record { predicate = predicate; has_predicate = has; count = count; args = args-typed entries (params_of predicate) term.args found.0 found.1 }) lacks.0)
+                      | inr some ↦ cc
+                    ]
+                  ])
+            ]
+        behind_known : (w predicate : ℕ) → HasPredicate catalogue before term predicate → behind_predicate term w predicate ≡ Err fault
+            → RefusedTerm catalogue entries needed before term fault
+        behind_known w predicate has k = elim (Err-steps (args_step term predicate) (behind_args term w predicate) fault k) [
+          | inl refuses ↦ args_refused predicate has refuses
+          | inr made ↦ outputs_refused w predicate made.0 has (argued term predicate made.0 made.1) made.2
+        ]
+
+  -- the steps of a term whose predicate is known
+  past-has : (before : List Term) (term : TermSyn) (predicate : ℕ) (h : HasPredicate catalogue before term predicate)
+      → term_step before term ≡ behind_predicate term h.weight predicate
+  past-has before term predicate h = past-predicate before term h.weight predicate h.room h.is_weight h.is_predicate
+
+  term-is_refused : (before : List Term) (term : TermSyn) (fault : BindFault) → RefusedTerm catalogue entries needed before term fault → term_step before term ≡ Err fault
+  term-is_refused before term fault (too_many full) = ap (λ b. if b then Err (At LimitOf term.at) else behind_room term) (equal-test (length before) 8 full)
+  term-is_refused before term fault (wrong_weight room out) =
+      past-room before term room ∙ ap (λ r. r >>= behind_weight term) (outside-is 1 1000000 term.weight out)
+  term-is_refused before term fault (no_predicate n room weighs missing) =
+      past-weight before term n room weighs ∙ ap (λ p. or_fault (At NoPredicate term.predicate.at) p >>= behind_predicate term n) missing
+  term-is_refused before term fault (wrong_count predicate has apart) =
+      past-has before term predicate has
+      ∙ ap (λ b. (if b then (args_of entries (params_of predicate) term.args >>= some_column term) else Err (At WrongCount term.at)) >>= behind_args term has.weight predicate)
+        (apart-test (length term.args) (length (params_of predicate)) apart)
+  term-is_refused before term fault (in_args predicate f has count first) =
+      past-has before term predicate has
+      ∙ (ap (λ r. r >>= behind_args term has.weight predicate) (past-count term predicate count)
+      ∙ ap (λ r. (r >>= some_column term) >>= behind_args term has.weight predicate) (args-are_refused entries (params_of predicate) term.args f first))
+  term-is_refused before term fault (constant made has no_column_there) =
+      past-has before term has.predicate has.has_predicate
+      ∙ ap (λ r. r >>= behind_args term has.has_predicate.weight has.predicate)
+        (past-args term has.predicate made has.count has.args ∙ ap (λ b. if b then well made else Err (At ConstantTerm term.at)) no_column_there)
+  term-is_refused before term fault (no_output made has some others) =
+      past-has before term has.predicate has.has_predicate
+      ∙ (ap (λ r. r >>= behind_args term has.has_predicate.weight has.predicate) (past-column term has.predicate made has.count has.args some)
+      ∙ ap (λ b. if b then well (term_with catalogue has.has_predicate.weight has.predicate made) else Err (At DistinctNeedsOutput term.at)) others)
+
+  term-follows : Follows (TypesTerm catalogue entries needed) (RefusedTerm catalogue entries needed) term_step
+  term-follows = record { typed = term-typed; is_typed = term-is; refused = term-refused; is_refused = term-is_refused }
+
+  -- the terms behind one more term are such steps
+  abbrev Again : List Term → List TermSyn → Type 0
+  Again before terms = (b : Term) → terms_behind catalogue entries needed (suc (length before)) terms ≡ steps term_step (b ∷ before) terms
+
+  terms-steps : (before : List Term) (terms : List TermSyn) → terms_behind catalogue entries needed (length before) terms ≡ steps term_step before terms
+  terms-steps before [] = refl
+  terms-steps before (term ∷ terms) = go (λ b. terms-steps (b ∷ before) terms) (length before == 8) (number_in 1 1000000 term.weight) where
+    with_args : Again before terms → (w p : ℕ) (made : List BoundArg) (outputs : Bool)
+        → ((if outputs then terms_behind catalogue entries needed (suc (length before)) terms else Err (At DistinctNeedsOutput term.at))
+          >>= λ more. Ok (term_with catalogue w p made ∷ more))
+        ≡ ((if outputs then well (term_with catalogue w p made) else Err (At DistinctNeedsOutput term.at)) >>= λ b. steps term_step (b ∷ before) terms >>= λ more. Ok (b ∷ more))
+    with_args again w p made true = ap (λ s. s >>= λ more. Ok (term_with catalogue w p made ∷ more)) (again (term_with catalogue w p made))
+    with_args again w p made false = refl
+    with_predicate : Again before terms → (w p : ℕ) (r : Result (List BoundArg) BindFault)
+        → (r >>= λ made. (if are_outputs needed (columns_of made) then terms_behind catalogue entries needed (suc (length before)) terms
+          else Err (At DistinctNeedsOutput term.at)) >>= λ more. Ok (term_with catalogue w p made ∷ more))
+        ≡ ((r >>= behind_args term w p) >>= λ b. steps term_step (b ∷ before) terms >>= λ more. Ok (b ∷ more))
+    with_predicate again w p (Err fault) = refl
+    with_predicate again w p (Ok made) = with_args again w p made (are_outputs needed (columns_of made))
+    with_weight : Again before terms → (w : ℕ) (r : Result ℕ BindFault)
+        → (r >>= λ p. term_args entries (params_of p) term.args term.at >>= λ made. (if are_outputs needed (columns_of made)
+          then terms_behind catalogue entries needed (suc (length before)) terms else Err (At DistinctNeedsOutput term.at))
+          >>= λ more. Ok (term_with catalogue w p made ∷ more))
+        ≡ ((r >>= behind_predicate term w) >>= λ b. steps term_step (b ∷ before) terms >>= λ more. Ok (b ∷ more))
+    with_weight again w (Err fault) = refl
+    with_weight again w (Ok p) = with_predicate again w p (term_args entries (params_of p) term.args term.at)
+    go : Again before terms → (full : Bool) (r : Result ℕ BindFault)
+        → (if full then Err (At LimitOf term.at) else (r >>= λ w. predicate_of term >>= λ p. term_args entries (params_of p) term.args term.at
+          >>= λ made. (if are_outputs needed (columns_of made) then terms_behind catalogue entries needed (suc (length before)) terms
+          else Err (At DistinctNeedsOutput term.at)) >>= λ more. Ok (term_with catalogue w p made ∷ more)))
+        ≡ ((if full then Err (At LimitOf term.at) else (r >>= behind_weight term)) >>= λ b. steps term_step (b ∷ before) terms >>= λ more. Ok (b ∷ more))
+    go again true r = refl
+    go again false (Err fault) = refl
+    go again false (Ok w) = with_weight again w (predicate_of term)
+
+  terms-typed : (terms : List TermSyn) (made : List Term) → terms_of catalogue entries needed terms ≡ Ok made → TypesTerms catalogue entries needed terms made
+  terms-typed terms made h =
+      Each-steps (TypesTerm catalogue entries needed) (RefusedTerm catalogue entries needed) term_step term-follows [] terms made (sym (terms-steps [] terms) ∙ h)
+
+  terms-are : (terms : List TermSyn) (made : List Term) → TypesTerms catalogue entries needed terms made → terms_of catalogue entries needed terms ≡ Ok made
+  terms-are terms made each =
+      terms-steps [] terms ∙ steps-Each (TypesTerm catalogue entries needed) (RefusedTerm catalogue entries needed) term_step term-follows each
+
+  terms-refused : (terms : List TermSyn) (fault : BindFault) → terms_of catalogue entries needed terms ≡ Err fault
+      → RefusedTerms catalogue entries needed terms fault
+  terms-refused terms fault h =
+      FirstRefused-steps (TypesTerm catalogue entries needed) (RefusedTerm catalogue entries needed) term_step term-follows [] terms fault (sym (terms-steps [] terms) ∙ h)
+
+  terms-are_refused : (terms : List TermSyn) (fault : BindFault) → RefusedTerms catalogue entries needed terms fault
+      → terms_of catalogue entries needed terms ≡ Err fault
+  terms-are_refused terms fault first =
+      terms-steps [] terms ∙ steps-FirstRefused (TypesTerm catalogue entries needed) (RefusedTerm catalogue entries needed) term_step term-follows first
+
+-- LIMIT
+limit-typed : (written : Option (ℤ × Span)) (made : Option ℕ) → limit_of written ≡ Ok made → TypesLimit written made
+limit-typed None made h = let same : None ≡ made = cc in subst (TypesLimit None) same no_limit
+limit-typed (Some limit) made h =
+    let found = Ok-steps (number_in 0 1000000 limit) (λ n. well (Some n)) made h in
+    let same = same_Ok (Some found.0) made found.2 in
+    subst (TypesLimit (Some limit)) same (within limit.0 limit.1 found.0 (within-typed 0 1000000 limit found.0 found.1))
+
+limit-is : (written : Option (ℤ × Span)) (made : Option ℕ) → TypesLimit written made → limit_of written ≡ Ok made
+limit-is written made no_limit = refl
+limit-is written made (within n at m is) = ap (λ r. r >>= λ k. well (Some k)) (within-is 0 1000000 (n, at) m is)
+
+limit-refused : (written : Option (ℤ × Span)) (fault : BindFault) → limit_of written ≡ Err fault → RefusedLimit written fault
+limit-refused None fault h = cc
+limit-refused (Some limit) fault h = elim (Err-steps (number_in 0 1000000 limit) (λ n. well (Some n)) fault h) [
+  | inl refuses ↦ (let out = outside-refused 0 1000000 limit fault refuses in subst (RefusedLimit (Some limit)) out.1 (outside limit.0 limit.1 out.0))
+  | inr found ↦ cc
+]
+
+limit-is_refused : (written : Option (ℤ × Span)) (fault : BindFault) → RefusedLimit written fault → limit_of written ≡ Err fault
+limit-is_refused written fault (outside n at out) = ap (λ r. r >>= λ k. well (Some k)) (outside-is 0 1000000 (n, at) out)
+
+-- the terms of a set query are typed over the right block where they are over the left one
+same-kinds : (a b : Found) → is_kind a.1 (Some b.1) ≡ true → b.1 ≡ a.1
+same-kinds a b h = same-kind a.1 b.1 h
+
+agree-called : (name : List ℕ) (names : List (List ℕ)) (left right : List Found) → agree left right ≡ true
+    → agree (called name names left) (called name names right) ≡ true
+agree-called name [] left right h = refl
+agree-called name (own ∷ names) [] [] h = refl
+agree-called name (own ∷ names) [] (b ∷ right) h = cc
+agree-called name (own ∷ names) (a ∷ left) [] h = cc
+agree-called name (own ∷ names) (a ∷ left) (b ∷ right) h =
+    let parts = parts_true (is_kind a.1 (Some b.1)) (agree left right) h in
+    go (bytes_eq own name) parts.0 (agree-called name names left right parts.1) where
+      go : (test : Bool) → is_kind a.1 (Some b.1) ≡ true → agree (called name names left) (called name names right) ≡ true
+          → agree (if test then a ∷ called name names left else called name names left) (if test then b ∷ called name names right else called name names right) ≡ true
+      go true k others = both_true (is_kind a.1 (Some b.1)) (agree (called name names left) (called name names right)) k others
+      go false k others = others
+
+-- the only one of a list that agrees with another list
+record HasTwin (right : List Found) (a : Found) : Type 0 where
+  twin : Found
+  only : right ≡ twin ∷ []
+  kind_is : twin.1 ≡ a.1
+
+twin-of : (left right : List Found) (a : Found) → left ≡ a ∷ [] → agree left right ≡ true → HasTwin right a
+twin-of left right a e h = go right (ap (λ l. agree l right) (sym e) ∙ h) where
+  go : (rest : List Found) → agree (a ∷ []) rest ≡ true → HasTwin rest a
+  go [] k = cc
+  go (b ∷ []) k = let parts = parts_true (is_kind a.1 (Some b.1)) true k in record { twin = b; only = refl; kind_is = same-kind a.1 b.1 parts.0 }
+  go (b ∷ c ∷ rest) k = let parts = parts_true (is_kind a.1 (Some b.1)) false k in cc
+
+module _ (names : List (List ℕ)) (left right : List Found) (alike : agree left right ≡ true) where
+  -- what a reference stands for in the right block, where it stands for a column in the left one
+  record HasOther (c : ColRef) (found : BoundArg × Kind) : Type 0 where
+    other : BoundArg
+    is : output_columns names right c ≡ Ok (other, found.1)
+    are_columns : is_column found.0 ≡ is_column other
+
+  other-found : (c : ColRef) (twin : Found) → c.alias ≡ None → called c.column.text names right ≡ twin ∷ [] → output_columns names right c ≡ Ok (as_argument twin)
+  other-found c twin e only = rw (e, only) refl
+
+  other-of : (c : ColRef) (found : BoundArg × Kind) → output_columns names left c ≡ Ok found → HasOther c found
+  other-of c found h = go c.alias refl where
+    go : (alias : Option Name) → c.alias ≡ alias → HasOther c found
+    go (Some alias) e = let k = rw e at h in cc
+    go None e =
+        let k = rw e at h in
+        let item = Ok-steps (the_only c.column.at (called c.column.text names left)) (λ (i : Found). well (as_argument i)) found k in
+        let only = the_only-is c.column.at (called c.column.text names left) item.0 item.1 in
+        let twin = twin-of (called c.column.text names left) (called c.column.text names right) item.0 only (agree-called c.column.text names left right alike) in
+        let same = same_Ok (as_argument item.0) found item.2 in
+        let own = twin.kind_is ∙ ap (λ (f : BoundArg × Kind). f.1) same in
+        record {
+          other = (as_argument twin.twin).0;
+          is = other-found c twin.twin e twin.only ∙ ap (λ k. well ((as_argument twin.twin).0, k)) own;
+          are_columns = ap (λ (f : BoundArg × Kind). is_column f.0) (sym same);
+        }
+
+  record HasOtherArg (wanted : Kind) (a : Arg) (made : BoundArg) : Type 0 where
+    other : BoundArg
+    is : arg_of (output_columns names right) wanted a ≡ Ok other
+    are_columns : is_column made ≡ is_column other
+
+  other-arg : (wanted : Kind) (a : Arg) (made : BoundArg) → arg_of (output_columns names left) wanted a ≡ Ok made → HasOtherArg wanted a made
+  other-arg wanted (arg.Column c) made h =
+      let found = Ok-steps (output_columns names left c) (of_kind wanted (span_of_column c)) made h in
+      let test = Ok-test (is_kind wanted (Some found.0.1)) (well found.0.0) (At WrongKind (span_of_column c)) made found.2 in
+      let same = same_Ok found.0.0 made test.1 in
+      let other = other-of c found.0 found.1 in
+      record {
+        other = other.other;
+        is = ap (λ r. r >>= of_kind wanted (span_of_column c)) other.is ∙ ap (λ b. if b then well other.other else Err (At WrongKind (span_of_column c))) test.0;
+        are_columns = ap is_column (sym same) ∙ other.are_columns;
+      }
+  other-arg wanted (arg.Int n at) made h = record { other = made; is = h; are_columns = refl }
+  other-arg wanted (arg.Text t at) made h = record { other = made; is = h; are_columns = refl }
+
+  record HasOtherArgs (kinds : List Kind) (args : List Arg) (made : List BoundArg) : Type 0 where
+    others : List BoundArg
+    is : args_of (output_columns names right) kinds args ≡ Ok others
+    some_column : list_any is_column made ≡ list_any is_column others
+
+  other-args : (kinds : List Kind) (args : List Arg) (made : List BoundArg) → args_of (output_columns names left) kinds args ≡ Ok made → HasOtherArgs kinds args made
+  other-args [] args made h = let same = same_Ok [] made h in record { others = []; is = refl; some_column = ap (list_any is_column) (sym same) }
+  other-args (wanted ∷ kinds) [] made h = let same = same_Ok [] made h in record { others = []; is = refl; some_column = ap (list_any is_column) (sym same) }
+  other-args (wanted ∷ kinds) (a ∷ args) made h =
+      let first = Ok-steps (arg_of (output_columns names left) wanted a) (λ b. args_of (output_columns names left) kinds args >>= λ bs. well (b ∷ bs)) made h in
+      let rest = Ok-steps (args_of (output_columns names left) kinds args) (λ bs. well (first.0 ∷ bs)) made first.2 in
+      let same = same_Ok (first.0 ∷ rest.0) made rest.2 in
+      let one = other-arg wanted a first.0 first.1 in
+      let more = other-args kinds args rest.0 rest.1 in
+      record {
+        others = one.other ∷ more.others;
+        is = ap (λ r. r >>= λ b. args_of (output_columns names right) kinds args >>= λ bs. well (b ∷ bs)) one.is ∙ ap (λ r. r >>= λ bs. well (one.other ∷ bs)) more.is;
+        some_column = ap (list_any is_column) (sym same) ∙ (ap (λ b. b || list_any is_column rest.0) one.are_columns ∙ ap (λ b. is_column one.other || b) more.some_column);
+      }
+
+  -- terms that are typed in the left block are typed in the right one
+  other-terms : (catalogue : Catalogue) {before : List Term} (others_before : List Term) {terms : List TermSyn} {made : List Term} → length before ≡ length others_before
+      → Each (TypesTerm catalogue (output_columns names left) None) before terms made
+      → (others : List Term) × Each (TypesTerm catalogue (output_columns names right) None) others_before terms others
+  other-terms catalogue others_before e (none before) = ([], none others_before)
+  other-terms catalogue others_before e (and before term terms made more is each) =
+      let params = params_in catalogue made.predicate in
+      let found = other-args params term.args made.args (args-are (output_columns names left) params term.args made.args is.args) in
+      let other = term_with catalogue made.weight made.predicate found.others in
+      let rest = other-terms catalogue (other ∷ others_before) (ap suc e) each in
+      (other ∷ rest.0, and others_before term terms other rest.0 (record {
+        room = subst (λ n. n ≢ 8) e is.room;
+        weight = is.weight;
+        predicate = is.predicate;
+        count = is.count;
+        args = args-typed (output_columns names right) params term.args found.others found.is;
+        column = sym found.some_column ∙ is.column;
+        outputs = refl;
+        max = refl;
+        entries_are = refl;
+      }) rest.1)
+
+module _ (catalogue : Catalogue) where
+  -- a query of one block
+  abbrev with_limit : Unranked → List Term → Option ℕ → Result Query BindFault
+  with_limit block terms limit = well (One (with_terms block terms) limit)
+
+  abbrev behind_terms : syntax.Query → Unranked → List Term → Result Query BindFault
+  behind_terms query block terms = limit_of query.limit >>= with_limit block terms
+
+  abbrev block_terms : syntax.Query → Unranked → Result (List Term) BindFault
+  block_terms query block = terms_of catalogue (columns_in catalogue block) (needed_by block) query.terms
+
+  abbrev behind_block : syntax.Query → Unranked → Result Query BindFault
+  behind_block query block = block_terms query block >>= behind_terms query block
+
+  one-typed : (query : syntax.Query) (made : Query) → query.right ≡ None → one_of catalogue query ≡ Ok made → TypesQuery catalogue query made
+  one-typed query made e h =
+      let first = Ok-steps (unranked_of catalogue query.left) (behind_block query) made h in
+      let second = Ok-steps (block_terms query first.0) (behind_terms query first.0) made first.2 in
+      let third = Ok-steps (limit_of query.limit) (with_limit first.0 second.0) made second.2 in
+      let same = same_Ok (One (with_terms first.0 second.0) third.0) made third.2 in
+      subst (TypesQuery catalogue query) same
+      (one_block query first.0 second.0 third.0 e (block-typed catalogue query.left first.0 first.1)
+      (terms-typed catalogue (columns_in catalogue first.0) (needed_by first.0) query.terms second.0 second.1) (limit-typed query.limit third.0 third.1))
+
+  one-refused : (query : syntax.Query) (fault : BindFault) → query.right ≡ None → one_of catalogue query ≡ Err fault → RefusedQuery catalogue query fault
+  one-refused query fault e h = elim (Err-steps (unranked_of catalogue query.left) (behind_block query) fault h) [
+    | inl refuses ↦ in_left query fault (block-refused catalogue query.left fault refuses)
+    | inr first ↦ elim (Err-steps (block_terms query first.0) (behind_terms query first.0) fault first.2) [
+      | inl refuses ↦ in_terms query first.0 fault e (block-typed catalogue query.left first.0 first.1)
+        (terms-refused catalogue (columns_in catalogue first.0) (needed_by first.0) query.terms fault refuses)
+      | inr second ↦ elim (Err-steps (limit_of query.limit) (with_limit first.0 second.0) fault second.2) [
+        | inl refuses ↦ in_limit query first.0 second.0 fault e (block-typed catalogue query.left first.0 first.1)
+          (terms-typed catalogue (columns_in catalogue first.0) (needed_by first.0) query.terms second.0 second.1) (limit-refused query.limit fault refuses)
+        | inr third ↦ cc
+      ]
+    ]
+  ]
+
+  -- a query of two blocks
+  abbrev with_set_limit : SetOp → Unranked → Unranked → List Term → List Term → Option ℕ → Result Query BindFault
+  with_set_limit op left right terms others limit = well (Set op (with_terms left terms) (with_terms right others) limit)
+
+  abbrev behind_others : syntax.Query → SetOp → Unranked → Unranked → List Term → List Term → Result Query BindFault
+  behind_others query op left right terms others = limit_of query.limit >>= with_set_limit op left right terms others
+
+  abbrev set_terms : syntax.Query → Unranked → Unranked → Result (List Term) BindFault
+  set_terms query left block = terms_of catalogue (outputs_in catalogue left block) None query.terms
+
+  abbrev behind_set_terms : syntax.Query → SetOp → Unranked → Unranked → List Term → Result Query BindFault
+  behind_set_terms query op left right terms = set_terms query left right >>= behind_others query op left right terms
+
+  abbrev agreed_terms : syntax.Query → syntax.Block → Unranked → Unranked → Result (List Term) BindFault
+  agreed_terms query second left right = if agree left.items right.items then set_terms query left left else Err (At SetColumnsDiffer (first_item second.items))
+
+  abbrev behind_right : syntax.Query → SetOp → syntax.Block → Unranked → Unranked → Result Query BindFault
+  behind_right query op second left right = agreed_terms query second left right >>= behind_set_terms query op left right
+
+  abbrev behind_left : syntax.Query → SetOp → syntax.Block → Unranked → Result Query BindFault
+  behind_left query op second left = unranked_of catalogue second >>= behind_right query op second left
+
+  set-typed : (query : syntax.Query) (op : SetOp) (second : syntax.Block) (made : Query) → query.right ≡ Some (op, second) → set_of catalogue query op second ≡ Ok made
+      → TypesQuery catalogue query made
+  set-typed query op second made e h =
+      let left = Ok-steps (unranked_of catalogue query.left) (behind_left query op second) made h in
+      let right = Ok-steps (unranked_of catalogue second) (behind_right query op second left.0) made left.2 in
+      let terms = Ok-steps (agreed_terms query second left.0 right.0) (behind_set_terms query op left.0 right.0) made right.2 in
+      let agreed = Ok-test (agree left.0.items right.0.items) (set_terms query left.0 left.0) (At SetColumnsDiffer (first_item second.items)) terms.0 terms.1 in
+      let others = Ok-steps (set_terms query left.0 right.0) (behind_others query op left.0 right.0 terms.0) made terms.2 in
+      let limit = Ok-steps (limit_of query.limit) (with_set_limit op left.0 right.0 terms.0 others.0) made others.2 in
+      let same = same_Ok (Set op (with_terms left.0 terms.0) (with_terms right.0 others.0) limit.0) made limit.2 in
+      subst (TypesQuery catalogue query) same
+      (two_blocks query op second left.0 right.0 terms.0 others.0 limit.0 e (block-typed catalogue query.left left.0 left.1)
+      (block-typed catalogue second right.0 right.1) agreed.0
+      (terms-typed catalogue (outputs_in catalogue left.0 left.0) None query.terms terms.0 agreed.1)
+      (terms-typed catalogue (outputs_in catalogue left.0 right.0) None query.terms others.0 others.1) (limit-typed query.limit limit.0 limit.1))
+
+  -- the terms over the right block, where those over the left one are typed
+  others-typed : (query : syntax.Query) (left right : Unranked) (terms : List Term) → agree left.items right.items ≡ true
+      → TypesTerms catalogue (outputs_in catalogue left left) None query.terms terms → (others : List Term) × (set_terms query left right ≡ Ok others)
+  others-typed query left right terms agreed each =
+      let found = other-terms (names_of catalogue left) left.items right.items agreed catalogue [] refl each in
+      (found.0, terms-are catalogue (outputs_in catalogue left right) None query.terms found.0 found.1)
+
+  set-refused : (query : syntax.Query) (op : SetOp) (second : syntax.Block) (fault : BindFault) → query.right ≡ Some (op, second)
+      → set_of catalogue query op second ≡ Err fault → RefusedQuery catalogue query fault
+  set-refused query op second fault e h = elim (Err-steps (unranked_of catalogue query.left) (behind_left query op second) fault h) [
+    | inl refuses ↦ in_left query fault (block-refused catalogue query.left fault refuses)
+    | inr left ↦ elim (Err-steps (unranked_of catalogue second) (behind_right query op second left.0) fault left.2) [
+      | inl refuses ↦ in_right query op second left.0 fault e (block-typed catalogue query.left left.0 left.1) (block-refused catalogue second fault refuses)
+      | inr right ↦ behind_blocks left.0 right.0 (block-typed catalogue query.left left.0 left.1) (block-typed catalogue second right.0 right.1) right.2
+    ]
+  ] where
+    behind_agreed : (left right : Unranked) (terms : List Term) → TypesBlock catalogue query.left left → TypesBlock catalogue second right
+        → agree left.items right.items ≡ true → TypesTerms catalogue (outputs_in catalogue left left) None query.terms terms
+        → behind_set_terms query op left right terms ≡ Err fault → RefusedQuery catalogue query fault
+    behind_agreed left right terms l r agreed each k =
+        let others = others-typed query left right terms agreed each in
+        let rest = ap (λ o. o >>= behind_others query op left right terms) others.1 in
+        elim (Err-steps (limit_of query.limit) (with_set_limit op left right terms others.0) fault (sym rest ∙ k)) [
+          | inl refuses ↦ in_set_limit query op second left right terms fault e l r agreed each (limit-refused query.limit fault refuses)
+          | inr limit ↦ cc
+        ]
+    behind_blocks : (left right : Unranked) → TypesBlock catalogue query.left left → TypesBlock catalogue second right
+        → behind_right query op second left right ≡ Err fault → RefusedQuery catalogue query fault
+    behind_blocks left right l r k = elim (Err-steps (agreed_terms query second left right) (behind_set_terms query op left right) fault k) [
+      | inl refuses ↦ elim (Err-test (agree left.items right.items) (set_terms query left left) (At SetColumnsDiffer (first_item second.items)) fault refuses) [
+        | inl apart ↦ subst (RefusedQuery catalogue query) apart.1 (differ query op second left right e l r apart.0)
+        | inr agreed ↦ in_set_terms query op second left right fault e l r agreed.0
+          (terms-refused catalogue (outputs_in catalogue left left) None query.terms fault agreed.1)
+      ]
+      | inr terms ↦ (let agreed = Ok-test (agree left.items right.items) (set_terms query left left) (At SetColumnsDiffer (first_item second.items)) terms.0 terms.1 in
+          behind_agreed left right terms.0 l r agreed.0 (terms-typed catalogue (outputs_in catalogue left left) None query.terms terms.0 agreed.1) terms.2)
+    ]
+
+  query-typed : (query : syntax.Query) (made : Query) → bound_query catalogue query ≡ Ok made → TypesQuery catalogue query made
+  query-typed query made h = go query.right refl where
+    go : (right : Option (SetOp × syntax.Block)) → query.right ≡ right → TypesQuery catalogue query made
+    go None e = let k = rw e at h in one-typed query made e k
+    go (Some right) e = let k = rw e at h in set-typed query right.0 right.1 made e k
+
+  query-refused : (query : syntax.Query) (fault : BindFault) → bound_query catalogue query ≡ Err fault → RefusedQuery catalogue query fault
+  query-refused query fault h = go query.right refl where
+    go : (right : Option (SetOp × syntax.Block)) → query.right ≡ right → RefusedQuery catalogue query fault
+    go None e = let k = rw e at h in one-refused query fault e k
+    go (Some right) e = let k = rw e at h in set-refused query right.0 right.1 fault e k
+
+  -- what a query of each form is bound by
+  bound-one : (query : syntax.Query) → query.right ≡ None → bound_query catalogue query ≡ one_of catalogue query
+  bound-one query e = rw e refl
+
+  bound-set : (query : syntax.Query) (op : SetOp) (second : syntax.Block) → query.right ≡ Some (op, second) → bound_query catalogue query ≡ set_of catalogue query op second
+  bound-set query op second e = rw e refl
+
+  left-known : (query : syntax.Query) (block : Unranked) → TypesBlock catalogue query.left block → one_of catalogue query ≡ behind_block query block
+  left-known query block l = ap (λ r. r >>= behind_block query) (block-is catalogue query.left block l)
+
+  both-known : (query : syntax.Query) (op : SetOp) (second : syntax.Block) (left right : Unranked) → TypesBlock catalogue query.left left
+      → TypesBlock catalogue second right → set_of catalogue query op second ≡ behind_right query op second left right
+  both-known query op second left right l r =
+      ap (λ b. b >>= behind_left query op second) (block-is catalogue query.left left l)
+      ∙ ap (λ b. b >>= behind_right query op second left) (block-is catalogue second right r)
+
+  terms-known : (query : syntax.Query) (op : SetOp) (second : syntax.Block) (left right : Unranked) (terms : List Term) → TypesBlock catalogue query.left left
+      → TypesBlock catalogue second right → agree left.items right.items ≡ true → TypesTerms catalogue (outputs_in catalogue left left) None query.terms terms
+      → set_of catalogue query op second ≡ behind_set_terms query op left right terms
+  terms-known query op second left right terms l r agreed each =
+      both-known query op second left right l r
+      ∙ (ap (λ b. (if b then set_terms query left left else Err (At SetColumnsDiffer (first_item second.items))) >>= behind_set_terms query op left right) agreed
+      ∙ ap (λ t. t >>= behind_set_terms query op left right) (terms-are catalogue (outputs_in catalogue left left) None query.terms terms each))
+
+  query-is : (query : syntax.Query) (made : Query) → TypesQuery catalogue query made → bound_query catalogue query ≡ Ok made
+  query-is query made (one_block q block terms limit e l each is) =
+      bound-one q e
+      ∙ (left-known q block l
+      ∙ (ap (λ t. t >>= behind_terms q block) (terms-are catalogue (columns_in catalogue block) (needed_by block) q.terms terms each)
+      ∙ ap (λ n. n >>= with_limit block terms) (limit-is q.limit limit is)))
+  query-is query made (two_blocks q op second left right terms others limit e l r agreed each each_other is) =
+      bound-set q op second e
+      ∙ (terms-known q op second left right terms l r agreed each
+      ∙ (ap (λ t. t >>= behind_others q op left right terms) (terms-are catalogue (outputs_in catalogue left right) None q.terms others each_other)
+      ∙ ap (λ n. n >>= with_set_limit op left right terms others) (limit-is q.limit limit is)))
+
+  query-is_refused : (query : syntax.Query) (fault : BindFault) → RefusedQuery catalogue query fault → bound_query catalogue query ≡ Err fault
+  query-is_refused query fault (in_left q f refused) = go q.right refl where
+    go : (right : Option (SetOp × syntax.Block)) → q.right ≡ right → bound_query catalogue q ≡ Err f
+    go None e = bound-one q e ∙ ap (λ r. r >>= behind_block q) (block-is_refused catalogue q.left f refused)
+    go (Some right) e = bound-set q right.0 right.1 e ∙ ap (λ r. r >>= behind_left q right.0 right.1) (block-is_refused catalogue q.left f refused)
+  query-is_refused query fault (in_right q op second left f e l refused) =
+      bound-set q op second e
+      ∙ (ap (λ b. b >>= behind_left q op second) (block-is catalogue q.left left l)
+      ∙ ap (λ b. b >>= behind_right q op second left) (block-is_refused catalogue second f refused))
+  query-is_refused query fault (differ q op second left right e l r apart) =
+      bound-set q op second e
+      ∙ (both-known q op second left right l r
+      ∙ ap (λ b. (if b then set_terms q left left else Err (At SetColumnsDiffer (first_item second.items))) >>= behind_set_terms q op left right) apart)
+  query-is_refused query fault (in_terms q block f e l refused) =
+      bound-one q e
+      ∙ (left-known q block l ∙ ap (λ t. t >>= behind_terms q block) (terms-are_refused catalogue (columns_in catalogue block) (needed_by block) q.terms f refused))
+  query-is_refused query fault (in_set_terms q op second left right f e l r agreed refused) =
+      bound-set q op second e
+      ∙ (both-known q op second left right l r
+      ∙ (ap (λ b. (if b then set_terms q left left else Err (At SetColumnsDiffer (first_item second.items))) >>= behind_set_terms q op left right) agreed
+      ∙ ap (λ t. t >>= behind_set_terms q op left right) (terms-are_refused catalogue (outputs_in catalogue left left) None q.terms f refused)))
+  query-is_refused query fault (in_limit q block terms f e l each refused) =
+      bound-one q e
+      ∙ (left-known q block l
+      ∙ (ap (λ t. t >>= behind_terms q block) (terms-are catalogue (columns_in catalogue block) (needed_by block) q.terms terms each)
+      ∙ ap (λ n. n >>= with_limit block terms) (limit-is_refused q.limit f refused)))
+  query-is_refused query fault (in_set_limit q op second left right terms f e l r agreed each refused) =
+      let others = others-typed q left right terms agreed each in
+      bound-set q op second e
+      ∙ (terms-known q op second left right terms l r agreed each
+      ∙ (ap (λ t. t >>= behind_others q op left right terms) others.1
+      ∙ ap (λ n. n >>= with_set_limit op left right terms others.0) (limit-is_refused q.limit f refused)))
+
+  pub queries_typed_by_rules : (query : syntax.Query) (made : Query) → (bound_query catalogue query ≡ Ok made) ↔ TypesQuery catalogue query made
+  queries_typed_by_rules query made = (λ h. query-typed query made h, λ h. query-is query made h)
+
+  pub queries_refused_by_rules : (query : syntax.Query) (fault : BindFault) → (bound_query catalogue query ≡ Err fault) ↔ RefusedQuery catalogue query fault
+  queries_refused_by_rules query fault = (λ h. query-refused query fault h, λ h. query-is_refused query fault h)
+
+  pub typed_once : (query : syntax.Query) (made other : Query) → TypesQuery catalogue query made → TypesQuery catalogue query other → made ≡ other
+  typed_once query made other h k =
+      let first = query-is query made h in
+      let second = query-is query other k in
+      same_Ok made other (sym first ∙ second)

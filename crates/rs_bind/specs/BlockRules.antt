@@ -1,0 +1,107 @@
+-- The rules of a block without its terms, as relations: what FROM, WHERE and the output columns are, or with what they are refused.
+use Rattle.std.specs.Prelude.{ℕ, ◌≡◌, ◌≢◌, ◌≤◌, ◌<◌, true, false, List, [], length, map, Option, Some, None, slice_get, Ok, Err}
+use Rattle.std.specs.List.{list_any}
+use Rattle.std.specs.Str.{bytes_eq}
+use Rattle.rs_lex.specs.declared.token.Span.{Span}
+use Rattle.rs_syntax.specs.declared.name.ColRef.{ColRef}
+use Rattle.rs_syntax.specs.declared.name.Name.{Name}
+use Rattle.rs_syntax.specs.declared.select.Items.{Items}
+use Rattle.rs_syntax.specs.declared.select.Items.TheVariants as items
+use Rattle.rs_syntax.specs.Syntax as syntax
+use Rattle.rs_syntax.specs.Syntax.{Expression}
+use Rattle.rs_expr.specs.Formulas.{Condition}
+use Rattle.rs_catalog.specs.Catalogue.{Catalogue, number_of}
+use Rattle.rs_catalog.specs.declared.room.What.TheVariants as what
+use Rattle.rs_query.specs.Conjuncts.{ConjunctDef}
+use Rattle.rs_bind.specs.declared.fault.BindFault.{BindFault}
+use Rattle.rs_bind.specs.declared.fault.BindFault.TheVariants.{At}
+use Rattle.rs_bind.specs.declared.fault.Why.TheVariants.{LimitOf, NameTwice, NoTable, WrongKind}
+use Rattle.rs_bind.specs.Conditions.{column_scope, conditions_of, conjunct_of, parts_of}
+use Rattle.rs_bind.specs.InOrder.{Each, FirstRefused}
+use Rattle.rs_bind.specs.Queries.{Unranked}
+use Rattle.rs_bind.specs.Rules.{Refused, Types}
+use Rattle.rs_bind.specs.Sources.{Found, Source, alias_of, all_columns_from, column_in, sources_of}
+use Rattle.rs_bind.specs.Typing.{Scope, Typed, Number, Words, Truth, span_of, span_of_column}
+
+-- a FROM entry as it is written, and as the number of its table with its alias
+abbrev pub FromEntry : Type 0
+FromEntry = Name × Option Name
+
+abbrev pub Entry : Type 0
+Entry = ℕ × List ℕ
+
+-- an entry before has this alias, or none has
+abbrev pub is_taken : List ℕ → List Entry → Type 0
+is_taken alias before = list_any (λ (entry : Entry). bytes_eq entry.1 alias) before ≡ true
+
+abbrev pub is_free : List ℕ → List Entry → Type 0
+is_free alias before = list_any (λ (entry : Entry). bytes_eq entry.1 alias) before ≡ false
+
+module _ (catalogue : Catalogue) where
+  -- at most six entries, each of a table that is there, with an alias that no entry before it has
+  pub record TypesEntry (before : List Entry) (entry : FromEntry) (bound : Entry) : Type 0 where
+    pub room : length before ≢ 6
+    pub table : number_of what.Table entry.0.text catalogue ≡ Some bound.0
+    pub alias : bound.1 ≡ (alias_of entry).text
+    pub free : is_free bound.1 before
+
+  pub data RefusedEntry (before : List Entry) (entry : FromEntry) : BindFault → Type 0 where
+    too_many : length before ≡ 6 → RefusedEntry before entry (At LimitOf entry.0.at)
+    no_table : length before ≢ 6 → number_of what.Table entry.0.text catalogue ≡ None → RefusedEntry before entry (At NoTable entry.0.at)
+    twice : (table : ℕ) → length before ≢ 6 → number_of what.Table entry.0.text catalogue ≡ Some table → is_taken (alias_of entry).text before
+        → RefusedEntry before entry (At NameTwice (alias_of entry).at)
+
+-- something that is no truth value
+abbrev pub IsNoTruth : Typed → Type 0
+IsNoTruth (Number f) = Unit {0}
+IsNoTruth (Words side) = Unit {0}
+IsNoTruth (Truth c) = ⊥
+
+module _ (scope : Scope) where
+  -- WHERE: a truth value of at most 32 parts, which AND joins at its top
+  pub data TypesFilter : Option Expression → List ConjunctDef → Type 0 where
+    no_filter : TypesFilter None []
+    condition : (x : Expression) (c : Condition) → Types scope x (Truth c) → length (parts_of x) ≤ 32
+        → TypesFilter (Some x) (map conjunct_of (conditions_of c))
+
+  pub data RefusedFilter : Option Expression → BindFault → Type 0 where
+    in_condition : (x : Expression) (fault : BindFault) → Refused scope x fault → RefusedFilter (Some x) fault
+    no_truth : (x : Expression) (t : Typed) → Types scope x t → IsNoTruth t → RefusedFilter (Some x) (At WrongKind (span_of x))
+    -- the 33rd part
+    too_many : (x part : Expression) (c : Condition) → Types scope x (Truth c) → slice_get (parts_of x) 32 ≡ Some part
+        → RefusedFilter (Some x) (At LimitOf (span_of part))
+
+module _ (sources : List Source) where
+  -- at most 384 output columns, each one column of the entries
+  pub record TypesItem (before : List Found) (c : ColRef) (found : Found) : Type 0 where
+    pub room : length before ≢ 384
+    pub column : column_in sources c ≡ Ok found
+
+  pub data RefusedItem (before : List Found) (c : ColRef) : BindFault → Type 0 where
+    too_many : length before ≡ 384 → RefusedItem before c (At LimitOf (span_of_column c))
+    no_column : (fault : BindFault) → length before ≢ 384 → column_in sources c ≡ Err fault → RefusedItem before c fault
+
+  -- the output columns; `*` stands for all columns of all entries, in their order
+  pub data TypesItems : Items → List Found → Type 0 where
+    star : (at : Span) → length (all_columns_from 1 sources) ≤ 384 → TypesItems (items.Star at) (all_columns_from 1 sources)
+    listed : (columns : List ColRef) (found : List Found) → Each TypesItem [] columns found → TypesItems (items.List columns) found
+
+  pub data RefusedItems : Items → BindFault → Type 0 where
+    too_many : (at : Span) → 384 < length (all_columns_from 1 sources) → RefusedItems (items.Star at) (At LimitOf at)
+    in_list : (columns : List ColRef) (fault : BindFault) → FirstRefused TypesItem RefusedItem [] columns fault → RefusedItems (items.List columns) fault
+
+module _ (catalogue : Catalogue) where
+  -- a block: FROM comes first, then WHERE, and then the output columns
+  pub record TypesBlock (block : syntax.Block) (bound : Unranked) : Type 0 where
+    pub from : Each (TypesEntry catalogue) [] block.from bound.from
+    pub conjuncts : TypesFilter (column_scope (sources_of catalogue bound.from)) block.filter bound.conjuncts
+    pub items : TypesItems (sources_of catalogue bound.from) block.items bound.items
+    pub distinct : bound.distinct ≡ block.distinct
+
+  pub data RefusedBlock (block : syntax.Block) : BindFault → Type 0 where
+    in_from : (fault : BindFault) → FirstRefused (TypesEntry catalogue) (RefusedEntry catalogue) [] block.from fault → RefusedBlock block fault
+    in_filter : (from : List Entry) (fault : BindFault) → Each (TypesEntry catalogue) [] block.from from
+        → RefusedFilter (column_scope (sources_of catalogue from)) block.filter fault → RefusedBlock block fault
+    in_items : (from : List Entry) (conjuncts : List ConjunctDef) (fault : BindFault) → Each (TypesEntry catalogue) [] block.from from
+        → TypesFilter (column_scope (sources_of catalogue from)) block.filter conjuncts
+        → RefusedItems (sources_of catalogue from) block.items fault → RefusedBlock block fault
