@@ -32,41 +32,13 @@ use Rattle.rs_bind.proofs.InOrderFacts.{Each-steps, FirstRefused-steps, Follows,
 use Rattle.rs_bind.proofs.ResultFacts.{Ok-else, same_Ok, well}
 use Rattle.rs_bind.proofs.RuleFacts.{refused_by_rules, typed_by_rules}
 use Rattle.rs_bind.proofs.StepFacts.{Err-steps, Ok-or_fault, Ok-steps, Ok-test}
+use Rattle.rs_bind.proofs.TestFacts.{Err-else, Err-or_fault, Err-test, apart-test, equal-test, is-apart, is-equal}
 
--- numbers and their test
-pub is-equal : (a b : ℕ) → (a == b) ≡ true → a ≡ b
-is-equal a b h = grind (arith, nat_tests)
-
-pub is-apart : (a b : ℕ) → (a == b) ≡ false → a ≢ b
-is-apart a b h = grind (arith, nat_tests)
-
-pub equal-test : (a b : ℕ) → a ≡ b → (a == b) ≡ true
-equal-test a b h = grind (arith, nat_tests)
-
-pub apart-test : (a b : ℕ) → a ≢ b → (a == b) ≡ false
-apart-test a b h = grind (arith, nat_tests)
-
--- a limit, and what is refused at it
-pub Err-else : {A : Type 0} (full : Bool) (a : Result A BindFault) (limit fault : BindFault) → (if full then Err limit else a) ≡ Err fault
-    → ((full ≡ true) × (limit ≡ fault)) ⊎ ((full ≡ false) × (a ≡ Err fault))
-Err-else true a limit fault h = inl (refl, cc)
-Err-else false a limit fault h = inr (refl, h)
-
--- a test, and what is refused where it fails
-pub Err-test : {A : Type 0} (test : Bool) (a : Result A BindFault) (fails fault : BindFault) → (if test then a else Err fails) ≡ Err fault
-    → ((test ≡ false) × (fails ≡ fault)) ⊎ ((test ≡ true) × (a ≡ Err fault))
-Err-test false a fails fault h = inl (refl, cc)
-Err-test true a fails fault h = inr (refl, h)
-
-pub Err-or_fault : {A : Type 0} (fails fault : BindFault) (a : Option A) → or_fault fails a ≡ Err fault → (a ≡ None) × (fails ≡ fault)
-Err-or_fault fails fault (Some a) h = cc
-Err-or_fault fails fault None h = (refl, cc)
-
-length-map : {A B : Type 0} (f : A → B) (xs : List A) → length (map f xs) ≡ length xs
+pub length-map : {A B : Type 0} (f : A → B) (xs : List A) → length (map f xs) ≡ length xs
 length-map f [] = refl
 length-map f (x ∷ xs) = ap suc (length-map f xs)
 
-any-map : {A B : Type 0} (test : B → Bool) (f : A → B) (xs : List A) → list_any test (map f xs) ≡ list_any (λ x. test (f x)) xs
+pub any-map : {A B : Type 0} (test : B → Bool) (f : A → B) (xs : List A) → list_any test (map f xs) ≡ list_any (λ x. test (f x)) xs
 any-map test f [] = refl
 any-map test f (x ∷ xs) = ap (λ b. test (f x) || b) (any-map test f xs)
 

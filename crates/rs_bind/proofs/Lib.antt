@@ -10,8 +10,11 @@ pub mod EachFacts
 pub mod EntryFacts
 pub mod FilterFacts
 pub mod FormedFacts
+pub mod TestFacts
+pub mod ArgumentRuleFacts
 pub mod BlockRuleFacts
 pub mod QueryRuleFacts
+pub mod StatementRuleFacts
 pub mod InOrderFacts
 pub mod IndexFacts
 pub mod MaskFacts

@@ -27,164 +27,30 @@ use Rattle.rs_query.specs.declared.term.Term.{Term}
 use Rattle.rs_bind.specs.declared.fault.BindFault.{BindFault}
 use Rattle.rs_bind.specs.declared.fault.BindFault.TheVariants.{At}
 use Rattle.rs_bind.specs.declared.fault.Why.TheVariants.{ConstantTerm, DistinctNeedsOutput, LimitOf, NoPredicate, SetColumnsDiffer, WrongCount, WrongKind}
+use Rattle.rs_bind.specs.ArgumentRules.{IsWithin, TypesArgs}
 use Rattle.rs_bind.specs.BlockRules.{RefusedBlock, TypesBlock}
 use Rattle.rs_bind.specs.Indexes.{Entries, arg_of, args_of, is_column, of_kind, params_in, term_args}
 use Rattle.rs_bind.specs.InOrder.{Each, FirstRefused, none, and}
 use Rattle.rs_bind.specs.Names.{number_in, or_fault}
 use Rattle.rs_bind.specs.Queries.{Unranked, agree, are_outputs, as_argument, block_columns, bound_query, called, first_item, limit_of, max_in, names_of, needed_by, one_of, output_columns, set_of, terms_behind, terms_of, unranked_of, with_terms}
-use Rattle.rs_bind.specs.QueryRules.{HasArgs, HasPredicate, IsOutside, IsWithin, RefusedArg, RefusedLimit, RefusedQuery, RefusedTerm, RefusedTerms, TypesArg, TypesLimit, TypesQuery, TypesTerm, TypesTerms, columns_in, outputs_in}
-use Rattle.rs_bind.specs.QueryRules.{from_column, from_number, from_text, no_column, wrong_column, wrong_number, wrong_text, too_many, wrong_weight, no_predicate, wrong_count, in_args, constant, no_output, no_limit, within, outside, one_block, two_blocks, in_left, in_right, differ, in_terms, in_set_terms, in_limit, in_set_limit}
+use Rattle.rs_bind.specs.QueryRules.{HasPredicate, RefusedLimit, RefusedQuery, RefusedTerm, RefusedTerms, TypesLimit, TypesQuery, TypesTerm, TypesTerms, columns_in, outputs_in}
+use Rattle.rs_bind.specs.QueryRules.{too_many, wrong_weight, no_predicate, in_args, no_output, no_limit, within, outside, one_block, two_blocks, in_left, in_right, differ, in_terms, in_set_terms, in_limit, in_set_limit}
 use Rattle.rs_bind.specs.Sources.{Found, sources_of, the_only}
 use Rattle.rs_bind.specs.Typing.{span_of_column}
-use Rattle.rs_bind.proofs.BlockRuleFacts.{Err-else, Err-or_fault, Err-test, apart-test, block-is, block-is_refused, block-refused, block-typed, equal-test, is-apart, is-equal}
+use Rattle.rs_bind.proofs.ArgumentRuleFacts.{args-are, args-typed, outside-is, outside-refused, term_args-are, term_args-are_refused, term_args-refused, term_args-typed, within-is, within-typed}
+use Rattle.rs_bind.proofs.BlockRuleFacts.{block-is, block-is_refused, block-refused, block-typed}
 use Rattle.rs_bind.proofs.ColumnFacts.{the_only-is}
 use Rattle.rs_bind.proofs.EachFacts.{both_true, parts_true}
 use Rattle.rs_bind.proofs.InOrderFacts.{Each-steps, FirstRefused-steps, Follows, steps, steps-Each, steps-FirstRefused}
 use Rattle.rs_bind.proofs.ResultFacts.{Ok-else, same_Ok, well}
 use Rattle.rs_bind.proofs.StepFacts.{Err-steps, Ok-or_fault, Ok-steps, Ok-test}
 use Rattle.rs_bind.proofs.TermFacts.{same-kind, term_with}
-
--- a number in its limits
-within-typed : (least most : ℕ) (written : ℤ × Span) (n : ℕ) → number_in least most written ≡ Ok n → IsWithin least most written.0 n
-within-typed least most (pos m, at) n h =
-    let test = Ok-test (nat_le least m && nat_le m most) (well m) (At LimitOf at) n h in
-    let both = parts_true (nat_le least m) (nat_le m most) test.0 in
-    let same = same_Ok m n test.1 in
-    subst (IsWithin least most (pos m)) same (record { is = refl; no_less = grind (arith, nat_tests, both.0); no_more = grind (arith, nat_tests, both.1) })
-within-typed least most (negsuc m, at) n h = cc
-
-in-limits : (least most n : ℕ) → least ≤ n → n ≤ most → (nat_le least n && nat_le n most) ≡ true
-in-limits least most n h k =
-    let first : nat_le least n ≡ true = grind (arith, nat_tests) in
-    let second : nat_le n most ≡ true = grind (arith, nat_tests) in
-    both_true (nat_le least n) (nat_le n most) first second
-
-within-is : (least most : ℕ) (written : ℤ × Span) (n : ℕ) → IsWithin least most written.0 n → number_in least most written ≡ Ok n
-within-is least most (w, at) n h =
-    subst (λ z. number_in least most (z, at) ≡ Ok n) (sym h.is)
-    (ap (λ b. if b then well n else Err (At LimitOf at)) (in-limits least most n h.no_less h.no_more))
-
-outside-refused : (least most : ℕ) (written : ℤ × Span) (fault : BindFault) → number_in least most written ≡ Err fault
-    → IsOutside least most written.0 × (At LimitOf written.1 ≡ fault)
-outside-refused least most (pos m, at) fault h =
-    let test = Err-test (nat_le least m && nat_le m most) (well m) (At LimitOf at) fault h in
-    (λ n inside. (let is = within-is least most (pos m, at) n inside in cc), elim test [
-      | inl fails ↦ fails.1
-      | inr holds ↦ cc
-    ])
-outside-refused least most (negsuc m, at) fault h = (λ n inside. (let is = inside.is in cc), cc)
-
-outside-is : (least most : ℕ) (written : ℤ × Span) → IsOutside least most written.0 → number_in least most written ≡ Err (At LimitOf written.1)
-outside-is least most (pos m, at) out = go (nat_le least m && nat_le m most) refl where
-  go : (test : Bool) → (nat_le least m && nat_le m most) ≡ test → (if test then well m else Err (At LimitOf at)) ≡ Err (At LimitOf at)
-  go true e = absurd (out m (within-typed least most (pos m, at) m (ap (λ b. if b then well m else Err (At LimitOf at)) e)))
-  go false e = refl
-outside-is least most (negsuc m, at) out = refl
-
--- arguments
-module _ (entries : Entries) where
-  abbrev arg_step : List BoundArg → Kind × Arg → Result BoundArg BindFault
-  arg_step before pair = arg_of entries pair.0 pair.1
-
-  arg-typed : (before : List BoundArg) (pair : Kind × Arg) (made : BoundArg) → arg_step before pair ≡ Ok made → TypesArg entries before pair made
-  arg-typed before (wanted, arg.Column c) made h =
-      let found = Ok-steps (entries c) (of_kind wanted (span_of_column c)) made h in
-      let test = Ok-test (is_kind wanted (Some found.0.1)) (well found.0.0) (At WrongKind (span_of_column c)) made found.2 in
-      let same = same_Ok found.0.0 made test.1 in
-      let own = same-kind wanted found.0.1 test.0 in
-      from_column wanted c made (found.1 ∙ (ap (λ k. well (found.0.0, k)) own ∙ ap (λ m. well (m, wanted)) same))
-  arg-typed before (kind.Int, arg.Int n at) made h = subst (TypesArg entries before (kind.Int, arg.Int n at)) (same_Ok (bound.Int n) made h) (from_number n at)
-  arg-typed before (kind.Text, arg.Int n at) made h = cc
-  arg-typed before (kind.Int, arg.Text t at) made h = cc
-  arg-typed before (kind.Text, arg.Text t at) made h = subst (TypesArg entries before (kind.Text, arg.Text t at)) (same_Ok (bound.Text t) made h) (from_text t at)
-
-  kind-test : (wanted : Kind) → is_kind wanted (Some wanted) ≡ true
-  kind-test kind.Int = refl
-  kind-test kind.Text = refl
-
-  other-kind : (wanted own : Kind) → own ≢ wanted → is_kind wanted (Some own) ≡ false
-  other-kind kind.Int kind.Int h = absurd (h refl)
-  other-kind kind.Text kind.Text h = absurd (h refl)
-  other-kind kind.Int kind.Text h = refl
-  other-kind kind.Text kind.Int h = refl
-
-  is-other-kind : (wanted own : Kind) → is_kind wanted (Some own) ≡ false → own ≢ wanted
-  is-other-kind kind.Int kind.Int h = cc
-  is-other-kind kind.Text kind.Text h = cc
-  is-other-kind kind.Int kind.Text h = λ e. cc
-  is-other-kind kind.Text kind.Int h = λ e. cc
-
-  arg-is : (before : List BoundArg) (pair : Kind × Arg) (made : BoundArg) → TypesArg entries before pair made → arg_step before pair ≡ Ok made
-  arg-is before pair made (from_column wanted c found is) =
-      ap (λ r. r >>= of_kind wanted (span_of_column c)) is
-      ∙ ap (λ b. if b then well found else Err (At WrongKind (span_of_column c))) (kind-test wanted)
-  arg-is before pair made (from_number n at) = refl
-  arg-is before pair made (from_text t at) = refl
-
-  arg-refused : (before : List BoundArg) (pair : Kind × Arg) (fault : BindFault) → arg_step before pair ≡ Err fault → RefusedArg entries before pair fault
-  arg-refused before (wanted, arg.Column c) fault h = elim (Err-steps (entries c) (of_kind wanted (span_of_column c)) fault h) [
-    | inl refuses ↦ no_column wanted c fault refuses
-    | inr found ↦ elim (Err-test (is_kind wanted (Some found.0.1)) (well found.0.0) (At WrongKind (span_of_column c)) fault found.2) [
-      | inl wrong ↦ subst (RefusedArg entries before (wanted, arg.Column c)) wrong.1
-        (wrong_column wanted found.0.1 c found.0.0 found.1 (is-other-kind wanted found.0.1 wrong.0))
-      | inr right ↦ cc
-    ]
-  ]
-  arg-refused before (kind.Int, arg.Int n at) fault h = cc
-  arg-refused before (kind.Text, arg.Int n at) fault h =
-      let same : At WrongKind at ≡ fault = cc in subst (RefusedArg entries before (kind.Text, arg.Int n at)) same (wrong_number n at)
-  arg-refused before (kind.Int, arg.Text t at) fault h =
-      let same : At WrongKind at ≡ fault = cc in subst (RefusedArg entries before (kind.Int, arg.Text t at)) same (wrong_text t at)
-  arg-refused before (kind.Text, arg.Text t at) fault h = cc
-
-  arg-is_refused : (before : List BoundArg) (pair : Kind × Arg) (fault : BindFault) → RefusedArg entries before pair fault → arg_step before pair ≡ Err fault
-  arg-is_refused before pair fault (no_column wanted c f is) = ap (λ r. r >>= of_kind wanted (span_of_column c)) is
-  arg-is_refused before pair fault (wrong_column wanted own c found is apart) =
-      ap (λ r. r >>= of_kind wanted (span_of_column c)) is
-      ∙ ap (λ b. if b then well found else Err (At WrongKind (span_of_column c))) (other-kind wanted own apart)
-  arg-is_refused before pair fault (wrong_number n at) = refl
-  arg-is_refused before pair fault (wrong_text t at) = refl
-
-  arg-follows : Follows (TypesArg entries) (RefusedArg entries) arg_step
-  arg-follows = record { typed = arg-typed; is_typed = arg-is; refused = arg-refused; is_refused = arg-is_refused }
-
-  args-steps : (before : List BoundArg) (kinds : List Kind) (args : List Arg) → args_of entries kinds args ≡ steps arg_step before (zip kinds args)
-  args-steps before [] args = refl
-  args-steps before (wanted ∷ kinds) [] = refl
-  args-steps before (wanted ∷ kinds) (a ∷ args) = go (λ b. args-steps (b ∷ before) kinds args) (arg_of entries wanted a) where
-    go : ((b : BoundArg) → args_of entries kinds args ≡ steps arg_step (b ∷ before) (zip kinds args)) → (r : Result BoundArg BindFault)
-        → (r >>= λ first. args_of entries kinds args >>= λ rest. Ok (first ∷ rest))
-        ≡ (r >>= λ first. steps arg_step (first ∷ before) (zip kinds args) >>= λ more. Ok (first ∷ more))
-    go again (Err fault) = refl
-    go again (Ok first) = ap (λ s. s >>= λ more. Ok (first ∷ more)) (again first)
-
-  args-typed : (kinds : List Kind) (args : List Arg) (made : List BoundArg) → args_of entries kinds args ≡ Ok made → Each (TypesArg entries) [] (zip kinds args) made
-  args-typed kinds args made h =
-      Each-steps (TypesArg entries) (RefusedArg entries) arg_step arg-follows [] (zip kinds args) made (sym (args-steps [] kinds args) ∙ h)
-
-  args-are : (kinds : List Kind) (args : List Arg) (made : List BoundArg) → Each (TypesArg entries) [] (zip kinds args) made → args_of entries kinds args ≡ Ok made
-  args-are kinds args made each = args-steps [] kinds args ∙ steps-Each (TypesArg entries) (RefusedArg entries) arg_step arg-follows each
-
-  args-refused : (kinds : List Kind) (args : List Arg) (fault : BindFault) → args_of entries kinds args ≡ Err fault
-      → FirstRefused (TypesArg entries) (RefusedArg entries) [] (zip kinds args) fault
-  args-refused kinds args fault h =
-      FirstRefused-steps (TypesArg entries) (RefusedArg entries) arg_step arg-follows [] (zip kinds args) fault (sym (args-steps [] kinds args) ∙ h)
-
-  args-are_refused : (kinds : List Kind) (args : List Arg) (fault : BindFault) → FirstRefused (TypesArg entries) (RefusedArg entries) [] (zip kinds args) fault
-      → args_of entries kinds args ≡ Err fault
-  args-are_refused kinds args fault first = args-steps [] kinds args ∙ steps-FirstRefused (TypesArg entries) (RefusedArg entries) arg_step arg-follows first
+use Rattle.rs_bind.proofs.TestFacts.{Err-else, Err-or_fault, Err-test, apart-test, equal-test, is-apart, is-equal}
 
 -- terms
 module _ (catalogue : Catalogue) (entries : Entries) (needed : Option (List Found)) where
   abbrev params_of : ℕ → List Kind
   params_of predicate = params_in catalogue predicate
-
-  abbrev some_column : TermSyn → List BoundArg → Result (List BoundArg) BindFault
-  some_column term made = if list_any is_column made then well made else Err (At ConstantTerm term.at)
-
-  abbrev args_step : TermSyn → ℕ → Result (List BoundArg) BindFault
-  args_step term predicate =
-      if length term.args == length (params_of predicate) then (args_of entries (params_of predicate) term.args >>= some_column term) else Err (At WrongCount term.at)
 
   abbrev behind_args : TermSyn → ℕ → ℕ → List BoundArg → Result Term BindFault
   behind_args term w predicate made =
@@ -194,7 +60,7 @@ module _ (catalogue : Catalogue) (entries : Entries) (needed : Option (List Foun
   predicate_of term = or_fault (At NoPredicate term.predicate.at) (number_of what.Predicate term.predicate.text catalogue)
 
   abbrev behind_predicate : TermSyn → ℕ → ℕ → Result Term BindFault
-  behind_predicate term w predicate = args_step term predicate >>= behind_args term w predicate
+  behind_predicate term w predicate = term_args entries (params_of predicate) term.args term.at >>= behind_args term w predicate
 
   abbrev behind_weight : TermSyn → ℕ → Result Term BindFault
   behind_weight term w = predicate_of term >>= behind_predicate term w
@@ -215,41 +81,20 @@ module _ (catalogue : Catalogue) (entries : Entries) (needed : Option (List Foun
     is_predicate = Ok-or_fault (At NoPredicate term.predicate.at) (number_of what.Predicate term.predicate.text catalogue) predicate is;
   }
 
-  -- and up to its arguments
-  record Argued (term : TermSyn) (predicate : ℕ) (made : List BoundArg) : Type 0 where
-    count : length term.args ≡ length (params_of predicate)
-    args : args_of entries (params_of predicate) term.args ≡ Ok made
-    column : list_any is_column made ≡ true
-
-  argued : (term : TermSyn) (predicate : ℕ) (made : List BoundArg) → args_step term predicate ≡ Ok made → Argued term predicate made
-  argued term predicate made h =
-      let count = Ok-test (length term.args == length (params_of predicate)) (args_of entries (params_of predicate) term.args >>= some_column term) (At WrongCount term.at) made h in
-      let found = Ok-steps (args_of entries (params_of predicate) term.args) (some_column term) made count.1 in
-      let some = Ok-test (list_any is_column found.0) (well found.0) (At ConstantTerm term.at) made found.2 in
-      let same = same_Ok found.0 made some.1 in
-      record {
-        count = is-equal (length term.args) (length (params_of predicate)) count.0;
-        args = found.1 ∙ ap (λ m. well m) same;
-        column = ap (λ m. list_any is_column m) (sym same) ∙ some.0;
-      }
-
   term-typed : (before : List Term) (term : TermSyn) (made : Term) → term_step before term ≡ Ok made → TypesTerm catalogue entries needed before term made
   term-typed before term made h =
       let past = Ok-else (length before == 8) (behind_room term) (At LimitOf term.at) made h in
       let first = Ok-steps (number_in 1 1000000 term.weight) (behind_weight term) made past.1 in
       let second = Ok-steps (predicate_of term) (behind_predicate term first.0) made first.2 in
-      let third = Ok-steps (args_step term second.0) (behind_args term first.0 second.0) made second.2 in
+      let third = Ok-steps (term_args entries (params_of second.0) term.args term.at) (behind_args term first.0 second.0) made second.2 in
       let test = Ok-test (are_outputs needed (columns_of third.0)) (well (term_with catalogue first.0 second.0 third.0)) (At DistinctNeedsOutput term.at) made third.2 in
       let same = same_Ok (term_with catalogue first.0 second.0 third.0) made test.1 in
       let has = predicated before term first.0 second.0 past.0 first.1 second.1 in
-      let own = argued term second.0 third.0 third.1 in
       subst (TypesTerm catalogue entries needed before term) same (record {
         room = has.room;
         weight = within-typed 1 1000000 term.weight first.0 first.1;
         predicate = has.is_predicate;
-        count = own.count;
-        args = args-typed entries (params_of second.0) term.args third.0 own.args;
-        column = own.column;
+        args = term_args-typed entries (params_of second.0) term.args term.at third.0 third.1;
         outputs = test.0;
         max = refl;
         entries_are = refl;
@@ -267,29 +112,19 @@ module _ (catalogue : Catalogue) (entries : Entries) (needed : Option (List Foun
   past-predicate before term w predicate room weighs is =
       past-weight before term w room weighs ∙ ap (λ p. or_fault (At NoPredicate term.predicate.at) p >>= behind_predicate term w) is
 
-  past-count : (term : TermSyn) (predicate : ℕ) → length term.args ≡ length (params_of predicate)
-      → args_step term predicate ≡ (args_of entries (params_of predicate) term.args >>= some_column term)
-  past-count term predicate count =
-      ap (λ b. if b then (args_of entries (params_of predicate) term.args >>= some_column term) else Err (At WrongCount term.at))
-      (equal-test (length term.args) (length (params_of predicate)) count)
-
-  past-args : (term : TermSyn) (predicate : ℕ) (made : List BoundArg) → length term.args ≡ length (params_of predicate)
-      → Each (TypesArg entries) [] (zip (params_of predicate) term.args) made → args_step term predicate ≡ some_column term made
-  past-args term predicate made count each =
-      past-count term predicate count ∙ ap (λ r. r >>= some_column term) (args-are entries (params_of predicate) term.args made each)
-
-  past-column : (term : TermSyn) (predicate : ℕ) (made : List BoundArg) → length term.args ≡ length (params_of predicate)
-      → Each (TypesArg entries) [] (zip (params_of predicate) term.args) made → list_any is_column made ≡ true → args_step term predicate ≡ Ok made
-  past-column term predicate made count each some =
-      past-args term predicate made count each ∙ ap (λ b. if b then well made else Err (At ConstantTerm term.at)) some
+  past-args : (before : List Term) (term : TermSyn) (w predicate : ℕ) (made : List BoundArg) → length before ≢ 8 → IsWithin 1 1000000 term.weight.0 w
+      → number_of what.Predicate term.predicate.text catalogue ≡ Some predicate → TypesArgs entries (params_of predicate) term.args made
+      → term_step before term ≡ behind_args term w predicate made
+  past-args before term w predicate made room weighs is args =
+      past-predicate before term w predicate room weighs is
+      ∙ ap (λ r. r >>= behind_args term w predicate) (term_args-are entries (params_of predicate) term.args term.at made args)
 
   term-is : (before : List Term) (term : TermSyn) (made : Term) → TypesTerm catalogue entries needed before term made → term_step before term ≡ Ok made
   term-is before term made t =
-      past-predicate before term made.weight made.predicate t.room t.weight t.predicate
-      ∙ (ap (λ r. r >>= behind_args term made.weight made.predicate) (past-column term made.predicate made.args t.count t.args t.column)
+      past-args before term made.weight made.predicate made.args t.room t.weight t.predicate t.args
       ∙ (ap (λ b. if b then well (term_with catalogue made.weight made.predicate made.args) else Err (At DistinctNeedsOutput term.at)) t.outputs
       ∙ (ap (λ m. well (record { weight = made.weight; predicate = made.predicate; args = made.args; max = m; entries = entries_of (columns_of made.args) })) (sym t.max)
-      ∙ ap (λ e. well (record { weight = made.weight; predicate = made.predicate; args = made.args; max = made.max; entries = e })) (sym t.entries_are))))
+      ∙ ap (λ e. well (record { weight = made.weight; predicate = made.predicate; args = made.args; max = made.max; entries = e })) (sym t.entries_are)))
 
   term-refused : (before : List Term) (term : TermSyn) (fault : BindFault) → term_step before term ≡ Err fault → RefusedTerm catalogue entries needed before term fault
   term-refused before term fault h =
@@ -306,42 +141,16 @@ module _ (catalogue : Catalogue) (entries : Entries) (needed : Option (List Foun
           ]
         ]
       ] where
-        outputs_refused : (w predicate : ℕ) (made : List BoundArg) → HasPredicate catalogue before term predicate → Argued term predicate made
-            → behind_args term w predicate made ≡ Err fault → RefusedTerm catalogue entries needed before term fault
-        outputs_refused w predicate made has own k =
-            elim (Err-test (are_outputs needed (columns_of made)) (well (term_with catalogue w predicate made)) (At DistinctNeedsOutput term.at) fault k) [
-              | inl fails ↦ subst (RefusedTerm catalogue entries needed before term) fails.1
-                (no_output made (record { predicate = predicate; has_predicate = has; count = own.count; args = args-typed entries (params_of predicate) term.args made own.args })
-                own.column fails.0)
-              | inr passes ↦ cc
-            ]
-        args_refused : (predicate : ℕ) → HasPredicate catalogue before term predicate → args_step term predicate ≡ Err fault
-            → RefusedTerm catalogue entries needed before term fault
-        args_refused predicate has k =
-            elim (Err-test (length term.args == length (params_of predicate)) (args_of entries (params_of predicate) term.args >>= some_column term) (At WrongCount term.at) fault k) [
-              | inl fails ↦ subst (RefusedTerm catalogue entries needed before term) fails.1
-                (wrong_count predicate has (is-apart (length term.args) (length (params_of predicate)) fails.0))
-              | inr counts ↦ (let count = is-equal (length term.args) (length (params_of predicate)) counts.0 in
-                  elim (Err-steps (args_of entries (params_of predicate) term.args) (some_column term) fault counts.1) [
-                    | inl refuses ↦ in_args predicate fault has count (args-refused entries (params_of predicate) term.args fault refuses)
-                    | inr found ↦ elim (Err-test (list_any is_column found.0) (well found.0) (At ConstantTerm term.at) fault found.2) [
-                      | inl lacks ↦ subst (RefusedTerm catalogue entries needed before term) lacks.1
-                        (constant found.0 (record { predicate = predicate; has_predicate = has; count = count; args = args-typed entries (params_of predicate) term.args found.0 found.1 }) lacks.0)
-                      | inr some ↦ cc
-                    ]
-                  ])
-            ]
         behind_known : (w predicate : ℕ) → HasPredicate catalogue before term predicate → behind_predicate term w predicate ≡ Err fault
             → RefusedTerm catalogue entries needed before term fault
-        behind_known w predicate has k = elim (Err-steps (args_step term predicate) (behind_args term w predicate) fault k) [
-          | inl refuses ↦ args_refused predicate has refuses
-          | inr made ↦ outputs_refused w predicate made.0 has (argued term predicate made.0 made.1) made.2
+        behind_known w predicate has k = elim (Err-steps (term_args entries (params_of predicate) term.args term.at) (behind_args term w predicate) fault k) [
+          | inl refuses ↦ in_args predicate fault has (term_args-refused entries (params_of predicate) term.args term.at fault refuses)
+          | inr made ↦ elim (Err-test (are_outputs needed (columns_of made.0)) (well (term_with catalogue w predicate made.0)) (At DistinctNeedsOutput term.at) fault made.2) [
+            | inl fails ↦ subst (RefusedTerm catalogue entries needed before term) fails.1
+              (no_output predicate made.0 has (term_args-typed entries (params_of predicate) term.args term.at made.0 made.1) fails.0)
+            | inr passes ↦ cc
+          ]
         ]
-
-  -- the steps of a term whose predicate is known
-  past-has : (before : List Term) (term : TermSyn) (predicate : ℕ) (h : HasPredicate catalogue before term predicate)
-      → term_step before term ≡ behind_predicate term h.weight predicate
-  past-has before term predicate h = past-predicate before term h.weight predicate h.room h.is_weight h.is_predicate
 
   term-is_refused : (before : List Term) (term : TermSyn) (fault : BindFault) → RefusedTerm catalogue entries needed before term fault → term_step before term ≡ Err fault
   term-is_refused before term fault (too_many full) = ap (λ b. if b then Err (At LimitOf term.at) else behind_room term) (equal-test (length before) 8 full)
@@ -349,22 +158,12 @@ module _ (catalogue : Catalogue) (entries : Entries) (needed : Option (List Foun
       past-room before term room ∙ ap (λ r. r >>= behind_weight term) (outside-is 1 1000000 term.weight out)
   term-is_refused before term fault (no_predicate n room weighs missing) =
       past-weight before term n room weighs ∙ ap (λ p. or_fault (At NoPredicate term.predicate.at) p >>= behind_predicate term n) missing
-  term-is_refused before term fault (wrong_count predicate has apart) =
-      past-has before term predicate has
-      ∙ ap (λ b. (if b then (args_of entries (params_of predicate) term.args >>= some_column term) else Err (At WrongCount term.at)) >>= behind_args term has.weight predicate)
-        (apart-test (length term.args) (length (params_of predicate)) apart)
-  term-is_refused before term fault (in_args predicate f has count first) =
-      past-has before term predicate has
-      ∙ (ap (λ r. r >>= behind_args term has.weight predicate) (past-count term predicate count)
-      ∙ ap (λ r. (r >>= some_column term) >>= behind_args term has.weight predicate) (args-are_refused entries (params_of predicate) term.args f first))
-  term-is_refused before term fault (constant made has no_column_there) =
-      past-has before term has.predicate has.has_predicate
-      ∙ ap (λ r. r >>= behind_args term has.has_predicate.weight has.predicate)
-        (past-args term has.predicate made has.count has.args ∙ ap (λ b. if b then well made else Err (At ConstantTerm term.at)) no_column_there)
-  term-is_refused before term fault (no_output made has some others) =
-      past-has before term has.predicate has.has_predicate
-      ∙ (ap (λ r. r >>= behind_args term has.has_predicate.weight has.predicate) (past-column term has.predicate made has.count has.args some)
-      ∙ ap (λ b. if b then well (term_with catalogue has.has_predicate.weight has.predicate made) else Err (At DistinctNeedsOutput term.at)) others)
+  term-is_refused before term fault (in_args predicate f has refused) =
+      past-predicate before term has.weight predicate has.room has.is_weight has.is_predicate
+      ∙ ap (λ r. r >>= behind_args term has.weight predicate) (term_args-are_refused entries (params_of predicate) term.args term.at f refused)
+  term-is_refused before term fault (no_output predicate made has args fails) =
+      past-args before term has.weight predicate made has.room has.is_weight has.is_predicate args
+      ∙ ap (λ b. if b then well (term_with catalogue has.weight predicate made) else Err (At DistinctNeedsOutput term.at)) fails
 
   term-follows : Follows (TypesTerm catalogue entries needed) (RefusedTerm catalogue entries needed) term_step
   term-follows = record { typed = term-typed; is_typed = term-is; refused = term-refused; is_refused = term-is_refused }
@@ -548,16 +347,18 @@ module _ (names : List (List ℕ)) (left right : List Found) (alike : agree left
   other-terms catalogue others_before e (none before) = ([], none others_before)
   other-terms catalogue others_before e (and before term terms made more is each) =
       let params = params_in catalogue made.predicate in
-      let found = other-args params term.args made.args (args-are (output_columns names left) params term.args made.args is.args) in
+      let found = other-args params term.args made.args (args-are (output_columns names left) params term.args made.args is.args.each) in
       let other = term_with catalogue made.weight made.predicate found.others in
       let rest = other-terms catalogue (other ∷ others_before) (ap suc e) each in
       (other ∷ rest.0, and others_before term terms other rest.0 (record {
         room = subst (λ n. n ≢ 8) e is.room;
         weight = is.weight;
         predicate = is.predicate;
-        count = is.count;
-        args = args-typed (output_columns names right) params term.args found.others found.is;
-        column = sym found.some_column ∙ is.column;
+        args = record {
+          count = is.args.count;
+          each = args-typed (output_columns names right) params term.args found.others found.is;
+          column = sym found.some_column ∙ is.args.column;
+        };
         outputs = refl;
         max = refl;
         entries_are = refl;

@@ -11,5 +11,7 @@ pub mod Queries
 pub mod Terms
 pub mod Limits
 pub mod InOrder
+pub mod ArgumentRules
 pub mod BlockRules
 pub mod QueryRules
+pub mod StatementRules

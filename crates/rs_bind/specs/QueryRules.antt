@@ -1,18 +1,11 @@
 -- The rules of a query, as relations: what its terms, its LIMIT and the whole of it are, or with what they are refused.
-use Rattle.std.specs.Prelude.{ℕ, ℤ, pos, ◌≡◌, ◌≢◌, ◌≤◌, true, false, List, [], length, Option, Some, None, Ok, Err}
-use Rattle.std.specs.List.{list_any, zip}
-use Rattle.rs_value.specs.declared.kind.Kind.{Kind}
-use Rattle.rs_value.specs.declared.kind.Kind.TheVariants as kind
+use Rattle.std.specs.Prelude.{ℕ, ℤ, ◌≡◌, ◌≢◌, true, false, List, [], length, Option, Some, None}
 use Rattle.rs_lex.specs.declared.token.Span.{Span}
-use Rattle.rs_syntax.specs.declared.name.Arg.{Arg}
-use Rattle.rs_syntax.specs.declared.name.Arg.TheVariants as arg
-use Rattle.rs_syntax.specs.declared.name.ColRef.{ColRef}
 use Rattle.rs_syntax.specs.declared.select.SetOp.{SetOp}
 use Rattle.rs_syntax.specs.declared.select.TermSyn.{TermSyn}
 use Rattle.rs_syntax.specs.Syntax as syntax
 use Rattle.rs_catalog.specs.Catalogue.{Catalogue, number_of}
 use Rattle.rs_catalog.specs.declared.index.BoundArg.{BoundArg}
-use Rattle.rs_catalog.specs.declared.index.BoundArg.TheVariants as bound
 use Rattle.rs_catalog.specs.declared.room.What.TheVariants as what
 use Rattle.rs_query.specs.WellFormed.{columns_of, entries_of}
 use Rattle.rs_query.specs.declared.query.Query.{Query}
@@ -20,40 +13,13 @@ use Rattle.rs_query.specs.declared.query.Query.TheVariants.{One, Set}
 use Rattle.rs_query.specs.declared.term.Term.{Term}
 use Rattle.rs_bind.specs.declared.fault.BindFault.{BindFault}
 use Rattle.rs_bind.specs.declared.fault.BindFault.TheVariants.{At}
-use Rattle.rs_bind.specs.declared.fault.Why.TheVariants.{ConstantTerm, DistinctNeedsOutput, LimitOf, NoPredicate, SetColumnsDiffer, WrongCount, WrongKind}
+use Rattle.rs_bind.specs.declared.fault.Why.TheVariants.{DistinctNeedsOutput, LimitOf, NoPredicate, SetColumnsDiffer}
+use Rattle.rs_bind.specs.ArgumentRules.{IsOutside, IsWithin, RefusedArgs, TypesArgs}
 use Rattle.rs_bind.specs.BlockRules.{RefusedBlock, TypesBlock}
-use Rattle.rs_bind.specs.Indexes.{Entries, is_column, params_in}
+use Rattle.rs_bind.specs.Indexes.{Entries, params_in}
 use Rattle.rs_bind.specs.InOrder.{Each, FirstRefused}
 use Rattle.rs_bind.specs.Queries.{Unranked, agree, are_outputs, block_columns, first_item, max_in, names_of, needed_by, output_columns, with_terms}
 use Rattle.rs_bind.specs.Sources.{Found, sources_of}
-use Rattle.rs_bind.specs.Typing.{span_of_column}
-
--- a number that is written, where it lies within limits
-pub record IsWithin (least most : ℕ) (written : ℤ) (n : ℕ) : Type 0 where
-  pub is : written ≡ pos n
-  pub no_less : least ≤ n
-  pub no_more : n ≤ most
-
-abbrev pub IsOutside : ℕ → ℕ → ℤ → Type 0
-IsOutside least most written = (n : ℕ) → IsWithin least most written n → ⊥
-
-module _ (entries : Entries) where
-  -- an argument for a parameter of a kind: a column, a number or a text of that kind
-  pub data TypesArg (before : List BoundArg) : Kind × Arg → BoundArg → Type 0 where
-    from_column : (wanted : Kind) (c : ColRef) (found : BoundArg) → entries c ≡ Ok (found, wanted) → TypesArg before (wanted, arg.Column c) found
-    from_number : (n : ℤ) (at : Span) → TypesArg before (kind.Int, arg.Int n at) (bound.Int n)
-    from_text : (t : List ℕ) (at : Span) → TypesArg before (kind.Text, arg.Text t at) (bound.Text t)
-
-  pub data RefusedArg (before : List BoundArg) : Kind × Arg → BindFault → Type 0 where
-    no_column : (wanted : Kind) (c : ColRef) (fault : BindFault) → entries c ≡ Err fault → RefusedArg before (wanted, arg.Column c) fault
-    wrong_column : (wanted own : Kind) (c : ColRef) (found : BoundArg) → entries c ≡ Ok (found, own) → own ≢ wanted
-        → RefusedArg before (wanted, arg.Column c) (At WrongKind (span_of_column c))
-    wrong_number : (n : ℤ) (at : Span) → RefusedArg before (kind.Text, arg.Int n at) (At WrongKind at)
-    wrong_text : (t : List ℕ) (at : Span) → RefusedArg before (kind.Int, arg.Text t at) (At WrongKind at)
-
--- the arguments of a term, each with the kind of its parameter
-abbrev pub with_params : Catalogue → ℕ → TermSyn → List (Kind × Arg)
-with_params catalogue predicate term = zip (params_in catalogue predicate) term.args
 
 -- a term that there may be, whose weight lies in its limits and whose predicate has this number
 pub record HasPredicate (catalogue : Catalogue) (before : List Term) (term : TermSyn) (predicate : ℕ) : Type 0 where
@@ -62,23 +28,14 @@ pub record HasPredicate (catalogue : Catalogue) (before : List Term) (term : Ter
   pub is_weight : IsWithin 1 1000000 term.weight.0 weight
   pub is_predicate : number_of what.Predicate term.predicate.text catalogue ≡ Some predicate
 
--- one that has as many arguments as parameters, which are these
-pub record HasArgs (catalogue : Catalogue) (entries : Entries) (before : List Term) (term : TermSyn) (made : List BoundArg) : Type 0 where
-  pub predicate : ℕ
-  pub has_predicate : HasPredicate catalogue before term predicate
-  pub count : length term.args ≡ length (params_in catalogue predicate)
-  pub args : Each (TypesArg entries) [] (with_params catalogue predicate term) made
-
 module _ (catalogue : Catalogue) (entries : Entries) (needed : Option (List Found)) where
-  -- at most eight terms, each of a weight in its limits and a predicate that is there, with as many arguments as parameters, each one for its parameter, of
-  -- which some is a column, and each column is an output column where it has to be
+  -- at most eight terms, each of a weight in its limits and a predicate that is there, with arguments for it, of which each column is an output column where
+  -- it has to be
   pub record TypesTerm (before : List Term) (term : TermSyn) (made : Term) : Type 0 where
     pub room : length before ≢ 8
     pub weight : IsWithin 1 1000000 term.weight.0 made.weight
     pub predicate : number_of what.Predicate term.predicate.text catalogue ≡ Some made.predicate
-    pub count : length term.args ≡ length (params_in catalogue made.predicate)
-    pub args : Each (TypesArg entries) [] (with_params catalogue made.predicate term) made.args
-    pub column : list_any is_column made.args ≡ true
+    pub args : TypesArgs entries (params_in catalogue made.predicate) term.args made.args
     pub outputs : are_outputs needed (columns_of made.args) ≡ true
     pub max : made.max ≡ max_in catalogue made.predicate
     pub entries_are : made.entries ≡ entries_of (columns_of made.args)
@@ -88,12 +45,10 @@ module _ (catalogue : Catalogue) (entries : Entries) (needed : Option (List Foun
     wrong_weight : length before ≢ 8 → IsOutside 1 1000000 term.weight.0 → RefusedTerm before term (At LimitOf term.weight.1)
     no_predicate : (n : ℕ) → length before ≢ 8 → IsWithin 1 1000000 term.weight.0 n → number_of what.Predicate term.predicate.text catalogue ≡ None
         → RefusedTerm before term (At NoPredicate term.predicate.at)
-    wrong_count : (predicate : ℕ) → HasPredicate catalogue before term predicate → length term.args ≢ length (params_in catalogue predicate)
-        → RefusedTerm before term (At WrongCount term.at)
-    in_args : (predicate : ℕ) (fault : BindFault) → HasPredicate catalogue before term predicate → length term.args ≡ length (params_in catalogue predicate)
-        → FirstRefused (TypesArg entries) (RefusedArg entries) [] (with_params catalogue predicate term) fault → RefusedTerm before term fault
-    constant : (made : List BoundArg) → HasArgs catalogue entries before term made → list_any is_column made ≡ false → RefusedTerm before term (At ConstantTerm term.at)
-    no_output : (made : List BoundArg) → HasArgs catalogue entries before term made → list_any is_column made ≡ true → are_outputs needed (columns_of made) ≡ false
+    in_args : (predicate : ℕ) (fault : BindFault) → HasPredicate catalogue before term predicate
+        → RefusedArgs entries (params_in catalogue predicate) term.args term.at fault → RefusedTerm before term fault
+    no_output : (predicate : ℕ) (made : List BoundArg) → HasPredicate catalogue before term predicate
+        → TypesArgs entries (params_in catalogue predicate) term.args made → are_outputs needed (columns_of made) ≡ false
         → RefusedTerm before term (At DistinctNeedsOutput term.at)
 
   -- the terms of a query

@@ -1,15 +1,30 @@
-//! What binding is: laws that hold of every expression and of every query. The functions compute nothing; they are called
-//! for their contracts.
+//! What binding is: laws that hold of every expression and of every statement. The functions compute nothing; they are
+//! called for their contracts.
 
 ghost use Rattle.std.specs.Prelude.{◌≡◌, ◌↔◌, Err, Ok};
+ghost use Rattle.std.specs.Prelude.{List, Option, ℕ, ℤ};
 ghost use Rattle.rs_catalog.specs.Catalogue.{Catalogue};
-ghost use Rattle.rs_syntax.specs.Syntax.{Expression, Query as Select};
+ghost use Rattle.rs_catalog.specs.declared.index.IndexDef.{IndexDef};
+ghost use Rattle.rs_expr.specs.Predicates.{PredicateDef};
+ghost use Rattle.rs_lex.specs.declared.token.Span.{Span as Place};
+ghost use Rattle.rs_syntax.specs.Syntax.{CreatePredicate, CreateRankIndex, Expression, Query as Select};
+ghost use Rattle.rs_syntax.specs.declared.name.Arg.{Arg};
+ghost use Rattle.rs_syntax.specs.declared.name.Name.{Name};
+ghost use Rattle.rs_table.specs.Column.{Column};
+ghost use Rattle.rs_value.specs.declared.kind.Kind.{Kind as ValueKind};
 ghost use Rattle.rs_query.specs.declared.query.Query.{Query};
-ghost use Rattle.rs_bind.specs.Queries.{bound_query};
+ghost use Rattle.rs_bind.specs.ArgumentRules.{IsOutside, IsWithin};
+ghost use Rattle.rs_bind.specs.Indexes.{index_def_of};
+ghost use Rattle.rs_bind.specs.Names.{columns_of};
+ghost use Rattle.rs_bind.specs.Predicates.{predicate_of};
+ghost use Rattle.rs_bind.specs.Queries.{bound_query, count_of};
 ghost use Rattle.rs_bind.specs.QueryRules.{RefusedQuery, TypesQuery};
 ghost use Rattle.rs_bind.specs.Rules.{Refused, Types};
 ghost use Rattle.rs_bind.specs.Typing.{Scope, Typed, type_of};
+ghost use Rattle.rs_bind.specs.StatementRules.{RefusedIndex, RefusedNames, RefusedPredicate, TypesIndex, TypesNames, TypesPredicate};
 ghost use Rattle.rs_bind.specs.declared.fault.BindFault.{BindFault};
+ghost use Rattle.rs_bind.specs.declared.fault.BindFault.TheVariants.{At};
+ghost use Rattle.rs_bind.specs.declared.fault.Why.TheVariants.{LimitOf};
 
 /// An expression is one thing at most, as the rules say, or refused with one fault, that of the first rule that fails; it
 /// is never both.
@@ -26,4 +41,22 @@ pub fn queries_are_typed_by_rules()
         → (bound_query catalogue select ≡ Err fault) ↔ RefusedQuery catalogue select fault }
     ensures one { (catalogue : Catalogue) (select : Select) (query other : Query) → TypesQuery catalogue select query → TypesQuery catalogue select other
         → query ≡ other }
+{}
+
+/// The same of the other statements that are bound: the columns of a CREATE TABLE, a CREATE PREDICATE, a CREATE RANK INDEX,
+/// and the number in FETCH.
+pub fn statements_are_typed_by_rules()
+    ensures table { (columns : List (Name × ValueKind)) (made : List Column) → (columns_of columns ≡ Ok made) ↔ TypesNames 64 columns made }
+    ensures no_table { (columns : List (Name × ValueKind)) (fault : BindFault) → (columns_of columns ≡ Err fault) ↔ RefusedNames 64 columns fault }
+    ensures predicate { (name : Name) (params : List (Name × ValueKind)) (max : ℤ × Place) (cost : Option (ℤ × Place)) (formula : Expression) (made : PredicateDef)
+        → (predicate_of (CreatePredicate name params max cost formula) ≡ Ok made) ↔ TypesPredicate name params max cost formula made }
+    ensures no_predicate { (name : Name) (params : List (Name × ValueKind)) (max : ℤ × Place) (cost : Option (ℤ × Place)) (formula : Expression) (fault : BindFault)
+        → (predicate_of (CreatePredicate name params max cost formula) ≡ Err fault) ↔ RefusedPredicate params max cost formula fault }
+    ensures index { (catalogue : Catalogue) (name table predicate : Name) (args : List Arg) (at : Place) (made : IndexDef)
+        → (index_def_of catalogue (CreateRankIndex name table predicate args at) ≡ Ok made) ↔ TypesIndex catalogue name table predicate args made }
+    ensures no_index { (catalogue : Catalogue) (name table predicate : Name) (args : List Arg) (at : Place) (fault : BindFault)
+        → (index_def_of catalogue (CreateRankIndex name table predicate args at) ≡ Err fault) ↔ RefusedIndex catalogue table predicate args at fault }
+    ensures count { (count : ℤ × Place) (made : ℕ) → (count_of count ≡ Ok made) ↔ IsWithin 0 1000000 count.0 made }
+    ensures no_count { (count : ℤ × Place) (fault : BindFault)
+        → (count_of count ≡ Err fault) ↔ (IsOutside 0 1000000 count.0 × (At LimitOf count.1 ≡ fault)) }
 {}

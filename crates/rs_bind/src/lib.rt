@@ -30,7 +30,9 @@ mod written;
 pub use count::bind_count;
 pub use fault::{BindFault, Why};
 pub use index::bind_index;
-pub use laws::{expressions_are_typed_by_rules, queries_are_typed_by_rules};
+pub use laws::{
+    expressions_are_typed_by_rules, queries_are_typed_by_rules, statements_are_typed_by_rules,
+};
 pub use predicate::bind_predicate;
 pub use query::bind;
 pub use table::bind_table;
