@@ -1,6 +1,6 @@
 -- Written numbers and arguments are typed, and refused, by their rules.
 use Rattle.std.proofs.Common.{ℕ, ◌≡◌, ◌≢◌, ◌≤◌, ◌==◌, Bool, true, false, ◌&&◌, List, [], ◌∷◌, length, refl, sym, subst, ap, ◌∙◌, inl, inr, arith}
-use Rattle.std.specs.Prelude.{ℤ, pos, negsuc, nat_le, Option, Some, None, Result, Ok, Err, if◌then◌else◌}
+use Rattle.std.specs.Prelude.{ℤ, pos, negsuc, nat_le, Some, Result, Ok, Err, if◌then◌else◌}
 use Rattle.std.specs.List.{list_any, zip}
 use Rattle.std.proofs.lemmas.Bool.Decides.{nat_tests}
 use Rattle.rs_value.specs.declared.kind.Kind.{Kind}
@@ -8,7 +8,6 @@ use Rattle.rs_value.specs.declared.kind.Kind.TheVariants as kind
 use Rattle.rs_lex.specs.declared.token.Span.{Span}
 use Rattle.rs_syntax.specs.declared.name.Arg.{Arg}
 use Rattle.rs_syntax.specs.declared.name.Arg.TheVariants as arg
-use Rattle.rs_syntax.specs.declared.name.ColRef.{ColRef}
 use Rattle.rs_table.specs.Reading.{◌>>=◌}
 use Rattle.rs_expr.specs.Uses.{is_kind}
 use Rattle.rs_catalog.specs.declared.index.BoundArg.{BoundArg}
@@ -52,11 +51,13 @@ within-is least most (w, at) n h =
 pub outside-refused : (least most : ℕ) (written : ℤ × Span) (fault : BindFault) → number_in least most written ≡ Err fault
     → IsOutside least most written.0 × (At LimitOf written.1 ≡ fault)
 outside-refused least most (pos m, at) fault h =
-    let test = Err-test (nat_le least m && nat_le m most) (well m) (At LimitOf at) fault h in
-    (λ n inside. (let is = within-is least most (pos m, at) n inside in cc), elim test [
-      | inl fails ↦ fails.1
-      | inr holds ↦ cc
-    ])
+    let test = Err-test (nat_le least m && nat_le m most) (well m) (At LimitOf at) fault h in (
+      λ n inside. (let is = within-is least most (pos m, at) n inside in cc),
+      elim test [
+        | inl fails ↦ fails.1
+        | inr holds ↦ cc
+      ],
+    )
 outside-refused least most (negsuc m, at) fault h = (λ n inside. (let is = inside.is in cc), cc)
 
 pub outside-is : (least most : ℕ) (written : ℤ × Span) → IsOutside least most written.0 → number_in least most written ≡ Err (At LimitOf written.1)
@@ -111,7 +112,7 @@ module _ (entries : Entries) where
     | inl refuses ↦ no_column wanted c fault refuses
     | inr found ↦ elim (Err-test (is_kind wanted (Some found.0.1)) (well found.0.0) (At WrongKind (span_of_column c)) fault found.2) [
       | inl wrong ↦ subst (RefusedArg entries before (wanted, arg.Column c)) wrong.1
-        (wrong_column wanted found.0.1 c found.0.0 found.1 (is-other-kind wanted found.0.1 wrong.0))
+          (wrong_column wanted found.0.1 c found.0.0 found.1 (is-other-kind wanted found.0.1 wrong.0))
       | inr right ↦ cc
     ]
   ]

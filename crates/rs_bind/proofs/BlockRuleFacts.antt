@@ -20,7 +20,7 @@ use Rattle.rs_bind.specs.declared.fault.BindFault.TheVariants.{At}
 use Rattle.rs_bind.specs.declared.fault.Why.TheVariants.{LimitOf, NameTwice, NoTable, WrongKind}
 use Rattle.rs_bind.specs.BlockRules.{Entry, FromEntry, IsNoTruth, RefusedBlock, RefusedEntry, RefusedFilter, RefusedItem, RefusedItems, TypesBlock, TypesEntry, TypesFilter, TypesItem, TypesItems}
 use Rattle.rs_bind.specs.BlockRules.{too_many, no_table, twice, no_filter, condition, in_condition, no_truth, no_column, star, listed, in_list, in_from, in_filter, in_items}
-use Rattle.rs_bind.specs.Conditions.{column_scope, conditions_of, conjunct_of, conjuncts_in, few_parts, filter_of, parts_of}
+use Rattle.rs_bind.specs.Conditions.{column_scope, conditions_of, conjunct_of, few_parts, filter_of, parts_of}
 use Rattle.rs_bind.specs.InOrder.{Each, FirstRefused}
 use Rattle.rs_bind.specs.Names.{or_fault}
 use Rattle.rs_bind.specs.Queries.{Unranked, unranked_of}
@@ -97,8 +97,8 @@ module _ (catalogue : Catalogue) where
               subst (RefusedEntry catalogue before entry) none.1 (no_table (is-apart (length before) 6 past.0) none.0))
           | inr found ↦ elim (Err-else (taken (alias_of entry).text before) (well (found.0, (alias_of entry).text)) (At NameTwice (alias_of entry).at) fault found.2) [
             | inl taken_before ↦ subst (RefusedEntry catalogue before entry) taken_before.1
-              (twice found.0 (is-apart (length before) 6 past.0)
-              (Ok-or_fault (At NoTable entry.0.at) (number_of what.Table entry.0.text catalogue) found.0 found.1) taken_before.0)
+                (twice found.0 (is-apart (length before) 6 past.0)
+                (Ok-or_fault (At NoTable entry.0.at) (number_of what.Table entry.0.text catalogue) found.0 found.1) taken_before.0)
             | inr free ↦ cc
           ]
         ]
@@ -125,11 +125,11 @@ module _ (catalogue : Catalogue) where
       (go (λ b. entries-steps (b ∷ before) from) (length before == 6) (taken (alias_of entry).text before) (table_of entry)) where
         go : ((b : Entry) → entries_behind catalogue (b.1 ∷ aliases before) from ≡ steps entry_step (b ∷ before) from) → (full used : Bool) (t : Result ℕ BindFault)
             → (if full then Err (At LimitOf entry.0.at)
-              else (t >>= λ table. (if used then Err (At NameTwice (alias_of entry).at)
-              else entries_behind catalogue ((alias_of entry).text ∷ aliases before) from) >>= λ more. Ok ((table, (alias_of entry).text) ∷ more)))
+            else (t >>= λ table. (if used then Err (At NameTwice (alias_of entry).at)
+            else entries_behind catalogue ((alias_of entry).text ∷ aliases before) from) >>= λ more. Ok ((table, (alias_of entry).text) ∷ more)))
             ≡ ((if full then Err (At LimitOf entry.0.at)
-              else (t >>= λ table. if used then Err (At NameTwice (alias_of entry).at) else well (table, (alias_of entry).text)))
-              >>= λ b. steps entry_step (b ∷ before) from >>= λ more. Ok (b ∷ more))
+            else (t >>= λ table. if used then Err (At NameTwice (alias_of entry).at) else well (table, (alias_of entry).text)))
+            >>= λ b. steps entry_step (b ∷ before) from >>= λ more. Ok (b ∷ more))
         go again true used t = refl
         go again false used (Err fault) = refl
         go again false true (Ok table) = refl
@@ -364,11 +364,11 @@ module _ (catalogue : Catalogue) where
         | inl refuses ↦ in_from fault (from-refused catalogue block.from fault refuses)
         | inr first ↦ elim (Err-steps (filter_of (column_scope (sources_of catalogue first.0)) block.filter) (behind_filter block first.0) fault first.2) [
           | inl refuses ↦ in_filter first.0 fault (from-typed catalogue block.from first.0 first.1)
-            (filter-refused (column_scope (sources_of catalogue first.0)) block.filter fault refuses)
+              (filter-refused (column_scope (sources_of catalogue first.0)) block.filter fault refuses)
           | inr second ↦ elim (Err-steps (items_of (sources_of catalogue first.0) block.items) (behind_items first.0 second.0 block.distinct) fault second.2) [
             | inl refuses ↦ in_items first.0 second.0 fault (from-typed catalogue block.from first.0 first.1)
-              (filter-typed (column_scope (sources_of catalogue first.0)) block.filter second.0 second.1)
-              (items-refused (sources_of catalogue first.0) block.items fault refuses)
+                (filter-typed (column_scope (sources_of catalogue first.0)) block.filter second.0 second.1)
+                (items-refused (sources_of catalogue first.0) block.items fault refuses)
             | inr third ↦ cc
           ]
         ]

@@ -1,6 +1,6 @@
 -- The parts of a condition, and the steps from an expression to its conjuncts.
-use Rattle.std.proofs.Common.{ℕ, zero, suc, ◌≡◌, ◌<◌, ◌+◌, nat_lt, true, List, [], ◌∷◌, ◌++◌, length, drop, map, All, refl, sym, subst, ap, ◌∙◌, inl, inr, arith, lt-ltb}
-use Rattle.std.specs.Prelude.{Option, Some, None, Result, Ok, Err, IfOk, option_map, slice_get}
+use Rattle.std.proofs.Common.{ℕ, zero, suc, ◌≡◌, ◌<◌, ◌+◌, nat_lt, true, List, [], ◌∷◌, ◌++◌, length, drop, map, All, sym, subst, ap, ◌∙◌, inl, inr, arith, lt-ltb}
+use Rattle.std.specs.Prelude.{Some, Result, Ok, Err, IfOk, option_map, slice_get}
 use Rattle.std.proofs.lemmas.List.{drop_all}
 use Rattle.std.proofs.lemmas.List.Elements.{All-from_recursion}
 use Rattle.rs_value.specs.Answer.{Gives}
@@ -14,7 +14,7 @@ use Rattle.rs_bind.specs.declared.fault.BindFault.{BindFault}
 use Rattle.rs_bind.specs.declared.fault.BindFault.TheVariants.{At, Memory}
 use Rattle.rs_bind.specs.declared.fault.Why.TheVariants.{LimitOf}
 use Rattle.rs_bind.specs.Conditions.{arguments_of, conditions_of, conjunct_of, conjuncts_in, few_parts, parts_of}
-use Rattle.rs_bind.specs.Typing.{Scope, Truth, Typed, span_of, truth_of, type_of}
+use Rattle.rs_bind.specs.Typing.{Scope, Truth, span_of, truth_of, type_of}
 use Rattle.rs_bind.proofs.ArgumentFacts.{condition-below}
 use Rattle.rs_bind.proofs.UsesFacts.{type_of-uses}
 

@@ -43,7 +43,7 @@ module _ {A B : Type 0} (Is : List B → A → B → Type 0) (Refused : List B �
         | inl refuses ↦ here before a items fault (follows.refused before a fault refuses)
         | inr first ↦ elim (Err-steps (steps step (first.0 ∷ before) items) (λ more. Ok (first.0 ∷ more)) fault first.2) [
           | inl refuses ↦ behind before a items first.0 fault (follows.typed before a first.0 first.1)
-            (FirstRefused-steps (first.0 ∷ before) items fault refuses)
+              (FirstRefused-steps (first.0 ∷ before) items fault refuses)
           | inr rest ↦ cc
         ]
       ]

@@ -1,5 +1,6 @@
 mod WorkedIndexes
 mod WorkedNames
+mod WorkedQueries
 mod WorkedTyping
 mod WorkedWritten
 pub mod ArgFacts

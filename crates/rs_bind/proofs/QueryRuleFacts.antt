@@ -1,11 +1,9 @@
 -- A query is typed, and refused, by its rules.
-use Rattle.std.proofs.Common.{ℕ, suc, ◌≡◌, ◌≢◌, ◌≤◌, ◌==◌, Bool, true, false, ◌||◌, ◌&&◌, List, [], ◌∷◌, length, refl, sym, subst, ap, ◌∙◌, inl, inr, arith}
-use Rattle.std.specs.Prelude.{◌⊎◌, ◌↔◌, ℤ, pos, negsuc, nat_le, Option, Some, None, Result, Ok, Err, if◌then◌else◌}
-use Rattle.std.specs.List.{list_any, zip}
+use Rattle.std.proofs.Common.{ℕ, suc, ◌≡◌, ◌≢◌, ◌==◌, Bool, true, false, ◌||◌, List, [], ◌∷◌, length, refl, sym, subst, ap, ◌∙◌, inl, inr}
+use Rattle.std.specs.Prelude.{◌↔◌, ℤ, Option, Some, None, Result, Ok, Err, if◌then◌else◌}
+use Rattle.std.specs.List.{list_any}
 use Rattle.std.specs.Str.{bytes_eq}
-use Rattle.std.proofs.lemmas.Bool.Decides.{nat_tests}
 use Rattle.rs_value.specs.declared.kind.Kind.{Kind}
-use Rattle.rs_value.specs.declared.kind.Kind.TheVariants as kind
 use Rattle.rs_lex.specs.declared.token.Span.{Span}
 use Rattle.rs_syntax.specs.declared.name.Arg.{Arg}
 use Rattle.rs_syntax.specs.declared.name.Arg.TheVariants as arg
@@ -18,7 +16,6 @@ use Rattle.rs_table.specs.Reading.{◌>>=◌}
 use Rattle.rs_expr.specs.Uses.{is_kind}
 use Rattle.rs_catalog.specs.Catalogue.{Catalogue, number_of}
 use Rattle.rs_catalog.specs.declared.index.BoundArg.{BoundArg}
-use Rattle.rs_catalog.specs.declared.index.BoundArg.TheVariants as bound
 use Rattle.rs_catalog.specs.declared.room.What.TheVariants as what
 use Rattle.rs_query.specs.WellFormed.{columns_of, entries_of}
 use Rattle.rs_query.specs.declared.query.Query.{Query}
@@ -26,16 +23,16 @@ use Rattle.rs_query.specs.declared.query.Query.TheVariants.{One, Set}
 use Rattle.rs_query.specs.declared.term.Term.{Term}
 use Rattle.rs_bind.specs.declared.fault.BindFault.{BindFault}
 use Rattle.rs_bind.specs.declared.fault.BindFault.TheVariants.{At}
-use Rattle.rs_bind.specs.declared.fault.Why.TheVariants.{ConstantTerm, DistinctNeedsOutput, LimitOf, NoPredicate, SetColumnsDiffer, WrongCount, WrongKind}
+use Rattle.rs_bind.specs.declared.fault.Why.TheVariants.{DistinctNeedsOutput, LimitOf, NoPredicate, SetColumnsDiffer, WrongKind}
 use Rattle.rs_bind.specs.ArgumentRules.{IsWithin, TypesArgs}
-use Rattle.rs_bind.specs.BlockRules.{RefusedBlock, TypesBlock}
+use Rattle.rs_bind.specs.BlockRules.{TypesBlock}
 use Rattle.rs_bind.specs.Indexes.{Entries, arg_of, args_of, is_column, of_kind, params_in, term_args}
-use Rattle.rs_bind.specs.InOrder.{Each, FirstRefused, none, and}
+use Rattle.rs_bind.specs.InOrder.{Each, none, and}
 use Rattle.rs_bind.specs.Names.{number_in, or_fault}
-use Rattle.rs_bind.specs.Queries.{Unranked, agree, are_outputs, as_argument, block_columns, bound_query, called, first_item, limit_of, max_in, names_of, needed_by, one_of, output_columns, set_of, terms_behind, terms_of, unranked_of, with_terms}
+use Rattle.rs_bind.specs.Queries.{Unranked, agree, are_outputs, as_argument, bound_query, called, first_item, limit_of, names_of, needed_by, one_of, output_columns, set_of, terms_behind, terms_of, unranked_of, with_terms}
 use Rattle.rs_bind.specs.QueryRules.{HasPredicate, RefusedLimit, RefusedQuery, RefusedTerm, RefusedTerms, TypesLimit, TypesQuery, TypesTerm, TypesTerms, columns_in, outputs_in}
 use Rattle.rs_bind.specs.QueryRules.{too_many, wrong_weight, no_predicate, in_args, no_output, no_limit, within, outside, one_block, two_blocks, in_left, in_right, differ, in_terms, in_set_terms, in_limit, in_set_limit}
-use Rattle.rs_bind.specs.Sources.{Found, sources_of, the_only}
+use Rattle.rs_bind.specs.Sources.{Found, the_only}
 use Rattle.rs_bind.specs.Typing.{span_of_column}
 use Rattle.rs_bind.proofs.ArgumentRuleFacts.{args-are, args-typed, outside-is, outside-refused, term_args-are, term_args-are_refused, term_args-refused, term_args-typed, within-is, within-typed}
 use Rattle.rs_bind.proofs.BlockRuleFacts.{block-is, block-is_refused, block-refused, block-typed}
@@ -147,7 +144,7 @@ module _ (catalogue : Catalogue) (entries : Entries) (needed : Option (List Foun
           | inl refuses ↦ in_args predicate fault has (term_args-refused entries (params_of predicate) term.args term.at fault refuses)
           | inr made ↦ elim (Err-test (are_outputs needed (columns_of made.0)) (well (term_with catalogue w predicate made.0)) (At DistinctNeedsOutput term.at) fault made.2) [
             | inl fails ↦ subst (RefusedTerm catalogue entries needed before term) fails.1
-              (no_output predicate made.0 has (term_args-typed entries (params_of predicate) term.args term.at made.0 made.1) fails.0)
+                (no_output predicate made.0 has (term_args-typed entries (params_of predicate) term.args term.at made.0 made.1) fails.0)
             | inr passes ↦ cc
           ]
         ]
@@ -177,27 +174,30 @@ module _ (catalogue : Catalogue) (entries : Entries) (needed : Option (List Foun
   terms-steps before (term ∷ terms) = go (λ b. terms-steps (b ∷ before) terms) (length before == 8) (number_in 1 1000000 term.weight) where
     with_args : Again before terms → (w p : ℕ) (made : List BoundArg) (outputs : Bool)
         → ((if outputs then terms_behind catalogue entries needed (suc (length before)) terms else Err (At DistinctNeedsOutput term.at))
-          >>= λ more. Ok (term_with catalogue w p made ∷ more))
+        >>= λ more. Ok (term_with catalogue w p made ∷ more))
         ≡ ((if outputs then well (term_with catalogue w p made) else Err (At DistinctNeedsOutput term.at)) >>= λ b. steps term_step (b ∷ before) terms >>= λ more. Ok (b ∷ more))
     with_args again w p made true = ap (λ s. s >>= λ more. Ok (term_with catalogue w p made ∷ more)) (again (term_with catalogue w p made))
     with_args again w p made false = refl
+
     with_predicate : Again before terms → (w p : ℕ) (r : Result (List BoundArg) BindFault)
         → (r >>= λ made. (if are_outputs needed (columns_of made) then terms_behind catalogue entries needed (suc (length before)) terms
-          else Err (At DistinctNeedsOutput term.at)) >>= λ more. Ok (term_with catalogue w p made ∷ more))
+        else Err (At DistinctNeedsOutput term.at)) >>= λ more. Ok (term_with catalogue w p made ∷ more))
         ≡ ((r >>= behind_args term w p) >>= λ b. steps term_step (b ∷ before) terms >>= λ more. Ok (b ∷ more))
     with_predicate again w p (Err fault) = refl
     with_predicate again w p (Ok made) = with_args again w p made (are_outputs needed (columns_of made))
+
     with_weight : Again before terms → (w : ℕ) (r : Result ℕ BindFault)
         → (r >>= λ p. term_args entries (params_of p) term.args term.at >>= λ made. (if are_outputs needed (columns_of made)
-          then terms_behind catalogue entries needed (suc (length before)) terms else Err (At DistinctNeedsOutput term.at))
-          >>= λ more. Ok (term_with catalogue w p made ∷ more))
+        then terms_behind catalogue entries needed (suc (length before)) terms else Err (At DistinctNeedsOutput term.at))
+        >>= λ more. Ok (term_with catalogue w p made ∷ more))
         ≡ ((r >>= behind_predicate term w) >>= λ b. steps term_step (b ∷ before) terms >>= λ more. Ok (b ∷ more))
     with_weight again w (Err fault) = refl
     with_weight again w (Ok p) = with_predicate again w p (term_args entries (params_of p) term.args term.at)
+
     go : Again before terms → (full : Bool) (r : Result ℕ BindFault)
         → (if full then Err (At LimitOf term.at) else (r >>= λ w. predicate_of term >>= λ p. term_args entries (params_of p) term.args term.at
-          >>= λ made. (if are_outputs needed (columns_of made) then terms_behind catalogue entries needed (suc (length before)) terms
-          else Err (At DistinctNeedsOutput term.at)) >>= λ more. Ok (term_with catalogue w p made ∷ more)))
+        >>= λ made. (if are_outputs needed (columns_of made) then terms_behind catalogue entries needed (suc (length before)) terms
+        else Err (At DistinctNeedsOutput term.at)) >>= λ more. Ok (term_with catalogue w p made ∷ more)))
         ≡ ((if full then Err (At LimitOf term.at) else (r >>= behind_weight term)) >>= λ b. steps term_step (b ∷ before) terms >>= λ more. Ok (b ∷ more))
     go again true r = refl
     go again false (Err fault) = refl
@@ -349,20 +349,22 @@ module _ (names : List (List ℕ)) (left right : List Found) (alike : agree left
       let params = params_in catalogue made.predicate in
       let found = other-args params term.args made.args (args-are (output_columns names left) params term.args made.args is.args.each) in
       let other = term_with catalogue made.weight made.predicate found.others in
-      let rest = other-terms catalogue (other ∷ others_before) (ap suc e) each in
-      (other ∷ rest.0, and others_before term terms other rest.0 (record {
-        room = subst (λ n. n ≢ 8) e is.room;
-        weight = is.weight;
-        predicate = is.predicate;
-        args = record {
-          count = is.args.count;
-          each = args-typed (output_columns names right) params term.args found.others found.is;
-          column = sym found.some_column ∙ is.args.column;
-        };
-        outputs = refl;
-        max = refl;
-        entries_are = refl;
-      }) rest.1)
+      let rest = other-terms catalogue (other ∷ others_before) (ap suc e) each in (
+        other ∷ rest.0,
+        and others_before term terms other rest.0 (record {
+          room = subst (λ n. n ≢ 8) e is.room;
+          weight = is.weight;
+          predicate = is.predicate;
+          args = record {
+            count = is.args.count;
+            each = args-typed (output_columns names right) params term.args found.others found.is;
+            column = sym found.some_column ∙ is.args.column;
+          };
+          outputs = refl;
+          max = refl;
+          entries_are = refl;
+        }) rest.1,
+      )
 
 module _ (catalogue : Catalogue) where
   -- a query of one block
@@ -393,10 +395,10 @@ module _ (catalogue : Catalogue) where
     | inl refuses ↦ in_left query fault (block-refused catalogue query.left fault refuses)
     | inr first ↦ elim (Err-steps (block_terms query first.0) (behind_terms query first.0) fault first.2) [
       | inl refuses ↦ in_terms query first.0 fault e (block-typed catalogue query.left first.0 first.1)
-        (terms-refused catalogue (columns_in catalogue first.0) (needed_by first.0) query.terms fault refuses)
+          (terms-refused catalogue (columns_in catalogue first.0) (needed_by first.0) query.terms fault refuses)
       | inr second ↦ elim (Err-steps (limit_of query.limit) (with_limit first.0 second.0) fault second.2) [
         | inl refuses ↦ in_limit query first.0 second.0 fault e (block-typed catalogue query.left first.0 first.1)
-          (terms-typed catalogue (columns_in catalogue first.0) (needed_by first.0) query.terms second.0 second.1) (limit-refused query.limit fault refuses)
+            (terms-typed catalogue (columns_in catalogue first.0) (needed_by first.0) query.terms second.0 second.1) (limit-refused query.limit fault refuses)
         | inr third ↦ cc
       ]
     ]
@@ -466,13 +468,14 @@ module _ (catalogue : Catalogue) where
           | inl refuses ↦ in_set_limit query op second left right terms fault e l r agreed each (limit-refused query.limit fault refuses)
           | inr limit ↦ cc
         ]
+
     behind_blocks : (left right : Unranked) → TypesBlock catalogue query.left left → TypesBlock catalogue second right
         → behind_right query op second left right ≡ Err fault → RefusedQuery catalogue query fault
     behind_blocks left right l r k = elim (Err-steps (agreed_terms query second left right) (behind_set_terms query op left right) fault k) [
       | inl refuses ↦ elim (Err-test (agree left.items right.items) (set_terms query left left) (At SetColumnsDiffer (first_item second.items)) fault refuses) [
         | inl apart ↦ subst (RefusedQuery catalogue query) apart.1 (differ query op second left right e l r apart.0)
         | inr agreed ↦ in_set_terms query op second left right fault e l r agreed.0
-          (terms-refused catalogue (outputs_in catalogue left left) None query.terms fault agreed.1)
+            (terms-refused catalogue (outputs_in catalogue left left) None query.terms fault agreed.1)
       ]
       | inr terms ↦ (let agreed = Ok-test (agree left.items right.items) (set_terms query left left) (At SetColumnsDiffer (first_item second.items)) terms.0 terms.1 in
           behind_agreed left right terms.0 l r agreed.0 (terms-typed catalogue (outputs_in catalogue left left) None query.terms terms.0 agreed.1) terms.2)

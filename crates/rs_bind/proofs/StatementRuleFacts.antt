@@ -1,5 +1,5 @@
 -- The CREATE statements and the number in FETCH are typed, and refused, by their rules.
-use Rattle.std.proofs.Common.{ℕ, suc, ◌≡◌, ◌≢◌, ◌==◌, Bool, true, false, ◌||◌, List, [], ◌∷◌, length, map, refl, sym, subst, ap, ◌∙◌, inl, inr}
+use Rattle.std.proofs.Common.{ℕ, ◌≡◌, ◌≢◌, ◌==◌, Bool, true, false, List, [], ◌∷◌, length, map, refl, sym, subst, ap, ◌∙◌, inl, inr}
 use Rattle.std.specs.Prelude.{◌↔◌, ℤ, Option, Some, None, Result, Ok, Err, if◌then◌else◌}
 use Rattle.std.specs.List.{list_any}
 use Rattle.std.specs.Str.{bytes_eq}
@@ -19,12 +19,11 @@ use Rattle.rs_catalog.specs.declared.room.What.TheVariants as what
 use Rattle.rs_bind.specs.declared.fault.BindFault.{BindFault}
 use Rattle.rs_bind.specs.declared.fault.BindFault.TheVariants.{At}
 use Rattle.rs_bind.specs.declared.fault.Why.TheVariants.{LimitOf, NameTwice, NoPredicate, NoTable, WrongKind}
-use Rattle.rs_bind.specs.ArgumentRules.{IsOutside, IsWithin, TypesArgs}
+use Rattle.rs_bind.specs.ArgumentRules.{IsOutside, IsWithin}
 use Rattle.rs_bind.specs.Indexes.{index_def_of, params_in, term_args}
-use Rattle.rs_bind.specs.Names.{columns_of, named, named_behind, number_in, or_fault}
+use Rattle.rs_bind.specs.Names.{named, named_behind, number_in, or_fault}
 use Rattle.rs_bind.specs.Predicates.{cost_of, formula_in, parameter_in, predicate_of}
 use Rattle.rs_bind.specs.Queries.{count_of}
-use Rattle.rs_bind.specs.Rules.{Types}
 use Rattle.rs_bind.specs.StatementRules.{IsNoNumber, RefusedCost, RefusedIndex, RefusedName, RefusedNames, RefusedPredicate, TypesCost, TypesIndex, TypesName, TypesNames, TypesPredicate, index_columns}
 use Rattle.rs_bind.specs.StatementRules.{too_many, twice, no_cost, within, outside, made, in_params, wrong_max, wrong_cost, in_formula, no_number, no_table, no_predicate, in_args}
 use Rattle.rs_bind.specs.Typing.{Typed, Number, Words, Truth, number_of as number_among, span_of, type_of}
@@ -88,10 +87,10 @@ module _ (most : ℕ) where
       (go (names-steps ((c.0.text, c.1) ∷ before) written) (length before == most) (list_any (is_named c.0.text) before)) where
         go : named_behind most (c.0.text ∷ names_in before) written ≡ steps name_step ((c.0.text, c.1) ∷ before) written → (full taken : Bool)
             → (if full then Err (At LimitOf c.0.at)
-              else if taken then Err (At NameTwice c.0.at)
-              else (named_behind most (c.0.text ∷ names_in before) written >>= λ columns. Ok ((c.0.text, c.1) ∷ columns)))
+            else if taken then Err (At NameTwice c.0.at)
+            else (named_behind most (c.0.text ∷ names_in before) written >>= λ columns. Ok ((c.0.text, c.1) ∷ columns)))
             ≡ ((if full then Err (At LimitOf c.0.at) else if taken then Err (At NameTwice c.0.at) else well (c.0.text, c.1))
-              >>= λ b. steps name_step (b ∷ before) written >>= λ more. Ok (b ∷ more))
+            >>= λ b. steps name_step (b ∷ before) written >>= λ more. Ok (b ∷ more))
         go again true taken = refl
         go again false true = refl
         go again false false = ap (λ r. r >>= λ columns. Ok ((c.0.text, c.1) ∷ columns)) again
@@ -194,7 +193,7 @@ module _ (name : Name) (params : List (Name × Kind)) (max : ℤ × Span) (cost 
   predicate-is def (made columns most price body each is costs typed) =
       past-cost columns most price each is costs
       ∙ ap (λ r. (r >>= number_among (span_of formula)) >>= λ b. well (def_of columns most price b))
-        ((typed_by_rules (parameter_in columns) formula (Number body)).1 typed)
+      ((typed_by_rules (parameter_in columns) formula (Number body)).1 typed)
 
   predicate-refused : (fault : BindFault) → command_def ≡ Err fault → RefusedPredicate params max cost formula fault
   predicate-refused fault h = elim (Err-steps (named 8 params) behind_params fault h) [
@@ -204,9 +203,9 @@ module _ (name : Name) (params : List (Name × Kind)) (max : ℤ × Span) (cost 
           subst (RefusedPredicate params max cost formula) out.1 (wrong_max first.0 (names-typed 8 params first.0 first.1) out.0))
       | inr second ↦ elim (Err-steps (cost_of cost) (behind_cost first.0 second.0) fault second.2) [
         | inl refuses ↦ wrong_cost first.0 second.0 fault (names-typed 8 params first.0 first.1) (within-typed 1 4294967295 max second.0 second.1)
-          (cost-refused cost fault refuses)
+            (cost-refused cost fault refuses)
         | inr third ↦ in_body first.0 second.0 third.0 (names-typed 8 params first.0 first.1) (within-typed 1 4294967295 max second.0 second.1)
-          (cost-typed cost third.0 third.1) third.2
+            (cost-typed cost third.0 third.1) third.2
       ]
     ]
   ] where
@@ -283,7 +282,7 @@ module _ (catalogue : Catalogue) (name table predicate : Name) (args : List Arg)
   index-is def t =
       past-predicate def.table def.predicate t.is_table t.is_predicate
       ∙ (ap (λ r. r >>= λ bound. well (index_of def.table def.predicate bound))
-        (term_args-are (index_columns catalogue table def.table) (params_in catalogue def.predicate) args at def.args t.are_args)
+      (term_args-are (index_columns catalogue table def.table) (params_in catalogue def.predicate) args at def.args t.are_args)
       ∙ ap (λ n. well (record { name = n; table = def.table; predicate = def.predicate; args = def.args })) (sym t.is_named_so))
 
   index-refused : (fault : BindFault) → command_index ≡ Err fault → RefusedIndex catalogue table predicate args at fault
@@ -296,8 +295,8 @@ module _ (catalogue : Catalogue) (name table predicate : Name) (args : List Arg)
           (no_predicate first.0 (Ok-or_fault (At NoTable table.at) (number_of what.Table table.text catalogue) first.0 first.1) missing.0))
       | inr second ↦ elim (Err-steps (own_args first.0 second.0) (λ bound. well (index_of first.0 second.0 bound)) fault second.2) [
         | inl refuses ↦ in_args first.0 second.0 fault (Ok-or_fault (At NoTable table.at) (number_of what.Table table.text catalogue) first.0 first.1)
-          (Ok-or_fault (At NoPredicate predicate.at) (number_of what.Predicate predicate.text catalogue) second.0 second.1)
-          (term_args-refused (index_columns catalogue table first.0) (params_in catalogue second.0) args at fault refuses)
+            (Ok-or_fault (At NoPredicate predicate.at) (number_of what.Predicate predicate.text catalogue) second.0 second.1)
+            (term_args-refused (index_columns catalogue table first.0) (params_in catalogue second.0) args at fault refuses)
         | inr third ↦ cc
       ]
     ]

@@ -1,5 +1,5 @@
 -- FROM: the tables of a block, the columns that a reference stands for, and the output columns.
-use Rattle.std.specs.Prelude.{ℕ, suc, nat_le, ◌==◌, List, [], ◌∷◌, ◌++◌, length, map, Option, Some, None, option_map, Result, Ok, Err, if◌then◌else◌}
+use Rattle.std.specs.Prelude.{ℕ, suc, nat_le, ◌==◌, List, [], ◌∷◌, ◌++◌, length, map, Option, Some, None, Result, Ok, Err, if◌then◌else◌}
 use Rattle.std.specs.List.{list_any}
 use Rattle.std.specs.Str.{bytes_eq}
 use Rattle.rs_value.specs.declared.kind.Kind.{Kind}

@@ -1,3 +1,4 @@
+mod WorkedAnswers
 pub mod AskFacts
 pub mod FirstFacts
 pub mod ListFacts

@@ -1,6 +1,6 @@
-use Rattle.std.proofs.Common.{◌≡◌, Err, rules, sym}
+use Rattle.std.proofs.Common.{rules, sym}
 use Rattle.rs_syntax.specs.Syntax.{expression_of}
-use Rattle.rs_bind.specs.Conditions.{few_parts, parts_of}
+use Rattle.rs_bind.specs.Conditions.{parts_of}
 use Rattle.rs_bind.proofs.FilterFacts.{few_parts-fit, few_parts-full}
 use Rattle.rs_bind.proofs.filter.few_parts.Goals as goal
 

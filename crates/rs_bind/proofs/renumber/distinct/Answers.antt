@@ -1,4 +1,4 @@
-use Rattle.std.proofs.Common.{ℕ, ◌≡◌, ◌==◌, ◌∙◌, List, true, false, get_or, ap, sym}
+use Rattle.std.proofs.Common.{ℕ, ◌==◌, ◌∙◌, List, get_or, ap, sym}
 use Rattle.std.specs.List.{list_any}
 use Rattle.rs_bind.proofs.ArgumentFacts.{distinct-more}
 use Rattle.rs_bind.proofs.renumber.distinct.Goals as goal
