@@ -1,7 +1,8 @@
 -- The runs of statements, computed on examples.
-use Rattle.std.proofs.Common.{ℕ, ℤ, ◌+◌, List, [], ◌∷◌, Some, None, refl}
+use Rattle.std.proofs.Common.{ℕ, ℤ, ◌+◌, false, List, [], ◌∷◌, Some, None, refl}
 use Rattle.std.specs.Prelude.{Option, codes, pos}
 use Rattle.csv.proofs.OnLiterals.{csv_on_literals}
+use Rattle.csv.specs.Writing.{escaped, fields_text, is_blank}
 use Rattle.std.specs.Fmt.{digits}
 use Rattle.std.specs.Str.{chars, is_utf8}
 use Rattle.std.specs.Char.{encode_utf8}
@@ -15,13 +16,14 @@ use Rattle.rs_syntax.specs.Syntax.{Command, CreateTable, CreatePredicate, Create
 use Rattle.rs_syntax.specs.Syntax as syntax
 use Rattle.rs_syntax.specs.declared.name.Name.{Name}
 use Rattle.rs_syntax.specs.declared.name.Arg.TheVariants as arg
+use Rattle.rs_syntax.specs.declared.select.Items.TheVariants as items
 use Rattle.rs_catalog.specs.Catalogue.{empty}
 use Rattle.rs_catalog.specs.declared.room.RoomFault.TheVariants as room
 use Rattle.rs_bind.specs.declared.fault.Why.TheVariants as why
 use Rattle.rs_run.specs.declared.fault.Fault.TheVariants as fault
 use Rattle.rs_run.specs.declared.script_fault.ScriptFault.TheVariants as script
 use Rattle.rs_run.specs.Faults.{only}
-use Rattle.rs_run.specs.Run.{Answering, Ask, Fetch, Finds, found_in}
+use Rattle.rs_run.specs.Run.{Answering, Ask, Fetch, Finds, Put, found_in}
 use Rattle.rs_run.specs.Statements.{RunOf}
 
 -- a name at a place
@@ -58,6 +60,48 @@ makes_all : RunOf (finds (Some (codes "v\n3\n10\n"))) answer 1 empty (create_tab
     (record { events = Fetch (codes "f") ∷ Ask (call (pos 3)) ∷ Ask (call (pos 10)) ∷ []; fault = None })
 unfolding create_table create_predicate create_index finds answer call csv_on_literals digits chars is_utf8 encode_utf8
 makes_all = (_, (Some (codes "v\n3\n10\n"), refl, refl), (_, (_, refl, (_, (_, refl, (_, refl, refl)), refl)), refl))
+
+-- SELECT v FROM t ORDER BY p(v), from byte 100 on
+select : syntax.Query
+select = record {
+  left = record {
+    distinct = false;
+    items = items.List (record { alias = None; column = name_at (codes "v") 107 } ∷ []);
+    from = (name_at (codes "t") 114, None) ∷ [];
+    filter = None;
+  };
+  right = None;
+  terms = record {
+    weight = (pos 1, record { start = 125; end = 126 });
+    predicate = name_at (codes "p") 125;
+    args = arg.Column (record { alias = None; column = name_at (codes "v") 127 }) ∷ [];
+    at = record { start = 125; end = 129 };
+  } ∷ [];
+  limit = None;
+}
+
+-- each row is asked for, and then the rows are put, each as one line, the best first
+prints_a_query : RunOf (finds (Some (codes "v\n3\n10\n"))) answer 1 empty (create_table ∷ create_predicate ∷ syntax.Ask select ∷ [])
+    (record { events = Fetch (codes "f") ∷ Ask (call (pos 3)) ∷ Ask (call (pos 10)) ∷ Put (codes "1,10,10\n") ∷ Put (codes "2,3,3\n") ∷ []; fault = None })
+unfolding create_table create_predicate select finds answer call csv_on_literals digits chars is_utf8 encode_utf8 escaped fields_text is_blank
+prints_a_query = (_, (Some (codes "v\n3\n10\n"), refl, refl), (_, (_, refl, (_, (_, refl, (_, refl, refl)), refl)), refl))
+
+-- a number that is no score ends the run before any row of the query is put
+prints_nothing : RunOf (finds (Some (codes "v\n3\n40\n5\n"))) answer 1 empty (create_table ∷ create_predicate ∷ syntax.Ask select ∷ create_table ∷ [])
+    (record { events = Fetch (codes "f") ∷ Ask (call (pos 3)) ∷ Ask (call (pos 40)) ∷ []; fault = Some (fault.BadScore (codes "p") (only 2) (pos 40) 10) })
+unfolding create_table create_predicate select finds answer call csv_on_literals digits chars is_utf8 encode_utf8 escaped fields_text is_blank
+prints_nothing = (_, (Some (codes "v\n3\n40\n5\n"), refl, refl), (_, (_, refl, (_, (_, refl, refl), refl)), refl))
+
+-- EXPLAIN is bound, and asks for nothing and puts nothing
+explains : RunOf (finds None) answer 1 empty (create_predicate ∷ syntax.Explain select ∷ [])
+    (record { events = []; fault = Some (fault.Script (script.Bind why.NoTable 114)) })
+unfolding create_table create_predicate select finds answer call csv_on_literals digits chars is_utf8 encode_utf8 escaped fields_text is_blank
+explains = (_, refl, (_, (_, refl, refl), refl))
+
+explains_in_silence : RunOf (finds (Some (codes "v\n3\n40\n5\n"))) answer 1 empty (create_table ∷ create_predicate ∷ syntax.Explain select ∷ syntax.ExplainAnalyze select ∷ [])
+    (record { events = Fetch (codes "f") ∷ []; fault = None })
+unfolding create_table create_predicate select finds answer call csv_on_literals digits chars is_utf8 encode_utf8 escaped fields_text is_blank
+explains_in_silence = (_, (Some (codes "v\n3\n40\n5\n"), refl, refl), (_, (_, refl, (_, (_, refl, (_, (_, refl, (_, refl, refl)), refl)), refl)), refl))
 
 -- the first number that is no score ends the run, and no row behind it is asked for
 bad_score : RunOf (finds (Some (codes "v\n3\n40\n5\n"))) answer 1 empty (create_table ∷ create_predicate ∷ create_index ∷ create_table ∷ [])
