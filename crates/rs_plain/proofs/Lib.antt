@@ -2,5 +2,6 @@ mod WorkedAnswers
 pub mod AskFacts
 pub mod FirstFacts
 pub mod ListFacts
+pub mod OrderFacts
 pub mod QuestionFacts
 pub mod RowFacts

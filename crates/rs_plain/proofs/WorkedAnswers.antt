@@ -1,6 +1,6 @@
 -- Answers of queries and the calls behind them, computed on literals and worked by hand.
-use Rattle.std.proofs.Common.{◌≡◌, ℕ, ℤ, Bool, true, false, List, [], ◌∷◌, map, refl}
-use Rattle.std.specs.Prelude.{pos, negsuc, Option, Some, None, Result, Ok, Err, codes}
+use Rattle.std.proofs.Common.{◌≡◌, ℕ, Bool, true, false, List, [], ◌∷◌, map, refl}
+use Rattle.std.specs.Prelude.{pos, Option, Some, None, Result, Ok, Err, codes}
 use Rattle.rs_value.specs.declared.kind.Kind.{Kind}
 use Rattle.rs_value.specs.declared.kind.Kind.TheVariants as kind
 use Rattle.rs_value.specs.declared.rel.Rel.TheVariants.{Eq}
@@ -13,17 +13,15 @@ use Rattle.rs_expr.specs.Meaning.{value_of}
 use Rattle.rs_expr.specs.Predicates.{PredicateDef}
 use Rattle.rs_expr.specs.declared.scorer.Call.{Call}
 use Rattle.rs_catalog.specs.Catalogue.{Catalogue, NamedTable}
-use Rattle.rs_catalog.specs.declared.index.BoundArg.{BoundArg}
 use Rattle.rs_catalog.specs.declared.index.BoundArg.TheVariants as arg
 use Rattle.rs_syntax.specs.declared.select.SetOp.{SetOp}
 use Rattle.rs_syntax.specs.declared.select.SetOp.TheVariants.{UnionAll, Union, Intersect, Except}
 use Rattle.rs_query.specs.Answers.{Answering}
-use Rattle.rs_query.specs.Conjuncts.{ConjunctDef}
 use Rattle.rs_query.specs.declared.block.Block.{Block}
 use Rattle.rs_query.specs.declared.query.Query.{Query}
 use Rattle.rs_query.specs.declared.query.Query.TheVariants.{One, Set}
 use Rattle.rs_query.specs.declared.term.Term.{Term}
-use Rattle.rs_plain.specs.Plain.{Evaluation, evaluation_of}
+use Rattle.rs_plain.specs.Plain.{evaluation_of}
 use Rattle.rs_plain.specs.declared.fault.PlainFault.{PlainFault}
 use Rattle.rs_plain.specs.declared.fault.PlainFault.TheVariants.{BadScore}
 

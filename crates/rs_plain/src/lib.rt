@@ -4,9 +4,11 @@
 mod answer;
 mod ask;
 mod fault;
+mod laws;
 mod outputs;
 mod rows;
 mod sets;
 
 pub use answer::plain;
 pub use fault::PlainFault;
+pub use laws::{answers_climb, rows_climb};

@@ -1,0 +1,189 @@
+-- The ids of the rows of a query rise, and so the keys of its answer do.
+use Rattle.std.proofs.Common.{◌≡◌, ℕ, Bool, true, false, cond, ◌++◌, List, [], ◌∷◌, map, refl, sym, subst, ap, ◌∙◌, rules}
+use Rattle.std.specs.Prelude.{zero, suc, not, take, Option, Some, None}
+use Rattle.std.specs.List.{AllByRecursion, filter}
+use Rattle.std.specs.Cmp.{IsTotalOrder, nat_cmp_is}
+use Rattle.std.specs.Cmp.Lexicographic.{slice_cmp}
+use Rattle.std.specs.Cmp.Rules.{comparing}
+use Rattle.std.specs.Ordering.{flip_args, nat_cmp, on, ordering_then, then_cmp}
+use Rattle.std.specs.declared.cmp.Ordering.{Ordering}
+use Rattle.std.specs.declared.cmp.Ordering.TheVariants.{Less, Equal, Greater}
+use Rattle.rs_order.specs.Climbing.{Climbs, Differs, HasDistinctKeys, Precedes}
+use Rattle.rs_order.proofs.ClimbingFacts.{AllByRecursion-In}
+use Rattle.rs_order.proofs.SortingFacts.{Climbs-sorted, sorted-places}
+use Rattle.rs_rank.specs.declared.answer.Answer.{Answer}
+use Rattle.rs_rank.specs.declared.ids.Ids.{Ids}
+use Rattle.rs_rank.specs.Keys.{ids_cmp, key_cmp}
+use Rattle.rs_rank.specs.Stable.{stable}
+use Rattle.rs_rank.proofs.SortedFacts.{ids_cmp-total, stable-by_score}
+use Rattle.rs_catalog.specs.Catalogue.{Catalogue}
+use Rattle.rs_syntax.specs.declared.select.SetOp.{SetOp}
+use Rattle.rs_syntax.specs.declared.select.SetOp.TheVariants.{UnionAll, Union, Intersect, Except}
+use Rattle.rs_query.specs.Answers.{Answering, answer_of, base_of, cut, distinct_if, firsts, limit_of, occurs_in, row_of, rows_of, same_values, set_base}
+use Rattle.rs_query.specs.Combinations.{all_combinations}
+use Rattle.rs_query.specs.Tables.{all_entries, sizes_of}
+use Rattle.rs_query.specs.declared.block.Block.{Block}
+use Rattle.rs_query.specs.declared.query.Query.{Query}
+use Rattle.rs_query.specs.declared.query.Query.TheVariants.{One, Set}
+use Rattle.rs_query.proofs.ChoiceFacts.{Climbs-combinations}
+use Rattle.rs_query.proofs.ItemFacts.{Climbs-append, Climbs-filter}
+use Rattle.rs_plain.specs.Ordering.{key_of}
+
+abbrev ids_of : Answer → Ids
+ids_of row = row.ids
+
+-- rows whose ids rise
+abbrev Rise : List Answer → Type 0
+Rise rows = Climbs ids_cmp ids_of rows
+
+-- what holds of each row holds of those that are kept
+each-filter : {X : Type 0} (P : X → Type 0) (test : X → Bool) (xs : List X) → AllByRecursion P xs → AllByRecursion P (filter test xs)
+each-filter P test [] h = tt
+each-filter P test (x ∷ xs) h = go (test x) (each-filter P test xs h.1) where
+  go : (passes : Bool) → AllByRecursion P (filter test xs) → AllByRecursion P (cond passes (x ∷ filter test xs) (filter test xs))
+  go true rest = (h.0, rest)
+  go false rest = rest
+
+each-firsts : (P : Answer → Type 0) (rows : List Answer) → AllByRecursion P rows → AllByRecursion P (firsts rows)
+each-firsts P [] h = tt
+each-firsts P (row ∷ rows) h = (h.0, each-filter P (λ (other : Answer). not (same_values row.values other.values)) (firsts rows) (each-firsts P rows h.1))
+
+each-append : {X : Type 0} (P : X → Type 0) (xs ys : List X) → AllByRecursion P xs → AllByRecursion P ys → AllByRecursion P (xs ++ ys)
+each-append P [] ys h k = k
+each-append P (x ∷ xs) ys h k = (h.0, each-append P xs ys h.1 k)
+
+each-take : {X : Type 0} (P : X → Type 0) (n : ℕ) (xs : List X) → AllByRecursion P xs → AllByRecursion P (take n xs)
+each-take P zero xs h = tt
+each-take P (suc n) [] h = tt
+each-take P (suc n) (x ∷ xs) h = (h.0, each-take P n xs h.1)
+
+Rise-firsts : (rows : List Answer) → Rise rows → Rise (firsts rows)
+Rise-firsts [] h = tt
+Rise-firsts (row ∷ rows) h = (
+  each-filter (Precedes ids_cmp ids_of row) (λ (other : Answer). not (same_values row.values other.values)) (firsts rows)
+      (each-firsts (Precedes ids_cmp ids_of row) rows h.0),
+  Climbs-filter ids_cmp ids_of (λ (other : Answer). not (same_values row.values other.values)) (firsts rows) (Rise-firsts rows h.1),
+)
+
+-- a number is no less than itself, and no more
+nat_cmp-same : (n : ℕ) → nat_cmp n n ≡ Equal
+nat_cmp-same n = sym (nat_cmp_is n n Equal refl)
+
+module _ (answer : Answering) (catalogue : Catalogue) where
+  abbrev row : Block → ℕ → List ℕ → Answer
+  row block number rows = row_of answer catalogue block number rows
+
+  row-before : (block : Block) (number : ℕ) (xs ys : List ℕ) → slice_cmp nat_cmp xs ys ≡ Less → Precedes ids_cmp ids_of (row block number xs) (row block number ys)
+  row-before block number xs ys h = ap (λ o. ordering_then o (slice_cmp nat_cmp xs ys)) (nat_cmp-same number) ∙ h
+
+  each-row : (block : Block) (number : ℕ) (xs : List ℕ) (rest : List (List ℕ)) → AllByRecursion (Precedes (slice_cmp nat_cmp) (λ (rows : List ℕ). rows) xs) rest
+      → AllByRecursion (Precedes ids_cmp ids_of (row block number xs)) (map (row block number) rest)
+  each-row block number xs [] h = tt
+  each-row block number xs (ys ∷ rest) h = (row-before block number xs ys h.0, each-row block number xs rest h.1)
+
+  Rise-rows : (block : Block) (number : ℕ) (rows : List (List ℕ)) → Climbs (slice_cmp nat_cmp) (λ (r : List ℕ). r) rows → Rise (map (row block number) rows)
+  Rise-rows block number [] h = tt
+  Rise-rows block number (xs ∷ rows) h = (each-row block number xs rows h.0, Rise-rows block number rows h.1)
+
+  -- all rows of a block have its number
+  abbrev IsOf : ℕ → Answer → Type 0
+  IsOf number r = r.ids.block ≡ number
+
+  each-of : (block : Block) (number : ℕ) (rows : List (List ℕ)) → AllByRecursion (IsOf number) (map (row block number) rows)
+  each-of block number [] = tt
+  each-of block number (xs ∷ rows) = (refl, each-of block number rows)
+
+  abbrev all_rows : Block → ℕ → List Answer
+  all_rows block number = map (row block number) (all_combinations catalogue block)
+
+  Rise-all : (block : Block) (number : ℕ) → Rise (all_rows block number)
+  Rise-all block number =
+      Rise-rows block number (all_combinations catalogue block) (Climbs-combinations catalogue block (sizes_of catalogue block) (all_entries block))
+
+  Rise-base : (number : ℕ) (block : Block) → Rise (base_of answer catalogue number block)
+  Rise-base number block = go block.distinct where
+    go : (distinct : Bool) → Rise (distinct_if distinct (all_rows block number))
+    go true = Rise-firsts (all_rows block number) (Rise-all block number)
+    go false = Rise-all block number
+
+  base-of : (number : ℕ) (block : Block) → AllByRecursion (IsOf number) (base_of answer catalogue number block)
+  base-of number block = go block.distinct where
+    go : (distinct : Bool) → AllByRecursion (IsOf number) (distinct_if distinct (all_rows block number))
+    go true = each-firsts (IsOf number) (all_rows block number) (each-of block number (all_combinations catalogue block))
+    go false = each-of block number (all_combinations catalogue block)
+
+  -- each row of the left block comes before each row of the right one
+  left-before : (v w : Answer) → v.ids.block ≡ 1 → w.ids.block ≡ 2 → Precedes ids_cmp ids_of v w
+  left-before v w first second =
+      ap (λ b. ordering_then (nat_cmp b w.ids.block) (slice_cmp nat_cmp v.ids.rows w.ids.rows)) first
+      ∙ ap (λ b. ordering_then (nat_cmp 1 b) (slice_cmp nat_cmp v.ids.rows w.ids.rows)) second
+
+  Rise-both : (left right : Block) → Rise (base_of answer catalogue 1 left ++ base_of answer catalogue 2 right)
+  Rise-both left right =
+      Climbs-append ids_cmp ids_of (base_of answer catalogue 1 left) (base_of answer catalogue 2 right) (Rise-base 1 left) (Rise-base 2 right)
+      (λ v w h k. left-before v w (AllByRecursion-In (IsOf 1) (base_of answer catalogue 1 left) (base-of 1 left) v h)
+      (AllByRecursion-In (IsOf 2) (base_of answer catalogue 2 right) (base-of 2 right) w k))
+
+  Rise-set : (op : SetOp) (left right : Block) → Rise (set_base op (base_of answer catalogue 1 left) (base_of answer catalogue 2 right))
+  Rise-set UnionAll left right = Rise-both left right
+  Rise-set Union left right = Rise-firsts (base_of answer catalogue 1 left ++ base_of answer catalogue 2 right) (Rise-both left right)
+  Rise-set Intersect left right =
+      Rise-firsts (filter (occurs_in (base_of answer catalogue 2 right)) (base_of answer catalogue 1 left))
+      (Climbs-filter ids_cmp ids_of (occurs_in (base_of answer catalogue 2 right)) (base_of answer catalogue 1 left) (Rise-base 1 left))
+  Rise-set Except left right =
+      Rise-firsts (filter (λ r. not (occurs_in (base_of answer catalogue 2 right) r)) (base_of answer catalogue 1 left))
+      (Climbs-filter ids_cmp ids_of (λ r. not (occurs_in (base_of answer catalogue 2 right) r)) (base_of answer catalogue 1 left) (Rise-base 1 left))
+
+  pub Rise-query : (query : Query) → Rise (rows_of answer catalogue query)
+  Rise-query (One block limit) = Rise-base 1 block
+  Rise-query (Set op left right limit) = Rise-set op left right
+
+-- the order by scores and then ids
+abbrev answer_cmp : Answer → Answer → Ordering
+answer_cmp = then_cmp (on (λ (r : Answer). r.score) (flip_args nat_cmp)) (on (λ (r : Answer). r.ids) ids_cmp)
+
+answer_cmp-total : IsTotalOrder answer_cmp
+answer_cmp-total = search (comparing, rules) depth 9
+
+tied-behind : (first second : Ordering) → ordering_then first second ≡ Equal → second ≡ Equal
+tied-behind Equal second h = h
+tied-behind Less second h = cc
+tied-behind Greater second h = cc
+
+differs : (r : Answer) (rows : List Answer) → AllByRecursion (Precedes ids_cmp ids_of r) rows → AllByRecursion (Differs answer_cmp (λ (x : Answer). x) r) rows
+differs r [] h = tt
+differs r (other ∷ rows) h = ((λ e. (let tied = tied-behind (nat_cmp other.score r.score) (ids_cmp r.ids other.ids) e in let less = h.0 in cc)), differs r rows h.1)
+
+distinct : (rows : List Answer) → Rise rows → HasDistinctKeys answer_cmp (λ (x : Answer). x) rows
+distinct [] h = tt
+distinct (r ∷ rows) h = (differs r rows h.0, distinct rows h.1)
+
+-- the order by keys is that order
+each-keyed : (r : Answer) (rows : List Answer) → AllByRecursion (Precedes answer_cmp (λ (x : Answer). x) r) rows → AllByRecursion (Precedes key_cmp key_of r) rows
+each-keyed r [] h = tt
+each-keyed r (other ∷ rows) h = (h.0, each-keyed r rows h.1)
+
+keyed : (rows : List Answer) → Climbs answer_cmp (λ (x : Answer). x) rows → Climbs key_cmp key_of rows
+keyed [] h = tt
+keyed (r ∷ rows) h = (each-keyed r rows h.0, keyed rows h.1)
+
+Climbs-take : (n : ℕ) (rows : List Answer) → Climbs key_cmp key_of rows → Climbs key_cmp key_of (take n rows)
+Climbs-take zero rows h = tt
+Climbs-take (suc n) [] h = tt
+Climbs-take (suc n) (r ∷ rows) h = (each-take (Precedes key_cmp key_of r) n rows h.0, Climbs-take n rows h.1)
+
+Climbs-cut : (limit : Option ℕ) (rows : List Answer) → Climbs key_cmp key_of rows → Climbs key_cmp key_of (cut limit rows)
+Climbs-cut None rows h = h
+Climbs-cut (Some n) rows h = Climbs-take n rows h
+
+Climbs-stable : (rows : List Answer) → Rise rows → Climbs key_cmp key_of (stable (λ (r : Answer). r.score) rows)
+Climbs-stable rows h =
+    let by_score = stable-by_score (λ (r : Answer). r.score) rows in
+    let by_ids = sorted-places (flip_args nat_cmp) (λ (r : Answer). r.score) ids_cmp ids_cmp-total ids_of rows h in
+    keyed (stable (λ (r : Answer). r.score) rows) (subst (λ ordered. Climbs answer_cmp (λ (x : Answer). x) ordered) (sym (by_score ∙ by_ids))
+    (Climbs-sorted answer_cmp answer_cmp-total (λ (x : Answer). x) rows (distinct rows h)))
+
+pub Climbs-answer : (answer : Answering) (catalogue : Catalogue) (query : Query) → Climbs key_cmp key_of (answer_of answer catalogue query)
+Climbs-answer answer catalogue query =
+    Climbs-cut (limit_of query) (stable (λ (r : Answer). r.score) (rows_of answer catalogue query))
+    (Climbs-stable (rows_of answer catalogue query) (Rise-query answer catalogue query))
