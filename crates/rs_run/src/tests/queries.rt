@@ -1,11 +1,12 @@
 //! Scripts with queries: the rows that they print, what they end with, and the calls of the scorer.
 
-use super::scripts::{BASE_CALLS, assert_calls, behind_base, plain, plain_into};
+use super::scripts::{BASE_CALLS, Ended, assert_calls, behind_base, plain, plain_into};
 use super::text;
 use crate::Status;
 use rs_expr::MemScorer;
 use rs_outside::MemSink;
 use rs_value::Value;
+use std::process::Abort;
 use std::test::Fail;
 
 /// A script behind BASE, what it prints, what it ends with, and the calls behind those of BASE.
@@ -123,37 +124,119 @@ fn prints_the_rows_of_queries(rt: HostRuntime) -> Result<(), Fail> {
     Ok(())
 }
 
-/// The statements in front of the cases of two tables of one number column.
+/// The statements in front of the queries of two blocks.
 const SETS: &str = "CREATE TABLE u (v INT) FROM 'u.csv'; CREATE TABLE w (v INT) FROM 'w.csv'; \
-    CREATE PREDICATE half (v INT) MAX 10 AS v / 2; SELECT v FROM u ";
+    CREATE TABLE a (g INT, v INT) FROM 'a.csv'; CREATE TABLE b (g INT, w INT) FROM 'b.csv'; \
+    CREATE PREDICATE half (v INT) MAX 10 AS v / 2; ";
 
-/// What stands behind SETS, and what it prints.
-const SET_ROWS: [(&str, &str); 4] = [
+/// Two blocks and the calls for their rows, and for each operator between them what stands behind the blocks and what is
+/// printed.
+type Blocks = (
+    &'static str,
+    &'static str,
+    &'static [&'static str],
+    &'static [(&'static str, &'static str)],
+);
+
+/// In u and w there are duplicates on each side, of values that the other side hasn't. In a and b the shared values have
+/// duplicates too.
+const SET_ROWS: [Blocks; 5] = [
     (
-        "UNION SELECT v FROM w ORDER BY half(v);",
-        "1,2,4\n2,2,5\n3,1,3\n4,1,2\n5,0,1\n",
+        "SELECT v FROM u",
+        "SELECT v FROM w ORDER BY half(v);",
+        &[
+            "half 3", "half 1", "half 3", "half 4", "half 4", "half 2", "half 5", "half 5",
+        ],
+        &[
+            (" UNION ", "1,2,4\n2,2,5\n3,1,3\n4,1,2\n5,0,1\n"),
+            (
+                " UNION ALL ",
+                "1,2,4\n2,2,4\n3,2,5\n4,2,5\n5,1,3\n6,1,3\n7,1,2\n8,0,1\n",
+            ),
+            (" INTERSECT ", "1,2,4\n"),
+            (" EXCEPT ", "1,1,3\n2,0,1\n"),
+        ],
     ),
     (
-        "UNION ALL SELECT v FROM w ORDER BY half(v);",
-        "1,2,4\n2,2,4\n3,2,5\n4,2,5\n5,1,3\n6,1,3\n7,1,2\n8,0,1\n",
+        "SELECT v FROM w",
+        "SELECT v FROM u ORDER BY half(v);",
+        &[
+            "half 4", "half 2", "half 5", "half 5", "half 3", "half 1", "half 3", "half 4",
+        ],
+        &[
+            (" UNION ", "1,2,4\n2,2,5\n3,1,2\n4,1,3\n5,0,1\n"),
+            (
+                " UNION ALL ",
+                "1,2,4\n2,2,5\n3,2,5\n4,2,4\n5,1,2\n6,1,3\n7,1,3\n8,0,1\n",
+            ),
+            (" INTERSECT ", "1,2,4\n"),
+            (" EXCEPT ", "1,2,5\n2,1,2\n"),
+        ],
     ),
-    ("INTERSECT SELECT v FROM w ORDER BY half(v);", "1,2,4\n"),
-    ("EXCEPT SELECT v FROM w ORDER BY half(v);", "1,1,3\n2,0,1\n"),
+    (
+        "SELECT g FROM a",
+        "SELECT g FROM b ORDER BY half(g);",
+        &[
+            "half 1", "half 2", "half 1", "half 3", "half 2", "half 2", "half 1", "half 3", "half 1",
+            "half 4",
+        ],
+        &[
+            (" UNION ", "1,2,4\n2,1,2\n3,1,3\n4,0,1\n"),
+            (
+                " UNION ALL ",
+                "1,2,4\n2,1,2\n3,1,3\n4,1,2\n5,1,2\n6,1,3\n7,0,1\n8,0,1\n9,0,1\n10,0,1\n",
+            ),
+            (" INTERSECT ", "1,1,2\n2,1,3\n3,0,1\n"),
+            (" EXCEPT ", ""),
+        ],
+    ),
+    (
+        "SELECT g FROM b",
+        "SELECT g FROM a ORDER BY half(g);",
+        &[
+            "half 2", "half 1", "half 3", "half 1", "half 4", "half 1", "half 2", "half 1", "half 3",
+            "half 2",
+        ],
+        &[
+            (" UNION ", "1,2,4\n2,1,2\n3,1,3\n4,0,1\n"),
+            (
+                " UNION ALL ",
+                "1,2,4\n2,1,2\n3,1,3\n4,1,2\n5,1,3\n6,1,2\n7,0,1\n8,0,1\n9,0,1\n10,0,1\n",
+            ),
+            (" INTERSECT ", "1,1,2\n2,1,3\n3,0,1\n"),
+            (" EXCEPT ", "1,2,4\n"),
+        ],
+    ),
+    // Conditions hold before the operator, and the limit behind it.
+    (
+        "SELECT g FROM a WHERE v < 9",
+        "SELECT w FROM b WHERE w < 9 ORDER BY half(g) LIMIT 3;",
+        &[
+            "half 2", "half 1", "half 3", "half 2", "half 6", "half 6", "half 2", "half 1",
+        ],
+        &[
+            (" UNION ", "1,3,6\n2,1,2\n3,1,3\n"),
+            (" UNION ALL ", "1,3,6\n2,3,6\n3,1,2\n"),
+            (" INTERSECT ", "1,1,2\n2,0,1\n"),
+            (" EXCEPT ", "1,1,3\n"),
+        ],
+    ),
 ];
 
 #[test]
 fn prints_the_rows_of_set_queries(rt: HostRuntime) -> Result<(), Fail> {
-    for (set, out) in SET_ROWS {
-        let mut script = SETS.as_bytes().to_vec(rt.alloc())?;
-        script.extend_from_slice(set.as_bytes())?;
-        let ended = plain(rt.alloc(), script, MemScorer::new(rt.alloc()))?;
-        assert_eq!(rt; ended.status, Status::Done, "at {set:?}");
-        assert_eq!(rt; ended.out.bytes(), out.as_bytes(), "at {set:?}");
-        assert_eq!(rt; ended.err.bytes(), b"".as_slice(), "at {set:?}");
-        let calls = [
-            "half 3", "half 1", "half 3", "half 4", "half 4", "half 2", "half 5", "half 5",
-        ];
-        assert_calls(&rt, rt.alloc(), ended.scorer.calls(), &calls)?;
+    for (left, right, calls, cases) in SET_ROWS {
+        for (operator, out) in cases {
+            let mut script = SETS.as_bytes().to_vec(rt.alloc())?;
+            for piece in [left, *operator, right] {
+                script.extend_from_slice(piece.as_bytes())?;
+            }
+            let ended = plain(rt.alloc(), script, MemScorer::new(rt.alloc()))?;
+            assert_eq!(rt; ended.status, Status::Done, "at {left:?} {operator:?}");
+            assert_eq!(rt; ended.out.bytes(), out.as_bytes(), "at {left:?} {operator:?}");
+            assert_eq!(rt; ended.err.bytes(), b"".as_slice(), "at {left:?} {operator:?}");
+            assert_calls(&rt, rt.alloc(), ended.scorer.calls(), calls)?;
+        }
     }
     Ok(())
 }
@@ -258,4 +341,41 @@ fn stops_where_a_put_fails(rt: HostRuntime) -> Result<(), Fail> {
     assert_eq!(rt; ended.err.bytes(), b"write\n".as_slice());
     assert_eq!(rt; ended.scorer.calls().len(), 12);
     Ok(())
+}
+
+/// Asserts that a run did all, or lacked memory: then it put whole lines of what it prints, and told so.
+fn assert_whole_lines(rt: &impl Abort, ended: &Ended, wanted: &[u8]) {
+    let (out, err) = (ended.out.bytes(), ended.err.bytes());
+    if ended.status == Status::Done {
+        assert_eq!(rt; out, wanted);
+        assert_eq!(rt; err, b"".as_slice());
+    } else {
+        assert_eq!(rt; ended.status, Status::Memory);
+        assert!(rt; wanted.starts_with(out), "{out:?}");
+        assert!(rt; out.is_empty() || out.ends_with(b"\n"), "{out:?}");
+        assert_eq!(rt; err, b"memory\n".as_slice());
+    }
+}
+
+/// Made for a process in which one allocation fails: a query over two tables.
+#[test]
+fn puts_whole_lines_of_a_join_where_memory_ends(rt: HostRuntime) {
+    let query = "SELECT x.name, y.name FROM h x, h y WHERE x.city = y.city ORDER BY near(x.price, y.price) LIMIT 3;";
+    if let Ok(script) = behind_base(rt.alloc(), query) {
+        if let Ok(ended) = plain(rt.alloc(), script, MemScorer::new(rt.alloc())) {
+            assert_whole_lines(&rt, &ended, b"1,100,a,a\n2,100,b,b\n3,100,c,c\n");
+        }
+    }
+}
+
+/// The same, of a query of two blocks.
+#[test]
+fn puts_whole_lines_of_a_union_where_memory_ends(rt: HostRuntime) {
+    let script = "CREATE TABLE u (v INT) FROM 'u.csv'; CREATE TABLE w (v INT) FROM 'w.csv'; \
+        CREATE PREDICATE half (v INT) MAX 10 AS v / 2; SELECT v FROM u UNION SELECT v FROM w ORDER BY half(v);";
+    if let Ok(script) = script.as_bytes().to_vec(rt.alloc()) {
+        if let Ok(ended) = plain(rt.alloc(), script, MemScorer::new(rt.alloc())) {
+            assert_whole_lines(&rt, &ended, b"1,2,4\n2,2,5\n3,1,3\n4,1,2\n5,0,1\n");
+        }
+    }
 }

@@ -1,0 +1,165 @@
+#!/usr/bin/env bash
+# Runs the built program on scripts with queries while memory is refused: once for each allocation, which then fails
+# alone, and once more where all behind it fail too. Each run has to print the right rows, or whole lines from their head
+# and then `memory` with status 1.
+# The program is crates/ranksql/out/ranksql, or the one that the variable RANKSQL names. A C compiler is needed: the
+# allocations fail by a small library in front of the system's.
+set -u -o pipefail
+export LC_ALL=C
+
+root=$(cd "$(dirname "$0")/.." && pwd -P)
+program=${RANKSQL:-$root/crates/ranksql/out/ranksql}
+if [ ! -x "$program" ]; then
+    echo "there is no program $program: ./ranksql builds it" >&2
+    exit 1
+fi
+work=$(mktemp -d) || exit 1
+trap 'rm -rf "$work"' EXIT
+cd "$work" || exit 1
+
+cat >refuse.c <<'C'
+#include <errno.h>
+#include <stdio.h>
+#include <stdlib.h>
+
+extern void *__libc_malloc(size_t);
+extern void *__libc_calloc(size_t, size_t);
+extern void *__libc_realloc(void *, size_t);
+extern void *__libc_memalign(size_t, size_t);
+
+/* The number of the first allocation that fails, whether later ones fail too, and how many there were. */
+static long first, all, count;
+
+static int refused(void) {
+    count++;
+    if (first == 0 || count < first || (count > first && !all))
+        return 0;
+    errno = ENOMEM;
+    return 1;
+}
+
+void *malloc(size_t size) { return refused() ? NULL : __libc_malloc(size); }
+void *calloc(size_t items, size_t size) { return refused() ? NULL : __libc_calloc(items, size); }
+void *realloc(void *old, size_t size) { return refused() ? NULL : __libc_realloc(old, size); }
+void *memalign(size_t align, size_t size) { return refused() ? NULL : __libc_memalign(align, size); }
+void *aligned_alloc(size_t align, size_t size) { return memalign(align, size); }
+int posix_memalign(void **to, size_t align, size_t size) {
+    void *got = memalign(align, size);
+    if (got == NULL)
+        return ENOMEM;
+    *to = got;
+    return 0;
+}
+
+__attribute__((constructor)) static void begin(void) {
+    const char *number = getenv("REFUSE_FIRST");
+    first = number == NULL ? 0 : atol(number);
+    all = getenv("REFUSE_ALL") != NULL;
+    count = 0;
+}
+
+__attribute__((destructor)) static void end(void) {
+    long total = count;
+    const char *name = getenv("REFUSE_COUNT");
+    first = 0;
+    if (name != NULL) {
+        FILE *file = fopen(name, "w");
+        if (file != NULL) {
+            fprintf(file, "%ld\n", total);
+            fclose(file);
+        }
+    }
+}
+C
+cc -O1 -shared -fPIC -o refuse.so refuse.c || exit 1
+
+printf 'name,price,city\na,40,1\nb,90,1\nc,40,2\n' >h.csv
+printf 'x,y\n10,3\n8,9\n5,1\n2,10\n' >t.csv
+printf 'v\n3\n1\n3\n4\n' >u.csv
+printf 'v\n4\n2\n5\n5\n' >w.csv
+cat >join.sql <<'SQL'
+CREATE TABLE h (name TEXT, price INT, city INT) FROM 'h.csv';
+CREATE TABLE t (x INT, y INT) FROM 't.csv';
+CREATE PREDICATE p (v INT) MAX 10 AS v;
+CREATE PREDICATE q (v INT) MAX 10 COST 100 AS v;
+CREATE PREDICATE c (v INT) MAX 100 AS v;
+CREATE PREDICATE near (a INT, b INT) MAX 100 AS 100 - ABS(a - b);
+CREATE RANK INDEX px ON t (p(x));
+SELECT x.name, y.name FROM h x, h y WHERE x.city = y.city ORDER BY near(x.price, y.price) LIMIT 3;
+SQL
+printf '1,100,a,a\n2,100,b,b\n3,100,c,c\n' >join.wanted
+cat >union.sql <<'SQL'
+CREATE TABLE u (v INT) FROM 'u.csv';
+CREATE TABLE w (v INT) FROM 'w.csv';
+CREATE PREDICATE half (v INT) MAX 10 AS v / 2;
+SELECT v FROM u UNION SELECT v FROM w ORDER BY half(v);
+SQL
+printf '1,2,4\n2,2,5\n3,1,3\n4,1,2\n5,0,1\n' >union.wanted
+: >nothing
+printf 'memory\n' >memory
+
+# Runs a script where allocations fail from this one on, or this one alone.
+# run NAME NUMBER [all]
+run() {
+    timeout 60 env LD_PRELOAD="$work/refuse.so" REFUSE_FIRST="$2" ${3:+REFUSE_ALL=1} REFUSE_COUNT="$work/count" \
+        "$program" plain "$1.sql" >out 2>err </dev/null
+}
+
+# Whether the file out is whole lines from the head of what is wanted.
+are_whole_lines() {
+    cmp -s out <(head -n "$(wc -l <out)" "$1.wanted")
+}
+
+# Whether the run did all, or lacked memory and told so.
+# is_right NAME STATUS
+is_right() {
+    case $2 in
+        0) cmp -s out "$1.wanted" && cmp -s err nothing ;;
+        1) are_whole_lines "$1" && cmp -s err memory ;;
+        *) false ;;
+    esac
+}
+
+failures=0
+# try_each NAME [all]
+try_each() {
+    local name=$1 all=${2:-} number=0 total status done=0 cut=0
+    run "$name" 0
+    if ! is_right "$name" $?; then
+        echo "FAILED  $name with all its memory"
+        failures=$((failures + 1))
+        return
+    fi
+    total=$(cat count)
+    if [ "$total" -lt 100 ]; then
+        echo "FAILED  $name: only $total allocations are seen, so those of the program do not go through the library"
+        failures=$((failures + 1))
+        return
+    fi
+    while [ "$number" -lt "$total" ]; do
+        number=$((number + 1))
+        run "$name" "$number" "$all"
+        status=$?
+        if ! is_right "$name" "$status"; then
+            echo "FAILED  $name, allocation $number of $total${all:+ and all later ones}: status $status"
+            head -c 300 out err | sed 's/^/        /'
+            failures=$((failures + 1))
+        elif [ "$status" -eq 0 ]; then
+            done=$((done + 1))
+        elif [ -s out ]; then
+            cut=$((cut + 1))
+        fi
+    done
+    echo "$name: each of $total allocations${all:+ and all later ones} refused: $done runs did all," \
+        "the others told the want of memory, $cut of them behind a row"
+}
+
+for name in join union; do
+    try_each "$name"
+    try_each "$name" all
+done
+if [ "$failures" -gt 0 ]; then
+    echo "$failures runs failed"
+    exit 1
+fi
+echo "every run ended as it must"
