@@ -3,3 +3,4 @@ pub mod FirstFacts
 pub mod ListFacts
 pub mod QuestionFacts
 pub mod RowFacts
+pub mod SideFacts

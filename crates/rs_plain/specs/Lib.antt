@@ -2,3 +2,4 @@ pub mod Asking
 pub mod Evaluating
 pub mod Lists
 pub mod Plain
+pub mod Sides

@@ -7,6 +7,8 @@ mod fault;
 mod outputs;
 mod rows;
 mod sets;
+#[cfg(test)]
+mod tests;
 
 pub use answer::plain;
 pub use fault::PlainFault;
