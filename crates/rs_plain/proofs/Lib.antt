@@ -5,3 +5,4 @@ pub mod ListFacts
 pub mod OrderFacts
 pub mod QuestionFacts
 pub mod RowFacts
+pub mod SideFacts

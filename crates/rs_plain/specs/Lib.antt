@@ -3,3 +3,4 @@ pub mod Evaluating
 pub mod Lists
 pub mod Ordering
 pub mod Plain
+pub mod Sides

@@ -8,6 +8,8 @@ mod laws;
 mod outputs;
 mod rows;
 mod sets;
+#[cfg(test)]
+mod tests;
 
 pub use answer::plain;
 pub use fault::PlainFault;

@@ -5,6 +5,7 @@ pub mod EntryFacts
 pub mod ExtendFacts
 pub mod HoldFacts
 pub mod ItemFacts
+pub mod JoinedFacts
 pub mod ListFacts
 pub mod LocalFacts
 pub mod WeightFacts

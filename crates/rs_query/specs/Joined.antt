@@ -1,10 +1,24 @@
--- A block of the tests: two tables whose first columns are equal.
-use Rattle.std.specs.Prelude.{ℕ, ◌≡◌, List, [], ◌∷◌, Some}
+-- What the tests build: a catalogue with a predicate, and a block of two tables whose first columns are equal.
+use Rattle.std.specs.Prelude.{ℕ, ◌≡◌, List, [], ◌∷◌, Some, pos}
+use Rattle.rs_value.specs.declared.kind.Kind.TheVariants as kind
 use Rattle.rs_value.specs.declared.rel.Rel.TheVariants.{Eq}
 use Rattle.rs_expr.specs.Formulas.{Argument, Numbers}
+use Rattle.rs_catalog.specs.Catalogue.{Catalogue}
+use Rattle.rs_catalog.specs.declared.index.BoundArg.TheVariants as arg
 use Rattle.rs_query.specs.declared.block.Block.{Block}
 
--- what is known of that block
+-- its one predicate is of two numbers
+pub record HasPredicate (catalogue : Catalogue) : Type 0 where
+  pub name : List ℕ
+  pub predicates : catalogue.predicates ≡ record {
+    name = name;
+    params = kind.Int ∷ kind.Int ∷ [];
+    max = 100;
+    cost = 1;
+    formula = Argument 0;
+  } ∷ []
+
+-- what is known of the block
 pub record IsJoin (block : Block) : Type 0 where
   pub left : List ℕ
   pub right : List ℕ
@@ -15,5 +29,11 @@ pub record IsJoin (block : Block) : Type 0 where
     entries = 3;
     equality = Some ((1, 0), (2, 0));
   } ∷ []
-  pub items : block.items ≡ []
-  pub terms : block.terms ≡ []
+  pub items : block.items ≡ (2, 0) ∷ (1, 0) ∷ []
+  pub terms : block.terms ≡ record {
+    weight = 3;
+    predicate = 0;
+    args = arg.Column 2 0 ∷ arg.Int (pos 7) ∷ [];
+    max = 100;
+    entries = 2;
+  } ∷ []

@@ -3,8 +3,6 @@
 
 mod block;
 mod calls;
-#[cfg(test)]
-mod combination_tests;
 mod combinations;
 mod conjunct;
 mod inside;
@@ -12,6 +10,8 @@ mod laws;
 mod masks;
 mod query;
 mod term;
+#[cfg(test)]
+mod tests;
 mod weights;
 
 pub use block::Block;

@@ -1,0 +1,38 @@
+-- What the tests build: a catalogue with a predicate, and blocks of one table.
+use Rattle.std.specs.Prelude.{ℕ, ◌≡◌, List, [], ◌∷◌, None, pos, length}
+use Rattle.rs_value.specs.declared.kind.Kind.TheVariants as kind
+use Rattle.rs_value.specs.declared.rel.Rel.TheVariants.{Ne}
+use Rattle.rs_expr.specs.Formulas.{Argument, Constant, Numbers}
+use Rattle.rs_catalog.specs.Catalogue.{Catalogue}
+use Rattle.rs_catalog.specs.declared.index.BoundArg.TheVariants as arg
+use Rattle.rs_query.specs.declared.block.Block.{Block}
+
+-- its one predicate is of a number
+pub record HasPredicate (catalogue : Catalogue) : Type 0 where
+  pub name : List ℕ
+  pub predicates : catalogue.predicates ≡ record {
+    name = name;
+    params = kind.Int ∷ [];
+    max = 10;
+    cost = 1;
+    formula = Argument 0;
+  } ∷ []
+
+-- the block of a table whose first column isn't 9, is the output, and is the argument of the term
+pub record IsSide (table : ℕ) (block : Block) : Type 0 where
+  pub alias : List ℕ
+  pub from : block.from ≡ (table, alias) ∷ []
+  pub conjuncts : block.conjuncts ≡ record {
+    condition = Numbers Ne (Argument 0) (Constant (pos 9));
+    columns = (1, 0) ∷ [];
+    entries = 1;
+    equality = None;
+  } ∷ []
+  pub items : block.items ≡ (1, 0) ∷ []
+  pub terms : block.terms ≡ record {
+    weight = 3;
+    predicate = 0;
+    args = arg.Column 1 0 ∷ [];
+    max = 10;
+    entries = 1;
+  } ∷ []
