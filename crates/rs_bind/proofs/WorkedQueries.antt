@@ -1,20 +1,21 @@
 -- Queries and their first broken rules, computed on literals. The text of each is written above it; its first byte has number 0.
 use Rattle.std.proofs.Common.{◌≡◌, ℕ, suc, Bool, true, false, List, [], ◌∷◌, refl}
-use Rattle.std.specs.Prelude.{pos, Some, None, Result, Ok, Err, codes}
+use Rattle.std.specs.Prelude.{negsuc, pos, Some, None, Result, Ok, Err, codes}
 use Rattle.rs_value.specs.declared.kind.Kind.{Kind}
 use Rattle.rs_value.specs.declared.kind.Kind.TheVariants as kind
-use Rattle.rs_value.specs.declared.rel.Rel.TheVariants.{Eq}
+use Rattle.rs_value.specs.declared.rel.Rel.TheVariants.{Eq, Gt}
 use Rattle.rs_lex.specs.declared.token.Span.{Span}
 use Rattle.rs_syntax.specs.declared.name.Arg.{Arg}
 use Rattle.rs_syntax.specs.declared.name.Arg.TheVariants as arg
 use Rattle.rs_syntax.specs.declared.name.ColRef.{ColRef}
 use Rattle.rs_syntax.specs.declared.name.Name.{Name}
+use Rattle.rs_syntax.specs.declared.node.Op.TheVariants.{Add}
 use Rattle.rs_syntax.specs.declared.select.Items.TheVariants as items
 use Rattle.rs_syntax.specs.declared.select.SetOp.TheVariants.{Union}
 use Rattle.rs_syntax.specs.declared.select.TermSyn.{TermSyn}
-use Rattle.rs_syntax.specs.Syntax.{Compare, Column, Int, Query}
+use Rattle.rs_syntax.specs.Syntax.{And, Arith, Compare, Column, Int, Query}
 use Rattle.rs_table.specs.Column as table
-use Rattle.rs_expr.specs.Formulas.{Argument, Constant, Numbers}
+use Rattle.rs_expr.specs.Formulas.{Argument, Constant, Numbers, Sum}
 use Rattle.rs_expr.specs.Predicates.{PredicateDef}
 use Rattle.rs_catalog.specs.Catalogue.{Catalogue, NamedTable}
 use Rattle.rs_catalog.specs.declared.index.BoundArg.{BoundArg}
@@ -170,3 +171,32 @@ alias-twice : bound_query made (record {
   limit = None;
 }) ≡ refused NameTwice 19 20
 alias-twice = refl
+
+-- SELECT k FROM u a, w b WHERE b.v = a.v AND (a.v + 1 > b.v AND 1 = 2) ORDER BY 3 * near(a.v, -5) LIMIT 0
+split : bound_query made (record {
+  left = record {
+    distinct = false;
+    items = items.List (plain (codes "k") 7 8 ∷ []);
+    from = (word (codes "u") 14 15, Some (word (codes "a") 16 17)) ∷ (word (codes "w") 19 20, Some (word (codes "b") 21 22)) ∷ [];
+    filter = Some (And (Compare Eq (Column (dotted (codes "b") (codes "v") 29 32)) (Column (dotted (codes "a") (codes "v") 35 38)) (span 29 38))
+        (And (Compare Gt (Arith Add (Column (dotted (codes "a") (codes "v") 44 47)) (Int (pos 1) (span 50 51)) (span 44 51)) (Column (dotted (codes "b") (codes "v") 54 57)) (span 44 57)) (Compare Eq (Int (pos 1) (span 62 63)) (Int (pos 2) (span 66 67)) (span 62 67)) (span 44 67)) (span 29 68));
+  };
+  right = None;
+  terms = record {
+    weight = (pos 3, span 78 79);
+    predicate = word (codes "near") 82 86;
+    args = arg.Column (dotted (codes "a") (codes "v") 87 90) ∷ arg.Int (negsuc 4) (span 92 94) ∷ [];
+    at = span 78 95;
+  } ∷ [];
+  limit = Some (pos 0, span 102 103);
+})
+    ≡ Ok (One (record {
+      from = (1, codes "a") ∷ (2, codes "b") ∷ [];
+      conjuncts = record { condition = Numbers Eq (Argument 0) (Argument 1); columns = (2, 1) ∷ (1, 0) ∷ []; entries = 3; equality = Some ((2, 1), (1, 0)) }
+          ∷ record { condition = Numbers Gt (Sum (Argument 0) (Constant (pos 1))) (Argument 1); columns = (1, 0) ∷ (2, 1) ∷ []; entries = 3; equality = None }
+          ∷ record { condition = Numbers Eq (Constant (pos 1)) (Constant (pos 2)); columns = []; entries = 0; equality = None } ∷ [];
+      items = (2, 0) ∷ [];
+      terms = record { weight = 3; predicate = 0; args = bound.Column 1 0 ∷ bound.Int (negsuc 4) ∷ []; max = 100; entries = 1 } ∷ [];
+      distinct = false;
+    }) (Some 0))
+split = refl

@@ -69,7 +69,7 @@ fn binds_queries(rt: HostRuntime) -> Result<(), Fail> {
 }
 
 /// Queries that are refused, in three parts: the fault is at the second one.
-const REFUSED: [(&str, &str, &str, Why); 49] = [
+const REFUSED: [(&str, &str, &str, Why); 52] = [
     ("SELECT x FROM ", "z", " ORDER BY p(x)", Why::NoTable),
     ("SELECT x FROM t, ", "T", " ORDER BY p(x)", Why::NoTable),
     (
@@ -213,9 +213,21 @@ const REFUSED: [(&str, &str, &str, Why); 49] = [
         Why::NoColumn,
     ),
     (
+        "SELECT ",
+        "z",
+        " FROM t UNION SELECT x FROM w ORDER BY p(x)",
+        Why::NoColumn,
+    ),
+    (
         "SELECT x FROM t UNION SELECT ",
         "name",
         " FROM h ORDER BY p(x)",
+        Why::SetColumnsDiffer,
+    ),
+    (
+        "SELECT x, y FROM t UNION SELECT ",
+        "x",
+        ", s FROM t ORDER BY p(x)",
         Why::SetColumnsDiffer,
     ),
     (
@@ -276,7 +288,13 @@ const REFUSED: [(&str, &str, &str, Why); 49] = [
     ),
     ("SELECT x FROM t ORDER BY near(", "z", ", s)", Why::NoColumn),
     (
-        "SELECT x FROM t ORDER BY near(x, ",
+        "SELECT x FROM t ORDER BY near(",
+        "s",
+        ", z)",
+        Why::WrongKind,
+    ),
+    (
+        "SELECT DISTINCT s FROM t ORDER BY near(x, ",
         "s",
         ")",
         Why::WrongKind,
@@ -298,7 +316,7 @@ const REFUSED: [(&str, &str, &str, Why); 49] = [
     (
         "SELECT DISTINCT s FROM t ORDER BY ",
         "p(x)",
-        "",
+        " + q(z)",
         Why::DistinctNeedsOutput,
     ),
     (
@@ -349,55 +367,40 @@ fn refuses_a_query_at_the_first_rule_that_it_breaks(rt: HostRuntime) -> Result<(
 }
 
 #[test]
-fn refuses_one_part_too_many(rt: HostRuntime) -> Result<(), Fail> {
+fn refuses_the_first_part_too_many(rt: HostRuntime) -> Result<(), Fail> {
     let alloc = rt.alloc();
     let catalog = catalog(&rt, alloc)?;
-    // 32 parts of a condition, and one more.
-    let parts = "1 = 1 AND ".repeat(alloc, 32)?;
-    let front = format!(in alloc; "SELECT x FROM t WHERE {parts}")?;
-    let row = (front.as_str(), "y = 2", " ORDER BY p(x)", Why::LimitOf);
+    // A condition of 31 parts in brackets, and two more, of which one is the 33rd.
+    let parts = "(1 = 1 AND x = 1) AND ".repeat(alloc, 15)?;
+    let front = format!(in alloc; "SELECT x FROM t WHERE {parts}x = 2 AND (x = 3 AND ")?;
+    let row = (front.as_str(), "y = 4", ") ORDER BY p(x)", Why::LimitOf);
+    refuses(&rt, alloc, &catalog, row)?;
+    // A rule of any part comes before the number of parts.
+    let front = format!(in alloc; "{front}y = 4) AND ")?;
+    let row = (front.as_str(), "z", " = 5 ORDER BY p(x)", Why::NoColumn);
     refuses(&rt, alloc, &catalog, row)?;
     // 384 output columns, and one more.
     let columns = "x, ".repeat(alloc, 384)?;
     let front = format!(in alloc; "SELECT {columns}")?;
-    refuses(
-        &rt,
-        alloc,
-        &catalog,
-        (front.as_str(), "t.z", " FROM t ORDER BY p(x)", Why::LimitOf),
-    )
+    let row = (
+        front.as_str(),
+        "t.z",
+        ", z FROM t ORDER BY p(x)",
+        Why::LimitOf,
+    );
+    refuses(&rt, alloc, &catalog, row)
 }
 
 #[test]
-fn binds_the_parts_of_a_block(rt: HostRuntime) -> Result<(), Fail> {
+fn binds_as_many_parts_as_there_may_be(rt: HostRuntime) -> Result<(), Fail> {
     let alloc = rt.alloc();
     let catalog = catalog(&rt, alloc)?;
-    let script =
-        "SELECT b.x, s FROM t a, o b WHERE b.x = y AND (a.x + b.x > a.x AND 1 = 2) ORDER BY 3 * near(a.x, b.x)";
-    match bound(&rt, alloc, &catalog, script)? {
-        Ok(Query::One(block, None)) => {
-            assert!(rt; !block.distinct);
-            assert_eq!(rt; block.from.len(), 2);
-            assert_eq!(rt; block.conjuncts.len(), 3);
-            let conjuncts = block.conjuncts.items();
-            assert!(rt; conjuncts[0].columns() == [(2, 0), (1, 1)].as_slice());
-            assert_eq!(rt; conjuncts[0].entries(), 3);
-            assert_eq!(rt; conjuncts[0].equality(), Some(((2, 0), (1, 1))));
-            assert!(rt; conjuncts[1].columns() == [(1, 0), (2, 0)].as_slice());
-            assert_eq!(rt; conjuncts[1].entries(), 3);
-            assert_eq!(rt; conjuncts[1].equality(), None);
-            assert!(rt; conjuncts[2].columns().is_empty());
-            assert_eq!(rt; conjuncts[2].entries(), 0);
-            assert!(rt; block.items.items().as_slice() == [(2, 0), (1, 2)].as_slice());
-            assert_eq!(rt; block.terms.len(), 1);
-            let term = &block.terms.items()[0];
-            assert_eq!(rt;
-                (term.weight, term.predicate, term.max, term.entries),
-                (3, 1, 9, 3)
-            );
-        }
-        _ => panic!(rt; "{script}"),
-    }
+    // A condition of 32 parts, the last of which is an OR of more, and 384 output columns.
+    let parts = "x = 1 AND ".repeat(alloc, 31)?;
+    let columns = "x, ".repeat(alloc, 383)?;
+    let front = format!(in alloc; "SELECT {columns}y FROM t WHERE {parts}(x = 2 OR {parts}x = 3)")?;
+    let script = format!(in alloc; "{front} ORDER BY p(x)")?;
+    assert!(rt; bound(&rt, alloc, &catalog, &script)?.is_ok());
     Ok(())
 }
 
