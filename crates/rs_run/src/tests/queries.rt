@@ -177,8 +177,8 @@ const SET_ROWS: [Blocks; 5] = [
         "SELECT g FROM a",
         "SELECT g FROM b ORDER BY half(g);",
         &[
-            "half 1", "half 2", "half 1", "half 3", "half 2", "half 2", "half 1", "half 3", "half 1",
-            "half 4",
+            "half 1", "half 2", "half 1", "half 3", "half 2", "half 2", "half 1", "half 3",
+            "half 1", "half 4",
         ],
         &[
             (" UNION ", "1,2,4\n2,1,2\n3,1,3\n4,0,1\n"),
@@ -194,8 +194,8 @@ const SET_ROWS: [Blocks; 5] = [
         "SELECT g FROM b",
         "SELECT g FROM a ORDER BY half(g);",
         &[
-            "half 2", "half 1", "half 3", "half 1", "half 4", "half 1", "half 2", "half 1", "half 3",
-            "half 2",
+            "half 2", "half 1", "half 3", "half 1", "half 4", "half 1", "half 2", "half 1",
+            "half 3", "half 2",
         ],
         &[
             (" UNION ", "1,2,4\n2,1,2\n3,1,3\n4,0,1\n"),
@@ -233,8 +233,16 @@ fn prints_the_rows_of_set_queries(rt: HostRuntime) -> Result<(), Fail> {
             }
             let ended = plain(rt.alloc(), script, MemScorer::new(rt.alloc()))?;
             assert_eq!(rt; ended.status, Status::Done, "at {left:?} {operator:?}");
-            assert_eq!(rt; ended.out.bytes(), out.as_bytes(), "at {left:?} {operator:?}");
-            assert_eq!(rt; ended.err.bytes(), b"".as_slice(), "at {left:?} {operator:?}");
+            assert_eq!(rt;
+                ended.out.bytes(),
+                out.as_bytes(),
+                "at {left:?} {operator:?}"
+            );
+            assert_eq!(rt;
+                ended.err.bytes(),
+                b"".as_slice(),
+                "at {left:?} {operator:?}"
+            );
             assert_calls(&rt, rt.alloc(), ended.scorer.calls(), calls)?;
         }
     }
@@ -360,7 +368,8 @@ fn assert_whole_lines(rt: &impl Abort, ended: &Ended, wanted: &[u8]) {
 /// Made for a process in which one allocation fails: a query over two tables.
 #[test]
 fn puts_whole_lines_of_a_join_where_memory_ends(rt: HostRuntime) {
-    let query = "SELECT x.name, y.name FROM h x, h y WHERE x.city = y.city ORDER BY near(x.price, y.price) LIMIT 3;";
+    let query =
+        "SELECT x.name, y.name FROM h x, h y WHERE x.city = y.city ORDER BY near(x.price, y.price) LIMIT 3;";
     if let Ok(script) = behind_base(rt.alloc(), query) {
         if let Ok(ended) = plain(rt.alloc(), script, MemScorer::new(rt.alloc())) {
             assert_whole_lines(&rt, &ended, b"1,100,a,a\n2,100,b,b\n3,100,c,c\n");
