@@ -1,5 +1,5 @@
 -- What the tests build: a catalogue with a predicate, and blocks of one table.
-use Rattle.std.specs.Prelude.{ℕ, ◌≡◌, List, [], ◌∷◌, None, pos, length}
+use Rattle.std.specs.Prelude.{ℕ, ◌≡◌, List, [], ◌∷◌, None, pos}
 use Rattle.rs_value.specs.declared.kind.Kind.TheVariants as kind
 use Rattle.rs_value.specs.declared.rel.Rel.TheVariants.{Ne}
 use Rattle.rs_expr.specs.Formulas.{Argument, Constant, Numbers}

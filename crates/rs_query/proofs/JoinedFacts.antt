@@ -1,5 +1,5 @@
 -- The block that the tests build is well-formed.
-use Rattle.std.proofs.Common.{ℕ, ◌≡◌, ◌≤◌, ◌<◌, true, List, [], ◌∷◌, Some, length, refl, subst, sym, arith}
+use Rattle.std.proofs.Common.{◌≡◌, true, [], ◌∷◌, Some, length, refl, subst, sym, arith}
 use Rattle.std.specs.Prelude.{pos}
 use Rattle.std.specs.List.{AllByRecursion}
 use Rattle.rs_value.specs.declared.kind.Kind.TheVariants as kind

@@ -1,15 +1,13 @@
 -- Well-formed blocks and queries: what a binder makes of a query that it doesn't refuse.
 use Rattle.std.specs.Prelude.{ℕ, ◌≡◌, ◌≤◌, ◌<◌, ◌==◌, ◌&&◌, Bool, true, false, List, [], ◌∷◌, length, map, bit_or, nat_abs, Option, Some, None, IfSome, option_map, slice_get}
-use Rattle.std.specs.List.{AllByRecursion, filter, list_any}
-use Rattle.std.specs.Ordering.{int_eq}
-use Rattle.std.specs.Str.{bytes_eq}
+use Rattle.std.specs.List.{AllByRecursion, list_any}
 use Rattle.rs_value.specs.declared.kind.Kind.{Kind}
 use Rattle.rs_value.specs.declared.kind.Kind.TheVariants as kind
 use Rattle.rs_value.specs.Number.{greatest_int}
 use Rattle.rs_value.specs.declared.rel.Rel.TheVariants.{Eq}
 use Rattle.rs_table.specs.Column.{Column}
 use Rattle.rs_rank.specs.Masks.{mask_of}
-use Rattle.rs_expr.specs.Formulas.{Condition, Formula, Argument, Numbers, Texts}
+use Rattle.rs_expr.specs.Formulas.{Condition, Argument, Numbers, Texts}
 use Rattle.rs_expr.specs.Uses.{condition_uses, is_kind}
 use Rattle.rs_expr.specs.Widths.{is_narrow}
 use Rattle.rs_expr.specs.declared.expr.TextSide.TheVariants as side
