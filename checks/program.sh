@@ -297,44 +297,66 @@ script 'CREATE PREDICATE r (v INT) MAX 1 AS v / (1 + 1);'
 refused 'a divisor that is no number' 'bind BadDivisor at 41'
 script "CREATE PREDICATE r (v INT) MAX 1 AS CASE WHEN v = 'a' THEN 1 ELSE 0 END;"
 refused 'a number and a text' 'bind WrongKind at 46'
-(cd "$root" && timeout 60 "$program" plain examples/indexes.sql >"$work/said/out" 2>"$work/said/err"
-echo $? >"$work/said/status")
-compare 'the example of indexes' 0 '' ''
-(cd "$root" && timeout 60 "$program" plain examples/hotels.sql >"$work/said/out" 2>"$work/said/err"
-echo $? >"$work/said/status")
-compare 'the example of queries' 0 '1,400,Black Bear Lodge,Killarney,0
-2,351,Mountain Star Hostel,Zermatt,49
-3,342,Hostal La Paloma,Seville,58
-4,338,The Railway Arms,Crewe,62
-5,331,Hotel Baltica,Gdańsk,69
-1,89,Riverside Guest House,Inverness,84,89
-2,88,Auberge du Lac,Annecy,147,88
-3,85,Albergo del Sole,Siena,99,85
-4,82,Pension Edelweiss,Innsbruck,76,82
-5,81,Hotel Kastanienhof,Berlin,132,81
-1,583,Riverside Guest House,Inverness,84,89
-2,583,Black Bear Lodge,Killarney,0,61
-3,573,Hostal La Paloma,Seville,58,77
-4,570,Pension Edelweiss,Innsbruck,76,82
-5,568,Hotel Baltica,Gdańsk,69,79
-6,559,Gasthof Post,Garmisch,81,80
-7,556,Albergo del Sole,Siena,99,85
-8,555,Mountain Star Hostel,Zermatt,49,68
-9,552,Posada del Puerto,Cádiz,88,80
-10,549,Hotel Jadran,Zadar,73,74
-' ''
-(cd "$root" && timeout 60 "$program" plain examples/travel/evening.sql >"$work/said/out" 2>"$work/said/err"
-echo $? >"$work/said/status")
-compare 'the example of an evening' 0 '1,814,Kraków,Stare Miasto,Hotel Bursztyn,97,Ogród Smaków,95,Muzeum Książąt Czartoryskich
-2,805,Kraków,Stare Miasto,"Kamienica ""Pod Sową""",108,Ogród Smaków,95,Collegium Maius
-3,803,Lisbon,Alfama,Pensão Andorinha,64,Tasca do Fadista,92,Museu do Fado
-4,803,Vienna,Alsergrund,Hotel Alte Wäscherei,86,Gasthaus Zwei Linden,94,Sigmund Freud Museum
-5,799,Kraków,Kazimierz,Gościniec Wolnica,58,Bistro Cymes,91,Muzeum Etnograficzne
-' ''
+
+# ---- the examples, each beside a file of what it prints
+scripts=0
+while IFS= read -r script; do
+    scripts=$((scripts + 1))
+    wanted=$root/${script%.sql}.out
+    if [ ! -r "$wanted" ]; then
+        failed "the example $script has no file ${script%.sql}.out of what it prints"
+        continue
+    fi
+    (cd "$root" && timeout 60 "$program" plain "$script" >"$work/said/out" 2>"$work/said/err" </dev/null)
+    echo $? >"$work/said/status"
+    # The command gives no line feeds at the end, so a mark goes behind them.
+    text=$(cat "$wanted" && echo .)
+    compare "the example $script" 0 "${text%.}" ''
+done < <(cd "$root" && find examples -name '*.sql' | sort)
+[ "$scripts" -gt 0 ] || failed 'there are no examples'
+
+# The statements that docs/GRAMMAR.md shows in blocks and in its table of statements stand in these scripts, line by line.
+# A statement of a cursor stands in none.
+grammar=$root/docs/GRAMMAR.md
+lines=0
+while IFS= read -r line; do
+    lines=$((lines + 1))
+    grep -rqxF --include='*.sql' -e "$line" "$root/examples" || failed "no example has the line of GRAMMAR.md: $line"
+done < <(
+    sed -nE 's/^    ((CREATE|SELECT|FROM|WHERE|ORDER BY|LIMIT) .*)$/\1/p' "$grammar"
+    # shellcheck disable=SC2016
+    sed -nE 's/^\| [^|`]+ \| `((CREATE|SELECT|EXPLAIN) [^|`]+)` \|$/\1;/p' "$grammar"
+)
+[ "$lines" -gt 0 ] || failed 'GRAMMAR.md shows no statements'
+
+# Scripts of its last table, which are refused, beside the lines that tell so.
+rows=0
+while IFS='`' read -r _ text _ line _; do
+    rows=$((rows + 1))
+    printf '%s' "$text" >s.sql
+    expect "the script '$text' of GRAMMAR.md" 5 '' "$line"$'\n' -- plain s.sql
+done < <(
+    # shellcheck disable=SC2016
+    grep -E '^\| `[^`]+` \| `script: [^`]+` \|$' "$grammar"
+)
+[ "$rows" -gt 0 ] || failed 'GRAMMAR.md shows no refused scripts'
 
 # ---- queries
 script "${base}SELECT x FROM t ORDER BY p(x); SELECT y, x FROM t WHERE y < 9 ORDER BY p(y) + 2 * p(x) LIMIT 1;"
 expect 'two queries' 0 $'1,10,10\n2,8,8\n3,5,5\n4,2,2\n1,23,3,10\n' '' -- plain s.sql
+script "${base}SELECT x FROM t ORDER BY p(x) LIMIT 1;"
+timeout 60 "$program" plain /dev/stdin <s.sql >"$work/said/out" 2>"$work/said/err"
+echo $? >"$work/said/status"
+compare 'a script from standard input' 0 $'1,10,10\n' ''
+# shellcheck disable=SC2002
+cat s.sql | timeout 60 "$program" plain /dev/stdin >"$work/said/out" 2>"$work/said/err"
+echo "${PIPESTATUS[1]}" >"$work/said/status"
+compare 'a script from a pipe' 0 $'1,10,10\n' ''
+script "CREATE TABLE t (x INT, y INT) FROM '/dev/stdin'; CREATE PREDICATE p (v INT) MAX 10 AS v; SELECT x, y FROM t ORDER BY p(y) LIMIT 2;"
+# shellcheck disable=SC2002
+cat t.csv | timeout 60 "$program" plain s.sql >"$work/said/out" 2>"$work/said/err"
+echo "${PIPESTATUS[1]}" >"$work/said/status"
+compare 'a table of a script from a pipe' 0 $'1,10,2,10\n2,9,8,9\n' ''
 script "${base}SELECT x.name, y.name FROM h x, h y WHERE x.city = y.city ORDER BY near(x.price, y.price) LIMIT 3;"
 expect 'a table that is joined with itself' 0 $'1,100,a,a\n2,100,b,b\n3,100,c,c\n' '' -- plain s.sql
 script "${base}SELECT DISTINCT city FROM h ORDER BY p(city);"
