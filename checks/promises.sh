@@ -201,7 +201,7 @@ exec awk '
             failures++
         }
         if (failures > 0) {
-            print failures " of what " shown " names are missing or can not be read"
+            print failures " faults in " shown
             exit 1
         }
         print "ok      " shown ": " rows " rows of " crates " crates, with " carried " clauses at " named " functions"
