@@ -4,21 +4,14 @@
 # many rows, and beside sqlite3, which imports the file and makes an index of the same expression. A half and a quarter of
 # the rows show how time and memory grow. Each runs five times, in turn, and the shortest time counts.
 # The program is the one that ./ranksql builds, or the one that the variable RANKSQL names.
-set -u -o pipefail
+# shellcheck source=bench/functions.sh
+. "$(dirname "$0")/functions.sh"
 
 ROWS=131072
 MAX=99999
 RUNS=5
-export LC_ALL=C
 
-root=$(cd "$(dirname "$0")/.." && pwd -P)
-work=$(mktemp -d) || exit 1
-trap 'rm -rf "$work"' EXIT
-
-if ! command -v python3 >/dev/null 2>&1; then
-    echo "bench: python3 is not found: it takes the times" >&2
-    exit 1
-fi
+needs python3 'it takes the times'
 
 # A table of names, a price from 0 to MAX and a number of rooms. The numbers are those of the generator
 # x -> 16807 x modulo 2^31 - 1, so each run makes the same file.
@@ -51,12 +44,7 @@ for share in 1 2 4; do
     make_script "$share" indexed >"$work/$share.indexed.sql"
 done
 
-if [ -n "${RANKSQL:-}" ]; then
-    program=$RANKSQL
-else
-    "$root/ranksql" plain "$work/4.plain.sql" || exit
-    program=$root/crates/ranksql/out/ranksql
-fi
+find_program
 
 echo "tables of $ROWS rows ($(wc -c <"$work/1.csv") bytes) and of a half and a quarter of them; the best of $RUNS runs"
 python3 - "$program" "$work" "$RUNS" "$MAX" <<'PYTHON'

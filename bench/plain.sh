@@ -5,22 +5,15 @@
 # and the shortest time counts. It is that of a whole process, which reads the files too. Both have to print the same
 # rows. How long they take decides nothing.
 # The program is the one that ./ranksql builds, or the one that the variable RANKSQL names.
-set -u -o pipefail
+# shellcheck source=bench/functions.sh
+. "$(dirname "$0")/functions.sh"
 
 ROWS=600
 NUMBER=7
 TERMS=3
 RUNS=5
-export LC_ALL=C
 
-root=$(cd "$(dirname "$0")/.." && pwd -P)
-work=$(mktemp -d) || exit 1
-trap 'rm -rf "$work"' EXIT
-
-if ! command -v sqlite3 >/dev/null 2>&1; then
-    echo "bench: sqlite3 is not found (on Debian: apt-get install sqlite3): nothing is measured without it" >&2
-    exit 1
-fi
+needs sqlite3 'nothing is measured without it (on Debian: apt-get install sqlite3)'
 
 # Hotels, restaurants and museums in one city for each ten rows. The numbers follow from the row and from NUMBER, so
 # each run makes the same files.
@@ -79,46 +72,11 @@ run_sqlite() {
         'ORDER BY score DESC, h.rowid, r.rowid, m.rowid LIMIT 10'
 }
 
-# Runs a command, adds its time in microseconds to the file NAME.times, and keeps what it prints.
-time_once() {
-    local name=$1 start end
-    start=${EPOCHREALTIME/[.,]/}
-    "run_$name" >"$work/$name.out" || { echo "bench: $name failed" >&2; exit 1; }
-    end=${EPOCHREALTIME/[.,]/}
-    echo $((end - start)) >>"$work/$name.times"
-}
-
-# The shortest time, in microseconds.
-best_of() {
-    sort -n "$work/$1.times" | head -n 1
-}
-
-# The greatest memory of a run of the program, in kB: as GNU time tells it, or else the last value that was seen in
-# /proc, where it never falls. It prints nothing where neither is there.
-peak_of_program() {
-    local pid
-    if [ -x /usr/bin/time ]; then
-        /usr/bin/time -f %M -o "$work/peak" "$program" plain "$work/plain.sql" >/dev/null && cat "$work/peak"
-        return
-    fi
-    [ -r /proc/self/status ] || return
-    "$program" plain "$work/plain.sql" >/dev/null &
-    pid=$!
-    while kill -0 "$pid" 2>/dev/null; do
-        awk '/^VmHWM/ { print $2 }' "/proc/$pid/status" 2>/dev/null
-    done | tail -n 1
-}
-
 make_tables
 make_script >"$work/plain.sql"
 combinations=$(ask_sqlite 'count(*)' '') || exit
 
-if [ -n "${RANKSQL:-}" ]; then
-    program=$RANKSQL
-else
-    "$root/ranksql" plain "$work/plain.sql" >/dev/null || exit
-    program=$root/crates/ranksql/out/ranksql
-fi
+find_program
 
 echo "three tables of $ROWS rows; the first 10 of $combinations combinations by score; the best of $RUNS runs"
 for _ in $(seq "$RUNS"); do
@@ -127,11 +85,7 @@ for _ in $(seq "$RUNS"); do
     done
     # sqlite3 prints no rank.
     awk '{ print NR "," $0 }' "$work/sqlite.out" >"$work/wanted"
-    if ! cmp -s "$work/wanted" "$work/ranksql.out"; then
-        echo "bench: the rows differ" >&2
-        diff "$work/wanted" "$work/ranksql.out" >&2
-        exit 1
-    fi
+    same_or_fail 'the rows' "$work/wanted" "$work/ranksql.out"
 done
 if [ "$(wc -l <"$work/ranksql.out")" -ne 10 ]; then
     echo "bench: there are not ten rows" >&2
@@ -141,11 +95,10 @@ echo "both print the same 10 rows"
 for name in ranksql sqlite; do
     awk -v name="$name" -v best="$(best_of "$name")" 'BEGIN { printf "%-8s %7.1f ms\n", name, best / 1000 }'
 done
-awk -v ours="$(best_of ranksql)" -v theirs="$(best_of sqlite)" \
-    'BEGIN { printf "ranksql takes %.2f of the time of sqlite3\n", ours / theirs }'
+compare_with_sqlite
 calls=$((combinations * TERMS))
 echo "ranksql calls the scorer $calls times, as reckoned: once for each combination and each of $TERMS terms"
-peak=$(peak_of_program)
+peak=$(peak_of "$program" plain "$work/plain.sql")
 if [ -n "$peak" ]; then
     awk -v peak="$peak" 'BEGIN { printf "ranksql holds at most %.1f MB of memory\n", peak * 1024 / 1000000 }'
 fi

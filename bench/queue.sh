@@ -5,16 +5,12 @@
 # same run, python3's heapq does the same with the same keys. Each runs five times, in turn, and the shortest time
 # counts. A push of rs_queue moves the pairs that come before its own, so its time grows with the pairs that are held.
 # The program is the one that `rt run` builds, or the one that the variable QUEUE_SPEED names.
-set -u -o pipefail
+# shellcheck source=bench/functions.sh
+. "$(dirname "$0")/functions.sh"
 
 HELD='1000 10000 100000'
 OPERATIONS=100000
 RUNS=5
-export LC_ALL=C
-
-root=$(cd "$(dirname "$0")/.." && pwd -P)
-work=$(mktemp -d) || exit 1
-trap 'rm -rf "$work"' EXIT
 
 run_rs_queue() {
     "$program" "$1" "$2"
@@ -45,24 +41,10 @@ work(int(sys.argv[1]), int(sys.argv[2]))
 PYTHON
 }
 
-# Runs one, adds its time in microseconds to the file NAME.HELD.OPERATIONS, and keeps what it prints.
-time_once() {
-    local name=$1 held=$2 operations=$3 start end
-    start=${EPOCHREALTIME/[.,]/}
-    "run_$name" "$held" "$operations" >"$work/$name.out" || { echo "bench: $name failed" >&2; exit 1; }
-    end=${EPOCHREALTIME/[.,]/}
-    echo $((end - start)) >>"$work/$name.$held.$operations"
-}
-
-# The shortest time, in microseconds.
-best_of() {
-    sort -n "$work/$1.$2.$3" | head -n 1
-}
-
 report() {
     local filled worked
-    filled=$(best_of "$1" "$2" 0)
-    worked=$(best_of "$1" "$2" "$OPERATIONS")
+    filled=$(best_of "$1" ".$2.0")
+    worked=$(best_of "$1" ".$2.$OPERATIONS")
     awk -v name="$1" -v held="$2" -v filled="$filled" -v worked="$worked" -v operations="$OPERATIONS" \
         'BEGIN { printf "%-8s %6d held: %8.3f us an operation; filled and started in %8.1f ms\n", \
             name, held, (worked - filled) / operations, filled / 1000 }'
@@ -87,12 +69,10 @@ for held in $HELD; do
     for _ in $(seq "$RUNS"); do
         for operations in 0 "$OPERATIONS"; do
             for name in "${names[@]}"; do
-                time_once "$name" "$held" "$operations"
+                time_once "$name" ".$held.$operations" "$held" "$operations"
             done
-            if [ "${#names[@]}" -gt 1 ] && ! cmp -s "$work/rs_queue.out" "$work/heapq.out"; then
-                echo "bench: the checksums differ" >&2
-                diff "$work/heapq.out" "$work/rs_queue.out" >&2
-                exit 1
+            if [ "${#names[@]}" -gt 1 ]; then
+                same_or_fail 'the checksums' "$work/heapq.out" "$work/rs_queue.out"
             fi
         done
     done

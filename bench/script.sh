@@ -4,22 +4,15 @@
 # SQLite of python3 prepares the same statements over an empty table. Each runs five times, in turn, and the shortest
 # time counts. The statements are of the language, so the program reads all of the script before it tells that there is no
 # table of the first one. The program is the one that ./ranksql builds, or the one that the variable RANKSQL names.
-set -u -o pipefail
+# shellcheck source=bench/functions.sh
+. "$(dirname "$0")/functions.sh"
 
 BYTES=1048576
 STATEMENTS=800
 RUNS=5
 WANTED='script: bind NoTable at '
-export LC_ALL=C
 
-root=$(cd "$(dirname "$0")/.." && pwd -P)
-work=$(mktemp -d) || exit 1
-trap 'rm -rf "$work"' EXIT
-
-if ! command -v python3 >/dev/null 2>&1; then
-    echo "bench: python3 is not found: it makes the scripts and takes the times" >&2
-    exit 1
-fi
+needs python3 'it makes the scripts and takes the times'
 
 # Three kinds of queries in turn, each of 125 tokens: a long list of columns, a long condition, and a long sum. A comment
 # in front of each fills it up to its share of the bytes, and one at the end fills the script. Each run makes the same
@@ -138,12 +131,5 @@ make_scripts || exit
 echo "scripts of $(wc -c <"$work/whole.sql"), $(wc -c <"$work/half.sql") and $(wc -c <"$work/quarter.sql") bytes;" \
     "125 tokens in each of $STATEMENTS statements and of a half and a quarter of them; the best of $RUNS runs"
 
-if [ -n "${RANKSQL:-}" ]; then
-    program=$RANKSQL
-else
-    # It builds the program where that is needed; what it tells of the script isn't shown.
-    "$root/ranksql" plain "$work/quarter.sql" 2>&1 >/dev/null | grep -v "^$WANTED" >&2
-    [ "${PIPESTATUS[0]}" -ne 70 ] || exit 70
-    program=$root/crates/ranksql/out/ranksql
-fi
+find_program
 measure

@@ -2,16 +2,12 @@
 # Measures `ranksql top` on the greatest table that it reads, and beside it, in the same run, sqlite3 that imports the
 # same file and answers the same query. Each runs five times, in turn, and the shortest time counts.
 # The program is the one that ./ranksql builds, or the one that the variable RANKSQL names.
-set -u -o pipefail
+# shellcheck source=bench/functions.sh
+. "$(dirname "$0")/functions.sh"
 
 ROWS=131072
 MAX=99999
 RUNS=5
-export LC_ALL=C
-
-root=$(cd "$(dirname "$0")/.." && pwd -P)
-work=$(mktemp -d) || exit 1
-trap 'rm -rf "$work"' EXIT
 
 # A table of names and cities, a price from 0 to MAX and a number of rooms. The numbers are those of the generator
 # x -> 16807 x modulo 2^31 - 1, so each run makes the same file.
@@ -33,70 +29,43 @@ make_table() {
         }'
 }
 
+# Sets `words` to the command of a side. The table of sqlite3 is in memory, and a number column is declared, so that it
+# has nothing to convert in the query.
+set_words() {
+    case $1 in
+        ranksql) words=("$program" top "$work/table.csv" price "$MAX" 10) ;;
+        sqlite)
+            words=(sqlite3 -batch :memory:
+                -cmd 'CREATE TABLE t(name TEXT, city TEXT, price INTEGER, rooms INTEGER);'
+                -cmd ".import --csv --skip 1 $work/table.csv t"
+                -cmd '.mode list' -cmd '.separator ,'
+                'SELECT price, name, city, price, rooms FROM t ORDER BY price DESC, rowid LIMIT 10;')
+            ;;
+    esac
+}
+
 run_ranksql() {
-    "$program" top "$work/table.csv" price "$MAX" 10
+    set_words ranksql
+    "${words[@]}"
 }
 
-# The table is in memory, and a number column is declared, so that sqlite3 has nothing to convert in the query.
 run_sqlite() {
-    sqlite3 -batch :memory: \
-        -cmd 'CREATE TABLE t(name TEXT, city TEXT, price INTEGER, rooms INTEGER);' \
-        -cmd ".import --csv --skip 1 $work/table.csv t" \
-        -cmd '.mode list' -cmd '.separator ,' \
-        'SELECT price, name, city, price, rooms FROM t ORDER BY price DESC, rowid LIMIT 10;' </dev/null
-}
-
-# Runs a command, adds its time in microseconds to the file NAME.times, and keeps what it prints.
-time_once() {
-    local name=$1 start end
-    start=${EPOCHREALTIME/[.,]/}
-    "run_$name" >"$work/$name.out" || { echo "bench: $name failed" >&2; exit 1; }
-    end=${EPOCHREALTIME/[.,]/}
-    echo $((end - start)) >>"$work/$name.times"
-}
-
-# The greatest memory of a run, in kB: as GNU time tells it, or else the greatest value that was seen in /proc.
-peak_of() {
-    local name=$1 pid pid_of_run
-    if [ -x /usr/bin/time ]; then
-        export -f "run_$name"
-        export program work MAX
-        /usr/bin/time -f %M -o "$work/peak" bash -c "run_$name" >/dev/null && cat "$work/peak"
-        return
-    fi
-    "run_$name" >/dev/null &
-    pid=$!
-    while kill -0 "$pid" 2>/dev/null; do
-        # shellcheck disable=SC2013
-        for pid_of_run in $(cat "/proc/$pid/task/$pid/children" 2>/dev/null); do
-            awk '/^VmHWM/ { print $2 }' "/proc/$pid_of_run/status" 2>/dev/null
-        done
-    done | sort -n | tail -n 1
-}
-
-# The shortest time, in microseconds.
-best_of() {
-    sort -n "$work/$1.times" | head -n 1
+    set_words sqlite
+    "${words[@]}" </dev/null
 }
 
 report() {
-    local best peak
-    best=$(best_of "$1")
-    peak=$(peak_of "$1")
-    awk -v name="$1" -v best="$best" -v peak="$peak" \
+    local peak
+    set_words "$1"
+    peak=$(peak_of "${words[@]}")
+    awk -v name="$1" -v best="$(best_of "$1")" -v peak="$peak" \
         'BEGIN { printf "%-8s %7.1f ms, at most %6.1f MB of memory\n", name, best / 1000, peak * 1024 / 1000000 }'
 }
 
 make_table >"$work/table.csv"
 echo "a table of $ROWS rows, $(wc -c <"$work/table.csv") bytes; the first 10 rows by price; the best of $RUNS runs"
 
-if [ -n "${RANKSQL:-}" ]; then
-    program=$RANKSQL
-else
-    "$root/ranksql" top "$work/table.csv" price "$MAX" 0 || exit
-    program=$root/crates/ranksql/out/ranksql
-fi
-
+find_program
 names=(ranksql)
 if command -v sqlite3 >/dev/null 2>&1; then
     names+=(sqlite)
@@ -114,14 +83,9 @@ done
 if [ "${#names[@]}" -lt 2 ]; then
     exit 0
 fi
-awk -v ours="$(best_of ranksql)" -v theirs="$(best_of sqlite)" \
-    'BEGIN { printf "ranksql takes %.2f of the time of sqlite3\n", ours / theirs }'
+compare_with_sqlite
 
 # sqlite3 prints no rank.
-if awk '{ print NR "," $0 }' "$work/sqlite.out" | cmp -s - "$work/ranksql.out"; then
-    echo "both print the same 10 rows"
-else
-    echo "bench: the rows differ" >&2
-    diff <(awk '{ print NR "," $0 }' "$work/sqlite.out") "$work/ranksql.out" >&2
-    exit 1
-fi
+awk '{ print NR "," $0 }' "$work/sqlite.out" >"$work/wanted"
+same_or_fail 'the rows' "$work/wanted" "$work/ranksql.out"
+echo "both print the same 10 rows"
