@@ -8,8 +8,6 @@ mod parser;
 mod script;
 mod select;
 mod statement;
-#[cfg(test)]
-mod tests;
 
 pub use fault::SyntaxFault;
 pub use name::{Arg, ColRef, Name};
