@@ -1,6 +1,6 @@
-//! What no clause says: that reading succeeds with ample memory.
+//! Lexemes.
 
-use crate::{Kind, Lexeme, lexemes};
+use rs_grammar::{Kind, Lexeme, lexemes};
 use rs_lex::{MOST_BYTES, tokens};
 use rs_value::Text;
 use std::alloc::Global;
@@ -14,8 +14,46 @@ fn lexemes_of(rt: &impl Abort, alloc: Global, script: &str) -> Result<Vec<Lexeme
     Ok(lexemes(alloc, &text, tokens.as_slice())?)
 }
 
-/// Compares the lexemes of a script with kinds, texts and numbers.
-fn compare(
+/// Scripts, and the kinds, texts and numbers of their lexemes.
+const LEXEMES: [(&str, &[(Kind, &str, i64)]); 4] = [
+    (
+        "sELECT*From Hotels WHERE a!='it''s' Asc;",
+        &[
+            (Kind::Select, "", 0),
+            (Kind::Star, "", 0),
+            (Kind::From, "", 0),
+            (Kind::Name, "Hotels", 0),
+            (Kind::Where, "", 0),
+            (Kind::Name, "a", 0),
+            (Kind::NotEqual, "", 0),
+            (Kind::Literal, "it's", 0),
+            (Kind::Foreign, "", 0),
+            (Kind::Semicolon, "", 0),
+        ],
+    ),
+    (
+        "Rank \"rank\" \"x\"\"y\" ranks<>007",
+        &[
+            (Kind::Rank, "Rank", 0),
+            (Kind::Name, "rank", 0),
+            (Kind::Name, "x\"y", 0),
+            (Kind::Name, "ranks", 0),
+            (Kind::NotEqual, "", 0),
+            (Kind::Number, "", 7),
+        ],
+    ),
+    (
+        "4000000000000000000'é' ''",
+        &[
+            (Kind::Number, "", 4_000_000_000_000_000_000),
+            (Kind::Literal, "é", 0),
+            (Kind::Literal, "", 0),
+        ],
+    ),
+    ("-- only this", &[]),
+];
+
+fn assert_lexemes(
     rt: &impl Abort,
     alloc: Global,
     script: &str,
@@ -23,8 +61,8 @@ fn compare(
 ) -> Result<(), Fail> {
     let made = lexemes_of(rt, alloc, script)?;
     assert_eq!(rt; made.len(), wanted.len(), "at {script}");
-    for (i, lexeme) in made.iter().enumerate() {
-        let (kind, text, number) = wanted[i];
+    for (lexeme, want) in made.iter().zip(wanted) {
+        let (kind, text, number) = *want;
         assert!(rt; lexeme.kind.is(kind), "{lexeme:?} at {script}");
         assert_eq!(rt; lexeme.text.as_str(), text, "at {script}");
         assert_eq!(rt; lexeme.number, number, "at {script}");
@@ -34,39 +72,8 @@ fn compare(
 
 #[test]
 fn tells_kinds_texts_and_numbers(rt: HostRuntime) -> Result<(), Fail> {
-    let query = [
-        (Kind::Select, "", 0),
-        (Kind::Star, "", 0),
-        (Kind::From, "", 0),
-        (Kind::Name, "Hotels", 0),
-        (Kind::Where, "", 0),
-        (Kind::Name, "a", 0),
-        (Kind::NotEqual, "", 0),
-        (Kind::Literal, "it's", 0),
-        (Kind::Foreign, "", 0),
-        (Kind::Semicolon, "", 0),
-    ];
-    let names = [
-        (Kind::Rank, "Rank", 0),
-        (Kind::Name, "rank", 0),
-        (Kind::Name, "x\"y", 0),
-        (Kind::Name, "ranks", 0),
-        (Kind::NotEqual, "", 0),
-        (Kind::Number, "", 7),
-    ];
-    let ends = [
-        (Kind::Number, "", 4_000_000_000_000_000_000),
-        (Kind::Literal, "é", 0),
-        (Kind::Literal, "", 0),
-    ];
-    let query_text = "sELECT*From Hotels WHERE a!='it''s' Asc;";
-    compare(&rt, rt.alloc(), query_text, &query)?;
-    compare(
-        &rt,
-        rt.alloc(),
-        "Rank \"rank\" \"x\"\"y\" ranks<>007",
-        &names,
-    )?;
-    compare(&rt, rt.alloc(), "4000000000000000000'é' ''", &ends)?;
-    compare(&rt, rt.alloc(), "-- only this", &[])
+    for (script, wanted) in LEXEMES {
+        assert_lexemes(&rt, rt.alloc(), script, wanted)?;
+    }
+    Ok(())
 }
