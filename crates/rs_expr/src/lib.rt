@@ -8,8 +8,6 @@ mod laws;
 mod mem_scorer;
 mod predicate;
 mod scorer;
-#[cfg(test)]
-mod tests;
 mod width;
 
 pub use expr::{Cond, Expr, TextSide};

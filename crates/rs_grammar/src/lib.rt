@@ -3,8 +3,6 @@
 
 mod kind;
 mod lexeme;
-#[cfg(test)]
-mod tests;
 mod word;
 
 pub use kind::Kind;

@@ -2,7 +2,5 @@
 #![tactic(auto)]
 
 mod row;
-#[cfg(test)]
-mod tests;
 
 pub use row::row_line;

@@ -8,8 +8,6 @@ mod mem_files;
 mod mem_sink;
 mod out_sink;
 mod sink;
-#[cfg(test)]
-mod tests;
 
 pub use dir_files::DirFiles;
 pub use files::{FetchFault, Files};

@@ -67,7 +67,7 @@ fn write_flushed<W: Write>(to: &mut W, bytes: &[u8]) -> Result<(), SinkFault>
 
 impl<W> OutSink<W> {
     /// A sink that writes to this writer.
-    pub(crate) fn new(to: W) -> OutSink<W>
+    pub fn new(to: W) -> OutSink<W>
         ensures { result ≡ record { writer = to; faults = 0 } }
     {
         OutSink { to, faults: 0 }

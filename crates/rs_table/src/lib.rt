@@ -6,8 +6,6 @@ mod fault;
 mod records;
 mod schema;
 mod table;
-#[cfg(test)]
-mod tests;
 
 pub use fault::TableFault;
 pub use schema::Schema;

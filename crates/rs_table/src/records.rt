@@ -77,26 +77,3 @@ impl<'a> Records<'a> {
         Ok(found)
     }
 }
-
-#[cfg(test)]
-mod tests {
-    use super::Records;
-    use csv::ByteRecord;
-
-    #[test]
-    fn reads_each_record_and_then_none(rt: HostRuntime) {
-        let bytes: &[u8] = b"\xEF\xBB\xBFname,age\r\n\"Ada, \"\"A\"\"\",36,x\n\nAlan\r";
-        let mut records = Records::new(rt.alloc(), bytes);
-        let mut record_ = ByteRecord::new(rt.alloc());
-        let wanted: [(usize, &[u8]); 3] = [(2, b"name"), (3, b"Ada, \"A\""), (1, b"Alan")];
-        for (fields, first) in wanted {
-            assert_eq!(rt; records.read(&mut record_), Ok(true));
-            assert_eq!(rt; record_.len(), fields);
-            assert!(rt; record_.get(0) == Some(first));
-        }
-        for _ in 0..2 {
-            assert_eq!(rt; records.read(&mut record_), Ok(false));
-            assert!(rt; record_.is_empty());
-        }
-    }
-}

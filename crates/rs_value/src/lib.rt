@@ -16,6 +16,3 @@ pub use number::{GREATEST_INT, decimal_of, int_of};
 pub use rel::Rel;
 pub use text::{Text, TextFault};
 pub use value::Value;
-
-#[cfg(test)]
-mod tests;

@@ -1,0 +1,249 @@
+//! Files that are fetched, and sinks that are written.
+
+use rs_outside::{DirFiles, FetchFault, Files, MemFiles, MemSink, OutSink, Sink, SinkFault};
+use rs_value::Text;
+use std::alloc::Global;
+use std::process::Abort;
+use std::test::Fail;
+use std::{fs, io};
+
+fn text(alloc: Global, bytes: &[u8]) -> Result<Text, Fail> {
+    Ok(Text::from_bytes(alloc, bytes)?)
+}
+
+/// What a fetch answers, and then the whole buffer, which held `>`.
+fn fetch<F: Files>(
+    files: &mut F,
+    alloc: Global,
+    name: &str,
+    limit: usize,
+) -> Result<(Result<(), FetchFault>, Vec<u8>), Fail> {
+    let mut into = b">".to_vec(alloc)?;
+    let name = text(alloc, name.as_bytes())?;
+    let answer = files.fetch(&name, limit, &mut into);
+    Ok((answer, into))
+}
+
+/// Adds a file.
+fn add(files: &mut MemFiles, alloc: Global, name: &str, bytes: &str) -> Result<(), Fail> {
+    let bytes = bytes.as_bytes().to_vec(alloc)?;
+    files.add(text(alloc, name.as_bytes())?, bytes)?;
+    Ok(())
+}
+
+fn add_two_files(files: &mut MemFiles, alloc: Global) -> Result<(), Fail> {
+    add(files, alloc, "a", "old")?;
+    add(files, alloc, "b", "x,y")?;
+    add(files, alloc, "a", "newer")
+}
+
+/// A name, a limit, what the fetch answers, and what the buffer then holds.
+type Fetch = (&'static str, usize, Result<(), FetchFault>, &'static str);
+
+/// Fetches from the two files, and compares.
+fn assert_fetches(
+    rt: &impl Abort,
+    alloc: Global,
+    files: &mut MemFiles,
+    rows: &[Fetch],
+) -> Result<(), Fail> {
+    for (name, limit, answer, bytes) in rows {
+        let (got, into) = fetch(files, alloc, name, *limit)?;
+        assert_eq!(rt; got, *answer, "at {name}, {limit}");
+        assert_eq!(rt; into.as_slice(), bytes.as_bytes(), "at {name}, {limit}");
+    }
+    Ok(())
+}
+
+const FETCHES: [Fetch; 4] = [
+    ("a", 9, Ok(()), ">newer"),
+    ("b", 3, Ok(()), ">x,y"),
+    ("b", 2, Err(FetchFault::TooLong), ">"),
+    ("c", 9, Err(FetchFault::Missing), ">"),
+];
+
+#[test]
+fn fetches_from_memory(rt: HostRuntime) -> Result<(), Fail> {
+    let mut files = MemFiles::new(rt.alloc());
+    add_two_files(&mut files, rt.alloc())?;
+    assert_fetches(&rt, rt.alloc(), &mut files, &FETCHES)
+}
+
+/// The second fetch is planned to fail.
+const PLANNED: [Fetch; 3] = [
+    ("b", 3, Ok(()), ">x,y"),
+    ("b", 3, Err(FetchFault::Failed), ">"),
+    ("b", 3, Ok(()), ">x,y"),
+];
+
+fn plan_the_second(files: &mut MemFiles, alloc: Global) -> Result<(), Fail> {
+    add_two_files(files, alloc)?;
+    files.fail_at(2)?;
+    Ok(())
+}
+
+#[test]
+fn fails_where_it_is_planned(rt: HostRuntime) -> Result<(), Fail> {
+    let mut files = MemFiles::new(rt.alloc());
+    plan_the_second(&mut files, rt.alloc())?;
+    assert_fetches(&rt, rt.alloc(), &mut files, &PLANNED)
+}
+
+/// The pieces that are put, `abcdefg` in all.
+const PIECES: [&[u8]; 3] = [b"abc", b"def", b"g"];
+
+/// Puts each piece, and counts those that failed.
+fn put_all<S: Sink>(sink: &mut S, pieces: &[&[u8]]) -> Result<u32, Fail> {
+    let mut failed = 0u32;
+    for piece in pieces {
+        match sink.put(piece) {
+            Ok(()) => {}
+            Err(SinkFault::Failed) => failed = failed.saturating_add(1),
+            Err(SinkFault::Memory) => return Err(Fail::new("no memory")),
+        }
+    }
+    Ok(failed)
+}
+
+/// Puts the pieces, of which so many fail.
+fn assert_puts<S: Sink>(rt: &impl Abort, sink: &mut S, failed: u32) -> Result<(), Fail> {
+    assert_eq!(rt; put_all(sink, &PIECES)?, failed, "how many fail");
+    Ok(())
+}
+
+/// A put that is planned to fail, and how many bytes it takes first; how many puts fail, and what is taken in all.
+const PUTS: [(u32, usize, u32, &str); 5] = [
+    (0, 0, 0, "abcdefg"),
+    (2, 2, 1, "abcdeg"),
+    (2, 0, 1, "abcg"),
+    (2, 9, 1, "abcdefg"),
+    (4, 0, 0, "abcdefg"),
+];
+
+fn sink_failing(alloc: Global, call: u32, after: usize) -> Result<MemSink, Fail> {
+    let mut sink = MemSink::new(alloc);
+    sink.fail_at(call, after)?;
+    Ok(sink)
+}
+
+#[test]
+fn puts_into_memory(rt: HostRuntime) -> Result<(), Fail> {
+    for (call, after, failed, bytes) in PUTS {
+        let mut sink = sink_failing(rt.alloc(), call, after)?;
+        assert_puts(&rt, &mut sink, failed)?;
+        assert_eq!(rt; sink.bytes(), bytes.as_bytes(), "at {call}, {after}");
+    }
+    Ok(())
+}
+
+/// The file that the test of the disk writes, 20,000 bytes long.
+const ON_DISK: &str = "rs_outside_fetches_from_the_disk.txt";
+
+/// A name, a limit, what the fetch answers, and how many bytes the buffer then holds.
+const ON_DISK_FETCHES: [(&str, usize, Result<(), FetchFault>, usize); 7] = [
+    (ON_DISK, 20_000, Ok(()), 20_001),
+    (ON_DISK, usize::MAX, Ok(()), 20_001),
+    (ON_DISK, 19_999, Err(FetchFault::TooLong), 1),
+    (ON_DISK, 0, Err(FetchFault::TooLong), 1),
+    (
+        "rs_outside_no_such_file.txt",
+        9,
+        Err(FetchFault::Missing),
+        1,
+    ),
+    (".", 9, Err(FetchFault::Failed), 1),
+    ("a\0b", 9, Err(FetchFault::Failed), 1),
+];
+
+/// Writes a file that is longer than two reads.
+fn write_long_file(rt: &HostRuntime) -> Result<(), Fail> {
+    let long = vec![in rt.alloc(); b'x'; 20_000]?;
+    fs::write(rt, ON_DISK, long.as_slice())?;
+    Ok(())
+}
+
+fn assert_length<F: Files>(
+    rt: &impl Abort,
+    alloc: Global,
+    files: &mut F,
+    name: &str,
+    limit: usize,
+    answer: Result<(), FetchFault>,
+    length: usize,
+) -> Result<(), Fail> {
+    let (got, into) = fetch(files, alloc, name, limit)?;
+    assert_eq!(rt; got, answer, "at {name}, {limit}");
+    assert_eq!(rt; into.len(), length, "at {name}, {limit}");
+    Ok(())
+}
+
+#[test]
+fn fetches_from_the_disk(rt: HostRuntime) -> Result<(), Fail> {
+    write_long_file(&rt)?;
+    let mut files = DirFiles::new(&rt);
+    for (name, limit, answer, length) in ON_DISK_FETCHES {
+        assert_length(&rt, rt.alloc(), &mut files, name, limit, answer, length)?;
+    }
+    fs::write(&rt, ON_DISK, b"")?;
+    assert_length(&rt, rt.alloc(), &mut files, ON_DISK, 0, Ok(()), 1)?;
+    fs::remove_file(&rt, ON_DISK)?;
+    Ok(())
+}
+
+/// A writer that takes two bytes at most, is interrupted before each write, and takes `room` bytes in all.
+#[derive(Drop)]
+struct Narrow {
+    taken: Vec<u8>,
+    room: usize,
+    interrupted: bool,
+    flushes: u32,
+}
+
+impl io::Write for Narrow {
+    fn write(&mut self, bytes: &[u8]) -> io::Result<usize> {
+        self.interrupted = !self.interrupted;
+        if self.interrupted {
+            return Err(io::Error::from(io::ErrorKind::Interrupted));
+        }
+        let count = bytes.len().min(self.room).min(2);
+        self.taken.extend_from_slice(&bytes[..count])?;
+        self.room -= count;
+        Ok(count)
+    }
+
+    fn flush(&mut self) -> io::Result<()> {
+        self.flushes = self.flushes.saturating_add(1);
+        Ok(())
+    }
+}
+
+/// The room of the writer; how many puts fail, how many flushes there are, and what is taken.
+const NARROW_PUTS: [(usize, u32, u32, &str); 3] = [
+    (9, 0, 3, "abcdefg"),
+    (5, 2, 1, "abcde"),
+    (3, 2, 1, "abc"),
+];
+
+#[test]
+fn puts_through_a_narrow_writer(rt: HostRuntime) -> Result<(), Fail> {
+    for (room, failed, flushes, bytes) in NARROW_PUTS {
+        let mut writer = Narrow {
+            taken: Vec::new(rt.alloc()),
+            room,
+            interrupted: false,
+            flushes: 0,
+        };
+        assert_puts(&rt, &mut OutSink::new(&mut writer), failed)?;
+        assert_eq!(rt; writer.taken.as_slice(), bytes.as_bytes(), "at {room}");
+        assert_eq!(rt; writer.flushes, flushes, "at {room}");
+    }
+    Ok(())
+}
+
+#[test]
+fn puts_on_the_streams(rt: HostRuntime) -> Result<(), Fail> {
+    let pieces = [b"rs_outside ".as_slice(), b"", b"writes\n"];
+    assert_eq!(rt; put_all(&mut OutSink::output(&rt), &pieces)?, 0);
+    assert_eq!(rt; put_all(&mut OutSink::error(&rt), &pieces)?, 0);
+    Ok(())
+}

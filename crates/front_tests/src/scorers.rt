@@ -1,0 +1,162 @@
+//! Predicates and scorers.
+
+ghost use Rattle.std.specs.Prelude.{◌≡◌, ◌∷◌, [], IfOk};
+ghost use Rattle.rs_value.specs.declared.kind.Kind.TheVariants as kind;
+
+use rs_expr::{Call, Expr, FormulaScorer, MemScorer, Predicate, Scorer, ScorerFault};
+use rs_value::{Kind, List, Memory, Text, Value};
+use std::alloc::Global;
+use std::process::Abort;
+use std::test::Fail;
+
+fn text(alloc: Global, bytes: &[u8]) -> Result<Text, Fail> {
+    Ok(Text::from_bytes(alloc, bytes)?)
+}
+
+fn number_kind(alloc: Global) -> Result<List<Kind>, Fail>
+    ensures { IfOk result (λ params. params ≡ kind.Int ∷ []) }
+{
+    Ok(List::of(vec![in alloc; Kind::Int]?))
+}
+
+/// A predicate of one number, with the score 2 a + 1.
+fn doubling(alloc: Global, name: &[u8]) -> Result<Predicate, Fail>
+    ensures { IfOk result (λ predicate. predicate.params ≡ kind.Int ∷ []) }
+{
+    let name = text(alloc, name)?;
+    let params = number_kind(alloc)?;
+    let two = Box::new(alloc, Expr::Int(2))?;
+    let argument = Box::new(alloc, Expr::Arg(0))?;
+    let product = Box::new(alloc, Expr::Mul(two, argument))?;
+    let one = Box::new(alloc, Expr::Int(1))?;
+    Ok(Predicate::new(name, params, 100, 5, Expr::Add(product, one)))
+}
+
+/// What a scorer answers.
+fn ask<S: Scorer>(scorer: &mut S, predicate: &Predicate, number: u8) -> Result<i128, ScorerFault>
+    requires { predicate.now.params ≡ kind.Int ∷ [] }
+{
+    scorer.score(predicate, &[Value::Int(i64::from(number))])
+}
+
+/// A number, and what a scorer answers.
+type Answer = (u8, Result<i128, ScorerFault>);
+
+/// Asserts what a scorer answers, one call after another.
+fn assert_answers<S: Scorer>(
+    rt: &impl Abort,
+    scorer: &mut S,
+    predicate: &Predicate,
+    answers: &[Answer],
+)
+    requires { predicate.now.params ≡ kind.Int ∷ [] }
+{
+    for (number, answer) in answers {
+        assert_eq!(rt; ask(scorer, predicate, *number), *answer, "at {number}");
+    }
+}
+
+/// Asserts that the calls are those of a predicate of this name with these numbers.
+fn assert_calls(rt: &impl Abort, calls: &[Call], name: &[u8], answers: &[Answer]) {
+    assert_eq!(rt; calls.len(), answers.len());
+    for (call, answer) in calls.iter().zip(answers) {
+        assert_eq!(rt; call.predicate.bytes(), name);
+        assert_eq!(rt;
+            call.args.items().as_slice(),
+            [Value::Int(i64::from(answer.0))].as_slice()
+        );
+    }
+}
+
+#[test]
+fn gives_the_parts_of_a_predicate(rt: HostRuntime) -> Result<(), Fail> {
+    let near = doubling(rt.alloc(), b"near")?;
+    assert_eq!(rt; near.name().bytes(), b"near".as_slice());
+    assert_eq!(rt; near.params(), [Kind::Int].as_slice());
+    assert_eq!(rt; near.max(), 100);
+    assert_eq!(rt; near.cost(), 5);
+    assert!(rt; matches!(near.formula(), Expr::Add(_, _)));
+    Ok(())
+}
+
+/// The values of the formula. The last one lies above the greatest score.
+const OF_FORMULA: [Answer; 4] = [(0, Ok(1)), (7, Ok(15)), (7, Ok(15)), (255, Ok(511))];
+
+#[test]
+fn answers_the_value_of_the_formula(rt: HostRuntime) -> Result<(), Fail> {
+    let near = doubling(rt.alloc(), b"near")?;
+    assert_answers(&rt, &mut FormulaScorer::new(), &near, &OF_FORMULA);
+    Ok(())
+}
+
+#[test]
+fn answers_the_value_where_no_score_is_written(rt: HostRuntime) -> Result<(), Fail> {
+    let near = doubling(rt.alloc(), b"near")?;
+    let mut scorer = MemScorer::new(rt.alloc());
+    assert_answers(&rt, &mut scorer, &near, &OF_FORMULA);
+    assert_calls(&rt, scorer.calls(), b"near", &OF_FORMULA);
+    Ok(())
+}
+
+/// Writes 70 for 7, over 60, and -3 for 8, and 90 for the text `9`.
+fn write_scores(scorer: &mut MemScorer, alloc: Global) -> Result<(), Fail> {
+    let near = text(alloc, b"near")?;
+    scorer.set(&near, &[Value::Int(7)], 60)?;
+    scorer.set(&near, &[Value::Int(8)], -3)?;
+    scorer.set(&near, &[Value::Int(7)], 70)?;
+    let nine = Value::Text(text(alloc, b"9")?);
+    scorer.set(&near, &[nine], 90)?;
+    Ok(())
+}
+
+const WRITTEN: [Answer; 4] = [(7, Ok(70)), (8, Ok(-3)), (9, Ok(19)), (7, Ok(70))];
+
+fn assert_written(rt: &impl Abort, alloc: Global, scorer: &mut MemScorer) -> Result<(), Fail> {
+    let near = doubling(alloc, b"near")?;
+    assert_answers(rt, scorer, &near, &WRITTEN);
+    assert_calls(rt, scorer.calls(), b"near", &WRITTEN);
+    Ok(())
+}
+
+/// Asserts that the scores are of one name alone.
+fn assert_far(rt: &impl Abort, alloc: Global, scorer: &mut MemScorer) -> Result<(), Fail> {
+    let far = doubling(alloc, b"far")?;
+    assert_answers(rt, scorer, &far, &[(7, Ok(15))]);
+    Ok(())
+}
+
+#[test]
+fn answers_the_last_score_that_is_written(rt: HostRuntime) -> Result<(), Fail> {
+    let mut scorer = MemScorer::new(rt.alloc());
+    write_scores(&mut scorer, rt.alloc())?;
+    assert_written(&rt, rt.alloc(), &mut scorer)?;
+    assert_far(&rt, rt.alloc(), &mut scorer)
+}
+
+/// The second and the fourth call are planned to fail.
+const PLANNED: [Answer; 5] = [
+    (7, Ok(70)),
+    (7, Err(ScorerFault::Failed)),
+    (7, Ok(70)),
+    (8, Err(ScorerFault::Failed)),
+    (8, Ok(17)),
+];
+
+fn plan(scorer: &mut MemScorer, name: &Text) -> Result<(), Memory> {
+    scorer.set(name, &[Value::Int(7)], 70)?;
+    scorer.fail_at(4)?;
+    scorer.fail_at(2)
+}
+
+fn assert_planned(rt: &impl Abort, alloc: Global, scorer: &mut MemScorer) -> Result<(), Fail> {
+    let near = doubling(alloc, b"near")?;
+    plan(scorer, near.name())?;
+    assert_answers(rt, scorer, &near, &PLANNED);
+    assert_calls(rt, scorer.calls(), b"near", &PLANNED);
+    Ok(())
+}
+
+#[test]
+fn fails_where_it_is_planned(rt: HostRuntime) -> Result<(), Fail> {
+    assert_planned(&rt, rt.alloc(), &mut MemScorer::new(rt.alloc()))
+}
