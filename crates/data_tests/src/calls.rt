@@ -9,15 +9,8 @@ pub(crate) fn compare_calls(rt: &impl Abort, calls: &[Call], numbers: &[i64]) {
     assert_eq!(rt; calls.len(), numbers.len());
     for (call, number) in calls.iter().zip(numbers) {
         assert_eq!(rt; call.predicate.bytes(), b"p".as_slice());
-        assert!(rt; is_number(call, *number), "{number}");
-    }
-}
-
-/// Whether a call has this number alone.
-fn is_number(call: &Call, want: i64) -> bool {
-    match call.args.items().as_slice() {
-        [Value::Int(number)] => *number == want,
-        _ => false,
+        let args = call.args.items();
+        assert!(rt; args.len() == 1 && is_number(&args[0], *number), "{number}");
     }
 }
 
@@ -26,16 +19,27 @@ pub(crate) fn compare_long_calls(rt: &impl Abort, calls: &[Call], numbers: &[i64
     assert_eq!(rt; calls.len(), numbers.len());
     for (call, number) in calls.iter().zip(numbers) {
         assert_eq!(rt; call.predicate.bytes(), b"q".as_slice());
-        assert!(rt; is_long(call, *number), "{number}");
+        let args = call.args.items();
+        assert!(rt;
+            args.len() == 3
+                && is_number(&args[0], 2)
+                && is_text(&args[1], b"a")
+                && is_number(&args[2], *number),
+            "{number}"
+        );
     }
 }
 
-/// Whether a call has the number 2, the text "a" and this number.
-fn is_long(call: &Call, want: i64) -> bool {
-    match call.args.items().as_slice() {
-        [Value::Int(2), Value::Text(text), Value::Int(number)] => {
-            text.bytes() == b"a".as_slice() && *number == want
-        }
-        _ => false,
+pub(crate) fn is_number(value: &Value, want: i64) -> bool {
+    match value {
+        Value::Int(number) => *number == want,
+        Value::Text(_) => false,
+    }
+}
+
+fn is_text(value: &Value, want: &[u8]) -> bool {
+    match value {
+        Value::Int(_) => false,
+        Value::Text(text) => text.bytes() == want,
     }
 }

@@ -1,6 +1,6 @@
 //! The block that joins two tables.
 
-ghost use Rattle.std.specs.Prelude.{◌≡◌, ◌∷◌, [], ℕ, IfOk, List, Some, length, pos};
+ghost use Rattle.std.specs.Prelude.{◌≡◌, ◌∷◌, [], IfOk, Some, length, pos};
 ghost use Rattle.rs_value.specs.declared.kind.Kind.TheVariants as kind;
 ghost use Rattle.rs_value.specs.declared.rel.Rel.TheVariants.{Eq};
 ghost use Rattle.rs_expr.specs.Formulas.{Argument, Numbers};
@@ -29,14 +29,11 @@ pub(crate) fn two_tables(rt: &impl Abort, alloc: Global) -> Result<Catalog, Fail
     catalogue(rt, alloc, &[Kind::Int, Kind::Int], 100, files)
 }
 
-/// Both tables, of the aliases "l" and "r".
-fn entries(alloc: Global) -> Result<Vec<(u8, Text)>, Fail>
-    ensures { IfOk result (λ entries. (left : List ℕ) × (right : List ℕ) × (entries.items ≡ (0, left) ∷ (1, right) ∷ [])) }
+/// Both tables, of these aliases.
+fn entries(alloc: Global, left: Text, right: Text) -> Result<Vec<(u8, Text)>, Fail>
+    ensures { IfOk result (λ entries. entries.items ≡ (0, left) ∷ (1, right) ∷ []) }
 {
-    let mut entries = Vec::new(alloc);
-    entries.push((0, text(alloc, "l")?))?;
-    entries.push((1, text(alloc, "r")?))?;
-    Ok(entries)
+    Ok(vec![in alloc; (0, left), (1, right)]?)
 }
 
 /// That their numbers are equal.
@@ -81,7 +78,8 @@ pub(crate) fn join(alloc: Global) -> Result<Block, Fail>
     ensures { IfOk result IsJoin }
 {
     let items = vec![in alloc; (2, 0), (1, 0)]?;
-    let from = entries(alloc)?;
+    let left = text(alloc, "l")?;
+    let from = entries(alloc, left, text(alloc, "r")?)?;
     let conjuncts = conjuncts(alloc)?;
     let terms = terms(alloc)?;
     Ok(Block {

@@ -7,6 +7,7 @@ ghost use Rattle.rs_query.specs.WellFormed.{IsBlock};
 ghost use Rattle.data_tests.specs.Joined.{IsJoin};
 ghost use Rattle.data_tests.specs.Tables.{HasPredicate};
 
+use crate::calls::is_number;
 use crate::joined::{both_rows, formed_join, join, two_tables};
 use rs_catalog::Catalog;
 use rs_query::Block;
@@ -26,12 +27,11 @@ const ROWS: [(u32, u32, i64, i64); 4] = [
 
 /// Asserts that values are these two numbers.
 fn compare(rt: &impl Abort, values: &[Value], first: i64, second: i64) {
-    match values {
-        [Value::Int(value), Value::Int(other)] => {
-            assert_eq!(rt; (*value, *other), (first, second));
-        }
-        _ => panic!(rt; "other values than {first} and {second}"),
-    }
+    assert_eq!(rt; values.len(), 2);
+    assert!(rt;
+        is_number(&values[0], first) && is_number(&values[1], second),
+        "{first}, {second}"
+    );
 }
 
 fn assert_args(

@@ -4,7 +4,7 @@ ghost use Rattle.std.specs.Prelude.{◌≡◌, ◌∷◌, [], length};
 ghost use Rattle.rs_value.specs.declared.kind.Kind.TheVariants as kind;
 ghost use Rattle.data_tests.specs.Tables.{HasPredicate};
 
-use crate::calls::compare_calls;
+use crate::calls::{compare_calls, is_number};
 use crate::sides::{query, two_sides};
 use crate::tables::text;
 use rs_catalog::Catalog;
@@ -12,7 +12,7 @@ use rs_expr::MemScorer;
 use rs_plain::{PlainFault, plain};
 use rs_rank::{Answer, Ids};
 use rs_syntax::SetOp;
-use rs_value::{List, Text, Value};
+use rs_value::{Text, Value};
 use std::alloc::Global;
 use std::process::Abort;
 use std::test::Fail;
@@ -135,15 +135,11 @@ fn compare_row(rt: &impl Abort, answer: &Answer, want: &Row) {
     let (block, row, score, value) = *want;
     assert_eq!(rt; answer.ids, ids(block, row));
     assert_eq!(rt; answer.score, score);
-    assert!(rt; is_number(&answer.values, value), "{value}");
-}
-
-/// Whether the values are this number alone.
-fn is_number(values: &List<Value>, want: i64) -> bool {
-    match values.items().as_slice() {
-        [Value::Int(number)] => *number == want,
-        _ => false,
-    }
+    let values = answer.values.items();
+    assert!(rt;
+        values.len() == 1 && is_number(&values[0], value),
+        "{value}"
+    );
 }
 
 fn ids(block: u8, row: u32) -> Ids {

@@ -1,6 +1,6 @@
 //! Queries of blocks of one table.
 
-ghost use Rattle.std.specs.Prelude.{◌≡◌, ◌≤◌, ◌<◌, ◌∷◌, [], ℕ, IfOk, IfSome, List, None, length, pos, true};
+ghost use Rattle.std.specs.Prelude.{◌≡◌, ◌≤◌, ◌<◌, ◌∷◌, [], IfOk, IfSome, None, length, pos, true};
 ghost use Rattle.rs_value.specs.declared.kind.Kind.TheVariants as kind;
 ghost use Rattle.rs_value.specs.declared.rel.Rel.TheVariants.{Ne};
 ghost use Rattle.rs_expr.specs.Formulas.{Argument, Constant, Numbers};
@@ -15,7 +15,7 @@ use rs_catalog::{BoundArg, Catalog};
 use rs_expr::{Cond, Expr};
 use rs_query::{Block, Conjunct, Query, Term};
 use rs_syntax::SetOp;
-use rs_value::{Kind, List, Rel, Text};
+use rs_value::{Kind, List, Rel};
 use std::alloc::Global;
 use std::process::Abort;
 use std::test::Fail;
@@ -27,15 +27,6 @@ pub(crate) fn two_sides(rt: &impl Abort, alloc: Global) -> Result<Catalog, Fail>
 {
     let files: (&[u8], &[u8]) = (b"k\n4\n7\n4\n2\n9\n7\n", b"k\n2\n5\n2\n4\n");
     catalogue(rt, alloc, &[Kind::Int], 10, files)
-}
-
-/// A table, of the alias "t".
-fn entries(alloc: Global, table: u8) -> Result<Vec<(u8, Text)>, Fail>
-    ensures { IfOk result (λ entries. (alias : List ℕ) × (entries.items ≡ (table, alias) ∷ [])) }
-{
-    let mut entries = Vec::new(alloc);
-    entries.push((table, text(alloc, "t")?))?;
-    Ok(entries)
 }
 
 /// That its number isn't 9.
@@ -78,7 +69,7 @@ fn side(alloc: Global, table: u8, distinct: bool) -> Result<Block, Fail>
     ensures { IfOk result (λ block. IsSide table block) }
 {
     let items = vec![in alloc; (1, 0)]?;
-    let from = entries(alloc, table)?;
+    let from = vec![in alloc; (table, text(alloc, "t")?)]?;
     let conjuncts = conjuncts(alloc)?;
     let terms = terms(alloc)?;
     Ok(Block {
