@@ -9,6 +9,7 @@ use rs_queue::{Queue, insert_has_the_pairs, insert_keeps_the_order, keys_come_be
 use rs_value::{Memory, Text};
 use std::alloc::Global;
 use std::cmp::Ordering;
+use std::process::Abort;
 use std::test::Fail;
 
 /// A key whose greater bound comes first, and at equal bounds the lesser row. The order doesn't look at the page.
@@ -77,83 +78,134 @@ fn queue_of<K: Ord + Copy + Drop>(alloc: Global, keys: &[K]) -> Result<Queue<K, 
     Ok(queue)
 }
 
+/// The keys that are put in, and the pairs that come out.
+const CASES: [(&[u32], &[(u32, u64)]); 6] = [
+    (&[], &[]),
+    (&[7], &[(7, 1)]),
+    (&[3, 1, 2], &[(1, 2), (2, 3), (3, 1)]),
+    (&[1, 2, 3, 4], &[(1, 1), (2, 2), (3, 3), (4, 4)]),
+    (&[4, 3, 2, 1], &[(1, 4), (2, 3), (3, 2), (4, 1)]),
+    (&[5, 0, u32::MAX, 5, 0], &[(0, 2), (5, 1), (u32::MAX, 3)]),
+];
+
+/// Asserts that the queue gives this pair.
+fn assert_first(rt: &impl Abort, queue: &mut Queue<u32, u64>, key: u32, item: u64) {
+    assert!(rt; !queue.is_empty(), "before {key}");
+    assert!(rt; queue.has_key(&key), "{key}");
+    assert_eq!(rt; queue.peek(), Some(&key));
+    assert_eq!(rt; queue.pop(), Some((key, item)));
+    assert!(rt; !queue.has_key(&key), "{key}");
+}
+
+/// Asserts that the queue gives these pairs, and then none.
+fn assert_pairs(rt: &impl Abort, queue: &mut Queue<u32, u64>, want: &[(u32, u64)]) {
+    assert_eq!(rt; queue.len(), want.len(), "for {want:?}");
+    for (key, item) in want {
+        assert_first(rt, queue, *key, *item);
+    }
+    assert!(rt; queue.is_empty(), "after {want:?}");
+    assert_eq!(rt; queue.peek(), None, "after {want:?}");
+    assert_eq!(rt; queue.pop(), None, "after {want:?}");
+}
+
 #[test]
 fn gives_the_least_key_first(rt: HostRuntime) -> Result<(), Fail> {
-    let cases: [(&[u32], &[(u32, u64)]); 6] = [
-        (&[], &[]),
-        (&[7], &[(7, 1)]),
-        (&[3, 1, 2], &[(1, 2), (2, 3), (3, 1)]),
-        (&[1, 2, 3, 4], &[(1, 1), (2, 2), (3, 3), (4, 4)]),
-        (&[4, 3, 2, 1], &[(1, 4), (2, 3), (3, 2), (4, 1)]),
-        (&[5, 0, u32::MAX, 5, 0], &[(0, 2), (5, 1), (u32::MAX, 3)]),
-    ];
-    for (keys, want) in cases {
+    for (keys, want) in CASES {
         let mut queue = queue_of(rt.alloc(), keys)?;
-        assert_eq!(rt; queue.len(), want.len(), "of {keys:?}");
-        for (key, item) in want {
-            assert!(rt; !queue.is_empty(), "of {keys:?}");
-            assert!(rt; queue.has_key(key), "{key} of {keys:?}");
-            assert_eq!(rt; queue.peek(), Some(key), "of {keys:?}");
-            assert_eq!(rt; queue.pop(), Some((*key, *item)), "of {keys:?}");
-            assert!(rt; !queue.has_key(key), "{key} of {keys:?}");
-        }
-        assert!(rt; queue.is_empty(), "of {keys:?}");
-        assert_eq!(rt; queue.peek(), None, "of {keys:?}");
-        assert_eq!(rt; queue.pop(), None, "of {keys:?}");
+        assert_pairs(&rt, &mut queue, want);
     }
     Ok(())
+}
+
+/// Keys and texts that are put in, and the first key after each.
+const STEPS: [(u32, &str, u32); 4] = [(5, "five", 5), (2, "two", 2), (9, "nine", 5), (1, "one", 1)];
+
+fn put_text(
+    alloc: Global,
+    queue: &mut Queue<u32, Text>,
+    key: u32,
+    chars: &str,
+) -> Result<(), Fail> {
+    let text = Text::from_bytes(alloc, chars.as_bytes())?;
+    Ok(put(queue, key, text)?)
+}
+
+/// Asserts that the queue gives this text.
+fn assert_text(rt: &impl Abort, queue: &mut Queue<u32, Text>, want: &str) {
+    let pair = queue.pop();
+    assert!(rt;
+        pair.is_some_and(|pair| pair.1.bytes() == want.as_bytes()),
+        "for {want}"
+    );
 }
 
 #[test]
 fn takes_pushes_between_pops(rt: HostRuntime) -> Result<(), Fail> {
     let mut queue = Queue::new(rt.alloc());
-    let steps: [(u32, &str, u32); 4] = [
-        (5, "five", 5),
-        (2, "two", 2),
-        (9, "nine", 5),
-        (1, "one", 1),
-    ];
-    for (key, text, first) in steps {
-        put(
-            &mut queue,
-            key,
-            Text::from_bytes(rt.alloc(), text.as_bytes())?,
-        )?;
+    for (key, text, first) in STEPS {
+        put_text(rt.alloc(), &mut queue, key, text)?;
         assert_eq!(rt; queue.peek(), Some(&first));
         if first == 2 {
-            let pair = queue.pop();
-            assert!(rt; pair.is_some_and(|pair| pair.1.bytes() == text.as_bytes()));
+            assert_text(&rt, &mut queue, text);
         }
     }
     for want in ["one", "five", "nine"] {
-        let pair = queue.pop();
-        assert!(rt;
-            pair.is_some_and(|pair| pair.1.bytes() == want.as_bytes()),
-            "for {want}"
-        );
+        assert_text(&rt, &mut queue, want);
     }
     assert!(rt; queue.is_empty());
     Ok(())
 }
 
-#[test]
-fn gives_keys_as_a_sort_does(rt: HostRuntime) -> Result<(), Fail> {
-    let mut keys = Vec::new(rt.alloc());
+/// A thousand numbers below 5,000.
+fn numbers(alloc: Global) -> Result<Vec<u32>, Memory> {
+    let mut numbers = Vec::new(alloc);
     let mut state = 12345u32;
     for _ in 0..1000 {
         state = state.wrapping_mul(1_664_525).wrapping_add(1_013_904_223);
-        keys.push(state % 5000)?;
+        numbers.push(state % 5000)?;
     }
-    let mut queue = queue_of(rt.alloc(), &keys)?;
-    keys.sort()?;
-    keys.dedup();
-    assert!(rt; keys.len() > 800);
-    for key in &keys {
+    Ok(numbers)
+}
+
+/// The same numbers as they rise, each once.
+fn rising_numbers(alloc: Global) -> Result<Vec<u32>, Memory> {
+    let mut numbers = numbers(alloc)?;
+    numbers.sort()?;
+    numbers.dedup();
+    Ok(numbers)
+}
+
+/// The queue of those numbers.
+fn queue_of_numbers(alloc: Global) -> Result<Queue<u32, u64>, Memory> {
+    let numbers = numbers(alloc)?;
+    queue_of(alloc, &numbers)
+}
+
+/// Asserts that the queue gives these keys.
+fn assert_keys(rt: &impl Abort, queue: &mut Queue<u32, u64>, keys: &[u32]) {
+    for key in keys {
         let first = queue.pop().map(|pair| pair.0);
         assert_eq!(rt; first, Some(*key));
     }
     assert!(rt; queue.is_empty());
+}
+
+#[test]
+fn gives_keys_as_a_sort_does(rt: HostRuntime) -> Result<(), Fail> {
+    let keys = rising_numbers(rt.alloc())?;
+    assert!(rt; keys.len() > 800);
+    let mut queue = queue_of_numbers(rt.alloc())?;
+    assert_keys(&rt, &mut queue, &keys);
     Ok(())
+}
+
+/// Asserts that the queue gives the keys of these pages and rows, with these items.
+fn assert_held(rt: &impl Abort, queue: &mut Queue<Held, u64>, want: &[(u8, u32, u64)]) {
+    for (page, row, place) in want {
+        let first = queue.pop().map(|pair| (pair.0.page, pair.0.row, pair.1));
+        assert_eq!(rt; first, Some((*page, *row, *place)));
+    }
+    assert!(rt; queue.is_empty());
 }
 
 #[test]
@@ -179,11 +231,7 @@ fn goes_by_the_order_of_the_key(rt: HostRuntime) -> Result<(), Fail> {
     let mut queue = queue_of(rt.alloc(), &keys)?;
     assert!(rt; queue.has_key(&held(10, 200, 1)));
     assert!(rt; !queue.has_key(&held(10, 3, 3)));
-    for (page, row, place) in want {
-        let first = queue.pop().map(|pair| (pair.0.page, pair.0.row, pair.1));
-        assert_eq!(rt; first, Some((page, row, place)));
-    }
-    assert!(rt; queue.is_empty());
+    assert_held(&rt, &mut queue, &want);
     Ok(())
 }
 
