@@ -5,7 +5,6 @@ pub mod EntryFacts
 pub mod ExtendFacts
 pub mod HoldFacts
 pub mod ItemFacts
-pub mod JoinedFacts
 pub mod ListFacts
 pub mod LocalFacts
 pub mod WeightFacts
