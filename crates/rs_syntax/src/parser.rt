@@ -1,10 +1,25 @@
 //! A parser by recursive descent, with one token ahead.
 
+/// What a step gives. Where it fails, the values that were read before it are let go of, and its fault is returned.
+/// At a `?` each of their parts would be let go of by itself, which takes long to prove.
+macro_rules! or_drop {
+    ($step:expr, $($read:ident),+) => {
+        match $step {
+            Ok(value) => value,
+            Err(fault) => {
+                $(drop($read);)+
+                return Err(fault);
+            }
+        }
+    };
+}
+
 mod blocks;
 mod cases;
 mod expressions;
 mod names;
 mod nodes;
+mod order;
 mod statements;
 mod terms;
 mod tokens;

@@ -24,12 +24,8 @@ impl Parser {
         ensures { Reads (Use select) select_of query_of self.old self.new result }
     {
         let left = self.block(alloc)?;
-        let right = self.right(alloc)?;
-        self.expect(Kind::Order)?;
-        self.expect(Kind::By)?;
-        let terms = self.terms(alloc)?;
-        let _ = self.accept(Kind::Desc)?;
-        let limit = self.numbered(Kind::Limit)?;
+        let right = or_drop!(self.right(alloc), left);
+        let (terms, limit) = or_drop!(self.order(alloc), left, right);
         Ok(Select {
             left,
             right,
@@ -90,9 +86,9 @@ impl Parser {
         self.expect(Kind::Select)?;
         let distinct = self.accept(Kind::Distinct)?;
         let items = self.items(alloc)?;
-        self.expect(Kind::From)?;
-        let from = self.entries(alloc)?;
-        let filter = self.filter(alloc)?;
+        or_drop!(self.expect(Kind::From), items);
+        let from = or_drop!(self.entries(alloc), items);
+        let filter = or_drop!(self.filter(alloc), items, from);
         Ok(BlockSyn {
             distinct,
             items,

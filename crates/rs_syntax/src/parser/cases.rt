@@ -31,12 +31,12 @@ impl Parser {
         let from = self.start();
         self.expect(Kind::Case)?;
         let first = self.when(alloc)?;
-        let others = self.whens(alloc)?;
-        self.expect(Kind::Else)?;
-        let otherwise = self.expr(alloc)?;
-        self.expect(Kind::End)?;
+        let others = or_drop!(self.whens(alloc), first);
+        or_drop!(self.expect(Kind::Else), first, others);
+        let otherwise = or_drop!(self.expr(alloc), first, others);
+        or_drop!(self.expect(Kind::End), first, others, otherwise);
         let at = self.since(from);
-        let rest = fold_cases(alloc, others, otherwise, at.end)?;
+        let rest = or_drop!(fold_cases(alloc, others, otherwise, at.end), first);
         case(alloc, first.condition, first.outcome, rest, at)
     }
 
@@ -61,8 +61,8 @@ impl Parser {
         let from = self.start();
         self.expect(Kind::When)?;
         let condition = self.expr(alloc)?;
-        self.expect(Kind::Then)?;
-        let outcome = self.expr(alloc)?;
+        or_drop!(self.expect(Kind::Then), condition);
+        let outcome = or_drop!(self.expr(alloc), condition);
         Ok(When {
             from,
             condition,
@@ -81,7 +81,7 @@ fn fold_cases(alloc: Global, mut parts: Vec<When>, otherwise: Node, to: u32) -> 
             start: part.from,
             end: to,
         };
-        rest = case(alloc, part.condition, part.outcome, rest, at)?;
+        rest = or_drop!(case(alloc, part.condition, part.outcome, rest, at), parts);
     }
     Ok(rest)
 }

@@ -26,8 +26,8 @@ impl Parser {
         let from = self.start();
         let mut node = self.conj(alloc)?;
         'more: while self.at(Kind::Or) {
-            self.expect(Kind::Or)?;
-            let right = self.conj(alloc)?;
+            or_drop!(self.expect(Kind::Or), node);
+            let right = or_drop!(self.conj(alloc), node);
             let at = self.since(from);
             node = or(alloc, node, right, at)?;
         }
@@ -42,8 +42,8 @@ impl Parser {
         let from = self.start();
         let mut node = self.neg(alloc)?;
         'more: while self.at(Kind::And) {
-            self.expect(Kind::And)?;
-            let right = self.neg(alloc)?;
+            or_drop!(self.expect(Kind::And), node);
+            let right = or_drop!(self.neg(alloc), node);
             let at = self.since(from);
             node = and(alloc, node, right, at)?;
         }
@@ -75,8 +75,8 @@ impl Parser {
         if !self.at_any(&COMPARISONS) {
             return Ok(left);
         }
-        let rel = self.comparison()?;
-        let right = self.sum(alloc)?;
+        let rel = or_drop!(self.comparison(), left);
+        let right = or_drop!(self.sum(alloc), left);
         let at = self.since(from);
         compare(alloc, rel, left, right, at)
     }
@@ -89,8 +89,8 @@ impl Parser {
         let from = self.start();
         let mut node = self.prod(alloc)?;
         'more: while self.at_any(&[Kind::Plus, Kind::Minus]) {
-            let op = self.adding()?;
-            let right = self.prod(alloc)?;
+            let op = or_drop!(self.adding(), node);
+            let right = or_drop!(self.prod(alloc), node);
             let at = self.since(from);
             node = arith(alloc, op, node, right, at)?;
         }
@@ -105,8 +105,8 @@ impl Parser {
         let from = self.start();
         let mut node = self.sign(alloc)?;
         'more: while self.at_any(&[Kind::Star, Kind::Slash]) {
-            let op = self.multiplying()?;
-            let right = self.sign(alloc)?;
+            let op = or_drop!(self.multiplying(), node);
+            let right = or_drop!(self.sign(alloc), node);
             let at = self.since(from);
             node = arith(alloc, op, node, right, at)?;
         }
@@ -175,9 +175,10 @@ impl Parser {
             let column = self.qualified(Name { text, at: word })?;
             return Ok(Node::Column(column));
         }
+        drop(text);
         self.expect(Kind::OpenBracket)?;
         let part = self.expr(alloc)?;
-        self.expect(Kind::CloseBracket)?;
+        or_drop!(self.expect(Kind::CloseBracket), part);
         let at = self.since(word.start);
         abs(alloc, part, at)
     }
@@ -198,11 +199,12 @@ impl Parser {
             let column = self.qualified(Name { text, at: word })?;
             return Ok(Node::Column(column));
         }
+        drop(text);
         self.expect(Kind::OpenBracket)?;
         let first = self.expr(alloc)?;
-        self.expect(Kind::Comma)?;
-        let second = self.expr(alloc)?;
-        self.expect(Kind::CloseBracket)?;
+        or_drop!(self.expect(Kind::Comma), first);
+        let second = or_drop!(self.expr(alloc), first);
+        or_drop!(self.expect(Kind::CloseBracket), first, second);
         let at = self.since(word.start);
         if kind.is(Kind::Min) {
             least(alloc, first, second, at)
@@ -218,7 +220,7 @@ impl Parser {
     {
         self.expect(Kind::OpenBracket)?;
         let node = self.expr(alloc)?;
-        self.expect(Kind::CloseBracket)?;
+        or_drop!(self.expect(Kind::CloseBracket), node);
         Ok(node)
     }
 

@@ -1,5 +1,7 @@
+ghost use Rattle.std.specs.Prelude.{◌≡◌, IfErr, IfOk};
 ghost use Rattle.rs_syntax.specs.Makes.{Makes};
 ghost use Rattle.rs_syntax.specs.Syntax.{Abs, And, Arith, Case, Compare, Greatest, Least, Neg, Not, Or, expression_of};
+ghost use Rattle.rs_syntax.specs.declared.parser.Fault.TheVariants.{Memory};
 
 use crate::node::{Node, Op};
 use crate::parser::Fault;
@@ -16,6 +18,24 @@ impl<T: Drop> From<AllocFailed<T>> for Fault {
     fn from(_: AllocFailed<T>) -> Fault {
         Fault::Memory
     }
+}
+
+/// Each of two nodes in a box.
+fn boxes(alloc: Global, left: Node, right: Node) -> Result<(Box<Node>, Box<Node>), Fault>
+    ensures left { IfOk result (λ made. made.0.value ≡ left) }
+    ensures right { IfOk result (λ made. made.1.value ≡ right) }
+    ensures memory { IfErr result (λ fault. fault ≡ Memory) }
+{
+    let left = match Box::new(alloc, left) {
+        Ok(left) => left,
+        Err(failed) => {
+            drop(failed);
+            drop(right);
+            return Err(Fault::Memory);
+        }
+    };
+    let right = Box::new(alloc, right)?;
+    Ok((left, right))
 }
 
 pub fn neg(alloc: Global, part: Node, at: Span) -> Result<Node, Fault>
@@ -39,48 +59,42 @@ pub fn abs(alloc: Global, part: Node, at: Span) -> Result<Node, Fault>
 pub fn arith(alloc: Global, op: Op, left: Node, right: Node, at: Span) -> Result<Node, Fault>
     ensures { Makes (Arith op (expression_of left) (expression_of right) at) result }
 {
-    let left = Box::new(alloc, left)?;
-    let right = Box::new(alloc, right)?;
+    let (left, right) = boxes(alloc, left, right)?;
     Ok(Node::Arith(op, left, right, at))
 }
 
 pub fn compare(alloc: Global, rel: Rel, left: Node, right: Node, at: Span) -> Result<Node, Fault>
     ensures { Makes (Compare rel (expression_of left) (expression_of right) at) result }
 {
-    let left = Box::new(alloc, left)?;
-    let right = Box::new(alloc, right)?;
+    let (left, right) = boxes(alloc, left, right)?;
     Ok(Node::Compare(rel, left, right, at))
 }
 
 pub fn and(alloc: Global, left: Node, right: Node, at: Span) -> Result<Node, Fault>
     ensures { Makes (And (expression_of left) (expression_of right) at) result }
 {
-    let left = Box::new(alloc, left)?;
-    let right = Box::new(alloc, right)?;
+    let (left, right) = boxes(alloc, left, right)?;
     Ok(Node::And(left, right, at))
 }
 
 pub fn or(alloc: Global, left: Node, right: Node, at: Span) -> Result<Node, Fault>
     ensures { Makes (Or (expression_of left) (expression_of right) at) result }
 {
-    let left = Box::new(alloc, left)?;
-    let right = Box::new(alloc, right)?;
+    let (left, right) = boxes(alloc, left, right)?;
     Ok(Node::Or(left, right, at))
 }
 
 pub fn least(alloc: Global, left: Node, right: Node, at: Span) -> Result<Node, Fault>
     ensures { Makes (Least (expression_of left) (expression_of right) at) result }
 {
-    let left = Box::new(alloc, left)?;
-    let right = Box::new(alloc, right)?;
+    let (left, right) = boxes(alloc, left, right)?;
     Ok(Node::Least(left, right, at))
 }
 
 pub fn greatest(alloc: Global, left: Node, right: Node, at: Span) -> Result<Node, Fault>
     ensures { Makes (Greatest (expression_of left) (expression_of right) at) result }
 {
-    let left = Box::new(alloc, left)?;
-    let right = Box::new(alloc, right)?;
+    let (left, right) = boxes(alloc, left, right)?;
     Ok(Node::Greatest(left, right, at))
 }
 
@@ -93,8 +107,7 @@ pub fn case(
 ) -> Result<Node, Fault>
     ensures { Makes (Case (expression_of condition) (expression_of outcome) (expression_of rest) at) result }
 {
-    let condition = Box::new(alloc, condition)?;
-    let outcome = Box::new(alloc, outcome)?;
+    let (condition, outcome) = or_drop!(boxes(alloc, condition, outcome), rest);
     let rest = Box::new(alloc, rest)?;
     Ok(Node::Case(condition, outcome, rest, at))
 }

@@ -67,11 +67,11 @@ impl Parser {
     {
         self.expect(Kind::Table)?;
         let name = self.name()?;
-        self.expect(Kind::OpenBracket)?;
-        let columns = self.columns(alloc)?;
-        self.expect(Kind::CloseBracket)?;
-        self.expect(Kind::From)?;
-        let (file, _) = self.literal()?;
+        or_drop!(self.expect(Kind::OpenBracket), name);
+        let columns = or_drop!(self.columns(alloc), name);
+        or_drop!(self.expect(Kind::CloseBracket), name, columns);
+        or_drop!(self.expect(Kind::From), name, columns);
+        let (file, _) = or_drop!(self.literal(), name, columns);
         Ok(Statement::CreateTable {
             name,
             columns,
@@ -85,14 +85,14 @@ impl Parser {
     {
         self.expect(Kind::Predicate)?;
         let name = self.name()?;
-        self.expect(Kind::OpenBracket)?;
-        let params = self.columns(alloc)?;
-        self.expect(Kind::CloseBracket)?;
-        self.expect(Kind::Max)?;
-        let max = self.number()?;
-        let cost = self.numbered(Kind::Cost)?;
-        self.expect(Kind::As)?;
-        let formula = self.expr(alloc)?;
+        or_drop!(self.expect(Kind::OpenBracket), name);
+        let params = or_drop!(self.columns(alloc), name);
+        or_drop!(self.expect(Kind::CloseBracket), name, params);
+        or_drop!(self.expect(Kind::Max), name, params);
+        let max = or_drop!(self.number(), name, params);
+        let cost = or_drop!(self.numbered(Kind::Cost), name, params);
+        or_drop!(self.expect(Kind::As), name, params);
+        let formula = or_drop!(self.expr(alloc), name, params);
         Ok(Statement::CreatePredicate {
             name,
             params,
@@ -109,16 +109,28 @@ impl Parser {
         self.expect(Kind::Rank)?;
         self.expect(Kind::Index)?;
         let name = self.name()?;
-        self.expect(Kind::On)?;
-        let table = self.name()?;
-        self.expect(Kind::OpenBracket)?;
+        or_drop!(self.expect(Kind::On), name);
+        let table = or_drop!(self.name(), name);
+        or_drop!(self.expect(Kind::OpenBracket), name, table);
         let from = self.start();
-        let predicate = self.name()?;
-        self.expect(Kind::OpenBracket)?;
-        let args = self.args(alloc)?;
-        self.expect(Kind::CloseBracket)?;
+        let predicate = or_drop!(self.name(), name, table);
+        or_drop!(self.expect(Kind::OpenBracket), name, table, predicate);
+        let args = or_drop!(self.args(alloc), name, table, predicate);
+        or_drop!(
+            self.expect(Kind::CloseBracket),
+            name,
+            table,
+            predicate,
+            args
+        );
         let at = self.since(from);
-        self.expect(Kind::CloseBracket)?;
+        or_drop!(
+            self.expect(Kind::CloseBracket),
+            name,
+            table,
+            predicate,
+            args
+        );
         Ok(Statement::CreateRankIndex {
             name,
             table,
@@ -134,9 +146,9 @@ impl Parser {
     {
         self.expect(Kind::Declare)?;
         let name = self.name()?;
-        self.expect(Kind::Cursor)?;
-        self.expect(Kind::For)?;
-        let select = self.select(alloc)?;
+        or_drop!(self.expect(Kind::Cursor), name);
+        or_drop!(self.expect(Kind::For), name);
+        let select = or_drop!(self.select(alloc), name);
         Ok(Statement::Declare { name, select })
     }
 

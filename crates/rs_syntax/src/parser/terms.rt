@@ -34,9 +34,9 @@ impl Parser {
         let from = self.start();
         let weight = self.weight()?;
         let predicate = self.name()?;
-        self.expect(Kind::OpenBracket)?;
-        let args = self.args(alloc)?;
-        self.expect(Kind::CloseBracket)?;
+        or_drop!(self.expect(Kind::OpenBracket), predicate);
+        let args = or_drop!(self.args(alloc), predicate);
+        or_drop!(self.expect(Kind::CloseBracket), predicate, args);
         let at = self.since(from);
         let weight = match weight {
             Some(weight) => weight,

@@ -25,11 +25,11 @@ absolute-expr-requires t c = (omega (arith, c.decreases, token-less {kinds = Abs
 pub absolute-returns-in_err-part : goal.absolute-returns-in_err-part
 absolute-returns-in_err-part t c = goes_on _ _ (search rules) (halts-rule (halts-then (c.in_ok-text.ensures.reads _ c.at-accepted.ensures).read (halts-this (sym c.if-not-at.ensures) (halts-then c.in_ok-expect.ensures.read (halts-first c.in_err-part.ensures)))))
 
-pub absolute-returns-in_err-expect-2 : goal.absolute-returns-in_err-expect-2
-absolute-returns-in_err-expect-2 t c = goes_on _ _ (search rules) (halts-rule (halts-then (c.in_ok-text.ensures.reads _ c.at-accepted.ensures).read (halts-this (sym c.if-not-at.ensures) (halts-then c.in_ok-expect.ensures.read (halts-then c.in_ok-part.ensures.read c.in_err-expect-2.ensures)))))
+pub absolute-returns-in-Err : goal.absolute-returns-in-Err
+absolute-returns-in-Err t c = halts-rule (halts-then (c.in_ok-text.ensures.reads _ c.at-accepted.ensures).read (halts-this (sym c.if-not-at.ensures) (halts-then c.in_ok-expect.ensures.read (halts-then c.in_ok-part.ensures.read c.in-Err.ensures))))
 
 pub absolute-returns : goal.absolute-returns
-absolute-returns t c = absolute-this _ (c.in_ok-text.ensures.reads _ c.at-accepted.ensures) (sym c.if-not-at.ensures) c.in_ok-expect.ensures c.in_ok-part.ensures c.in_ok-expect-2.ensures c.since-at.ensures c.abs.ensures
+absolute-returns t c = absolute-this _ (c.in_ok-text.ensures.reads _ c.at-accepted.ensures) (sym c.if-not-at.ensures) c.in_ok-expect.ensures c.in_ok-part.ensures c.in-Ok.ensures c.since-at.ensures c.abs.ensures
 
 pub base-returns-in_err-number : goal.base-returns-in_err-number
 base-returns-in_err-number t c = goes_on _ _ (search rules) (halts-rule (halts-this (sym c.if-at.ensures) c.in_err-number.ensures.reads))
@@ -82,11 +82,11 @@ brackets-expr-requires t c = (omega (arith, c.decreases, counted-less c.in_ok-ex
 pub brackets-returns-in_err-node : goal.brackets-returns-in_err-node
 brackets-returns-in_err-node t c = goes_on _ _ (search rules) (halts-rule (halts-then c.in_ok-expect.ensures.read (halts-first c.in_err-node.ensures)))
 
-pub brackets-returns-in_err-expect-2 : goal.brackets-returns-in_err-expect-2
-brackets-returns-in_err-expect-2 t c = goes_on _ _ (search rules) (halts-rule (halts-then c.in_ok-expect.ensures.read (halts-then c.in_ok-node.ensures.read c.in_err-expect-2.ensures)))
+pub brackets-returns-in-Err : goal.brackets-returns-in-Err
+brackets-returns-in-Err t c = halts-rule (halts-then c.in_ok-expect.ensures.read (halts-then c.in_ok-node.ensures.read c.in-Err.ensures))
 
 pub brackets-returns : goal.brackets-returns
-brackets-returns t c = brackets-found c.in_ok-expect.ensures c.in_ok-node.ensures c.in_ok-expect-2.ensures
+brackets-returns t c = brackets-found c.in_ok-expect.ensures c.in_ok-node.ensures c.in-Ok.ensures
 
 pub case-returns-in_err-expect : goal.case-returns-in_err-expect
 case-returns-in_err-expect t c = goes_on _ _ (search rules) (halts-rule (halts-first c.in_err-expect.ensures))
@@ -100,26 +100,26 @@ case-returns-in_err-first t c = goes_on _ _ (search rules) (halts-rule (halts-th
 pub case-whens-requires : goal.case-whens-requires
 case-whens-requires t c = (omega (arith, c.decreases, token-less c.in_ok-expect.ensures refl, when-less c.in_ok-first.ensures), tt)
 
-pub case-returns-in_err-others : goal.case-returns-in_err-others
-case-returns-in_err-others t c = goes_on _ _ (search rules) (halts-rule (halts-then c.in_ok-expect.ensures.read (halts-then c.in_ok-first.ensures.read (halts-first c.in_err-others.ensures))))
+pub case-returns-in-Err : goal.case-returns-in-Err
+case-returns-in-Err t c = halts-rule (halts-then c.in_ok-expect.ensures.read (halts-then c.in_ok-first.ensures.read (halts-first c.in-Err.ensures)))
 
-pub case-returns-in_err-expect-2 : goal.case-returns-in_err-expect-2
-case-returns-in_err-expect-2 t c = goes_on _ _ (search rules) (halts-rule (halts-then c.in_ok-expect.ensures.read (halts-then c.in_ok-first.ensures.read (halts-then c.in_ok-others.ensures.read (halts-first c.in_err-expect-2.ensures)))))
+pub case-returns-in-Err-expect : goal.case-returns-in-Err-expect
+case-returns-in-Err-expect t c = halts-rule (halts-then c.in_ok-expect.ensures.read (halts-then c.in_ok-first.ensures.read (halts-then c.in-Ok.ensures.read (halts-first c.in-Err-expect.ensures))))
 
 pub case-expr-requires : goal.case-expr-requires
-case-expr-requires t c = (omega (arith, c.decreases, token-less c.in_ok-expect.ensures refl, when-less c.in_ok-first.ensures, part-less c.in_ok-others.ensures refl, token-less c.in_ok-expect-2.ensures refl), tt)
+case-expr-requires t c = (omega (arith, c.decreases, token-less c.in_ok-expect.ensures refl, when-less c.in_ok-first.ensures, part-less c.in-Ok.ensures refl, token-less c.in-Ok-expect.ensures refl), tt)
 
-pub case-returns-in_err-otherwise : goal.case-returns-in_err-otherwise
-case-returns-in_err-otherwise t c = goes_on _ _ (search rules) (halts-rule (halts-then c.in_ok-expect.ensures.read (halts-then c.in_ok-first.ensures.read (halts-then c.in_ok-others.ensures.read (halts-then c.in_ok-expect-2.ensures.read (halts-first c.in_err-otherwise.ensures))))))
+pub case-returns-in-Err-expr : goal.case-returns-in-Err-expr
+case-returns-in-Err-expr t c = halts-rule (halts-then c.in_ok-expect.ensures.read (halts-then c.in_ok-first.ensures.read (halts-then c.in-Ok.ensures.read (halts-then c.in-Ok-expect.ensures.read (halts-first c.in-Err-expr.ensures)))))
 
-pub case-returns-in_err-expect-3 : goal.case-returns-in_err-expect-3
-case-returns-in_err-expect-3 t c = goes_on _ _ (search rules) (halts-rule (halts-then c.in_ok-expect.ensures.read (halts-then c.in_ok-first.ensures.read (halts-then c.in_ok-others.ensures.read (halts-then c.in_ok-expect-2.ensures.read (halts-then c.in_ok-otherwise.ensures.read c.in_err-expect-3.ensures))))))
+pub case-returns-in-Err-expect-2 : goal.case-returns-in-Err-expect-2
+case-returns-in-Err-expect-2 t c = halts-rule (halts-then c.in_ok-expect.ensures.read (halts-then c.in_ok-first.ensures.read (halts-then c.in-Ok.ensures.read (halts-then c.in-Ok-expect.ensures.read (halts-then c.in-Ok-expr.ensures.read c.in-Err-expect-2.ensures)))))
 
-pub case-returns-in_err-rest : goal.case-returns-in_err-rest
-case-returns-in_err-rest t c = goes_on _ _ (search rules) (halts-made c.in_err-rest.ensures)
+pub case-returns-in-Err-fold_cases : goal.case-returns-in-Err-fold_cases
+case-returns-in-Err-fold_cases t c = halts-made c.in-Err-fold_cases.ensures
 
 pub case-returns : goal.case-returns
-case-returns t c = case-found c.start-from.result _ c.start-from.ensures c.in_ok-expect.ensures c.in_ok-first.ensures c.in_ok-others.ensures c.in_ok-expect-2.ensures c.in_ok-otherwise.ensures c.in_ok-expect-3.ensures c.since-at.ensures c.in_ok-rest.ensures c.case.ensures
+case-returns t c = case-found c.start-from.result _ c.start-from.ensures c.in_ok-expect.ensures c.in_ok-first.ensures c.in-Ok.ensures c.in-Ok-expect.ensures c.in-Ok-expr.ensures c.in-Ok-expect-2.ensures c.since-at.ensures c.in-Ok-fold_cases.ensures c.case.ensures
 
 pub comp-sum-requires : goal.comp-sum-requires
 comp-sum-requires t c = (omega (arith, c.decreases), tt)
@@ -130,17 +130,17 @@ comp-returns-in_err-left t c = goes_on _ _ (search rules) (halts-rule (halts-fir
 pub comp-returns-then-not-at_any : goal.comp-returns-then-not-at_any
 comp-returns-then-not-at_any t c = comp-that c.in_ok-left.ensures (sym c.if-not-at_any.ensures)
 
-pub comp-returns-in_err-rel : goal.comp-returns-in_err-rel
-comp-returns-in_err-rel t c = goes_on _ _ (search rules) (halts-rule (halts-then c.in_ok-left.ensures.read (halts-this (sym c.if-not-at_any.ensures) (halts-first c.in_err-rel.ensures))))
+pub comp-returns-in-Err : goal.comp-returns-in-Err
+comp-returns-in-Err t c = halts-rule (halts-then c.in_ok-left.ensures.read (halts-this (sym c.if-not-at_any.ensures) (halts-first c.in-Err.ensures)))
 
 pub comp-sum-requires-2 : goal.comp-sum-requires-2
-comp-sum-requires-2 t c = (omega (arith, c.decreases, part-less c.in_ok-left.ensures refl, token-less c.in_ok-rel.ensures refl), tt)
+comp-sum-requires-2 t c = (omega (arith, c.decreases, part-less c.in_ok-left.ensures refl, token-less c.in-Ok.ensures refl), tt)
 
-pub comp-returns-in_err-right : goal.comp-returns-in_err-right
-comp-returns-in_err-right t c = goes_on _ _ (search rules) (halts-rule (halts-then c.in_ok-left.ensures.read (halts-this (sym c.if-not-at_any.ensures) (halts-then c.in_ok-rel.ensures.read c.in_err-right.ensures))))
+pub comp-returns-in-Err-sum : goal.comp-returns-in-Err-sum
+comp-returns-in-Err-sum t c = halts-rule (halts-then c.in_ok-left.ensures.read (halts-this (sym c.if-not-at_any.ensures) (halts-then c.in-Ok.ensures.read c.in-Err-sum.ensures)))
 
 pub comp-returns : goal.comp-returns
-comp-returns t c = comp-this c.start-from.result _ c.start-from.ensures c.in_ok-left.ensures (sym c.if-not-at_any.ensures) c.in_ok-rel.ensures c.in_ok-right.ensures c.since-at.ensures c.compare.ensures
+comp-returns t c = comp-this c.start-from.result _ c.start-from.ensures c.in_ok-left.ensures (sym c.if-not-at_any.ensures) c.in-Ok.ensures c.in-Ok-sum.ensures c.since-at.ensures c.compare.ensures
 
 pub conj-neg-requires : goal.conj-neg-requires
 conj-neg-requires t c = (omega (arith, c.decreases), tt)
@@ -151,23 +151,23 @@ conj-returns-in_err-node t c = goes_on _ _ (search rules) (halts-rule (halts-fir
 pub conj-more-init : goal.conj-more-init
 conj-more-init t c = record { chain = conj-start c.start-from.result c.start-from.ensures c.in_ok-node.ensures; left = part-less c.in_ok-node.ensures refl }
 
-pub conj-returns-in_err-expect : goal.conj-returns-in_err-expect
-conj-returns-in_err-expect t c = goes_on _ _ (search rules) (conj-halts c.start-from.result c.more.invariant.chain (sym c.more-test.ensures) (halts-first c.in_err-expect.ensures))
+pub conj-returns-in-Err : goal.conj-returns-in-Err
+conj-returns-in-Err t c = conj-halts c.start-from.result c.more.invariant.chain (sym c.more-test.ensures) (halts-first c.in-Err.ensures)
 
 pub conj-neg-requires-in-more : goal.conj-neg-requires-in-more
-conj-neg-requires-in-more t c = (omega (arith, c.decreases, counted-less c.in_ok-expect.ensures refl refl, c.more.invariant.left), tt)
+conj-neg-requires-in-more t c = (omega (arith, c.decreases, counted-less c.in-Ok.ensures refl refl, c.more.invariant.left), tt)
 
-pub conj-returns-in_err-right : goal.conj-returns-in_err-right
-conj-returns-in_err-right t c = goes_on _ _ (search rules) (conj-halts c.start-from.result c.more.invariant.chain (sym c.more-test.ensures) (halts-then c.in_ok-expect.ensures.read c.in_err-right.ensures))
+pub conj-returns-in-Err-neg : goal.conj-returns-in-Err-neg
+conj-returns-in-Err-neg t c = conj-halts c.start-from.result c.more.invariant.chain (sym c.more-test.ensures) (halts-then c.in-Ok.ensures.read c.in-Err-neg.ensures)
 
 pub conj-returns-in_err-node-2 : goal.conj-returns-in_err-node-2
 conj-returns-in_err-node-2 t c = goes_on _ _ (search rules) (halts-made c.in_err-node-2.ensures)
 
 pub conj-more-smaller : goal.conj-more-smaller
-conj-more-smaller t c = item-less c.in_ok-expect.ensures c.in_ok-right.ensures refl refl refl
+conj-more-smaller t c = item-less c.in-Ok.ensures c.in-Ok-neg.ensures refl refl refl
 
 pub conj-more-preserved : goal.conj-more-preserved
-conj-more-preserved t c = record { chain = conj-more c.start-from.result c.more.invariant.chain (sym c.more-test.ensures) c.in_ok-expect.ensures c.in_ok-right.ensures c.since-at.ensures c.in_ok-node-2.ensures; left = behind-le c.in_ok-expect.ensures c.in_ok-right.ensures refl refl refl c.more.invariant.left }
+conj-more-preserved t c = record { chain = conj-more c.start-from.result c.more.invariant.chain (sym c.more-test.ensures) c.in-Ok.ensures c.in-Ok-neg.ensures c.since-at.ensures c.in_ok-node-2.ensures; left = behind-le c.in-Ok.ensures c.in-Ok-neg.ensures refl refl refl c.more.invariant.left }
 
 pub conj-returns : goal.conj-returns
 conj-returns t c = conj-end c.start-from.result c.more.invariant.chain (sym c.more-test.ensures)
@@ -181,23 +181,23 @@ expr-returns-in_err-node t c = goes_on _ _ (search rules) (halts-rule (halts-fir
 pub expr-more-init : goal.expr-more-init
 expr-more-init t c = record { chain = expr-start c.start-from.result c.start-from.ensures c.in_ok-node.ensures; left = part-less c.in_ok-node.ensures refl }
 
-pub expr-returns-in_err-expect : goal.expr-returns-in_err-expect
-expr-returns-in_err-expect t c = goes_on _ _ (search rules) (expr-halts c.start-from.result c.more.invariant.chain (sym c.more-test.ensures) (halts-first c.in_err-expect.ensures))
+pub expr-returns-in-Err : goal.expr-returns-in-Err
+expr-returns-in-Err t c = expr-halts c.start-from.result c.more.invariant.chain (sym c.more-test.ensures) (halts-first c.in-Err.ensures)
 
 pub expr-conj-requires-in-more : goal.expr-conj-requires-in-more
-expr-conj-requires-in-more t c = (omega (arith, c.decreases, counted-less c.in_ok-expect.ensures refl refl, c.more.invariant.left), tt)
+expr-conj-requires-in-more t c = (omega (arith, c.decreases, counted-less c.in-Ok.ensures refl refl, c.more.invariant.left), tt)
 
-pub expr-returns-in_err-right : goal.expr-returns-in_err-right
-expr-returns-in_err-right t c = goes_on _ _ (search rules) (expr-halts c.start-from.result c.more.invariant.chain (sym c.more-test.ensures) (halts-then c.in_ok-expect.ensures.read c.in_err-right.ensures))
+pub expr-returns-in-Err-conj : goal.expr-returns-in-Err-conj
+expr-returns-in-Err-conj t c = expr-halts c.start-from.result c.more.invariant.chain (sym c.more-test.ensures) (halts-then c.in-Ok.ensures.read c.in-Err-conj.ensures)
 
 pub expr-returns-in_err-node-2 : goal.expr-returns-in_err-node-2
 expr-returns-in_err-node-2 t c = goes_on _ _ (search rules) (halts-made c.in_err-node-2.ensures)
 
 pub expr-more-smaller : goal.expr-more-smaller
-expr-more-smaller t c = item-less c.in_ok-expect.ensures c.in_ok-right.ensures refl refl refl
+expr-more-smaller t c = item-less c.in-Ok.ensures c.in-Ok-conj.ensures refl refl refl
 
 pub expr-more-preserved : goal.expr-more-preserved
-expr-more-preserved t c = record { chain = expr-more c.start-from.result c.more.invariant.chain (sym c.more-test.ensures) c.in_ok-expect.ensures c.in_ok-right.ensures c.since-at.ensures c.in_ok-node-2.ensures; left = behind-le c.in_ok-expect.ensures c.in_ok-right.ensures refl refl refl c.more.invariant.left }
+expr-more-preserved t c = record { chain = expr-more c.start-from.result c.more.invariant.chain (sym c.more-test.ensures) c.in-Ok.ensures c.in-Ok-conj.ensures c.since-at.ensures c.in_ok-node-2.ensures; left = behind-le c.in-Ok.ensures c.in-Ok-conj.ensures refl refl refl c.more.invariant.left }
 
 pub expr-returns : goal.expr-returns
 expr-returns t c = expr-end c.start-from.result c.more.invariant.chain (sym c.more-test.ensures)
@@ -220,23 +220,23 @@ extreme-expr-requires t c = (omega (arith, c.decreases, token-less {kinds = Min 
 pub extreme-returns-in_err-first : goal.extreme-returns-in_err-first
 extreme-returns-in_err-first t c = goes_on _ _ (search rules) (halts-rule (halts-then (c.in_ok-kind.ensures.reads _ c.at_any-accepted.ensures).read (halts-this (sym c.if-not-at.ensures) (halts-then c.in_ok-expect.ensures.read (halts-first c.in_err-first.ensures)))))
 
-pub extreme-returns-in_err-expect-2 : goal.extreme-returns-in_err-expect-2
-extreme-returns-in_err-expect-2 t c = goes_on _ _ (search rules) (halts-rule (halts-then (c.in_ok-kind.ensures.reads _ c.at_any-accepted.ensures).read (halts-this (sym c.if-not-at.ensures) (halts-then c.in_ok-expect.ensures.read (halts-then c.in_ok-first.ensures.read (halts-first c.in_err-expect-2.ensures))))))
+pub extreme-returns-in-Err : goal.extreme-returns-in-Err
+extreme-returns-in-Err t c = halts-rule (halts-then (c.in_ok-kind.ensures.reads _ c.at_any-accepted.ensures).read (halts-this (sym c.if-not-at.ensures) (halts-then c.in_ok-expect.ensures.read (halts-then c.in_ok-first.ensures.read (halts-first c.in-Err.ensures)))))
 
 pub extreme-expr-requires-2 : goal.extreme-expr-requires-2
-extreme-expr-requires-2 t c = (omega (arith, c.decreases, token-less {kinds = Min ∷ Max ∷ []} (c.in_ok-kind.ensures.reads _ c.at_any-accepted.ensures) refl, counted-less c.in_ok-expect.ensures refl refl, part-less c.in_ok-first.ensures refl, token-less c.in_ok-expect-2.ensures refl), tt)
+extreme-expr-requires-2 t c = (omega (arith, c.decreases, token-less {kinds = Min ∷ Max ∷ []} (c.in_ok-kind.ensures.reads _ c.at_any-accepted.ensures) refl, counted-less c.in_ok-expect.ensures refl refl, part-less c.in_ok-first.ensures refl, token-less c.in-Ok.ensures refl), tt)
 
-pub extreme-returns-in_err-second : goal.extreme-returns-in_err-second
-extreme-returns-in_err-second t c = goes_on _ _ (search rules) (halts-rule (halts-then (c.in_ok-kind.ensures.reads _ c.at_any-accepted.ensures).read (halts-this (sym c.if-not-at.ensures) (halts-then c.in_ok-expect.ensures.read (halts-then c.in_ok-first.ensures.read (halts-then c.in_ok-expect-2.ensures.read (halts-first c.in_err-second.ensures)))))))
+pub extreme-returns-in-Err-expr : goal.extreme-returns-in-Err-expr
+extreme-returns-in-Err-expr t c = halts-rule (halts-then (c.in_ok-kind.ensures.reads _ c.at_any-accepted.ensures).read (halts-this (sym c.if-not-at.ensures) (halts-then c.in_ok-expect.ensures.read (halts-then c.in_ok-first.ensures.read (halts-then c.in-Ok.ensures.read (halts-first c.in-Err-expr.ensures))))))
 
-pub extreme-returns-in_err-expect-3 : goal.extreme-returns-in_err-expect-3
-extreme-returns-in_err-expect-3 t c = goes_on _ _ (search rules) (halts-rule (halts-then (c.in_ok-kind.ensures.reads _ c.at_any-accepted.ensures).read (halts-this (sym c.if-not-at.ensures) (halts-then c.in_ok-expect.ensures.read (halts-then c.in_ok-first.ensures.read (halts-then c.in_ok-expect-2.ensures.read (halts-then c.in_ok-second.ensures.read c.in_err-expect-3.ensures)))))))
+pub extreme-returns-in-Err-expect : goal.extreme-returns-in-Err-expect
+extreme-returns-in-Err-expect t c = halts-rule (halts-then (c.in_ok-kind.ensures.reads _ c.at_any-accepted.ensures).read (halts-this (sym c.if-not-at.ensures) (halts-then c.in_ok-expect.ensures.read (halts-then c.in_ok-first.ensures.read (halts-then c.in-Ok.ensures.read (halts-then c.in-Ok-expr.ensures.read c.in-Err-expect.ensures))))))
 
 pub extreme-returns-then-is : goal.extreme-returns-then-is
-extreme-returns-then-is t c = extreme-least _ (c.in_ok-kind.ensures.reads _ c.at_any-accepted.ensures) (sym c.if-not-at.ensures) c.in_ok-expect.ensures c.in_ok-first.ensures c.in_ok-expect-2.ensures c.in_ok-second.ensures c.in_ok-expect-3.ensures c.since-at.ensures (sym c.if-is.ensures) c.least.ensures
+extreme-returns-then-is t c = extreme-least _ (c.in_ok-kind.ensures.reads _ c.at_any-accepted.ensures) (sym c.if-not-at.ensures) c.in_ok-expect.ensures c.in_ok-first.ensures c.in-Ok.ensures c.in-Ok-expr.ensures c.in-Ok-expect.ensures c.since-at.ensures (sym c.if-is.ensures) c.least.ensures
 
-pub extreme-returns : goal.extreme-returns
-extreme-returns t c = extreme-greatest _ (c.in_ok-kind.ensures.reads _ c.at_any-accepted.ensures) (sym c.if-not-at.ensures) c.in_ok-expect.ensures c.in_ok-first.ensures c.in_ok-expect-2.ensures c.in_ok-second.ensures c.in_ok-expect-3.ensures c.since-at.ensures (sym c.if-is.ensures) c.greatest.ensures
+pub extreme-returns-else-is : goal.extreme-returns-else-is
+extreme-returns-else-is t c = extreme-greatest _ (c.in_ok-kind.ensures.reads _ c.at_any-accepted.ensures) (sym c.if-not-at.ensures) c.in_ok-expect.ensures c.in_ok-first.ensures c.in-Ok.ensures c.in-Ok-expr.ensures c.in-Ok-expect.ensures c.since-at.ensures (sym c.if-is.ensures) c.greatest.ensures
 
 pub neg-comp-requires : goal.neg-comp-requires
 neg-comp-requires t c = (omega (arith, c.decreases), tt)
@@ -265,23 +265,23 @@ prod-returns-in_err-node t c = goes_on _ _ (search rules) (halts-rule (halts-fir
 pub prod-more-init : goal.prod-more-init
 prod-more-init t c = record { chain = prod-start c.start-from.result c.start-from.ensures c.in_ok-node.ensures; left = part-less c.in_ok-node.ensures refl }
 
-pub prod-returns-in_err-op : goal.prod-returns-in_err-op
-prod-returns-in_err-op t c = goes_on _ _ (search rules) (prod-halts c.start-from.result c.more.invariant.chain (sym c.more-test.ensures) (halts-first c.in_err-op.ensures))
+pub prod-returns-in-Err : goal.prod-returns-in-Err
+prod-returns-in-Err t c = prod-halts c.start-from.result c.more.invariant.chain (sym c.more-test.ensures) (halts-first c.in-Err.ensures)
 
 pub prod-sign-requires-in-more : goal.prod-sign-requires-in-more
-prod-sign-requires-in-more t c = (omega (arith, c.decreases, counted-less c.in_ok-op.ensures refl refl, c.more.invariant.left), tt)
+prod-sign-requires-in-more t c = (omega (arith, c.decreases, counted-less c.in-Ok.ensures refl refl, c.more.invariant.left), tt)
 
-pub prod-returns-in_err-right : goal.prod-returns-in_err-right
-prod-returns-in_err-right t c = goes_on _ _ (search rules) (prod-halts c.start-from.result c.more.invariant.chain (sym c.more-test.ensures) (halts-then c.in_ok-op.ensures.read c.in_err-right.ensures))
+pub prod-returns-in-Err-sign : goal.prod-returns-in-Err-sign
+prod-returns-in-Err-sign t c = prod-halts c.start-from.result c.more.invariant.chain (sym c.more-test.ensures) (halts-then c.in-Ok.ensures.read c.in-Err-sign.ensures)
 
 pub prod-returns-in_err-node-2 : goal.prod-returns-in_err-node-2
 prod-returns-in_err-node-2 t c = goes_on _ _ (search rules) (halts-made c.in_err-node-2.ensures)
 
 pub prod-more-smaller : goal.prod-more-smaller
-prod-more-smaller t c = item-less c.in_ok-op.ensures c.in_ok-right.ensures refl refl refl
+prod-more-smaller t c = item-less c.in-Ok.ensures c.in-Ok-sign.ensures refl refl refl
 
 pub prod-more-preserved : goal.prod-more-preserved
-prod-more-preserved t c = record { chain = prod-more c.start-from.result c.more.invariant.chain (sym c.more-test.ensures) c.in_ok-op.ensures c.in_ok-right.ensures c.since-at.ensures c.in_ok-node-2.ensures; left = behind-le c.in_ok-op.ensures c.in_ok-right.ensures refl refl refl c.more.invariant.left }
+prod-more-preserved t c = record { chain = prod-more c.start-from.result c.more.invariant.chain (sym c.more-test.ensures) c.in-Ok.ensures c.in-Ok-sign.ensures c.since-at.ensures c.in_ok-node-2.ensures; left = behind-le c.in-Ok.ensures c.in-Ok-sign.ensures refl refl refl c.more.invariant.left }
 
 pub prod-returns : goal.prod-returns
 prod-returns t c = prod-end c.start-from.result c.more.invariant.chain (sym c.more-test.ensures)
@@ -313,23 +313,23 @@ sum-returns-in_err-node t c = goes_on _ _ (search rules) (halts-rule (halts-firs
 pub sum-more-init : goal.sum-more-init
 sum-more-init t c = record { chain = sum-start c.start-from.result c.start-from.ensures c.in_ok-node.ensures; left = part-less c.in_ok-node.ensures refl }
 
-pub sum-returns-in_err-op : goal.sum-returns-in_err-op
-sum-returns-in_err-op t c = goes_on _ _ (search rules) (sum-halts c.start-from.result c.more.invariant.chain (sym c.more-test.ensures) (halts-first c.in_err-op.ensures))
+pub sum-returns-in-Err : goal.sum-returns-in-Err
+sum-returns-in-Err t c = sum-halts c.start-from.result c.more.invariant.chain (sym c.more-test.ensures) (halts-first c.in-Err.ensures)
 
 pub sum-prod-requires-in-more : goal.sum-prod-requires-in-more
-sum-prod-requires-in-more t c = (omega (arith, c.decreases, counted-less c.in_ok-op.ensures refl refl, c.more.invariant.left), tt)
+sum-prod-requires-in-more t c = (omega (arith, c.decreases, counted-less c.in-Ok.ensures refl refl, c.more.invariant.left), tt)
 
-pub sum-returns-in_err-right : goal.sum-returns-in_err-right
-sum-returns-in_err-right t c = goes_on _ _ (search rules) (sum-halts c.start-from.result c.more.invariant.chain (sym c.more-test.ensures) (halts-then c.in_ok-op.ensures.read c.in_err-right.ensures))
+pub sum-returns-in-Err-prod : goal.sum-returns-in-Err-prod
+sum-returns-in-Err-prod t c = sum-halts c.start-from.result c.more.invariant.chain (sym c.more-test.ensures) (halts-then c.in-Ok.ensures.read c.in-Err-prod.ensures)
 
 pub sum-returns-in_err-node-2 : goal.sum-returns-in_err-node-2
 sum-returns-in_err-node-2 t c = goes_on _ _ (search rules) (halts-made c.in_err-node-2.ensures)
 
 pub sum-more-smaller : goal.sum-more-smaller
-sum-more-smaller t c = item-less c.in_ok-op.ensures c.in_ok-right.ensures refl refl refl
+sum-more-smaller t c = item-less c.in-Ok.ensures c.in-Ok-prod.ensures refl refl refl
 
 pub sum-more-preserved : goal.sum-more-preserved
-sum-more-preserved t c = record { chain = sum-more c.start-from.result c.more.invariant.chain (sym c.more-test.ensures) c.in_ok-op.ensures c.in_ok-right.ensures c.since-at.ensures c.in_ok-node-2.ensures; left = behind-le c.in_ok-op.ensures c.in_ok-right.ensures refl refl refl c.more.invariant.left }
+sum-more-preserved t c = record { chain = sum-more c.start-from.result c.more.invariant.chain (sym c.more-test.ensures) c.in-Ok.ensures c.in-Ok-prod.ensures c.since-at.ensures c.in_ok-node-2.ensures; left = behind-le c.in-Ok.ensures c.in-Ok-prod.ensures refl refl refl c.more.invariant.left }
 
 pub sum-returns : goal.sum-returns
 sum-returns t c = sum-end c.start-from.result c.more.invariant.chain (sym c.more-test.ensures)
@@ -343,17 +343,17 @@ when-expr-requires t c = (omega (arith, c.decreases, counted-less c.in_ok-expect
 pub when-returns-in_err-condition : goal.when-returns-in_err-condition
 when-returns-in_err-condition t c = goes_on _ _ (search rules) (halts-rule (halts-then c.in_ok-expect.ensures.read (halts-first c.in_err-condition.ensures)))
 
-pub when-returns-in_err-expect-2 : goal.when-returns-in_err-expect-2
-when-returns-in_err-expect-2 t c = goes_on _ _ (search rules) (halts-rule (halts-then c.in_ok-expect.ensures.read (halts-then c.in_ok-condition.ensures.read (halts-first c.in_err-expect-2.ensures))))
+pub when-returns-in-Err : goal.when-returns-in-Err
+when-returns-in-Err t c = halts-rule (halts-then c.in_ok-expect.ensures.read (halts-then c.in_ok-condition.ensures.read (halts-first c.in-Err.ensures)))
 
 pub when-expr-requires-2 : goal.when-expr-requires-2
-when-expr-requires-2 t c = (omega (arith, c.decreases, counted-less c.in_ok-expect.ensures refl refl, part-less c.in_ok-condition.ensures refl, token-less c.in_ok-expect-2.ensures refl), tt)
+when-expr-requires-2 t c = (omega (arith, c.decreases, counted-less c.in_ok-expect.ensures refl refl, part-less c.in_ok-condition.ensures refl, token-less c.in-Ok.ensures refl), tt)
 
-pub when-returns-in_err-outcome : goal.when-returns-in_err-outcome
-when-returns-in_err-outcome t c = goes_on _ _ (search rules) (halts-rule (halts-then c.in_ok-expect.ensures.read (halts-then c.in_ok-condition.ensures.read (halts-then c.in_ok-expect-2.ensures.read c.in_err-outcome.ensures))))
+pub when-returns-in-Err-expr : goal.when-returns-in-Err-expr
+when-returns-in-Err-expr t c = halts-rule (halts-then c.in_ok-expect.ensures.read (halts-then c.in_ok-condition.ensures.read (halts-then c.in-Ok.ensures.read c.in-Err-expr.ensures)))
 
 pub when-returns : goal.when-returns
-when-returns t c = when-found c.start-from.result c.start-from.ensures c.in_ok-expect.ensures c.in_ok-condition.ensures c.in_ok-expect-2.ensures c.in_ok-outcome.ensures
+when-returns t c = when-found c.start-from.result c.start-from.ensures c.in_ok-expect.ensures c.in_ok-condition.ensures c.in-Ok.ensures c.in-Ok-expr.ensures
 
 pub whens-more-init : goal.whens-more-init
 whens-more-init t c = record { parts = rw c.new-parts.ensures.items (Repeating-start _); left = omega arith }

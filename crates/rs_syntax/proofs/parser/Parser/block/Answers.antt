@@ -12,32 +12,29 @@ pub returns-in_err-items : goal.returns-in_err-items
 returns-in_err-items c =
     goes_on _ _ (search rules) (halts-rule (halts-then c.in_ok-expect.ensures.read (halts-then c.in_ok-distinct.ensures.read (halts-first c.in_err-items.ensures))))
 
-pub returns-in_err-expect-2 : goal.returns-in_err-expect-2
-returns-in_err-expect-2 c =
-    goes_on _ _ (search rules)
-    (halts-rule (halts-then c.in_ok-expect.ensures.read (halts-then c.in_ok-distinct.ensures.read (halts-then c.in_ok-items.ensures.read (halts-first c.in_err-expect-2.ensures)))))
+pub returns-in-Err : goal.returns-in-Err
+returns-in-Err c =
+    (halts-rule (halts-then c.in_ok-expect.ensures.read (halts-then c.in_ok-distinct.ensures.read (halts-then c.in_ok-items.ensures.read (halts-first c.in-Err.ensures)))))
 
-pub returns-in_err-from : goal.returns-in_err-from
-returns-in_err-from c =
-    goes_on _ _ (search rules)
+pub returns-in-Err-entries : goal.returns-in-Err-entries
+returns-in-Err-entries c =
     (halts-rule (halts-then c.in_ok-expect.ensures.read
-    (halts-then c.in_ok-distinct.ensures.read (halts-then c.in_ok-items.ensures.read (halts-then c.in_ok-expect-2.ensures.read (halts-first c.in_err-from.ensures))))))
+    (halts-then c.in_ok-distinct.ensures.read (halts-then c.in_ok-items.ensures.read (halts-then c.in-Ok.ensures.read (halts-first c.in-Err-entries.ensures))))))
 
-pub returns-in_err-filter : goal.returns-in_err-filter
-returns-in_err-filter c =
-    goes_on _ _ (search rules)
+pub returns-in-Err-filter : goal.returns-in-Err-filter
+returns-in-Err-filter c =
     (halts-rule (halts-then c.in_ok-expect.ensures.read
     (halts-then c.in_ok-distinct.ensures.read
-    (halts-then c.in_ok-items.ensures.read (halts-then c.in_ok-expect-2.ensures.read (halts-then c.in_ok-from.ensures.read c.in_err-filter.ensures))))))
+    (halts-then c.in_ok-items.ensures.read (halts-then c.in-Ok.ensures.read (halts-then c.in-Ok-entries.ensures.read c.in-Err-filter.ensures))))))
 
 pub returns : goal.returns
 returns c =
     let m = c.in_ok-distinct.ensures.means in
     let n = c.in_ok-items.ensures.means in
-    let f = c.in_ok-from.ensures.means in
-    let g = c.in_ok-filter.ensures.means in
+    let f = c.in-Ok-entries.ensures.means in
+    let g = c.in-Ok-filter.ensures.means in
     found
     (read-rule (read-both c.in_ok-expect.ensures.read
     (read-both c.in_ok-distinct.ensures.read
-    (read-both c.in_ok-items.ensures.read (read-both c.in_ok-expect-2.ensures.read (read-both c.in_ok-from.ensures.read c.in_ok-filter.ensures.read))))))
+    (read-both c.in_ok-items.ensures.read (read-both c.in-Ok.ensures.read (read-both c.in-Ok-entries.ensures.read c.in-Ok-filter.ensures.read))))))
     (rw (m, n, f, g) refl)

@@ -8,17 +8,17 @@ returns-in_err-expect c = goes_on _ _ (search rules) (halts-rule (halts-first c.
 pub returns-in_err-name : goal.returns-in_err-name
 returns-in_err-name c = goes_on _ _ (search rules) (halts-rule (halts-then c.in_ok-expect.ensures.read (halts-first c.in_err-name.ensures)))
 
-pub returns-in_err-expect-2 : goal.returns-in_err-expect-2
-returns-in_err-expect-2 c = goes_on _ _ (search rules) (halts-rule (halts-then c.in_ok-expect.ensures.read (halts-then c.in_ok-name.ensures.read (halts-first c.in_err-expect-2.ensures))))
+pub returns-in-Err : goal.returns-in-Err
+returns-in-Err c = halts-rule (halts-then c.in_ok-expect.ensures.read (halts-then c.in_ok-name.ensures.read (halts-first c.in-Err.ensures)))
 
-pub returns-in_err-expect-3 : goal.returns-in_err-expect-3
-returns-in_err-expect-3 c = goes_on _ _ (search rules) (halts-rule (halts-then c.in_ok-expect.ensures.read (halts-then c.in_ok-name.ensures.read (halts-then c.in_ok-expect-2.ensures.read (halts-first c.in_err-expect-3.ensures)))))
+pub returns-in-Err-expect : goal.returns-in-Err-expect
+returns-in-Err-expect c = halts-rule (halts-then c.in_ok-expect.ensures.read (halts-then c.in_ok-name.ensures.read (halts-then c.in-Ok.ensures.read (halts-first c.in-Err-expect.ensures))))
 
-pub returns-in_err-select : goal.returns-in_err-select
-returns-in_err-select c = goes_on _ _ (search rules) (halts-rule (halts-then c.in_ok-expect.ensures.read (halts-then c.in_ok-name.ensures.read (halts-then c.in_ok-expect-2.ensures.read (halts-then c.in_ok-expect-3.ensures.read c.in_err-select.ensures)))))
+pub returns-in-Err-select : goal.returns-in-Err-select
+returns-in-Err-select c = halts-rule (halts-then c.in_ok-expect.ensures.read (halts-then c.in_ok-name.ensures.read (halts-then c.in-Ok.ensures.read (halts-then c.in-Ok-expect.ensures.read c.in-Err-select.ensures))))
 
 pub returns : goal.returns
 returns c =
     let m0 = c.in_ok-name.ensures.means in
-    let m1 = c.in_ok-select.ensures.means in
-    found (read-rule (read-both c.in_ok-expect.ensures.read (read-both c.in_ok-name.ensures.read (read-both c.in_ok-expect-2.ensures.read (read-both c.in_ok-expect-3.ensures.read c.in_ok-select.ensures.read))))) cc
+    let m1 = c.in-Ok-select.ensures.means in
+    found (read-rule (read-both c.in_ok-expect.ensures.read (read-both c.in_ok-name.ensures.read (read-both c.in-Ok.ensures.read (read-both c.in-Ok-expect.ensures.read c.in-Ok-select.ensures.read))))) cc

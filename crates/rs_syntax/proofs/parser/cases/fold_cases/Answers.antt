@@ -34,8 +34,8 @@ loop-part-smaller c = shorter c.loop-part.parts.items c.pop.new.self.items c.in-
 
 pub loop-part-preserved : goal.loop-part-preserved
 loop-part-preserved c =
-    cases_in-pop c.args.to c.loop-part.parts.items c.pop.new.self.items c.in-Some.part (expression_of c.loop-part.rest) (expression_of c.in_ok-rest.rest)
-    (cases_in c.args.to (map when_view c.args.parts.items) (expression_of c.args.otherwise)) c.in-Some.ensures.items c.in_ok-rest.ensures c.loop-part.invariant
+    cases_in-pop c.args.to c.loop-part.parts.items c.pop.new.self.items c.in-Some.part (expression_of c.loop-part.rest) (expression_of c.in-Ok.value)
+    (cases_in c.args.to (map when_view c.args.parts.items) (expression_of c.args.otherwise)) c.in-Some.ensures.items c.in-Ok.ensures c.loop-part.invariant
 
 pub returns : goal.returns
 returns c =
