@@ -13,10 +13,12 @@ use Rattle.rs_rank.specs.declared.row.RankRow.{RankRow}
 use Rattle.rs_rank.specs.Keys.{key_cmp}
 use Rattle.rs_rank.specs.Masks.{mask_of}
 use Rattle.rs_rank.specs.Rows.{HasSum}
-use Rattle.rs_mu.specs.Mu.{AreOtherIds}
-use Rattle.rs_mu.specs.Stands.{Evaluation, HaveOtherIds, IsInput, answers, new_key, old_key, with_worth}
+use Rattle.rs_rank.specs.Ids.{AreOtherIds}
+
+use Rattle.rs_rank.specs.Rows.{HaveOtherIds}
+use Rattle.rs_mu.specs.Stands.{Evaluation, IsInput, answers, new_key, old_key, with_worth}
 use Rattle.rs_mu.proofs.MuFacts.{sum_with-term}
-use Rattle.rs_mu.proofs.ReorderFacts.{whole-climbs}
+use Rattle.rs_order.proofs.ReorderFacts.{whole-climbs}
 use Rattle.rs_mu.proofs.StandFacts.{answers-map, key_cmp-total, length-sorted, reorder, row_key}
 use Rattle.rs_mu.proofs.StepFacts.{All-map}
 

@@ -19,10 +19,13 @@ use Rattle.rs_rank.specs.declared.key.Key.{Key}
 use Rattle.rs_rank.specs.declared.row.RankRow.{RankRow}
 use Rattle.rs_rank.specs.Keys.{key_cmp}
 use Rattle.rs_rank.specs.Rows.{HasSum}
-use Rattle.rs_mu.specs.Mu.{AreOtherIds, CanEnd, CanFeed, IsBehind, Mu, ask_of, fed, first_row, left_for, taken_for}
-use Rattle.rs_mu.specs.Stands.{Evaluation, HaveOtherIds, Stands, answers, last_of, new_key, old_key, with_worth}
-use Rattle.rs_mu.proofs.PartFacts.{Climbs-behind, Differs-at, In-at, In-drop, In-slice_get, last_of-take, slice_get-drop, slice_get-shared}
-use Rattle.rs_mu.proofs.ReorderFacts.{drop-part-more}
+use Rattle.rs_rank.specs.Ids.{AreOtherIds}
+use Rattle.rs_mu.specs.Mu.{CanEnd, CanFeed, IsBehind, Mu, ask_of, fed, first_row, left_for, taken_for}
+use Rattle.rs_rank.specs.Rows.{HaveOtherIds}
+use Rattle.rs_order.specs.Last.{last_of}
+use Rattle.rs_mu.specs.Stands.{Evaluation, Stands, answers, new_key, old_key, with_worth}
+use Rattle.rs_order.proofs.PartFacts.{Climbs-behind, Differs-at, In-at, In-drop, In-slice_get, last_of-take, slice_get-drop, slice_get-shared}
+use Rattle.rs_order.proofs.ReorderFacts.{drop-part-more}
 use Rattle.rs_mu.proofs.StandFacts.{Tells, answers-settled, asks-grow, asks_of-upto, held-map, key_cmp-total, ltb-false, pair_of, reorder, row_key, stands-tells}
 
 -- pairs are put in where their items are

@@ -5,10 +5,10 @@ use Rattle.std.specs.Ordering.{is_gt}
 use Rattle.rs_queue.specs.Queue.{insert_by}
 use Rattle.rs_rank.specs.declared.ask.Ask.{Ask}
 use Rattle.rs_rank.specs.declared.ask.Ask.TheVariants.{Need, Ready, End}
-use Rattle.rs_rank.specs.declared.ids.Ids.{Ids}
 use Rattle.rs_rank.specs.declared.key.Key.{Key}
 use Rattle.rs_rank.specs.declared.row.RankRow.{RankRow}
 use Rattle.rs_rank.specs.declared.weights.Weights.{Weights}
+use Rattle.rs_rank.specs.Ids.{AreOtherIds}
 use Rattle.rs_rank.specs.Keys.{IsBefore, key_cmp}
 use Rattle.rs_rank.specs.Masks.{has_number, mask_of}
 use Rattle.rs_rank.specs.Rows.{HasSum, key_of}
@@ -84,10 +84,6 @@ left_for End mu = mu
 abbrev pub IsBehind : Option Key → Key → Type 0
 IsBehind None key = Unit {0}
 IsBehind (Some last) key = IsBefore last key
-
--- ids of another block, or with other row numbers
-abbrev pub AreOtherIds : Ids → Ids → Type 0
-AreOtherIds ids other = ids.block ≡ other.block → ids.rows ≡ other.rows → ⊥
 
 -- the input's next row
 pub record CanFeed (row : RankRow) (worth : ℕ) (mu : Mu) : Type 0 where

@@ -1,5 +1,10 @@
+pub mod AscendingFacts
 pub mod AsksFacts
 pub mod ClimbingFacts
+pub mod ItemFacts
 pub mod MergingFacts
+pub mod PartFacts
+pub mod ReorderFacts
+pub mod ScheduleFacts
 pub mod SortingFacts
 pub mod Worked

@@ -26,7 +26,7 @@ use Rattle.rs_query.specs.declared.block.Block.{Block}
 use Rattle.rs_query.specs.declared.query.Query.{Query}
 use Rattle.rs_query.specs.declared.query.Query.TheVariants.{One, Set}
 use Rattle.rs_query.proofs.ChoiceFacts.{Climbs-combinations}
-use Rattle.rs_query.proofs.ItemFacts.{Climbs-append, Climbs-filter}
+use Rattle.rs_order.proofs.ItemFacts.{Climbs-append, Climbs-filter}
 use Rattle.rs_plain.specs.Ordering.{key_of}
 
 abbrev ids_of : Answer → Ids

@@ -10,9 +10,9 @@ use Rattle.std.specs.declared.cmp.Ordering.{Ordering}
 use Rattle.std.specs.declared.cmp.Ordering.TheVariants.{Less, Equal, Greater}
 use Rattle.rs_order.specs.Asks.{tau}
 use Rattle.rs_order.specs.Climbing.{Climbs, Differs, HasDistinctKeys, In, IsBeyond, Precedes}
+use Rattle.rs_order.specs.Last.{last_from, last_of}
 use Rattle.rs_order.specs.Sorting.{put, put_each, sorted}
 use Rattle.rs_order.proofs.ClimbingFacts.{AllByRecursion-In, Climbs-shared, cmp-not_both, cmp-not_itself}
-use Rattle.rs_mu.specs.Stands.{last_from, last_of}
 
 -- answers of an order by their tests
 pub is_lt-Less : (r : Ordering) → is_lt r ≡ true → r ≡ Less
