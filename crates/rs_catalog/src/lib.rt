@@ -6,8 +6,6 @@ mod index;
 mod laws;
 mod make;
 mod room;
-#[cfg(test)]
-mod tests;
 
 pub use catalog::Catalog;
 pub use index::{BoundArg, IndexDef, IndexFault};

@@ -4,8 +4,6 @@
 
 mod laws;
 mod mu;
-#[cfg(test)]
-mod tests;
 
 pub use laws::{
     answers_can_be_input, asks_grow_with_answers, asks_of_core_are_exact, ended_core_stands,

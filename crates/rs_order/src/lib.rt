@@ -5,8 +5,6 @@ mod asks;
 mod climbing;
 mod merging;
 mod sorting;
-#[cfg(test)]
-mod tests;
 
 pub use asks::{asks_are_exact, asks_grow, bars_rise, those_before_come_first};
 pub use climbing::{first_items_are_shared, same_items_make_one_list};

@@ -5,4 +5,3 @@ pub mod ListFacts
 pub mod OrderFacts
 pub mod QuestionFacts
 pub mod RowFacts
-pub mod SideFacts

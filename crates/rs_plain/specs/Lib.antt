@@ -3,4 +3,3 @@ pub mod Evaluating
 pub mod Lists
 pub mod Ordering
 pub mod Plain
-pub mod Sides

@@ -8,8 +8,6 @@ mod laws;
 mod outputs;
 mod rows;
 mod sets;
-#[cfg(test)]
-mod tests;
 
 pub use answer::plain;
 pub use fault::PlainFault;

@@ -3,7 +3,6 @@ pub mod Choices
 pub mod Combinations
 pub mod Conjuncts
 pub mod Extending
-pub mod Joined
 pub mod Meaning
 pub mod Stored
 pub mod Tables

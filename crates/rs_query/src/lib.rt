@@ -10,8 +10,6 @@ mod laws;
 mod masks;
 mod query;
 mod term;
-#[cfg(test)]
-mod tests;
 mod weights;
 
 pub use block::Block;

@@ -3,8 +3,6 @@
 
 mod laws;
 mod queue;
-#[cfg(test)]
-mod tests;
 
 pub use laws::{insert_has_the_pairs, insert_keeps_the_order, keys_come_before_later_ones};
 pub use queue::Queue;

@@ -13,8 +13,6 @@ mod matcher;
 mod row;
 mod scored_row;
 mod stable;
-#[cfg(test)]
-mod tests;
 mod turn_laws;
 mod weight_laws;
 mod weights;

@@ -1,0 +1,3 @@
+pub mod JoinedFacts
+pub mod KindFacts
+pub mod SideFacts
