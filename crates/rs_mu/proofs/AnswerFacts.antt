@@ -14,7 +14,6 @@ use Rattle.rs_rank.specs.Keys.{key_cmp}
 use Rattle.rs_rank.specs.Masks.{mask_of}
 use Rattle.rs_rank.specs.Rows.{HasSum}
 use Rattle.rs_rank.specs.Ids.{AreOtherIds}
-
 use Rattle.rs_rank.specs.Rows.{HaveOtherIds}
 use Rattle.rs_mu.specs.Stands.{Evaluation, IsInput, answers, new_key, old_key, with_worth}
 use Rattle.rs_mu.proofs.MuFacts.{sum_with-term}

@@ -1,14 +1,14 @@
 -- Lists whose keys never fall: what comes before a bar are their first items, and so with a bar further on.
-use Rattle.std.proofs.Common.{◌≡◌, ℕ, zero, suc, List, [], ◌∷◌, length, take, map, true, false, cond, Bool, Option, Some, None, refl, sym, ◌∙◌, ap, ap₂, subst, ◌⊎◌, inl, inr}
+use Rattle.std.proofs.Common.{◌≡◌, ℕ, suc, List, [], ◌∷◌, length, take, map, true, false, cond, Option, Some, None, refl, sym, ◌∙◌, ap, ap₂, subst, inl, inr}
 use Rattle.std.specs.Cmp.{IsTotalOrder, alike_right}
-use Rattle.std.specs.List.{AllByRecursion, filter}
+use Rattle.std.specs.List.{AllByRecursion}
 use Rattle.std.specs.Ordering.{is_lt, is_gt, ordering_reverse}
 use Rattle.std.specs.declared.cmp.Ordering.{Ordering}
 use Rattle.std.specs.declared.cmp.Ordering.TheVariants.{Less, Equal, Greater}
 use Rattle.rs_order.specs.Asks.{IsNoFurther, comes_before_bar, those_before}
 use Rattle.rs_order.specs.Climbing.{Ascends, Climbs, In, IsNoLater, Precedes}
 use Rattle.rs_order.specs.Merging.{merged, woven}
-use Rattle.rs_order.specs.Schedule.{JoinSide, Left, Right, Turn, asked_before, schedule, turns_from, turns_of}
+use Rattle.rs_order.specs.Schedule.{JoinSide, Left, Right, Turn, schedule, turns_from, turns_of}
 use Rattle.rs_order.proofs.AsksFacts.{comes_before_bar-further}
 use Rattle.rs_order.proofs.ClimbingFacts.{AllByRecursion-In, AllByRecursion-from_In}
 use Rattle.rs_order.proofs.MergingFacts.{In-merged-back}

@@ -1,6 +1,7 @@
 //! Laws of the order of a list by a key. The functions compute nothing; each is called for its contract.
 
-ghost use Rattle.std.specs.Prelude.{◌≡◌, List};
+ghost use Rattle.std.specs.Prelude.{◌≡◌, Bool, List, map};
+ghost use Rattle.std.specs.List.{filter};
 ghost use Rattle.std.specs.List.Sorted.{IsPermutation};
 ghost use Rattle.std.specs.Ordering.{on, then_cmp};
 ghost use Rattle.rs_order.specs.Climbing.{Climbs, HasDistinctKeys, SameItems};
@@ -33,4 +34,16 @@ pub fn sorted_twice_is_sorted_once<X, K: Ord, L: Ord>()
 pub fn sorted_keeps_places<X, K: Ord, L: Ord>()
     ensures { (key : X → K) (place : X → L) (xs : List X) → Climbs L.cmp place xs
         → sorted K.cmp key xs ≡ sorted (then_cmp (on key K.cmp) (on place L.cmp)) (λ x. x) xs }
+{}
+
+/// Sorting what a function gives of each item is sorting the items by the keys of what it gives.
+pub fn sorting_commutes_with_mapping<X, Y, K: Ord>()
+    ensures { (key : Y → K) (f : X → Y) (xs : List X)
+        → sorted K.cmp key (map f xs) ≡ map f (sorted K.cmp (λ x. key (f x)) xs) }
+{}
+
+/// Sorting the items that pass a test is taking those that pass from the sorted list, if no two items have equal keys.
+pub fn sorting_commutes_with_filtering<X, K: Ord>()
+    ensures { (key : X → K) (passes : X → Bool) (xs : List X) → HasDistinctKeys K.cmp key xs
+        → sorted K.cmp key (filter passes xs) ≡ filter passes (sorted K.cmp key xs) }
 {}
