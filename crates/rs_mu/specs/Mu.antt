@@ -2,7 +2,7 @@
 use Rattle.std.specs.Prelude.{ℕ, ◌≡◌, ◌≤◌, ◌+◌, ◌-◌, ◌*◌, ◌||◌, Bool, false, not, List, [], ◌∷◌, Option, Some, None, bit_or, drop, slice_index, if◌then◌else◌}
 use Rattle.std.specs.List.{AllByRecursion}
 use Rattle.std.specs.Ordering.{is_gt}
-use Rattle.rs_queue.specs.Queue.{insert_by}
+use Rattle.rs_order.specs.Sorting.{put}
 use Rattle.rs_rank.specs.declared.ask.Ask.{Ask}
 use Rattle.rs_rank.specs.declared.ask.Ask.TheVariants.{Need, Ready, End}
 use Rattle.rs_rank.specs.declared.key.Key.{Key}
@@ -61,7 +61,7 @@ full_key mu row = key_of mu.weights (bit_or mu.terms (mask_of mu.term)) row
 abbrev pub fed : RankRow → ℕ → Mu → Mu
 fed row worth mu = record mu {
   last = Some (key_of mu.weights mu.terms row);
-  held = insert_by key_cmp (full_key mu (scored mu row worth)) (scored mu row worth) mu.held;
+  held = put key_cmp (λ pair. pair.0) (full_key mu (scored mu row worth), scored mu row worth) mu.held;
 }
 
 -- the first held row, if it can be taken

@@ -1,5 +1,5 @@
 -- Where a rank operator stands, of the rows of its input and of the answers that it gives.
-use Rattle.std.specs.Prelude.{ℕ, zero, suc, ◌≡◌, ◌≤◌, ◌+◌, ◌-◌, ◌*◌, false, nat_lt, List, [], ◌∷◌, length, map, take, drop, Option, Some, None, bit_or, slice_index}
+use Rattle.std.specs.Prelude.{ℕ, zero, suc, ◌≡◌, ◌≤◌, ◌+◌, ◌-◌, ◌*◌, false, nat_lt, List, length, map, take, drop, bit_or, slice_index}
 use Rattle.std.specs.List.{AllByRecursion}
 use Rattle.std.specs.Option.{option_map}
 use Rattle.rs_order.specs.Asks.{asks_for, tau}

@@ -11,17 +11,14 @@ use Rattle.rs_order.specs.Merging.{merged, woven}
 use Rattle.rs_order.specs.Schedule.{JoinSide, Left, Right, Turn, schedule, turns_from, turns_of}
 use Rattle.rs_order.proofs.AsksFacts.{comes_before_bar-further}
 use Rattle.rs_order.proofs.ClimbingFacts.{AllByRecursion-In, AllByRecursion-from_In}
+use Rattle.rs_order.proofs.EachFacts.{each-weaker}
 use Rattle.rs_order.proofs.MergingFacts.{In-merged-back}
 use Rattle.rs_order.proofs.PartFacts.{cmp-behind-Less}
 
 -- rising keys never fall
 pub Ascends-Climbs : {X K : Type 0} (cmp : K → K → Ordering) (key : X → K) (xs : List X) → Climbs cmp key xs → Ascends cmp key xs
 Ascends-Climbs cmp key [] climbs = tt
-Ascends-Climbs cmp key (x ∷ xs) climbs = (each xs climbs.0, Ascends-Climbs cmp key xs climbs.1)
-  where
-    each : (ys : List _) → AllByRecursion (Precedes cmp key x) ys → AllByRecursion (IsNoLater cmp key x) ys
-    each [] h = tt
-    each (y ∷ ys) h = (ap is_gt h.0, each ys h.1)
+Ascends-Climbs cmp key (x ∷ xs) climbs = (each-weaker (Precedes cmp key x) (IsNoLater cmp key x) (λ y h. ap is_gt h) xs climbs.0, Ascends-Climbs cmp key xs climbs.1)
 
 -- no key comes at or before another one and that one at or before a third, and the first behind it
 IsNoLater-trans : {X K : Type 0} (cmp : K → K → Ordering) → IsTotalOrder cmp → (key : X → K) (x y z : X) → IsNoLater cmp key x y → IsNoLater cmp key y z → IsNoLater cmp key x z

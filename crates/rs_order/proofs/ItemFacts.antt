@@ -8,6 +8,7 @@ use Rattle.std.specs.Cmp.{IsTotalOrder}
 use Rattle.rs_order.specs.Climbing.{Climbs, Differs, HasDistinctKeys, In, Precedes}
 use Rattle.rs_order.specs.Sorting.{sorted}
 use Rattle.rs_order.proofs.ClimbingFacts.{AllByRecursion-In, AllByRecursion-from_In, Climbs-same}
+use Rattle.rs_order.proofs.EachFacts.{each-filter}
 use Rattle.rs_order.proofs.SortingFacts.{Climbs-sorted, In-sorted, In-sorted-back}
 
 -- an item of one of two lists is one of both together
@@ -121,7 +122,7 @@ module _ {X K : Type 0} (cmp : K → K → Ordering) (key : X → K) where
   Climbs-filter p (x ∷ xs) c =
       elim (p x) as (λ b. Climbs cmp key (cond b (x ∷ filter p xs) (filter p xs))) [
         | true ↦ (
-          AllByRecursion-from_In (Precedes cmp key x) (filter p xs) (λ z h. AllByRecursion-In (Precedes cmp key x) xs c.0 z (In-filter-back p z xs h).0),
+          each-filter (Precedes cmp key x) p xs c.0,
           Climbs-filter p xs c.1,
         )
         | false ↦ Climbs-filter p xs c.1
@@ -133,7 +134,7 @@ module _ {X K : Type 0} (cmp : K → K → Ordering) (key : X → K) where
   HasDistinctKeys-filter p (x ∷ xs) d =
       elim (p x) as (λ b. HasDistinctKeys cmp key (cond b (x ∷ filter p xs) (filter p xs))) [
         | true ↦ (
-          AllByRecursion-from_In (Differs cmp key x) (filter p xs) (λ z h. AllByRecursion-In (Differs cmp key x) xs d.0 z (In-filter-back p z xs h).0),
+          each-filter (Differs cmp key x) p xs d.0,
           HasDistinctKeys-filter p xs d.1,
         )
         | false ↦ HasDistinctKeys-filter p xs d.1

@@ -1,6 +1,7 @@
 pub mod AscendingFacts
 pub mod AsksFacts
 pub mod ClimbingFacts
+pub mod EachFacts
 pub mod ItemFacts
 pub mod MergingFacts
 pub mod PartFacts

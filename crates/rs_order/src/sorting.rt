@@ -1,11 +1,22 @@
 //! Laws of the order of a list by a key. The functions compute nothing; each is called for its contract.
 
-ghost use Rattle.std.specs.Prelude.{◌≡◌, Bool, List, map};
-ghost use Rattle.std.specs.List.{filter};
+ghost use Rattle.std.specs.Prelude.{◌≡◌, Bool, List, ◌∷◌, map};
+ghost use Rattle.std.specs.List.{AllByRecursion, filter};
 ghost use Rattle.std.specs.List.Sorted.{IsPermutation};
 ghost use Rattle.std.specs.Ordering.{on, then_cmp};
-ghost use Rattle.rs_order.specs.Climbing.{Climbs, HasDistinctKeys, SameItems};
-ghost use Rattle.rs_order.specs.Sorting.{sorted};
+ghost use Rattle.rs_order.specs.Climbing.{Climbs, Differs, HasDistinctKeys, SameItems};
+ghost use Rattle.rs_order.specs.Sorting.{put, sorted};
+
+/// Putting an item in gives the items that were there and the new one, each as often.
+pub fn put_is_permutation<X, K: Ord>()
+    ensures { (key : X → K) (x : X) (xs : List X) → IsPermutation (x ∷ xs) (put K.cmp key x xs) }
+{}
+
+/// Keys that rise still do so once an item is put in, if none had its key.
+pub fn put_climbs<X, K: Ord>()
+    ensures { (key : X → K) (x : X) (xs : List X) → Climbs K.cmp key xs → AllByRecursion (Differs K.cmp key x) xs
+        → Climbs K.cmp key (put K.cmp key x xs) }
+{}
 
 /// The keys of a sorted list rise, if no two items have equal keys.
 pub fn sorted_climbs<X, K: Ord>()
