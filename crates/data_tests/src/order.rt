@@ -1,23 +1,33 @@
 use rs_order::{
-    asks_are_exact, asks_grow, bars_rise, first_items_are_shared, merged_climbs,
-    merged_has_the_items, same_items_make_one_list, sorted_climbs, sorted_has_the_items,
-    sorted_is_permutation, sorted_keeps_places, sorted_twice_is_sorted_once,
-    those_before_come_first,
+    asks_are_exact, asks_grow, bars_rise, climbing_lists_ascend, first_items_are_shared,
+    merged_ascends, merged_climbs, merged_has_the_items, merges_go_on_with_the_lesser,
+    same_items_make_one_list, schedules_grow, schedules_have_the_asks, sorted_climbs,
+    sorted_has_the_items, sorted_is_permutation, sorted_keeps_places, sorted_twice_is_sorted_once,
+    sorting_commutes_with_filtering, sorting_commutes_with_mapping,
+    those_before_begin_those_further, those_before_come_first,
 };
 
 #[test]
 fn laws_hold_of_numbers() {
     same_items_make_one_list::<(u64, u32), u64>();
     first_items_are_shared::<(u64, u32), u64>();
+    climbing_lists_ascend::<(u64, u32), u64>();
     sorted_climbs::<(u64, u32), u64>();
     sorted_has_the_items::<(u64, u32), u64>();
     sorted_is_permutation::<(u64, u32), u64>();
     sorted_twice_is_sorted_once::<(u64, u32), u64, u32>();
     sorted_keeps_places::<(u64, u32), u64, u32>();
+    sorting_commutes_with_mapping::<u32, (u64, u32), u64>();
+    sorting_commutes_with_filtering::<(u64, u32), u64>();
     merged_climbs::<(u64, u32), u64>();
+    merged_ascends::<(u64, u32), u64>();
     merged_has_the_items::<(u64, u32), u64>();
+    merges_go_on_with_the_lesser::<(u64, u32), u64>();
     those_before_come_first::<(u64, u32), u64>();
+    those_before_begin_those_further::<(u64, u32), u64>();
     asks_are_exact::<(u64, u32), u64>();
     asks_grow::<(u64, u32), u64>();
     bars_rise::<(u64, u32), u64>();
+    schedules_have_the_asks::<u64>();
+    schedules_grow::<u64>();
 }

@@ -5,7 +5,8 @@ ghost use Rattle.std.specs.Cmp.{partial_order_from_own_ties};
 ghost use Rattle.std.specs.Cmp.Rules.{comparing};
 ghost use Rattle.std.specs.Ordering.{nat_cmp, on, flip_args, then_cmp, eq_by_cmp, as_partial_cmp};
 
-use rs_queue::{Queue, insert_has_the_pairs, insert_keeps_the_order, keys_come_before_later_ones};
+use rs_order::{keys_come_before_later_ones, put_climbs, put_is_permutation};
+use rs_queue::Queue;
 use rs_value::{Memory, Text};
 use std::alloc::Global;
 use std::cmp::Ordering;
@@ -258,10 +259,10 @@ fn hands_the_pair_back_where_memory_ends(rt: HostRuntime) {
 
 #[test]
 fn laws_hold_of_pairs() {
-    insert_has_the_pairs::<u32, u64>();
-    insert_has_the_pairs::<Held, Text>();
-    insert_keeps_the_order::<u32, u64>();
-    insert_keeps_the_order::<Held, Text>();
-    keys_come_before_later_ones::<u32, u64>();
-    keys_come_before_later_ones::<Held, Text>();
+    put_is_permutation::<(u32, u64), u32>();
+    put_is_permutation::<(Held, Text), Held>();
+    put_climbs::<(u32, u64), u32>();
+    put_climbs::<(Held, Text), Held>();
+    keys_come_before_later_ones::<(u32, u64), u32>();
+    keys_come_before_later_ones::<(Held, Text), Held>();
 }

@@ -4,8 +4,10 @@ use Rattle.std.proofs.lemmas.Cmp.{ranked}
 use Rattle.std.specs.List.{AllByRecursion}
 use Rattle.std.specs.Ordering.{is_eq, nat_cmp}
 use Rattle.std.specs.declared.cmp.Ordering.TheVariants.{Less, Equal, Greater}
-use Rattle.rs_queue.specs.Queue.{has_key, insert_by}
-use Rattle.rs_queue.proofs.QueueFacts.{All-insert_by}
+use Rattle.rs_order.specs.Sorting.{put}
+use Rattle.rs_order.proofs.EachFacts.{each-weaker}
+use Rattle.rs_order.proofs.SortingFacts.{each-put}
+use Rattle.rs_queue.specs.Queue.{has_key}
 use Rattle.queue_speed.specs.Work.{filled, number_at, worked}
 
 -- each key ends in a number below n
@@ -27,13 +29,10 @@ has_key-new number n (pair ∷ rest) small below =
         ]) refl
 
 -- and once it is there all end in numbers below the next
-pub AreBelow-push : (number n item : ℕ) (pairs : List (ℕ × ℕ)) → n < 2097152 → AreBelow n pairs → AreBelow (n + 1) (insert_by nat_cmp (number * 2097152 + n) item pairs)
+pub AreBelow-push : (number n item : ℕ) (pairs : List (ℕ × ℕ)) → n < 2097152 → AreBelow n pairs → AreBelow (n + 1) (put nat_cmp (λ pair. pair.0) (number * 2097152 + n, item) pairs)
 AreBelow-push number n item pairs small below =
-    All-insert_by nat_cmp (λ pair. pair.0 % 2097152 < n + 1) (number * 2097152 + n) item pairs (omega arith) (more pairs below)
-  where
-    more : (pairs : List (ℕ × ℕ)) → AreBelow n pairs → AreBelow (n + 1) pairs
-    more [] below = tt
-    more (pair ∷ rest) below = (let less = below.0 in omega arith, more rest below.1)
+    each-put nat_cmp (λ pair. pair.0) (λ pair. pair.0 % 2097152 < n + 1) (number * 2097152 + n, item) pairs (omega arith)
+    (each-weaker (λ pair. pair.0 % 2097152 < n) (λ pair. pair.0 % 2097152 < n + 1) (λ pair less. omega arith) pairs below)
 
 -- the generator's next number
 pub number_at-more : (n : ℕ) → number_at (n + 1) ≡ 16807 * number_at n % 2147483647

@@ -1,7 +1,7 @@
 -- The work whose time is taken: a queue is filled, and then a pair is taken out and one put in, again and again.
 use Rattle.std.specs.Prelude.{ℕ, zero, suc, ◌+◌, ◌*◌, ◌/◌, ◌%◌, List, [], ◌∷◌, drop}
 use Rattle.std.specs.Ordering.{nat_cmp}
-use Rattle.rs_queue.specs.Queue.{insert_by}
+use Rattle.rs_order.specs.Sorting.{put}
 
 -- the numbers of the generator x -> 16807 x modulo 2^31 - 1, from 1 on
 abbrev pub number_at : ℕ → ℕ
@@ -33,7 +33,7 @@ start size = record { step = step_of size; count = 0; held = []; checksum = 0 }
 abbrev pub pushed : Work → Work
 pushed work = record work {
   count = suc work.count;
-  held = insert_by nat_cmp (key_at work.step work.count) work.count work.held;
+  held = put nat_cmp (λ pair. pair.0) (key_at work.step work.count, work.count) work.held;
 }
 
 -- a checksum with one more key, which depends on the order of the keys

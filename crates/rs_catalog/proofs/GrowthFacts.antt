@@ -13,7 +13,8 @@ use Rattle.rs_catalog.specs.Inside.{IsInside, IsRanked, catalogue_of}
 use Rattle.rs_catalog.specs.declared.catalog.RankIndex.{RankIndex as StoredIndex}
 use Rattle.rs_catalog.specs.declared.index.IndexDef.{IndexDef}
 use Rattle.rs_catalog.proofs.NameFacts.{IsFree, length-keys}
-use Rattle.rs_catalog.proofs.PlaceFacts.{slice_get-push, All-push, All-weaker}
+use Rattle.rs_order.proofs.EachFacts.{each-push, each-weaker}
+use Rattle.rs_catalog.proofs.PlaceFacts.{slice_get-push}
 
 -- each table and predicate of a catalogue has its place in another one
 record Grows (old new : Catalogue) : Type 0 where
@@ -66,7 +67,7 @@ module _ (tables : List (List ℕ × Relation)) (predicates : List (List ℕ × 
         few_indexes = inside.few_indexes;
         predicate_keys = inside.predicate_keys;
         index_keys = inside.index_keys;
-        ranked = All-weaker (IsRanked old) (IsRanked new) (IsRanked-grows old new grows) old.indexes inside.ranked;
+        ranked = each-weaker (IsRanked old) (IsRanked new) (IsRanked-grows old new grows) old.indexes inside.ranked;
       }
 
   -- a table was put last, or there was no memory for it
@@ -92,7 +93,7 @@ module _ (tables : List (List ℕ × Relation)) (predicates : List (List ℕ × 
         predicate_keys = map-append (λ e. e.0) predicates ((predicate.name, predicate) ∷ []) ∙ ap (λ names. names ++ predicate.name ∷ []) inside.predicate_keys
             ∙ sym (ap (map (λ p. p.name)) values ∙ map-append (λ p. p.name) old.predicates (predicate ∷ []));
         index_keys = inside.index_keys;
-        ranked = All-weaker (IsRanked old) (IsRanked new) (IsRanked-grows old new grows) old.indexes inside.ranked;
+        ranked = each-weaker (IsRanked old) (IsRanked new) (IsRanked-grows old new grows) old.indexes inside.ranked;
       }
 
   -- a predicate was put last, or there was no memory for it
@@ -119,7 +120,7 @@ module _ (tables : List (List ℕ × Relation)) (predicates : List (List ℕ × 
         index_keys = map-append (λ e. e.0) indexes ((stored.def.name, stored) ∷ []) ∙ ap (λ names. names ++ stored.def.name ∷ []) inside.index_keys
             ∙ sym (ap (map (λ i. i.def.name)) grown ∙ map-append (λ i. i.def.name) old.indexes (last ∷ []));
         ranked = subst (AllByRecursion (IsRanked new)) (sym grown)
-            (All-push (IsRanked new) old.indexes last (All-weaker (IsRanked old) (IsRanked new) (IsRanked-grows old new grows) old.indexes inside.ranked) (IsRanked-grows old new grows last ranked));
+            (each-push (IsRanked new) old.indexes last (each-weaker (IsRanked old) (IsRanked new) (IsRanked-grows old new grows) old.indexes inside.ranked) (IsRanked-grows old new grows last ranked));
       }
 
   -- an index was put last, or there was no memory for it

@@ -14,7 +14,8 @@ use Rattle.rs_catalog.specs.declared.catalog.RankIndex.{RankIndex as StoredIndex
 use Rattle.rs_catalog.specs.declared.index.BoundArg.{BoundArg}
 use Rattle.rs_catalog.specs.declared.index.IndexDef.{IndexDef}
 use Rattle.rs_catalog.specs.declared.room.What.TheVariants.{Table}
-use Rattle.rs_catalog.proofs.PlaceFacts.{position-map, All-at}
+use Rattle.rs_order.proofs.EachFacts.{each-slice_get}
+use Rattle.rs_catalog.proofs.PlaceFacts.{position-map}
 
 module _ (tables : List (List ℕ × Relation)) (predicates : List (List ℕ × PredicateDef)) (indexes : List (List ℕ × StoredIndex)) where
   -- the keys of the tables are their names
@@ -41,7 +42,7 @@ module _ (tables : List (List ℕ × Relation)) (predicates : List (List ℕ × 
   -- the index at a place is one of the catalogue
   pub ranked_at : IsInside tables predicates indexes → (n : ℕ) (stored : StoredIndex) → slice_get (values_of indexes) n ≡ Some stored → IsRanked (catalogue_of tables predicates indexes) (record { def = stored.def; ranking = stored.ranking.items })
   ranked_at inside n stored at =
-      All-at (IsRanked (catalogue_of tables predicates indexes)) (catalogue_of tables predicates indexes).indexes n (record { def = stored.def; ranking = stored.ranking.items }) inside.ranked (index_at n stored at)
+      each-slice_get (IsRanked (catalogue_of tables predicates indexes)) (catalogue_of tables predicates indexes).indexes n (record { def = stored.def; ranking = stored.ranking.items }) inside.ranked (index_at n stored at)
 
   -- an entry of its ranking has a row of its table, and a score of its predicate
   pub entry_fits : IsInside tables predicates indexes → (n : ℕ) (stored : StoredIndex) → slice_get (values_of indexes) n ≡ Some stored → (place : ℕ) (entry : ScoredRow) → slice_get stored.ranking.items place ≡ Some entry
@@ -53,4 +54,4 @@ module _ (tables : List (List ℕ × Relation)) (predicates : List (List ℕ × 
       let found : Some stored.def ≡ Some def = sym (ap (option_map (λ i. i.def)) (index_at n stored at)) ∙ is in
       let same : stored.def ≡ def = cc in
       subst (λ def. IsEntry (length (rows_for catalogue def)) (predicate_for catalogue def).max entry) same
-      (All-at (IsEntry (length (rows_for catalogue stored.def)) (predicate_for catalogue stored.def).max) stored.ranking.items place entry ranked.ranking.each there)
+      (each-slice_get (IsEntry (length (rows_for catalogue stored.def)) (predicate_for catalogue stored.def).max) stored.ranking.items place entry ranked.ranking.each there)

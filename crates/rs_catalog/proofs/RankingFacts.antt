@@ -7,6 +7,7 @@ use Rattle.std.proofs.lemmas.List.{get_or_at, take_at}
 use Rattle.std.proofs.lemmas.Option.{unwrap_or-slice_get}
 use Rattle.rs_value.specs.declared.value.Value.{Value}
 use Rattle.rs_table.specs.Appended.{appended}
+use Rattle.rs_order.proofs.EachFacts.{each-push, each-weaker}
 use Rattle.rs_expr.specs.Scores.{is_score, score_of}
 use Rattle.rs_rank.specs.Stable.{put_all, put_behind, stable}
 use Rattle.rs_rank.proofs.StableFacts.{AllByRecursion-put_behind, AllByRecursion-stable, length-stable}
@@ -15,16 +16,6 @@ use Rattle.rs_catalog.specs.Indexes.{InOrder, IsEntry, IsFirstBad, IsRanking, Pr
 use Rattle.rs_catalog.specs.declared.index.IndexFault.{IndexFault}
 use Rattle.rs_catalog.specs.declared.index.IndexFault.TheVariants.{BadScore}
 use Rattle.rs_catalog.proofs.ScoreFacts.{entry_of, scored_from-bad, scored_from-score}
-
--- a property that follows from another
-AllByRecursion-weaker : {A : Type 0} (P Q : A → Type 0) → ((x : A) → P x → Q x) → (xs : List A) → AllByRecursion P xs → AllByRecursion Q xs
-AllByRecursion-weaker P Q follows [] all = tt
-AllByRecursion-weaker P Q follows (x ∷ xs) all = (follows x all.0, AllByRecursion-weaker P Q follows xs all.1)
-
--- a property of one more element at the end
-AllByRecursion-push : {A : Type 0} (P : A → Type 0) (xs : List A) (x : A) → AllByRecursion P xs → P x → AllByRecursion P (xs ++ x ∷ [])
-AllByRecursion-push P [] x all one = (one, tt)
-AllByRecursion-push P (y ∷ ys) x all one = (all.0, AllByRecursion-push P ys x all.1 one)
 
 -- the score of an entry
 abbrev score : ScoredRow → ℕ
@@ -53,7 +44,7 @@ InOrder-put_behind entry (first ∷ rest) before ordered =
       )
       | false ↦ λ e.
           let above : first.score < entry.score = leb-false entry.score first.score e in
-          ((inl above, AllByRecursion-weaker (Precedes first) (Precedes entry) (λ b after. inl (omega (arith, score-Precedes first b after))) rest ordered.0), ordered)
+          ((inl above, each-weaker (Precedes first) (Precedes entry) (λ b after. inl (omega (arith, score-Precedes first b after))) rest ordered.0), ordered)
     ]) refl
 
 -- an entry of a row that is none of theirs
@@ -65,7 +56,7 @@ RowsDiffer-put_behind entry (first ∷ rest) before differ =
         AllByRecursion-put_behind score (λ b. first.row ≡ b.row → ⊥) entry rest (λ same. omega (arith, before.0)) differ.0,
         RowsDiffer-put_behind entry rest before.1 differ.1,
       )
-      | false ↦ (AllByRecursion-weaker (λ e. e.row < entry.row) (λ b. entry.row ≡ b.row → ⊥) (λ b less same. omega arith) (first ∷ rest) before, differ)
+      | false ↦ (each-weaker (λ e. e.row < entry.row) (λ b. entry.row ≡ b.row → ⊥) (λ b less same. omega arith) (first ∷ rest) before, differ)
     ]
 
 -- entries of rows that are numbered from this one on
@@ -80,7 +71,7 @@ put_all-ordered [] ordered row numbered before is differ = (is, differ)
 put_all-ordered (entry ∷ rest) ordered row numbered before is differ =
     let earlier = subst (λ r. AllByRecursion (λ e. e.row < r) ordered) (sym numbered.0) before in
     put_all-ordered rest (put_behind score entry ordered) (row + 1) numbered.1
-    (AllByRecursion-put_behind score (λ e. e.row < row + 1) entry ordered (omega (arith, numbered.0)) (AllByRecursion-weaker (λ e. e.row < row) (λ e. e.row < row + 1) (λ e less. omega arith) ordered before))
+    (AllByRecursion-put_behind score (λ e. e.row < row + 1) entry ordered (omega (arith, numbered.0)) (each-weaker (λ e. e.row < row) (λ e. e.row < row + 1) (λ e less. omega arith) ordered before))
     (InOrder-put_behind entry ordered earlier is) (RowsDiffer-put_behind entry ordered earlier differ)
 
 -- a number that is a score
@@ -161,7 +152,7 @@ module _ (answer : List Value → ℤ) (max : ℕ) where
         let size : length (done ++ values ∷ []) ≡ length done + 1 = length-append done (values ∷ []) in
         let others = behind-err (entry_of answer max (length done + 1) values ∷ []) (scored_from answer max (length done + 1 + 1) rest) fault (sym (scored_from-score answer max (length done + 1) values rest is) ∙ e) in
         subst (λ rows. IsFirstBad answer max rows fault) (append_assoc done (values ∷ []) rest)
-        (later (AllByRecursion-push (λ values. is_score max (answer values) ≡ true) done values scores is) (ap (λ n. scored_from answer max (n + 1) rest) size ∙ others))
+        (later (each-push (λ values. is_score max (answer values) ≡ true) done values scores is) (ap (λ n. scored_from answer max (n + 1) rest) size ∙ others))
     go false is later =
         let own = row_at-behind done values rest in
         let bad = scored_from-bad answer max (length done + 1) values rest is in
@@ -181,7 +172,7 @@ module _ (answer : List Value → ℤ) (max : ℕ) where
       let ordered = put_all-ordered entries [] 1 made.numbered tt tt tt in
       record {
         all = length-stable score entries ∙ made.all;
-        each = AllByRecursion-stable score (IsEntry (length rows) max) entries (AllByRecursion-weaker (IsMade rows) (IsEntry (length rows) max) (λ entry is. is.is_entry) entries made.each);
+        each = AllByRecursion-stable score (IsEntry (length rows) max) entries (each-weaker (IsMade rows) (IsEntry (length rows) max) (λ entry is. is.is_entry) entries made.each);
         differ = ordered.1;
         ordered = ordered.0;
       }
@@ -209,7 +200,7 @@ module _ (answer : List Value → ℤ) (max : ℕ) where
       → AllByRecursion (λ entry. pos entry.score ≡ answer (row_at rows entry.row)) ranking
   scores-made rows ranking e =
       let sorted = sorted-from rows ranking e in
-      let own = AllByRecursion-weaker (IsMade rows) (λ entry. pos entry.score ≡ answer (row_at rows entry.row)) (λ entry is. is.own) sorted.entries (AreMade-scored rows [] sorted.entries sorted.made).each in
+      let own = each-weaker (IsMade rows) (λ entry. pos entry.score ≡ answer (row_at rows entry.row)) (λ entry is. is.own) sorted.entries (AreMade-scored rows [] sorted.entries sorted.made).each in
       subst (AllByRecursion (λ entry. pos entry.score ≡ answer (row_at rows entry.row))) sorted.is
       (AllByRecursion-stable score (λ entry. pos entry.score ≡ answer (row_at rows entry.row)) sorted.entries own)
 

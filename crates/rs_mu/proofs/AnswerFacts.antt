@@ -6,6 +6,7 @@ use Rattle.std.specs.declared.cmp.Ordering.{Ordering}
 use Rattle.rs_order.specs.Climbing.{Climbs, Differs, HasDistinctKeys, Precedes}
 use Rattle.rs_order.specs.Sorting.{sorted}
 use Rattle.rs_order.proofs.ClimbingFacts.{AllByRecursion-In, AllByRecursion-from_In}
+use Rattle.rs_order.proofs.EachFacts.{each-map}
 use Rattle.rs_order.proofs.SortingFacts.{HasDistinctKeys-sorted, In-sorted-back}
 use Rattle.rs_rank.proofs.OrderFacts.{IsTied-of_parts, IsTied-parts}
 use Rattle.rs_rank.specs.declared.key.Key.{Key}
@@ -13,12 +14,12 @@ use Rattle.rs_rank.specs.declared.row.RankRow.{RankRow}
 use Rattle.rs_rank.specs.Keys.{key_cmp}
 use Rattle.rs_rank.specs.Masks.{mask_of}
 use Rattle.rs_rank.specs.Rows.{HasSum}
-use Rattle.rs_mu.specs.Mu.{AreOtherIds}
-use Rattle.rs_mu.specs.Stands.{Evaluation, HaveOtherIds, IsInput, answers, new_key, old_key, with_worth}
+use Rattle.rs_rank.specs.Ids.{AreOtherIds}
+use Rattle.rs_rank.specs.Rows.{HaveOtherIds}
+use Rattle.rs_mu.specs.Stands.{Evaluation, IsInput, answers, new_key, old_key, with_worth}
 use Rattle.rs_mu.proofs.MuFacts.{sum_with-term}
-use Rattle.rs_mu.proofs.ReorderFacts.{whole-climbs}
+use Rattle.rs_order.proofs.ReorderFacts.{whole-climbs}
 use Rattle.rs_mu.proofs.StandFacts.{answers-map, key_cmp-total, length-sorted, reorder, row_key}
-use Rattle.rs_mu.proofs.StepFacts.{All-map}
 
 pub length-answers : (e : Evaluation) (rows : List RankRow) → length (answers e rows) ≡ length rows
 length-answers e rows = length-sorted key_cmp (new_key e) (map (with_worth e) rows) ∙ length-map rows (with_worth e)
@@ -26,7 +27,7 @@ length-answers e rows = length-sorted key_cmp (new_key e) (map (with_worth e) ro
 -- keys rise also after a map that keeps them
 Climbs-map : {X Y K : Type 0} (cmp : K → K → Ordering) (key : Y → K) (f : X → Y) (xs : List X) → Climbs cmp (λ x. key (f x)) xs → Climbs cmp key (map f xs)
 Climbs-map cmp key f [] climbs = tt
-Climbs-map cmp key f (x ∷ xs) climbs = (All-map (Precedes cmp key (f x)) f xs climbs.0, Climbs-map cmp key f xs climbs.1)
+Climbs-map cmp key f (x ∷ xs) climbs = (each-map (Precedes cmp key (f x)) f xs climbs.0, Climbs-map cmp key f xs climbs.1)
 
 pub answers-climb : (e : Evaluation) (rows : List RankRow) → IsInput e rows → Climbs key_cmp (new_key e) (answers e rows)
 answers-climb e rows input =
@@ -36,7 +37,7 @@ answers-climb e rows input =
 pub answers-sums : (e : Evaluation) (rows : List RankRow) → IsInput e rows → AllByRecursion (HasSum e.weights (bit_or e.terms (mask_of e.term))) (answers e rows)
 answers-sums e rows input =
     subst (AllByRecursion (HasSum e.weights (bit_or e.terms (mask_of e.term)))) (sym (answers-map e rows))
-    (All-map (HasSum e.weights (bit_or e.terms (mask_of e.term))) (with_worth e) (sorted key_cmp (row_key e) rows)
+    (each-map (HasSum e.weights (bit_or e.terms (mask_of e.term))) (with_worth e) (sorted key_cmp (row_key e) rows)
     (AllByRecursion-from_In (λ row. HasSum e.weights (bit_or e.terms (mask_of e.term)) (with_worth e row)) (sorted key_cmp (row_key e) rows)
     (λ row h.
     let here = In-sorted-back key_cmp (row_key e) rows row h in
@@ -66,7 +67,7 @@ HaveOtherIds-keys (row ∷ rows) distinct = (
 
 HaveOtherIds-map : (e : Evaluation) (rows : List RankRow) → HaveOtherIds rows → HaveOtherIds (map (with_worth e) rows)
 HaveOtherIds-map e [] others = tt
-HaveOtherIds-map e (row ∷ rows) others = (All-map (λ other. AreOtherIds row.ids other.ids) (with_worth e) rows others.0, HaveOtherIds-map e rows others.1)
+HaveOtherIds-map e (row ∷ rows) others = (each-map (λ other. AreOtherIds row.ids other.ids) (with_worth e) rows others.0, HaveOtherIds-map e rows others.1)
 
 pub answers-others : (e : Evaluation) (rows : List RankRow) → IsInput e rows → HaveOtherIds (answers e rows)
 answers-others e rows input =

@@ -13,7 +13,8 @@ use Rattle.rs_rank.specs.declared.weights.Weights.{Weights}
 use Rattle.rs_rank.specs.Keys.{key_cmp}
 use Rattle.rs_rank.specs.Masks.{mask_of}
 use Rattle.rs_rank.specs.Weights.{IsWeights, most_evaluated}
-use Rattle.rs_mu.specs.Mu.{AreOtherIds, IsNewTerm}
+use Rattle.rs_rank.specs.Ids.{AreOtherIds}
+use Rattle.rs_mu.specs.Mu.{IsNewTerm}
 
 -- a sum with the share of one more term is one that the terms can give
 pub sum_with-term : (weights : Weights) (terms term sum worth : ℕ) → IsWeights weights → IsNewTerm terms term → sum ≤ most_evaluated weights terms → worth ≤ get_or weights.max (term - 1) 0 →

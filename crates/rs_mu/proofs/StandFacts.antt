@@ -26,10 +26,13 @@ use Rattle.rs_rank.specs.declared.row.RankRow.{RankRow}
 use Rattle.rs_rank.specs.Keys.{key_cmp}
 use Rattle.rs_rank.specs.Masks.{mask_of}
 use Rattle.rs_rank.specs.Weights.{rest}
-use Rattle.rs_mu.specs.Mu.{AreOtherIds, Mu, ask_for, ask_of}
-use Rattle.rs_mu.specs.Stands.{Evaluation, HaveOtherIds, IsInput, Stands, answers, asks_of, last_of, new_key, old_key, state_after, with_worth}
-use Rattle.rs_mu.proofs.PartFacts.{last_of-take, slice_get-shared, sorted-map}
-use Rattle.rs_mu.proofs.ReorderFacts.{Reorder, asked-reached, asks_upto, asks_upto-more, asks_upto-most, reached-asked, settled}
+use Rattle.rs_rank.specs.Ids.{AreOtherIds}
+use Rattle.rs_mu.specs.Mu.{Mu, ask_for, ask_of}
+use Rattle.rs_rank.specs.Rows.{HaveOtherIds}
+use Rattle.rs_order.specs.Last.{last_of}
+use Rattle.rs_mu.specs.Stands.{Evaluation, IsInput, Stands, answers, asks_of, new_key, old_key, state_after, with_worth}
+use Rattle.rs_order.proofs.PartFacts.{last_of-take, slice_get-shared, sorted-map}
+use Rattle.rs_order.proofs.ReorderFacts.{Reorder, asked-reached, asks_upto, asks_upto-more, asks_upto-most, reached-asked, settled}
 
 pub key_cmp-total : IsTotalOrder key_cmp
 key_cmp-total = search (comparing, rules) depth 9

@@ -1,55 +1,28 @@
 -- What each call does to where the rank operator stands.
-use Rattle.std.proofs.Common.{◌≡◌, ℕ, zero, suc, ◌+◌, ◌-◌, ◌≤◌, Bool, true, false, cond, List, [], ◌∷◌, length, get_or, take, drop, map, Option, Some, None, refl, sym, ◌∙◌, ap, subst, inl, inr, arith, ltb}
+use Rattle.std.proofs.Common.{◌≡◌, ℕ, zero, suc, ◌+◌, ◌-◌, ◌≤◌, Bool, true, false, List, [], ◌∷◌, length, get_or, take, drop, map, Option, Some, None, refl, sym, ◌∙◌, ap, subst, inl, inr, arith, ltb}
 use Rattle.std.proofs.lemmas.Bool.{lt-ltb}
 use Rattle.std.proofs.lemmas.List.{drop-drop, drop-map, take_all}
 use Rattle.std.proofs.lemmas.Option.{get_or_from_slice_get, slice_get_within}
-use Rattle.std.specs.Cmp.{IsTotalOrder}
 use Rattle.std.specs.List.{AllByRecursion, slice_get}
 use Rattle.std.specs.Option.{option_map}
-use Rattle.std.specs.Ordering.{is_lt, ordering_reverse}
-use Rattle.std.specs.declared.cmp.Ordering.{Ordering}
-use Rattle.std.specs.declared.cmp.Ordering.TheVariants.{Less, Equal, Greater}
-use Rattle.rs_order.specs.Climbing.{Differs, In}
+use Rattle.rs_order.specs.Climbing.{In}
 use Rattle.rs_order.specs.Sorting.{put, sorted}
 use Rattle.rs_order.proofs.ClimbingFacts.{AllByRecursion-In, AllByRecursion-from_In}
+use Rattle.rs_order.proofs.EachFacts.{each-map}
 use Rattle.rs_order.proofs.SortingFacts.{In-sorted-back}
-use Rattle.rs_queue.specs.Queue.{insert_by}
 use Rattle.rs_rank.specs.declared.ask.Ask.TheVariants.{Need, Ready}
 use Rattle.rs_rank.specs.declared.key.Key.{Key}
 use Rattle.rs_rank.specs.declared.row.RankRow.{RankRow}
 use Rattle.rs_rank.specs.Keys.{key_cmp}
 use Rattle.rs_rank.specs.Rows.{HasSum}
-use Rattle.rs_mu.specs.Mu.{AreOtherIds, CanEnd, CanFeed, IsBehind, Mu, ask_of, fed, first_row, left_for, taken_for}
-use Rattle.rs_mu.specs.Stands.{Evaluation, HaveOtherIds, Stands, answers, last_of, new_key, old_key, with_worth}
-use Rattle.rs_mu.proofs.PartFacts.{Climbs-behind, Differs-at, In-at, In-drop, In-slice_get, last_of-take, slice_get-drop, slice_get-shared}
-use Rattle.rs_mu.proofs.ReorderFacts.{drop-part-more}
-use Rattle.rs_mu.proofs.StandFacts.{Tells, answers-settled, asks-grow, asks_of-upto, held-map, key_cmp-total, ltb-false, pair_of, reorder, row_key, stands-tells}
-
--- pairs are put in where their items are
-insert_by-put : {X V K : Type 0} (cmp : K → K → Ordering) → IsTotalOrder cmp → (key : X → K) (item : X → V) (x : X) (ys : List X) → AllByRecursion (Differs cmp key x) ys → insert_by cmp (key x) (item x) (map (λ y. (key y, item y)) ys) ≡ map (λ y. (key y, item y)) (put cmp key x ys)
-insert_by-put cmp o key item x [] differs = refl
-insert_by-put {X} {V} {K} cmp o key item x (y ∷ ys) differs =
-    (elim (cmp (key x) (key y)) as (λ r. cmp (key x) (key y) ≡ r →
-    cond (is_lt (cmp (key y) (key x))) ((key y, item y) ∷ insert_by cmp (key x) (item x) (map pair ys)) ((key x, item x) ∷ (key y, item y) ∷ map pair ys)
-    ≡ map pair (cond (is_lt r) (x ∷ y ∷ ys) (y ∷ put cmp key x ys))) [
-      | Less ↦ λ e. ap choose (turned Less e)
-      | Equal ↦ λ e. absurd (differs.0 e)
-      | Greater ↦ λ e. ap choose (turned Greater e) ∙ ap (λ zs. (key y, item y) ∷ zs) (insert_by-put cmp o key item x ys differs.1)
-    ]) refl
-  where
-    pair : X → K × V
-    pair z = (key z, item z)
-
-    choose : Bool → List (K × V)
-    choose b = cond b ((key y, item y) ∷ insert_by cmp (key x) (item x) (map pair ys)) ((key x, item x) ∷ (key y, item y) ∷ map pair ys)
-
-    turned : (r : Ordering) → cmp (key x) (key y) ≡ r → is_lt (cmp (key y) (key x)) ≡ is_lt (ordering_reverse r)
-    turned r e = ap is_lt (o.antisymm (key y) (key x) ∙ ap ordering_reverse e)
-
--- what holds of each pair that an item makes
-pub All-map : {X Y : Type 0} (P : Y → Type 0) (f : X → Y) (xs : List X) → AllByRecursion (λ x. P (f x)) xs → AllByRecursion P (map f xs)
-All-map P f [] all = tt
-All-map P f (x ∷ xs) all = (all.0, All-map P f xs all.1)
+use Rattle.rs_rank.specs.Ids.{AreOtherIds}
+use Rattle.rs_mu.specs.Mu.{CanEnd, CanFeed, IsBehind, Mu, ask_of, fed, first_row, left_for, taken_for}
+use Rattle.rs_rank.specs.Rows.{HaveOtherIds}
+use Rattle.rs_order.specs.Last.{last_of}
+use Rattle.rs_mu.specs.Stands.{Evaluation, Stands, answers, new_key, old_key}
+use Rattle.rs_order.proofs.PartFacts.{Climbs-behind, In-at, In-drop, In-slice_get, last_of-take, put-map, slice_get-drop, slice_get-shared}
+use Rattle.rs_order.proofs.ReorderFacts.{drop-part-more}
+use Rattle.rs_mu.proofs.StandFacts.{Tells, answers-settled, asks-grow, asks_of-upto, held-map, ltb-false, pair_of, reorder, row_key, stands-tells}
 
 -- a row has other ids than those in front of it
 HaveOtherIds-at : (n : ℕ) (rows : List RankRow) (row other : RankRow) → HaveOtherIds rows → slice_get rows n ≡ Some row → In other (take n rows) → AreOtherIds other.ids row.ids
@@ -73,6 +46,10 @@ keeps e last ended held = record { weights = e.weights; terms = e.terms; term = 
 keeps-same : (e : Evaluation) (last last' : Option Key) (ended ended' : Bool) (held held' : List (Key × RankRow)) → last ≡ last' → ended ≡ ended' → held ≡ held' → keeps e last ended held ≡ keeps e last' ended' held'
 keeps-same e last last' ended ended' held held' f g h =
     ap (λ l. keeps e l ended held) f ∙ ap (λ b. keeps e last' b held) g ∙ ap (keeps e last' ended') h
+
+-- the key of a held row
+abbrev key_of_pair : Key × RankRow → Key
+key_of_pair pair = pair.0
 
 -- a row is taken
 pub taken-stands : (e : Evaluation) (rows : List RankRow) (asks count : ℕ) (mu : Mu) → Stands e rows asks count mu → ask_of mu ≡ Ready → (taken_for (ask_of mu) mu ≡ slice_get (answers e rows) count) × Stands e rows asks (suc count) (left_for (ask_of mu) mu)
@@ -113,7 +90,7 @@ fed-can e rows asks count mu row s need next =
       behind = subst (λ (m : Mu). IsBehind m.last (old_key (record e { weights = m.weights; terms = m.terms }) row)) (sym s.state) (behind asks next);
       others = subst (λ (m : Mu). AllByRecursion (λ pair. AreOtherIds pair.0.ids row.ids) m.held) (sym s.state)
           (subst (AllByRecursion (λ pair. AreOtherIds pair.0.ids row.ids)) (sym (held-map e (take asks rows) count))
-          (All-map (λ pair. AreOtherIds pair.0.ids row.ids) (pair_of e) (drop count (sorted key_cmp (row_key e) (take asks rows)))
+          (each-map (λ pair. AreOtherIds pair.0.ids row.ids) (pair_of e) (drop count (sorted key_cmp (row_key e) (take asks rows)))
           (AllByRecursion-from_In (λ other. AreOtherIds other.ids row.ids) (drop count (sorted key_cmp (row_key e) (take asks rows)))
           (λ other h. HaveOtherIds-at asks rows row other s.input.others next
           (In-sorted-back key_cmp (row_key e) (take asks rows) other (In-drop count (sorted key_cmp (row_key e) (take asks rows)) other h))))));
@@ -138,15 +115,12 @@ fed-stands e rows asks count mu row s need next =
       state =
           ap (fed row (e.worth row)) s.state
           ∙ keeps-same e (Some (old_key e row)) (option_map (old_key e) (last_of (take (suc asks) rows))) (ltb (length rows) asks) (ltb (length rows) (suc asks))
-          (insert_by key_cmp (row_key e row) (with_worth e row) (map (λ row. (new_key e row, row)) (drop count (answers e (take asks rows)))))
+          (put key_cmp key_of_pair (pair_of e row) (map (λ row. (new_key e row, row)) (drop count (answers e (take asks rows)))))
           (map (λ row. (new_key e row, row)) (drop count (answers e (take (suc asks) rows))))
           (ap (option_map (old_key e)) (ap Some (sym (get_or_from_slice_get rows asks row row next)) ∙ sym (last_of-take asks rows row inside)))
           (ltb-false (length rows) asks (omega arith) ∙ sym (ltb-false (length rows) (suc asks) (omega arith)))
-          (ap (insert_by key_cmp (row_key e row) (with_worth e row)) (held-map e (take asks rows) count)
-          ∙ insert_by-put key_cmp key_cmp-total (row_key e) (with_worth e) row (drop count (sorted key_cmp (row_key e) (take asks rows)))
-          (AllByRecursion-from_In (Differs key_cmp (row_key e) row) (drop count (sorted key_cmp (row_key e) (take asks rows)))
-          (λ other h. Differs-at key_cmp key_cmp-total (row_key e) asks rows row other (reorder e rows s.input).distinct next
-          (In-sorted-back key_cmp (row_key e) (take asks rows) other (In-drop count (sorted key_cmp (row_key e) (take asks rows)) other h))))
+          (ap (put key_cmp key_of_pair (pair_of e row)) (held-map e (take asks rows) count)
+          ∙ put-map key_cmp key_of_pair (pair_of e) row (drop count (sorted key_cmp (row_key e) (take asks rows)))
           ∙ ap (map (pair_of e)) (sym (drop-part-more key_cmp (old_key e) (row_key e) rows (reorder e rows s.input) count asks row (omega arith) next))
           ∙ sym (held-map e (take (suc asks) rows) count));
       least = omega arith;

@@ -2,13 +2,13 @@
 use Rattle.std.specs.Prelude.{ℕ, ◌≡◌, ◌≤◌, ◌+◌, ◌-◌, ◌*◌, ◌||◌, Bool, false, not, List, [], ◌∷◌, Option, Some, None, bit_or, drop, slice_index, if◌then◌else◌}
 use Rattle.std.specs.List.{AllByRecursion}
 use Rattle.std.specs.Ordering.{is_gt}
-use Rattle.rs_queue.specs.Queue.{insert_by}
+use Rattle.rs_order.specs.Sorting.{put}
 use Rattle.rs_rank.specs.declared.ask.Ask.{Ask}
 use Rattle.rs_rank.specs.declared.ask.Ask.TheVariants.{Need, Ready, End}
-use Rattle.rs_rank.specs.declared.ids.Ids.{Ids}
 use Rattle.rs_rank.specs.declared.key.Key.{Key}
 use Rattle.rs_rank.specs.declared.row.RankRow.{RankRow}
 use Rattle.rs_rank.specs.declared.weights.Weights.{Weights}
+use Rattle.rs_rank.specs.Ids.{AreOtherIds}
 use Rattle.rs_rank.specs.Keys.{IsBefore, key_cmp}
 use Rattle.rs_rank.specs.Masks.{has_number, mask_of}
 use Rattle.rs_rank.specs.Rows.{HasSum, key_of}
@@ -61,7 +61,7 @@ full_key mu row = key_of mu.weights (bit_or mu.terms (mask_of mu.term)) row
 abbrev pub fed : RankRow → ℕ → Mu → Mu
 fed row worth mu = record mu {
   last = Some (key_of mu.weights mu.terms row);
-  held = insert_by key_cmp (full_key mu (scored mu row worth)) (scored mu row worth) mu.held;
+  held = put key_cmp (λ pair. pair.0) (full_key mu (scored mu row worth), scored mu row worth) mu.held;
 }
 
 -- the first held row, if it can be taken
@@ -84,10 +84,6 @@ left_for End mu = mu
 abbrev pub IsBehind : Option Key → Key → Type 0
 IsBehind None key = Unit {0}
 IsBehind (Some last) key = IsBefore last key
-
--- ids of another block, or with other row numbers
-abbrev pub AreOtherIds : Ids → Ids → Type 0
-AreOtherIds ids other = ids.block ≡ other.block → ids.rows ≡ other.rows → ⊥
 
 -- the input's next row
 pub record CanFeed (row : RankRow) (worth : ℕ) (mu : Mu) : Type 0 where

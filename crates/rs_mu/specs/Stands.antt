@@ -1,18 +1,19 @@
 -- Where a rank operator stands, of the rows of its input and of the answers that it gives.
-use Rattle.std.specs.Prelude.{ℕ, zero, suc, ◌≡◌, ◌≤◌, ◌+◌, ◌-◌, ◌*◌, false, nat_lt, List, [], ◌∷◌, length, map, take, drop, Option, Some, None, bit_or, slice_index}
+use Rattle.std.specs.Prelude.{ℕ, zero, suc, ◌≡◌, ◌≤◌, ◌+◌, ◌-◌, ◌*◌, false, nat_lt, List, length, map, take, drop, bit_or, slice_index}
 use Rattle.std.specs.List.{AllByRecursion}
 use Rattle.std.specs.Option.{option_map}
 use Rattle.rs_order.specs.Asks.{asks_for, tau}
 use Rattle.rs_order.specs.Climbing.{Climbs}
+use Rattle.rs_order.specs.Last.{last_of}
 use Rattle.rs_order.specs.Sorting.{sorted}
 use Rattle.rs_rank.specs.declared.key.Key.{Key}
 use Rattle.rs_rank.specs.declared.row.RankRow.{RankRow}
 use Rattle.rs_rank.specs.declared.weights.Weights.{Weights}
 use Rattle.rs_rank.specs.Keys.{key_cmp}
 use Rattle.rs_rank.specs.Masks.{mask_of}
-use Rattle.rs_rank.specs.Rows.{HasSum, key_of}
+use Rattle.rs_rank.specs.Rows.{HasSum, HaveOtherIds, key_of}
 use Rattle.rs_rank.specs.Weights.{IsWeights}
-use Rattle.rs_mu.specs.Mu.{AreOtherIds, IsNewTerm, Mu}
+use Rattle.rs_mu.specs.Mu.{IsNewTerm, Mu}
 
 -- the terms that are evaluated below, the one that is evaluated here, and what it is worth on each row
 pub record Evaluation : Type 0 where
@@ -37,11 +38,6 @@ with_worth e row = record row { sum = row.sum + slice_index e.weights.weight (e.
 abbrev pub answers : Evaluation → List RankRow → List RankRow
 answers e rows = sorted key_cmp (new_key e) (map (with_worth e) rows)
 
--- no two rows have the same ids
-abbrev pub HaveOtherIds : List RankRow → Type 0
-HaveOtherIds [] = Unit {0}
-HaveOtherIds (row ∷ rows) = AllByRecursion (λ other. AreOtherIds row.ids other.ids) rows × HaveOtherIds rows
-
 -- rows whose keys rise, with sums that the terms below can give, and no worth above the maximum
 pub record IsInput (e : Evaluation) (rows : List RankRow) : Type 0 where
   pub weights : IsWeights e.weights
@@ -55,16 +51,6 @@ pub record IsInput (e : Evaluation) (rows : List RankRow) : Type 0 where
 abbrev pub asks_of : Evaluation → List RankRow → ℕ → ℕ
 asks_of e rows zero = 0
 asks_of e rows (suc n) = asks_for key_cmp (old_key e) rows (tau (new_key e) (answers e rows) n)
-
--- the last of an item and those behind it
-abbrev pub last_from : {X : Type 0} → X → List X → X
-last_from x [] = x
-last_from x (y ∷ ys) = last_from y ys
-
--- the last item of a list
-abbrev pub last_of : {X : Type 0} → List X → Option X
-last_of [] = None
-last_of (x ∷ xs) = Some (last_from x xs)
 
 -- what the operator keeps after so many asks of its input and so many answers. The ask behind the last row tells it that
 -- no more comes

@@ -10,7 +10,8 @@ ghost use Rattle.rs_rank.specs.Keys.{key_cmp};
 ghost use Rattle.rs_rank.specs.Masks.{mask_of};
 ghost use Rattle.rs_rank.specs.Rows.{HasSum};
 ghost use Rattle.rs_mu.specs.Mu.{CanEnd, CanFeed, Mu, ask_of, fed, left_for, new_mu, taken_for};
-ghost use Rattle.rs_mu.specs.Stands.{Evaluation, HaveOtherIds, IsInput, Stands, answers, asks_of, new_key};
+ghost use Rattle.rs_rank.specs.Rows.{HaveOtherIds};
+ghost use Rattle.rs_mu.specs.Stands.{Evaluation, IsInput, Stands, answers, asks_of, new_key};
 
 /// A new operator stands at no ask and no answer.
 pub fn new_core_stands()

@@ -71,7 +71,7 @@ is_lt-Less Equal e = cc
 is_lt-Less Greater e = cc
 
 -- a key before a bar comes before a bar that lies further on
-comes_before_bar-further : {K : Type 0} (cmp : K → K → Ordering) → IsTotalOrder cmp → (bar further : Option K) (k : K) → IsNoFurther cmp bar further → comes_before_bar cmp bar k ≡ true → comes_before_bar cmp further k ≡ true
+pub comes_before_bar-further : {K : Type 0} (cmp : K → K → Ordering) → IsTotalOrder cmp → (bar further : Option K) (k : K) → IsNoFurther cmp bar further → comes_before_bar cmp bar k ≡ true → comes_before_bar cmp further k ≡ true
 comes_before_bar-further cmp o None None k h e = refl
 comes_before_bar-further cmp o (Some b) None k h e = refl
 comes_before_bar-further cmp o None (Some f) k h e = absurd h

@@ -1,5 +1,11 @@
+pub mod AscendingFacts
 pub mod AsksFacts
 pub mod ClimbingFacts
+pub mod EachFacts
+pub mod ItemFacts
 pub mod MergingFacts
+pub mod PartFacts
+pub mod ReorderFacts
+pub mod ScheduleFacts
 pub mod SortingFacts
 pub mod Worked

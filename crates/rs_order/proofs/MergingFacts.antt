@@ -8,6 +8,17 @@ use Rattle.rs_order.specs.Climbing.{In, Precedes, Differs, Climbs}
 use Rattle.rs_order.specs.Merging.{woven, merged}
 use Rattle.rs_order.proofs.ClimbingFacts.{AllByRecursion-In, AllByRecursion-from_In}
 
+-- the lesser of the two first items is taken first, and the merge goes on with what is left
+pub merged-left : {X K : Type 0} (cmp : K → K → Ordering) (key : X → K) (x y : X) (xs ys : List X) → is_gt (cmp (key x) (key y)) ≡ false → merged cmp key (x ∷ xs) (y ∷ ys) ≡ x ∷ merged cmp key xs (y ∷ ys)
+merged-left cmp key x y xs ys e = ap (λ b. cond b (y ∷ woven cmp key x (merged cmp key xs) ys) (x ∷ merged cmp key xs (y ∷ ys))) e
+
+pub merged-right : {X K : Type 0} (cmp : K → K → Ordering) (key : X → K) (x y : X) (xs ys : List X) → is_gt (cmp (key x) (key y)) ≡ true → merged cmp key (x ∷ xs) (y ∷ ys) ≡ y ∷ merged cmp key (x ∷ xs) ys
+merged-right cmp key x y xs ys e = ap (λ b. cond b (y ∷ woven cmp key x (merged cmp key xs) ys) (x ∷ merged cmp key xs (y ∷ ys))) e
+
+pub merged-none : {X K : Type 0} (cmp : K → K → Ordering) (key : X → K) (xs : List X) → merged cmp key xs [] ≡ xs
+merged-none cmp key [] = refl
+merged-none cmp key (x ∷ xs) = ap (λ zs. x ∷ zs) (merged-none cmp key xs)
+
 -- an item of what is woven is the one put in, of the rest, or of the list
 In-woven-back : {X K : Type 0} (cmp : K → K → Ordering) (key : X → K) (x : X) (rest : List X → List X) (z : X) (A : Type 0) (ys : List X) → ((ws : List X) → In z (rest ws) → A ⊎ In z ws) → In z (woven cmp key x rest ys) → ((z ≡ x) ⊎ A) ⊎ In z ys
 In-woven-back cmp key x rest z A [] back h =

@@ -10,6 +10,7 @@ use Rattle.std.specs.declared.cmp.Ordering.{Ordering}
 use Rattle.rs_order.specs.Climbing.{In, Precedes, Differs, Climbs, HasDistinctKeys}
 use Rattle.rs_order.specs.Sorting.{put, put_each, sorted}
 use Rattle.rs_order.proofs.ClimbingFacts.{AllByRecursion-In, AllByRecursion-from_In, Climbs-same}
+use Rattle.rs_order.proofs.EachFacts.{each-weaker}
 
 -- an item that is put in is in the list, and so are those that were in it
 pub In-put : {X K : Type 0} (cmp : K → K → Ordering) (key : X → K) (x : X) (ys : List X) (z : X) → In z (x ∷ ys) → In z (put cmp key x ys)
@@ -61,24 +62,19 @@ pub In-sorted-back : {X K : Type 0} (cmp : K → K → Ordering) (key : X → K)
 In-sorted-back cmp key xs z h = elim (In-put_each-back cmp key [] xs z h) [ inl k ↦ absurd k | inr k ↦ k ]
 
 -- what holds of an item and of each of a list holds of each once the item is put in
-AllByRecursion-put : {X K : Type 0} (cmp : K → K → Ordering) (key : X → K) (P : X → Type 0) (x : X) (ys : List X) → P x → AllByRecursion P ys → AllByRecursion P (put cmp key x ys)
-AllByRecursion-put cmp key P x ys here all =
+pub each-put : {X K : Type 0} (cmp : K → K → Ordering) (key : X → K) (P : X → Type 0) (x : X) (ys : List X) → P x → AllByRecursion P ys → AllByRecursion P (put cmp key x ys)
+each-put cmp key P x ys here all =
     AllByRecursion-from_In P (put cmp key x ys) (λ z h. AllByRecursion-In P (x ∷ ys) (here, all) z (In-put-back cmp key x ys z h))
-
--- what the first item precedes, an item before the first one precedes
-AllByRecursion-Precedes : {X K : Type 0} (cmp : K → K → Ordering) → IsTotalOrder cmp → (key : X → K) (x y : X) (ys : List X) → Precedes cmp key x y → AllByRecursion (Precedes cmp key y) ys → AllByRecursion (Precedes cmp key x) ys
-AllByRecursion-Precedes cmp o key x y [] e all = tt
-AllByRecursion-Precedes cmp o key x y (z ∷ zs) e all = (o.trans (key x) (key y) (key z) e all.0, AllByRecursion-Precedes cmp o key x y zs e all.1)
 
 -- an item whose key is that of no other one is put in with keys still rising
 pub Climbs-put : {X K : Type 0} (cmp : K → K → Ordering) → IsTotalOrder cmp → (key : X → K) (x : X) (ys : List X) → AllByRecursion (Differs cmp key x) ys → Climbs cmp key ys → Climbs cmp key (put cmp key x ys)
 Climbs-put cmp o key x [] differs climbs = (tt, tt)
 Climbs-put cmp o key x (y ∷ ys) differs climbs =
     (elim (cmp (key x) (key y)) as (λ r. cmp (key x) (key y) ≡ r → Climbs cmp key (cond (is_lt r) (x ∷ y ∷ ys) (y ∷ put cmp key x ys))) [
-      | Less ↦ λ e. ((e, AllByRecursion-Precedes cmp o key x y ys e climbs.0), climbs)
+      | Less ↦ λ e. ((e, each-weaker (Precedes cmp key y) (Precedes cmp key x) (λ z h. o.trans (key x) (key y) (key z) e h) ys climbs.0), climbs)
       | Equal ↦ λ e. absurd (differs.0 e)
       | Greater ↦ λ e.
-          (AllByRecursion-put cmp key (Precedes cmp key y) x ys (o.antisymm (key y) (key x) ∙ ap ordering_reverse e) climbs.0, Climbs-put cmp o key x ys differs.1 climbs.1)
+          (each-put cmp key (Precedes cmp key y) x ys (o.antisymm (key y) (key x) ∙ ap ordering_reverse e) climbs.0, Climbs-put cmp o key x ys differs.1 climbs.1)
     ]) refl
 
 -- keys that differ do so both ways round
@@ -88,7 +84,7 @@ Differs-turned cmp o key x y differs e = differs (tied_back o (key y) (key x) e)
 -- an item still differs from all, once another one that differs from it is put in
 Differs-put : {X K L : Type 0} (by : L → L → Ordering) (other : X → L) (cmp : K → K → Ordering) → IsTotalOrder cmp → (key : X → K) (x : X) (xs ordered : List X) → AllByRecursion (Differs cmp key x) xs → ((z : X) → In z (x ∷ xs) → AllByRecursion (Differs cmp key z) ordered) → (z : X) → In z xs → AllByRecursion (Differs cmp key z) (put by other x ordered)
 Differs-put by other cmp o key x xs ordered differs apart z h =
-    AllByRecursion-put by other (Differs cmp key z) x ordered (Differs-turned cmp o key x z (AllByRecursion-In (Differs cmp key x) xs differs z h)) (apart z (inr h))
+    each-put by other (Differs cmp key z) x ordered (Differs-turned cmp o key x z (AllByRecursion-In (Differs cmp key x) xs differs z h)) (apart z (inr h))
 
 -- the same of items that are put in one after another
 pub Climbs-put_each : {X K : Type 0} (cmp : K → K → Ordering) → IsTotalOrder cmp → (key : X → K) (ordered xs : List X) → HasDistinctKeys cmp key xs → ((z : X) → In z xs → AllByRecursion (Differs cmp key z) ordered) → Climbs cmp key ordered → Climbs cmp key (put_each cmp key ordered xs)
@@ -109,7 +105,7 @@ HasDistinctKeys-put by other cmp o key x (y ∷ ys) differs distinct =
     elim (is_lt (by (other x) (other y))) as (λ b. HasDistinctKeys cmp key (cond b (x ∷ y ∷ ys) (y ∷ put by other x ys))) [
       | true ↦ (differs, distinct)
       | false ↦
-          (AllByRecursion-put by other (Differs cmp key y) x ys (Differs-turned cmp o key x y differs.0) distinct.0, HasDistinctKeys-put by other cmp o key x ys differs.1 distinct.1)
+          (each-put by other (Differs cmp key y) x ys (Differs-turned cmp o key x y differs.0) distinct.0, HasDistinctKeys-put by other cmp o key x ys differs.1 distinct.1)
     ]
 
 HasDistinctKeys-put_each : {X K L : Type 0} (by : L → L → Ordering) (other : X → L) (cmp : K → K → Ordering) → IsTotalOrder cmp → (key : X → K) (ordered xs : List X) → HasDistinctKeys cmp key xs → ((z : X) → In z xs → AllByRecursion (Differs cmp key z) ordered) → HasDistinctKeys cmp key ordered → HasDistinctKeys cmp key (put_each by other ordered xs)
@@ -131,6 +127,12 @@ sorted-sorted by other cmp o key xs distinct =
     (Climbs-sorted cmp o key xs distinct)
     (λ z h. In-sorted cmp key xs z (In-sorted-back by other xs z (In-sorted-back cmp key (sorted by other xs) z h)))
     (λ z h. In-sorted cmp key (sorted by other xs) z (In-sorted by other xs z (In-sorted-back cmp key xs z h)))
+
+-- an item is put in behind all up to the first that it comes before
+pub put-split : {X K : Type 0} (cmp : K → K → Ordering) (key : X → K) (x : X) (front back : List X) → AllByRecursion (λ y. is_lt (cmp (key x) (key y)) ≡ false) front → AllByRecursion (λ y. is_lt (cmp (key x) (key y)) ≡ true) back → put cmp key x (front ++ back) ≡ front ++ x ∷ back
+put-split cmp key x [] [] before after = refl
+put-split cmp key x [] (y ∷ back) before after = rw after.0 refl
+put-split cmp key x (y ∷ front) back before after = rw before.0 (ap (λ rest. y ∷ rest) (put-split cmp key x front back before.1 after))
 
 -- an item is put in at the same place where two tests agree
 put-same : {X K L : Type 0} (cmp : K → K → Ordering) (key : X → K) (by : L → L → Ordering) (other : X → L) (x : X) (ys : List X) → AllByRecursion (λ y. is_lt (cmp (key x) (key y)) ≡ is_lt (by (other x) (other y))) ys → put cmp key x ys ≡ put by other x ys
@@ -156,7 +158,7 @@ put_each-places : {X K L : Type 0} (cmp : K → K → Ordering) (key : X → K) 
 put_each-places cmp key by o place ordered [] climbs before = refl
 put_each-places {X} cmp key by o place ordered (x ∷ xs) climbs before =
     put_each-places cmp key by o place (put cmp key x ordered) xs climbs.1
-    (λ z h. AllByRecursion-put cmp key (λ w. Precedes by place w z) x ordered (AllByRecursion-In (Precedes by place x) xs climbs.0 z h) (before z (inr h)))
+    (λ z h. each-put cmp key (λ w. Precedes by place w z) x ordered (AllByRecursion-In (Precedes by place x) xs climbs.0 z h) (before z (inr h)))
     ∙ ap (λ list. put_each (then_cmp (on key cmp) (on place by)) (λ (w : X). w) list xs)
     (put-same cmp key (then_cmp (on key cmp) (on place by)) (λ (w : X). w) x ordered
     (AllByRecursion-from_In (λ y. is_lt (cmp (key x) (key y)) ≡ is_lt (then_cmp (on key cmp) (on place by) x y)) ordered
@@ -167,7 +169,7 @@ pub sorted-places : {X K L : Type 0} (cmp : K → K → Ordering) (key : X → K
 sorted-places cmp key by o place xs climbs = put_each-places cmp key by o place [] xs climbs (λ z h. tt)
 
 -- putting an item in adds it to the list
-IsPermutation-put : {X K : Type 0} (cmp : K → K → Ordering) (key : X → K) (x : X) (ys : List X) → IsPermutation (x ∷ ys) (put cmp key x ys)
+pub IsPermutation-put : {X K : Type 0} (cmp : K → K → Ordering) (key : X → K) (x : X) (ys : List X) → IsPermutation (x ∷ ys) (put cmp key x ys)
 IsPermutation-put cmp key x [] = IsPermutation-refl (x ∷ [])
 IsPermutation-put cmp key x (y ∷ ys) =
     elim (is_lt (cmp (key x) (key y))) as (λ b. IsPermutation (x ∷ y ∷ ys) (cond b (x ∷ y ∷ ys) (y ∷ put cmp key x ys))) [

@@ -1,6 +1,7 @@
--- Lists whose keys rise, by an order of keys.
-use Rattle.std.specs.Prelude.{ℕ, zero, suc, ◌≡◌, ◌⊎◌, ◌↔◌, List, [], ◌∷◌}
+-- Lists whose keys rise, or never fall, by an order of keys.
+use Rattle.std.specs.Prelude.{ℕ, zero, suc, ◌≡◌, ◌⊎◌, ◌↔◌, false, List, [], ◌∷◌}
 use Rattle.std.specs.List.{AllByRecursion}
+use Rattle.std.specs.Ordering.{is_gt}
 use Rattle.std.specs.declared.cmp.Ordering.TheVariants.{Less, Equal}
 use Rattle.std.specs.declared.cmp.Ordering.{Ordering}
 
@@ -25,6 +26,15 @@ Differs cmp key x y = cmp (key x) (key y) ≡ Equal → ⊥
 abbrev pub Climbs : {X K : Type 0} → (K → K → Ordering) → (X → K) → List X → Type 0
 Climbs cmp key [] = Unit {0}
 Climbs cmp key (x ∷ xs) = AllByRecursion (Precedes cmp key x) xs × Climbs cmp key xs
+
+-- the key of the one item comes at or before that of the other
+abbrev pub IsNoLater : {X K : Type 0} → (K → K → Ordering) → (X → K) → X → X → Type 0
+IsNoLater cmp key x y = is_gt (cmp (key x) (key y)) ≡ false
+
+-- each key comes at or before all behind it
+abbrev pub Ascends : {X K : Type 0} → (K → K → Ordering) → (X → K) → List X → Type 0
+Ascends cmp key [] = Unit {0}
+Ascends cmp key (x ∷ xs) = AllByRecursion (IsNoLater cmp key x) xs × Ascends cmp key xs
 
 -- no two items have equal keys
 abbrev pub HasDistinctKeys : {X K : Type 0} → (K → K → Ordering) → (X → K) → List X → Type 0

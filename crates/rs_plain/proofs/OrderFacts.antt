@@ -1,6 +1,6 @@
 -- The ids of the rows of a query rise, and so the keys of its answer do.
-use Rattle.std.proofs.Common.{◌≡◌, ℕ, Bool, true, false, cond, ◌++◌, List, [], ◌∷◌, map, refl, sym, subst, ap, ◌∙◌, rules}
-use Rattle.std.specs.Prelude.{zero, suc, not, take, Option, Some, None}
+use Rattle.std.proofs.Common.{◌≡◌, ℕ, Bool, true, false, ◌++◌, List, [], ◌∷◌, map, refl, sym, subst, ap, ◌∙◌, rules}
+use Rattle.std.specs.Prelude.{not, Option, Some, None}
 use Rattle.std.specs.List.{AllByRecursion, filter}
 use Rattle.std.specs.Cmp.{IsTotalOrder, nat_cmp_is}
 use Rattle.std.specs.Cmp.Lexicographic.{slice_cmp}
@@ -10,6 +10,8 @@ use Rattle.std.specs.declared.cmp.Ordering.{Ordering}
 use Rattle.std.specs.declared.cmp.Ordering.TheVariants.{Less, Equal, Greater}
 use Rattle.rs_order.specs.Climbing.{Climbs, Differs, HasDistinctKeys, Precedes}
 use Rattle.rs_order.proofs.ClimbingFacts.{AllByRecursion-In}
+use Rattle.rs_order.proofs.EachFacts.{each-filter}
+use Rattle.rs_order.proofs.PartFacts.{Climbs-take}
 use Rattle.rs_order.proofs.SortingFacts.{Climbs-sorted, sorted-places}
 use Rattle.rs_rank.specs.declared.answer.Answer.{Answer}
 use Rattle.rs_rank.specs.declared.ids.Ids.{Ids}
@@ -26,7 +28,7 @@ use Rattle.rs_query.specs.declared.block.Block.{Block}
 use Rattle.rs_query.specs.declared.query.Query.{Query}
 use Rattle.rs_query.specs.declared.query.Query.TheVariants.{One, Set}
 use Rattle.rs_query.proofs.ChoiceFacts.{Climbs-combinations}
-use Rattle.rs_query.proofs.ItemFacts.{Climbs-append, Climbs-filter}
+use Rattle.rs_order.proofs.ItemFacts.{Climbs-append, Climbs-filter}
 use Rattle.rs_plain.specs.Ordering.{key_of}
 
 abbrev ids_of : Answer → Ids
@@ -37,25 +39,9 @@ abbrev Rise : List Answer → Type 0
 Rise rows = Climbs ids_cmp ids_of rows
 
 -- what holds of each row holds of those that are kept
-each-filter : {X : Type 0} (P : X → Type 0) (test : X → Bool) (xs : List X) → AllByRecursion P xs → AllByRecursion P (filter test xs)
-each-filter P test [] h = tt
-each-filter P test (x ∷ xs) h = go (test x) (each-filter P test xs h.1) where
-  go : (passes : Bool) → AllByRecursion P (filter test xs) → AllByRecursion P (cond passes (x ∷ filter test xs) (filter test xs))
-  go true rest = (h.0, rest)
-  go false rest = rest
-
 each-firsts : (P : Answer → Type 0) (rows : List Answer) → AllByRecursion P rows → AllByRecursion P (firsts rows)
 each-firsts P [] h = tt
 each-firsts P (row ∷ rows) h = (h.0, each-filter P (λ (other : Answer). not (same_values row.values other.values)) (firsts rows) (each-firsts P rows h.1))
-
-each-append : {X : Type 0} (P : X → Type 0) (xs ys : List X) → AllByRecursion P xs → AllByRecursion P ys → AllByRecursion P (xs ++ ys)
-each-append P [] ys h k = k
-each-append P (x ∷ xs) ys h k = (h.0, each-append P xs ys h.1 k)
-
-each-take : {X : Type 0} (P : X → Type 0) (n : ℕ) (xs : List X) → AllByRecursion P xs → AllByRecursion P (take n xs)
-each-take P zero xs h = tt
-each-take P (suc n) [] h = tt
-each-take P (suc n) (x ∷ xs) h = (h.0, each-take P n xs h.1)
 
 Rise-firsts : (rows : List Answer) → Rise rows → Rise (firsts rows)
 Rise-firsts [] h = tt
@@ -167,14 +153,9 @@ keyed : (rows : List Answer) → Climbs answer_cmp (λ (x : Answer). x) rows →
 keyed [] h = tt
 keyed (r ∷ rows) h = (each-keyed r rows h.0, keyed rows h.1)
 
-Climbs-take : (n : ℕ) (rows : List Answer) → Climbs key_cmp key_of rows → Climbs key_cmp key_of (take n rows)
-Climbs-take zero rows h = tt
-Climbs-take (suc n) [] h = tt
-Climbs-take (suc n) (r ∷ rows) h = (each-take (Precedes key_cmp key_of r) n rows h.0, Climbs-take n rows h.1)
-
 Climbs-cut : (limit : Option ℕ) (rows : List Answer) → Climbs key_cmp key_of rows → Climbs key_cmp key_of (cut limit rows)
 Climbs-cut None rows h = h
-Climbs-cut (Some n) rows h = Climbs-take n rows h
+Climbs-cut (Some n) rows h = Climbs-take key_cmp key_of n rows h
 
 Climbs-stable : (rows : List Answer) → Rise rows → Climbs key_cmp key_of (stable (λ (r : Answer). r.score) rows)
 Climbs-stable rows h =

@@ -5,6 +5,7 @@ use Rattle.std.specs.List.{AllByRecursion, flat_map}
 use Rattle.std.proofs.lemmas.List.{map-append, take-append-drop, take_more, drop_all, drop_more}
 use Rattle.std.proofs.lemmas.Grind.{flat_map-append}
 use Rattle.std.proofs.Math.Nat.{mul-le-mul}
+use Rattle.rs_order.proofs.EachFacts.{each-get_or}
 use Rattle.rs_catalog.specs.Catalogue.{Catalogue}
 use Rattle.rs_query.specs.Answers.{Answering, score_of, worth_of}
 use Rattle.rs_query.specs.declared.block.Block.{Block}
@@ -22,16 +23,8 @@ slice_get-at [] i x within is = absurd (omega arith)
 slice_get-at (y ∷ xs) zero x within is = ap Some (sym is)
 slice_get-at (y ∷ xs) (suc i) x within is = slice_get-at xs i x (omega arith) is
 
-pub All-at : {A : Type 0} (P : A → Type 0) (xs : List A) (i : ℕ) (x : A) → AllByRecursion P xs → i < length xs → x ≡ get_or xs i x → P x
-All-at P [] i x all within is = absurd (omega arith)
-All-at P (y ∷ xs) zero x all within is = subst P (sym is) all.0
-All-at P (y ∷ xs) (suc i) x all within is = All-at P xs i x all.1 (omega arith) is
-
--- the same by what is got from the place
-pub All-got : {A : Type 0} (P : A → Type 0) (xs : List A) (i : ℕ) (x : A) → AllByRecursion P xs → slice_get xs i ≡ Some x → P x
-All-got P [] i x all at = cc
-All-got P (y ∷ xs) zero x all at = let same : y ≡ x = cc in subst P same all.0
-All-got P (y ∷ xs) (suc i) x all at = All-got P xs i x all.1 at
+pub each-at : {A : Type 0} (P : A → Type 0) (xs : List A) (i : ℕ) (x : A) → AllByRecursion P xs → i < length xs → x ≡ get_or xs i x → P x
+each-at P xs i x all within is = subst P (sym is) (each-get_or P xs i x all within)
 
 -- an item that is there is the same with every default
 pub get_or-own : {A : Type 0} (xs : List A) (i : ℕ) (d : A) → i < length xs → get_or xs i d ≡ get_or xs i (get_or xs i d)

@@ -14,7 +14,7 @@ use Rattle.rs_catalog.specs.Catalogue.{Catalogue}
 use Rattle.rs_query.specs.declared.block.Block.{Block}
 use Rattle.rs_query.specs.Choices.{IsChoice, IsRowNumber}
 use Rattle.rs_query.specs.Combinations.{choices, combinations, numbers_to, satisfies}
-use Rattle.rs_query.proofs.ItemFacts.{In-left, In-right, In-append, In-map, In-map-back, In-flat_map, In-flat_map-back, In-filter, In-filter-back, Climbs-append, Climbs-filter}
+use Rattle.rs_order.proofs.ItemFacts.{In-left, In-right, In-append, In-map, In-map-back, In-flat_map, In-flat_map-back, In-filter, In-filter-back, Climbs-append, Climbs-filter}
 
 -- the numbers up to one
 In-numbers_to : (r n : ℕ) → 1 ≤ r → r ≤ n → In r (numbers_to n)

@@ -13,7 +13,7 @@ use Rattle.rs_rank.specs.Masks.{has_number, mask_of}
 use Rattle.rs_catalog.specs.Catalogue.{Catalogue}
 use Rattle.rs_catalog.specs.declared.index.BoundArg.{BoundArg}
 use Rattle.rs_catalog.specs.declared.index.BoundArg.TheVariants as arg
-use Rattle.rs_query.proofs.ListFacts.{All-weaker}
+use Rattle.rs_order.proofs.EachFacts.{each-weaker}
 use Rattle.rs_query.specs.declared.block.Block.{Block}
 use Rattle.rs_query.specs.declared.term.Term.{Term}
 use Rattle.rs_query.specs.Conjuncts.{ConjunctDef}
@@ -132,12 +132,12 @@ module _ (catalogue : Catalogue) (block : Block) where
   -- the entries of each term are inside all entries
   pub terms-inside : IsBlock catalogue block → AllByRecursion (λ (t : Term). is_inside t.entries (all_entries block) ≡ true) block.terms
   terms-inside is =
-      All-weaker (IsTerm catalogue block) (λ (t : Term). is_inside t.entries (all_entries block) ≡ true) term-inside block.terms is.terms
+      each-weaker (IsTerm catalogue block) (λ (t : Term). is_inside t.entries (all_entries block) ≡ true) term-inside block.terms is.terms
 
   -- those of each conjunct
   pub conjuncts-inside : IsBlock catalogue block → AllByRecursion (λ (c : ConjunctDef). is_inside c.entries (all_entries block) ≡ true) block.conjuncts
   conjuncts-inside is =
-      All-weaker (IsConjunct catalogue block) (λ (c : ConjunctDef). is_inside c.entries (all_entries block) ≡ true) conjunct-inside block.conjuncts is.conjuncts
+      each-weaker (IsConjunct catalogue block) (λ (c : ConjunctDef). is_inside c.entries (all_entries block) ≡ true) conjunct-inside block.conjuncts is.conjuncts
 
   -- and those of the output columns
   pub items-inside : IsBlock catalogue block → is_inside (entries_of block.items) (all_entries block) ≡ true

@@ -20,7 +20,7 @@ use Rattle.rs_query.specs.Meaning.{conjunct_holds, is_inside}
 use Rattle.rs_query.specs.Tables.{HasRows, all_entries, row_number, size_of, sizes_of}
 use Rattle.rs_query.specs.WellFormed.{IsBlock, IsConjunct}
 use Rattle.rs_query.proofs.ChoiceFacts.{In-combinations-back}
-use Rattle.rs_query.proofs.ItemFacts.{In-map-back, filter-none, filter-flat_map, map-flat_map}
+use Rattle.rs_order.proofs.ItemFacts.{In-map-back, filter-none, filter-flat_map, map-flat_map}
 use Rattle.rs_query.proofs.LocalFacts.{conjunct_holds-local}
 
 -- the mask of the first entries

@@ -4,7 +4,6 @@ pub mod ChoiceFacts
 pub mod EntryFacts
 pub mod ExtendFacts
 pub mod HoldFacts
-pub mod ItemFacts
 pub mod ListFacts
 pub mod LocalFacts
 pub mod WeightFacts

@@ -3,35 +3,37 @@ use Rattle.std.proofs.Common.{◌≡◌, ℕ, Bool, true, false, List, [], ◌�
 use Rattle.std.proofs.lemmas.Bool.{true≢false}
 use Rattle.std.specs.Ordering.{nat_cmp, on, flip_args, is_eq}
 use Rattle.std.specs.declared.cmp.Ordering.TheVariants.{Less, Equal}
-use Rattle.rs_queue.specs.Queue.{Rises, has_key, insert_by}
+use Rattle.rs_order.specs.Climbing.{Climbs}
+use Rattle.rs_order.specs.Sorting.{put}
+use Rattle.rs_queue.specs.Queue.{has_key}
 
 -- by rising keys
-abbrev put : ℕ → ℕ → List (ℕ × ℕ) → List (ℕ × ℕ)
-put key item pairs = insert_by nat_cmp key item pairs
+abbrev put_rising : ℕ → ℕ → List (ℕ × ℕ) → List (ℕ × ℕ)
+put_rising key item pairs = put nat_cmp (λ pair. pair.0) (key, item) pairs
 
 -- the first pair, one in front of all, one between two, and one behind all
-first : put 5 50 [] ≡ (5, 50) ∷ []
+first : put_rising 5 50 [] ≡ (5, 50) ∷ []
 first = refl
 
-in_front : put 1 10 ((3, 30) ∷ (7, 70) ∷ []) ≡ (1, 10) ∷ (3, 30) ∷ (7, 70) ∷ []
+in_front : put_rising 1 10 ((3, 30) ∷ (7, 70) ∷ []) ≡ (1, 10) ∷ (3, 30) ∷ (7, 70) ∷ []
 in_front = refl
 
-between : put 5 50 ((3, 30) ∷ (7, 70) ∷ []) ≡ (3, 30) ∷ (5, 50) ∷ (7, 70) ∷ []
+between : put_rising 5 50 ((3, 30) ∷ (7, 70) ∷ []) ≡ (3, 30) ∷ (5, 50) ∷ (7, 70) ∷ []
 between = refl
 
-behind : put 9 90 ((3, 30) ∷ (7, 70) ∷ []) ≡ (3, 30) ∷ (7, 70) ∷ (9, 90) ∷ []
+behind : put_rising 9 90 ((3, 30) ∷ (7, 70) ∷ []) ≡ (3, 30) ∷ (7, 70) ∷ (9, 90) ∷ []
 behind = refl
 
 -- by falling keys
 abbrev put_falling : ℕ → ℕ → List (ℕ × ℕ) → List (ℕ × ℕ)
-put_falling key item pairs = insert_by (flip_args nat_cmp) key item pairs
+put_falling key item pairs = put (flip_args nat_cmp) (λ pair. pair.0) (key, item) pairs
 
 falling : put_falling 5 50 ((7, 70) ∷ (3, 30) ∷ []) ≡ (7, 70) ∷ (5, 50) ∷ (3, 30) ∷ []
 falling = refl
 
 -- by the first part of a key alone
 abbrev put_by_part : ℕ × ℕ → ℕ → List ((ℕ × ℕ) × ℕ) → List ((ℕ × ℕ) × ℕ)
-put_by_part key item pairs = insert_by (on (λ k. k.0) nat_cmp) key item pairs
+put_by_part key item pairs = put (on (λ k. k.0) nat_cmp) (λ pair. pair.0) (key, item) pairs
 
 by_part : put_by_part (5, 1) 50 (((3, 9), 30) ∷ ((7, 0), 70) ∷ []) ≡ ((3, 9), 30) ∷ ((5, 1), 50) ∷ ((7, 0), 70) ∷ []
 by_part = refl
@@ -55,7 +57,7 @@ there_by_part = refl
 
 -- pairs in order
 abbrev IsQueue : List (ℕ × ℕ) → Type 0
-IsQueue pairs = Rises nat_cmp pairs
+IsQueue pairs = Climbs nat_cmp (λ pair. pair.0) pairs
 
 in_order : IsQueue ((1, 10) ∷ (3, 30) ∷ (7, 70) ∷ [])
 in_order = ((refl, (refl, tt)), ((refl, tt), (tt, tt)))

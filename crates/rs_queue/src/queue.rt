@@ -2,7 +2,9 @@ ghost use Rattle.std.specs.Prelude.{◌≡◌, ◌≤◌, ◌↔◌, true, false
 ghost use Rattle.std.specs.List.{AllByRecursion, slice_get};
 ghost use Rattle.std.specs.Option.{option_map};
 ghost use Rattle.std.specs.Ordering.{is_gt};
-ghost use Rattle.rs_queue.specs.Queue.{Rises, has_key, insert_by};
+ghost use Rattle.rs_order.specs.Climbing.{Climbs};
+ghost use Rattle.rs_order.specs.Sorting.{put};
+ghost use Rattle.rs_queue.specs.Queue.{has_key};
 
 use std::alloc::Global;
 use std::marker::Model;
@@ -20,7 +22,7 @@ impl<K: Ord, V> Model for Queue<K, V> {
 
     ghost view = { λ q. reverse q.pairs.items };
 
-    ghost invariant = { λ q. Rises K.cmp (reverse q.pairs.items) };
+    ghost invariant = { λ q. Climbs K.cmp (λ pair. pair.0) (reverse q.pairs.items) };
 }
 
 impl<K: Ord, V> Queue<K, V> {
@@ -58,7 +60,7 @@ impl<K: Ord, V> Queue<K, V> {
     /// Puts a pair in at the place of its key. Where there is no memory for it, the pair comes back.
     pub fn push(&mut self, key: K, item: V) -> Result<(), (K, V)>
         requires { has_key K.cmp key self.old ≡ false }
-        ensures ok { OnOk result (self.new ≡ insert_by K.cmp key item self.old) }
+        ensures ok { OnOk result (self.new ≡ put K.cmp (λ pair. pair.0) (key, item) self.old) }
         ensures err { OnErr result (self.new ≡ self.old) }
         ensures pair { IfErr result (λ pair. pair ≡ (key, item)) }
     {
@@ -72,7 +74,7 @@ impl<K: Ord, V> Queue<K, V> {
     /// The first key, which comes before all others.
     pub fn peek(&self) -> Option<&K>
         ensures first { option_map (λ key. key.now) result ≡ option_map (λ pair. pair.0) (slice_get self.now 0) }
-        ensures ordered { Rises K.cmp self.now }
+        ensures ordered { Climbs K.cmp (λ pair. pair.0) self.now }
     {
         match self.pairs.last() {
             Some((key, _)) => Some(key),
@@ -84,7 +86,7 @@ impl<K: Ord, V> Queue<K, V> {
     pub fn pop(&mut self) -> Option<(K, V)>
         ensures first { result ≡ slice_get self.old 0 }
         ensures rest { self.new ≡ drop 1 self.old }
-        ensures ordered { Rises K.cmp self.old }
+        ensures ordered { Climbs K.cmp (λ pair. pair.0) self.old }
     {
         self.pairs.pop()
     }
@@ -92,7 +94,7 @@ impl<K: Ord, V> Queue<K, V> {
 
 /// How many pairs at the front have a key that comes after this one, where keys fall.
 fn place_of<K: Ord, V>(pairs: &[(K, V)], key: &K) -> usize
-    requires { Rises K.cmp (reverse pairs.now) }
+    requires { Climbs K.cmp (λ pair. pair.0) (reverse pairs.now) }
     ensures within { result ≤ length pairs.now }
     ensures after { AllByRecursion (λ pair. is_gt (K.cmp pair.0 key.now) ≡ true) (take result pairs.now) }
     ensures rest { AllByRecursion (λ pair. is_gt (K.cmp pair.0 key.now) ≡ false) (drop result pairs.now) }

@@ -7,6 +7,7 @@ use Rattle.std.specs.List.{AllByRecursion, filter}
 use Rattle.std.specs.List.Sorted.{IsPermutation, IsSortedBy, IsStableBy, ties}
 use Rattle.std.specs.Ordering.{is_lt, nat_cmp}
 use Rattle.std.proofs.lemmas.List.Sorted.{IsPermutation-refl, IsPermutation-cons, IsPermutation-swap, IsPermutation-trans, IsPermutation-middle, IsPermutation-append_left, length_permutation}
+use Rattle.rs_order.proofs.EachFacts.{each-weaker}
 use Rattle.rs_rank.specs.Stable.{put_behind, put_all, stable}
 
 -- scores never rise along the list
@@ -62,11 +63,6 @@ IsPermutation-put_all score ordered (row ∷ rest) =
 pub IsPermutation-stable : {T : Type 0} (score : T → ℕ) (rows : List T) → IsPermutation rows (stable score rows)
 IsPermutation-stable score rows = IsPermutation-put_all score [] rows
 
--- a property that follows from another
-AllByRecursion-weaker : {T : Type 0} (P Q : T → Type 0) → ((row : T) → P row → Q row) → (rows : List T) → AllByRecursion P rows → AllByRecursion Q rows
-AllByRecursion-weaker P Q follows [] all = tt
-AllByRecursion-weaker P Q follows (row ∷ rest) all = (follows row all.0, AllByRecursion-weaker P Q follows rest all.1)
-
 -- no row has a score above the bound of all
 of_score-above : {T : Type 0} (score : T → ℕ) (most n : ℕ) (rows : List T) → AllByRecursion (λ row. score row ≤ most) rows → most < n → of_score score n rows ≡ []
 of_score-above score most n [] all above = refl
@@ -84,7 +80,7 @@ Falls-put_behind {T} score row (first ∷ rest) falls =
       | true ↦ λ e. (AllByRecursion-put_behind score (λ later. score later ≤ score first) row rest (leb-true (score row) (score first) e) falls.0, Falls-put_behind score row rest falls.1)
       | false ↦ λ e.
           let above : score first < score row = leb-false (score row) (score first) e in
-          ((omega arith, AllByRecursion-weaker (λ later. score later ≤ score first) (λ later. score later ≤ score row) (λ later below. omega arith) rest falls.0), falls)
+          ((omega arith, each-weaker (λ later. score later ≤ score first) (λ later. score later ≤ score row) (λ later below. omega arith) rest falls.0), falls)
     ]) refl
 
 -- and so are all rows

@@ -4,7 +4,8 @@ use Rattle.rs_rank.specs.declared.key.Key.{Key}
 use Rattle.rs_rank.specs.declared.weights.Weights.{Weights}
 use Rattle.rs_rank.specs.Keys.{key_cmp}
 use Rattle.rs_rank.specs.Merging.{merge_key}
-use Rattle.rs_rank.specs.Turns.{Left, Right, SideAsk, join_schedule, left_asks, right_asks}
+use Rattle.rs_order.specs.Schedule.{Left, Right, SideAsk}
+use Rattle.rs_rank.specs.Turns.{join_schedule, left_asks, right_asks}
 
 abbrev two : Weights
 two = record { weight = 1 ∷ 1 ∷ 0 ∷ 0 ∷ 0 ∷ 0 ∷ 0 ∷ 0 ∷ []; max = 10 ∷ 10 ∷ 0 ∷ 0 ∷ 0 ∷ 0 ∷ 0 ∷ 0 ∷ [] }

@@ -14,6 +14,10 @@ pub record IsIds (ids : Ids) : Type 0 where
   pub entries : ids.mask < 2 ^ 6
   pub within : IsWithin ids.mask ids.rows
 
+-- ids of another block, or with other row numbers
+abbrev pub AreOtherIds : Ids → Ids → Type 0
+AreOtherIds ids other = ids.block ≡ other.block → ids.rows ≡ other.rows → ⊥
+
 -- at each entry the left row, or the right one where there is none
 abbrev pub merge_rows : List ℕ → List ℕ → List ℕ
 merge_rows [] rights = []

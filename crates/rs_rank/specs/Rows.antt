@@ -1,9 +1,10 @@
 -- Rows by the rows of their entries and the sum of their evaluated terms, and their keys.
-use Rattle.std.specs.Prelude.{ℕ, ◌≤◌, ◌+◌}
+use Rattle.std.specs.Prelude.{ℕ, ◌≤◌, ◌+◌, List, [], ◌∷◌}
+use Rattle.std.specs.List.{AllByRecursion}
 use Rattle.rs_rank.specs.declared.key.Key.{Key}
 use Rattle.rs_rank.specs.declared.row.RankRow.{RankRow}
 use Rattle.rs_rank.specs.declared.weights.Weights.{Weights}
-use Rattle.rs_rank.specs.Ids.{AreSides, merge_ids}
+use Rattle.rs_rank.specs.Ids.{AreOtherIds, AreSides, merge_ids}
 use Rattle.rs_rank.specs.Weights.{most_evaluated, rest, score_limit}
 
 -- the key of a row of which the terms in a mask are evaluated
@@ -13,6 +14,11 @@ key_of weights terms row = record { bound = row.sum + rest weights terms; ids = 
 -- a row's sum is one that the terms in a mask can give
 abbrev pub HasSum : Weights → ℕ → RankRow → Type 0
 HasSum weights terms row = row.sum ≤ most_evaluated weights terms
+
+-- no two rows have the same ids
+abbrev pub HaveOtherIds : List RankRow → Type 0
+HaveOtherIds [] = Unit {0}
+HaveOtherIds (row ∷ rows) = AllByRecursion (λ other. AreOtherIds row.ids other.ids) rows × HaveOtherIds rows
 
 -- the entries of both rows, and the sum of both sums
 abbrev pub merge_row : RankRow → RankRow → RankRow

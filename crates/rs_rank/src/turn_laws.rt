@@ -2,7 +2,8 @@
 
 ghost use Rattle.std.specs.Prelude.{◌≡◌, List, Option};
 ghost use Rattle.rs_order.specs.Climbing.{Climbs};
-ghost use Rattle.rs_rank.specs.Turns.{Left, Right, join_schedule, left_asks, left_keys, numbers_from, numbers_of, right_asks, right_keys};
+ghost use Rattle.rs_order.specs.Schedule.{Left, Right, numbers_from, numbers_of};
+ghost use Rattle.rs_rank.specs.Turns.{join_schedule, left_asks, left_keys, right_asks, right_keys};
 
 /// Where the keys of each side rise, a join makes the asks of a side in the order of their numbers, from 1 up to the
 /// number of asks for the bar.

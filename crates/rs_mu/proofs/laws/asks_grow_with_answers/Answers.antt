@@ -4,7 +4,7 @@ use Rattle.std.proofs.lemmas.Option.{slice_get_past}
 use Rattle.rs_order.specs.Sorting.{sorted}
 use Rattle.rs_rank.specs.Keys.{key_cmp}
 use Rattle.rs_mu.specs.Stands.{old_key}
-use Rattle.rs_mu.proofs.ReorderFacts.{asks_upto-most, asks_upto-none}
+use Rattle.rs_order.proofs.ReorderFacts.{asks_upto-most, asks_upto-none}
 use Rattle.rs_mu.proofs.StandFacts.{asks-grow, asks_of-upto, length-sorted, row_key}
 use Rattle.rs_mu.proofs.laws.asks_grow_with_answers.Goals as goal
 

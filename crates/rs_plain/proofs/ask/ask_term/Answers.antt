@@ -14,13 +14,14 @@ use Rattle.rs_plain.specs.Evaluating.{Evaluates}
 use Rattle.rs_plain.specs.declared.fault.PlainFault.TheVariants.{Probe}
 use Rattle.rs_plain.proofs.AskFacts.{Evaluates-got, Evaluates-refused}
 use Rattle.rs_query.proofs.EntryFacts.{terms-inside}
-use Rattle.rs_plain.proofs.RowFacts.{All-at, All-got, slice_get-at}
+use Rattle.rs_order.proofs.EachFacts.{each-slice_get}
+use Rattle.rs_plain.proofs.RowFacts.{each-at, slice_get-at}
 use Rattle.rs_plain.proofs.ask.ask_term.Goals as goal
 
 pub args-requires-clause-inside : goal.args-requires-clause-inside
 args-requires-clause-inside g c = λ t at.
     ap (is_inside t.entries) c.requires.all
-    ∙ All-got (λ (term : BoundTerm). is_inside term.entries (all_entries c.args.block.now) ≡ true) c.args.block.now.terms (c.args.number - 1) t
+    ∙ each-slice_get (λ (term : BoundTerm). is_inside term.entries (all_entries c.args.block.now) ≡ true) c.args.block.now.terms (c.args.number - 1) t
     (terms-inside c.args.catalog.now c.args.block.now c.requires.block) at
 
 pub predicate-predicate-requires : goal.predicate-predicate-requires
@@ -28,7 +29,7 @@ predicate-predicate-requires g c =
     let is : c.index-term.result.now ≡ get_or c.args.block.now.terms (c.args.number - 1) c.index-term.result.now =
     subst (λ terms. c.index-term.result.now ≡ get_or terms (c.args.number - 1) c.index-term.result.now) c.items.ensures c.index-term.ensures in
     let within : c.args.number - 1 < length c.args.block.now.terms = omega arith in
-    let t = All-at (IsTerm c.args.catalog.now c.args.block.now) c.args.block.now.terms (c.args.number - 1) c.index-term.result.now c.requires.block.terms within is in
+    let t = each-at (IsTerm c.args.catalog.now c.args.block.now) c.args.block.now.terms (c.args.number - 1) c.index-term.result.now c.requires.block.terms within is in
     slice_get_within c.args.catalog.now.predicates c.index-term.result.now.predicate t.predicate t.has_predicate
 
 pub score-requires : goal.score-requires

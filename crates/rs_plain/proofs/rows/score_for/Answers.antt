@@ -4,7 +4,7 @@ use Rattle.rs_query.specs.Answers.{Answering, worth_of}
 use Rattle.rs_query.specs.WellFormed.{IsTerm}
 use Rattle.rs_plain.specs.Asking.{question_of, row_questions, seen}
 use Rattle.rs_plain.proofs.QuestionFacts.{Asked, Asked-more, Ends-behind, Evaluates-behind, Gave-alike, given-err}
-use Rattle.rs_plain.proofs.RowFacts.{All-at, map-at, map-split, score-all, score-bound, score-more, slice_get-at}
+use Rattle.rs_plain.proofs.RowFacts.{each-at, map-at, map-split, score-all, score-bound, score-more, slice_get-at}
 use Rattle.rs_plain.proofs.rows.score_for.Goals as goal
 
 pub returns-in_err-worth-clause-evaluates : goal.returns-in_err-worth-clause-evaluates
@@ -33,7 +33,7 @@ loop-index-preserved g c =
     let place : c.loop-index.index ≡ c.loop-index.index + 1 - 1 = omega arith in
     let at = subst (λ n. slice_get c.args.block.now.terms n ≡ Some c.term-item.result) place (slice_get-at c.args.block.now.terms c.loop-index.index c.term-item.result within is) in
     let question = question_of c.args.ids.now.block c.args.block.now c.args.ids.now.rows in
-    let term = All-at (IsTerm c.args.catalog.now c.args.block.now) c.args.block.now.terms c.loop-index.index c.term-item.result c.requires.block.terms within is in
+    let term = each-at (IsTerm c.args.catalog.now c.args.block.now) c.args.block.now.terms c.loop-index.index c.term-item.result c.requires.block.terms within is in
     let gave = Gave-alike {A = ℕ} (g.S.Scorer.answer c.args.scorer.now) (g.S.Scorer.answer c.loop-index.scorer) c.args.catalog.now (question c.term-item.result ∷ [])
     (λ (a : Answering). worth_of a c.args.catalog.now c.args.block.now c.args.ids.now.rows c.term-item.result) c.in_ok-worth.worth _ _ c.loop-index.invariant.same
     (c.in_ok-worth.ensures.asks c.term-item.result at) in

@@ -7,14 +7,14 @@ use Rattle.rs_query.specs.Tables.{HasRows, all_entries}
 use Rattle.rs_plain.specs.Asking.{row_questions, seen}
 use Rattle.rs_plain.specs.declared.fault.PlainFault.TheVariants.{Memory}
 use Rattle.rs_plain.proofs.QuestionFacts.{Asked, Asked-more, Ends-behind, Evaluates-behind, Gave-alike, Stops-within, given-items}
-use Rattle.rs_plain.proofs.RowFacts.{All-at, flat_map-at, flat_map-split, get_or-own, map-at}
+use Rattle.rs_plain.proofs.RowFacts.{each-at, flat_map-at, flat_map-split, get_or-own, map-at}
 use Rattle.rs_plain.proofs.rows.scored_rows.Goals as goal
 
 pub row_for-requires-clause-rows : goal.row_for-requires-clause-rows
 row_for-requires-clause-rows g c =
     let rows = get_or c.args.combinations.now c.loop-rows.rows-index [] in
     let own = get_or-own c.args.combinations.now c.loop-rows.rows-index [] c.loop-rows-test.true in
-    All-at (HasRows c.args.catalog.now c.args.block.now (all_entries c.args.block.now)) c.args.combinations.now c.loop-rows.rows-index rows c.requires.rows c.loop-rows-test.true own
+    each-at (HasRows c.args.catalog.now c.args.block.now (all_entries c.args.block.now)) c.args.combinations.now c.loop-rows.rows-index rows c.requires.rows c.loop-rows-test.true own
 
 pub returns-in_err-answer-clause-evaluates : goal.returns-in_err-answer-clause-evaluates
 returns-in_err-answer-clause-evaluates g c =

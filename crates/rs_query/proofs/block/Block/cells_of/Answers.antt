@@ -6,14 +6,15 @@ use Rattle.rs_query.specs.Meaning.{cell_of}
 use Rattle.rs_query.specs.WellFormed.{IsColumn}
 use Rattle.rs_query.proofs.CellFacts.{HaveKinds-more}
 use Rattle.rs_query.proofs.EntryFacts.{column-inside}
-use Rattle.rs_query.proofs.ListFacts.{All-at, map-take-more}
+use Rattle.rs_order.proofs.EachFacts.{each-slice_get}
+use Rattle.rs_query.proofs.ListFacts.{map-take-more}
 use Rattle.rs_query.proofs.block.Block.cells_of.Goals as goal
 
 pub cell_of-requires-clause-column : goal.cell_of-requires-clause-column
 cell_of-requires-clause-column c =
     let columns = c.args.columns.now in
     let i = c.loop-column.column-index in
-    All-at (IsColumn c.args.catalog.now c.args.self.now) columns i (get_or columns i (0, 0)) c.requires.columns (slice_get-get_or columns i (0, 0) c.loop-column-test.true)
+    each-slice_get (IsColumn c.args.catalog.now c.args.self.now) columns i (get_or columns i (0, 0)) c.requires.columns (slice_get-get_or columns i (0, 0) c.loop-column-test.true)
 
 pub cell_of-requires-clause-inside : goal.cell_of-requires-clause-inside
 cell_of-requires-clause-inside c =

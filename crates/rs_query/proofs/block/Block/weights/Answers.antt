@@ -3,7 +3,7 @@ use Rattle.std.proofs.Common.{◌≡◌, ◌∙◌, ◌<◌, ◌≤◌, length, 
 use Rattle.std.proofs.lemmas.Option.{slice_get_read}
 use Rattle.rs_rank.specs.declared.weights.Weights.{Weights}
 use Rattle.rs_query.specs.declared.term.Term.{Term}
-use Rattle.rs_query.proofs.ListFacts.{All-at}
+use Rattle.rs_order.proofs.EachFacts.{each-slice_get}
 use Rattle.rs_query.proofs.WeightFacts.{IsWeights-set, padded-more}
 use Rattle.rs_query.proofs.block.Block.weights.Goals as goal
 
@@ -15,7 +15,7 @@ loop-place-preserved c =
     let is : term ≡ get_or terms place term = rw (c.deref-term-items.ensures.value, c.items.ensures) at c.term-item.is in
     let within : place < length terms = rw (c.deref-term-items.ensures.value, c.items.ensures) at c.loop-place-test.true in
     let low : term.weight ≤ 1000000 =
-    All-at (λ (t : Term). t.weight ≤ 1000000) terms place term c.requires.limits (slice_get_read terms (length terms) place term refl within is) in
+    each-slice_get (λ (t : Term). t.weight ≤ 1000000) terms place term c.requires.limits (slice_get_read terms (length terms) place term refl within is) in
     let made : Weights = c.put.new.weights in
     record {
       weight = c.put.ensures.weight ∙ padded-more (λ (t : Term). t.weight) terms place term c.loop-place.weights.weight within c.requires.few is c.loop-place.invariant.weight;

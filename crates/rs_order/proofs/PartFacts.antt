@@ -3,16 +3,17 @@ use Rattle.std.proofs.Common.{◌≡◌, ℕ, zero, suc, ◌<◌, ◌≤◌, tru
 use Rattle.std.proofs.lemmas.Bool.{true≢false}
 use Rattle.std.proofs.lemmas.List.{take-take}
 use Rattle.std.specs.Cmp.{IsTotalOrder, alike_right}
-use Rattle.std.specs.List.{AllByRecursion, slice_get}
+use Rattle.std.specs.List.{slice_get}
 use Rattle.std.specs.Option.{option_map}
 use Rattle.std.specs.Ordering.{is_lt, is_gt, ordering_reverse}
 use Rattle.std.specs.declared.cmp.Ordering.{Ordering}
 use Rattle.std.specs.declared.cmp.Ordering.TheVariants.{Less, Equal, Greater}
 use Rattle.rs_order.specs.Asks.{tau}
 use Rattle.rs_order.specs.Climbing.{Climbs, Differs, HasDistinctKeys, In, IsBeyond, Precedes}
+use Rattle.rs_order.specs.Last.{last_from, last_of}
 use Rattle.rs_order.specs.Sorting.{put, put_each, sorted}
 use Rattle.rs_order.proofs.ClimbingFacts.{AllByRecursion-In, Climbs-shared, cmp-not_both, cmp-not_itself}
-use Rattle.rs_mu.specs.Stands.{last_from, last_of}
+use Rattle.rs_order.proofs.EachFacts.{each-get_or, each-take}
 
 -- answers of an order by their tests
 pub is_lt-Less : (r : Ordering) → is_lt r ≡ true → r ≡ Less
@@ -55,16 +56,10 @@ In-drop zero xs z h = h
 In-drop (suc n) [] z h = h
 In-drop (suc n) (x ∷ xs) z h = inr (In-drop n xs z h)
 
--- what holds of each holds of the first n
-pub All-take : {X : Type 0} (P : X → Type 0) (n : ℕ) (xs : List X) → AllByRecursion P xs → AllByRecursion P (take n xs)
-All-take P zero xs all = tt
-All-take P (suc n) [] all = tt
-All-take P (suc n) (x ∷ xs) all = (all.0, All-take P n xs all.1)
-
 pub HasDistinctKeys-take : {X K : Type 0} (cmp : K → K → Ordering) (key : X → K) (n : ℕ) (xs : List X) → HasDistinctKeys cmp key xs → HasDistinctKeys cmp key (take n xs)
 HasDistinctKeys-take cmp key zero xs distinct = tt
 HasDistinctKeys-take cmp key (suc n) [] distinct = tt
-HasDistinctKeys-take cmp key (suc n) (x ∷ xs) distinct = (All-take (Differs cmp key x) n xs distinct.0, HasDistinctKeys-take cmp key n xs distinct.1)
+HasDistinctKeys-take cmp key (suc n) (x ∷ xs) distinct = (each-take (Differs cmp key x) n xs distinct.0, HasDistinctKeys-take cmp key n xs distinct.1)
 
 -- the last of the first n + 1 is the one at place n
 pub last_of-take : {X : Type 0} (n : ℕ) (xs : List X) (d : X) → n < length xs → last_of (take (suc n) xs) ≡ Some (get_or xs n d)
@@ -81,6 +76,13 @@ pub Climbs-behind : {X K : Type 0} (cmp : K → K → Ordering) (key : X → K) 
 Climbs-behind cmp key n [] d z climbs within h = absurd (omega arith)
 Climbs-behind cmp key zero (x ∷ xs) d z climbs within h = AllByRecursion-In (Precedes cmp key x) xs climbs.0 z h
 Climbs-behind cmp key (suc n) (x ∷ xs) d z climbs within h = Climbs-behind cmp key n xs d z climbs.1 (omega arith) h
+
+-- and before that of each later place
+pub Climbs-at : {X K : Type 0} (cmp : K → K → Ordering) (key : X → K) (xs : List X) (i j : ℕ) (d : X) → Climbs cmp key xs → i < j → j < length xs → Precedes cmp key (get_or xs i d) (get_or xs j d)
+Climbs-at cmp key [] i j d climbs before within = absurd (omega arith)
+Climbs-at cmp key (x ∷ xs) i zero d climbs before within = absurd (omega arith)
+Climbs-at cmp key (x ∷ xs) zero (suc j) d climbs before within = each-get_or (Precedes cmp key x) xs j d climbs.0 (omega arith)
+Climbs-at cmp key (x ∷ xs) (suc i) (suc j) d climbs before within = Climbs-at cmp key xs i j d climbs.1 (omega arith) (omega arith)
 
 -- the key of the last answer is that of the item at its place
 pub tau-slice_get : {X K : Type 0} (key : X → K) (xs : List X) (n : ℕ) → tau key xs n ≡ option_map key (slice_get xs n)
@@ -147,7 +149,7 @@ Climbs-parts cmp key (suc n) (x ∷ xs) z climbs h = (AllByRecursion-In (Precede
 pub Climbs-take : {X K : Type 0} (cmp : K → K → Ordering) (key : X → K) (n : ℕ) (xs : List X) → Climbs cmp key xs → Climbs cmp key (take n xs)
 Climbs-take cmp key zero xs climbs = tt
 Climbs-take cmp key (suc n) [] climbs = tt
-Climbs-take cmp key (suc n) (x ∷ xs) climbs = (All-take (Precedes cmp key x) n xs climbs.0, Climbs-take cmp key n xs climbs.1)
+Climbs-take cmp key (suc n) (x ∷ xs) climbs = (each-take (Precedes cmp key x) n xs climbs.0, Climbs-take cmp key n xs climbs.1)
 
 -- none of the first n + 1 items comes behind the one at place n
 pub Climbs-not_behind : {X K : Type 0} (cmp : K → K → Ordering) → IsTotalOrder cmp → (key : X → K) (n : ℕ) (xs : List X) (x z : X) → Climbs cmp key xs → slice_get xs n ≡ Some x → In z (take (suc n) xs) → Precedes cmp key x z → ⊥
@@ -199,18 +201,8 @@ drop-put cmp o key (suc n) (y ∷ ys) x beyond =
     (sym (ap is_lt (o.antisymm (key x) (key y) ∙ ap ordering_reverse beyond.0)))
     (drop-put cmp o key n ys x beyond.1)
 
--- of distinct keys, that at a place differs from those in front of it
-pub Differs-at : {X K : Type 0} (cmp : K → K → Ordering) → IsTotalOrder cmp → (key : X → K) (n : ℕ) (xs : List X) (x z : X) → HasDistinctKeys cmp key xs → slice_get xs n ≡ Some x → In z (take n xs) → Differs cmp key x z
-Differs-at cmp o key n [] x z distinct e h = cc
-Differs-at cmp o key zero (y ∷ ys) x z distinct e h = absurd h
-Differs-at cmp o key (suc n) (y ∷ ys) x z distinct e h =
-    elim h [
-      | inl same ↦ λ tied. AllByRecursion-In (Differs cmp key y) ys distinct.0 x (In-slice_get n ys x e) (o.antisymm (key y) (key x) ∙ ap ordering_reverse (subst (λ w. cmp (key x) (key w) ≡ Equal) same tied))
-      | inr behind ↦ Differs-at cmp o key n ys x z distinct.1 e behind
-    ]
-
 -- sorting and then mapping is mapping and then sorting
-put-map : {X Y K : Type 0} (cmp : K → K → Ordering) (key : Y → K) (f : X → Y) (x : X) (xs : List X) → put cmp key (f x) (map f xs) ≡ map f (put cmp (λ z. key (f z)) x xs)
+pub put-map : {X Y K : Type 0} (cmp : K → K → Ordering) (key : Y → K) (f : X → Y) (x : X) (xs : List X) → put cmp key (f x) (map f xs) ≡ map f (put cmp (λ z. key (f z)) x xs)
 put-map cmp key f x [] = refl
 put-map cmp key f x (y ∷ ys) =
     elim (is_lt (cmp (key (f x)) (key (f y)))) as (λ b. cond b (f x ∷ f y ∷ map f ys) (f y ∷ put cmp key (f x) (map f ys)) ≡ map f (cond b (x ∷ y ∷ ys) (y ∷ put cmp (λ z. key (f z)) x ys))) [

@@ -16,7 +16,7 @@ use Rattle.rs_order.specs.Sorting.{put, sorted}
 use Rattle.rs_order.proofs.AsksFacts.{asks_for-more, get_or-asked, get_or-before, tau-later}
 use Rattle.rs_order.proofs.ClimbingFacts.{AllByRecursion-In, Climbs-shared}
 use Rattle.rs_order.proofs.SortingFacts.{Climbs-sorted, In-sorted, In-sorted-back}
-use Rattle.rs_mu.proofs.PartFacts.{Climbs-begin, Climbs-behind, Climbs-not_behind, HasDistinctKeys-take, In-at, In-drop, In-parts, In-take, IsBeyond-drop, IsBeyond-shared, cmp-Less-behind, cmp-behind-Less, drop-put, slice_get-shared, sorted-snoc, take-snoc, tau-slice_get}
+use Rattle.rs_order.proofs.PartFacts.{Climbs-begin, Climbs-behind, Climbs-not_behind, HasDistinctKeys-take, In-at, In-drop, In-parts, In-take, IsBeyond-drop, IsBeyond-shared, cmp-Less-behind, cmp-behind-Less, drop-put, slice_get-shared, sorted-snoc, take-snoc, tau-slice_get}
 
 -- such a list
 pub record Reorder {X K : Type 0} (cmp : K → K → Ordering) (old new : X → K) (xs : List X) : Type 0 where

@@ -4,8 +4,12 @@ use Rattle.std.specs.List.{filter, flat_map}
 use Rattle.std.specs.declared.cmp.Ordering.{Ordering}
 use Rattle.std.proofs.lemmas.List.{map-append}
 use Rattle.std.proofs.lemmas.List.Elements.{filter-append}
-use Rattle.rs_order.specs.Climbing.{Climbs, In, Precedes}
-use Rattle.rs_order.proofs.ClimbingFacts.{AllByRecursion-In, AllByRecursion-from_In}
+use Rattle.std.specs.Cmp.{IsTotalOrder}
+use Rattle.rs_order.specs.Climbing.{Climbs, Differs, HasDistinctKeys, In, Precedes}
+use Rattle.rs_order.specs.Sorting.{sorted}
+use Rattle.rs_order.proofs.ClimbingFacts.{AllByRecursion-In, AllByRecursion-from_In, Climbs-same}
+use Rattle.rs_order.proofs.EachFacts.{each-filter}
+use Rattle.rs_order.proofs.SortingFacts.{Climbs-sorted, In-sorted, In-sorted-back}
 
 -- an item of one of two lists is one of both together
 pub In-left : {X : Type 0} (z : X) (xs ys : List X) → In z xs → In z (xs ++ ys)
@@ -118,8 +122,29 @@ module _ {X K : Type 0} (cmp : K → K → Ordering) (key : X → K) where
   Climbs-filter p (x ∷ xs) c =
       elim (p x) as (λ b. Climbs cmp key (cond b (x ∷ filter p xs) (filter p xs))) [
         | true ↦ (
-          AllByRecursion-from_In (Precedes cmp key x) (filter p xs) (λ z h. AllByRecursion-In (Precedes cmp key x) xs c.0 z (In-filter-back p z xs h).0),
+          each-filter (Precedes cmp key x) p xs c.0,
           Climbs-filter p xs c.1,
         )
         | false ↦ Climbs-filter p xs c.1
       ]
+
+  -- keys that are distinct stay so among what passes
+  HasDistinctKeys-filter : (p : X → Bool) (xs : List X) → HasDistinctKeys cmp key xs → HasDistinctKeys cmp key (filter p xs)
+  HasDistinctKeys-filter p [] d = tt
+  HasDistinctKeys-filter p (x ∷ xs) d =
+      elim (p x) as (λ b. HasDistinctKeys cmp key (cond b (x ∷ filter p xs) (filter p xs))) [
+        | true ↦ (
+          each-filter (Differs cmp key x) p xs d.0,
+          HasDistinctKeys-filter p xs d.1,
+        )
+        | false ↦ HasDistinctKeys-filter p xs d.1
+      ]
+
+  -- sorting what passes is taking what passes of the sorted list
+  pub sorted-filter : IsTotalOrder cmp → (p : X → Bool) (xs : List X) → HasDistinctKeys cmp key xs → sorted cmp key (filter p xs) ≡ filter p (sorted cmp key xs)
+  sorted-filter o p xs d =
+      Climbs-same cmp o key (sorted cmp key (filter p xs)) (filter p (sorted cmp key xs))
+      (Climbs-sorted cmp o key (filter p xs) (HasDistinctKeys-filter p xs d))
+      (Climbs-filter p (sorted cmp key xs) (Climbs-sorted cmp o key xs d))
+      (λ z h. let both = In-filter-back p z xs (In-sorted-back cmp key (filter p xs) z h) in In-filter p z (sorted cmp key xs) (In-sorted cmp key xs z both.0) both.1)
+      (λ z h. let both = In-filter-back p z (sorted cmp key xs) h in In-sorted cmp key (filter p xs) z (In-filter p z xs (In-sorted-back cmp key xs z both.0) both.1))
