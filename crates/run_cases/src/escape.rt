@@ -60,10 +60,7 @@ fn hex_digit(digit: u8) -> Result<u8, Fault>
 
 /// The last two digits of a number.
 fn two_digits(number: u32) -> [u8; 2] {
-    [
-        b'0' + (number / 10 % 10) as u8,
-        b'0' + (number % 10) as u8,
-    ]
+    [b'0' + (number / 10 % 10) as u8, b'0' + (number % 10) as u8]
 }
 
 /// Adds bytes so that they can be read in one line: printable characters of ASCII as they are, others as escapes.
