@@ -173,21 +173,31 @@ fn add_files(alloc: Global, script: &[&str], files: &mut MemFiles) -> Result<(),
 
 /// Asserts that a run did all, or lacked memory and told so.
 fn assert_ended(rt: &impl Abort, alloc: Global, case: &Case, ended: &Ended) {
-    let (out, calls) = (ended.out.bytes(), ended.scorer.calls());
     if ended.status == Status::Memory {
-        assert!(rt; case.out.as_bytes().starts_with(out), "{out:?}");
-        assert!(rt; out.is_empty() || out.ends_with(b"\n"), "{out:?}");
-        assert_eq!(rt; ended.err.bytes(), b"memory\n".as_slice());
-        assert!(rt; calls.len() <= case.calls.len());
+        assert_cut(rt, case, ended);
     } else {
-        assert_eq!(rt; ended.status, case.status);
-        assert_eq!(rt; out, case.out.as_bytes());
-        assert_eq!(rt; ended.err.bytes(), case.err.as_bytes());
-        assert_eq!(rt; calls.len(), case.calls.len());
+        assert_whole(rt, case, ended);
     }
-    for (call, line) in calls.iter().zip(case.calls) {
+    for (call, line) in ended.scorer.calls().iter().zip(case.calls) {
         assert_call(rt, alloc, call, line);
     }
+}
+
+/// Asserts that a run that lacked memory told so, behind whole lines and some of the calls.
+fn assert_cut(rt: &impl Abort, case: &Case, ended: &Ended) {
+    let out = ended.out.bytes();
+    assert!(rt; case.out.as_bytes().starts_with(out), "{out:?}");
+    assert!(rt; out.is_empty() || out.ends_with(b"\n"), "{out:?}");
+    assert_eq!(rt; ended.err.bytes(), b"memory\n".as_slice());
+    assert!(rt; ended.scorer.calls().len() <= case.calls.len());
+}
+
+/// Asserts that a run did all.
+fn assert_whole(rt: &impl Abort, case: &Case, ended: &Ended) {
+    assert_eq!(rt; ended.status, case.status);
+    assert_eq!(rt; ended.out.bytes(), case.out.as_bytes());
+    assert_eq!(rt; ended.err.bytes(), case.err.as_bytes());
+    assert_eq!(rt; ended.scorer.calls().len(), case.calls.len());
 }
 
 /// Asserts that a call is that of the line: the predicate's name and the arguments. Nothing is asserted where there is
