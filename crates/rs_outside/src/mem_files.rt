@@ -113,6 +113,13 @@ impl MemFiles {
         Ok(())
     }
 
+    /// The names that were fetched so far, those of fetches that failed too.
+    pub fn fetched(&self) -> &[Text]
+        ensures { result.now ≡ self.now.fetched }
+    {
+        &self.fetched
+    }
+
     /// The next fetch is to fail.
     fn is_next_planned(&self) -> bool
         ensures { result ≡ is_fetch_planned self.now }

@@ -12,8 +12,6 @@ mod report;
 mod script_fault;
 mod statement;
 mod status;
-#[cfg(test)]
-mod tests;
 mod top;
 mod words;
 

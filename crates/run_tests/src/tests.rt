@@ -1,0 +1,223 @@
+//! Made for a process in which one allocation fails: a run that lacks memory puts whole lines, makes the first ones of
+//! its calls, and then tells that there is no memory, and that in no other way.
+
+use rs_expr::{Call, MemScorer};
+use rs_outside::{MemFiles, MemSink};
+use rs_run::{Status, run};
+use rs_value::{Memory, Text};
+use std::alloc::Global;
+use std::process::Abort;
+
+/// The files of every run here, beside the script.
+const FILES: [(&str, &str); 4] = [
+    ("h.csv", "name,price,city\na,40,1\nb,90,1\nc,40,2\n"),
+    ("t.csv", "x,y\n10,3\n8,9\n5,1\n2,10\n"),
+    ("u.csv", "v\n3\n1\n3\n4\n"),
+    ("w.csv", "v\n4\n2\n5\n5\n"),
+];
+
+/// Two tables, some predicates, and an index of one of them.
+const BASE: &str = "CREATE TABLE h (name TEXT, price INT, city INT) FROM 'h.csv';\n\
+    CREATE TABLE t (x INT, y INT) FROM 't.csv';\n\
+    CREATE PREDICATE p (v INT) MAX 10 AS v;\n\
+    CREATE PREDICATE q (v INT) MAX 10 COST 100 AS v;\n\
+    CREATE PREDICATE c (v INT) MAX 100 AS v;\n\
+    CREATE PREDICATE near (a INT, b INT) MAX 100 AS 100 - ABS(a - b);\n\
+    CREATE RANK INDEX px ON t (p(x));\n";
+
+/// A script with every form of statement and of expression.
+const EVERY_FORM: &str = "CLOSE k; CREATE TABLE t (a INT, b TEXT, \"c d\" INTEGER) FROM 't.csv'; \
+    CREATE PREDICATE p (x INT) MAX 9 COST 2 AS CASE WHEN NOT x = 1 AND x <> 2 OR x < 3 THEN ABS(-x) + MIN(x, 4) \
+    WHEN (x) >= 8 THEN 0 ELSE MAX(x, x * 5) / 6 - 7 END; \
+    CREATE RANK INDEX i ON t (p(a)); \
+    SELECT DISTINCT a, u.b FROM t, t AS u WHERE b = 'it''s' UNION ALL SELECT a, b FROM t \
+    ORDER BY 2 * p(a) + p(-1) DESC LIMIT 3; \
+    DECLARE c CURSOR FOR SELECT * FROM t v ORDER BY p('y'); FETCH 4 FROM c; CLOSE c; \
+    EXPLAIN SELECT a FROM t INTERSECT SELECT b FROM t ORDER BY p(a); \
+    EXPLAIN ANALYZE SELECT a FROM t EXCEPT SELECT a FROM t ORDER BY p(a)";
+
+/// A run: its words, the pieces of the script, and how it ends where memory lasts.
+#[derive(Clone, Copy)]
+struct Case {
+    words: &'static [&'static str],
+    script: &'static [&'static str],
+    status: Status,
+    out: &'static str,
+    err: &'static str,
+    calls: &'static [&'static str],
+}
+
+const CASES: [Case; 5] = [
+    Case {
+        words: &["top", "h.csv", "price", "100", "2"],
+        script: &[],
+        status: Status::Done,
+        out: "1,90,b,90,1\n2,40,a,40,1\n",
+        err: "",
+        calls: &[],
+    },
+    Case {
+        words: &["plain", "s.sql"],
+        script: &[EVERY_FORM],
+        status: Status::Script,
+        out: "",
+        err: "script: not built statement 1\n",
+        calls: &[],
+    },
+    Case {
+        words: &["plain", "s.sql"],
+        script: &[BASE],
+        status: Status::Done,
+        out: "",
+        err: "",
+        calls: &["p 10", "p 8", "p 5", "p 2"],
+    },
+    Case {
+        words: &["plain", "s.sql"],
+        script: &[
+            BASE,
+            "SELECT x.name, y.name FROM h x, h y WHERE x.city = y.city ORDER BY near(x.price, y.price) LIMIT 3;",
+        ],
+        status: Status::Done,
+        out: "1,100,a,a\n2,100,b,b\n3,100,c,c\n",
+        err: "",
+        calls: &[
+            "p 10",
+            "p 8",
+            "p 5",
+            "p 2",
+            "near 40 40",
+            "near 40 90",
+            "near 90 40",
+            "near 90 90",
+            "near 40 40",
+        ],
+    },
+    Case {
+        words: &["plain", "s.sql"],
+        script: &[
+            "CREATE TABLE u (v INT) FROM 'u.csv'; CREATE TABLE w (v INT) FROM 'w.csv'; ",
+            "CREATE PREDICATE half (v INT) MAX 10 AS v / 2; ",
+            "SELECT v FROM u UNION SELECT v FROM w ORDER BY half(v);",
+        ],
+        status: Status::Done,
+        out: "1,2,4\n2,2,5\n3,1,3\n4,1,2\n5,0,1\n",
+        err: "",
+        calls: &[
+            "half 3", "half 1", "half 3", "half 4", "half 4", "half 2", "half 5", "half 5",
+        ],
+    },
+];
+
+/// What a run left.
+#[derive(Drop)]
+struct Ended {
+    status: Status,
+    out: MemSink,
+    err: MemSink,
+    scorer: MemScorer,
+}
+
+#[test]
+fn tells_where_memory_ends(rt: HostRuntime) {
+    for case in CASES {
+        assert_case(&rt, rt.alloc(), &case);
+    }
+}
+
+/// Makes a run and asserts how it ended, where there was memory to make it.
+fn assert_case(rt: &impl Abort, alloc: Global, case: &Case) {
+    if let Ok(ended) = end_of(alloc, case) {
+        assert_ended(rt, alloc, case, &ended);
+    }
+}
+
+/// Makes a run.
+fn end_of(alloc: Global, case: &Case) -> Result<Ended, Memory> {
+    let words = words_of(alloc, case.words)?;
+    let mut files = MemFiles::new(alloc);
+    add_files(alloc, case.script, &mut files)?;
+    let mut scorer = MemScorer::new(alloc);
+    let mut out = MemSink::new(alloc);
+    let mut err = MemSink::new(alloc);
+    let status = run(alloc, &words, &mut files, &mut scorer, &mut out, &mut err);
+    Ok(Ended {
+        status,
+        out,
+        err,
+        scorer,
+    })
+}
+
+fn words_of(alloc: Global, words: &[&str]) -> Result<Vec<Text>, Memory> {
+    let mut texts = Vec::new(alloc);
+    for word in words {
+        texts.push(text(alloc, word)?)?;
+    }
+    Ok(texts)
+}
+
+fn text(alloc: Global, chars: &str) -> Result<Text, Memory> {
+    match Text::from_bytes(alloc, chars.as_bytes()) {
+        Ok(text) => Ok(text),
+        Err(_) => Err(Memory),
+    }
+}
+
+/// Adds the files, and the script of these pieces.
+fn add_files(alloc: Global, script: &[&str], files: &mut MemFiles) -> Result<(), Memory> {
+    for (name, bytes) in FILES {
+        files.add(text(alloc, name)?, bytes.as_bytes().to_vec(alloc)?)?;
+    }
+    let mut bytes = Vec::new(alloc);
+    for piece in script {
+        bytes.extend_from_slice(piece.as_bytes())?;
+    }
+    files.add(text(alloc, "s.sql")?, bytes)
+}
+
+/// Asserts that a run did all, or lacked memory and told so.
+fn assert_ended(rt: &impl Abort, alloc: Global, case: &Case, ended: &Ended) {
+    if ended.status == Status::Memory {
+        assert_cut(rt, case, ended);
+    } else {
+        assert_whole(rt, case, ended);
+    }
+    for (call, line) in ended.scorer.calls().iter().zip(case.calls) {
+        assert_call(rt, alloc, call, line);
+    }
+}
+
+/// Asserts that a run that lacked memory told so, behind whole lines and some of the calls.
+fn assert_cut(rt: &impl Abort, case: &Case, ended: &Ended) {
+    let out = ended.out.bytes();
+    assert!(rt; case.out.as_bytes().starts_with(out), "{out:?}");
+    assert!(rt; out.is_empty() || out.ends_with(b"\n"), "{out:?}");
+    assert_eq!(rt; ended.err.bytes(), b"memory\n".as_slice());
+    assert!(rt; ended.scorer.calls().len() <= case.calls.len());
+}
+
+/// Asserts that a run did all.
+fn assert_whole(rt: &impl Abort, case: &Case, ended: &Ended) {
+    assert_eq!(rt; ended.status, case.status);
+    assert_eq!(rt; ended.out.bytes(), case.out.as_bytes());
+    assert_eq!(rt; ended.err.bytes(), case.err.as_bytes());
+    assert_eq!(rt; ended.scorer.calls().len(), case.calls.len());
+}
+
+/// Asserts that a call is that of the line: the predicate's name and the arguments. Nothing is asserted where there is
+/// no memory for a line of the call.
+fn assert_call(rt: &impl Abort, alloc: Global, call: &Call, line: &str) {
+    if let Ok(told) = told(alloc, call) {
+        assert_eq!(rt; told.as_slice(), line.as_bytes());
+    }
+}
+
+fn told(alloc: Global, call: &Call) -> Result<Vec<u8>, Memory> {
+    let mut line = call.predicate.bytes().to_vec(alloc)?;
+    for value in call.args.items() {
+        line.push(b' ')?;
+        value.print(&mut line)?;
+    }
+    Ok(line)
+}
