@@ -20,8 +20,6 @@ mod sources;
 mod table;
 mod term;
 mod terms;
-#[cfg(test)]
-mod tests;
 mod typed;
 mod typing;
 mod unranked;
