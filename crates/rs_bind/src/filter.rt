@@ -59,9 +59,26 @@ fn conjuncts_in<S: Scope>(
     ensures narrow { IfOk result (λ made. AllByRecursion IsNarrow made) }
 {
     let condition = condition_in(alloc, scope, node)?;
-    few_parts(node)?;
+    match few_parts(node) {
+        Ok(()) => {
+            let made = conjuncts_of(alloc, &condition);
+            drop(condition);
+            Ok(made?)
+        }
+        Err(fault) => {
+            drop(condition);
+            Err(fault)
+        }
+    }
+}
+
+/// The parts of a condition as conjuncts, from left to right.
+fn conjuncts_of(alloc: Global, condition: &Cond) -> Result<List<Conjunct>, Memory>
+    requires { All (λ number. number < 384) (arguments_of (condition_of condition.now)) }
+    ensures { IfOk result (λ made. made ≡ map conjunct_of (conditions_of (condition_of condition.now))) }
+{
     let mut made = Vec::new(alloc);
-    add_conjuncts(alloc, &condition, &mut made)?;
+    add_conjuncts(alloc, condition, &mut made)?;
     Ok(List::of(made))
 }
 
@@ -131,8 +148,8 @@ fn conjunct_of(alloc: Global, condition: &Cond) -> Result<Conjunct, Memory>
     ensures { IfOk result (λ made. made ≡ conjunct_of (condition_of condition.now)) }
 {
     let numbers = distinct_arguments(alloc, condition)?;
-    let own = renumbered(alloc, condition, &numbers)?;
     let columns = columns_of(alloc, &numbers)?;
+    let own = renumbered(alloc, condition, &numbers)?;
     let entries = entries_of(&numbers);
     let equality = equality_of(&own, &columns);
     Ok(Conjunct::new(own, List::of(columns), entries, equality))

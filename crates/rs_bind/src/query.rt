@@ -43,8 +43,21 @@ fn bind_one(alloc: Global, catalog: &Catalog, select: &Select) -> Result<Query, 
     ensures limits { IfOk result (λ query. HaveLimits catalog.now query) }
 {
     let block = bind_unranked(alloc, catalog, &select.left)?;
-    let terms = block_terms(alloc, catalog, &block, select.terms.items())?;
-    let limit = limit_of(&select.limit)?;
+    let terms = match block_terms(alloc, catalog, &block, select.terms.items()) {
+        Ok(terms) => terms,
+        Err(fault) => {
+            drop(block);
+            return Err(fault);
+        }
+    };
+    let limit = match limit_of(&select.limit) {
+        Ok(limit) => limit,
+        Err(fault) => {
+            drop(block);
+            drop(terms);
+            return Err(fault);
+        }
+    };
     Ok(Query::One(with_terms(alloc, block, terms)?, limit))
 }
 
@@ -80,20 +93,74 @@ fn bind_set(
     ensures limits { IfOk result (λ query. HaveLimits catalog.now query) }
 {
     let left = bind_unranked(alloc, catalog, &select.left)?;
-    let right = bind_unranked(alloc, catalog, second)?;
+    let right = match bind_unranked(alloc, catalog, second) {
+        Ok(right) => right,
+        Err(fault) => {
+            drop(left);
+            return Err(fault);
+        }
+    };
     if !agree(left.items.items(), right.items.items()) {
+        drop(left);
+        drop(right);
         let at = first_item(&second.items);
         return Err(BindFault::At(Why::SetColumnsDiffer, at));
     }
-    let names = names_of(alloc, catalog, &left)?;
+    let names = match names_of(alloc, catalog, &left) {
+        Ok(names) => names,
+        Err(_) => {
+            drop(left);
+            drop(right);
+            return Err(BindFault::Memory);
+        }
+    };
     let terms = select.terms.items();
-    let left_terms = output_terms(alloc, catalog, &names, left.items.items(), terms)?;
+    let left_terms = match output_terms(alloc, catalog, &names, left.items.items(), terms) {
+        Ok(terms) => terms,
+        Err(fault) => {
+            drop(names);
+            drop(left);
+            drop(right);
+            return Err(fault);
+        }
+    };
     // The same terms, over the output columns of the right block at the same places.
-    let right_terms = output_terms(alloc, catalog, &names, right.items.items(), terms)?;
-    let limit = limit_of(&select.limit)?;
-    let left = with_terms(alloc, left, left_terms)?;
-    let right = with_terms(alloc, right, right_terms)?;
-    Ok(Query::Set(op, left, right, limit))
+    let right_terms = match output_terms(alloc, catalog, &names, right.items.items(), terms) {
+        Ok(terms) => terms,
+        Err(fault) => {
+            drop(left_terms);
+            drop(names);
+            drop(left);
+            drop(right);
+            return Err(fault);
+        }
+    };
+    drop(names);
+    let limit = match limit_of(&select.limit) {
+        Ok(limit) => limit,
+        Err(fault) => {
+            drop(left_terms);
+            drop(right_terms);
+            drop(left);
+            drop(right);
+            return Err(fault);
+        }
+    };
+    let left = match with_terms(alloc, left, left_terms) {
+        Ok(left) => left,
+        Err(_) => {
+            drop(right_terms);
+            drop(right);
+            return Err(BindFault::Memory);
+        }
+    };
+    match with_terms(alloc, right, right_terms) {
+        Ok(right) => Ok(Query::Set(op, left, right, limit)),
+        Err(_) => {
+            drop(left);
+            Err(BindFault::Memory)
+        }
+    }
 }
 
 /// The terms of a set query over the output columns of one of its blocks, under the names of those of the left one.

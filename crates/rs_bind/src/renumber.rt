@@ -111,13 +111,23 @@ pub fn renumbered(alloc: Global, condition: &Cond, numbers: &[u16]) -> Result<Co
     match condition {
         Cond::Numbers(rel, left, right) => {
             let left = renumbered_formula(alloc, left, numbers)?;
-            let right = renumbered_formula(alloc, right, numbers)?;
-            Ok(Cond::Numbers(*rel, left, right))
+            match renumbered_formula(alloc, right, numbers) {
+                Ok(right) => Ok(Cond::Numbers(*rel, left, right)),
+                Err(fault) => {
+                    drop(left);
+                    Err(fault)
+                }
+            }
         }
         Cond::Texts(rel, left, right) => {
             let left = renumbered_side(left, numbers)?;
-            let right = renumbered_side(right, numbers)?;
-            Ok(Cond::Texts(*rel, left, right))
+            match renumbered_side(right, numbers) {
+                Ok(right) => Ok(Cond::Texts(*rel, left, right)),
+                Err(fault) => {
+                    drop(left);
+                    Err(fault)
+                }
+            }
         }
         Cond::And(left, right) => {
             let left = boxed_condition(alloc, left, numbers)?;

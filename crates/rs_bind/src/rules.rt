@@ -1,4 +1,6 @@
 //! The rules of typing: what a node is, where its parts are typed.
+//!
+//! Where a function ends early, it drops each part that it still owns by name. That keeps its proof short.
 
 ghost use Rattle.std.specs.Prelude.{◌≡◌, [], ◌∷◌};
 ghost use Rattle.rs_value.specs.Answer.{Gives};
@@ -58,7 +60,10 @@ pub fn arithmetic(
             let (left, right) = numbers(alloc, left, right, at)?;
             narrow(Expr::Mul(left, right), at)
         }
-        Op::Div => quotient(alloc, left, divisor, at),
+        Op::Div => {
+            drop(right);
+            quotient(alloc, left, divisor, at)
+        }
     }
 }
 
@@ -70,7 +75,10 @@ fn quotient(alloc: Global, part: Typed, divisor: &Node, at: Span) -> Result<Type
     let part = number(part, at)?;
     match divisor_of(divisor) {
         Some(number) => narrow(Expr::Div(Box::new(alloc, part)?, number), at),
-        None => Err(BindFault::At(Why::BadDivisor, span_of(divisor))),
+        None => {
+            drop(part);
+            Err(BindFault::At(Why::BadDivisor, span_of(divisor)))
+        }
     }
 }
 
@@ -131,10 +139,30 @@ pub fn case(
     ensures { (scope : Scope) (x y z : Expression)
         → Gives BindFault.Memory (rule scope (Case x y z at) (typed_of condition ∷ typed_of outcome ∷ typed_of rest ∷ [])) (result_map typed_of result) }
 {
-    let condition = truth(condition, at)?;
-    let (outcome, rest) = numbers(alloc, outcome, rest, at)?;
-    let condition = Box::new(alloc, condition)?;
-    narrow(Expr::Case(condition, outcome, rest), at)
+    let condition = match truth(condition, at) {
+        Ok(condition) => condition,
+        Err(fault) => {
+            drop(outcome);
+            drop(rest);
+            return Err(fault);
+        }
+    };
+    let (outcome, rest) = match numbers(alloc, outcome, rest, at) {
+        Ok(parts) => parts,
+        Err(fault) => {
+            drop(condition);
+            return Err(fault);
+        }
+    };
+    match Box::new(alloc, condition) {
+        Ok(condition) => narrow(Expr::Case(condition, outcome, rest), at),
+        Err(failed) => {
+            drop(failed);
+            drop(outcome);
+            drop(rest);
+            Err(BindFault::Memory)
+        }
+    }
 }
 
 /// A comparison of two numbers or of two texts.
@@ -143,9 +171,25 @@ pub fn compare(rel: Rel, left: Typed, right: Typed, at: Span) -> Result<Typed, B
         → result_map typed_of result ≡ rule scope (Compare rel x y at) (typed_of left ∷ typed_of right ∷ []) }
 {
     match left {
-        Typed::Number(left) => Ok(Typed::Truth(Cond::Numbers(rel, left, number(right, at)?))),
-        Typed::Words(left) => Ok(Typed::Truth(Cond::Texts(rel, left, words(right, at)?))),
-        Typed::Truth(_) => Err(BindFault::At(Why::WrongKind, at)),
+        Typed::Number(left) => match number(right, at) {
+            Ok(right) => Ok(Typed::Truth(Cond::Numbers(rel, left, right))),
+            Err(fault) => {
+                drop(left);
+                Err(fault)
+            }
+        },
+        Typed::Words(left) => match words(right, at) {
+            Ok(right) => Ok(Typed::Truth(Cond::Texts(rel, left, right))),
+            Err(fault) => {
+                drop(left);
+                Err(fault)
+            }
+        },
+        Typed::Truth(left) => {
+            drop(left);
+            drop(right);
+            Err(BindFault::At(Why::WrongKind, at))
+        }
     }
 }
 
@@ -177,6 +221,7 @@ fn narrow(formula: Expr, at: Span) -> Result<Typed, BindFault>
     ensures { result_map typed_of result ≡ narrow at (formula_of formula) }
 {
     if formula.width().is_none() {
+        drop(formula);
         return Err(BindFault::At(Why::TooWide, at));
     }
     Ok(Typed::Number(formula))
@@ -225,9 +270,36 @@ fn numbers(
     ensures { Gives BindFault.Memory (numbers_of at (typed_of left) (typed_of right))
         (result_map (λ made. (formula_of made.0.value, formula_of made.1.value)) result) }
 {
-    let left = number(left, at)?;
-    let right = number(right, at)?;
-    Ok((Box::new(alloc, left)?, Box::new(alloc, right)?))
+    let left = match number(left, at) {
+        Ok(left) => left,
+        Err(fault) => {
+            drop(right);
+            return Err(fault);
+        }
+    };
+    let right = match number(right, at) {
+        Ok(right) => right,
+        Err(fault) => {
+            drop(left);
+            return Err(fault);
+        }
+    };
+    let left = match Box::new(alloc, left) {
+        Ok(left) => left,
+        Err(failed) => {
+            drop(failed);
+            drop(right);
+            return Err(BindFault::Memory);
+        }
+    };
+    match Box::new(alloc, right) {
+        Ok(right) => Ok((left, right)),
+        Err(failed) => {
+            drop(failed);
+            drop(left);
+            Err(BindFault::Memory)
+        }
+    }
 }
 
 /// The conditions of two parts that have to be truth values.
@@ -240,9 +312,36 @@ fn truths(
     ensures { Gives BindFault.Memory (truths_of at (typed_of left) (typed_of right))
         (result_map (λ made. (condition_of made.0.value, condition_of made.1.value)) result) }
 {
-    let left = truth(left, at)?;
-    let right = truth(right, at)?;
-    Ok((Box::new(alloc, left)?, Box::new(alloc, right)?))
+    let left = match truth(left, at) {
+        Ok(left) => left,
+        Err(fault) => {
+            drop(right);
+            return Err(fault);
+        }
+    };
+    let right = match truth(right, at) {
+        Ok(right) => right,
+        Err(fault) => {
+            drop(left);
+            return Err(fault);
+        }
+    };
+    let left = match Box::new(alloc, left) {
+        Ok(left) => left,
+        Err(failed) => {
+            drop(failed);
+            drop(right);
+            return Err(BindFault::Memory);
+        }
+    };
+    match Box::new(alloc, right) {
+        Ok(right) => Ok((left, right)),
+        Err(failed) => {
+            drop(failed);
+            drop(left);
+            Err(BindFault::Memory)
+        }
+    }
 }
 
 /// Where an expression stands.

@@ -74,6 +74,11 @@ fn type_pair<S: Scope>(
     ensures narrow { IfOk result (λ made. (has_width (typed_of made.0) ≡ true) × (has_width (typed_of made.1) ≡ true)) }
 {
     let left = type_node(alloc, left, scope)?;
-    let right = type_node(alloc, right, scope)?;
-    Ok((left, right))
+    match type_node(alloc, right, scope) {
+        Ok(right) => Ok((left, right)),
+        Err(fault) => {
+            drop(left);
+            Err(fault)
+        }
+    }
 }

@@ -64,14 +64,20 @@ pub fn bind_unranked(
 pub fn with_terms(alloc: Global, block: Unranked, terms: List<Term>) -> Result<Block, Memory>
     ensures { IfOk result (λ made. made ≡ with_terms block terms) }
 {
-    let items = columns_of(alloc, block.items.items())?;
-    Ok(Block {
-        from: block.from,
-        conjuncts: block.conjuncts,
-        items: List::of(items),
-        terms,
-        distinct: block.distinct,
-    })
+    match columns_of(alloc, block.items.items()) {
+        Ok(items) => Ok(Block {
+            from: block.from,
+            conjuncts: block.conjuncts,
+            items: List::of(items),
+            terms,
+            distinct: block.distinct,
+        }),
+        Err(fault) => {
+            drop(block);
+            drop(terms);
+            Err(fault)
+        }
+    }
 }
 
 /// Output columns without their kinds.

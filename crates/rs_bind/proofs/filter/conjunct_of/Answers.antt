@@ -7,12 +7,12 @@ use Rattle.rs_bind.proofs.filter.conjunct_of.Goals as goal
 
 pub renumbered-requires : goal.renumbered-requires
 renumbered-requires c =
-    let kept = c.deref.ensures.value ∙ c.in_ok-numbers.ensures in
+    let kept = c.deref-2.ensures.value ∙ c.in_ok-numbers.ensures in
     subst (λ (numbers : List ℕ). length numbers ≤ 384) (sym kept) (length-distinct 384 (arguments_of (condition_of c.args.condition.now)) c.requires)
 
 pub columns_of-requires : goal.columns_of-requires
 columns_of-requires c =
-    let kept = c.deref-2.ensures.value ∙ c.in_ok-numbers.ensures in
+    let kept = c.deref.ensures.value ∙ c.in_ok-numbers.ensures in
     subst (λ (numbers : List ℕ). All (λ n. n < 384) numbers) (sym kept)
     (All-distinct (λ n. n < 384) (arguments_of (condition_of c.args.condition.now)) c.requires)
 

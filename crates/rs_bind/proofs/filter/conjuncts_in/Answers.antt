@@ -4,6 +4,6 @@ use Rattle.rs_expr.specs.Formulas.{condition_of}
 use Rattle.rs_bind.proofs.ConjunctFacts.{AreNarrow-made}
 use Rattle.rs_bind.proofs.filter.conjuncts_in.Goals as goal
 
-pub returns-clause-narrow : goal.returns-clause-narrow
-returns-clause-narrow g c =
-    AreNarrow-made (condition_of c.in_ok-condition.condition) c.of.result c.in_ok-condition.ensures.narrow (search rules)
+pub returns-in_ok-made-in-Ok-clause-narrow : goal.returns-in_ok-made-in-Ok-clause-narrow
+returns-in_ok-made-in-Ok-clause-narrow g c =
+    AreNarrow-made (condition_of c.in_ok-condition.condition) _ c.in_ok-condition.ensures.narrow (search rules)

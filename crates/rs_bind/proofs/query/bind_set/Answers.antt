@@ -10,25 +10,25 @@ use Rattle.rs_bind.proofs.query.bind_set.Goals as goal
 pub output_terms-requires-2-clause-named : goal.output_terms-requires-2-clause-named
 output_terms-requires-2-clause-named c =
     let left : List Found = c.in_ok-left.left.items in
-    let right : List Found = c.in_ok-right.right.items in
+    let right : List Found = c.in-Ok.right.items in
     let agrees : agree left right ≡ true = cc in
-    let names : c.deref-6.result.now ≡ names_of c.args.catalog.now c.in_ok-left.left = c.deref-6.ensures.value ∙ c.in_ok-names.ensures in
+    let names : c.deref-6.result.now ≡ names_of c.args.catalog.now c.in_ok-left.left = c.deref-6.ensures.value ∙ c.in-Ok-names_of.ensures in
     let items : right ≡ c.deref-7.result.now = cc in
     subst (λ (xs : List Found). length c.deref-6.result.now ≤ length xs) items
     (names_of-few c.args.catalog.now c.in_ok-left.left c.deref-6.result.now right names agrees)
 
 pub output_terms-requires-2-clause-few : goal.output_terms-requires-2-clause-few
 output_terms-requires-2-clause-few c =
-    let right : List Found = c.in_ok-right.right.items in
+    let right : List Found = c.in-Ok.right.items in
     let items : right ≡ c.deref-7.result.now = cc in
     subst (AllByRecursion IsEntryItem) items
-    (items-entries c.args.catalog.now c.in_ok-right.right.from right c.in_ok-right.ensures.few c.in_ok-right.ensures.items)
+    (items-entries c.args.catalog.now c.in-Ok.right.from right c.in-Ok.ensures.few c.in-Ok.ensures.items)
 
-pub returns-clause-limits : goal.returns-clause-limits
-returns-clause-limits c =
+pub returns-in-Ok-with_terms-2-clause-limits : goal.returns-in-Ok-with_terms-2-clause-limits
+returns-in-Ok-with_terms-2-clause-limits c =
     let catalogue = c.args.catalog.now in (
-      HasLimits-with catalogue c.in_ok-left.left c.in_ok-left_terms.left_terms c.in_ok-left-2.left c.in_ok-left-2.ensures c.in_ok-left.ensures.columns
+      HasLimits-with catalogue c.in_ok-left.left c.in-Ok-output_terms.terms c.in-Ok-with_terms.left c.in-Ok-with_terms.ensures c.in_ok-left.ensures.columns
           c.in_ok-left.ensures.narrow,
-      HasLimits-with catalogue c.in_ok-right.right c.in_ok-right_terms.right_terms c.in_ok-right-2.right c.in_ok-right-2.ensures
-          c.in_ok-right.ensures.columns c.in_ok-right.ensures.narrow,
+      HasLimits-with catalogue c.in-Ok.right c.in-Ok-output_terms-2.terms c.in-Ok-with_terms-2.right c.in-Ok-with_terms-2.ensures
+          c.in-Ok.ensures.columns c.in-Ok.ensures.narrow,
     )
