@@ -1,0 +1,76 @@
+//! Answers what the lines of standard input ask of the crates at the front. Such lines are the tests of `rs_value`,
+//! `rs_lex`, `rs_grammar`, `rs_table` and `rs_lines`.
+//!
+//! Each line is printed as it is, and its answer behind it. A line is one of these, its words with one space between:
+//! - `number BYTES`: the number that a cell is, or `none`. `digits MOST BYTES`: what digits are, up to a number.
+//! - `text BYTES`: the bytes of a text, its characters and those of a copy, or why there is no text.
+//! - `numbers A B`, `texts A B`: how they are ordered, and whether the texts are equal.
+//! - `holds REL A B`: whether the comparison holds of two numbers.
+//! - `print VALUE`: the kind of a copy of the value, and what it prints behind `at `.
+//! - `line RANK SCORE VALUE..`: the line of a printed row. The rank `greatest` is the greatest there is.
+//! - `find KEY KEY..`: the place of the first key among the others in a map. A key is values with `,` between.
+//! - `list NUMBER..`: the items of a list, how many there are, whether there is none, and the items taken out of it.
+//! - `no-texts`: whether a list of no texts has no item. `no-memory`: what is said where there is none for a text.
+//! - `file BYTES`: the lines behind this one ask of these bytes. `more COUNT BYTES` adds bytes so many times.
+//! - `tokens`, `count`, `lexemes`: the tokens of the file as a script, how many there are, and the lexemes.
+//! - `place COLUMN NAME`: the place of a name in the file's header, whose first column COLUMN is of numbers.
+//! - `rows SCHEMA`: how many rows the file's table has, and whether it has none. `cell SCHEMA ROW COLUMN`: what a cell
+//!   prints.
+//! - a comment that begins with `#`, or nothing.
+//!
+//! A value is a number, `least` for the least one, or a text behind `'`. A schema is `=COLUMN`, as the file's header
+//! says, or the names of columns with `,` between, those of numbers behind `#`. In bytes and words `\n` is a line feed,
+//! `\r` a carriage return, `\s` a space, `\\` a backslash and `\xHH` the byte with these two hexadecimal digits.
+#![tactic(auto)]
+
+mod escape;
+mod fault;
+mod line;
+mod scripts;
+mod tables;
+mod values;
+
+use fault::Fault;
+use line::do_line;
+use rs_lex::{
+    one_list_of_tokens, spelled_is_not_refused, tokens_are_longest, tokens_are_taken,
+    tokens_are_tokens, tokens_end,
+};
+use std::process::ExitCode;
+
+fn main(rt: HostRuntime) -> ExitCode {
+    laws_hold_of_scripts();
+    let mut file = Vec::new(rt.alloc());
+    match do_lines(&rt, &mut file) {
+        Ok(()) => ExitCode::SUCCESS,
+        Err((number, fault)) => {
+            let text = fault.text();
+            let _ = eprintln!(rt; "line {number}: {text}");
+            ExitCode::from(fault.status())
+        }
+    }
+}
+
+fn laws_hold_of_scripts() {
+    tokens_are_tokens();
+    tokens_are_longest();
+    tokens_end();
+    tokens_are_taken();
+    one_list_of_tokens();
+    spelled_is_not_refused();
+}
+
+/// Does what the lines say, up to the first one that has a fault, which is told with its number, counted from 1.
+fn do_lines(rt: &HostRuntime, file: &mut Vec<u8>) -> Result<(), (u64, Fault)> {
+    let mut number = 0u64;
+    for line in rt.lines(rt.alloc()) {
+        number = number.saturating_add(1);
+        let Ok(line) = line else {
+            return Err((number, Fault::Input));
+        };
+        if let Err(fault) = do_line(rt, line.as_str(), file) {
+            return Err((number, fault));
+        }
+    }
+    Ok(())
+}
