@@ -103,22 +103,35 @@ fn fill(rt: &impl Abort, alloc: Global, catalog: &mut Catalog) -> Result<(), Fai
     add_index(rt, alloc, catalog, "by_price", "Houses", 7)
 }
 
+/// Names, and the numbers of the tables that have them.
+const TABLES: [(&str, Option<u8>); 5] = [
+    ("houses", Some(0)),
+    ("Houses", Some(1)),
+    ("HOUSES", None),
+    ("house", None),
+    ("near", None),
+];
+
+fn assert_table(
+    rt: &impl Abort,
+    alloc: Global,
+    catalog: &Catalog,
+    chars: &str,
+    want: Option<u8>,
+) -> Result<(), Fail> {
+    let name = text(alloc, chars)?;
+    let found = catalog.find(What::Table, &name);
+    assert_eq!(rt; found, want, "{chars}");
+    if let Some(number) = found {
+        assert!(rt; *catalog.table_name(number) == name, "{chars}");
+        assert_eq!(rt; catalog.table(number).len(), 3);
+    }
+    Ok(())
+}
+
 fn has_tables(rt: &impl Abort, alloc: Global, catalog: &Catalog) -> Result<(), Fail> {
-    let cases = [
-        ("houses", Some(0)),
-        ("Houses", Some(1)),
-        ("HOUSES", None),
-        ("house", None),
-        ("near", None),
-    ];
-    for (name, want) in cases {
-        let name = text(alloc, name)?;
-        let found = catalog.find(What::Table, &name);
-        assert_eq!(rt; found, want, "{name:?}");
-        if let Some(number) = found {
-            assert!(rt; *catalog.table_name(number) == name, "{name:?}");
-            assert_eq!(rt; catalog.table(number).len(), 3);
-        }
+    for (name, want) in TABLES {
+        assert_table(rt, alloc, catalog, name, want)?;
     }
     Ok(())
 }
@@ -167,18 +180,32 @@ fn fill_with_tables(rt: &impl Abort, alloc: Global, catalog: &mut Catalog) -> Re
     Ok(())
 }
 
+/// Lists and names, and whether there is room for them beside sixteen tables.
+const ROOMS: [(What, &str, Result<(), RoomFault>); 6] = [
+    (What::Table, "q", Err(RoomFault::Full)),
+    (What::Table, "A", Err(RoomFault::Full)),
+    (What::Table, "a", Err(RoomFault::NameTaken)),
+    (What::Table, "p", Err(RoomFault::NameTaken)),
+    (What::Predicate, "a", Ok(())),
+    (What::Index, "q", Ok(())),
+];
+
+fn assert_room(
+    rt: &impl Abort,
+    alloc: Global,
+    catalog: &Catalog,
+    what: What,
+    chars: &str,
+    want: Result<(), RoomFault>,
+) -> Result<(), Fail> {
+    let name = text(alloc, chars)?;
+    assert_eq!(rt; catalog.room(what, &name), want, "{chars}");
+    Ok(())
+}
+
 fn has_room_for_no_table(rt: &impl Abort, alloc: Global, catalog: &Catalog) -> Result<(), Fail> {
-    let cases = [
-        (What::Table, "q", Err(RoomFault::Full)),
-        (What::Table, "A", Err(RoomFault::Full)),
-        (What::Table, "a", Err(RoomFault::NameTaken)),
-        (What::Table, "p", Err(RoomFault::NameTaken)),
-        (What::Predicate, "a", Ok(())),
-        (What::Index, "q", Ok(())),
-    ];
-    for (what, name, want) in cases {
-        let room = catalog.room(what, &text(alloc, name)?);
-        assert_eq!(rt; room, want, "{name} in {what:?}");
+    for (what, name, want) in ROOMS {
+        assert_room(rt, alloc, catalog, what, name, want)?;
     }
     Ok(())
 }

@@ -77,3 +77,10 @@ pub(crate) fn entry(
     assert!(rt; place >= 1 && place <= catalog.table(def.table).len());
     Ok(catalog.index_row(index, place))
 }
+
+/// How many rows the index of this name has.
+pub(crate) fn rows_of(catalog: &Catalog, name: &Text) -> Option<usize> {
+    let index = catalog.find(What::Index, name)?;
+    let def = catalog.index(index);
+    Some(catalog.table(def.table).len() as usize)
+}

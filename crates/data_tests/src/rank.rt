@@ -5,6 +5,7 @@ use rs_value::{List, Memory, Text, Value};
 use std::alloc::Global;
 use std::cmp::Ordering;
 use std::collections::BTreeMap;
+use std::process::Abort;
 use std::test::Fail;
 
 // A score and the place of its row, from 1.
@@ -29,39 +30,44 @@ fn sorted<T: Scored + Copy>(alloc: Global, rows: &[T]) -> Result<Vec<T>, Memory>
     Ok(copies)
 }
 
-const fn scored(score: u64, row: u64) -> Row {
-    Row { score, row }
+// Rows of these scores, which have the places 1, 2 and so on.
+fn rows_of(alloc: Global, scores: &[u64]) -> Result<Vec<Row>, Memory> {
+    let mut rows = Vec::new(alloc);
+    for (score, row) in scores.iter().zip(1..) {
+        rows.push(Row { score: *score, row })?;
+    }
+    Ok(rows)
+}
+
+// The scores of rows, and the places of the rows in the stable order.
+const SORTED: [(&[u64], &[u64]); 6] = [
+    (&[40, 90, 40], &[2, 1, 3]),
+    (&[7, 7, 7, 7], &[1, 2, 3, 4]),
+    (&[], &[]),
+    (&[9, 5, 1], &[1, 2, 3]),
+    (&[1, 5, 9], &[3, 2, 1]),
+    (&[0, u64::MAX, 0, 12, u64::MAX], &[2, 5, 4, 1, 3]),
+];
+
+fn assert_places(rt: &impl Abort, rows: &[Row], want: &[u64]) {
+    assert_eq!(rt; rows.len(), want.len());
+    for (row, place) in rows.iter().zip(want) {
+        assert_eq!(rt; row.row, *place, "in {want:?}");
+    }
+}
+
+fn assert_sorted(rt: &impl Abort, alloc: Global, scores: &[u64], want: &[u64]) -> Result<(), Fail> {
+    let rows = rows_of(alloc, scores)?;
+    assert_places(rt, &sorted(alloc, &rows)?, want);
+    Ok(())
 }
 
 #[test]
-fn sorts_by_falling_scores(rt: HostRuntime) {
-    let cases: [(&[Row], &[u64]); 6] = [
-        (&[scored(40, 1), scored(90, 2), scored(40, 3)], &[2, 1, 3]),
-        (
-            &[scored(7, 1), scored(7, 2), scored(7, 3), scored(7, 4)],
-            &[1, 2, 3, 4],
-        ),
-        (&[], &[]),
-        (&[scored(9, 1), scored(5, 2), scored(1, 3)], &[1, 2, 3]),
-        (&[scored(1, 1), scored(5, 2), scored(9, 3)], &[3, 2, 1]),
-        (
-            &[
-                scored(0, 1),
-                scored(u64::MAX, 2),
-                scored(0, 3),
-                scored(12, 4),
-                scored(u64::MAX, 5),
-            ],
-            &[2, 5, 4, 1, 3],
-        ),
-    ];
-    for (rows, want) in cases {
-        let answer = sorted(rt.alloc(), rows).unwrap_or(Vec::new(rt.alloc()));
-        assert_eq!(rt; answer.len(), want.len(), "of {rows:?}");
-        for (row, place) in answer.iter().zip(want) {
-            assert_eq!(rt; row.row, *place, "in {rows:?}");
-        }
+fn sorts_by_falling_scores(rt: HostRuntime) -> Result<(), Fail> {
+    for (scores, want) in SORTED {
+        assert_sorted(&rt, rt.alloc(), scores, want)?;
     }
+    Ok(())
 }
 
 #[test]
@@ -88,37 +94,50 @@ fn laws_hold_of_keys() {
     turns_are_the_asks::<u64>();
 }
 
+// A mask, a number, and whether the mask has it.
+const NUMBERS: [(u8, u8, bool); 7] = [
+    (0b0000_0001, 1, true),
+    (0b0000_0001, 2, false),
+    (0b0010_0110, 3, true),
+    (0b0010_0110, 4, false),
+    (0b0010_0110, 6, true),
+    (0b1000_0000, 8, true),
+    (0b0111_1111, 8, false),
+];
+
+fn assert_number(rt: &impl Abort, mask: u8, number: u8, want: bool) {
+    assert!(rt; 1 <= number && number <= 8);
+    assert_eq!(rt; has_number(mask, number), want, "{number} in {mask}");
+}
+
 #[test]
 fn masks_stand_for_numbers(rt: HostRuntime) {
     assert_eq!(rt; mask_of(1), 1);
     assert_eq!(rt; mask_of(2), 2);
     assert_eq!(rt; mask_of(6), 32);
     assert_eq!(rt; mask_of(8), 128);
-    let numbers: [(u8, u8, bool); 7] = [
-        (0b0000_0001, 1, true),
-        (0b0000_0001, 2, false),
-        (0b0010_0110, 3, true),
-        (0b0010_0110, 4, false),
-        (0b0010_0110, 6, true),
-        (0b1000_0000, 8, true),
-        (0b0111_1111, 8, false),
-    ];
-    for (mask, number, want) in numbers {
-        let is_number = 1 <= number && number <= 8;
-        assert!(rt;
-            is_number && has_number(mask, number) == want,
-            "{number} in {mask}"
-        );
+    for (mask, number, want) in NUMBERS {
+        assert_number(&rt, mask, number, want);
     }
-    let pairs: [(u8, u8, u8, bool); 4] = [
-        (0b0011, 0b1100, 0b1111, true),
-        (0b0110, 0b0101, 0b0111, false),
-        (0, 0, 0, true),
-        (255, 0, 255, true),
-    ];
-    for (left, right, both, apart) in pairs {
-        assert_eq!(rt; union(left, right), both);
-        assert_eq!(rt; are_disjoint(left, right), apart);
+}
+
+// Two masks, their union, and whether they have no number in common.
+const PAIRS: [(u8, u8, u8, bool); 4] = [
+    (0b0011, 0b1100, 0b1111, true),
+    (0b0110, 0b0101, 0b0111, false),
+    (0, 0, 0, true),
+    (255, 0, 255, true),
+];
+
+fn assert_pair(rt: &impl Abort, left: u8, right: u8, both: u8, apart: bool) {
+    assert_eq!(rt; union(left, right), both);
+    assert_eq!(rt; are_disjoint(left, right), apart);
+}
+
+#[test]
+fn masks_are_joined(rt: HostRuntime) {
+    for (left, right, both, apart) in PAIRS {
+        assert_pair(&rt, left, right, both, apart);
     }
 }
 
@@ -134,17 +153,22 @@ const GREATEST: Weights = Weights {
     max: [u32::MAX; 8],
 };
 
+// Terms, and what the others give at most.
+const RESTS_OF_TWO: [(u8, u64); 6] = [(0, 210), (1, 200), (2, 10), (3, 0), (4, 210), (255, 0)];
+
+const GREATEST_RESTS: [(u8, u64); 4] = [
+    (0, 34_359_738_360_000_000),
+    (1, 30_064_771_065_000_000),
+    (0b0111_1111, 4_294_967_295_000_000),
+    (255, 0),
+];
+
 #[test]
 fn rest_is_what_other_terms_give(rt: HostRuntime) {
-    for (terms, want) in [(0u8, 210u64), (1, 200), (2, 10), (3, 0), (4, 210), (255, 0)] {
+    for (terms, want) in RESTS_OF_TWO {
         assert_eq!(rt; TWO_TERMS.rest(terms), want, "outside {terms}");
     }
-    for (terms, want) in [
-        (0u8, 34_359_738_360_000_000u64),
-        (1, 30_064_771_065_000_000),
-        (0b0111_1111, 4_294_967_295_000_000),
-        (255, 0),
-    ] {
+    for (terms, want) in GREATEST_RESTS {
         assert_eq!(rt; GREATEST.rest(terms), want, "outside {terms}");
     }
 }
@@ -160,6 +184,12 @@ const fn pair(first: u32, second: u32) -> Ids {
 
 const fn keyed(bound: u64, ids: Ids) -> Key {
     Key { bound, ids }
+}
+
+fn assert_order(rt: &impl Abort, left: &Key, right: &Key, want: Ordering) {
+    assert_eq!(rt; left.cmp(right), want, "{left:?} and {right:?}");
+    assert_eq!(rt; left.partial_cmp(right), Some(want));
+    assert_eq!(rt; left == right, want == Ordering::Equal);
 }
 
 #[test]
@@ -186,9 +216,7 @@ fn keys_have_their_order(rt: HostRuntime) {
     ];
     for (i, left) in rising.iter().enumerate() {
         for (j, right) in rising.iter().enumerate() {
-            assert_eq!(rt; left.cmp(right), i.cmp(&j), "{left:?} and {right:?}");
-            assert_eq!(rt; left.partial_cmp(right), Some(i.cmp(&j)));
-            assert_eq!(rt; left == right, i == j);
+            assert_order(&rt, left, right, i.cmp(&j));
         }
     }
 }
@@ -375,6 +403,10 @@ fn asks_are_told_apart(rt: HostRuntime) {
             assert_eq!(rt; ask == other, i == j);
         }
     }
+}
+
+#[test]
+fn asks_of_joins_are_told_apart(rt: HostRuntime) {
     let asks = [
         JoinAsk::NeedLeft,
         JoinAsk::NeedRight,

@@ -1,9 +1,9 @@
 //! Rank indexes: the order of their rows, what their scorer is asked, and what stops them.
 
-ghost use Rattle.std.specs.Prelude.{◌≡◌, IfOk, length};
+ghost use Rattle.std.specs.Prelude.{◌≡◌, ◌+◌, IfOk, length};
 
 use crate::calls::{compare_calls, compare_long_calls};
-use crate::indexes::{entry, make_index};
+use crate::indexes::{entry, make_index, rows_of};
 use crate::tables::{add_predicate, text};
 use rs_catalog::{BoundArg, Catalog, IndexDef, IndexFault, What, rankings_are_in_order};
 use rs_expr::MemScorer;
@@ -107,12 +107,10 @@ fn table(rt: &impl Abort, alloc: Global, file: &[u8]) -> Result<Table, Fail> {
 }
 
 /// Adds such a table, "t".
-fn add_table(
-    rt: &impl Abort,
-    alloc: Global,
-    catalog: &mut Catalog,
-    file: &[u8],
-) -> Result<(), Fail> {
+fn add_table(rt: &impl Abort, alloc: Global, catalog: &mut Catalog, file: &[u8]) -> Result<(), Fail>
+    ensures tables { IfOk result (λ _. length catalog.new.tables ≡ length catalog.old.tables + 1) }
+    ensures predicates { IfOk result (λ _. catalog.new.predicates ≡ catalog.old.predicates) }
+{
     let table = table(rt, alloc, file)?;
     let name = match text(alloc, "t") {
         Ok(name) => name,
@@ -126,7 +124,10 @@ fn add_table(
 }
 
 /// Adds a predicate of scores up to 10.
-fn add_scores(rt: &impl Abort, alloc: Global, catalog: &mut Catalog, of: Of) -> Result<(), Fail> {
+fn add_scores(rt: &impl Abort, alloc: Global, catalog: &mut Catalog, of: Of) -> Result<(), Fail>
+    ensures predicates { IfOk result (λ _. length catalog.new.predicates ≡ length catalog.old.predicates + 1) }
+    ensures tables { IfOk result (λ _. catalog.new.tables ≡ catalog.old.tables) }
+{
     match of {
         Of::X | Of::Y => add_predicate(rt, alloc, catalog, "p", &[Kind::Int], 10),
         Of::Constants => add_predicate(
@@ -209,34 +210,50 @@ fn compare_index(
     want: &[(u32, u32)],
 ) -> Result<(), Fail> {
     let name = text(alloc, "i")?;
+    assert_eq!(rt; rows_of(catalog, &name), Some(want.len()));
     for (want, place) in want.iter().zip(1..) {
         assert_eq!(rt; entry(rt, catalog, &name, place)?, *want, "at {place}");
     }
     Ok(())
 }
 
+/// Asserts that there is no index "i".
+fn has_no_index(rt: &impl Abort, alloc: Global, catalog: &Catalog) -> Result<(), Fail> {
+    let name = text(alloc, "i")?;
+    assert_eq!(rt; catalog.room(What::Index, &name), Ok(()));
+    Ok(())
+}
+
 /// Asserts what becomes of the index of a case.
+fn compare_made(
+    rt: &impl Abort,
+    alloc: Global,
+    catalog: &Catalog,
+    made: Result<(), IndexFault>,
+    want: Result<&[(u32, u32)], IndexFault>,
+) -> Result<(), Fail> {
+    match want {
+        Ok(want) => {
+            assert_eq!(rt; made, Ok(()));
+            compare_index(rt, alloc, catalog, want)
+        }
+        Err(fault) => {
+            assert_eq!(rt; made, Err(fault));
+            has_no_index(rt, alloc, catalog)
+        }
+    }
+}
+
+/// Makes the index of a case, and asserts what becomes of it.
 fn assert_made(
     rt: &impl Abort,
     alloc: Global,
     case: &Case,
     scorer: &mut MemScorer,
 ) -> Result<(), Fail> {
-    let (file, of, _, _, want, _) = case;
-    let mut catalog = catalogue(rt, alloc, file, *of)?;
-    let made = make(rt, alloc, &mut catalog, *of, scorer)?;
-    match want {
-        Ok(want) => {
-            assert_eq!(rt; made, Ok(()));
-            assert_eq!(rt; catalog.table(0).len() as usize, want.len());
-            compare_index(rt, alloc, &catalog, want)
-        }
-        Err(fault) => {
-            assert_eq!(rt; made, Err(*fault));
-            assert_eq!(rt; catalog.room(What::Index, &text(alloc, "i")?), Ok(()));
-            Ok(())
-        }
-    }
+    let mut catalog = catalogue(rt, alloc, case.0, case.1)?;
+    let made = make(rt, alloc, &mut catalog, case.1, scorer)?;
+    compare_made(rt, alloc, &catalog, made, case.4)
 }
 
 /// Sets what the scorer of a case gives for 7, and which call fails.

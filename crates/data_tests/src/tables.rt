@@ -51,6 +51,7 @@ pub(crate) fn add_predicate(
     requires few { length params.now ≤ 8 }
     requires number { is_kind kind.Int (slice_get params.now 0) ≡ true }
     ensures predicate { IfOk result (λ _. catalog.old.predicates ≡ [] → HasPredicate params.now max catalog.new) }
+    ensures count { IfOk result (λ _. length catalog.new.predicates ≡ length catalog.old.predicates + 1) }
     ensures tables { IfOk result (λ _. catalog.new.tables ≡ catalog.old.tables) }
 {
     let predicate = predicate(alloc, name, params, max)?;
