@@ -1,0 +1,6 @@
+//! Tests of the cores of rank joins. They ask what no clause says: that calls succeed with ample memory, and that the
+//! definitions mean what was meant.
+#![tactic(auto)]
+
+#[cfg(test)]
+mod ripple;

@@ -1,0 +1,11 @@
+pub mod BarFacts
+pub mod GrowFacts
+pub mod LawFacts
+pub mod NextFacts
+pub mod PairFacts
+pub mod ScheduleFacts
+pub mod SideFacts
+pub mod StandFacts
+pub mod StepFacts
+pub mod TurnFacts
+pub mod Worked

@@ -1,0 +1,12 @@
+-- The pairs of the row are put in behind the answers that are given.
+use Rattle.rs_ripple.proofs.LawFacts.{right-can, right-found, right-stands}
+use Rattle.rs_ripple.proofs.laws.right_row_is_drawn.Goals as goal
+
+pub returns-clause-draw : goal.returns-clause-draw
+returns-clause-draw c = λ j lefts rights made count ripple row s need next. right-can j lefts rights made count ripple s need row next
+
+pub returns-clause-find : goal.returns-clause-find
+returns-clause-find c = λ j lefts rights made count ripple row pairs s need next found. right-found j lefts rights made count ripple s need row pairs next found
+
+pub returns-clause-stands : goal.returns-clause-stands
+returns-clause-stands c = λ j lefts rights made count ripple row pairs s need next found. right-stands j lefts rights made count ripple s need row pairs next found

@@ -1,0 +1,15 @@
+//! The core of a rank join. It draws the rows of two sides, each in the order of its keys, and gives the pairs that
+//! were found among them in the order of their keys, each as soon as no pair still to come can precede it.
+#![tactic(auto)]
+
+mod laws;
+mod ripple;
+mod side;
+
+pub use laws::{
+    answers_rise, asks_of_core_are_exact, left_row_is_drawn, new_core_stands,
+    ready_answers_are_certain, right_row_is_drawn, schedule_has_the_asks, side_ends,
+    taken_core_stands,
+};
+pub use ripple::RippleCore;
+pub use side::{Drawn, Input, Side};

@@ -1,0 +1,239 @@
+ghost use Rattle.std.specs.Prelude.{◌≡◌, false, true, OnOk, OnErr, Some};
+ghost use Rattle.rs_rank.specs.declared.ask.JoinAsk.TheVariants.{NeedLeft, NeedRight};
+ghost use Rattle.rs_rank.specs.Merging.{CanMerge};
+ghost use Rattle.rs_ripple.specs.Ripple.{CanDrawLeft, CanDrawRight, CanEnd, CanFind, CanJoin, ask_of, first_side, found, is_reached, left_drawn, left_ended, left_for, left_threshold, new_ripple, pair_key, right_drawn, right_ended, right_threshold, taken_for};
+
+use crate::side::{Drawn, Input, Side};
+use rs_queue::Queue;
+use rs_rank::{JoinAsk, Key, RankRow, Weights, union};
+use rs_value::Memory;
+use std::alloc::Global;
+use std::marker::Model;
+
+/// The core of a join of two sides, whose rows come in the order of their keys, each by the terms of its side. It knows
+/// no rows but the pairs: it says which side it needs, is told the key of each row drawn and each pair found, and gives.
+///
+/// The pairs of a row that was drawn are to be told before the core is asked again. After a call that answered `Memory`
+/// it is spent, and no further call is allowed.
+#[derive(Drop)]
+pub struct RippleCore {
+    weights: Weights,
+    left: Input,
+    right: Input,
+    // The key of the pair that was taken last.
+    taken: Option<Key>,
+    held: Queue<Key, RankRow>,
+    spent: bool,
+}
+
+impl Model for RippleCore {
+    ghost use Rattle.rs_ripple.specs.Ripple.{IsRipple, Ripple};
+
+    ghost Value = { Ripple };
+
+    ghost view = { λ r. record {
+      weights = r.weights;
+      left = r.left;
+      right = r.right;
+      taken = r.taken;
+      held = r.held;
+      spent = r.spent;
+    } };
+
+    ghost invariant = { λ r. IsRipple (record {
+      weights = r.weights;
+      left = r.left;
+      right = r.right;
+      taken = r.taken;
+      held = r.held;
+      spent = r.spent;
+    }) };
+}
+
+impl RippleCore {
+    /// The join of two sides of which nothing is drawn. They are to have no entry and no term in common. It takes no
+    /// memory.
+    pub fn new(alloc: Global, weights: Weights, left: Side, right: Side) -> RippleCore
+        requires { CanJoin weights left right }
+        ensures { result ≡ new_ripple weights left right }
+    {
+        RippleCore {
+            weights,
+            left: Input::new(left),
+            right: Input::new(right),
+            taken: None,
+            held: Queue::new(alloc),
+            spent: false,
+        }
+    }
+
+    /// What the join does next.
+    pub fn ask(&self) -> JoinAsk
+        requires { self.now.spent ≡ false }
+        ensures { result ≡ ask_of self.now }
+    {
+        let Some(left) = &self.left.drawn else {
+            return if self.left.ended {
+                JoinAsk::End
+            } else {
+                JoinAsk::NeedLeft
+            };
+        };
+        let Some(right) = &self.right.drawn else {
+            return if self.right.ended {
+                JoinAsk::End
+            } else {
+                JoinAsk::NeedRight
+            };
+        };
+        let to_left = self.left_threshold(left, right);
+        let to_right = self.right_threshold(left, right);
+        match self.held.peek() {
+            Some(first) => {
+                if is_reached(&to_left, first) && is_reached(&to_right, first) {
+                    JoinAsk::Ready
+                } else {
+                    first_side(&to_left, &to_right)
+                }
+            }
+            None => first_side(&to_left, &to_right),
+        }
+    }
+
+    /// The key that no pair with a left row still to come precedes. Once the left side has ended it lies beyond all keys.
+    fn left_threshold(&self, left: &Drawn, right: &Drawn) -> Option<Key>
+        requires left { self.now.left.drawn ≡ Some left.now }
+        requires right { self.now.right.drawn ≡ Some right.now }
+        ensures { result ≡ left_threshold self.now left.now right.now }
+    {
+        if self.left.ended {
+            return None;
+        }
+        Some(self.pair_key(&left.last, &right.first))
+    }
+
+    /// The key that no pair with a right row still to come precedes. Once the right side has ended it lies beyond all
+    /// keys.
+    fn right_threshold(&self, left: &Drawn, right: &Drawn) -> Option<Key>
+        requires left { self.now.left.drawn ≡ Some left.now }
+        requires right { self.now.right.drawn ≡ Some right.now }
+        ensures { result ≡ right_threshold self.now left.now right.now }
+    {
+        if self.right.ended {
+            return None;
+        }
+        Some(self.pair_key(&left.first, &right.last))
+    }
+
+    /// The key of a pair, of a key of each side.
+    fn pair_key(&self, left: &Key, right: &Key) -> Key
+        requires { CanMerge self.now.weights self.now.left.side.terms self.now.right.side.terms left.now right.now }
+        ensures { result ≡ pair_key self.now left.now right.now }
+    {
+        left.merge(
+            right,
+            &self.weights,
+            self.left.side.terms,
+            self.right.side.terms,
+        )
+    }
+
+    /// Takes the key of the left side's next row.
+    pub fn left_drawn(&mut self, key: Key)
+        requires { CanDrawLeft key self.old }
+        ensures { self.new ≡ left_drawn key self.old }
+    {
+        self.left.draw(key);
+    }
+
+    /// Takes the key of the right side's next row.
+    pub fn right_drawn(&mut self, key: Key)
+        requires { CanDrawRight key self.old }
+        ensures { self.new ≡ right_drawn key self.old }
+    {
+        self.right.draw(key);
+    }
+
+    /// The left side has no more rows.
+    pub fn left_ended(&mut self)
+        requires { CanEnd NeedLeft self.old }
+        ensures { self.new ≡ left_ended self.old }
+    {
+        self.left.end();
+    }
+
+    /// The right side has no more rows.
+    pub fn right_ended(&mut self)
+        requires { CanEnd NeedRight self.old }
+        ensures { self.new ≡ right_ended self.old }
+    {
+        self.right.end();
+    }
+
+    /// Takes a pair of rows of both sides.
+    pub fn found(&mut self, row: RankRow) -> Result<(), Memory>
+        requires { CanFind row self.old }
+        ensures ok { OnOk result (self.new ≡ found row self.old) }
+        ensures err { OnErr result (self.new ≡ record self.old { spent = true }) }
+    {
+        let key = row.key(
+            &self.weights,
+            union(self.left.side.terms, self.right.side.terms),
+        );
+        match self.held.push(key, row) {
+            Ok(()) => Ok(()),
+            Err(_) => {
+                self.spent = true;
+                Err(Memory)
+            }
+        }
+    }
+
+    /// Takes the first held pair, if the join is ready.
+    pub fn take(&mut self) -> Option<RankRow>
+        requires { self.old.spent ≡ false }
+        ensures row { result ≡ taken_for (ask_of self.old) self.old }
+        ensures left { self.new ≡ left_for (ask_of self.old) self.old }
+    {
+        match self.ask() {
+            JoinAsk::Ready => match self.held.pop() {
+                Some((key, row)) => {
+                    self.taken = Some(key);
+                    Some(row)
+                }
+                None => None,
+            },
+            JoinAsk::NeedLeft => None,
+            JoinAsk::NeedRight => None,
+            JoinAsk::End => None,
+        }
+    }
+}
+
+/// Whether a key comes at or before a threshold.
+fn is_reached(threshold: &Option<Key>, key: &Key) -> bool
+    ensures { result ≡ is_reached threshold.now key.now }
+{
+    match threshold {
+        Some(threshold) => key.cmp(threshold).is_le(),
+        None => true,
+    }
+}
+
+/// The side whose threshold comes first, the left one on a tie.
+fn first_side(left: &Option<Key>, right: &Option<Key>) -> JoinAsk
+    ensures { result ≡ first_side left.now right.now }
+{
+    match (left, right) {
+        (None, None) => JoinAsk::End,
+        (None, Some(_)) => JoinAsk::NeedRight,
+        (Some(_), None) => JoinAsk::NeedLeft,
+        (Some(left), Some(right)) => {
+            if left.cmp(right).is_gt() {
+                JoinAsk::NeedRight
+            } else {
+                JoinAsk::NeedLeft
+            }
+        }
+    }
+}

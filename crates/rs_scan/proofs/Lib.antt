@@ -1,0 +1,3 @@
+pub mod IndexFacts
+pub mod ScanFacts
+mod WorkedScans
