@@ -1,0 +1,3 @@
+pub mod WorkedJoins
+pub mod WorkedRanks
+pub mod WorkedSets

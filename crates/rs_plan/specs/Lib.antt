@@ -1,0 +1,5 @@
+pub mod Asks
+pub mod Calls
+pub mod Lists
+pub mod Plans
+pub mod Trees

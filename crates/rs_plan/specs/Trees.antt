@@ -1,0 +1,51 @@
+-- Plans as trees: what a tree ranges over, which terms it evaluates, and its code.
+use Rattle.std.specs.Prelude.{ℕ, List, [], ◌∷◌, ◌++◌, bit_or}
+use Rattle.std.specs.Cmp.Lexicographic.{slice_cmp}
+use Rattle.std.specs.Ordering.{nat_cmp}
+use Rattle.std.specs.declared.cmp.Ordering.{Ordering}
+use Rattle.rs_rank.specs.Masks.{mask_of}
+
+-- a scan of a FROM entry; a scan of one by a rank index, in the order of a term; an operator that evaluates one term more;
+-- joins; an operator that drops duplicates; the set operator of a query. Entries and terms count from 1, indexes from 0
+pub data Tree : Type 0 where
+  SeqScan : ℕ → Tree
+  RankScan : ℕ → ℕ → ℕ → Tree
+  Rank : ℕ → Tree → Tree
+  HashJoin : Tree → Tree → Tree
+  NestedJoin : Tree → Tree → Tree
+  Distinct : Tree → Tree
+  SetOperator : Tree → Tree → Tree
+
+-- the mask of its entries; of a set operator those of its left side
+abbrev pub entries : Tree → ℕ
+entries (SeqScan entry) = mask_of entry
+entries (RankScan entry term index) = mask_of entry
+entries (Rank term child) = entries child
+entries (HashJoin left right) = bit_or (entries left) (entries right)
+entries (NestedJoin left right) = bit_or (entries left) (entries right)
+entries (Distinct child) = entries child
+entries (SetOperator left right) = entries left
+
+-- the mask of the terms that it evaluates
+abbrev pub terms : Tree → ℕ
+terms (SeqScan entry) = 0
+terms (RankScan entry term index) = mask_of term
+terms (Rank term child) = bit_or (terms child) (mask_of term)
+terms (HashJoin left right) = bit_or (terms left) (terms right)
+terms (NestedJoin left right) = bit_or (terms left) (terms right)
+terms (Distinct child) = terms child
+terms (SetOperator left right) = terms left
+
+-- its code: numbers that tell different plans of a query apart, and by which plans of one cost are ordered
+abbrev pub code : Tree → List ℕ
+code (SeqScan entry) = 1 ∷ entry ∷ []
+code (RankScan entry term index) = 2 ∷ entry ∷ term ∷ []
+code (Rank term child) = 3 ∷ term ∷ code child
+code (HashJoin left right) = 4 ∷ entries left ∷ terms left ∷ code left ++ code right
+code (NestedJoin left right) = 5 ∷ entries left ∷ terms left ∷ code left ++ code right
+code (Distinct child) = 6 ∷ code child
+code (SetOperator left right) = 7 ∷ code left ++ code right
+
+-- the lexicographic order of codes
+abbrev pub code_cmp : List ℕ → List ℕ → Ordering
+code_cmp = slice_cmp nat_cmp
