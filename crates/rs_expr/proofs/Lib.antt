@@ -1,4 +1,5 @@
 pub mod ScoringFacts
+pub mod InOrderFacts
 pub mod UsesFacts
 pub mod WidthFacts
 pub mod EvalFacts

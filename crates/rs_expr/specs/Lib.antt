@@ -5,5 +5,7 @@ pub mod Uses
 pub mod Predicates
 pub mod Scores
 pub mod Scoring
+pub mod InOrder
+pub mod FormulaScorer
 pub mod MemScorer
 pub mod Stored

@@ -1,5 +1,5 @@
 -- A scorer in memory: what it holds, and what each call does to it.
-use Rattle.std.specs.Prelude.{ℕ, ℤ, ◌+◌, ◌≡◌, ◌==◌, ◌&&◌, Bool, List, [], ◌∷◌, ◌++◌, length, find, Option, option_map, unwrap_or, Result, Ok, Err, if◌then◌else◌}
+use Rattle.std.specs.Prelude.{ℕ, ℤ, ◌+◌, ◌==◌, ◌&&◌, Bool, List, [], ◌∷◌, ◌++◌, length, find, Option, Some, option_map, unwrap_or, Result, Ok, Err, if◌then◌else◌}
 use Rattle.std.specs.List.{list_any}
 use Rattle.std.specs.Str.{bytes_eq}
 use Rattle.std.specs.Cmp.Lexicographic.{pointwise}
@@ -8,7 +8,7 @@ use Rattle.rs_value.specs.declared.value.Value.{Value}
 use Rattle.rs_value.specs.contracts.value.ValuePartialEq.TheImpl as value
 use Rattle.rs_expr.specs.Meaning.{value_of}
 use Rattle.rs_expr.specs.Predicates.{PredicateDef}
-use Rattle.rs_expr.specs.Scoring.{call_of, calls_after, count_after}
+use Rattle.rs_expr.specs.Scoring.{ScorerState, call_of, calls_after, count_after}
 use Rattle.rs_expr.specs.declared.scorer.Call.{Call}
 use Rattle.rs_expr.specs.declared.scorer.ScorerFault.{ScorerFault}
 use Rattle.rs_expr.specs.declared.scorer.ScorerFault.TheVariants.{Failed, Memory}
@@ -74,6 +74,10 @@ after_score call result state = record state {
   faults = faults_after result state.faults;
 }
 
--- no call is to fail
-abbrev pub NoCallFails : MemScorerState → Type 0
-NoCallFails state = state.failing ≡ []
+-- what contracts see of a scorer in memory: it tells its calls, and is steady where no call is to fail
+abbrev pub scorer_state : MemScorerState → ScorerState
+scorer_state state = record {
+  answer = score_of state;
+  calls = state.count;
+  outside = record { told = Some state.calls; faults = state.faults; steady = length state.failing == 0 };
+}

@@ -1,11 +1,23 @@
 -- Calls of a scorer.
-use Rattle.std.specs.Prelude.{ℕ, ℤ, ◌≡◌, List, [], ◌∷◌, ◌++◌, Option, option_map, Result, Ok, Err}
-use Rattle.rs_value.specs.Faults.{Rose, raised}
+use Rattle.std.specs.Prelude.{ℕ, ℤ, ◌≡◌, ◌≤◌, List, [], ◌∷◌, ◌++◌, Option, option_map, Result, Ok, Err}
+use Rattle.rs_value.specs.Faults.{raised}
+use Rattle.rs_value.specs.Outside.{Faulted, Keeps, Outside}
 use Rattle.rs_value.specs.declared.value.Value.{Value}
 use Rattle.rs_expr.specs.Predicates.{PredicateDef}
 use Rattle.rs_expr.specs.declared.scorer.Call.{Call}
 use Rattle.rs_expr.specs.declared.scorer.ScorerFault.{ScorerFault}
 use Rattle.rs_expr.specs.declared.scorer.ScorerFault.TheVariants.{Failed, Memory}
+
+-- what a scorer answers, for a predicate and arguments
+abbrev pub Answering : Type 0
+Answering = PredicateDef → List Value → ℤ
+
+-- a scorer as contracts see it: what it answers, how many calls were made, which stands still at 2^64 - 1, and what it tells
+-- of itself as any object of the outside, which are its calls
+pub record ScorerState : Type 0 where
+  pub answer : Answering
+  pub calls : ℕ
+  pub outside : Outside (List Call)
 
 -- the call of a predicate with these arguments
 abbrev pub call_of : PredicateDef → List Value → Call
@@ -28,26 +40,18 @@ abbrev pub Answers : ℤ → Result ℤ ScorerFault → Type 0
 Answers answer (Ok score) = score ≡ answer
 Answers answer (Err fault) = Unit {0}
 
--- what a scorer tells before and after some calls, and its counts
-pub record ScorerSeen : Type 0 where
-  pub before : Option (List Call)
-  pub after : Option (List Call)
-  pub count_before : ℕ
-  pub count_after : ℕ
-  pub faults_before : ℕ
-  pub faults_after : ℕ
-
 -- the number of calls after these
 abbrev pub counted : List Call → ℕ → ℕ
 counted [] count = count
 counted (call ∷ calls) count = counted calls (raised count)
 
 -- these calls were made, and no others
-pub record Asks (calls : List Call) (scorer : ScorerSeen) : Type 0 where
-  pub told : scorer.after ≡ option_map (λ told. told ++ calls) scorer.before
-  pub counted : scorer.count_after ≡ counted calls scorer.count_before
+pub record Made (calls : List Call) (old new : ScorerState) : Type 0 where
+  pub told : new.outside.told ≡ option_map (λ told. told ++ calls) old.outside.told
+  pub counted : new.calls ≡ counted calls old.calls
 
--- a call failed: the count of faults rose, and the scorer had not promised that no call fails
-pub record ScorerFaulted (scorer : ScorerSeen) (steady : Type 0) : Type 0 where
-  pub rose : Rose scorer.faults_before scorer.faults_after
-  pub unsteady : ¬ steady
+-- for as long as calls go on, a scorer's answers stay, and no count falls
+pub record KeepsScorer (old new : ScorerState) : Type 0 where
+  pub answer : new.answer ≡ old.answer
+  pub calls : old.calls ≤ new.calls
+  pub outside : Keeps old.outside new.outside

@@ -1,5 +1,7 @@
-ghost use Rattle.std.specs.Prelude.{◌≡◌, ◌≢◌, true, None, Ok};
+ghost use Rattle.std.specs.Prelude.{◌≡◌, true, Ok};
+ghost use Rattle.rs_value.specs.Outside.{Counts};
 ghost use Rattle.rs_value.specs.Value.{all_fit};
+ghost use Rattle.rs_expr.specs.FormulaScorer.{formula_state};
 ghost use Rattle.rs_expr.specs.Meaning.{value_of};
 ghost use Rattle.rs_expr.specs.Scoring.{Answers, count_after};
 
@@ -32,21 +34,13 @@ impl FormulaScorer {
 }
 
 impl Scorer for FormulaScorer {
-    ghost answer = { λ _ predicate args. value_of predicate.formula args };
-
-    ghost told = { λ _. None };
-
-    ghost calls = { λ count. count };
-
-    ghost faults = { λ _. 0 };
-
-    ghost steady = { λ _. Unit {0} };
+    ghost state = { formula_state };
 
     fn score(&mut self, predicate: &Predicate, args: &[Value]) -> Result<i128, ScorerFault>
         requires { all_fit predicate.now.params args.now ≡ true }
         ensures answers { Answers (value_of predicate.now.formula args.now) result }
         ensures calls { self.new ≡ count_after result self.old }
-        ensures failed { result ≢ Err ScorerFault.Failed }
+        ensures counts { Counts (result ≡ Err ScorerFault.Failed) (formula_state self.old).outside (formula_state self.new).outside }
 
         // It always answers.
         ensures value { result ≡ Ok (value_of predicate.now.formula args.now) }

@@ -1,8 +1,9 @@
-ghost use Rattle.std.specs.Prelude.{◌≡◌, ◌≢◌, ◌≤◌, ◌∷◌, ◌++◌, true, [], IfOk, OnErr, OnOk, Some, option_map, position};
+ghost use Rattle.std.specs.Prelude.{◌≡◌, ◌∷◌, ◌++◌, true, [], IfOk, OnErr, OnOk, option_map, position};
 ghost use Rattle.rs_value.specs.Answer.{Gives};
-ghost use Rattle.rs_value.specs.Faults.{Rose, raised};
+ghost use Rattle.rs_value.specs.Faults.{raised};
+ghost use Rattle.rs_value.specs.Outside.{Counts};
 ghost use Rattle.rs_value.specs.Value.{all_fit};
-ghost use Rattle.rs_expr.specs.MemScorer.{NoCallFails, after_fail_at, after_score, after_set, is_call_planned, is_same_call, no_scores, score_answer, score_of, written_for};
+ghost use Rattle.rs_expr.specs.MemScorer.{after_fail_at, after_score, after_set, is_call_planned, is_same_call, no_scores, score_answer, score_of, scorer_state, written_for};
 ghost use Rattle.rs_expr.specs.Scoring.{Answers, call_of, calls_after, count_after};
 
 use crate::predicate::Predicate;
@@ -164,27 +165,16 @@ impl MemScorer {
 }
 
 impl Scorer for MemScorer {
-    ghost answer = { score_of };
-
-    ghost told = { λ m. Some m.calls };
-
-    ghost calls = { λ m. m.count };
-
-    ghost faults = { λ m. m.faults };
-
-    ghost steady = { NoCallFails };
+    ghost state = { scorer_state };
 
     fn score(&mut self, predicate: &Predicate, args: &[Value]) -> Result<i128, ScorerFault>
         requires { all_fit predicate.now.params args.now ≡ true }
         ensures answers { Answers (score_of self.old predicate.now args.now) result }
         ensures same { score_of self.new ≡ score_of self.old }
-        ensures told { Some self.new.calls
-            ≡ option_map (calls_after (call_of predicate.now args.now) result) (Some self.old.calls) }
+        ensures told { (scorer_state self.new).outside.told
+            ≡ option_map (calls_after (call_of predicate.now args.now) result) (scorer_state self.old).outside.told }
         ensures calls { self.new.count ≡ count_after result self.old.count }
-        ensures faults { self.old.faults ≤ self.new.faults }
-        ensures failed { result ≡ Err ScorerFault.Failed → Rose self.old.faults self.new.faults }
-        ensures steady { NoCallFails self.old
-            → NoCallFails self.new × (self.new.faults ≡ self.old.faults) × (result ≢ Err ScorerFault.Failed) }
+        ensures counts { Counts (result ≡ Err ScorerFault.Failed) (scorer_state self.old).outside (scorer_state self.new).outside }
 
         // The answer, which only want of memory can replace, and what the call leaves.
         ensures answer { Gives ScorerFault.Memory (score_answer predicate.now args.now self.old) result }

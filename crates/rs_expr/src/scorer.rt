@@ -1,10 +1,8 @@
-ghost use Rattle.std.specs.Prelude.{◌≡◌, ◌≢◌, ◌≤◌, ℕ, ℤ, List, Option, option_map, true};
-ghost use Rattle.rs_value.specs.Faults.{Rose};
+ghost use Rattle.std.specs.Prelude.{◌≡◌, option_map, true};
+ghost use Rattle.rs_value.specs.Outside.{Counts};
 ghost use Rattle.rs_value.specs.Value.{all_fit};
-ghost use Rattle.rs_value.specs.declared.value.Value.{Value as Argument};
 ghost use Rattle.rs_expr.specs.Meaning.{value_of};
-ghost use Rattle.rs_expr.specs.Predicates.{PredicateDef};
-ghost use Rattle.rs_expr.specs.Scoring.{Answers, call_of, calls_after, count_after};
+ghost use Rattle.rs_expr.specs.Scoring.{Answers, ScorerState, call_of, calls_after, count_after};
 
 use crate::predicate::Predicate;
 use rs_value::{List, Text, Value};
@@ -25,35 +23,20 @@ pub struct Call {
 
 /// What answers the score of a predicate. Each call may cost money, so each is counted.
 pub trait Scorer {
-    ghost use Rattle.rs_expr.specs.declared.scorer.Call.{Call};
-
-    /// What is answered, for a predicate and arguments. No call changes it.
-    ghost answer: { Self → PredicateDef → List Argument → ℤ };
-
-    /// The calls so far, where the object tells them.
-    ghost told: { Self → Option (List Call) };
-
-    /// How many calls were made. It stands still at 2^64 - 1.
-    ghost calls: { Self → ℕ };
-
-    /// How many calls failed. It stands still at 2^64 - 1.
-    ghost faults: { Self → ℕ };
-
-    /// No call will fail.
-    ghost steady: { Self → Type 0 };
+    /// What is answered, for a predicate and arguments, which no call changes; how many calls were made; the calls, where the
+    /// object tells them; how many failed; and whether none will.
+    ghost state: { Self → ScorerState };
 
     /// The score of a predicate for these arguments, which have the kinds of its parameters. It may lie outside 0 to the
     /// predicate's greatest score.
     fn score(&mut self, predicate: &Predicate, args: &[Value]) -> Result<i128, ScorerFault>
         requires { all_fit predicate.now.params args.now ≡ true }
-        ensures answers { Answers (answer self.old predicate.now args.now) result }
-        ensures same { answer self.new ≡ answer self.old }
-        ensures told { told self.new ≡ option_map (calls_after (call_of predicate.now args.now) result) (told self.old) }
-        ensures calls { calls self.new ≡ count_after result (calls self.old) }
-        ensures faults { faults self.old ≤ faults self.new }
-        ensures failed { result ≡ Err ScorerFault.Failed → Rose (faults self.old) (faults self.new) }
-        ensures steady { steady self.old
-            → steady self.new × (faults self.new ≡ faults self.old) × (result ≢ Err ScorerFault.Failed) };
+        ensures answers { Answers ((state self.old).answer predicate.now args.now) result }
+        ensures same { (state self.new).answer ≡ (state self.old).answer }
+        ensures told { (state self.new).outside.told
+            ≡ option_map (calls_after (call_of predicate.now args.now) result) (state self.old).outside.told }
+        ensures calls { (state self.new).calls ≡ count_after result (state self.old).calls }
+        ensures counts { Counts (result ≡ Err ScorerFault.Failed) (state self.old).outside (state self.new).outside };
 }
 
 /// The value of a predicate's formula for these arguments, which have the kinds of its parameters.

@@ -1,8 +1,9 @@
 -- A sink in memory: what it holds, and what each put does to it.
-use Rattle.std.specs.Prelude.{ℕ, ◌+◌, ◌≡◌, ◌==◌, List, [], ◌∷◌, ◌++◌, length, take, find, Option, Some, None, option_map, is_some, Result, Ok, Err, if◌then◌else◌}
+use Rattle.std.specs.Prelude.{ℕ, ◌+◌, ◌==◌, List, [], ◌∷◌, ◌++◌, length, take, find, Option, Some, None, option_map, is_some, Result, Ok, Err, if◌then◌else◌}
 use Rattle.rs_outside.specs.declared.sink.SinkFault.{SinkFault}
 use Rattle.rs_outside.specs.declared.sink.SinkFault.TheVariants.{Failed, Memory}
 use Rattle.rs_value.specs.Faults.{raised}
+use Rattle.rs_value.specs.Outside.{Outside}
 
 -- a put that is to fail: its number, counted from 1, and how many bytes it takes first
 pub record PutFailure : Type 0 where
@@ -45,6 +46,6 @@ after_put bytes (Err Failed) state =
     record state { pieces = state.pieces ++ taken_of bytes (next_failure state) ∷ []; faults = raised state.faults }
 after_put bytes (Ok done) state = record state { pieces = state.pieces ++ bytes ∷ [] }
 
--- no put is to fail
-abbrev pub NoPutFails : MemSinkState → Type 0
-NoPutFails state = state.failing ≡ []
+-- what contracts see of a sink in memory: it tells its pieces, and is steady where no put is to fail
+abbrev pub sink_state : MemSinkState → Outside (List (List ℕ))
+sink_state state = record { told = Some state.pieces; faults = state.faults; steady = length state.failing == 0 }

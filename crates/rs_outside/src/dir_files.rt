@@ -1,10 +1,10 @@
-ghost use Rattle.std.specs.Prelude.{◌≡◌, ◌≤◌, ℕ, List, Option, None};
+ghost use Rattle.std.specs.Prelude.{◌≡◌, ℕ, List, Option};
 ghost use Rattle.std.specs.Io.{ReadsAtMost};
 ghost use Rattle.std.specs.Io.KnownBytes.{ReadConsumes};
 ghost use Rattle.std.specs.IoError.{error_kind};
 ghost use Rattle.rs_outside.specs.DirFiles.{open_fault, read_fault, AppendsRest, AppendsSome, faults_after_fetch};
-ghost use Rattle.rs_value.specs.Faults.{Rose};
-ghost use Rattle.rs_outside.specs.Files.{Fetches};
+ghost use Rattle.rs_value.specs.Outside.{Counts, untold};
+ghost use Rattle.rs_outside.specs.Files.{Fetches, FilesTold};
 
 use crate::files::{FetchFault, Files};
 use rs_value::Text;
@@ -114,16 +114,13 @@ impl<R: std::rt::Files> DirFiles<R> {
 }
 
 impl<R: std::rt::Files> Files for DirFiles<R> {
-    ghost told = { λ _. None };
-
-    ghost faults = { λ d. d };
-
-    ghost steady = { λ _. ⊥ };
+    ghost state = { untold };
 
     fn fetch(&mut self, name: &Text, limit: usize, into: &mut Vec<u8>) -> Result<(), FetchFault>
         ensures fetches { (there : Option (List ℕ)) × Fetches there limit into.old.items result into.new.items }
-        ensures faults { self.old ≤ self.new }
-        ensures failed { result ≡ Err FetchFault.Failed → Rose self.old self.new }
+        ensures counts { Counts {FilesTold} (result ≡ Err FetchFault.Failed) (untold self.old) (untold self.new) }
+
+        // Exactly the fetches that failed are counted.
         ensures counted { self.new ≡ faults_after_fetch result self.old }
     {
         let start = into.len();

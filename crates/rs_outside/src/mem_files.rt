@@ -1,9 +1,9 @@
-ghost use Rattle.std.specs.Prelude.{◌≡◌, ◌≢◌, ◌≤◌, MatchOption, ℕ, List, Option, Some, None, IfSome, option_map, OnOk, OnErr, position};
+ghost use Rattle.std.specs.Prelude.{◌≡◌, MatchOption, ℕ, List, Option, Some, None, IfSome, option_map, OnOk, OnErr, position};
 ghost use Rattle.std.specs.Str.{bytes_eq};
 ghost use Rattle.rs_value.specs.Answer.{Gives};
-ghost use Rattle.rs_value.specs.Faults.{Rose};
+ghost use Rattle.rs_value.specs.Outside.{Counts};
 ghost use Rattle.rs_outside.specs.Files.{file_named, Fetches, told_after};
-ghost use Rattle.rs_outside.specs.MemFiles.{no_files, after_add, after_fail_at, is_fetch_planned, found_answer, fetch_answer, after_fetch, files_told, NoFetchFails};
+ghost use Rattle.rs_outside.specs.MemFiles.{no_files, after_add, after_fail_at, is_fetch_planned, found_answer, fetch_answer, after_fetch, files_state};
 
 use crate::files::{FetchFault, Files};
 use rs_value::{List, Memory, Text};
@@ -150,20 +150,13 @@ impl MemFiles {
 }
 
 impl Files for MemFiles {
-    ghost told = { files_told };
-
-    ghost faults = { λ m. m.faults };
-
-    ghost steady = { NoFetchFails };
+    ghost state = { files_state };
 
     fn fetch(&mut self, name: &Text, limit: usize, into: &mut Vec<u8>) -> Result<(), FetchFault>
-        ensures fetches { (there : Option (List ℕ)) × IfSome (files_told self.old) (λ t. file_named name.now t.folder ≡ there)
+        ensures fetches { (there : Option (List ℕ)) × IfSome (files_state self.old).told (λ t. file_named name.now t.folder ≡ there)
             × Fetches there limit into.old.items result into.new.items }
-        ensures told { files_told self.new ≡ option_map (told_after name.now result) (files_told self.old) }
-        ensures faults { self.old.faults ≤ self.new.faults }
-        ensures failed { result ≡ Err FetchFault.Failed → Rose self.old.faults self.new.faults }
-        ensures steady { NoFetchFails self.old
-            → NoFetchFails self.new × (self.new.faults ≡ self.old.faults) × (result ≢ Err FetchFault.Failed) }
+        ensures told { (files_state self.new).told ≡ option_map (told_after name.now result) (files_state self.old).told }
+        ensures counts { Counts (result ≡ Err FetchFault.Failed) (files_state self.old) (files_state self.new) }
 
         // The answer, which only want of memory can replace, and what the call leaves.
         ensures answer { Gives FetchFault.Memory (fetch_answer name.now limit self.old) result }

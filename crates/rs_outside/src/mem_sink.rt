@@ -1,9 +1,9 @@
-ghost use Rattle.std.specs.Prelude.{◌≡◌, ◌≢◌, ◌≤◌, Option, Some, OnOk, OnErr, ◌∷◌, ◌++◌, []};
+ghost use Rattle.std.specs.Prelude.{◌≡◌, Option, Some, OnOk, OnErr, ◌∷◌, ◌++◌, []};
 ghost use Rattle.std.specs.List.{concat};
 ghost use Rattle.rs_value.specs.Answer.{Gives};
-ghost use Rattle.rs_value.specs.Faults.{Rose};
+ghost use Rattle.rs_value.specs.Outside.{Counts};
 ghost use Rattle.rs_outside.specs.Sink.{IsPrefix, Puts};
-ghost use Rattle.rs_outside.specs.MemSink.{no_pieces, after_fail_put_at, next_failure, taken_of, put_answer, after_put, NoPutFails};
+ghost use Rattle.rs_outside.specs.MemSink.{no_pieces, after_fail_put_at, next_failure, taken_of, put_answer, after_put, sink_state};
 
 use crate::sink::{Sink, SinkFault};
 use rs_value::{List, Memory};
@@ -112,18 +112,11 @@ impl MemSink {
 }
 
 impl Sink for MemSink {
-    ghost pieces = { λ s. Some s.pieces };
-
-    ghost faults = { λ s. s.faults };
-
-    ghost steady = { NoPutFails };
+    ghost state = { sink_state };
 
     fn put(&mut self, bytes: &[u8]) -> Result<(), SinkFault>
-        ensures puts { Puts bytes.now result (Some self.old.pieces) (Some self.new.pieces) }
-        ensures faults { self.old.faults ≤ self.new.faults }
-        ensures failed { result ≡ Err SinkFault.Failed → Rose self.old.faults self.new.faults }
-        ensures steady { NoPutFails self.old
-            → NoPutFails self.new × (self.new.faults ≡ self.old.faults) × (result ≢ Err SinkFault.Failed) }
+        ensures puts { Puts bytes.now result (sink_state self.old).told (sink_state self.new).told }
+        ensures counts { Counts (result ≡ Err SinkFault.Failed) (sink_state self.old) (sink_state self.new) }
 
         // The answer, which only want of memory can replace, and what the call leaves.
         ensures answer { Gives SinkFault.Memory (put_answer self.old) result }

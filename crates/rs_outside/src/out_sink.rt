@@ -1,7 +1,7 @@
-ghost use Rattle.std.specs.Prelude.{◌≡◌, ◌≢◌, ◌≤◌, None};
+ghost use Rattle.std.specs.Prelude.{◌≡◌, ◌≢◌, ℕ, List, None};
 ghost use Rattle.std.specs.Io.{WritesAtMost};
 ghost use Rattle.std.specs.Io.KnownBytes.{WriteAppends};
-ghost use Rattle.rs_value.specs.Faults.{Rose};
+ghost use Rattle.rs_value.specs.Outside.{Counts, untold};
 ghost use Rattle.rs_outside.specs.OutSink.{WritesWhole, faults_after_put};
 ghost use Rattle.rs_outside.specs.Sink.{Puts};
 
@@ -93,16 +93,11 @@ impl OutSink<Stderr> {
 }
 
 impl<W: Write> Sink for OutSink<W> {
-    ghost pieces = { λ _. None };
-
-    ghost faults = { λ s. s.faults };
-
-    ghost steady = { λ _. ⊥ };
+    ghost state = { λ s. untold s.faults };
 
     fn put(&mut self, bytes: &[u8]) -> Result<(), SinkFault>
         ensures puts { Puts bytes.now result None None }
-        ensures faults { self.old.faults ≤ self.new.faults }
-        ensures failed { result ≡ Err SinkFault.Failed → Rose self.old.faults self.new.faults }
+        ensures counts { Counts {List (List ℕ)} (result ≡ Err SinkFault.Failed) (untold self.old.faults) (untold self.new.faults) }
 
         // Where the writer tells its bytes, a prefix is written, all on `Ok`. No put wants memory.
         ensures written { WritesWhole (W.contents self.old.writer) (W.contents self.new.writer) result bytes.now }

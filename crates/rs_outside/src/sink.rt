@@ -1,5 +1,5 @@
-ghost use Rattle.std.specs.Prelude.{◌≡◌, ◌≢◌, ◌≤◌, ℕ, List, Option};
-ghost use Rattle.rs_value.specs.Faults.{Rose};
+ghost use Rattle.std.specs.Prelude.{◌≡◌, ℕ, List};
+ghost use Rattle.rs_value.specs.Outside.{Counts, Outside};
 ghost use Rattle.rs_outside.specs.Sink.{Puts};
 
 /// Why bytes could not be put.
@@ -11,21 +11,12 @@ pub enum SinkFault {
 
 /// What takes bytes, a piece at a time.
 pub trait Sink {
-    /// The pieces taken so far, where the object tells them: its bytes are these one after another.
-    /// A stream of the system tells nothing.
-    ghost pieces: { Self → Option (List (List ℕ)) };
-
-    /// How many puts failed. It stands still at 2^64 - 1.
-    ghost faults: { Self → ℕ };
-
-    /// No put will fail.
-    ghost steady: { Self → Type 0 };
+    /// The pieces taken so far, where the object tells them: its bytes are these one after another; how many puts failed; and
+    /// whether none will. A stream of the system tells nothing, and is never steady.
+    ghost state: { Self → Outside (List (List ℕ)) };
 
     /// Takes the bytes. One that fails has taken a prefix of them, and one for which there is no memory nothing.
     fn put(&mut self, bytes: &[u8]) -> Result<(), SinkFault>
-        ensures puts { Puts bytes.now result (pieces self.old) (pieces self.new) }
-        ensures faults { faults self.old ≤ faults self.new }
-        ensures failed { result ≡ Err SinkFault.Failed → Rose (faults self.old) (faults self.new) }
-        ensures steady { steady self.old
-            → steady self.new × (faults self.new ≡ faults self.old) × (result ≢ Err SinkFault.Failed) };
+        ensures puts { Puts bytes.now result (state self.old).told (state self.new).told }
+        ensures counts { Counts (result ≡ Err SinkFault.Failed) (state self.old) (state self.new) };
 }

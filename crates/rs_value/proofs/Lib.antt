@@ -1,4 +1,5 @@
 pub mod Equal
+pub mod OutsideFacts
 pub mod NumberFacts
 pub mod OnLiterals
 pub mod TextFacts

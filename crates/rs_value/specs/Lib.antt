@@ -1,5 +1,6 @@
 pub mod Answer
 pub mod Faults
+pub mod Outside
 pub mod Text
 pub mod Number
 pub mod Rel
