@@ -12,7 +12,7 @@ use Rattle.rs_rank.specs.declared.key.Key.{Key}
 use Rattle.rs_rank.specs.declared.row.RankRow.{RankRow}
 use Rattle.rs_rank.specs.declared.weights.Weights.{Weights}
 use Rattle.rs_expr.specs.Scoring.{Answering}
-use Rattle.rs_query.specs.Answers.{base_of, rows_of, weights_of, worth_of}
+use Rattle.rs_query.specs.Answers.{base_of, rows_of, weights_of, worths_of}
 use Rattle.rs_query.specs.Combinations.{combinations}
 use Rattle.rs_query.specs.Views.{View}
 use Rattle.rs_query.specs.declared.block.Block.{Block}
@@ -60,7 +60,7 @@ sources w number (SetOperator left right) = map (λ (row : Answer). row.ids) (ro
 
 -- the worths of the terms for some ids
 abbrev pub worths : World → Ids → List ℕ
-worths w ids = map (worth_of w.answer w.catalogue (block_of w ids.block) ids.rows) (block_of w ids.block).terms
+worths w ids = worths_of w.answer w.catalogue (block_of w ids.block) ids.rows
 
 -- a row of these ids, with the sum of the terms in a mask
 abbrev pub row_under : World → ℕ → Ids → RankRow

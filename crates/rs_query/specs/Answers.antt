@@ -1,5 +1,5 @@
 -- The answer of a query: every combination is scored, duplicates are dropped where the query says so, and the rest is put into the stable order.
-use Rattle.std.specs.Prelude.{ℕ, zero, suc, ℤ, pos, negsuc, min, not, ◌+◌, ◌*◌, ◌&&◌, Bool, true, false, List, [], ◌∷◌, ◌++◌, map, take, Option, Some, None, slice_get, unwrap_or}
+use Rattle.std.specs.Prelude.{ℕ, zero, suc, ℤ, pos, negsuc, min, not, ◌+◌, ◌-◌, ◌*◌, ◌^◌, ◌&&◌, Bool, true, false, List, [], ◌∷◌, ◌++◌, length, map, take, Option, Some, None, slice_get, unwrap_or}
 use Rattle.std.specs.List.{filter, list_any}
 use Rattle.std.specs.Ordering.{int_eq}
 use Rattle.std.specs.Str.{bytes_eq}
@@ -117,6 +117,10 @@ rows_of answer catalogue (Set op left right limit) view =
 abbrev pub answer_of : Answering → Catalogue → Query → View → List Answer
 answer_of answer catalogue query view = cut (limit_of query) (stable (λ (row : Answer). row.score) (rows_of answer catalogue query view))
 
+-- the worths of the terms of a block for these rows
+abbrev pub worths_of : Answering → Catalogue → Block → List ℕ → List ℕ
+worths_of answer catalogue block rows = map (worth_of answer catalogue block rows) block.terms
+
 -- numbers, with 0 behind them up to a length
 abbrev pub padded : ℕ → List ℕ → List ℕ
 padded zero numbers = []
@@ -126,3 +130,7 @@ padded (suc n) (number ∷ numbers) = number ∷ padded n numbers
 -- the weights of the terms of a block, and their maxima
 abbrev pub weights_of : Block → Weights
 weights_of block = record { weight = padded 8 (map (λ (t : Term). t.weight) block.terms); max = padded 8 (map (λ (t : Term). t.max) block.terms) }
+
+-- the mask of all terms of a block
+abbrev pub all_terms : Block → ℕ
+all_terms block = 2 ^ length block.terms - 1
