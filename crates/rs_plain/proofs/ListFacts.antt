@@ -47,23 +47,26 @@ module _ {A : Type 0} (is : A → Bool) where
     go true behind e = refl
     go false behind e = ap (λ rest. x ∷ rest) (behind e)
 
-  -- the items up to the first one begin with those, and end with them where it is so of none and there are no more
-  pub record Begins (xs ys : List A) : Type 0 where
+  -- the items up to the first one begin with those of the first items; where one of these is the first, there are no more
+  pub record Leads (xs ys : List A) : Type 0 where
     pub more : List A
     pub is_split : through_first is (xs ++ ys) ≡ through_first is xs ++ more
+    pub found : (x : A) → first_of is xs ≡ Some x → more ≡ []
     pub behind : first_of is xs ≡ None → more ≡ through_first is ys
 
-  pub Begins-with : (xs ys : List A) → Begins xs ys
-  Begins-with xs ys = go (first_of is xs) refl where
-    go : (found : Option A) → first_of is xs ≡ found → Begins xs ys
+  pub Leads-with : (xs ys : List A) → Leads xs ys
+  Leads-with xs ys = go (first_of is xs) refl where
+    go : (first : Option A) → first_of is xs ≡ first → Leads xs ys
     go None e = record {
       more = through_first is ys;
       is_split = through-behind xs ys e ∙ ap (λ all. all ++ through_first is ys) (sym (through-all xs e));
+      found = λ x some. absurd (cc);
       behind = λ none. refl;
     }
     go (Some x) e = record {
       more = [];
       is_split = through-found xs ys x e ∙ sym (append-nil (through_first is xs));
+      found = λ y some. refl;
       behind = λ none. absurd (cc);
     }
 

@@ -1,36 +1,26 @@
 -- Evaluations, one after another, are one.
 use Rattle.std.proofs.Common.{◌≡◌, ◌∙◌, ◌++◌, Bool, List, [], ◌∷◌, map, refl, sym, ap, subst, inl, inr, append_assoc, append-nil}
-use Rattle.std.specs.Prelude.{◌⊎◌, Option, Some, None, Result, Ok, Err, IsOk}
+use Rattle.std.specs.Prelude.{Option, Some, None, Result, Ok, Err, IsOk}
 use Rattle.std.specs.Result.{IsErr, IsErrAnd}
 use Rattle.std.specs.declared.alloc.Global.{Global}
 use Rattle.std.specs.declared.vec.Vec.{Vec}
 use Rattle.std.proofs.lemmas.List.{map-append}
-use Rattle.rs_value.proofs.OutsideFacts.{Faulted-from}
 use Rattle.rs_rank.specs.declared.answer.Answer.{Answer}
-use Rattle.rs_expr.specs.InOrder.{Ends, Fails, Inquires, Request, Stops, calls_of}
+use Rattle.rs_expr.specs.InOrder.{Inquires, Request, calls_of}
 use Rattle.rs_expr.specs.Scoring.{Answering, KeepsScorer, Made, ScorerState}
 use Rattle.rs_expr.specs.declared.scorer.Call.{Call}
-use Rattle.rs_expr.proofs.InOrderFacts.{calls_of-append}
+use Rattle.rs_expr.proofs.InOrderFacts.{Begins, Ends-ok, Inquires-begun, Inquires-behind, behind, calls_of-append}
 use Rattle.rs_expr.proofs.ScoringFacts.{KeepsScorer-refl, KeepsScorer-then, Made-append, Made-none}
 use Rattle.rs_catalog.specs.Catalogue.{Catalogue}
 use Rattle.rs_plain.specs.Plain.{Question, bad_score, evaluating, first_of, is_bad, outcome_for, request_for, through_first}
 use Rattle.rs_plain.specs.Results.{items_of}
 use Rattle.rs_plain.specs.declared.fault.PlainFault.{PlainFault}
 use Rattle.rs_plain.specs.declared.fault.PlainFault.TheVariants.{Memory}
-use Rattle.rs_plain.proofs.ListFacts.{Begins-with, first-behind, first-found, through-all, through-behind, through-found}
-
--- lists that are empty together
-nil-first : {A : Type 0} (xs ys : List A) → xs ++ ys ≡ [] → xs ≡ []
-nil-first [] ys e = refl
-nil-first (x ∷ xs) ys e = absurd (cc)
-
-nil-behind : {A : Type 0} (xs ys : List A) → xs ++ ys ≡ [] → ys ≡ []
-nil-behind [] ys e = e
-nil-behind (x ∷ xs) ys e = absurd (cc)
+use Rattle.rs_plain.proofs.ListFacts.{Leads-with, first-behind, first-found, through-all, through-behind, through-found}
 
 module _ (answer : Answering) (catalogue : Catalogue) where
-  abbrev bad : Question → Bool
-  bad = is_bad answer catalogue
+  abbrev no_score : Question → Bool
+  no_score = is_bad answer catalogue
 
   abbrev request : Question → Request PlainFault
   request = request_for catalogue
@@ -53,7 +43,7 @@ module _ (answer : Answering) (catalogue : Catalogue) where
 
   pub Asked-more : (first more : List Question) (old middle new : ScorerState) → Asked first old middle → Asked more middle new → Asked (first ++ more) old new
   Asked-more first more old middle new one two = record {
-    good = first-behind bad first more one.good ∙ two.good;
+    good = first-behind no_score first more one.good ∙ two.good;
     made = subst (λ calls. Made calls old new) (sym (asking-append first more)) (Made-append (asking first) (asking more) old middle new one.made two.made);
     keeps = KeepsScorer-then old middle new one.keeps two.keeps;
   }
@@ -64,28 +54,22 @@ module _ (answer : Answering) (catalogue : Catalogue) where
       pub asked : Asked questions old new
       pub is_value : given ≡ value
 
-    Gave-ended : (questions : List Question) (value given : A) (old new : ScorerState) (first : Option Question) → first_of bad questions ≡ first
-        → Made (asking (through_first bad questions)) old new → KeepsScorer old new → Ok given ≡ outcome_for answer catalogue first value → Gave questions value given old new
+    Gave-ended : (questions : List Question) (value given : A) (old new : ScorerState) (first : Option Question) → first_of no_score questions ≡ first
+        → Made (asking (through_first no_score questions)) old new → KeepsScorer old new → Ok given ≡ outcome_for answer catalogue first value → Gave questions value given old new
     Gave-ended questions value given old new None good made keeps e = record {
-      asked = record { good = good; made = subst (λ all. Made (asking all) old new) (through-all bad questions good) made; keeps = keeps };
+      asked = record { good = good; made = subst (λ all. Made (asking all) old new) (through-all no_score questions good) made; keeps = keeps };
       is_value = cc;
     }
     Gave-ended questions value given old new (Some q) found made keeps e = absurd (cc)
 
-    Gave-comes : (questions : List Question) (value given : A) (old new : ScorerState) → KeepsScorer old new
-        → (Ends (evaluating answer catalogue questions value) (Ok given) old new ⊎ Fails (evaluating answer catalogue questions value) (Ok given) old new)
-        ⊎ Stops Memory (evaluating answer catalogue questions value) (Ok given) old new
-        → Gave questions value given old new
-    Gave-comes questions value given old new keeps (inl (inl ends)) = Gave-ended questions value given old new (first_of bad questions) refl ends.made keeps ends.gives
-    Gave-comes questions value given old new keeps (inl (inr fails)) = absurd (let e = fails.gives in cc)
-    Gave-comes questions value given old new keeps (inr stops) = absurd (let e = stops.gives in cc)
-
     pub Gave-ok : (questions : List Question) (value given : A) (old new : ScorerState)
         → Inquires Memory (evaluating answer catalogue questions value) (Ok given) old new → Gave questions value given old new
-    Gave-ok questions value given old new inquired = Gave-comes questions value given old new inquired.keeps inquired.comes
+    Gave-ok questions value given old new inquired =
+        let ends = Ends-ok Memory (evaluating answer catalogue questions value) given old new inquired in
+        Gave-ended questions value given old new (first_of no_score questions) refl ends.made inquired.keeps ends.gives
 
     -- where no answer is bad there is a value
-    good-end : (all : List Question) (value : A) → first_of bad all ≡ None → IsOk (outcome_for answer catalogue (first_of bad all) value)
+    good-end : (all : List Question) (value : A) → first_of no_score all ≡ None → IsOk (outcome_for answer catalogue (first_of no_score all) value)
     good-end all value none = subst (λ first. IsOk (outcome_for answer catalogue first value)) (sym none) refl
 
     end-good : (value : A) (first : Option Question) → IsOk (outcome_for answer catalogue first value) → first ≡ None
@@ -97,15 +81,15 @@ module _ (answer : Answering) (catalogue : Catalogue) where
         → Inquires Memory (evaluating answer catalogue questions value) (Ok value) old new
     Inquires-asked questions value old new asked = record {
       comes = inl (inl (record {
-        made = subst (λ all. Made (asking all) old new) (sym (through-all bad questions asked.good)) asked.made;
+        made = subst (λ all. Made (asking all) old new) (sym (through-all no_score questions asked.good)) asked.made;
         gives = ap (λ first. outcome_for answer catalogue first value) (sym asked.good);
       }));
       keeps = asked.keeps;
     }
 
   -- where no question is left, no answer was bad
-  none-left : (done rest all : List Question) → all ≡ done ++ rest → first_of bad done ≡ None → map request (through_first bad rest) ≡ [] → first_of bad all ≡ None
-  none-left done [] all is good e = ap (first_of bad) is ∙ first-behind bad done [] good
+  none-left : (done rest all : List Question) → all ≡ done ++ rest → first_of no_score done ≡ None → map request (through_first no_score rest) ≡ [] → first_of no_score all ≡ None
+  none-left done [] all is good e = ap (first_of no_score) is ∙ first-behind no_score done [] good
   none-left done (q ∷ rest) all is good e = absurd (cc)
 
   -- there was no memory behind the first questions
@@ -114,9 +98,9 @@ module _ (answer : Answering) (catalogue : Catalogue) where
   Inquires-stopped done rest all value old new is asked = record {
     comes = inr (record {
       done = map request done;
-      rest = map request (through_first bad rest);
-      split = ap (λ questions. map request (through_first bad questions)) is ∙ ap (map request) (through-behind bad done rest asked.good)
-          ∙ map-append request done (through_first bad rest);
+      rest = map request (through_first no_score rest);
+      split = ap (λ questions. map request (through_first no_score questions)) is ∙ ap (map request) (through-behind no_score done rest asked.good)
+          ∙ map-append request done (through_first no_score rest);
       good = λ e. good-end all value (none-left done rest all is asked.good e);
       made = asked.made;
       gives = refl;
@@ -124,97 +108,51 @@ module _ (answer : Answering) (catalogue : Catalogue) where
     keeps = asked.keeps;
   }
 
-  -- the requests of some questions are among those of more
-  record Within (done next rest all : List Question) : Type 0 where
-    more : List (Request PlainFault)
-    split : map request (through_first bad all) ≡ map request done ++ (map request (through_first bad next) ++ more)
-    ended : first_of bad next ≡ None → more ≡ [] → first_of bad all ≡ None
+  -- where an answer is bad, it is so for all questions
+  bad-end : {A B : Type 0} (done next rest all : List Question) (value : A) (whole : B) (fault : PlainFault) (more : List Question) (found : Option Question)
+      → all ≡ done ++ (next ++ rest) → first_of no_score done ≡ None → ((q : Question) → first_of no_score next ≡ Some q → more ≡ []) → first_of no_score next ≡ found
+      → outcome_for answer catalogue found value ≡ Err fault → (map request more ≡ []) × (outcome_for answer catalogue (first_of no_score all) whole ≡ Err fault)
+  bad-end done next rest all value whole fault more None is good no_more first e = absurd (cc)
+  bad-end done next rest all value whole fault more (Some q) is good no_more first e = (
+    ap (map request) (no_more q first),
+    (let found : first_of no_score all ≡ Some q = ap (first_of no_score) is ∙ first-behind no_score done (next ++ rest) good ∙ first-found no_score next rest q first in
+    let same : bad_score answer catalogue q ≡ fault = cc in
+    ap (λ f. outcome_for answer catalogue f whole) found ∙ ap Err same),
+  )
 
-  Within-is : (done next rest all : List Question) → all ≡ done ++ (next ++ rest) → first_of bad done ≡ None → Within done next rest all
-  Within-is done next rest all is good =
-      let begins = Begins-with bad next rest in record {
-        more = map request begins.more;
-        split = ap (λ questions. map request (through_first bad questions)) is ∙ ap (map request) (through-behind bad done (next ++ rest) good)
-            ∙ map-append request done (through_first bad (next ++ rest))
-            ∙ ap (λ more. map request done ++ more) (ap (map request) begins.is_split ∙ map-append request (through_first bad next) begins.more);
-        ended = λ none nil. ap (first_of bad) is ∙ first-behind bad done (next ++ rest) good
-            ∙ none-left next rest (next ++ rest) refl none (ap (map request) (sym (begins.behind none)) ∙ nil);
+  -- questions behind others that had no bad answer are the beginning of all
+  Begins-behind : {A B : Type 0} (done next rest all : List Question) (value : A) (whole : B) → all ≡ done ++ (next ++ rest) → first_of no_score done ≡ None
+      → Begins (behind (map request done) (evaluating answer catalogue next value)) (evaluating answer catalogue all whole)
+  Begins-behind done next rest all value whole is good =
+      let leads = Leads-with no_score next rest in record {
+        more = map request leads.more;
+        split = ap (λ questions. map request (through_first no_score questions)) is ∙ ap (map request) (through-behind no_score done (next ++ rest) good)
+            ∙ map-append request done (through_first no_score (next ++ rest))
+            ∙ ap (λ more. map request done ++ more) (ap (map request) leads.is_split ∙ map-append request (through_first no_score next) leads.more)
+            ∙ sym (append_assoc (map request done) (map request (through_first no_score next)) (map request leads.more));
+        bad = λ fault e. bad-end done next rest all value whole fault leads.more (first_of no_score next) is good leads.found refl e;
+        good = λ ok nil.
+            let none = end-good value (first_of no_score next) ok in
+            good-end all whole (ap (first_of no_score) is ∙ first-behind no_score done (next ++ rest) good
+            ∙ none-left next rest (next ++ rest) refl none (ap (map request) (sym (leads.behind none)) ∙ nil));
       }
 
-  module _ {A B : Type 0} where
-    -- a bad answer behind others
-    Ends-bad : (done next rest all : List Question) (value : A) (whole : B) (fault : PlainFault) (found : Option Question)
-        → all ≡ done ++ (next ++ rest) → first_of bad done ≡ None → first_of bad next ≡ found → Err fault ≡ outcome_for answer catalogue found value
-        → (Err fault ≡ outcome_for answer catalogue (first_of bad all) whole) × (asking (through_first bad all) ≡ asking done ++ asking (through_first bad next))
-    Ends-bad done next rest all value whole fault None is good first e = absurd (cc)
-    Ends-bad done next rest all value whole fault (Some q) is good first e =
-        let found : first_of bad all ≡ Some q = ap (first_of bad) is ∙ first-behind bad done (next ++ rest) good ∙ first-found bad next rest q first in
-        let same : fault ≡ bad_score answer catalogue q = cc in (
-          ap Err same ∙ ap (λ f. outcome_for answer catalogue f whole) (sym found),
-          ap (λ questions. asking (through_first bad questions)) is ∙ ap (λ questions. asking questions) (through-behind bad done (next ++ rest) good)
-              ∙ asking-append done (through_first bad (next ++ rest)) ∙ ap (λ more. asking done ++ asking more) (through-found bad next rest q first),
-        )
-
-    -- a fault of an evaluation behind others is one of the whole
-    comes-behind : (done next rest all : List Question) (value : A) (whole : B) (fault : PlainFault) (old middle new : ScorerState)
-        → all ≡ done ++ (next ++ rest) → Asked done old middle
-        → (Ends (evaluating answer catalogue next value) (Err fault) middle new ⊎ Fails (evaluating answer catalogue next value) (Err fault) middle new)
-        ⊎ Stops Memory (evaluating answer catalogue next value) (Err fault) middle new
-        → (Ends (evaluating answer catalogue all whole) (Err fault) old new ⊎ Fails (evaluating answer catalogue all whole) (Err fault) old new)
-        ⊎ Stops Memory (evaluating answer catalogue all whole) (Err fault) old new
-    comes-behind done next rest all value whole fault old middle new is asked (inl (inl ends)) =
-        let bad_end = Ends-bad done next rest all value whole fault (first_of bad next) is asked.good refl ends.gives in
-        inl (inl (record {
-          made = subst (λ calls. Made calls old new) (sym bad_end.1) (Made-append (asking done) (asking (through_first bad next)) old middle new asked.made ends.made);
-          gives = bad_end.0;
-        }))
-    comes-behind done next rest all value whole fault old middle new is asked (inl (inr fails)) =
-        let within = Within-is done next rest all is asked.good in
-        inl (inr (record {
-          done = map request done ++ fails.done;
-          last = fails.last;
-          rest = fails.rest ++ within.more;
-          split = within.split ∙ ap (λ requests. map request done ++ (requests ++ within.more)) fails.split
-              ∙ ap (λ requests. map request done ++ requests) (append_assoc fails.done (fails.last ∷ fails.rest) within.more)
-              ∙ sym (append_assoc (map request done) fails.done (fails.last ∷ (fails.rest ++ within.more)));
-          made = subst (λ calls. Made calls old new)
-              (sym (ap (λ requests. calls_of requests) (append_assoc (map request done) fails.done (fails.last ∷ []))
-              ∙ calls_of-append (map request done) (fails.done ++ fails.last ∷ [])))
-              (Made-append (asking done) (calls_of (fails.done ++ fails.last ∷ [])) old middle new asked.made fails.made);
-          faulted = Faulted-from old.outside middle.outside new.outside asked.keeps.outside fails.faulted;
-          gives = let e = fails.gives in cc;
-        }))
-    comes-behind done next rest all value whole fault old middle new is asked (inr stops) =
-        let within = Within-is done next rest all is asked.good in
-        inr (record {
-          done = map request done ++ stops.done;
-          rest = stops.rest ++ within.more;
-          split = within.split ∙ ap (λ requests. map request done ++ (requests ++ within.more)) stops.split
-              ∙ ap (λ requests. map request done ++ requests) (append_assoc stops.done stops.rest within.more)
-              ∙ sym (append_assoc (map request done) stops.done (stops.rest ++ within.more));
-          good = λ e. good-end all whole (within.ended
-              (end-good value (first_of bad next) (stops.good (nil-first stops.rest within.more e)))
-              (nil-behind stops.rest within.more e));
-          made = subst (λ calls. Made calls old new) (sym (calls_of-append (map request done) stops.done))
-              (Made-append (asking done) (calls_of stops.done) old middle new asked.made stops.made);
-          gives = let e = stops.gives in cc;
-        })
-
-    Inquires-fault : (done next rest all : List Question) (value : A) (whole : B) (fault : PlainFault) (old middle new : ScorerState)
-        → all ≡ done ++ (next ++ rest) → Asked done old middle → Inquires Memory (evaluating answer catalogue next value) (Err fault) middle new
-        → Inquires Memory (evaluating answer catalogue all whole) (Err fault) old new
-    Inquires-fault done next rest all value whole fault old middle new is asked inquired = record {
-      comes = comes-behind done next rest all value whole fault old middle new is asked inquired.comes;
-      keeps = KeepsScorer-then old middle new asked.keeps inquired.keeps;
-    }
+  -- a fault of an evaluation behind others is one of the whole
+  Inquires-fault : {A B : Type 0} (done next rest all : List Question) (value : A) (whole : B) (fault : PlainFault) (old middle new : ScorerState)
+      → all ≡ done ++ (next ++ rest) → Asked done old middle → Inquires Memory (evaluating answer catalogue next value) (Err fault) middle new
+      → Inquires Memory (evaluating answer catalogue all whole) (Err fault) old new
+  Inquires-fault done next rest all value whole fault old middle new is asked inquired =
+      Inquires-begun Memory (behind (map request done) (evaluating answer catalogue next value)) (evaluating answer catalogue all whole) fault old new
+      (Begins-behind done next rest all value whole is asked.good)
+      (Inquires-behind Memory (map request done) (evaluating answer catalogue next value) (Err fault) old middle new asked.made asked.keeps inquired)
 
 module _ (catalogue : Catalogue) {A B : Type 0} where
   -- the same by the scorer's answers, which stay
-  pub Inquires-behind : (done next rest all : List Question) (value : Answering → A) (whole : B) (fault : PlainFault) (result : Result B PlainFault)
+  pub Failed-behind : (done next rest all : List Question) (value : Answering → A) (whole : B) (fault : PlainFault) (result : Result B PlainFault)
       (old middle new : ScorerState) → all ≡ done ++ (next ++ rest) → result ≡ Err fault → Asked old.answer catalogue done old middle
       → Inquires Memory (evaluating middle.answer catalogue next (value middle.answer)) (Err fault) middle new
       → Inquires Memory (evaluating old.answer catalogue all whole) result old new
-  Inquires-behind done next rest all value whole fault result old middle new is is_err asked inquired =
+  Failed-behind done next rest all value whole fault result old middle new is is_err asked inquired =
       subst (λ r. Inquires Memory (evaluating old.answer catalogue all whole) r old new) (sym is_err)
       (Inquires-fault old.answer catalogue done next rest all (value old.answer) whole fault old middle new is asked
       (subst (λ a. Inquires Memory (evaluating a catalogue next (value a)) (Err fault) middle new) asked.keeps.answer inquired))

@@ -7,7 +7,7 @@ use Rattle.rs_query.specs.Views.{all_rows}
 use Rattle.rs_plain.specs.Plain.{questions_of}
 use Rattle.rs_plain.specs.declared.fault.PlainFault.TheVariants.{Memory}
 use Rattle.rs_plain.proofs.NameFacts.{named-err, named-memory}
-use Rattle.rs_plain.proofs.QuestionFacts.{Asked-none, Ended-behind, Gave-ok, Inquires-behind, Stopped-behind, given-err, given-items}
+use Rattle.rs_plain.proofs.QuestionFacts.{Asked-none, Ended-behind, Gave-ok, Failed-behind, Stopped-behind, given-err, given-items}
 use Rattle.rs_plain.proofs.answer.plain.Goals as goal
 
 pub returns-in_err-rows-clause-names : goal.returns-in_err-rows-clause-names
@@ -26,7 +26,7 @@ returns-in_err-rows-clause-evaluates g c =
     let view = all_rows c.args.catalog.now c.args.query.now in
     let questions = questions_of c.args.catalog.now c.args.query.now view in
     let old = g.S.Scorer.state c.args.scorer.now in
-    Inquires-behind c.args.catalog.now {A = List Answer} {B = List Answer} [] questions [] questions
+    Failed-behind c.args.catalog.now {A = List Answer} {B = List Answer} [] questions [] questions
     (λ (a : Answering). rows_of a c.args.catalog.now c.args.query.now view) _ c.in_err-rows.field-0.0 _ old old (g.S.Scorer.state c.query_rows.new.scorer)
     (sym (append-nil questions)) (given-items c.from_residual.result c.in_err-rows.field-0.0 c.from_residual.ensures) (Asked-none old.answer c.args.catalog.now old)
     c.in_err-rows.ensures

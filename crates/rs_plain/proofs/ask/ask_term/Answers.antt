@@ -6,7 +6,7 @@ use Rattle.std.proofs.lemmas.Option.{slice_get_within}
 use Rattle.rs_value.specs.Value.{all_fit}
 use Rattle.rs_expr.specs.InOrder.{Inquires}
 use Rattle.rs_expr.specs.Scoring.{call_of}
-use Rattle.rs_expr.proofs.ScoringFacts.{KeepsScorer-refl, Made-none}
+use Rattle.rs_expr.proofs.ScoringFacts.{Scored}
 use Rattle.rs_query.specs.Answers.{worth_of}
 use Rattle.rs_query.specs.Meaning.{is_inside}
 use Rattle.rs_query.specs.Tables.{all_entries}
@@ -15,7 +15,7 @@ use Rattle.rs_query.specs.declared.term.Term.{Term as BoundTerm}
 use Rattle.rs_plain.specs.Asking.{worth_for}
 use Rattle.rs_plain.specs.Plain.{evaluating, question_of}
 use Rattle.rs_plain.specs.declared.fault.PlainFault.TheVariants.{Memory, Probe}
-use Rattle.rs_plain.proofs.AskFacts.{Called, Inquires-got, Inquires-no_memory, Inquires-refused, Inquires-unasked}
+use Rattle.rs_plain.proofs.AskFacts.{Inquires-got, Inquires-no_call, Inquires-no_memory, Inquires-refused}
 use Rattle.rs_plain.proofs.QuestionFacts.{given-err}
 use Rattle.rs_query.proofs.EntryFacts.{terms-inside}
 use Rattle.rs_order.proofs.EachFacts.{each-slice_get}
@@ -51,7 +51,7 @@ returns-in_err-args g c = λ term e.
     subst (λ r. Inquires Memory (evaluating old.answer c.args.catalog.now (question_of c.args.ids.now.block c.args.block.now c.args.ids.now.rows term ∷ [])
     (worth_of old.answer c.args.catalog.now c.args.block.now c.args.ids.now.rows term)) r old old)
     (sym (given-err c.from_residual.result Memory c.from_residual.ensures))
-    (Inquires-unasked c.args.catalog.now c.args.block.now c.args.ids.now term old old (Made-none old) (KeepsScorer-refl old))
+    (Inquires-no_call c.args.catalog.now c.args.block.now c.args.ids.now term old)
 
 pub returns-in-Ok : goal.returns-in-Ok
 returns-in-Ok g c = λ term e.
@@ -68,7 +68,7 @@ returns-in-Ok g c = λ term e.
     c.predicate-predicate.ensures (c.deref.ensures.value ∙ c.in_ok-args.ensures.value c.index-term.result.now at)
     c.max.result c.in-Ok.got c.worth_for.result c.max.ensures.value c.in-Ok.ensures.answers
     (c.worth_for.ensures ∙ ap (worth_for c.index-term.result.now c.args.ids.now c.max.result) (to_z-of_z w128 c.in-Ok.got (search rules)))
-    (record { same = c.in-Ok.ensures.same; told = c.in-Ok.ensures.told; counted = c.in-Ok.ensures.calls; counts = c.in-Ok.ensures.counts }))
+    (record { same = c.in-Ok.ensures.same; told = c.in-Ok.ensures.told; calls = c.in-Ok.ensures.calls; counts = c.in-Ok.ensures.counts }))
 
 pub returns-in-Err-Failed : goal.returns-in-Err-Failed
 returns-in-Err-Failed g c = λ term e.
@@ -83,8 +83,8 @@ returns-in-Err-Failed g c = λ term e.
     (worth_of old.answer c.args.catalog.now c.args.block.now c.args.ids.now.rows t)) (Err (Probe c.index-term.result.now.predicate)) old new) same
     (Inquires-refused c.args.catalog.now c.args.block.now c.args.ids.now c.index-term.result.now old new c.predicate-predicate.result.now c.deref.result.now
     c.predicate-predicate.ensures (c.deref.ensures.value ∙ c.in_ok-args.ensures.value c.index-term.result.now at)
-    (subst (λ f. Called (call_of c.predicate-predicate.result.now c.deref.result.now) (Err f) old new) c.in-Err-Failed.field-0-is
-    (record { same = c.in-Err-Failed.ensures.same; told = c.in-Err-Failed.ensures.told; counted = c.in-Err-Failed.ensures.calls; counts = c.in-Err-Failed.ensures.counts })))
+    (subst (λ f. Scored (call_of c.predicate-predicate.result.now c.deref.result.now) (Err f) old new) c.in-Err-Failed.field-0-is
+    (record { same = c.in-Err-Failed.ensures.same; told = c.in-Err-Failed.ensures.told; calls = c.in-Err-Failed.ensures.calls; counts = c.in-Err-Failed.ensures.counts })))
 
 pub returns-in-Err-Memory : goal.returns-in-Err-Memory
 returns-in-Err-Memory g c = λ term e.
@@ -99,5 +99,5 @@ returns-in-Err-Memory g c = λ term e.
     (worth_of old.answer c.args.catalog.now c.args.block.now c.args.ids.now.rows t)) (Err Memory) old new) same
     (Inquires-no_memory c.args.catalog.now c.args.block.now c.args.ids.now c.index-term.result.now old new c.predicate-predicate.result.now c.deref.result.now
     c.predicate-predicate.ensures (c.deref.ensures.value ∙ c.in_ok-args.ensures.value c.index-term.result.now at)
-    (subst (λ f. Called (call_of c.predicate-predicate.result.now c.deref.result.now) (Err f) old new) c.in-Err-Memory.field-0-is
-    (record { same = c.in-Err-Memory.ensures.same; told = c.in-Err-Memory.ensures.told; counted = c.in-Err-Memory.ensures.calls; counts = c.in-Err-Memory.ensures.counts })))
+    (subst (λ f. Scored (call_of c.predicate-predicate.result.now c.deref.result.now) (Err f) old new) c.in-Err-Memory.field-0-is
+    (record { same = c.in-Err-Memory.ensures.same; told = c.in-Err-Memory.ensures.told; calls = c.in-Err-Memory.ensures.calls; counts = c.in-Err-Memory.ensures.counts })))

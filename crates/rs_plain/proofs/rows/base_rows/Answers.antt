@@ -6,14 +6,14 @@ use Rattle.rs_query.specs.Combinations.{all_combinations}
 use Rattle.rs_query.specs.Tables.{sizes_of}
 use Rattle.rs_plain.specs.Plain.{block_questions}
 use Rattle.rs_plain.specs.declared.fault.PlainFault.TheVariants.{Memory}
-use Rattle.rs_plain.proofs.QuestionFacts.{Asked-none, Gave-ok, Inquires-behind, Stopped-behind, given-items}
+use Rattle.rs_plain.proofs.QuestionFacts.{Asked-none, Gave-ok, Failed-behind, Stopped-behind, given-items}
 use Rattle.rs_plain.proofs.rows.base_rows.Goals as goal
 
 pub returns-in_err-rows : goal.returns-in_err-rows
 returns-in_err-rows g c =
     let questions = block_questions c.args.catalog.now c.args.number c.args.block.now (sizes_of c.args.catalog.now c.args.block.now) in
     let old = g.S.Scorer.state c.args.scorer.now in
-    Inquires-behind c.args.catalog.now {A = List Answer} {B = List Answer} [] questions [] questions
+    Failed-behind c.args.catalog.now {A = List Answer} {B = List Answer} [] questions [] questions
     (λ (a : Answering). map (row_of a c.args.catalog.now c.args.block.now c.args.number) (all_combinations c.args.catalog.now c.args.block.now)) _
     c.in_err-rows.field-0.0 _ old old (g.S.Scorer.state c.block_rows.new.scorer) (sym (append-nil questions))
     (given-items c.from_residual.result c.in_err-rows.field-0.0 c.from_residual.ensures) (Asked-none old.answer c.args.catalog.now old) c.in_err-rows.ensures

@@ -8,7 +8,7 @@ use Rattle.rs_query.specs.Views.{all_rows}
 use Rattle.rs_plain.specs.Plain.{block_questions, evaluating, questions_of}
 use Rattle.rs_plain.specs.Results.{items_of}
 use Rattle.rs_plain.specs.declared.fault.PlainFault.TheVariants.{Memory}
-use Rattle.rs_plain.proofs.QuestionFacts.{Asked-more, Asked-none, Ended-behind, Gave-behind, Gave-ok, Inquires-behind, Stopped-behind, given-items}
+use Rattle.rs_plain.proofs.QuestionFacts.{Asked-more, Asked-none, Ended-behind, Gave-behind, Gave-ok, Failed-behind, Stopped-behind, given-items}
 use Rattle.rs_plain.proofs.rows.query_rows.Goals as goal
 
 pub returns-in-One : goal.returns-in-One
@@ -31,7 +31,7 @@ returns-in_err-first-in-Set g c =
     (rows_of old.answer c.args.catalog.now query (all_rows c.args.catalog.now query)))
     (items_of c.from_residual.result) old middle)
     (sym c.in-Set.is)
-    (Inquires-behind c.args.catalog.now {A = List Answer} {B = List Answer} [] left right (left ++ right)
+    (Failed-behind c.args.catalog.now {A = List Answer} {B = List Answer} [] left right (left ++ right)
     (λ (a : Answering). base_of a c.args.catalog.now 1 c.in-Set.left (sizes_of c.args.catalog.now c.in-Set.left)) _ c.in_err-first-in-Set.field-0.0 _ old old middle
     refl (given-items c.from_residual.result c.in_err-first-in-Set.field-0.0 c.from_residual.ensures)
     (Asked-none old.answer c.args.catalog.now old) c.in_err-first-in-Set.ensures)
@@ -49,7 +49,7 @@ returns-in_err-second-in-Set g c =
     (rows_of old.answer c.args.catalog.now query (all_rows c.args.catalog.now query)))
     (items_of c.from_residual-in_err-second-in-Set.result) old new)
     (sym c.in-Set.is)
-    (Inquires-behind c.args.catalog.now {A = List Answer} {B = List Answer} left right [] (left ++ right)
+    (Failed-behind c.args.catalog.now {A = List Answer} {B = List Answer} left right [] (left ++ right)
     (λ (a : Answering). base_of a c.args.catalog.now 2 c.in-Set.right (sizes_of c.args.catalog.now c.in-Set.right)) _ c.in_err-second-in-Set.field-0.0 _ old middle new
     (ap (λ more. left ++ more) (sym (append-nil right)))
     (given-items c.from_residual-in_err-second-in-Set.result c.in_err-second-in-Set.field-0.0 c.from_residual-in_err-second-in-Set.ensures)

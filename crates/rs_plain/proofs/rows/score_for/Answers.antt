@@ -4,7 +4,7 @@ use Rattle.rs_expr.specs.Scoring.{Answering}
 use Rattle.rs_query.specs.Answers.{worth_of}
 use Rattle.rs_query.specs.WellFormed.{IsTerm}
 use Rattle.rs_plain.specs.Plain.{question_of, row_questions}
-use Rattle.rs_plain.proofs.QuestionFacts.{Asked, Asked-more, Ended-behind, Gave-behind, Inquires-behind, given-err}
+use Rattle.rs_plain.proofs.QuestionFacts.{Asked, Asked-more, Ended-behind, Gave-behind, Failed-behind, given-err}
 use Rattle.rs_plain.proofs.RowFacts.{each-at, map-at, map-split, score-all, score-bound, score-more, slice_get-at}
 use Rattle.rs_plain.proofs.rows.score_for.Goals as goal
 
@@ -17,7 +17,7 @@ returns-in_err-worth g c =
     let place : c.loop-index.index ≡ c.loop-index.index + 1 - 1 = omega arith in
     let at = subst (λ n. slice_get c.args.block.now.terms n ≡ Some c.term-item.result) place (slice_get-at c.args.block.now.terms c.loop-index.index c.term-item.result within is) in
     let question = question_of c.args.ids.now.block c.args.block.now c.args.ids.now.rows in
-    Inquires-behind c.args.catalog.now {A = ℕ} {B = ℕ}
+    Failed-behind c.args.catalog.now {A = ℕ} {B = ℕ}
     (map question (take c.loop-index.index c.args.block.now.terms)) (question c.term-item.result ∷ []) (map question (drop (c.loop-index.index + 1) c.args.block.now.terms))
     (row_questions c.args.ids.now.block c.args.block.now c.args.ids.now.rows)
     (λ (a : Answering). worth_of a c.args.catalog.now c.args.block.now c.args.ids.now.rows c.term-item.result) _ c.in_err-worth.field-0.0 c.from_residual.result

@@ -7,7 +7,7 @@ use Rattle.rs_query.specs.Answers.{row_of}
 use Rattle.rs_query.specs.Tables.{HasRows, all_entries}
 use Rattle.rs_plain.specs.Plain.{row_questions}
 use Rattle.rs_plain.specs.declared.fault.PlainFault.TheVariants.{Memory}
-use Rattle.rs_plain.proofs.QuestionFacts.{Asked, Asked-more, Ended-behind, Gave-behind, Inquires-behind, Stopped-within, given-items}
+use Rattle.rs_plain.proofs.QuestionFacts.{Asked, Asked-more, Ended-behind, Gave-behind, Failed-behind, Stopped-within, given-items}
 use Rattle.rs_plain.proofs.RowFacts.{each-at, flat_map-at, flat_map-split, get_or-own, map-at}
 use Rattle.rs_plain.proofs.rows.scored_rows.Goals as goal
 
@@ -22,7 +22,7 @@ returns-in_err-answer g c =
     let rows = get_or c.args.combinations.now c.loop-rows.rows-index [] in
     let own = get_or-own c.args.combinations.now c.loop-rows.rows-index [] c.loop-rows-test.true in
     let questions = row_questions c.args.number c.args.block.now in
-    Inquires-behind c.args.catalog.now {A = Answer} {B = List Answer}
+    Failed-behind c.args.catalog.now {A = Answer} {B = List Answer}
     (flat_map questions (take c.loop-rows.rows-index c.args.combinations.now)) (questions rows) (flat_map questions (drop (c.loop-rows.rows-index + 1) c.args.combinations.now))
     (flat_map questions c.args.combinations.now) (λ (a : Answering). row_of a c.args.catalog.now c.args.block.now c.args.number rows) _
     c.in_err-answer.field-0.0 _ (g.S.Scorer.state c.args.scorer.now) (g.S.Scorer.state c.loop-rows.scorer) (g.S.Scorer.state c.row_for.new.scorer)
