@@ -16,7 +16,7 @@ use Rattle.rs_plain.specs.Plain.{Question, bad_score, evaluating, first_of, is_b
 use Rattle.rs_plain.specs.Results.{items_of}
 use Rattle.rs_plain.specs.declared.fault.PlainFault.{PlainFault}
 use Rattle.rs_plain.specs.declared.fault.PlainFault.TheVariants.{Memory}
-use Rattle.rs_plain.proofs.ListFacts.{Leads-with, first-behind, first-found, through-all, through-behind, through-found}
+use Rattle.rs_plain.proofs.ListFacts.{Leads-with, first-behind, first-found, through-all, through-behind}
 
 module _ (answer : Answering) (catalogue : Catalogue) where
   abbrev no_score : Question → Bool
@@ -116,8 +116,8 @@ module _ (answer : Answering) (catalogue : Catalogue) where
   bad-end done next rest all value whole fault more (Some q) is good no_more first e = (
     ap (map request) (no_more q first),
     (let found : first_of no_score all ≡ Some q = ap (first_of no_score) is ∙ first-behind no_score done (next ++ rest) good ∙ first-found no_score next rest q first in
-    let same : bad_score answer catalogue q ≡ fault = cc in
-    ap (λ f. outcome_for answer catalogue f whole) found ∙ ap Err same),
+        let same : bad_score answer catalogue q ≡ fault = cc in
+        ap (λ f. outcome_for answer catalogue f whole) found ∙ ap Err same),
   )
 
   -- questions behind others that had no bad answer are the beginning of all

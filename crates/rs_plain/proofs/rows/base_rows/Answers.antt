@@ -1,4 +1,4 @@
-use Rattle.std.proofs.Common.{List, [], map, refl, sym, append-nil}
+use Rattle.std.proofs.Common.{List, [], map, sym, append-nil}
 use Rattle.rs_rank.specs.declared.answer.Answer.{Answer}
 use Rattle.rs_expr.specs.Scoring.{Answering}
 use Rattle.rs_query.specs.Answers.{row_of}
