@@ -1,8 +1,9 @@
-ghost use Rattle.std.specs.Prelude.{◌≡◌, ◌<◌, ◌≤◌, ◌-◌, ◌∷◌, [], ◌++◌, List, Ok, false, OnErr, OnOk, length, slice_get, Some, IfSome, option_map};
+ghost use Rattle.std.specs.Prelude.{◌≡◌, ℕ, ◌<◌, ◌≤◌, ◌-◌, ◌∷◌, [], ◌++◌, List, Ok, false, OnErr, OnOk, length, slice_get, Some, IfSome, option_map};
 ghost use Rattle.indexmap.specs.IndexMap.{index_map_len, keys};
-ghost use Rattle.rs_catalog.specs.Catalogue.{empty, has_name, names_of, number_in, number_of, room_for, room_in, with_predicate, with_table};
+ghost use Rattle.rs_catalog.specs.Catalogue.{empty, has_name, most_of, names_of, number_in, number_of, room_for, room_in, with_predicate, with_table};
 ghost use Rattle.rs_catalog.specs.Indexes.{IsEntry, IsIndex, IsRanking, index_of, making, predicate_for, ranking_at, rows_for};
 ghost use Rattle.rs_catalog.specs.Making.{MakesIndex};
+ghost use Rattle.rs_catalog.specs.declared.room.What.{What as Lists};
 ghost use Rattle.rs_catalog.specs.declared.room.What.TheVariants as what;
 
 use crate::index::{BoundArg, IndexDef, IndexFault};
@@ -120,19 +121,8 @@ impl Catalog {
     ) -> Result<(), IndexFault>
         requires room { room_for what.Index def.name self.old ≡ Ok tt }
         requires fits { IsIndex self.old def }
-        ensures makes { MakesIndex (making (S.answer scorer.old) self.old def) def self.old self.new result
-            (record {
-              before = S.told scorer.old;
-              after = S.told scorer.new;
-              count_before = S.calls scorer.old;
-              count_after = S.calls scorer.new;
-              faults_before = S.faults scorer.old;
-              faults_after = S.faults scorer.new;
-            })
-            (S.steady scorer.old) }
-        ensures same { S.answer scorer.new ≡ S.answer scorer.old }
-        ensures faults { S.faults scorer.old ≤ S.faults scorer.new }
-        ensures steady { S.steady scorer.old → S.steady scorer.new }
+        ensures makes { MakesIndex (making (S.state scorer.old).answer self.old def) def self.old self.new result
+            (S.state scorer.old) (S.state scorer.new) }
     {
         let table = self.table(def.table);
         let predicate = self.predicate(def.predicate);
@@ -184,6 +174,19 @@ impl Catalog {
             (ranking_at self.now number) }
     {
         &self.indexes[number as usize].def
+    }
+
+    /// What holds of each list of every catalogue: it isn't over its limit, and each name stands at one place of it, which
+    /// is its number. The function computes nothing; it is called for its contract.
+    pub fn names_differ(&self)
+        ensures few { (what : Lists) → length (names_of what self.now) ≤ most_of what }
+        ensures found { (what : Lists) (number : ℕ) (name : List ℕ) → slice_get (names_of what self.now) number ≡ Some name
+            → number_of what name self.now ≡ Some number }
+        ensures differ { (what : Lists) (first second : ℕ) (name : List ℕ) → slice_get (names_of what self.now) first ≡ Some name
+            → slice_get (names_of what self.now) second ≡ Some name → first ≡ second }
+    {
+        // What holds inside is known where a field is named.
+        let _ = &self.tables;
     }
 
     /// The number of the first index of this table and predicate and these arguments, where a column of FROM entry
