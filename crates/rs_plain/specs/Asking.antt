@@ -1,9 +1,9 @@
 -- One question to the scorer.
 use Rattle.std.specs.Prelude.{ℕ, ℤ, Result, Ok, Err, if◌then◌else◌}
+use Rattle.rs_rank.specs.Ids.{rows_inside}
 use Rattle.rs_rank.specs.declared.ids.Ids.{Ids}
 use Rattle.rs_expr.specs.Scores.{is_score, score_of}
 use Rattle.rs_query.specs.declared.term.Term.{Term}
-use Rattle.rs_plain.specs.Plain.{rows_inside}
 use Rattle.rs_plain.specs.declared.fault.PlainFault.{PlainFault}
 use Rattle.rs_plain.specs.declared.fault.PlainFault.TheVariants.{BadScore}
 

@@ -1,7 +1,8 @@
 -- The plain way to answer a query: every combination is scored, term by term, up to the first number that is no score.
-use Rattle.std.specs.Prelude.{ℕ, ℤ, ◌/◌, ◌%◌, ◌==◌, not, Bool, List, [], ◌∷◌, ◌++◌, map, Option, Some, None, Result, Ok, Err, if◌then◌else◌}
+use Rattle.std.specs.Prelude.{ℕ, ℤ, not, Bool, List, [], ◌∷◌, ◌++◌, map, Option, Some, None, Result, Ok, Err, if◌then◌else◌}
 use Rattle.std.specs.List.{flat_map}
 use Rattle.rs_rank.specs.declared.answer.Answer.{Answer}
+use Rattle.rs_rank.specs.Ids.{rows_inside}
 use Rattle.rs_rank.specs.declared.ids.Ids.{Ids}
 use Rattle.rs_expr.specs.InOrder.{Inquiry, Request}
 use Rattle.rs_expr.specs.Scores.{is_score}
@@ -72,11 +73,7 @@ request_for catalogue q = record {
   failed = Probe q.term.predicate;
 }
 
--- the row numbers of the entries in a mask
-abbrev pub rows_inside : ℕ → List ℕ → List ℕ
-rows_inside mask [] = []
-rows_inside mask (row ∷ rows) = (if mask % 2 == 0 then 0 else row) ∷ rows_inside (mask / 2) rows
-
+-- the ids of the rows of its term's entries
 abbrev pub ids_for : Question → Ids
 ids_for q = record { block = q.number; mask = q.term.entries; rows = rows_inside q.term.entries q.rows }
 

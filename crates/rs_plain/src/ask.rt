@@ -5,7 +5,8 @@ ghost use Rattle.rs_query.specs.Tables.{HasRows, all_entries};
 ghost use Rattle.rs_query.specs.WellFormed.{IsBlock};
 ghost use Rattle.rs_query.specs.declared.term.Term.{Term as BoundTerm};
 ghost use Rattle.rs_plain.specs.Asking.{worth_for};
-ghost use Rattle.rs_plain.specs.Plain.{evaluating, question_of, rows_inside};
+ghost use Rattle.rs_plain.specs.Plain.{evaluating, question_of};
+ghost use Rattle.rs_rank.specs.Ids.{rows_inside};
 
 use crate::fault::PlainFault;
 use rs_catalog::Catalog;
