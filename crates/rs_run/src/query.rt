@@ -5,9 +5,9 @@ ghost use Rattle.rs_query.specs.Answers.{predicate_at};
 ghost use Rattle.rs_query.specs.WellFormed.{IsBlock, IsQuery};
 ghost use Rattle.rs_bind.specs.Queries.{bound_query};
 ghost use Rattle.rs_bind.specs.Written.{IsWrittenQuery};
-ghost use Rattle.rs_run.specs.Outcome.{seen};
-ghost use Rattle.rs_run.specs.Statements.{explain_outcome, or_bind_fault, query_fault, rank_lines};
-ghost use Rattle.rs_run.specs.Steps.{Keeps, KeepsScorer, Leaves, PutsLines, RanQuery, seen_scorer};
+ghost use Rattle.rs_run.specs.Parts.Steps.{Leaves, Ran, Stepped, lines_run};
+ghost use Rattle.rs_run.specs.Statements.{Plainly, explain_outcome, or_bind_fault, query_fault, query_step, rank_lines, refused_or};
+ghost use Rattle.rs_run.specs.World.{World};
 
 use crate::fault::Fault;
 use crate::put::put_line;
@@ -32,14 +32,10 @@ pub fn run_query<S: Scorer, O: Sink>(
     out: &mut O,
 ) -> Result<(), Fault>
     requires written { IsWrittenQuery (query_of select.now) }
-    ensures ran { RanQuery (S.answer scorer.old) catalog.now (or_bind_fault (bound_query catalog.now (query_of select.now))) result
-        (seen_scorer (S.told scorer.old) (S.told scorer.new) (S.calls scorer.old) (S.calls scorer.new) (S.faults scorer.old) (S.faults scorer.new))
-        (seen (O.pieces out.old) (O.pieces out.new) (O.faults out.old) (O.faults out.new))
-        (S.steady scorer.old) (O.steady out.old) }
-    ensures scorer { KeepsScorer
-        (seen_scorer (S.told scorer.old) (S.told scorer.new) (S.calls scorer.old) (S.calls scorer.new) (S.faults scorer.old) (S.faults scorer.new))
-        (S.answer scorer.old) (S.answer scorer.new) (S.steady scorer.old) (S.steady scorer.new) }
-    ensures out { Keeps (seen (O.pieces out.old) (O.pieces out.new) (O.faults out.old) (O.faults out.new)) (O.steady out.old) (O.steady out.new) }
+    ensures { (beside : World) → Stepped
+        (λ step. step ≡ refused_or (query_step Plainly (S.state scorer.old).answer catalog.now) (or_bind_fault (bound_query catalog.now (query_of select.now))))
+        catalog.now result
+        (record beside { scorer = S.state scorer.old; out = O.state out.old }) (record beside { scorer = S.state scorer.new; out = O.state out.new }) }
 {
     let query = match bind(alloc, catalog, select) {
         Ok(query) => query,
@@ -122,10 +118,8 @@ fn name_in_block(catalog: &Catalog, block: &Block, number: u8) -> Option<Text>
 
 /// Puts the lines of the rows of an answer, ranked from 1, each in one put before the next row is looked at.
 fn put_answers<O: Sink>(alloc: Global, rows: &[Answer], out: &mut O) -> Result<(), Fault>
-    ensures puts { PutsLines (rank_lines 1 rows.now) result
-        (seen (O.pieces out.old) (O.pieces out.new) (O.faults out.old) (O.faults out.new))
-        (O.steady out.old) }
-    ensures keeps { Keeps (seen (O.pieces out.old) (O.pieces out.new) (O.faults out.old) (O.faults out.new)) (O.steady out.old) (O.steady out.new) }
+    ensures { (beside : World) → Ran (lines_run (rank_lines 1 rows.now)) result
+        (record beside { out = O.state out.old }) (record beside { out = O.state out.new }) }
 {
     for (index, row) in rows.iter().enumerate() {
         let line = match answer_line(alloc, index + 1, row) {
