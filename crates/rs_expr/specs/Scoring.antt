@@ -50,8 +50,7 @@ pub record Made (calls : List Call) (old new : ScorerState) : Type 0 where
   pub told : new.outside.told ≡ option_map (λ told. told ++ calls) old.outside.told
   pub counted : new.calls ≡ counted calls old.calls
 
--- for as long as calls go on, a scorer's answers stay, and no count falls
+-- for as long as calls go on, a scorer's answers stay, its count of faults never falls, and what is steady stays so
 pub record KeepsScorer (old new : ScorerState) : Type 0 where
   pub answer : new.answer ≡ old.answer
-  pub calls : old.calls ≤ new.calls
   pub outside : Keeps old.outside new.outside

@@ -1,10 +1,13 @@
 -- Reading a file of the system.
-use Rattle.std.specs.Prelude.{ℕ, ◌≡◌, ◌+◌, ◌<◌, ◌≤◌, List, ◌++◌, length, Option, IfSome, Result, Ok, Err}
+use Rattle.std.specs.Prelude.{ℕ, ◌≡◌, ◌+◌, ◌≤◌, List, ◌++◌, length, Option, IfSome, Result, Ok, Err}
 use Rattle.std.specs.declared.io.ErrorKind.{ErrorKind}
 use Rattle.std.specs.declared.io.ErrorKind.TheVariants.{NotFound, OutOfMemory}
 use Rattle.rs_outside.specs.declared.files.FetchFault.{FetchFault}
 use Rattle.rs_outside.specs.declared.files.FetchFault.TheVariants.{Missing, TooLong, Failed, Memory}
+use Rattle.std.specs.Io.KnownBytes.{Consumes}
 use Rattle.rs_value.specs.Faults.{raised}
+use Rattle.rs_value.specs.Outside.{Outside, untold}
+use Rattle.rs_outside.specs.Files.{FilesTold}
 use Rattle.rs_outside.specs.Sink.{IsPrefix}
 
 -- the fault that an error of the system is when a file is opened
@@ -31,13 +34,13 @@ ReadToEnd left limit bytes (Err Memory) = length bytes ≤ limit
 abbrev pub AppendsRest : Option (List ℕ) → ℕ → List ℕ → Result (Unit {0}) FetchFault → List ℕ → Type 0
 AppendsRest left limit old result new = (bytes : List ℕ) × (new ≡ old ++ bytes) × ReadToEnd left limit bytes result
 
--- some bytes are appended, no more than the limit where the answer is Ok, and more where it is too long
-abbrev pub AppendsSome : ℕ → List ℕ → Result (Unit {0}) FetchFault → List ℕ → Type 0
-AppendsSome limit old (Ok done) new = (bytes : List ℕ) × (new ≡ old ++ bytes) × (length bytes ≤ limit)
-AppendsSome limit old (Err TooLong) new = (bytes : List ℕ) × (new ≡ old ++ bytes) × (limit < length bytes)
-AppendsSome limit old (Err Missing) new = (bytes : List ℕ) × (new ≡ old ++ bytes)
-AppendsSome limit old (Err Failed) new = (bytes : List ℕ) × (new ≡ old ++ bytes)
-AppendsSome limit old (Err Memory) new = (bytes : List ℕ) × (new ≡ old ++ bytes)
+-- at most so many bytes are taken of those that are left
+abbrev pub ConsumesAtMost : ℕ → Option (List ℕ) → Option (List ℕ) → Type 0
+ConsumesAtMost most old new = (bytes : List ℕ) × Consumes old new bytes × (length bytes ≤ most)
+
+-- what contracts see of the files of the system
+abbrev pub disk_state : ℕ → Outside FilesTold
+disk_state faults = untold faults
 
 -- the count of faults after a fetch with this answer
 abbrev pub faults_after_fetch : Result (Unit {0}) FetchFault → ℕ → ℕ

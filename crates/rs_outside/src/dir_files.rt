@@ -1,10 +1,10 @@
-ghost use Rattle.std.specs.Prelude.{◌≡◌, ℕ, List, Option};
+ghost use Rattle.std.specs.Prelude.{◌≡◌, ◌+◌, ℕ, List, Option, Some, IfErr, IfOk, IfSome};
 ghost use Rattle.std.specs.Io.{ReadsAtMost};
 ghost use Rattle.std.specs.Io.KnownBytes.{ReadConsumes};
 ghost use Rattle.std.specs.IoError.{error_kind};
-ghost use Rattle.rs_outside.specs.DirFiles.{open_fault, read_fault, AppendsRest, AppendsSome, faults_after_fetch};
-ghost use Rattle.rs_value.specs.Outside.{Counts, untold};
-ghost use Rattle.rs_outside.specs.Files.{Fetches, FilesTold};
+ghost use Rattle.rs_outside.specs.DirFiles.{AppendsRest, ConsumesAtMost, disk_state, faults_after_fetch, open_fault, read_fault};
+ghost use Rattle.rs_value.specs.Outside.{Counts};
+ghost use Rattle.rs_outside.specs.Files.{Fetches};
 
 use crate::files::{FetchFault, Files};
 use rs_value::Text;
@@ -66,9 +66,10 @@ fn fault_at_read(error: &io::Error) -> FetchFault
     }
 }
 
-/// Appends what is left of the file. It reads at most one byte more than the limit.
+/// Appends what is left of the reader. It reads at most one byte more than the limit.
 fn append_rest<F: Read>(file: &mut F, limit: usize, into: &mut Vec<u8>) -> Result<(), FetchFault>
-    ensures { AppendsRest (F.remaining file.old) limit into.old.items result into.new.items }
+    ensures appends { AppendsRest (F.remaining file.old) limit into.old.items result into.new.items }
+    ensures consumes { ConsumesAtMost (limit + 1) (F.remaining file.old) (F.remaining file.new) }
 {
     let mut chunk = [0u8; CHUNK];
     let mut room = limit;
@@ -89,17 +90,42 @@ fn append_rest<F: Read>(file: &mut F, limit: usize, into: &mut Vec<u8>) -> Resul
     }
 }
 
-/// Appends the file of this name.
-fn append_file<R: std::rt::Files>(
-    rt: &R,
-    name: &Text,
+/// Appends what is left of the reader, which is read to its end, or one byte beyond the limit where it has more. After a
+/// fault `into` is as before. A read that a signal interrupts is tried again.
+///
+/// # Errors
+/// `TooLong` beyond the limit; `Memory` where the system or this program has none; `Failed` for any other error of a read.
+pub fn fetch_rest<F: Read>(file: &mut F, limit: usize, into: &mut Vec<u8>) -> Result<(), FetchFault>
+    // The bytes that are left are the file's, where the reader tells them.
+    ensures fetches { (left : List ℕ) × IfSome (F.remaining file.old) (λ told. told ≡ left)
+        × Fetches (Some left) limit into.old.items result into.new.items }
+    ensures consumes { ConsumesAtMost (limit + 1) (F.remaining file.old) (F.remaining file.new) }
+{
+    let start = into.len();
+    let Err(fault) = append_rest(file, limit, into) else {
+        return Ok(());
+    };
+    into.truncate(start);
+    Err(fault)
+}
+
+/// What a fetch gives where the file was opened, or was not.
+///
+/// # Errors
+/// Where it was not opened, `Missing` for an error of the kind not found alone, `Memory` where the system has none, and
+/// `Failed` for any other error. Where it was, those of [`fetch_rest`].
+pub fn fetch_opened<F: Read + Drop>(
+    opened: io::Result<F>,
     limit: usize,
     into: &mut Vec<u8>,
 ) -> Result<(), FetchFault>
-    ensures { AppendsSome limit into.old.items result into.new.items }
+    ensures fetches { (there : Option (List ℕ)) × Fetches there limit into.old.items result into.new.items }
+    ensures unopened { IfErr opened (λ error. (result ≡ Err (open_fault (error_kind error))) × (into.new.items ≡ into.old.items)) }
+    ensures opened { IfOk opened (λ file. (left : List ℕ) × IfSome (F.remaining file) (λ told. told ≡ left)
+        × Fetches (Some left) limit into.old.items result into.new.items) }
 {
-    match fs::open(rt, name.as_str()) {
-        Ok(mut file) => append_rest(&mut file, limit, into),
+    match opened {
+        Ok(mut file) => fetch_rest(&mut file, limit, into),
         Err(error) => Err(fault_at_open(&error)),
     }
 }
@@ -114,20 +140,18 @@ impl<R: std::rt::Files> DirFiles<R> {
 }
 
 impl<R: std::rt::Files> Files for DirFiles<R> {
-    ghost state = { untold };
+    ghost state = { disk_state };
 
     fn fetch(&mut self, name: &Text, limit: usize, into: &mut Vec<u8>) -> Result<(), FetchFault>
         ensures fetches { (there : Option (List ℕ)) × Fetches there limit into.old.items result into.new.items }
-        ensures counts { Counts {FilesTold} (result ≡ Err FetchFault.Failed) (untold self.old) (untold self.new) }
+        ensures counts { Counts (result ≡ Err FetchFault.Failed) (disk_state self.old) (disk_state self.new) }
 
         // Exactly the fetches that failed are counted.
         ensures counted { self.new ≡ faults_after_fetch result self.old }
     {
-        let start = into.len();
-        let Err(fault) = append_file(&self.rt, name, limit, into) else {
+        let Err(fault) = fetch_opened(fs::open(&self.rt, name.as_str()), limit, into) else {
             return Ok(());
         };
-        into.truncate(start);
         if fault == FetchFault::Failed {
             self.faults = self.faults.saturating_add(1);
         }

@@ -9,7 +9,7 @@ mod mem_sink;
 mod out_sink;
 mod sink;
 
-pub use dir_files::DirFiles;
+pub use dir_files::{DirFiles, fetch_opened, fetch_rest};
 pub use files::{FetchFault, Files};
 pub use mem_files::MemFiles;
 pub use mem_sink::MemSink;

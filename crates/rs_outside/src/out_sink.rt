@@ -1,8 +1,8 @@
-ghost use Rattle.std.specs.Prelude.{◌≡◌, ◌≢◌, ℕ, List, None};
+ghost use Rattle.std.specs.Prelude.{◌≡◌, ◌≢◌, None};
 ghost use Rattle.std.specs.Io.{WritesAtMost};
 ghost use Rattle.std.specs.Io.KnownBytes.{WriteAppends};
-ghost use Rattle.rs_value.specs.Outside.{Counts, untold};
-ghost use Rattle.rs_outside.specs.OutSink.{WritesWhole, faults_after_put};
+ghost use Rattle.rs_value.specs.Outside.{Counts};
+ghost use Rattle.rs_outside.specs.OutSink.{WritesWhole, faults_after_put, stream_state};
 ghost use Rattle.rs_outside.specs.Sink.{Puts};
 
 use crate::sink::{Sink, SinkFault};
@@ -93,11 +93,11 @@ impl OutSink<Stderr> {
 }
 
 impl<W: Write> Sink for OutSink<W> {
-    ghost state = { λ s. untold s.faults };
+    ghost state = { stream_state };
 
     fn put(&mut self, bytes: &[u8]) -> Result<(), SinkFault>
         ensures puts { Puts bytes.now result None None }
-        ensures counts { Counts {List (List ℕ)} (result ≡ Err SinkFault.Failed) (untold self.old.faults) (untold self.new.faults) }
+        ensures counts { Counts (result ≡ Err SinkFault.Failed) (stream_state self.old) (stream_state self.new) }
 
         // Where the writer tells its bytes, a prefix is written, all on `Ok`. No put wants memory.
         ensures written { WritesWhole (W.contents self.old.writer) (W.contents self.new.writer) result bytes.now }

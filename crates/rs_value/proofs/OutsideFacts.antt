@@ -1,5 +1,5 @@
 -- Objects of the outside, over several calls.
-use Rattle.std.proofs.Common.{ℕ, ◌≡◌, ◌∙◌, ◌-◌, ◌^◌, ◌≤◌, refl, sym, inl, inr, arith}
+use Rattle.std.proofs.Common.{ℕ, ◌∙◌, ◌≤◌, refl, sym, inl, inr, arith}
 use Rattle.rs_value.specs.Faults.{Rose}
 use Rattle.rs_value.specs.Outside.{Faulted, Keeps, Outside}
 
