@@ -1,10 +1,13 @@
 -- Calls of a scorer, one after another.
 use Rattle.std.proofs.Common.{ℕ, ◌≡◌, ◌∙◌, ◌+◌, ◌-◌, ◌^◌, ◌≤◌, ◌++◌, List, [], ◌∷◌, length, refl, sym, ap, append_assoc, append-nil, arith}
-use Rattle.std.specs.Prelude.{min, Option, Some, None, option_map}
+use Rattle.std.specs.Prelude.{ℤ, min, Option, Some, None, option_map, Result, Ok, Err}
 use Rattle.rs_value.specs.Faults.{raised}
+use Rattle.rs_value.specs.Outside.{Counts}
 use Rattle.rs_value.proofs.OutsideFacts.{Keeps-refl, Keeps-then}
-use Rattle.rs_expr.specs.Scoring.{KeepsScorer, Made, ScorerState, counted}
+use Rattle.rs_expr.specs.Scoring.{KeepsScorer, Made, ScorerState, calls_after, count_after, counted}
 use Rattle.rs_expr.specs.declared.scorer.Call.{Call}
+use Rattle.rs_expr.specs.declared.scorer.ScorerFault.{ScorerFault}
+use Rattle.rs_expr.specs.declared.scorer.ScorerFault.TheVariants.{Failed, Memory}
 
 -- what is told stays as it is when no call is made
 told-none : (told : Option (List Call)) → told ≡ option_map (λ calls. calls ++ []) told
@@ -39,12 +42,35 @@ counted-min (call ∷ rest) count few = counted-min rest (raised count) (omega a
 
 -- a scorer that isn't called
 pub KeepsScorer-refl : (scorer : ScorerState) → KeepsScorer scorer scorer
-KeepsScorer-refl scorer = record { answer = refl; calls = omega arith; outside = Keeps-refl scorer.outside }
+KeepsScorer-refl scorer = record { answer = refl; outside = Keeps-refl scorer.outside }
 
 -- calls, and others behind them
 pub KeepsScorer-then : (old middle new : ScorerState) → KeepsScorer old middle → KeepsScorer middle new → KeepsScorer old new
 KeepsScorer-then old middle new one two = record {
   answer = two.answer ∙ one.answer;
-  calls = let first = one.calls in let then = two.calls in omega (arith, first, then);
   outside = Keeps-then old.outside middle.outside new.outside one.outside two.outside;
 }
+
+-- what the clauses of one call say
+pub record Scored (call : Call) (result : Result ℤ ScorerFault) (old new : ScorerState) : Type 0 where
+  pub same : new.answer ≡ old.answer
+  pub told : new.outside.told ≡ option_map (calls_after call result) old.outside.told
+  pub calls : new.calls ≡ count_after result old.calls
+  pub counts : Counts (result ≡ Err Failed) old.outside new.outside
+
+-- one call, whatever it answers
+pub KeepsScorer-one : (call : Call) (result : Result ℤ ScorerFault) (old new : ScorerState) → Scored call result old new → KeepsScorer old new
+KeepsScorer-one call result old new scored = record { answer = scored.same; outside = scored.counts.keeps }
+
+-- one call that was answered, one that failed, and one for which there was no memory
+pub Made-ok : (call : Call) (score : ℤ) (old new : ScorerState) → Scored call (Ok score) old new → Made (call ∷ []) old new
+Made-ok call score old new scored = record { told = scored.told; counted = scored.calls }
+
+pub Made-failed : (call : Call) (old new : ScorerState) → Scored call (Err Failed) old new → Made (call ∷ []) old new
+Made-failed call old new scored = record { told = scored.told; counted = scored.calls }
+
+pub Made-stopped : (call : Call) (old new : ScorerState) → Scored call (Err Memory) old new → Made [] old new
+Made-stopped call old new scored = record { told = scored.told ∙ unchanged old.outside.told; counted = scored.calls } where
+  unchanged : (told : Option (List Call)) → option_map (calls_after call (Err Memory)) told ≡ option_map (λ calls. calls ++ []) told
+  unchanged None = refl
+  unchanged (Some calls) = ap Some (sym (append-nil calls))

@@ -50,7 +50,7 @@ pub record Inquires {A F : Type 0} (memory : F) (inquiry : Inquiry A F) (result 
 
 -- an inquiry, and then the one that its outcome leads to
 abbrev pub and_then : {A B F : Type 0} → Inquiry A F → (A → Inquiry B F) → Inquiry B F
-and_then first next = of first.outcome where
+and_then {A} {B} {F} first next = of first.outcome where
   of : Result A F → Inquiry B F
   of (Ok a) = record { requests = first.requests ++ (next a).requests; outcome = (next a).outcome }
   of (Err fault) = record { requests = first.requests; outcome = Err fault }

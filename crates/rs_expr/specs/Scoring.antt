@@ -1,7 +1,7 @@
 -- Calls of a scorer.
-use Rattle.std.specs.Prelude.{ℕ, ℤ, ◌≡◌, ◌≤◌, List, [], ◌∷◌, ◌++◌, Option, option_map, Result, Ok, Err}
+use Rattle.std.specs.Prelude.{ℕ, ℤ, ◌≡◌, List, [], ◌∷◌, ◌++◌, option_map, Result, Ok, Err}
 use Rattle.rs_value.specs.Faults.{raised}
-use Rattle.rs_value.specs.Outside.{Faulted, Keeps, Outside}
+use Rattle.rs_value.specs.Outside.{Keeps, Outside}
 use Rattle.rs_value.specs.declared.value.Value.{Value}
 use Rattle.rs_expr.specs.Predicates.{PredicateDef}
 use Rattle.rs_expr.specs.declared.scorer.Call.{Call}
