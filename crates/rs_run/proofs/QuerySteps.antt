@@ -7,7 +7,7 @@ use Rattle.rs_lines.specs.Row.{line_of}
 use Rattle.rs_rank.specs.declared.answer.Answer.{Answer}
 use Rattle.rs_expr.specs.InOrder.{Inquires, Inquiry}
 use Rattle.rs_expr.specs.Predicates.{PredicateDef}
-use Rattle.rs_expr.specs.Scoring.{Answering, ScorerState}
+use Rattle.rs_expr.specs.Scoring.{ScorerState}
 use Rattle.rs_syntax.specs.Syntax as syntax
 use Rattle.rs_table.specs.Reading.{◌>>=◌}
 use Rattle.rs_catalog.specs.Catalogue.{Catalogue}
@@ -15,9 +15,8 @@ use Rattle.rs_bind.specs.Queries.{bound_query}
 use Rattle.rs_bind.specs.declared.fault.BindFault.{BindFault}
 use Rattle.rs_bind.specs.declared.fault.BindFault.TheVariants as bind
 use Rattle.rs_query.specs.Answers.{predicate_at}
-use Rattle.rs_query.specs.Views.{all_rows}
 use Rattle.rs_query.specs.declared.query.Query.{Query}
-use Rattle.rs_plain.specs.Plain.{evaluation_of}
+use Rattle.rs_plain.specs.Plain.{Question, request_for}
 use Rattle.rs_plain.specs.declared.fault.PlainFault.{PlainFault}
 use Rattle.rs_plain.specs.declared.fault.PlainFault.TheVariants as plain
 use Rattle.rs_run.specs.declared.fault.Fault.{Fault}
@@ -30,6 +29,11 @@ use Rattle.rs_run.proofs.InquirySteps.{IsAsked, Probes, Ran-unasked, asked-ok}
 use Rattle.rs_run.proofs.RanFacts.{Ran-behind}
 use Rattle.rs_run.proofs.StepFacts.{bound-ok}
 use Rattle.rs_run.proofs.SteppedFacts.{events-run_of, step_of}
+
+-- each call is of the predicate that is told where it fails
+pub Probes-query : (catalogue : Catalogue) (questions : List Question) → Probes (query_fault catalogue) (map (request_for catalogue) questions)
+Probes-query catalogue [] = tt
+Probes-query catalogue (question ∷ rest) = (refl, Probes-query catalogue rest)
 
 module _ (catalogue : Catalogue) (evaluated : Inquiry (List Answer) PlainFault) (world : World) (scorer : ScorerState) where
   -- the query has no answer
