@@ -1,0 +1,5 @@
+pub mod RanFacts
+pub mod FetchFacts
+pub mod SteppedFacts
+pub mod LoopFacts
+pub mod InquirySteps

@@ -1,0 +1,5 @@
+pub mod World
+pub mod Run
+pub mod Sequence
+pub mod Halts
+pub mod Parts

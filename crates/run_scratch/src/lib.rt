@@ -1,0 +1,6 @@
+//! Scratch.
+#![tactic(auto)]
+mod fault;
+mod put;
+pub use fault::Fault;
+pub use put::put_line;
