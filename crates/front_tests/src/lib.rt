@@ -7,4 +7,6 @@ mod formulas;
 #[cfg(test)]
 mod outside;
 #[cfg(test)]
+mod readers;
+#[cfg(test)]
 mod scorers;

@@ -7,7 +7,7 @@ use Rattle.std.specs.Map.{keys_of, values_of}
 use Rattle.rs_value.specs.declared.memory.Memory.{Memory}
 use Rattle.rs_table.specs.Relation.{Relation}
 use Rattle.rs_expr.specs.Predicates.{PredicateDef}
-use Rattle.rs_catalog.specs.Catalogue.{Catalogue, NamedTable, RankIndex}
+use Rattle.rs_catalog.specs.Catalogue.{Catalogue, NamedTable, RankIndex, with_index}
 use Rattle.rs_catalog.specs.Indexes.{IsRanking, predicate_for, rows_for}
 use Rattle.rs_catalog.specs.Inside.{IsInside, IsRanked, catalogue_of}
 use Rattle.rs_catalog.specs.declared.catalog.RankIndex.{RankIndex as StoredIndex}
@@ -102,15 +102,20 @@ module _ (tables : List (List ℕ × Relation)) (predicates : List (List ℕ × 
   IsInside-predicate_put predicate new (Ok done) put kept free = subst (λ list. IsInside tables list indexes) (sym put) (IsInside-predicate predicate free)
   IsInside-predicate_put predicate new (Err memory) put kept free = subst (λ list. IsInside tables list indexes) (sym kept) inside
 
+  -- the catalogue with one more index
+  pub with_index-put : (name : List ℕ) (stored : StoredIndex) → catalogue_of tables predicates (indexes ++ (name, stored) ∷ []) ≡ with_index stored.def stored.ranking.items (catalogue_of tables predicates indexes)
+  with_index-put name stored =
+      ap (λ list. record { tables = map (λ t. record { name = t.0; table = t.1 }) tables; predicates = values_of predicates; indexes = list })
+      (ap (map (λ i. record { def = i.def; ranking = i.ranking.items })) (map-append (λ e. e.1) indexes ((name, stored) ∷ []))
+      ∙ map-append (λ i. record { def = i.def; ranking = i.ranking.items }) (values_of indexes) (stored ∷ []))
+
   IsInside-index : (stored : StoredIndex) → IsRanked (catalogue_of tables predicates indexes) (record { def = stored.def; ranking = stored.ranking.items }) → IsFree stored.def.name 64 (keys_of indexes) → IsInside tables predicates (indexes ++ (stored.def.name, stored) ∷ [])
   IsInside-index stored ranked free =
       let old = catalogue_of tables predicates indexes in
       let more = indexes ++ (stored.def.name, stored) ∷ [] in
       let new = catalogue_of tables predicates more in
       let last : RankIndex = record { def = stored.def; ranking = stored.ranking.items } in
-      let grown : new.indexes ≡ old.indexes ++ last ∷ [] =
-      ap (map (λ i. record { def = i.def; ranking = i.ranking.items })) (map-append (λ e. e.1) indexes ((stored.def.name, stored) ∷ []))
-      ∙ map-append (λ i. record { def = i.def; ranking = i.ranking.items }) (values_of indexes) (stored ∷ []) in
+      let grown : new.indexes ≡ old.indexes ++ last ∷ [] = ap (λ catalogue. catalogue.indexes) (with_index-put stored.def.name stored) in
       let grows : Grows old new = record { tables = λ n t at. at; predicates = λ n p at. at } in
       record {
         few_tables = inside.few_tables;

@@ -1,37 +1,52 @@
 -- Making an index, row by row.
 use Rattle.std.proofs.Common.{ℕ, ℤ, ◌≡◌, ◌∙◌, ◌+◌, ◌-◌, ◌<◌, ◌≤◌, ◌++◌, Bool, false, not, List, [], ◌∷◌, length, map, take, drop, get_or, refl, sym, ap, subst, inl, inr, arith, append-nil, if◌then◌else◌}
-use Rattle.std.specs.Prelude.{Option, Result, Ok, Err, is_ok}
+use Rattle.std.specs.Prelude.{Some, option_map, slice_get, Result, Ok, Err, IsOk, is_ok}
 use Rattle.std.proofs.lemmas.List.{map-append, take-append-drop, length-take-le, drop_more, drop_all, take_more, take_all}
 use Rattle.std.proofs.lemmas.Option.{unwrap_or-slice_get}
 use Rattle.rs_value.specs.declared.value.Value.{Value}
 use Rattle.rs_table.specs.Appended.{appended}
+use Rattle.rs_table.specs.Relation.{Relation}
 use Rattle.rs_expr.specs.Predicates.{PredicateDef}
-use Rattle.rs_expr.specs.Scoring.{Asks, ScorerSeen, call_of}
-use Rattle.rs_expr.specs.declared.scorer.Call.{Call}
-use Rattle.rs_expr.proofs.ScoringFacts.{Asks-append, Asks-none, ScorerFaulted-from, seen}
+use Rattle.rs_expr.specs.Scoring.{Answering, KeepsScorer, Made, ScorerState}
+use Rattle.rs_expr.specs.InOrder.{Inquires, Inquiry, Request, calls_of}
+use Rattle.rs_expr.proofs.ScoringFacts.{KeepsScorer-refl, KeepsScorer-then, Made-none}
+use Rattle.rs_expr.proofs.InOrderFacts.{Begins, Ends-ok, Inquires-begun, Inquires-behind, Inquires-unheld, Made-requests, behind, one}
 use Rattle.rs_rank.specs.declared.scored_row.ScoredRow.{ScoredRow}
-use Rattle.rs_catalog.specs.Indexes.{Making, asked_rows, row_at, scored_from}
-use Rattle.rs_catalog.specs.Making.{Ends, Ranks, ScoresRow, Stops, score_for}
+use Rattle.rs_catalog.specs.Catalogue.{Catalogue, with_index}
+use Rattle.rs_catalog.specs.Indexes.{asked_rows, making, making_of, predicate_for, ranking_of, row_at, rows_for, scored_from}
+use Rattle.rs_catalog.specs.Making.{MakesIndex, score_for, scoring_row}
+use Rattle.rs_catalog.specs.declared.index.BoundArg.{BoundArg}
+use Rattle.rs_catalog.specs.declared.index.IndexDef.{IndexDef}
 use Rattle.rs_catalog.specs.declared.index.IndexFault.{IndexFault}
 use Rattle.rs_catalog.specs.declared.index.IndexFault.TheVariants.{BadScore, Memory}
+use Rattle.rs_catalog.proofs.GrowthFacts.{rows_for-table}
 use Rattle.rs_catalog.proofs.ScoreFacts.{Asked, Asked-scored, appended-nil, score_for-err, score_for-ok, scored-next, scored_from-bad}
 
-module _ (answer : List Value → ℤ) (call : List Value → Call) (max : ℕ) (rows : List (List Value)) where
+module _ (answer : List Value → ℤ) (request : List Value → Request IndexFault) (max : ℕ) (rows : List (List Value)) where
   -- the scores of all rows
   abbrev scored : Result (List ScoredRow) IndexFault
   scored = scored_from answer max 1 rows
 
-  abbrev pub scoring : Making
-  scoring = record { calls = map call (asked_rows scored rows); outcome = scored }
+  abbrev pub scoring : Inquiry (List ScoredRow) IndexFault
+  scoring = record { requests = map request (asked_rows scored rows); outcome = scored }
 
-  -- the first rows were asked for and have these scores, and the others decide
-  pub record Between (i : ℕ) (entries : List ScoredRow) (scorer : ScorerSeen) : Type 0 where
+  -- scoring the row at a place
+  abbrev pub scoring_at : ℕ → Inquiry ScoredRow IndexFault
+  scoring_at i = one (request (row_at rows (i + 1))) (score_for max (i + 1) (answer (row_at rows (i + 1))))
+
+  -- the first rows have these scores, and the others decide
+  abbrev Rest : ℕ → List ScoredRow → Type 0
+  Rest i entries = appended entries (scored_from answer max (i + 1) (drop i rows)) ≡ scored
+
+  -- the first rows were asked for and have these scores
+  pub record Between (i : ℕ) (entries : List ScoredRow) (old new : ScorerState) : Type 0 where
     pub rest : appended entries (scored_from answer max (i + 1) (drop i rows)) ≡ scored
-    pub asked : Asks (map call (take i rows)) scorer
+    pub made : Made (calls_of (map request (take i rows))) old new
+    pub keeps : KeepsScorer old new
 
   -- before the first row
-  pub Between-none : (told : Option (List Call)) (count faults : ℕ) → Between 0 [] (seen told told count count faults faults)
-  Between-none told count faults = record { rest = appended-nil scored; asked = Asks-none told count faults faults }
+  pub Between-none : (scorer : ScorerState) → Between 0 [] scorer scorer
+  Between-none scorer = record { rest = appended-nil scored; made = Made-none scorer; keeps = KeepsScorer-refl scorer }
 
   -- the row at a place, and those behind it
   drop-row : (i : ℕ) → i < length rows → drop i rows ≡ row_at rows (i + 1) ∷ drop (i + 1) rows
@@ -44,9 +59,9 @@ module _ (answer : List Value → ℤ) (call : List Value → Call) (max : ℕ) 
       take_more rows i [] within
       ∙ ap (λ row. take i rows ++ row ∷ []) (let same : i ≡ i + 1 - 1 = omega arith in ap (λ n. get_or rows n []) same ∙ sym (unwrap_or-slice_get rows (i + 1 - 1) []))
 
-  -- the calls so far, with that of the next row
-  map-row : (i : ℕ) → i < length rows → map call (take (i + 1) rows) ≡ map call (take i rows) ++ call (row_at rows (i + 1)) ∷ []
-  map-row i within = ap (map call) (take-row i within) ∙ map-append call (take i rows) (row_at rows (i + 1) ∷ [])
+  -- the requests so far, with that of the next row
+  map-row : (i : ℕ) → i < length rows → map request (take (i + 1) rows) ≡ map request (take i rows) ++ request (row_at rows (i + 1)) ∷ []
+  map-row i within = ap (map request) (take-row i within) ∙ map-append request (take i rows) (row_at rows (i + 1) ∷ [])
 
   -- the rows that are asked for begin with those that were
   asked-split : (i : ℕ) (entries : List ScoredRow) → i ≤ length rows → appended entries (scored_from answer max (i + 1) (drop i rows)) ≡ scored
@@ -56,136 +71,162 @@ module _ (answer : List Value → ℤ) (call : List Value → Call) (max : ℕ) 
       (subst (λ s. Asked answer max (take i rows) (drop i rows) (asked_rows s (take i rows ++ drop i rows))) rest
       (Asked-scored answer max (drop i rows) (take i rows) i entries (length-take-le i rows within)))
 
-  -- the calls so far and the others
-  record Split (i : ℕ) : Type 0 where
-    more : List Call
-    split : scoring.calls ≡ map call (take i rows) ++ more
+  -- the requests that are left; where there are none, all rows have scores
+  record Left (i : ℕ) : Type 0 where
+    more : List (Request IndexFault)
+    split : scoring.requests ≡ map request (take i rows) ++ more
+    good : more ≡ [] → IsOk scored
 
-  calls-split : (i : ℕ) (entries : List ScoredRow) → i ≤ length rows → appended entries (scored_from answer max (i + 1) (drop i rows)) ≡ scored → Split i
-  calls-split i entries within rest =
+  left : (i : ℕ) (entries : List ScoredRow) → i ≤ length rows → Rest i entries → Left i
+  left i entries within rest =
       let asked = asked-split i entries within rest in
-      record { more = map call asked.more; split = ap (map call) asked.split ∙ map-append call (take i rows) asked.more }
-
-  -- the same, where the next row is asked for too
-  calls-next : (i : ℕ) (entries : List ScoredRow) → i < length rows → appended entries (scored_from answer max (i + 1) (drop i rows)) ≡ scored
-      → (more : List Call) × (scoring.calls ≡ map call (take i rows) ++ call (row_at rows (i + 1)) ∷ more)
-  calls-next i entries within rest =
-      let asked = asked-split i entries (omega arith) rest in
-      let next = asked.next (row_at rows (i + 1)) (drop (i + 1) rows) (drop-row i within) in
-      (map call next.0, ap (map call) asked.split ∙ map-append call (take i rows) asked.more ∙ ap (λ more. map call (take i rows) ++ map call more) next.1)
+      record {
+        more = map request asked.more;
+        split = ap (map request) asked.split ∙ map-append request (take i rows) asked.more;
+        good = λ none. subst IsOk rest (last asked none (drop i rows) refl);
+      } where
+        last : (asked : Asked answer max (take i rows) (drop i rows) (asked_rows scored rows)) → map request asked.more ≡ [] → (others : List (List Value)) → drop i rows ≡ others
+            → IsOk (appended entries (scored_from answer max (i + 1) others))
+        last asked none [] e = refl
+        last asked none (first ∷ later) e = let next = asked.next first later e in absurd (let some = ap (map request) next.1 in cc)
 
   -- the next row has a score
-  pub Between-more : (i : ℕ) (entries : List ScoredRow) (entry : ScoredRow) (before middle after : Option (List Call)) (count_before count_middle count_after faults_before faults_middle faults_after : ℕ)
-      → i < length rows → Between i entries (seen before middle count_before count_middle faults_before faults_middle)
-      → score_for max (i + 1) (answer (row_at rows (i + 1))) ≡ Ok entry
-      → Asks (call (row_at rows (i + 1)) ∷ []) (seen middle after count_middle count_after faults_middle faults_after)
-      → Between (i + 1) (entries ++ entry ∷ []) (seen before after count_before count_after faults_before faults_after)
-  Between-more i entries entry before middle after count_before count_middle count_after faults_before faults_middle faults_after within made score asked =
+  rest-next : (i : ℕ) (entries : List ScoredRow) (entry : ScoredRow) → i < length rows → Rest i entries
+      → score_for max (i + 1) (answer (row_at rows (i + 1))) ≡ Ok entry → Rest (i + 1) (entries ++ entry ∷ [])
+  rest-next i entries entry within rest score =
       let is = score_for-ok answer max (i + 1) (row_at rows (i + 1)) entry score in
+      ap (λ e. appended (entries ++ e ∷ []) (scored_from answer max (i + 1 + 1) (drop (i + 1) rows))) is.1
+      ∙ sym (scored-next answer max i entries (row_at rows (i + 1)) (drop (i + 1) rows) is.0)
+      ∙ ap (λ left. appended entries (scored_from answer max (i + 1) left)) (sym (drop-row i within))
+      ∙ rest
+
+  -- the next row has none: its fault is that of all, and no row behind it is asked for
+  rest-bad : (i : ℕ) (entries : List ScoredRow) (fault : IndexFault) → i < length rows → Rest i entries
+      → score_for max (i + 1) (answer (row_at rows (i + 1))) ≡ Err fault → (scored ≡ Err fault) × (scoring.requests ≡ map request (take (i + 1) rows))
+  rest-bad i entries fault within rest score =
+      let is = score_for-err answer max (i + 1) (row_at rows (i + 1)) fault score in
+      let all : scored ≡ Err (BadScore (i + 1) (answer (row_at rows (i + 1))) max) =
+      sym (ap (appended entries) (sym (scored_from-bad answer max (i + 1) (row_at rows (i + 1)) (drop (i + 1) rows) is.0))
+      ∙ ap (λ left. appended entries (scored_from answer max (i + 1) left)) (sym (drop-row i within))
+      ∙ rest) in
+      (all ∙ ap Err (sym is.1), ap (λ s. map request (asked_rows s rows)) all)
+
+  -- scoring begins with the first rows and the next one
+  Begins-at : (i : ℕ) (entries : List ScoredRow) → i < length rows → Rest i entries → Begins (behind (map request (take i rows)) (scoring_at i)) scoring
+  Begins-at i entries within rest = go (score_for max (i + 1) (answer (row_at rows (i + 1)))) refl where
+    go : (outcome : Result ScoredRow IndexFault) → score_for max (i + 1) (answer (row_at rows (i + 1))) ≡ outcome
+        → Begins (behind (map request (take i rows)) (one (request (row_at rows (i + 1))) outcome)) scoring
+    go (Ok entry) score =
+        let later = left (i + 1) (entries ++ entry ∷ []) (omega arith) (rest-next i entries entry within rest score) in
+        record {
+          more = later.more;
+          split = later.split ∙ ap (λ some. some ++ later.more) (map-row i within);
+          bad = λ fault e. cc;
+          good = λ ok none. later.good none;
+        }
+    go (Err fault) score =
+        let bad = rest-bad i entries fault within rest score in
+        record {
+          more = [];
+          split = bad.1 ∙ map-row i within ∙ sym (append-nil (map request (take i rows) ++ request (row_at rows (i + 1)) ∷ []));
+          bad = λ other e. (refl, bad.0 ∙ (let same : fault ≡ other = cc in ap Err same));
+          good = λ ok none. cc;
+        }
+
+  -- the next row gave a score
+  pub Between-more : (i : ℕ) (entries : List ScoredRow) (entry : ScoredRow) (old middle new : ScorerState) → i < length rows → Between i entries old middle
+      → Inquires Memory (scoring_at i) (Ok entry) middle new → Between (i + 1) (entries ++ entry ∷ []) old new
+  Between-more i entries entry old middle new within between inquires =
+      let ends = Ends-ok Memory (scoring_at i) entry middle new inquires in
       record {
-        rest = ap (λ e. appended (entries ++ e ∷ []) (scored_from answer max (i + 1 + 1) (drop (i + 1) rows))) is.1
-            ∙ sym (scored-next answer max i entries (row_at rows (i + 1)) (drop (i + 1) rows) is.0)
-            ∙ ap (λ left. appended entries (scored_from answer max (i + 1) left)) (sym (drop-row i within))
-            ∙ made.rest;
-        asked = subst (λ calls. Asks calls (seen before after count_before count_after faults_before faults_after)) (sym (map-row i within))
-            (Asks-append _ _ _ _ _ _ _ _ _ _ _ made.asked asked);
+        rest = rest-next i entries entry within between.rest (sym ends.gives);
+        made = subst (λ requests. Made (calls_of requests) old new) (sym (map-row i within))
+            (Made-requests (map request (take i rows)) (request (row_at rows (i + 1)) ∷ []) old middle new between.made ends.made);
+        keeps = KeepsScorer-then old middle new between.keeps inquires.keeps;
+      }
+
+  -- the same of scores that are kept so
+  pub Between-pushed : (i : ℕ) (entries kept : List ScoredRow) (old new : ScorerState) → kept ≡ entries → Between i entries old new → Between i kept old new
+  Between-pushed i entries kept old new same between = subst (λ e. Between i e old new) (sym same) between
+
+  -- the next row gave a fault
+  pub Inquires-at : (i : ℕ) (entries : List ScoredRow) (fault : IndexFault) (old middle new : ScorerState) → i < length rows → Between i entries old middle
+      → Inquires Memory (scoring_at i) (Err fault) middle new → Inquires Memory scoring (Err fault) old new
+  Inquires-at i entries fault old middle new within between inquires =
+      Inquires-begun Memory (behind (map request (take i rows)) (scoring_at i)) scoring fault old new (Begins-at i entries within between.rest)
+      (Inquires-behind Memory (map request (take i rows)) (scoring_at i) (Err fault) old middle new between.made between.keeps inquires)
+
+  -- there was no memory to go on
+  pub Inquires-full : (i : ℕ) (entries : List ScoredRow) (old new : ScorerState) → i ≤ length rows → Between i entries old new → Inquires Memory scoring (Err Memory) old new
+  Inquires-full i entries old new within between =
+      let later = left i entries within between.rest in
+      record {
+        comes = inr (record { done = map request (take i rows); rest = later.more; split = later.split; good = later.good; made = between.made; gives = refl });
+        keeps = between.keeps;
       }
 
   -- all rows have scores
-  pub Ends-all : (i : ℕ) (entries : List ScoredRow) (scorer : ScorerSeen) → length rows ≤ i → Between i entries scorer → Ends scoring (Ok entries) scorer
-  Ends-all i entries scorer all made =
-      let is : Ok entries ≡ scored = ap Ok (sym (append-nil entries)) ∙ ap (λ left. appended entries (scored_from answer max (i + 1) left)) (sym (drop_all i rows all)) ∙ made.rest in
+  pub Inquires-all : (i : ℕ) (entries : List ScoredRow) (old new : ScorerState) → length rows ≤ i → Between i entries old new → Inquires Memory scoring (Ok entries) old new
+  Inquires-all i entries old new all between =
+      let is : Ok entries ≡ scored = ap Ok (sym (append-nil entries)) ∙ ap (λ left. appended entries (scored_from answer max (i + 1) left)) (sym (drop_all i rows all)) ∙ between.rest in
       record {
-        asked = subst (λ calls. Asks calls scorer) (ap (map call) (take_all i rows all ∙ ap (λ s. asked_rows s rows) is)) made.asked;
-        answers = is;
+        comes = inl (inl (record {
+          made = subst (λ requests. Made (calls_of requests) old new) (ap (map request) (take_all i rows all ∙ ap (λ s. asked_rows s rows) is)) between.made;
+          gives = is;
+        }));
+        keeps = between.keeps;
       }
-
-  -- the next row has no score
-  Ends-bad : (i : ℕ) (entries : List ScoredRow) (fault : IndexFault) (before middle after : Option (List Call)) (count_before count_middle count_after faults_before faults_middle faults_after : ℕ)
-      → i < length rows → Between i entries (seen before middle count_before count_middle faults_before faults_middle)
-      → score_for max (i + 1) (answer (row_at rows (i + 1))) ≡ Err fault
-      → Asks (call (row_at rows (i + 1)) ∷ []) (seen middle after count_middle count_after faults_middle faults_after)
-      → Ends scoring (Err fault) (seen before after count_before count_after faults_before faults_after)
-  Ends-bad i entries fault before middle after count_before count_middle count_after faults_before faults_middle faults_after within made bad asked =
-      let is = score_for-err answer max (i + 1) (row_at rows (i + 1)) fault bad in
-      let all : Err (BadScore (i + 1) (answer (row_at rows (i + 1))) max) ≡ scored =
-      ap (appended entries) (sym (scored_from-bad answer max (i + 1) (row_at rows (i + 1)) (drop (i + 1) rows) is.0))
-      ∙ ap (λ left. appended entries (scored_from answer max (i + 1) left)) (sym (drop-row i within))
-      ∙ made.rest in
-      record {
-        asked = subst (λ calls. Asks calls (seen before after count_before count_after faults_before faults_after)) (sym (map-row i within) ∙ ap (λ s. map call (asked_rows s rows)) all)
-            (Asks-append _ _ _ _ _ _ _ _ _ _ _ made.asked asked);
-        answers = ap Err is.1 ∙ all;
-      }
-
-  -- there was no memory behind the next row
-  pub Stops-behind : (i : ℕ) (entries : List ScoredRow) (scorer : ScorerSeen) → i < length rows → Between (i + 1) entries scorer → Stops scoring (Err Memory) scorer
-  Stops-behind i entries scorer within made =
-      let all = calls-split (i + 1) entries (omega arith) made.rest in
-      record { done = map call (take (i + 1) rows); rest = all.more; split = all.split; asked = made.asked; memory = refl }
-
-  -- the next row gave no score
-  pub Ranks-err : (i : ℕ) (entries : List ScoredRow) (fault : IndexFault) (before middle after : Option (List Call)) (count_before count_middle count_after faults_before faults_middle faults_after : ℕ) (steady steady_middle : Type 0)
-      → i < length rows → Between i entries (seen before middle count_before count_middle faults_before faults_middle)
-      → faults_before ≤ faults_middle → (steady → steady_middle)
-      → ScoresRow (call (row_at rows (i + 1))) (score_for max (i + 1) (answer (row_at rows (i + 1)))) (Err fault) (seen middle after count_middle count_after faults_middle faults_after) steady_middle
-      → Ranks scoring (Err fault) (seen before after count_before count_after faults_before faults_after) steady
-  Ranks-err i entries fault before middle after count_before count_middle count_after faults_before faults_middle faults_after steady steady_middle within made le stays (inl (inl given)) =
-      inl (inl (Ends-bad i entries fault _ _ _ _ _ _ _ _ _ within made (sym given.1) given.0))
-  Ranks-err i entries fault before middle after count_before count_middle count_after faults_before faults_middle faults_after steady steady_middle within made le stays (inl (inr failed)) =
-      let next = calls-next i entries within made.rest in
-      inl (inr (record {
-        done = map call (take i rows);
-        failed = call (row_at rows (i + 1));
-        rest = next.0;
-        split = next.1;
-        asked = Asks-append _ _ _ _ _ _ _ _ _ _ _ made.asked failed.0;
-        faulted = ScorerFaulted-from _ _ _ _ _ _ _ _ _ _ _ le stays failed.1;
-        probe = let e = failed.2 in cc;
-      }))
-  Ranks-err i entries fault before middle after count_before count_middle count_after faults_before faults_middle faults_after steady steady_middle within made le stays (inr stopped) =
-      let all = calls-split i entries (omega arith) made.rest in
-      inr (record {
-        done = map call (take i rows);
-        rest = all.more;
-        split = all.split;
-        asked = subst (λ calls. Asks calls (seen before after count_before count_after faults_before faults_after)) (append-nil (map call (take i rows)))
-            (Asks-append _ _ _ _ _ _ _ _ _ _ _ made.asked stopped.0);
-        memory = let e = stopped.1 in cc;
-      })
-
-  -- the next row gave a score
-  pub Between-ok : (i : ℕ) (entries : List ScoredRow) (entry : ScoredRow) (before middle after : Option (List Call)) (count_before count_middle count_after faults_before faults_middle faults_after : ℕ) (steady : Type 0)
-      → i < length rows → Between i entries (seen before middle count_before count_middle faults_before faults_middle)
-      → ScoresRow (call (row_at rows (i + 1))) (score_for max (i + 1) (answer (row_at rows (i + 1)))) (Ok entry) (seen middle after count_middle count_after faults_middle faults_after) steady
-      → Between (i + 1) (entries ++ entry ∷ []) (seen before after count_before count_after faults_before faults_after)
-  Between-ok i entries entry before middle after count_before count_middle count_after faults_before faults_middle faults_after steady within made (inl (inl given)) =
-      Between-more i entries entry _ _ _ _ _ _ _ _ _ within made (sym given.1) given.0
-  Between-ok i entries entry before middle after count_before count_middle count_after faults_before faults_middle faults_after steady within made (inl (inr failed)) = absurd (let e = failed.2 in cc)
-  Between-ok i entries entry before middle after count_before count_middle count_after faults_before faults_middle faults_after steady within made (inr stopped) = absurd (let e = stopped.1 in cc)
-
-  -- the same of scores that are kept so
-  pub Between-pushed : (i : ℕ) (entries kept : List ScoredRow) (scorer : ScorerSeen) → kept ≡ entries → Between i entries scorer → Between i kept scorer
-  Between-pushed i entries kept scorer same made = subst (λ e. Between i e scorer) (sym same) made
 
 -- the same, where the answers are those of a scorer that answers alike
-pub ScoresRow-same : (answer other : PredicateDef → List Value → ℤ) (predicate : PredicateDef) (values : List Value) (max row : ℕ) (result : Result ScoredRow IndexFault) (scorer : ScorerSeen) (steady : Type 0)
-    → other ≡ answer → ScoresRow (call_of predicate values) (score_for max row (other predicate values)) result scorer steady
-    → ScoresRow (call_of predicate values) (score_for max row (answer predicate values)) result scorer steady
-ScoresRow-same answer other predicate values max row result scorer steady same scores =
-    subst (λ a. ScoresRow (call_of predicate values) (score_for max row (a predicate values)) result scorer steady) same scores
+pub Inquires-same : (answer other : Answering) (predicate : PredicateDef) (args : List BoundArg) (row : ℕ) (values : List Value) (result : Result ScoredRow IndexFault) (old new : ScorerState)
+    → other ≡ answer → Inquires Memory (scoring_row other predicate args row values) result old new → Inquires Memory (scoring_row answer predicate args row values) result old new
+Inquires-same answer other predicate args row values result old new same inquires = subst (λ a. Inquires Memory (scoring_row a predicate args row values) result old new) same inquires
 
 -- a list that was pushed to with no error
 pub pushed : {T E A : Type 0} (result : Result T E) (more less : List A) (failed : Bool) → is_ok result ≡ not failed → failed ≡ false → (if is_ok result then more else less) ≡ more
 pushed (Ok done) more less failed e none = refl
 pushed (Err fault) more less failed e none = absurd (let other : false ≡ not false = e ∙ ap not none in cc)
 
--- all calls were made of an answer that has no fault
-pub Ends-ok : (making : Making) (entries : List ScoredRow) (scorer : ScorerSeen) (steady : Type 0) → Ranks making (Ok entries) scorer steady → Ends making (Ok entries) scorer
-Ends-ok making entries scorer steady (inl (inl ends)) = ends
-Ends-ok making entries scorer steady (inl (inr fails)) = absurd (let e = fails.probe in cc)
-Ends-ok making entries scorer steady (inr stops) = absurd (let e = stops.memory in cc)
+-- the same calls, and the rows by score
+abbrev pub ranked : Inquiry (List ScoredRow) IndexFault → Inquiry (List ScoredRow) IndexFault
+ranked scoring = record { requests = scoring.requests; outcome = ranking_of scoring.outcome }
 
--- there was no memory behind all calls
-pub Stops-all : (making : Making) (scorer : ScorerSeen) → Asks making.calls scorer → Stops making (Err Memory) scorer
-Stops-all making scorer asked = record { done = making.calls; rest = []; split = sym (append-nil making.calls); asked = asked; memory = refl }
+-- sorting the rows calls nobody, and has no fault of its own
+Begins-ranked : (scoring : Inquiry (List ScoredRow) IndexFault) → Begins scoring (ranked scoring)
+Begins-ranked scoring = go scoring.outcome where
+  go : (outcome : Result (List ScoredRow) IndexFault) → Begins (record { requests = scoring.requests; outcome = outcome }) (record { requests = scoring.requests; outcome = ranking_of outcome })
+  go (Ok entries) = record { more = []; split = sym (append-nil scoring.requests); bad = λ fault e. cc; good = λ ok none. refl }
+  go (Err other) = record { more = []; split = sym (append-nil scoring.requests); bad = λ fault e. (refl, let same : other ≡ fault = cc in ap Err same); good = λ ok none. cc }
+
+-- the scores came, or a fault did
+pub Inquires-ranked : (scoring : Inquiry (List ScoredRow) IndexFault) (entries : List ScoredRow) (old new : ScorerState) → Inquires Memory scoring (Ok entries) old new → Inquires Memory (ranked scoring) (ranking_of (Ok entries)) old new
+Inquires-ranked scoring entries old new inquires =
+    let ends = Ends-ok Memory scoring entries old new inquires in
+    record { comes = inl (inl (record { made = ends.made; gives = ap ranking_of ends.gives })); keeps = inquires.keeps }
+
+pub Inquires-unranked : (scoring : Inquiry (List ScoredRow) IndexFault) (fault : IndexFault) (old new : ScorerState) → Inquires Memory scoring (Err fault) old new → Inquires Memory (ranked scoring) (Err fault) old new
+Inquires-unranked scoring fault old new inquires = Inquires-begun Memory scoring (ranked scoring) fault old new (Begins-ranked scoring) inquires
+
+-- there was no memory to sort them
+pub Inquires-unsorted : (scoring : Inquiry (List ScoredRow) IndexFault) (entries : List ScoredRow) (old new : ScorerState) → Inquires Memory scoring (Ok entries) old new → Inquires Memory (ranked scoring) (Err Memory) old new
+Inquires-unsorted scoring entries old new inquires = Inquires-unranked scoring Memory old new (Inquires-unheld Memory scoring entries old new inquires)
+
+-- making an index of a catalogue is making one of its table and its predicate
+pub Inquires-making : (answer : Answering) (catalogue : Catalogue) (def : IndexDef) (table : Relation) (predicate : PredicateDef) (args : List BoundArg) (result : Result (List ScoredRow) IndexFault) (old new : ScorerState)
+    → option_map (λ t. t.table) (slice_get catalogue.tables def.table) ≡ Some table → slice_get catalogue.predicates def.predicate ≡ Some predicate → args ≡ def.args
+    → Inquires Memory (making_of answer predicate args table.rows) result old new → Inquires Memory (making answer catalogue def) result old new
+Inquires-making answer catalogue def table predicate args result old new has_table has_predicate has_args inquires =
+    let is : predicate_for catalogue def ≡ predicate = rw has_predicate refl in
+    subst (λ p. Inquires Memory (making_of answer p def.args (rows_for catalogue def)) result old new) (sym is)
+    (subst (λ rows. Inquires Memory (making_of answer predicate def.args rows) result old new) (sym (rows_for-table catalogue def table has_table))
+    (subst (λ some. Inquires Memory (making_of answer predicate some table.rows) result old new) has_args inquires))
+
+-- a ranking joined a catalogue
+pub MakesIndex-ok : (making : Inquiry (List ScoredRow) IndexFault) (def : IndexDef) (ranking : List ScoredRow) (old new : Catalogue) (before after : ScorerState)
+    → Inquires Memory making (Ok ranking) before after → new ≡ with_index def ranking old → MakesIndex making def old new (Ok tt) before after
+MakesIndex-ok making def ranking old new before after inquires joins = record { ranking = Ok ranking; inquires = inquires; answers = refl; joins = joins }
+
+-- nothing joined it, by a fault of the ranking
+pub MakesIndex-err : (making : Inquiry (List ScoredRow) IndexFault) (def : IndexDef) (fault : IndexFault) (old new : Catalogue) (before after : ScorerState)
+    → Inquires Memory making (Err fault) before after → new ≡ old → MakesIndex making def old new (Err fault) before after
+MakesIndex-err making def fault old new before after inquires same = record { ranking = Err fault; inquires = inquires; answers = refl; joins = same }

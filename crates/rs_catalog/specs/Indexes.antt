@@ -13,16 +13,16 @@ use Rattle.rs_rank.specs.Stable.{stable}
 use Rattle.rs_expr.specs.Formulas.{Constant}
 use Rattle.rs_expr.specs.Predicates.{PredicateDef}
 use Rattle.rs_expr.specs.Scores.{is_score, score_of}
-use Rattle.rs_expr.specs.Scoring.{call_of}
+use Rattle.rs_expr.specs.Scoring.{Answering, call_of}
+use Rattle.rs_expr.specs.InOrder.{Inquiry, Request}
 use Rattle.rs_expr.specs.Uses.{is_kind}
-use Rattle.rs_expr.specs.declared.scorer.Call.{Call}
 use Rattle.rs_catalog.specs.Catalogue.{Catalogue, NamedTable}
 use Rattle.rs_catalog.specs.declared.index.BoundArg.{BoundArg}
 use Rattle.rs_catalog.specs.declared.index.BoundArg.TheVariants as arg
 use Rattle.rs_catalog.specs.declared.index.IndexDef.{IndexDef}
 use Rattle.rs_rank.specs.declared.scored_row.ScoredRow.{ScoredRow}
 use Rattle.rs_catalog.specs.declared.index.IndexFault.{IndexFault}
-use Rattle.rs_catalog.specs.declared.index.IndexFault.TheVariants.{BadScore}
+use Rattle.rs_catalog.specs.declared.index.IndexFault.TheVariants.{BadScore, Probe}
 
 -- an argument of an index over these columns has this kind: a column of entry 1, or a number in range, or a text
 abbrev pub arg_fits : List Column → Kind → BoundArg → Bool
@@ -79,15 +79,15 @@ abbrev pub asked_rows : Result (List ScoredRow) IndexFault → List (List Value)
 asked_rows (Err (BadScore row got max)) rows = take row rows
 asked_rows _ rows = rows
 
--- making an index: the calls, one a row, in the order of the rows, and its rows by score, or the first bad score
-pub record Making : Type 0 where
-  pub calls : List Call
-  pub outcome : Result (List ScoredRow) IndexFault
+-- the request for a row: its call, which ends all where it fails
+abbrev pub request_for : PredicateDef → List BoundArg → List Value → Request IndexFault
+request_for predicate args row = record { call = call_of predicate (args_in args row); failed = Probe }
 
-abbrev pub making_of : (PredicateDef → List Value → ℤ) → PredicateDef → List BoundArg → List (List Value) → Making
+-- making an index: the calls, one a row, in the order of the rows, and its rows by score, or the first bad score
+abbrev pub making_of : Answering → PredicateDef → List BoundArg → List (List Value) → Inquiry (List ScoredRow) IndexFault
 making_of answer predicate args rows =
     let scored = scored_from (λ row. answer predicate (args_in args row)) predicate.max 1 rows in
-    record { calls = map (λ row. call_of predicate (args_in args row)) (asked_rows scored rows); outcome = ranking_of scored }
+    record { requests = map (request_for predicate args) (asked_rows scored rows); outcome = ranking_of scored }
 
 -- the rows and the predicate of an index
 abbrev pub rows_for : Catalogue → IndexDef → List (List Value)
@@ -98,7 +98,7 @@ predicate_for catalogue def =
     unwrap_or (slice_get catalogue.predicates def.predicate) (record { name = []; params = []; max = 0; cost = 0; formula = Constant (pos 0) })
 
 -- making an index of a catalogue
-abbrev pub making : (PredicateDef → List Value → ℤ) → Catalogue → IndexDef → Making
+abbrev pub making : Answering → Catalogue → IndexDef → Inquiry (List ScoredRow) IndexFault
 making answer catalogue def = making_of answer (predicate_for catalogue def) def.args (rows_for catalogue def)
 
 -- the ranking of the index of this number

@@ -120,19 +120,8 @@ impl Catalog {
     ) -> Result<(), IndexFault>
         requires room { room_for what.Index def.name self.old ≡ Ok tt }
         requires fits { IsIndex self.old def }
-        ensures makes { MakesIndex (making (S.answer scorer.old) self.old def) def self.old self.new result
-            (record {
-              before = S.told scorer.old;
-              after = S.told scorer.new;
-              count_before = S.calls scorer.old;
-              count_after = S.calls scorer.new;
-              faults_before = S.faults scorer.old;
-              faults_after = S.faults scorer.new;
-            })
-            (S.steady scorer.old) }
-        ensures same { S.answer scorer.new ≡ S.answer scorer.old }
-        ensures faults { S.faults scorer.old ≤ S.faults scorer.new }
-        ensures steady { S.steady scorer.old → S.steady scorer.new }
+        ensures makes { MakesIndex (making (S.state scorer.old).answer self.old def) def self.old self.new result
+            (S.state scorer.old) (S.state scorer.new) }
     {
         let table = self.table(def.table);
         let predicate = self.predicate(def.predicate);

@@ -1,10 +1,9 @@
 ghost use Rattle.std.specs.Prelude.{◌≡◌, ◌≤◌, true, IfOk, List, length, if◌then◌else◌, Ok, Err};
 ghost use Rattle.rs_value.specs.Value.{all_fit, fits};
 ghost use Rattle.rs_value.specs.declared.kind.Kind.{Kind as ValueKind};
-ghost use Rattle.rs_expr.specs.Scores.{is_score, score_of};
-ghost use Rattle.rs_expr.specs.Scoring.{call_of};
+ghost use Rattle.rs_expr.specs.InOrder.{Inquires};
 ghost use Rattle.rs_catalog.specs.Indexes.{IsRanking, arg_fits, arg_value, args_fit, args_in, making_of, row_at};
-ghost use Rattle.rs_catalog.specs.Making.{Ranks, ScoresRow, items_of, score_for, scoring_of};
+ghost use Rattle.rs_catalog.specs.Making.{items_of, score_for, scoring_of, scoring_row};
 
 use crate::index::{BoundArg, IndexFault};
 use rs_expr::{Predicate, Scorer, ScorerFault};
@@ -23,21 +22,9 @@ pub fn rank_rows<S: Scorer>(
     scorer: &mut S,
 ) -> Result<Vec<ScoredRow>, IndexFault>
     requires { args_fit table.now.schema predicate.now.params args.now ≡ true }
-    ensures ranks { Ranks (making_of (S.answer scorer.old) predicate.now args.now table.now.rows)
-        (items_of result)
-        (record {
-          before = S.told scorer.old;
-          after = S.told scorer.new;
-          count_before = S.calls scorer.old;
-          count_after = S.calls scorer.new;
-          faults_before = S.faults scorer.old;
-          faults_after = S.faults scorer.new;
-        })
-        (S.steady scorer.old) }
+    ensures ranks { Inquires IndexFault.Memory (making_of (S.state scorer.old).answer predicate.now args.now table.now.rows)
+        (items_of result) (S.state scorer.old) (S.state scorer.new) }
     ensures ranking { IfOk result (λ ranking. IsRanking (length table.now.rows) predicate.now.max ranking.items) }
-    ensures same { S.answer scorer.new ≡ S.answer scorer.old }
-    ensures faults { S.faults scorer.old ≤ S.faults scorer.new }
-    ensures steady { S.steady scorer.old → S.steady scorer.new }
 {
     let mut entries = match score_rows(alloc, table, predicate, args, scorer) {
         Ok(entries) => entries,
@@ -58,20 +45,8 @@ fn score_rows<S: Scorer>(
     scorer: &mut S,
 ) -> Result<Vec<ScoredRow>, IndexFault>
     requires { args_fit table.now.schema predicate.now.params args.now ≡ true }
-    ensures scores { Ranks (scoring_of (S.answer scorer.old) predicate.now args.now table.now.rows)
-        (items_of result)
-        (record {
-          before = S.told scorer.old;
-          after = S.told scorer.new;
-          count_before = S.calls scorer.old;
-          count_after = S.calls scorer.new;
-          faults_before = S.faults scorer.old;
-          faults_after = S.faults scorer.new;
-        })
-        (S.steady scorer.old) }
-    ensures same { S.answer scorer.new ≡ S.answer scorer.old }
-    ensures faults { S.faults scorer.old ≤ S.faults scorer.new }
-    ensures steady { S.steady scorer.old → S.steady scorer.new }
+    ensures { Inquires IndexFault.Memory (scoring_of (S.state scorer.old).answer predicate.now args.now table.now.rows)
+        (items_of result) (S.state scorer.old) (S.state scorer.new) }
 {
     let mut entries = Vec::new(alloc);
     for index in 0..table.len() {
@@ -99,20 +74,8 @@ fn score_row<S: Scorer>(
     requires some { 1 ≤ row }
     requires within { row ≤ length table.now.rows }
     requires fits { args_fit table.now.schema predicate.now.params args.now ≡ true }
-    ensures scores { let values = args_in args.now (row_at table.now.rows row) in
-        ScoresRow (call_of predicate.now values) (score_for predicate.now.max row (S.answer scorer.old predicate.now values)) result
-        (record {
-          before = S.told scorer.old;
-          after = S.told scorer.new;
-          count_before = S.calls scorer.old;
-          count_after = S.calls scorer.new;
-          faults_before = S.faults scorer.old;
-          faults_after = S.faults scorer.new;
-        })
-        (S.steady scorer.old) }
-    ensures same { S.answer scorer.new ≡ S.answer scorer.old }
-    ensures faults { S.faults scorer.old ≤ S.faults scorer.new }
-    ensures steady { S.steady scorer.old → S.steady scorer.new }
+    ensures { Inquires IndexFault.Memory (scoring_row (S.state scorer.old).answer predicate.now args.now row (row_at table.now.rows row))
+        result (S.state scorer.old) (S.state scorer.new) }
 {
     let values = match arguments_of(alloc, table, row, args) {
         Ok(values) => values,

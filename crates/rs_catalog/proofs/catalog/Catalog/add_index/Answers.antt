@@ -1,14 +1,19 @@
 -- The rows that were ranked are those of the index's table, and one more index may be inside, where there is room for its name.
-use Rattle.std.proofs.Common.{◌≡◌, length, ap, ◌∙◌, sym, subst}
-use Rattle.std.specs.Prelude.{OnOk, ◌++◌, ◌∷◌, []}
+use Rattle.std.proofs.Common.{◌≡◌, ℕ, List, length, ap, ◌∙◌, sym, subst, refl}
+use Rattle.std.specs.Prelude.{OnOk, Ok, ◌++◌, ◌∷◌, []}
 use Rattle.std.specs.Map.{keys_of}
-use Rattle.rs_catalog.specs.Catalogue.{room_in, room_for}
-use Rattle.rs_catalog.specs.Indexes.{IsRanking, rows_for, predicate_for}
-use Rattle.rs_catalog.specs.Inside.{IsRanked}
+use Rattle.rs_catalog.specs.Catalogue.{room_in, room_for, with_index}
+use Rattle.rs_catalog.specs.Indexes.{IsRanking, making, rows_for, predicate_for}
+use Rattle.rs_catalog.specs.Inside.{IsRanked, catalogue_of}
+use Rattle.rs_catalog.specs.declared.index.IndexFault.TheVariants.{Memory}
+use Rattle.rs_catalog.specs.declared.catalog.RankIndex.{RankIndex as StoredIndex}
 use Rattle.rs_catalog.specs.declared.room.What.TheVariants.{Index}
-use Rattle.rs_catalog.proofs.GrowthFacts.{IsInside-index_put, max_for-index, rows_for-table}
+use Rattle.rs_expr.proofs.InOrderFacts.{Inquires-unheld}
+use Rattle.rs_catalog.proofs.GrowthFacts.{IsInside-index_put, max_for-index, rows_for-table, with_index-put}
+use Rattle.rs_catalog.proofs.MakeFacts.{Inquires-making, MakesIndex-err, MakesIndex-ok}
 use Rattle.rs_catalog.proofs.NameFacts.{free_from_room}
 use Rattle.rs_catalog.proofs.catalog.Catalog.add_index.Goals as goal
+use Rattle.rs_catalog.proofs.catalog.Catalog.add_index.Goals.{in-Ok-put_last, in-Err-put_last}
 
 pub invariant_of-self : goal.invariant_of-self
 invariant_of-self g c =
@@ -25,3 +30,28 @@ invariant_of-self g c =
     (subst (λ name. OnOk c.put_last.result (c.put_last.new.list.entries ≡ fields.indexes.entries ++ (name, record { def = def; ranking = c.in-Ok.ranking }) ∷ [])) c.in-Ok-copy.ensures c.put_last.ensures.ok) c.put_last.ensures.err
     (subst (λ catalogue. IsRanked catalogue (record { def = def; ranking = c.in-Ok.ranking.items })) (sym c.self.view_is) ranked)
     (free_from_room def.name 64 (keys_of fields.indexes.entries) (ap (room_in def.name 64) c.self.invariant.index_keys ∙ ap (room_for Index def.name) c.self.view_is ∙ c.requires.room))
+
+pub returns-in-Err-copy : goal.returns-in-Err-copy
+returns-in-Err-copy g c =
+    let answer = (g.S.Scorer.state c.args.scorer.now).answer in
+    let inquires = Inquires-making answer c.args.self.now c.args.def c.table-table.result.now c.predicate-predicate.result.now c.deref.result.now (Ok c.in-Ok.ranking.items) (g.S.Scorer.state c.args.scorer.now) (g.S.Scorer.state c.rank_rows.new.scorer)
+    c.table-table.ensures c.predicate-predicate.ensures (c.deref.ensures.value ∙ c.items.ensures) c.in-Ok.ensures.ranks in
+    let making = making answer c.args.self.now c.args.def in
+    record { makes = MakesIndex-err making c.args.def Memory c.args.self.now c.args.self.now _ _ (Inquires-unheld Memory making c.in-Ok.ranking.items _ _ inquires) refl }
+
+pub returns : goal.returns
+returns g c =
+    let fields = c.self.inside in
+    let answer = (g.S.Scorer.state c.args.scorer.now).answer in
+    let inquires = Inquires-making answer c.args.self.now c.args.def c.table-table.result.now c.predicate-predicate.result.now c.deref.result.now (Ok c.in-Ok.ranking.items) (g.S.Scorer.state c.args.scorer.now) (g.S.Scorer.state c.rank_rows.new.scorer)
+    c.table-table.ensures c.predicate-predicate.ensures (c.deref.ensures.value ∙ c.items.ensures) c.in-Ok.ensures.ranks in
+    let making = making answer c.args.self.now c.args.def in
+    let view = λ (entries : List (List ℕ × StoredIndex)). catalogue_of fields.tables.entries fields.predicates.entries entries in
+    record {
+      makes = elim c.match-put_last.branch [
+        | in-Ok-put_last w ↦ rw w.result-is (MakesIndex-ok making c.args.def c.in-Ok.ranking.items c.args.self.now _ _ _ inquires
+            (ap view w.in-Ok-put_last.ensures.ok ∙ with_index-put fields.tables.entries fields.predicates.entries fields.indexes.entries c.self.invariant c.in-Ok-copy.name (record { def = c.args.def; ranking = c.in-Ok.ranking })
+            ∙ ap (with_index c.args.def c.in-Ok.ranking.items) c.self.view_is))
+        | in-Err-put_last w ↦ rw w.result-is (MakesIndex-err making c.args.def Memory c.args.self.now _ _ _ (Inquires-unheld Memory making c.in-Ok.ranking.items _ _ inquires) (ap view w.in-Err-put_last.ensures.err ∙ c.self.view_is))
+      ];
+    }
