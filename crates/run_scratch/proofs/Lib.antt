@@ -1,5 +1,9 @@
 pub mod RanFacts
 pub mod FetchFacts
+pub mod RunFacts
+pub mod LineFacts
+pub mod RowFacts
 pub mod SteppedFacts
-pub mod LoopFacts
 pub mod InquirySteps
+pub mod IndexSteps
+pub mod LoopFacts

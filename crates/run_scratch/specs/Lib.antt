@@ -1,5 +1,13 @@
+pub mod Words
+pub mod Status
+pub mod Faults
+pub mod Content
+pub mod Top
 pub mod World
 pub mod Run
 pub mod Sequence
+pub mod Statements
+pub mod Running
 pub mod Halts
+pub mod Outcome
 pub mod Parts

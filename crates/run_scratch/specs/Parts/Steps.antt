@@ -2,13 +2,22 @@
 use Rattle.std.specs.Prelude.{ℕ, ◌≡◌, ◌⊎◌, ◌≤◌, ◌-◌, ◌+◌, List, [], ◌∷◌, ◌++◌, length, map, Option, Some, None, IfOk, MatchResult, unwrap_or, option_map, slice_get, Result, Ok, Err}
 use Rattle.std.specs.List.{AllByRecursion}
 use Rattle.rs_value.specs.Outside.{Faulted, Keeps, Outside}
+use Rattle.rs_value.specs.declared.value.Value.{Value}
 use Rattle.rs_outside.specs.Files.{FilesTold}
 use Rattle.rs_outside.specs.declared.files.FetchFault.TheVariants.{Failed}
+use Rattle.rs_table.specs.Column.{Column}
+use Rattle.rs_table.specs.Reading.{◌>>=◌, table_of}
+use Rattle.rs_table.specs.Relation.{Relation}
+use Rattle.rs_rank.specs.Stable.{stable}
+use Rattle.rs_rank.specs.declared.scored_row.ScoredRow.{ScoredRow}
+use Rattle.rs_lines.specs.Row.{line_of}
 use Rattle.run_scratch.specs.declared.fault.Fault.{Fault}
 use Rattle.run_scratch.specs.declared.fault.Fault.TheVariants.{Memory, Read}
+use Rattle.run_scratch.specs.Content.{content_of}
 use Rattle.run_scratch.specs.Halts.{Did, Done, Halt, fault_of, fetched_more}
 use Rattle.run_scratch.specs.Run.{Event, Put, Run, finds_in}
 use Rattle.run_scratch.specs.Sequence.{Step}
+use Rattle.run_scratch.specs.Top.{or_table_fault, table_limit, top_table, score_at, scored_from}
 use Rattle.run_scratch.specs.World.{KeepsWorld, World}
 
 -- the answer of a call whose fault this is, if there is one; there may be no memory for what a fault tells
@@ -79,3 +88,35 @@ pub record FetchesFile {A : Type 0} (file : List ℕ) (result : Result A Fault) 
   pub does : (NotFetched result old new ⊎ FetchFails file result old new) ⊎ Fetched file (gives there) result old new
   pub keeps : Keeps old new
 
+-- the table of the file
+abbrev pub IsTopTable : List ℕ → List ℕ → Option (List ℕ) → Result Relation Fault → Type 0
+IsTopTable file column there result = result ≡ top_table file column there
+
+-- the table of the file, by these columns, or why there is none
+abbrev pub IsReadTable : List ℕ → List Column → Option (List ℕ) → Result Relation Fault → Type 0
+IsReadTable file columns there result = result ≡ (content_of table_limit file there >>= λ bytes. or_table_fault file (table_of columns bytes))
+
+-- the values of a row of this number
+abbrev pub row_in : Relation → ℕ → List Value
+row_in table row = unwrap_or (slice_get table.rows (row - 1)) []
+
+-- a row of this number is in the table
+pub record IsRow (table : Relation) (row : ℕ) : Type 0 where
+  pub some : 1 ≤ row
+  pub within : row ≤ length table.rows
+
+-- a row of this number is in the table, and this is its score by the number at a place
+pub record IsRanked (table : Relation) (place score row : ℕ) : Type 0 where
+  pub is_row : IsRow table row
+  pub scored : score ≡ score_at place (row_in table row)
+
+-- the lines of rows with their scores, from this rank on
+abbrev pub lines_of : Relation → ℕ → List ScoredRow → List (List ℕ)
+lines_of table rank [] = []
+lines_of table rank (r ∷ rest) = line_of rank r.score (row_in table r.row) ∷ lines_of table (rank + 1) rest
+
+-- the rows of a table with their scores, in the stable order
+pub record Ranks (table : Relation) (column : List ℕ) (max place : ℕ) (ranked : List ScoredRow) : Type 0 where
+  pub scored : scored_from column max place 1 table.rows ≡ Ok table.rows
+  pub ordered : map (λ r. row_in table r.row) ranked ≡ stable (score_at place) table.rows
+  pub each : AllByRecursion (λ r. IsRanked table place r.score r.row) ranked

@@ -23,13 +23,13 @@ returns-in-Ok-add_index g c = λ beside. Stepped-bound (index_step (g.S.Scorer.s
     (with_room c.args.catalog.now what.Index c.args.name.now (index_def_of c.args.catalog.now (command_of c.args.statement.now))) c.in-Ok.def c.add_index.new.self _
     (record beside { scorer = g.S.Scorer.state c.args.scorer.now }) (record beside { scorer = g.S.Scorer.state c.add_index.new.scorer }) c.in-Ok.ensures.gives
     (Index-made (g.S.Scorer.state c.args.scorer.now).answer c.args.catalog.now c.add_index.new.self c.in-Ok.def (record beside { scorer = g.S.Scorer.state c.args.scorer.now })
-    (g.S.Scorer.state c.add_index.new.scorer) c.in-Ok-add_index.ensures)
+    (g.S.Scorer.state c.add_index.new.scorer) c.in-Ok-add_index.ensures.makes)
 
 pub returns-in-Err-add_index : goal.returns-in-Err-add_index
 returns-in-Err-add_index g c = λ beside. Stepped-bound (index_step (g.S.Scorer.state c.args.scorer.now).answer c.args.catalog.now)
     (with_room c.args.catalog.now what.Index c.args.name.now (index_def_of c.args.catalog.now (command_of c.args.statement.now))) c.in-Ok.def c.add_index.new.self _
     (record beside { scorer = g.S.Scorer.state c.args.scorer.now }) (record beside { scorer = g.S.Scorer.state c.add_index.new.scorer }) c.in-Ok.ensures.gives
     (Index-unmade (g.S.Scorer.state c.args.scorer.now).answer c.args.catalog.now c.add_index.new.self c.in-Ok.def (record beside { scorer = g.S.Scorer.state c.args.scorer.now })
-    (g.S.Scorer.state c.add_index.new.scorer) c.in-Err-add_index.why _ c.in-Err-add_index.ensures
+    (g.S.Scorer.state c.add_index.new.scorer) c.in-Err-add_index.why _ c.in-Err-add_index.ensures.makes
     (c.index_fault.ensures ∙ ap (λ name. index_fault name c.in-Err-add_index.why) (c.in-Ok-copy.ensures
     ∙ name-for c.args.catalog.now c.in-Ok.def c.predicate.result.now c.name.result.now c.predicate.ensures c.name.ensures)))
