@@ -1,9 +1,0 @@
-pub mod RanFacts
-pub mod FetchFacts
-pub mod RunFacts
-pub mod LineFacts
-pub mod RowFacts
-pub mod SteppedFacts
-pub mod InquirySteps
-pub mod IndexSteps
-pub mod LoopFacts

@@ -1,7 +1,0 @@
-use Rattle.std.proofs.Common.{◌≡◌, take}
-use Rattle.run_scratch.specs.Parts.Steps.{row_in}
-use Rattle.run_scratch.proofs.top.row_values.Given as goal
-
--- the values so far are the first of the row
-abbrev pub invariant-loop-column : goal.invariant-loop-column
-invariant-loop-column l = l.values.items ≡ take l.column (row_in l.table l.row)
