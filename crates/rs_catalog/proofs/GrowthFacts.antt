@@ -12,6 +12,7 @@ use Rattle.rs_catalog.specs.Indexes.{IsRanking, predicate_for, rows_for}
 use Rattle.rs_catalog.specs.Inside.{IsInside, IsRanked, catalogue_of}
 use Rattle.rs_catalog.specs.declared.catalog.RankIndex.{RankIndex as StoredIndex}
 use Rattle.rs_catalog.specs.declared.index.IndexDef.{IndexDef}
+use Rattle.rs_catalog.proofs.DifferFacts.{NamesDiffer-put}
 use Rattle.rs_catalog.proofs.NameFacts.{IsFree, length-keys}
 use Rattle.rs_order.proofs.EachFacts.{each-push, each-weaker}
 use Rattle.rs_catalog.proofs.PlaceFacts.{slice_get-push}
@@ -65,6 +66,9 @@ module _ (tables : List (List ℕ × Relation)) (predicates : List (List ℕ × 
         few_tables = one_more tables (name, table) 16 inside.few_tables (λ same. free.not_full (length-keys tables ∙ same));
         few_predicates = inside.few_predicates;
         few_indexes = inside.few_indexes;
+        tables_differ = NamesDiffer-put tables name table inside.tables_differ free.new_name;
+        predicates_differ = inside.predicates_differ;
+        indexes_differ = inside.indexes_differ;
         predicate_keys = inside.predicate_keys;
         index_keys = inside.index_keys;
         ranked = each-weaker (IsRanked old) (IsRanked new) (IsRanked-grows old new grows) old.indexes inside.ranked;
@@ -90,6 +94,9 @@ module _ (tables : List (List ℕ × Relation)) (predicates : List (List ℕ × 
         few_tables = inside.few_tables;
         few_predicates = one_more predicates (predicate.name, predicate) 64 inside.few_predicates (λ same. free.not_full (length-keys predicates ∙ same));
         few_indexes = inside.few_indexes;
+        tables_differ = inside.tables_differ;
+        predicates_differ = NamesDiffer-put predicates predicate.name predicate inside.predicates_differ free.new_name;
+        indexes_differ = inside.indexes_differ;
         predicate_keys = map-append (λ e. e.0) predicates ((predicate.name, predicate) ∷ []) ∙ ap (λ names. names ++ predicate.name ∷ []) inside.predicate_keys
             ∙ sym (ap (map (λ p. p.name)) values ∙ map-append (λ p. p.name) old.predicates (predicate ∷ []));
         index_keys = inside.index_keys;
@@ -121,6 +128,9 @@ module _ (tables : List (List ℕ × Relation)) (predicates : List (List ℕ × 
         few_tables = inside.few_tables;
         few_predicates = inside.few_predicates;
         few_indexes = one_more indexes (stored.def.name, stored) 64 inside.few_indexes (λ same. free.not_full (length-keys indexes ∙ same));
+        tables_differ = inside.tables_differ;
+        predicates_differ = inside.predicates_differ;
+        indexes_differ = NamesDiffer-put indexes stored.def.name stored inside.indexes_differ free.new_name;
         predicate_keys = inside.predicate_keys;
         index_keys = map-append (λ e. e.0) indexes ((stored.def.name, stored) ∷ []) ∙ ap (λ names. names ++ stored.def.name ∷ []) inside.index_keys
             ∙ sym (ap (map (λ i. i.def.name)) grown ∙ map-append (λ i. i.def.name) old.indexes (last ∷ []));

@@ -1,5 +1,5 @@
 -- What the maps inside a catalogue say of it.
-use Rattle.std.proofs.Common.{◌≡◌, ℕ, List, [], length, Some, sym, ap, ◌∙◌, subst}
+use Rattle.std.proofs.Common.{◌≡◌, ℕ, ◌≤◌, List, [], length, Some, sym, ap, ◌∙◌, subst, arith}
 use Rattle.std.proofs.lemmas.Option.{slice_get-map}
 use Rattle.std.proofs.lemmas.Simd.{map-map}
 use Rattle.std.specs.Prelude.{position, option_map, unwrap_or, slice_get}
@@ -7,20 +7,33 @@ use Rattle.std.specs.Map.{keys_of, values_of}
 use Rattle.rs_rank.specs.declared.scored_row.ScoredRow.{ScoredRow}
 use Rattle.rs_table.specs.Relation.{Relation}
 use Rattle.rs_expr.specs.Predicates.{PredicateDef}
-use Rattle.rs_catalog.specs.Catalogue.{Catalogue, names_of}
+use Rattle.rs_catalog.specs.Catalogue.{Catalogue, most_of, names_of}
 use Rattle.rs_catalog.specs.Indexes.{IsEntry, index_of, is_for, predicate_for, ranking_at, rows_for}
-use Rattle.rs_catalog.specs.Inside.{IsInside, IsRanked, catalogue_of}
+use Rattle.rs_catalog.specs.Inside.{IsInside, IsRanked, NamesDiffer, catalogue_of}
 use Rattle.rs_catalog.specs.declared.catalog.RankIndex.{RankIndex as StoredIndex}
 use Rattle.rs_catalog.specs.declared.index.BoundArg.{BoundArg}
 use Rattle.rs_catalog.specs.declared.index.IndexDef.{IndexDef}
-use Rattle.rs_catalog.specs.declared.room.What.TheVariants.{Table}
+use Rattle.rs_catalog.specs.declared.room.What.{What}
+use Rattle.rs_catalog.specs.declared.room.What.TheVariants.{Table, Predicate, Index}
 use Rattle.rs_order.proofs.EachFacts.{each-slice_get}
+use Rattle.rs_catalog.proofs.NameFacts.{length-keys}
 use Rattle.rs_catalog.proofs.PlaceFacts.{position-map}
 
 module _ (tables : List (List ℕ × Relation)) (predicates : List (List ℕ × PredicateDef)) (indexes : List (List ℕ × StoredIndex)) where
   -- the keys of the tables are their names
   pub names_of_tables : names_of Table (catalogue_of tables predicates indexes) ≡ keys_of tables
   names_of_tables = map-map (λ t. t.name) (λ t. record { name = t.0; table = t.1 }) tables
+
+  -- no list has more names than it may, or two equal ones
+  pub names-few : IsInside tables predicates indexes → (what : What) → length (names_of what (catalogue_of tables predicates indexes)) ≤ most_of what
+  names-few inside Table = let few = inside.few_tables in omega (arith, few, ap length names_of_tables, length-keys tables)
+  names-few inside Predicate = let few = inside.few_predicates in omega (arith, few, ap length inside.predicate_keys, length-keys predicates)
+  names-few inside Index = let few = inside.few_indexes in omega (arith, few, ap length inside.index_keys, length-keys indexes)
+
+  pub names-differ : IsInside tables predicates indexes → (what : What) → NamesDiffer (names_of what (catalogue_of tables predicates indexes))
+  names-differ inside Table = subst NamesDiffer (sym names_of_tables) inside.tables_differ
+  names-differ inside Predicate = subst NamesDiffer inside.predicate_keys inside.predicates_differ
+  names-differ inside Index = subst NamesDiffer inside.index_keys inside.indexes_differ
 
   -- a table, and an index, at its place
   pub table_at : (n : ℕ) (table : Relation) → slice_get (values_of tables) n ≡ Some table → option_map (λ t. t.table) (slice_get (catalogue_of tables predicates indexes).tables n) ≡ Some table

@@ -1,4 +1,5 @@
 mod ArgumentFacts
+mod DifferFacts
 mod GrowthFacts
 mod InsideFacts
 mod MakeFacts

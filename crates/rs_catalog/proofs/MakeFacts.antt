@@ -13,8 +13,8 @@ use Rattle.rs_expr.proofs.ScoringFacts.{KeepsScorer-refl, KeepsScorer-then, Made
 use Rattle.rs_expr.proofs.InOrderFacts.{Begins, Ends-ok, Inquires-begun, Inquires-behind, Inquires-unheld, Made-requests, behind, one}
 use Rattle.rs_rank.specs.declared.scored_row.ScoredRow.{ScoredRow}
 use Rattle.rs_catalog.specs.Catalogue.{Catalogue, with_index}
-use Rattle.rs_catalog.specs.Indexes.{asked_rows, making, making_of, predicate_for, ranking_of, row_at, rows_for, scored_from}
-use Rattle.rs_catalog.specs.Making.{MakesIndex, score_for, scoring_row}
+use Rattle.rs_catalog.specs.Indexes.{args_in, asked_rows, making, making_of, predicate_for, ranking_of, request_for, row_at, rows_for, scored_from}
+use Rattle.rs_catalog.specs.Making.{MakesIndex, score_for, scoring_of, scoring_row}
 use Rattle.rs_catalog.specs.declared.index.BoundArg.{BoundArg}
 use Rattle.rs_catalog.specs.declared.index.IndexDef.{IndexDef}
 use Rattle.rs_catalog.specs.declared.index.IndexFault.{IndexFault}
@@ -31,7 +31,7 @@ module _ (answer : List Value → ℤ) (request : List Value → Request IndexFa
   scoring = record { requests = map request (asked_rows scored rows); outcome = scored }
 
   -- scoring the row at a place
-  abbrev pub scoring_at : ℕ → Inquiry ScoredRow IndexFault
+  abbrev scoring_at : ℕ → Inquiry ScoredRow IndexFault
   scoring_at i = one (request (row_at rows (i + 1))) (score_for max (i + 1) (answer (row_at rows (i + 1))))
 
   -- the first rows have these scores, and the others decide
@@ -134,7 +134,7 @@ module _ (answer : List Value → ℤ) (request : List Value → Request IndexFa
         }
 
   -- the next row gave a score
-  pub Between-more : (i : ℕ) (entries : List ScoredRow) (entry : ScoredRow) (old middle new : ScorerState) → i < length rows → Between i entries old middle
+  Between-more : (i : ℕ) (entries : List ScoredRow) (entry : ScoredRow) (old middle new : ScorerState) → i < length rows → Between i entries old middle
       → Inquires Memory (scoring_at i) (Ok entry) middle new → Between (i + 1) (entries ++ entry ∷ []) old new
   Between-more i entries entry old middle new within between inquires =
       let ends = Ends-ok Memory (scoring_at i) entry middle new inquires in
@@ -145,19 +145,15 @@ module _ (answer : List Value → ℤ) (request : List Value → Request IndexFa
         keeps = KeepsScorer-then old middle new between.keeps inquires.keeps;
       }
 
-  -- the same of scores that are kept so
-  pub Between-pushed : (i : ℕ) (entries kept : List ScoredRow) (old new : ScorerState) → kept ≡ entries → Between i entries old new → Between i kept old new
-  Between-pushed i entries kept old new same between = subst (λ e. Between i e old new) (sym same) between
-
   -- the next row gave a fault
-  pub Inquires-at : (i : ℕ) (entries : List ScoredRow) (fault : IndexFault) (old middle new : ScorerState) → i < length rows → Between i entries old middle
+  Inquires-at : (i : ℕ) (entries : List ScoredRow) (fault : IndexFault) (old middle new : ScorerState) → i < length rows → Between i entries old middle
       → Inquires Memory (scoring_at i) (Err fault) middle new → Inquires Memory scoring (Err fault) old new
   Inquires-at i entries fault old middle new within between inquires =
       Inquires-begun Memory (behind (map request (take i rows)) (scoring_at i)) scoring fault old new (Begins-at i entries within between.rest)
       (Inquires-behind Memory (map request (take i rows)) (scoring_at i) (Err fault) old middle new between.made between.keeps inquires)
 
   -- there was no memory to go on
-  pub Inquires-full : (i : ℕ) (entries : List ScoredRow) (old new : ScorerState) → i ≤ length rows → Between i entries old new → Inquires Memory scoring (Err Memory) old new
+  Inquires-full : (i : ℕ) (entries : List ScoredRow) (old new : ScorerState) → i ≤ length rows → Between i entries old new → Inquires Memory scoring (Err Memory) old new
   Inquires-full i entries old new within between =
       let later = left i entries within between.rest in
       record {
@@ -177,15 +173,43 @@ module _ (answer : List Value → ℤ) (request : List Value → Request IndexFa
         keeps = between.keeps;
       }
 
--- the same, where the answers are those of a scorer that answers alike
-pub Inquires-same : (answer other : Answering) (predicate : PredicateDef) (args : List BoundArg) (row : ℕ) (values : List Value) (result : Result ScoredRow IndexFault) (old new : ScorerState)
-    → other ≡ answer → Inquires Memory (scoring_row other predicate args row values) result old new → Inquires Memory (scoring_row answer predicate args row values) result old new
-Inquires-same answer other predicate args row values result old new same inquires = subst (λ a. Inquires Memory (scoring_row a predicate args row values) result old new) same inquires
+module _ (predicate : PredicateDef) (args : List BoundArg) (rows : List (List Value)) where
+  -- the first rows were asked for, and have these scores, by the answers of a scorer that was first as `old`
+  abbrev pub Scores : ℕ → List ScoredRow → ScorerState → ScorerState → Type 0
+  Scores i entries old new = Between (λ row. old.answer predicate (args_in args row)) (request_for predicate args) predicate.max rows i entries old new
+
+  -- the next row, by the answers of a scorer that answers alike
+  row-same : (i : ℕ) (entries : List ScoredRow) (result : Result ScoredRow IndexFault) (old middle new : ScorerState) → Scores i entries old middle
+      → Inquires Memory (scoring_row middle.answer predicate args (i + 1) (row_at rows (i + 1))) result middle new → Inquires Memory (scoring_row old.answer predicate args (i + 1) (row_at rows (i + 1))) result middle new
+  row-same i entries result old middle new scores inquires = subst (λ answer. Inquires Memory (scoring_row answer predicate args (i + 1) (row_at rows (i + 1))) result middle new) scores.keeps.answer inquires
+
+  -- it gave a score
+  pub Scores-more : (i : ℕ) (entries : List ScoredRow) (entry : ScoredRow) (old middle new : ScorerState) → i < length rows → Scores i entries old middle
+      → Inquires Memory (scoring_row middle.answer predicate args (i + 1) (row_at rows (i + 1))) (Ok entry) middle new → Scores (i + 1) (entries ++ entry ∷ []) old new
+  Scores-more i entries entry old middle new within scores inquires =
+      Between-more (λ row. old.answer predicate (args_in args row)) (request_for predicate args) predicate.max rows i entries entry old middle new within scores
+      (row-same i entries (Ok entry) old middle new scores inquires)
+
+  -- it gave a fault
+  pub Scores-err : (i : ℕ) (entries : List ScoredRow) (fault : IndexFault) (old middle new : ScorerState) → i < length rows → Scores i entries old middle
+      → Inquires Memory (scoring_row middle.answer predicate args (i + 1) (row_at rows (i + 1))) (Err fault) middle new → Inquires Memory (scoring_of old.answer predicate args rows) (Err fault) old new
+  Scores-err i entries fault old middle new within scores inquires =
+      Inquires-at (λ row. old.answer predicate (args_in args row)) (request_for predicate args) predicate.max rows i entries fault old middle new within scores
+      (row-same i entries (Err fault) old middle new scores inquires)
+
+  -- there was no memory for the rows with their scores
+  pub Scores-full : (i : ℕ) (entries : List ScoredRow) (old new : ScorerState) → i ≤ length rows → Scores i entries old new → Inquires Memory (scoring_of old.answer predicate args rows) (Err Memory) old new
+  Scores-full i entries old new within scores = Inquires-full (λ row. old.answer predicate (args_in args row)) (request_for predicate args) predicate.max rows i entries old new within scores
+
+  -- the same of scores that are kept so
+  pub Scores-kept : (i : ℕ) (entries kept : List ScoredRow) (old new : ScorerState) → kept ≡ entries → Scores i entries old new → Scores i kept old new
+  Scores-kept i entries kept old new same scores = subst (λ e. Scores i e old new) (sym same) scores
 
 -- a list that was pushed to with no error
-pub pushed : {T E A : Type 0} (result : Result T E) (more less : List A) (failed : Bool) → is_ok result ≡ not failed → failed ≡ false → (if is_ok result then more else less) ≡ more
-pushed (Ok done) more less failed e none = refl
-pushed (Err fault) more less failed e none = absurd (let other : false ≡ not false = e ∙ ap not none in cc)
+pub pushed : {T E : Type 0} (result : Result T E) (kept more less : List ScoredRow) (failed : Bool)
+    → kept ≡ (if is_ok result then more else less) → is_ok result ≡ not failed → failed ≡ false → kept ≡ more
+pushed (Ok done) kept more less failed is e none = is
+pushed (Err fault) kept more less failed is e none = absurd (let other : false ≡ not false = e ∙ ap not none in cc)
 
 -- the same calls, and the rows by score
 abbrev pub ranked : Inquiry (List ScoredRow) IndexFault → Inquiry (List ScoredRow) IndexFault

@@ -1,10 +1,10 @@
 -- What holds inside a catalogue: of the maps that hold its lists by name.
-use Rattle.std.specs.Prelude.{ℕ, ◌≡◌, ◌≤◌, List, length, map}
+use Rattle.std.specs.Prelude.{ℕ, ◌≡◌, ◌≤◌, false, List, [], ◌∷◌, length, map}
 use Rattle.std.specs.List.{AllByRecursion}
 use Rattle.std.specs.Map.{keys_of, values_of}
 use Rattle.rs_table.specs.Relation.{Relation}
 use Rattle.rs_expr.specs.Predicates.{PredicateDef}
-use Rattle.rs_catalog.specs.Catalogue.{Catalogue, RankIndex, names_of}
+use Rattle.rs_catalog.specs.Catalogue.{Catalogue, RankIndex, has_name, names_of}
 use Rattle.rs_catalog.specs.Indexes.{IsIndex, IsRanking, rows_for, predicate_for}
 use Rattle.rs_catalog.specs.declared.catalog.RankIndex.{RankIndex as StoredIndex}
 use Rattle.rs_catalog.specs.declared.room.What.TheVariants.{Predicate, Index}
@@ -22,11 +22,19 @@ pub record IsRanked (catalogue : Catalogue) (index : RankIndex) : Type 0 where
   pub fits : IsIndex catalogue index.def
   pub ranking : IsRanking (length (rows_for catalogue index.def)) (predicate_for catalogue index.def).max index.ranking
 
--- no list is over its limit, each entry's key is its name, and each index is one of the catalogue
+-- no two of these names are equal
+abbrev pub NamesDiffer : List (List ℕ) → Type 0
+NamesDiffer [] = Unit {0}
+NamesDiffer (name ∷ names) = (has_name name names ≡ false) × NamesDiffer names
+
+-- no list is over its limit or has two of one name, each entry's key is its name, and each index is one of the catalogue
 pub record IsInside (tables : List (List ℕ × Relation)) (predicates : List (List ℕ × PredicateDef)) (indexes : List (List ℕ × StoredIndex)) : Type 0 where
   pub few_tables : length tables ≤ 16
   pub few_predicates : length predicates ≤ 64
   pub few_indexes : length indexes ≤ 64
+  pub tables_differ : NamesDiffer (keys_of tables)
+  pub predicates_differ : NamesDiffer (keys_of predicates)
+  pub indexes_differ : NamesDiffer (keys_of indexes)
   pub predicate_keys : keys_of predicates ≡ names_of Predicate (catalogue_of tables predicates indexes)
   pub index_keys : keys_of indexes ≡ names_of Index (catalogue_of tables predicates indexes)
   pub ranked : AllByRecursion (IsRanked (catalogue_of tables predicates indexes)) (catalogue_of tables predicates indexes).indexes

@@ -1,8 +1,9 @@
-ghost use Rattle.std.specs.Prelude.{◌≡◌, ◌<◌, ◌≤◌, ◌-◌, ◌∷◌, [], ◌++◌, List, Ok, false, OnErr, OnOk, length, slice_get, Some, IfSome, option_map};
+ghost use Rattle.std.specs.Prelude.{◌≡◌, ℕ, ◌<◌, ◌≤◌, ◌-◌, ◌∷◌, [], ◌++◌, List, Ok, false, OnErr, OnOk, length, slice_get, Some, IfSome, option_map};
 ghost use Rattle.indexmap.specs.IndexMap.{index_map_len, keys};
-ghost use Rattle.rs_catalog.specs.Catalogue.{empty, has_name, names_of, number_in, number_of, room_for, room_in, with_predicate, with_table};
+ghost use Rattle.rs_catalog.specs.Catalogue.{empty, has_name, most_of, names_of, number_in, number_of, room_for, room_in, with_predicate, with_table};
 ghost use Rattle.rs_catalog.specs.Indexes.{IsEntry, IsIndex, IsRanking, index_of, making, predicate_for, ranking_at, rows_for};
 ghost use Rattle.rs_catalog.specs.Making.{MakesIndex};
+ghost use Rattle.rs_catalog.specs.declared.room.What.{What as Lists};
 ghost use Rattle.rs_catalog.specs.declared.room.What.TheVariants as what;
 
 use crate::index::{BoundArg, IndexDef, IndexFault};
@@ -173,6 +174,19 @@ impl Catalog {
             (ranking_at self.now number) }
     {
         &self.indexes[number as usize].def
+    }
+
+    /// What holds of each list of every catalogue: it isn't over its limit, and each name stands at one place of it, which
+    /// is its number. The function computes nothing; it is called for its contract.
+    pub fn names_differ(&self)
+        ensures few { (what : Lists) → length (names_of what self.now) ≤ most_of what }
+        ensures found { (what : Lists) (number : ℕ) (name : List ℕ) → slice_get (names_of what self.now) number ≡ Some name
+            → number_of what name self.now ≡ Some number }
+        ensures differ { (what : Lists) (first second : ℕ) (name : List ℕ) → slice_get (names_of what self.now) first ≡ Some name
+            → slice_get (names_of what self.now) second ≡ Some name → first ≡ second }
+    {
+        // What holds inside is known where a field is named.
+        let _ = &self.tables;
     }
 
     /// The number of the first index of this table and predicate and these arguments, where a column of FROM entry

@@ -6,3 +6,4 @@ pub mod EvalFacts
 pub mod WrittenFacts
 mod WorkedFormulas
 mod WorkedScorers
+mod WorkedInOrder

@@ -1,6 +1,7 @@
 -- The first item of which something is so, and the items up to it.
-use Rattle.std.proofs.Common.{◌≡◌, ◌∙◌, ◌++◌, Bool, true, false, List, [], ◌∷◌, refl, sym, ap, append-nil, if◌then◌else◌}
+use Rattle.std.proofs.Common.{◌≡◌, ◌∙◌, ◌++◌, Bool, true, false, List, [], ◌∷◌, refl, sym, ap, subst, append-nil, if◌then◌else◌}
 use Rattle.std.specs.Prelude.{Option, Some, None}
+use Rattle.std.specs.List.{AllByRecursion}
 use Rattle.rs_plain.specs.Plain.{first_of, through_first}
 
 module _ {A : Type 0} (is : A → Bool) where
@@ -46,13 +47,40 @@ module _ {A : Type 0} (is : A → Bool) where
     go true behind e = refl
     go false behind e = ap (λ rest. x ∷ rest) (behind e)
 
-  -- the items up to the first one begin with those
-  pub record Begins (xs ys : List A) : Type 0 where
+  -- the items up to the first one begin with those of the first items; where one of these is the first, there are no more
+  pub record Leads (xs ys : List A) : Type 0 where
     pub more : List A
     pub is_split : through_first is (xs ++ ys) ≡ through_first is xs ++ more
+    pub found : (x : A) → first_of is xs ≡ Some x → more ≡ []
+    pub behind : first_of is xs ≡ None → more ≡ through_first is ys
 
-  pub Begins-with : (xs ys : List A) → Begins xs ys
-  Begins-with xs ys = go (first_of is xs) refl where
-    go : (found : Option A) → first_of is xs ≡ found → Begins xs ys
-    go None e = record { more = through_first is ys; is_split = through-behind xs ys e ∙ ap (λ all. all ++ through_first is ys) (sym (through-all xs e)) }
-    go (Some x) e = record { more = []; is_split = through-found xs ys x e ∙ sym (append-nil (through_first is xs)) }
+  pub Leads-with : (xs ys : List A) → Leads xs ys
+  Leads-with xs ys = go (first_of is xs) refl where
+    go : (first : Option A) → first_of is xs ≡ first → Leads xs ys
+    go None e = record {
+      more = through_first is ys;
+      is_split = through-behind xs ys e ∙ ap (λ all. all ++ through_first is ys) (sym (through-all xs e));
+      found = λ x some. absurd (cc);
+      behind = λ none. refl;
+    }
+    go (Some x) e = record {
+      more = [];
+      is_split = through-found xs ys x e ∙ sym (append-nil (through_first is xs));
+      found = λ y some. refl;
+      behind = λ none. absurd (cc);
+    }
+
+  -- what holds of each item holds of the first one of which it is so, and of those up to it
+  pub each-first : (P : A → Type 0) (xs : List A) (found : A) → AllByRecursion P xs → first_of is xs ≡ Some found → P found
+  each-first P [] found h e = absurd (cc)
+  each-first P (x ∷ xs) found h e = go (is x) (each-first P xs found h.1) e where
+    go : (b : Bool) → (first_of is xs ≡ Some found → P found) → (if b then Some x else first_of is xs) ≡ Some found → P found
+    go true behind same = let here : x ≡ found = cc in subst P here h.0
+    go false behind same = behind same
+
+  pub each-through : (P : A → Type 0) (xs : List A) → AllByRecursion P xs → AllByRecursion P (through_first is xs)
+  each-through P [] h = tt
+  each-through P (x ∷ xs) h = (h.0, go (is x) (each-through P xs h.1)) where
+    go : (b : Bool) → AllByRecursion P (through_first is xs) → AllByRecursion P (if b then [] else through_first is xs)
+    go true behind = tt
+    go false behind = behind

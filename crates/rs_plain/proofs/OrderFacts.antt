@@ -18,12 +18,14 @@ use Rattle.rs_rank.specs.declared.ids.Ids.{Ids}
 use Rattle.rs_rank.specs.Keys.{ids_cmp, key_cmp}
 use Rattle.rs_rank.specs.Stable.{stable}
 use Rattle.rs_rank.proofs.SortedFacts.{ids_cmp-total, stable-by_score}
+use Rattle.rs_expr.specs.Scoring.{Answering}
 use Rattle.rs_catalog.specs.Catalogue.{Catalogue}
 use Rattle.rs_syntax.specs.declared.select.SetOp.{SetOp}
 use Rattle.rs_syntax.specs.declared.select.SetOp.TheVariants.{UnionAll, Union, Intersect, Except}
-use Rattle.rs_query.specs.Answers.{Answering, answer_of, base_of, cut, distinct_if, firsts, limit_of, occurs_in, row_of, rows_of, same_values, set_base}
-use Rattle.rs_query.specs.Combinations.{all_combinations}
-use Rattle.rs_query.specs.Tables.{all_entries, sizes_of}
+use Rattle.rs_query.specs.Answers.{answer_of, base_of, cut, distinct_if, firsts, limit_of, occurs_in, row_of, rows_of, same_values, set_base}
+use Rattle.rs_query.specs.Combinations.{combinations}
+use Rattle.rs_query.specs.Tables.{all_entries}
+use Rattle.rs_query.specs.Views.{View}
 use Rattle.rs_query.specs.declared.block.Block.{Block}
 use Rattle.rs_query.specs.declared.query.Query.{Query}
 use Rattle.rs_query.specs.declared.query.Query.TheVariants.{One, Set}
@@ -79,24 +81,24 @@ module _ (answer : Answering) (catalogue : Catalogue) where
   each-of block number [] = tt
   each-of block number (xs ∷ rows) = (refl, each-of block number rows)
 
-  abbrev all_rows : Block → ℕ → List Answer
-  all_rows block number = map (row block number) (all_combinations catalogue block)
+  abbrev rows_in : Block → ℕ → List ℕ → List Answer
+  rows_in block number sizes = map (row block number) (combinations catalogue block sizes (all_entries block))
 
-  Rise-all : (block : Block) (number : ℕ) → Rise (all_rows block number)
-  Rise-all block number =
-      Rise-rows block number (all_combinations catalogue block) (Climbs-combinations catalogue block (sizes_of catalogue block) (all_entries block))
+  Rise-all : (block : Block) (number : ℕ) (sizes : List ℕ) → Rise (rows_in block number sizes)
+  Rise-all block number sizes =
+      Rise-rows block number (combinations catalogue block sizes (all_entries block)) (Climbs-combinations catalogue block sizes (all_entries block))
 
-  Rise-base : (number : ℕ) (block : Block) → Rise (base_of answer catalogue number block)
-  Rise-base number block = go block.distinct where
-    go : (distinct : Bool) → Rise (distinct_if distinct (all_rows block number))
-    go true = Rise-firsts (all_rows block number) (Rise-all block number)
-    go false = Rise-all block number
+  Rise-base : (number : ℕ) (block : Block) (sizes : List ℕ) → Rise (base_of answer catalogue number block sizes)
+  Rise-base number block sizes = go block.distinct where
+    go : (distinct : Bool) → Rise (distinct_if distinct (rows_in block number sizes))
+    go true = Rise-firsts (rows_in block number sizes) (Rise-all block number sizes)
+    go false = Rise-all block number sizes
 
-  base-of : (number : ℕ) (block : Block) → AllByRecursion (IsOf number) (base_of answer catalogue number block)
-  base-of number block = go block.distinct where
-    go : (distinct : Bool) → AllByRecursion (IsOf number) (distinct_if distinct (all_rows block number))
-    go true = each-firsts (IsOf number) (all_rows block number) (each-of block number (all_combinations catalogue block))
-    go false = each-of block number (all_combinations catalogue block)
+  base-of : (number : ℕ) (block : Block) (sizes : List ℕ) → AllByRecursion (IsOf number) (base_of answer catalogue number block sizes)
+  base-of number block sizes = go block.distinct where
+    go : (distinct : Bool) → AllByRecursion (IsOf number) (distinct_if distinct (rows_in block number sizes))
+    go true = each-firsts (IsOf number) (rows_in block number sizes) (each-of block number (combinations catalogue block sizes (all_entries block)))
+    go false = each-of block number (combinations catalogue block sizes (all_entries block))
 
   -- each row of the left block comes before each row of the right one
   left-before : (v w : Answer) → v.ids.block ≡ 1 → w.ids.block ≡ 2 → Precedes ids_cmp ids_of v w
@@ -104,25 +106,30 @@ module _ (answer : Answering) (catalogue : Catalogue) where
       ap (λ b. ordering_then (nat_cmp b w.ids.block) (slice_cmp nat_cmp v.ids.rows w.ids.rows)) first
       ∙ ap (λ b. ordering_then (nat_cmp 1 b) (slice_cmp nat_cmp v.ids.rows w.ids.rows)) second
 
-  Rise-both : (left right : Block) → Rise (base_of answer catalogue 1 left ++ base_of answer catalogue 2 right)
-  Rise-both left right =
-      Climbs-append ids_cmp ids_of (base_of answer catalogue 1 left) (base_of answer catalogue 2 right) (Rise-base 1 left) (Rise-base 2 right)
-      (λ v w h k. left-before v w (AllByRecursion-In (IsOf 1) (base_of answer catalogue 1 left) (base-of 1 left) v h)
-      (AllByRecursion-In (IsOf 2) (base_of answer catalogue 2 right) (base-of 2 right) w k))
+  module _ (left right : Block) (view : View) where
+    abbrev lefts : List Answer
+    lefts = base_of answer catalogue 1 left view.first
 
-  Rise-set : (op : SetOp) (left right : Block) → Rise (set_base op (base_of answer catalogue 1 left) (base_of answer catalogue 2 right))
-  Rise-set UnionAll left right = Rise-both left right
-  Rise-set Union left right = Rise-firsts (base_of answer catalogue 1 left ++ base_of answer catalogue 2 right) (Rise-both left right)
-  Rise-set Intersect left right =
-      Rise-firsts (filter (occurs_in (base_of answer catalogue 2 right)) (base_of answer catalogue 1 left))
-      (Climbs-filter ids_cmp ids_of (occurs_in (base_of answer catalogue 2 right)) (base_of answer catalogue 1 left) (Rise-base 1 left))
-  Rise-set Except left right =
-      Rise-firsts (filter (λ r. not (occurs_in (base_of answer catalogue 2 right) r)) (base_of answer catalogue 1 left))
-      (Climbs-filter ids_cmp ids_of (λ r. not (occurs_in (base_of answer catalogue 2 right) r)) (base_of answer catalogue 1 left) (Rise-base 1 left))
+    abbrev rights : List Answer
+    rights = base_of answer catalogue 2 right view.second
 
-  pub Rise-query : (query : Query) → Rise (rows_of answer catalogue query)
-  Rise-query (One block limit) = Rise-base 1 block
-  Rise-query (Set op left right limit) = Rise-set op left right
+    Rise-both : Rise (lefts ++ rights)
+    Rise-both =
+        Climbs-append ids_cmp ids_of lefts rights (Rise-base 1 left view.first) (Rise-base 2 right view.second)
+        (λ v w h k. left-before v w (AllByRecursion-In (IsOf 1) lefts (base-of 1 left view.first) v h)
+        (AllByRecursion-In (IsOf 2) rights (base-of 2 right view.second) w k))
+
+    Rise-set : (op : SetOp) → Rise (set_base op lefts rights)
+    Rise-set UnionAll = Rise-both
+    Rise-set Union = Rise-firsts (lefts ++ rights) Rise-both
+    Rise-set Intersect = Rise-firsts (filter (occurs_in rights) lefts) (Climbs-filter ids_cmp ids_of (occurs_in rights) lefts (Rise-base 1 left view.first))
+    Rise-set Except =
+        Rise-firsts (filter (λ r. not (occurs_in rights r)) lefts)
+        (Climbs-filter ids_cmp ids_of (λ r. not (occurs_in rights r)) lefts (Rise-base 1 left view.first))
+
+  pub Rise-query : (query : Query) (view : View) → Rise (rows_of answer catalogue query view)
+  Rise-query (One block limit) view = Rise-base 1 block view.first
+  Rise-query (Set op left right limit) view = Rise-set left right view op
 
 -- the order by scores and then ids
 abbrev answer_cmp : Answer → Answer → Ordering
@@ -164,7 +171,7 @@ Climbs-stable rows h =
     keyed (stable (λ (r : Answer). r.score) rows) (subst (λ ordered. Climbs answer_cmp (λ (x : Answer). x) ordered) (sym (by_score ∙ by_ids))
     (Climbs-sorted answer_cmp answer_cmp-total (λ (x : Answer). x) rows (distinct rows h)))
 
-pub Climbs-answer : (answer : Answering) (catalogue : Catalogue) (query : Query) → Climbs key_cmp key_of (answer_of answer catalogue query)
-Climbs-answer answer catalogue query =
-    Climbs-cut (limit_of query) (stable (λ (r : Answer). r.score) (rows_of answer catalogue query))
-    (Climbs-stable (rows_of answer catalogue query) (Rise-query answer catalogue query))
+pub Climbs-answer : (answer : Answering) (catalogue : Catalogue) (query : Query) (view : View) → Climbs key_cmp key_of (answer_of answer catalogue query view)
+Climbs-answer answer catalogue query view =
+    Climbs-cut (limit_of query) (stable (λ (r : Answer). r.score) (rows_of answer catalogue query view))
+    (Climbs-stable (rows_of answer catalogue query view) (Rise-query answer catalogue query view))

@@ -1,191 +1,190 @@
 -- Evaluations, one after another, are one.
-use Rattle.std.proofs.Common.{ℕ, ◌≡◌, ◌∙◌, ◌≤◌, ◌++◌, Bool, List, [], ◌∷◌, map, refl, sym, ap, subst, inl, inr, append_assoc, append-nil}
-use Rattle.std.specs.Prelude.{Option, Some, None, Result, Ok, Err}
+use Rattle.std.proofs.Common.{◌≡◌, ◌∙◌, ◌++◌, Bool, List, [], ◌∷◌, map, refl, sym, ap, subst, inl, inr, append_assoc, append-nil}
+use Rattle.std.specs.Prelude.{Option, Some, None, Result, Ok, Err, IsOk}
 use Rattle.std.specs.Result.{IsErr, IsErrAnd}
 use Rattle.std.specs.declared.alloc.Global.{Global}
 use Rattle.std.specs.declared.vec.Vec.{Vec}
 use Rattle.std.proofs.lemmas.List.{map-append}
-use Rattle.rs_expr.specs.Scoring.{Asks, ScorerSeen}
-use Rattle.rs_expr.specs.declared.scorer.Call.{Call}
-use Rattle.rs_expr.proofs.ScoringFacts.{Asks-append, Asks-none, ScorerFaulted-from}
-use Rattle.rs_catalog.specs.Catalogue.{Catalogue}
 use Rattle.rs_rank.specs.declared.answer.Answer.{Answer}
-use Rattle.rs_query.specs.Answers.{Answering, answer_of}
-use Rattle.rs_query.specs.declared.query.Query.{Query}
-use Rattle.rs_plain.specs.Asking.{evaluating, outcome_for, seen}
-use Rattle.rs_plain.specs.Evaluating.{Evaluates, items_of}
-use Rattle.rs_plain.specs.Plain.{Question, bad_score, call_for, evaluation_of, first_of, is_bad, questions_of, through_first}
+use Rattle.rs_expr.specs.InOrder.{Inquires, Request, calls_of}
+use Rattle.rs_expr.specs.Scoring.{Answering, KeepsScorer, Made, ScorerState}
+use Rattle.rs_expr.specs.declared.scorer.Call.{Call}
+use Rattle.rs_expr.proofs.InOrderFacts.{Begins, Ends-ok, Inquires-begun, Inquires-behind, behind, calls_of-append}
+use Rattle.rs_expr.proofs.ScoringFacts.{KeepsScorer-refl, KeepsScorer-then, Made-append, Made-none}
+use Rattle.rs_catalog.specs.Catalogue.{Catalogue}
+use Rattle.rs_plain.specs.Plain.{Question, bad_score, evaluating, first_of, is_bad, outcome_for, request_for, through_first}
+use Rattle.rs_plain.specs.Results.{items_of}
 use Rattle.rs_plain.specs.declared.fault.PlainFault.{PlainFault}
 use Rattle.rs_plain.specs.declared.fault.PlainFault.TheVariants.{Memory}
-use Rattle.rs_plain.proofs.ListFacts.{Begins-with, first-behind, first-found, through-all, through-behind, through-found}
+use Rattle.rs_plain.proofs.ListFacts.{Leads-with, first-behind, first-found, through-all, through-behind}
 
 module _ (answer : Answering) (catalogue : Catalogue) where
-  abbrev bad : Question → Bool
-  bad = is_bad answer catalogue
+  abbrev no_score : Question → Bool
+  no_score = is_bad answer catalogue
 
-  abbrev call : Question → Call
-  call = call_for catalogue
+  abbrev request : Question → Request PlainFault
+  request = request_for catalogue
+
+  -- the calls of questions
+  abbrev pub asking : List Question → List Call
+  asking questions = calls_of (map (request_for catalogue) questions)
+
+  asking-append : (first more : List Question) → asking (first ++ more) ≡ asking first ++ asking more
+  asking-append first more = ap (λ requests. calls_of requests) (map-append request first more) ∙ calls_of-append (map request first) (map request more)
 
   -- these questions were asked, and no answer was bad
-  pub record Asked (questions : List Question) (scorer : ScorerSeen) : Type 0 where
+  pub record Asked (questions : List Question) (old new : ScorerState) : Type 0 where
     pub good : first_of (is_bad answer catalogue) questions ≡ None
-    pub calls : Asks (map (call_for catalogue) questions) scorer
+    pub made : Made (asking questions) old new
+    pub keeps : KeepsScorer old new
 
-  pub Asked-none : (told : Option (List Call)) (count faults : ℕ) → Asked [] (seen told told count count faults faults)
-  Asked-none told count faults = record { good = refl; calls = Asks-none told count faults faults }
+  pub Asked-none : (scorer : ScorerState) → Asked [] scorer scorer
+  Asked-none scorer = record { good = refl; made = Made-none scorer; keeps = KeepsScorer-refl scorer }
 
-  pub Asked-more : (first more : List Question) (before middle after : Option (List Call)) (count_before count_middle count_after faults_before faults_middle faults_after : ℕ)
-      → Asked first (seen before middle count_before count_middle faults_before faults_middle) → Asked more (seen middle after count_middle count_after faults_middle faults_after)
-      → Asked (first ++ more) (seen before after count_before count_after faults_before faults_after)
-  Asked-more first more before middle after count_before count_middle count_after faults_before faults_middle faults_after one two = record {
-    good = first-behind bad first more one.good ∙ two.good;
-    calls = subst (λ calls. Asks calls (seen before after count_before count_after faults_before faults_after)) (sym (map-append call first more))
-        (Asks-append (map call first) (map call more) before middle after count_before count_middle count_after faults_before faults_middle faults_after one.calls two.calls);
+  pub Asked-more : (first more : List Question) (old middle new : ScorerState) → Asked first old middle → Asked more middle new → Asked (first ++ more) old new
+  Asked-more first more old middle new one two = record {
+    good = first-behind no_score first more one.good ∙ two.good;
+    made = subst (λ calls. Made calls old new) (sym (asking-append first more)) (Made-append (asking first) (asking more) old middle new one.made two.made);
+    keeps = KeepsScorer-then old middle new one.keeps two.keeps;
   }
 
   module _ {A : Type 0} where
     -- an evaluation that gave a value asked all its questions, and none had a bad answer
-    pub record Gave (questions : List Question) (value given : A) (scorer : ScorerSeen) : Type 0 where
-      pub asked : Asked questions scorer
+    pub record Gave (questions : List Question) (value given : A) (old new : ScorerState) : Type 0 where
+      pub asked : Asked questions old new
       pub is_value : given ≡ value
 
-    Gave-ended : (questions : List Question) (value given : A) (scorer : ScorerSeen) (first : Option Question) → first_of bad questions ≡ first
-        → Asks (map call (through_first bad questions)) scorer → Ok given ≡ outcome_for answer catalogue first value → Gave questions value given scorer
-    Gave-ended questions value given scorer None good calls e =
-        record { asked = record { good = good; calls = subst (λ asked. Asks (map call asked) scorer) (through-all bad questions good) calls }; is_value = cc }
-    Gave-ended questions value given scorer (Some q) found calls e = absurd (cc)
+    Gave-ended : (questions : List Question) (value given : A) (old new : ScorerState) (first : Option Question) → first_of no_score questions ≡ first
+        → Made (asking (through_first no_score questions)) old new → KeepsScorer old new → Ok given ≡ outcome_for answer catalogue first value → Gave questions value given old new
+    Gave-ended questions value given old new None good made keeps e = record {
+      asked = record { good = good; made = subst (λ all. Made (asking all) old new) (through-all no_score questions good) made; keeps = keeps };
+      is_value = cc;
+    }
+    Gave-ended questions value given old new (Some q) found made keeps e = absurd (cc)
 
-    pub Gave-ok : (questions : List Question) (value given : A) (scorer : ScorerSeen) (steady : Type 0)
-        → Evaluates catalogue (evaluating answer catalogue questions value) (Ok given) scorer steady → Gave questions value given scorer
-    Gave-ok questions value given scorer steady (inl (inl ends)) = Gave-ended questions value given scorer (first_of bad questions) refl ends.asked ends.answers
-    Gave-ok questions value given scorer steady (inl (inr fails)) = absurd (let e = fails.probe in cc)
-    Gave-ok questions value given scorer steady (inr stops) = absurd (let e = stops.memory in cc)
+    pub Gave-ok : (questions : List Question) (value given : A) (old new : ScorerState)
+        → Inquires Memory (evaluating answer catalogue questions value) (Ok given) old new → Gave questions value given old new
+    Gave-ok questions value given old new inquired =
+        let ends = Ends-ok Memory (evaluating answer catalogue questions value) given old new inquired in
+        Gave-ended questions value given old new (first_of no_score questions) refl ends.made inquired.keeps ends.gives
+
+    -- where no answer is bad there is a value
+    good-end : (all : List Question) (value : A) → first_of no_score all ≡ None → IsOk (outcome_for answer catalogue (first_of no_score all) value)
+    good-end all value none = subst (λ first. IsOk (outcome_for answer catalogue first value)) (sym none) refl
+
+    end-good : (value : A) (first : Option Question) → IsOk (outcome_for answer catalogue first value) → first ≡ None
+    end-good value None ok = refl
+    end-good value (Some q) ok = absurd (cc)
 
     -- all questions were asked, and this is the value
-    pub Ends-asked : (questions : List Question) (value : A) (scorer : ScorerSeen) (steady : Type 0) → Asked questions scorer
-        → Evaluates catalogue (evaluating answer catalogue questions value) (Ok value) scorer steady
-    Ends-asked questions value scorer steady asked = inl (inl (record {
-      asked = subst (λ all. Asks (map call all) scorer) (sym (through-all bad questions asked.good)) asked.calls;
-      answers = ap (λ first. outcome_for answer catalogue first value) (sym asked.good);
-    }))
+    pub Inquires-asked : (questions : List Question) (value : A) (old new : ScorerState) → Asked questions old new
+        → Inquires Memory (evaluating answer catalogue questions value) (Ok value) old new
+    Inquires-asked questions value old new asked = record {
+      comes = inl (inl (record {
+        made = subst (λ all. Made (asking all) old new) (sym (through-all no_score questions asked.good)) asked.made;
+        gives = ap (λ first. outcome_for answer catalogue first value) (sym asked.good);
+      }));
+      keeps = asked.keeps;
+    }
 
-    -- there was no memory behind the first questions
-    pub Stops-asked : (done rest all : List Question) (value : A) (scorer : ScorerSeen) (steady : Type 0) → all ≡ done ++ rest → Asked done scorer
-        → Evaluates catalogue (evaluating answer catalogue all value) (Err Memory) scorer steady
-    Stops-asked done rest all value scorer steady is asked = inr (record {
-      done = map call done;
-      rest = map call (through_first bad rest);
-      split = ap (λ questions. map call (through_first bad questions)) is ∙ ap (map call) (through-behind bad done rest asked.good) ∙ map-append call done (through_first bad rest);
-      asked = asked.calls;
-      memory = refl;
-    })
+  -- where no question is left, no answer was bad
+  none-left : (done rest all : List Question) → all ≡ done ++ rest → first_of no_score done ≡ None → map request (through_first no_score rest) ≡ [] → first_of no_score all ≡ None
+  none-left done [] all is good e = ap (first_of no_score) is ∙ first-behind no_score done [] good
+  none-left done (q ∷ rest) all is good e = absurd (cc)
 
-  -- the calls of some questions are among those of more
-  calls-split : (done next rest all : List Question) → all ≡ done ++ (next ++ rest) → first_of bad done ≡ None
-      → (more : List Call) × (map call (through_first bad all) ≡ map call done ++ (map call (through_first bad next) ++ more))
-  calls-split done next rest all is good =
-      let begins = Begins-with bad next rest in (
-        map call begins.more,
-        ap (λ questions. map call (through_first bad questions)) is ∙ ap (map call) (through-behind bad done (next ++ rest) good)
-            ∙ map-append call done (through_first bad (next ++ rest)) ∙ ap (λ more. map call done ++ more) (ap (map call) begins.is_split ∙ map-append call (through_first bad next) begins.more),
-      )
+  -- there was no memory behind the first questions
+  pub Inquires-stopped : {A : Type 0} (done rest all : List Question) (value : A) (old new : ScorerState) → all ≡ done ++ rest → Asked done old new
+      → Inquires Memory (evaluating answer catalogue all value) (Err Memory) old new
+  Inquires-stopped done rest all value old new is asked = record {
+    comes = inr (record {
+      done = map request done;
+      rest = map request (through_first no_score rest);
+      split = ap (λ questions. map request (through_first no_score questions)) is ∙ ap (map request) (through-behind no_score done rest asked.good)
+          ∙ map-append request done (through_first no_score rest);
+      good = λ e. good-end all value (none-left done rest all is asked.good e);
+      made = asked.made;
+      gives = refl;
+    });
+    keeps = asked.keeps;
+  }
 
-  module _ {A B : Type 0} where
-    -- a bad answer behind others
-    Ends-bad : (done next rest all : List Question) (value : A) (whole : B) (fault : PlainFault) (found : Option Question)
-        → all ≡ done ++ (next ++ rest) → first_of bad done ≡ None → first_of bad next ≡ found → Err fault ≡ outcome_for answer catalogue found value
-        → (Err fault ≡ outcome_for answer catalogue (first_of bad all) whole) × (map call (through_first bad all) ≡ map call done ++ map call (through_first bad next))
-    Ends-bad done next rest all value whole fault None is good first e = absurd (cc)
-    Ends-bad done next rest all value whole fault (Some q) is good first e =
-        let found : first_of bad all ≡ Some q = ap (first_of bad) is ∙ first-behind bad done (next ++ rest) good ∙ first-found bad next rest q first in
-        let same : fault ≡ bad_score answer catalogue q = cc in (
-          ap Err same ∙ ap (λ f. outcome_for answer catalogue f whole) (sym found),
-          ap (λ questions. map call (through_first bad questions)) is ∙ ap (map call) (through-behind bad done (next ++ rest) good)
-              ∙ map-append call done (through_first bad (next ++ rest)) ∙ ap (λ more. map call done ++ map call more) (through-found bad next rest q first),
-        )
+  -- where an answer is bad, it is so for all questions
+  bad-end : {A B : Type 0} (done next rest all : List Question) (value : A) (whole : B) (fault : PlainFault) (more : List Question) (found : Option Question)
+      → all ≡ done ++ (next ++ rest) → first_of no_score done ≡ None → ((q : Question) → first_of no_score next ≡ Some q → more ≡ []) → first_of no_score next ≡ found
+      → outcome_for answer catalogue found value ≡ Err fault → (map request more ≡ []) × (outcome_for answer catalogue (first_of no_score all) whole ≡ Err fault)
+  bad-end done next rest all value whole fault more None is good no_more first e = absurd (cc)
+  bad-end done next rest all value whole fault more (Some q) is good no_more first e = (
+    ap (map request) (no_more q first),
+    (let found : first_of no_score all ≡ Some q = ap (first_of no_score) is ∙ first-behind no_score done (next ++ rest) good ∙ first-found no_score next rest q first in
+        let same : bad_score answer catalogue q ≡ fault = cc in
+        ap (λ f. outcome_for answer catalogue f whole) found ∙ ap Err same),
+  )
 
-    -- a fault of an evaluation behind others is one of the whole
-    pub Evaluates-fault : (done next rest all : List Question) (value : A) (whole : B) (fault : PlainFault)
-        (before middle after : Option (List Call)) (count_before count_middle count_after faults_before faults_middle faults_after : ℕ) (steady steady_middle : Type 0)
-        → all ≡ done ++ (next ++ rest) → Asked done (seen before middle count_before count_middle faults_before faults_middle)
-        → faults_before ≤ faults_middle → (steady → steady_middle)
-        → Evaluates catalogue (evaluating answer catalogue next value) (Err fault) (seen middle after count_middle count_after faults_middle faults_after) steady_middle
-        → Evaluates catalogue (evaluating answer catalogue all whole) (Err fault) (seen before after count_before count_after faults_before faults_after) steady
-    Evaluates-fault done next rest all value whole fault before middle after count_before count_middle count_after faults_before faults_middle faults_after steady steady_middle is asked le stays (inl (inl ends)) =
-        let bad_end = Ends-bad done next rest all value whole fault (first_of bad next) is asked.good refl ends.answers in
-        inl (inl (record {
-          asked = subst (λ calls. Asks calls (seen before after count_before count_after faults_before faults_after)) (sym bad_end.1)
-              (Asks-append _ _ before middle after count_before count_middle count_after faults_before faults_middle faults_after asked.calls ends.asked);
-          answers = bad_end.0;
-        }))
-    Evaluates-fault done next rest all value whole fault before middle after count_before count_middle count_after faults_before faults_middle faults_after steady steady_middle is asked le stays (inl (inr fails)) =
-        let more = calls-split done next rest all is asked.good in
-        inl (inr (record {
-          done = map call done ++ fails.done;
-          failed = fails.failed;
-          rest = fails.rest ++ more.0;
-          split = more.1 ∙ ap (λ calls. map call done ++ (calls ++ more.0)) fails.split
-              ∙ ap (λ calls. map call done ++ calls) (append_assoc fails.done (fails.failed ∷ fails.rest) more.0)
-              ∙ sym (append_assoc (map call done) fails.done (fails.failed ∷ (fails.rest ++ more.0)));
-          asked = subst (λ calls. Asks calls (seen before after count_before count_after faults_before faults_after)) (sym (append_assoc (map call done) fails.done (fails.failed ∷ [])))
-              (Asks-append _ _ before middle after count_before count_middle count_after faults_before faults_middle faults_after asked.calls fails.asked);
-          faulted = ScorerFaulted-from _ _ _ _ _ _ _ _ _ _ _ le stays fails.faulted;
-          predicate = fails.predicate;
-          named = fails.named;
-          probe = let e = fails.probe in cc;
-        }))
-    Evaluates-fault done next rest all value whole fault before middle after count_before count_middle count_after faults_before faults_middle faults_after steady steady_middle is asked le stays (inr stops) =
-        let more = calls-split done next rest all is asked.good in
-        inr (record {
-          done = map call done ++ stops.done;
-          rest = stops.rest ++ more.0;
-          split = more.1 ∙ ap (λ calls. map call done ++ (calls ++ more.0)) stops.split
-              ∙ ap (λ calls. map call done ++ calls) (append_assoc stops.done stops.rest more.0)
-              ∙ sym (append_assoc (map call done) stops.done (stops.rest ++ more.0));
-          asked = Asks-append _ _ before middle after count_before count_middle count_after faults_before faults_middle faults_after asked.calls stops.asked;
-          memory = let e = stops.memory in cc;
-        })
+  -- questions behind others that had no bad answer are the beginning of all
+  Begins-behind : {A B : Type 0} (done next rest all : List Question) (value : A) (whole : B) → all ≡ done ++ (next ++ rest) → first_of no_score done ≡ None
+      → Begins (behind (map request done) (evaluating answer catalogue next value)) (evaluating answer catalogue all whole)
+  Begins-behind done next rest all value whole is good =
+      let leads = Leads-with no_score next rest in record {
+        more = map request leads.more;
+        split = ap (λ questions. map request (through_first no_score questions)) is ∙ ap (map request) (through-behind no_score done (next ++ rest) good)
+            ∙ map-append request done (through_first no_score (next ++ rest))
+            ∙ ap (λ more. map request done ++ more) (ap (map request) leads.is_split ∙ map-append request (through_first no_score next) leads.more)
+            ∙ sym (append_assoc (map request done) (map request (through_first no_score next)) (map request leads.more));
+        bad = λ fault e. bad-end done next rest all value whole fault leads.more (first_of no_score next) is good leads.found refl e;
+        good = λ ok nil.
+            let none = end-good value (first_of no_score next) ok in
+            good-end all whole (ap (first_of no_score) is ∙ first-behind no_score done (next ++ rest) good
+            ∙ none-left next rest (next ++ rest) refl none (ap (map request) (sym (leads.behind none)) ∙ nil));
+      }
 
-module _ {A B : Type 0} (answer other : Answering) (catalogue : Catalogue) where
-  -- the same, where the evaluation behind others is by answers that are alike
-  pub Evaluates-behind : (done next rest all : List Question) (value : Answering → A) (whole : B) (fault : PlainFault) (result : Result B PlainFault)
-      (before middle after : Option (List Call)) (count_before count_middle count_after faults_before faults_middle faults_after : ℕ) (steady steady_middle : Type 0)
-      → other ≡ answer → all ≡ done ++ (next ++ rest) → result ≡ Err fault → Asked answer catalogue done (seen before middle count_before count_middle faults_before faults_middle)
-      → faults_before ≤ faults_middle → (steady → steady_middle)
-      → Evaluates catalogue (evaluating other catalogue next (value other)) (Err fault) (seen middle after count_middle count_after faults_middle faults_after) steady_middle
-      → Evaluates catalogue (evaluating answer catalogue all whole) result (seen before after count_before count_after faults_before faults_after) steady
-  Evaluates-behind done next rest all value whole fault result before middle after count_before count_middle count_after faults_before faults_middle faults_after steady steady_middle same is is_err asked le stays ran =
-      subst (λ r. Evaluates catalogue (evaluating answer catalogue all whole) r (seen before after count_before count_after faults_before faults_after) steady) (sym is_err)
-      (Evaluates-fault answer catalogue done next rest all (value answer) whole fault before middle after count_before count_middle count_after faults_before faults_middle faults_after steady steady_middle is asked le stays
-      (subst (λ a. Evaluates catalogue (evaluating a catalogue next (value a)) (Err fault) (seen middle after count_middle count_after faults_middle faults_after) steady_middle) same ran))
+  -- a fault of an evaluation behind others is one of the whole
+  Inquires-fault : {A B : Type 0} (done next rest all : List Question) (value : A) (whole : B) (fault : PlainFault) (old middle new : ScorerState)
+      → all ≡ done ++ (next ++ rest) → Asked done old middle → Inquires Memory (evaluating answer catalogue next value) (Err fault) middle new
+      → Inquires Memory (evaluating answer catalogue all whole) (Err fault) old new
+  Inquires-fault done next rest all value whole fault old middle new is asked inquired =
+      Inquires-begun Memory (behind (map request done) (evaluating answer catalogue next value)) (evaluating answer catalogue all whole) fault old new
+      (Begins-behind done next rest all value whole is asked.good)
+      (Inquires-behind Memory (map request done) (evaluating answer catalogue next value) (Err fault) old middle new asked.made asked.keeps inquired)
 
-module _ {A : Type 0} (answer other : Answering) (catalogue : Catalogue) where
-  pub Gave-alike : (questions : List Question) (value : Answering → A) (given : A) (scorer : ScorerSeen) (steady : Type 0) → other ≡ answer
-      → Evaluates catalogue (evaluating other catalogue questions (value other)) (Ok given) scorer steady → Gave answer catalogue questions (value answer) given scorer
-  Gave-alike questions value given scorer steady same ran =
-      Gave-ok answer catalogue questions (value answer) given scorer steady
-      (subst (λ a. Evaluates catalogue (evaluating a catalogue questions (value a)) (Ok given) scorer steady) same ran)
+module _ (catalogue : Catalogue) {A B : Type 0} where
+  -- the same by the scorer's answers, which stay
+  pub Failed-behind : (done next rest all : List Question) (value : Answering → A) (whole : B) (fault : PlainFault) (result : Result B PlainFault)
+      (old middle new : ScorerState) → all ≡ done ++ (next ++ rest) → result ≡ Err fault → Asked old.answer catalogue done old middle
+      → Inquires Memory (evaluating middle.answer catalogue next (value middle.answer)) (Err fault) middle new
+      → Inquires Memory (evaluating old.answer catalogue all whole) result old new
+  Failed-behind done next rest all value whole fault result old middle new is is_err asked inquired =
+      subst (λ r. Inquires Memory (evaluating old.answer catalogue all whole) r old new) (sym is_err)
+      (Inquires-fault old.answer catalogue done next rest all (value old.answer) whole fault old middle new is asked
+      (subst (λ a. Inquires Memory (evaluating a catalogue next (value a)) (Err fault) middle new) asked.keeps.answer inquired))
 
-module _ {A : Type 0} (answer : Answering) (catalogue : Catalogue) where
-  -- there was no memory behind all questions
-  pub Stops-behind : (questions : List Question) (value : A) (result : Result A PlainFault) (scorer : ScorerSeen) (steady : Type 0) → result ≡ Err Memory
-      → Asked answer catalogue questions scorer → Evaluates catalogue (evaluating answer catalogue questions value) result scorer steady
-  Stops-behind questions value result scorer steady is asked =
-      subst (λ r. Evaluates catalogue (evaluating answer catalogue questions value) r scorer steady) (sym is)
-      (Stops-asked answer catalogue questions [] questions value scorer steady (sym (append-nil questions)) asked)
+module _ (catalogue : Catalogue) {A : Type 0} where
+  -- an evaluation behind others that gave a value
+  pub Gave-behind : (done next : List Question) (value : Answering → A) (given : A) (old middle new : ScorerState) → Asked old.answer catalogue done old middle
+      → Inquires Memory (evaluating middle.answer catalogue next (value middle.answer)) (Ok given) middle new
+      → Gave old.answer catalogue next (value old.answer) given middle new
+  Gave-behind done next value given old middle new asked inquired =
+      Gave-ok old.answer catalogue next (value old.answer) given middle new
+      (subst (λ a. Inquires Memory (evaluating a catalogue next (value a)) (Ok given) middle new) asked.keeps.answer inquired)
 
-  pub Stops-within : (done rest all : List Question) (value : A) (result : Result A PlainFault) (scorer : ScorerSeen) (steady : Type 0) → all ≡ done ++ rest → result ≡ Err Memory
-      → Asked answer catalogue done scorer → Evaluates catalogue (evaluating answer catalogue all value) result scorer steady
-  Stops-within done rest all value result scorer steady split is asked =
-      subst (λ r. Evaluates catalogue (evaluating answer catalogue all value) r scorer steady) (sym is)
-      (Stops-asked answer catalogue done rest all value scorer steady split asked)
+  -- there was no memory behind the first questions
+  pub Stopped-within : (done rest all : List Question) (value : A) (result : Result A PlainFault) (old new : ScorerState) → all ≡ done ++ rest → result ≡ Err Memory
+      → Asked old.answer catalogue done old new → Inquires Memory (evaluating old.answer catalogue all value) result old new
+  Stopped-within done rest all value result old new split is asked =
+      subst (λ r. Inquires Memory (evaluating old.answer catalogue all value) r old new) (sym is)
+      (Inquires-stopped old.answer catalogue done rest all value old new split asked)
+
+  -- there was none behind all of them
+  pub Stopped-behind : (questions : List Question) (value : A) (result : Result A PlainFault) (old new : ScorerState) → result ≡ Err Memory
+      → Asked old.answer catalogue questions old new → Inquires Memory (evaluating old.answer catalogue questions value) result old new
+  Stopped-behind questions value result old new is asked =
+      Stopped-within questions [] questions value result old new (sym (append-nil questions)) is asked
 
   -- all questions were asked
-  pub Ends-behind : (questions all : List Question) (value given : A) (scorer : ScorerSeen) (steady : Type 0) → all ≡ questions → given ≡ value
-      → Asked answer catalogue questions scorer → Evaluates catalogue (evaluating answer catalogue all value) (Ok given) scorer steady
-  Ends-behind questions all value given scorer steady same is asked =
-      subst (λ v. Evaluates catalogue (evaluating answer catalogue all value) (Ok v) scorer steady) (sym is)
-      (Ends-asked answer catalogue all value scorer steady (subst (λ qs. Asked answer catalogue qs scorer) (sym same) asked))
+  pub Ended-behind : (questions all : List Question) (value given : A) (old new : ScorerState) → all ≡ questions → given ≡ value
+      → Asked old.answer catalogue questions old new → Inquires Memory (evaluating old.answer catalogue all value) (Ok given) old new
+  Ended-behind questions all value given old new same is asked =
+      subst (λ v. Inquires Memory (evaluating old.answer catalogue all value) (Ok v) old new) (sym is)
+      (Inquires-asked old.answer catalogue all value old new (subst (λ qs. Asked old.answer catalogue qs old new) (sym same) asked))
 
 -- what a `?` gives
 pub given-err : {A : Type 0} (result : Result A PlainFault) (fault : PlainFault) → IsErr result × IsErrAnd result (λ f. f ≡ fault) → result ≡ Err fault
@@ -194,12 +193,3 @@ given-err (Err f) fault is = ap Err is.1
 
 pub given-items : (result : Result (Vec Answer Global) PlainFault) (fault : PlainFault) → IsErr result × IsErrAnd result (λ f. f ≡ fault) → items_of result ≡ Err fault
 given-items result fault is = ap items_of (given-err result fault is)
-
--- the evaluation of a query asks the questions of the query, for its answer
-pub evaluation-is : (answer : Answering) (catalogue : Catalogue) (query : Query)
-    → evaluating answer catalogue (questions_of catalogue query) (answer_of answer catalogue query) ≡ evaluation_of answer catalogue query
-evaluation-is answer catalogue query = go (first_of (is_bad answer catalogue) (questions_of catalogue query)) refl where
-  go : (found : Option Question) → first_of (is_bad answer catalogue) (questions_of catalogue query) ≡ found
-      → evaluating answer catalogue (questions_of catalogue query) (answer_of answer catalogue query) ≡ evaluation_of answer catalogue query
-  go None e = rw e refl
-  go (Some q) e = rw e refl

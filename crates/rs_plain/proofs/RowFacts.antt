@@ -6,8 +6,9 @@ use Rattle.std.proofs.lemmas.List.{map-append, take-append-drop, take_more, drop
 use Rattle.std.proofs.lemmas.Grind.{flat_map-append}
 use Rattle.std.proofs.Math.Nat.{mul-le-mul}
 use Rattle.rs_order.proofs.EachFacts.{each-get_or}
+use Rattle.rs_expr.specs.Scoring.{Answering}
 use Rattle.rs_catalog.specs.Catalogue.{Catalogue}
-use Rattle.rs_query.specs.Answers.{Answering, score_of, worth_of}
+use Rattle.rs_query.specs.Answers.{score_of, worth_of}
 use Rattle.rs_query.specs.declared.block.Block.{Block}
 use Rattle.rs_query.specs.declared.term.Term.{Term}
 

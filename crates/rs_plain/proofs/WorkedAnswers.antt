@@ -9,14 +9,16 @@ use Rattle.rs_value.specs.declared.value.Value.TheVariants as value
 use Rattle.rs_table.specs.Column.{Column}
 use Rattle.rs_rank.specs.declared.answer.Answer.{Answer}
 use Rattle.rs_expr.specs.Formulas.{Argument, Constant, Difference, Formula, Magnitude, Numbers, Quotient}
+use Rattle.rs_expr.specs.InOrder.{calls_of}
 use Rattle.rs_expr.specs.Meaning.{value_of}
 use Rattle.rs_expr.specs.Predicates.{PredicateDef}
+use Rattle.rs_expr.specs.Scoring.{Answering}
 use Rattle.rs_expr.specs.declared.scorer.Call.{Call}
 use Rattle.rs_catalog.specs.Catalogue.{Catalogue, NamedTable}
 use Rattle.rs_catalog.specs.declared.index.BoundArg.TheVariants as arg
 use Rattle.rs_syntax.specs.declared.select.SetOp.{SetOp}
 use Rattle.rs_syntax.specs.declared.select.SetOp.TheVariants.{UnionAll, Union, Intersect, Except}
-use Rattle.rs_query.specs.Answers.{Answering}
+use Rattle.rs_query.specs.Views.{View, all_rows}
 use Rattle.rs_query.specs.declared.block.Block.{Block}
 use Rattle.rs_query.specs.declared.query.Query.{Query}
 use Rattle.rs_query.specs.declared.query.Query.TheVariants.{One, Set}
@@ -69,6 +71,13 @@ term_over p max column = record { weight = 1; predicate = p; args = arg.Column 1
 abbrev call : List ℕ → List Value → Call
 call name args = record { predicate = name; args = args }
 
+-- what a query gives, and the calls behind it
+abbrev outcome : Query → Result (List Answer) PlainFault
+outcome query = (evaluation_of answer catalogue query (all_rows catalogue query)).outcome
+
+abbrev calls : Query → List Call
+calls query = calls_of (evaluation_of answer catalogue query (all_rows catalogue query)).requests
+
 -- the scores and output values of an answer
 abbrev shown : Result (List Answer) PlainFault → Result (List (ℕ × List Value)) PlainFault
 shown (Ok rows) = Ok (map (λ (row : Answer). (row.score, row.values)) rows)
@@ -91,12 +100,12 @@ row left right score first second = record {
   values = words first ∷ words second ∷ [];
 }
 
-pairs-answer : (evaluation_of answer catalogue pairs).outcome
+pairs-answer : outcome pairs
     ≡ Ok (row 1 1 100 (codes "a") (codes "a") ∷ row 2 2 100 (codes "b") (codes "b") ∷ row 3 3 100 (codes "c") (codes "c") ∷ [])
 pairs-answer = refl
 
 -- five combinations satisfy the condition, and each is asked for once, in lexicographic order
-pairs-calls : (evaluation_of answer catalogue pairs).calls
+pairs-calls : calls pairs
     ≡ call (codes "near") (int 40 ∷ int 40 ∷ []) ∷ call (codes "near") (int 40 ∷ int 90 ∷ []) ∷ call (codes "near") (int 90 ∷ int 40 ∷ [])
     ∷ call (codes "near") (int 90 ∷ int 90 ∷ []) ∷ call (codes "near") (int 40 ∷ int 40 ∷ []) ∷ []
 pairs-calls = refl
@@ -111,38 +120,49 @@ sums weight limit = One (record {
   distinct = false;
 }) limit
 
-sums-answer : shown (evaluation_of answer catalogue (sums 1 None)).outcome
+sums-answer : shown (outcome (sums 1 None))
     ≡ Ok ((17, int 8 ∷ int 9 ∷ []) ∷ (13, int 10 ∷ int 3 ∷ []) ∷ (12, int 2 ∷ int 10 ∷ []) ∷ (6, int 5 ∷ int 1 ∷ []) ∷ [])
 sums-answer = refl
 
 -- the weight counts, and LIMIT cuts the sorted rows
-sums-weighted : shown (evaluation_of answer catalogue (sums 2 (Some 2))).outcome ≡ Ok ((26, int 8 ∷ int 9 ∷ []) ∷ (22, int 2 ∷ int 10 ∷ []) ∷ [])
+sums-weighted : shown (outcome (sums 2 (Some 2))) ≡ Ok ((26, int 8 ∷ int 9 ∷ []) ∷ (22, int 2 ∷ int 10 ∷ []) ∷ [])
 sums-weighted = refl
 
 -- all calls are made, also with LIMIT 0
-sums-calls : (evaluation_of answer catalogue (sums 1 (Some 0))).calls
+sums-calls : calls (sums 1 (Some 0))
     ≡ call (codes "p") (int 10 ∷ []) ∷ call (codes "p") (int 3 ∷ []) ∷ call (codes "p") (int 8 ∷ []) ∷ call (codes "p") (int 9 ∷ [])
     ∷ call (codes "p") (int 5 ∷ []) ∷ call (codes "p") (int 1 ∷ []) ∷ call (codes "p") (int 2 ∷ []) ∷ call (codes "p") (int 10 ∷ []) ∷ []
 sums-calls = refl
+
+-- a query that sees the first two rows alone
+abbrev two_rows : View
+two_rows = record { first = 2 ∷ 0 ∷ 0 ∷ 0 ∷ 0 ∷ 0 ∷ []; second = [] }
+
+sums-seen : shown (evaluation_of answer catalogue (sums 1 None) two_rows).outcome ≡ Ok ((17, int 8 ∷ int 9 ∷ []) ∷ (13, int 10 ∷ int 3 ∷ []) ∷ [])
+sums-seen = refl
+
+sums-seen-calls : calls_of (evaluation_of answer catalogue (sums 1 None) two_rows).requests
+    ≡ call (codes "p") (int 10 ∷ []) ∷ call (codes "p") (int 3 ∷ []) ∷ call (codes "p") (int 8 ∷ []) ∷ call (codes "p") (int 9 ∷ []) ∷ []
+sums-seen-calls = refl
 
 -- SELECT DISTINCT city FROM h ORDER BY p(city)
 abbrev cities : Bool → Query
 cities distinct = One (record { from = of_table 0 ∷ []; conjuncts = []; items = (1, 2) ∷ []; terms = term_over 1 10 2 ∷ []; distinct = distinct }) None
 
-cities-distinct : shown (evaluation_of answer catalogue (cities true)).outcome ≡ Ok ((2, int 2 ∷ []) ∷ (1, int 1 ∷ []) ∷ [])
+cities-distinct : shown (outcome (cities true)) ≡ Ok ((2, int 2 ∷ []) ∷ (1, int 1 ∷ []) ∷ [])
 cities-distinct = refl
 
-cities-all : shown (evaluation_of answer catalogue (cities false)).outcome ≡ Ok ((2, int 2 ∷ []) ∷ (1, int 1 ∷ []) ∷ (1, int 1 ∷ []) ∷ [])
+cities-all : shown (outcome (cities false)) ≡ Ok ((2, int 2 ∷ []) ∷ (1, int 1 ∷ []) ∷ (1, int 1 ∷ []) ∷ [])
 cities-all = refl
 
 -- SELECT name FROM h ORDER BY p(price): the first number above MAX is told with its row, and is the last call
 abbrev dear : Query
 dear = One (record { from = of_table 0 ∷ []; conjuncts = []; items = (1, 0) ∷ []; terms = term_over 1 10 1 ∷ []; distinct = false }) None
 
-dear-refused : (evaluation_of answer catalogue dear).outcome ≡ Err (BadScore 1 (record { block = 1; mask = 1; rows = 1 ∷ 0 ∷ 0 ∷ 0 ∷ 0 ∷ 0 ∷ [] }) (pos 40) 10)
+dear-refused : outcome dear ≡ Err (BadScore 1 (record { block = 1; mask = 1; rows = 1 ∷ 0 ∷ 0 ∷ 0 ∷ 0 ∷ 0 ∷ [] }) (pos 40) 10)
 dear-refused = refl
 
-dear-calls : (evaluation_of answer catalogue dear).calls ≡ call (codes "p") (int 40 ∷ []) ∷ []
+dear-calls : calls dear ≡ call (codes "p") (int 40 ∷ []) ∷ []
 dear-calls = refl
 
 -- SELECT v FROM u .. SELECT v FROM w ORDER BY half(v)
@@ -152,16 +172,16 @@ side n = record { from = of_table n ∷ []; conjuncts = []; items = (1, 0) ∷ [
 abbrev both : SetOp → Query
 both op = Set op (side 2) (side 3) None
 
-union-all : shown (evaluation_of answer catalogue (both UnionAll)).outcome
+union-all : shown (outcome (both UnionAll))
     ≡ Ok ((2, int 4 ∷ []) ∷ (2, int 4 ∷ []) ∷ (2, int 5 ∷ []) ∷ (2, int 5 ∷ []) ∷ (1, int 3 ∷ []) ∷ (1, int 3 ∷ []) ∷ (1, int 2 ∷ []) ∷ (0, int 1 ∷ []) ∷ [])
 union-all = refl
 
-union : shown (evaluation_of answer catalogue (both Union)).outcome
+union : shown (outcome (both Union))
     ≡ Ok ((2, int 4 ∷ []) ∷ (2, int 5 ∷ []) ∷ (1, int 3 ∷ []) ∷ (1, int 2 ∷ []) ∷ (0, int 1 ∷ []) ∷ [])
 union = refl
 
-intersect : shown (evaluation_of answer catalogue (both Intersect)).outcome ≡ Ok ((2, int 4 ∷ []) ∷ [])
+intersect : shown (outcome (both Intersect)) ≡ Ok ((2, int 4 ∷ []) ∷ [])
 intersect = refl
 
-except : shown (evaluation_of answer catalogue (both Except)).outcome ≡ Ok ((1, int 3 ∷ []) ∷ (0, int 1 ∷ []) ∷ [])
+except : shown (outcome (both Except)) ≡ Ok ((1, int 3 ∷ []) ∷ (0, int 1 ∷ []) ∷ [])
 except = refl

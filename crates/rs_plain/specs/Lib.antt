@@ -1,5 +1,5 @@
 pub mod Asking
-pub mod Evaluating
 pub mod Lists
 pub mod Ordering
 pub mod Plain
+pub mod Results

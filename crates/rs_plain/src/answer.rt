@@ -1,7 +1,9 @@
-ghost use Rattle.std.specs.Prelude.{◌≡◌, ◌≤◌};
-ghost use Rattle.rs_plain.specs.Evaluating.{Evaluates, items_of};
+ghost use Rattle.std.specs.Prelude.{◌≡◌, IfErr};
+ghost use Rattle.rs_expr.specs.InOrder.{Inquires};
 ghost use Rattle.rs_plain.specs.Plain.{evaluation_of};
+ghost use Rattle.rs_plain.specs.Results.{NamesCalled, items_of};
 ghost use Rattle.rs_query.specs.Answers.{cut, limit_of};
+ghost use Rattle.rs_query.specs.Views.{all_rows};
 ghost use Rattle.rs_query.specs.WellFormed.{IsQuery};
 
 use crate::fault::PlainFault;
@@ -22,19 +24,13 @@ pub fn plain<S: Scorer>(
     scorer: &mut S,
 ) -> Result<Vec<Answer>, PlainFault>
     requires { IsQuery catalog.now query.now }
-    ensures evaluates { Evaluates catalog.now (evaluation_of (S.answer scorer.old) catalog.now query.now) (items_of result)
-        (record {
-          before = S.told scorer.old;
-          after = S.told scorer.new;
-          count_before = S.calls scorer.old;
-          count_after = S.calls scorer.new;
-          faults_before = S.faults scorer.old;
-          faults_after = S.faults scorer.new;
-        })
-        (S.steady scorer.old) }
-    ensures same { S.answer scorer.new ≡ S.answer scorer.old }
-    ensures faults { S.faults scorer.old ≤ S.faults scorer.new }
-    ensures steady { S.steady scorer.old → S.steady scorer.new }
+    // The query sees all rows that its tables have now.
+    ensures evaluates { Inquires PlainFault.Memory
+        (evaluation_of (S.state scorer.old).answer catalog.now query.now (all_rows catalog.now query.now))
+        (items_of result) (S.state scorer.old) (S.state scorer.new) }
+
+    // A bad or failed call is one of a term of the query.
+    ensures names { IfErr result (NamesCalled catalog.now query.now) }
 {
     let mut rows = query_rows(alloc, catalog, query, scorer)?;
     sort_stably(&mut rows)?;

@@ -1,11 +1,12 @@
 ghost use Rattle.std.specs.Prelude.{◌≡◌, ◌≤◌, ◌-◌, ◌∷◌, [], Some, if◌then◌else◌, length, slice_get};
+ghost use Rattle.rs_expr.specs.InOrder.{Inquires};
 ghost use Rattle.rs_query.specs.Answers.{worth_of};
 ghost use Rattle.rs_query.specs.Tables.{HasRows, all_entries};
 ghost use Rattle.rs_query.specs.WellFormed.{IsBlock};
 ghost use Rattle.rs_query.specs.declared.term.Term.{Term as BoundTerm};
-ghost use Rattle.rs_plain.specs.Asking.{evaluating, question_of, seen, worth_for};
-ghost use Rattle.rs_plain.specs.Evaluating.{Evaluates};
-ghost use Rattle.rs_plain.specs.Plain.{rows_inside};
+ghost use Rattle.rs_plain.specs.Asking.{worth_for};
+ghost use Rattle.rs_plain.specs.Plain.{evaluating, question_of};
+ghost use Rattle.rs_rank.specs.Ids.{rows_inside};
 
 use crate::fault::PlainFault;
 use rs_catalog::Catalog;
@@ -28,16 +29,11 @@ pub(crate) fn ask_term<S: Scorer>(
     requires most { number ≤ length block.now.terms }
     requires all { ids.now.mask ≡ all_entries block.now }
     requires rows { HasRows catalog.now block.now (all_entries block.now) ids.now.rows }
-    ensures asks { (term : BoundTerm) → slice_get block.now.terms (number - 1) ≡ Some term
-        → Evaluates catalog.now
-        (evaluating (S.answer scorer.old) catalog.now (question_of ids.now.block block.now ids.now.rows term ∷ [])
-        (worth_of (S.answer scorer.old) catalog.now block.now ids.now.rows term))
-        result
-        (seen (S.told scorer.old) (S.told scorer.new) (S.calls scorer.old) (S.calls scorer.new) (S.faults scorer.old) (S.faults scorer.new))
-        (S.steady scorer.old) }
-    ensures same { S.answer scorer.new ≡ S.answer scorer.old }
-    ensures faults { S.faults scorer.old ≤ S.faults scorer.new }
-    ensures steady { S.steady scorer.old → S.steady scorer.new }
+    ensures { (term : BoundTerm) → slice_get block.now.terms (number - 1) ≡ Some term
+        → Inquires PlainFault.Memory
+        (evaluating (S.state scorer.old).answer catalog.now (question_of ids.now.block block.now ids.now.rows term ∷ [])
+        (worth_of (S.state scorer.old).answer catalog.now block.now ids.now.rows term))
+        result (S.state scorer.old) (S.state scorer.new) }
 {
     let args = block.args(alloc, catalog, number, ids)?;
     let term = &block.terms.items()[number as usize - 1];

@@ -1,12 +1,13 @@
-ghost use Rattle.std.specs.Prelude.{◌≡◌, ◌≤◌, map};
+ghost use Rattle.std.specs.Prelude.{◌≡◌, map};
 ghost use Rattle.std.specs.List.{AllByRecursion, flat_map};
+ghost use Rattle.rs_expr.specs.InOrder.{Inquires};
 ghost use Rattle.rs_query.specs.Answers.{base_of, row_of, rows_of, score_of};
 ghost use Rattle.rs_query.specs.Combinations.{all_combinations};
-ghost use Rattle.rs_query.specs.Tables.{HasRows, all_entries};
+ghost use Rattle.rs_query.specs.Tables.{HasRows, all_entries, sizes_of};
+ghost use Rattle.rs_query.specs.Views.{all_rows};
 ghost use Rattle.rs_query.specs.WellFormed.{IsBlock, IsQuery};
-ghost use Rattle.rs_plain.specs.Asking.{evaluating, row_questions, seen};
-ghost use Rattle.rs_plain.specs.Evaluating.{Evaluates, items_of};
-ghost use Rattle.rs_plain.specs.Plain.{block_questions, questions_of};
+ghost use Rattle.rs_plain.specs.Plain.{block_questions, evaluating, questions_of, row_questions};
+ghost use Rattle.rs_plain.specs.Results.{items_of};
 
 use crate::ask::ask_term;
 use crate::fault::PlainFault;
@@ -26,14 +27,10 @@ pub(crate) fn query_rows<S: Scorer>(
     scorer: &mut S,
 ) -> Result<Vec<Answer>, PlainFault>
     requires { IsQuery catalog.now query.now }
-    ensures evaluates { Evaluates catalog.now
-        (evaluating (S.answer scorer.old) catalog.now (questions_of catalog.now query.now) (rows_of (S.answer scorer.old) catalog.now query.now))
-        (items_of result)
-        (seen (S.told scorer.old) (S.told scorer.new) (S.calls scorer.old) (S.calls scorer.new) (S.faults scorer.old) (S.faults scorer.new))
-        (S.steady scorer.old) }
-    ensures same { S.answer scorer.new ≡ S.answer scorer.old }
-    ensures faults { S.faults scorer.old ≤ S.faults scorer.new }
-    ensures steady { S.steady scorer.old → S.steady scorer.new }
+    ensures { Inquires PlainFault.Memory
+        (evaluating (S.state scorer.old).answer catalog.now (questions_of catalog.now query.now (all_rows catalog.now query.now))
+        (rows_of (S.state scorer.old).answer catalog.now query.now (all_rows catalog.now query.now)))
+        (items_of result) (S.state scorer.old) (S.state scorer.new) }
 {
     match query {
         Query::One(block, _) => base_rows(alloc, catalog, block, 1, scorer),
@@ -54,15 +51,10 @@ fn base_rows<S: Scorer>(
     scorer: &mut S,
 ) -> Result<Vec<Answer>, PlainFault>
     requires { IsBlock catalog.now block.now }
-    ensures evaluates { Evaluates catalog.now
-        (evaluating (S.answer scorer.old) catalog.now (block_questions catalog.now number block.now)
-        (base_of (S.answer scorer.old) catalog.now number block.now))
-        (items_of result)
-        (seen (S.told scorer.old) (S.told scorer.new) (S.calls scorer.old) (S.calls scorer.new) (S.faults scorer.old) (S.faults scorer.new))
-        (S.steady scorer.old) }
-    ensures same { S.answer scorer.new ≡ S.answer scorer.old }
-    ensures faults { S.faults scorer.old ≤ S.faults scorer.new }
-    ensures steady { S.steady scorer.old → S.steady scorer.new }
+    ensures { Inquires PlainFault.Memory
+        (evaluating (S.state scorer.old).answer catalog.now (block_questions catalog.now number block.now (sizes_of catalog.now block.now))
+        (base_of (S.state scorer.old).answer catalog.now number block.now (sizes_of catalog.now block.now)))
+        (items_of result) (S.state scorer.old) (S.state scorer.new) }
 {
     let rows = block_rows(alloc, catalog, block, number, scorer)?;
     if block.distinct {
@@ -80,15 +72,10 @@ fn block_rows<S: Scorer>(
     scorer: &mut S,
 ) -> Result<Vec<Answer>, PlainFault>
     requires { IsBlock catalog.now block.now }
-    ensures evaluates { Evaluates catalog.now
-        (evaluating (S.answer scorer.old) catalog.now (block_questions catalog.now number block.now)
-        (map (row_of (S.answer scorer.old) catalog.now block.now number) (all_combinations catalog.now block.now)))
-        (items_of result)
-        (seen (S.told scorer.old) (S.told scorer.new) (S.calls scorer.old) (S.calls scorer.new) (S.faults scorer.old) (S.faults scorer.new))
-        (S.steady scorer.old) }
-    ensures same { S.answer scorer.new ≡ S.answer scorer.old }
-    ensures faults { S.faults scorer.old ≤ S.faults scorer.new }
-    ensures steady { S.steady scorer.old → S.steady scorer.new }
+    ensures { Inquires PlainFault.Memory
+        (evaluating (S.state scorer.old).answer catalog.now (block_questions catalog.now number block.now (sizes_of catalog.now block.now))
+        (map (row_of (S.state scorer.old).answer catalog.now block.now number) (all_combinations catalog.now block.now)))
+        (items_of result) (S.state scorer.old) (S.state scorer.new) }
 {
     let combinations = block.combinations(alloc, catalog)?;
     scored_rows(alloc, catalog, block, number, &combinations, scorer)
@@ -105,15 +92,10 @@ fn scored_rows<S: Scorer>(
 ) -> Result<Vec<Answer>, PlainFault>
     requires block { IsBlock catalog.now block.now }
     requires rows { AllByRecursion (HasRows catalog.now block.now (all_entries block.now)) combinations.now }
-    ensures evaluates { Evaluates catalog.now
-        (evaluating (S.answer scorer.old) catalog.now (flat_map (row_questions number block.now) combinations.now)
-        (map (row_of (S.answer scorer.old) catalog.now block.now number) combinations.now))
-        (items_of result)
-        (seen (S.told scorer.old) (S.told scorer.new) (S.calls scorer.old) (S.calls scorer.new) (S.faults scorer.old) (S.faults scorer.new))
-        (S.steady scorer.old) }
-    ensures same { S.answer scorer.new ≡ S.answer scorer.old }
-    ensures faults { S.faults scorer.old ≤ S.faults scorer.new }
-    ensures steady { S.steady scorer.old → S.steady scorer.new }
+    ensures { Inquires PlainFault.Memory
+        (evaluating (S.state scorer.old).answer catalog.now (flat_map (row_questions number block.now) combinations.now)
+        (map (row_of (S.state scorer.old).answer catalog.now block.now number) combinations.now))
+        (items_of result) (S.state scorer.old) (S.state scorer.new) }
 {
     let mut answers = Vec::new(alloc);
     for rows in combinations {
@@ -139,15 +121,10 @@ fn row_for<S: Scorer>(
     requires block { IsBlock catalog.now block.now }
     requires all { ids.now.mask ≡ all_entries block.now }
     requires rows { HasRows catalog.now block.now (all_entries block.now) ids.now.rows }
-    ensures evaluates { Evaluates catalog.now
-        (evaluating (S.answer scorer.old) catalog.now (row_questions ids.now.block block.now ids.now.rows)
-        (row_of (S.answer scorer.old) catalog.now block.now ids.now.block ids.now.rows))
-        result
-        (seen (S.told scorer.old) (S.told scorer.new) (S.calls scorer.old) (S.calls scorer.new) (S.faults scorer.old) (S.faults scorer.new))
-        (S.steady scorer.old) }
-    ensures same { S.answer scorer.new ≡ S.answer scorer.old }
-    ensures faults { S.faults scorer.old ≤ S.faults scorer.new }
-    ensures steady { S.steady scorer.old → S.steady scorer.new }
+    ensures { Inquires PlainFault.Memory
+        (evaluating (S.state scorer.old).answer catalog.now (row_questions ids.now.block block.now ids.now.rows)
+        (row_of (S.state scorer.old).answer catalog.now block.now ids.now.block ids.now.rows))
+        result (S.state scorer.old) (S.state scorer.new) }
 {
     let score = score_for(alloc, catalog, block, ids, scorer)?;
     let values = block.outputs(alloc, catalog, ids)?;
@@ -169,15 +146,10 @@ fn score_for<S: Scorer>(
     requires block { IsBlock catalog.now block.now }
     requires all { ids.now.mask ≡ all_entries block.now }
     requires rows { HasRows catalog.now block.now (all_entries block.now) ids.now.rows }
-    ensures evaluates { Evaluates catalog.now
-        (evaluating (S.answer scorer.old) catalog.now (row_questions ids.now.block block.now ids.now.rows)
-        (score_of (S.answer scorer.old) catalog.now block.now ids.now.rows block.now.terms))
-        result
-        (seen (S.told scorer.old) (S.told scorer.new) (S.calls scorer.old) (S.calls scorer.new) (S.faults scorer.old) (S.faults scorer.new))
-        (S.steady scorer.old) }
-    ensures same { S.answer scorer.new ≡ S.answer scorer.old }
-    ensures faults { S.faults scorer.old ≤ S.faults scorer.new }
-    ensures steady { S.steady scorer.old → S.steady scorer.new }
+    ensures { Inquires PlainFault.Memory
+        (evaluating (S.state scorer.old).answer catalog.now (row_questions ids.now.block block.now ids.now.rows)
+        (score_of (S.state scorer.old).answer catalog.now block.now ids.now.rows block.now.terms))
+        result (S.state scorer.old) (S.state scorer.new) }
 {
     let mut score = 0;
     for (index, term) in block.terms.items().iter().enumerate() {

@@ -36,7 +36,7 @@ term entry mask = record { weight = 1; predicate = 0; args = arg.Column entry 0 
 
 -- SELECT a.g, b.g FROM a, b WHERE a.g = b.g ORDER BY p(a.g) + p(b.g)
 abbrev world : List (List Value) → List (List Value) → List ℕ → World
-world lefts rights view = record {
+world lefts rights sizes = record {
   catalogue = catalogue lefts rights;
   answer = λ p args. value_of p.formula args;
   query = One (record {
@@ -46,8 +46,7 @@ world lefts rights view = record {
     terms = term 1 1 ∷ term 2 2 ∷ [];
     distinct = false;
   }) None;
-  left_view = view;
-  right_view = 0 ∷ 0 ∷ 0 ∷ 0 ∷ 0 ∷ 0 ∷ [];
+  view = record { first = sizes; second = [] };
 }
 
 -- the rows 1 and 1 in each table

@@ -37,12 +37,11 @@ term number = record { weight = 1; predicate = number; args = arg.Column 1 numbe
 
 -- SELECT x, y FROM t ORDER BY p(x) + q(y)
 abbrev world : List (List Value) → List ℕ → World
-world rows view = record {
+world rows sizes = record {
   catalogue = catalogue rows;
   answer = λ p args. value_of p.formula args;
   query = One (record { from = (0, codes "t") ∷ []; conjuncts = []; items = (1, 0) ∷ (1, 1) ∷ []; terms = term 0 ∷ term 1 ∷ []; distinct = false }) None;
-  left_view = view;
-  right_view = 0 ∷ 0 ∷ 0 ∷ 0 ∷ 0 ∷ 0 ∷ [];
+  view = record { first = sizes; second = [] };
 }
 
 abbrev four : World
@@ -96,7 +95,7 @@ equal_keys = refl
 
 -- a view of two rows of four has the rows of these alone, whatever stands behind them
 abbrev earlier : World
-earlier = record four { left_view = 2 ∷ 0 ∷ 0 ∷ 0 ∷ 0 ∷ 0 ∷ [] }
+earlier = record four { view = record { first = 2 ∷ 0 ∷ 0 ∷ 0 ∷ 0 ∷ 0 ∷ []; second = [] } }
 
 list_earlier : list_of_plan earlier twice ≡ row 2 17 ∷ row 1 13 ∷ []
 list_earlier = refl

@@ -35,7 +35,7 @@ block number = record {
 
 -- SELECT v FROM u OP SELECT v FROM w ORDER BY half(v)
 abbrev world : SetOp → List ℕ → List ℕ → List ℕ → List ℕ → World
-world op lefts rights left_view right_view = record {
+world op lefts rights left_sizes right_sizes = record {
   catalogue = record {
     tables = table (codes "u") lefts ∷ table (codes "w") rights ∷ [];
     predicates = record { name = codes "half"; params = kind.Int ∷ []; max = 10; cost = 1; formula = Quotient (Argument 0) (pos 2) } ∷ [];
@@ -43,8 +43,7 @@ world op lefts rights left_view right_view = record {
   };
   answer = λ p args. value_of p.formula args;
   query = Set op (block 0) (block 1) None;
-  left_view = left_view;
-  right_view = right_view;
+  view = record { first = left_sizes; second = right_sizes };
 }
 
 -- 3, 1, 3, 4 on the left, and 4, 2, 5, 5 on the right

@@ -1,5 +1,5 @@
 -- The list of a node of a plan: the rows that it gives, one after another, until it is asked no more.
-use Rattle.std.specs.Prelude.{ℕ, ◌==◌, List, [], ◌∷◌, bit_or, map, if◌then◌else◌}
+use Rattle.std.specs.Prelude.{ℕ, ◌==◌, List, bit_or, map, if◌then◌else◌}
 use Rattle.rs_catalog.specs.Catalogue.{Catalogue}
 use Rattle.rs_order.specs.Sorting.{sorted}
 use Rattle.rs_rank.specs.Keys.{key_cmp}
@@ -11,24 +11,23 @@ use Rattle.rs_rank.specs.declared.ids.Ids.{Ids}
 use Rattle.rs_rank.specs.declared.key.Key.{Key}
 use Rattle.rs_rank.specs.declared.row.RankRow.{RankRow}
 use Rattle.rs_rank.specs.declared.weights.Weights.{Weights}
-use Rattle.rs_query.specs.Answers.{Answering, distinct_if, row_of, set_base, weights_of, worth_of}
+use Rattle.rs_expr.specs.Scoring.{Answering}
+use Rattle.rs_query.specs.Answers.{base_of, rows_of, weights_of, worths_of}
 use Rattle.rs_query.specs.Combinations.{combinations}
-use Rattle.rs_query.specs.Tables.{all_entries}
+use Rattle.rs_query.specs.Views.{View}
 use Rattle.rs_query.specs.declared.block.Block.{Block}
 use Rattle.rs_query.specs.declared.query.Query.{Query}
 use Rattle.rs_query.specs.declared.query.Query.TheVariants.{One, Set}
 use Rattle.rs_plan.specs.Trees.{Distinct, HashJoin, NestedJoin, Rank, RankScan, SeqScan, SetOperator, Tree, entries, terms}
 
--- what the rows of a query are made of: the catalogue, what the scorer answers, the query, and the view: how many rows each of
--- the six FROM entries of the left block and of the right one has
+-- what the rows of a query are made of: the catalogue, what the scorer answers, the query, and how many rows of its tables it sees
 pub record World : Type 0 where
   pub catalogue : Catalogue
   pub answer : Answering
   pub query : Query
-  pub left_view : List ℕ
-  pub right_view : List ℕ
+  pub view : View
 
--- the block of this number, and its view; a query of one block has block 1 alone
+-- the block of this number, and the numbers of rows of its entries; a query of one block has block 1 alone
 abbrev pub block_in : Query → ℕ → Block
 block_in (One block limit) number = block
 block_in (Set op left right limit) number = if number == 1 then left else right
@@ -36,8 +35,8 @@ block_in (Set op left right limit) number = if number == 1 then left else right
 abbrev pub block_of : World → ℕ → Block
 block_of w number = block_in w.query number
 
-abbrev pub view_of : World → ℕ → List ℕ
-view_of w number = if number == 1 then w.left_view else w.right_view
+abbrev pub sizes_in : World → ℕ → List ℕ
+sizes_in w number = if number == 1 then w.view.first else w.view.second
 
 -- the weights of the terms, which are those of both blocks
 abbrev pub weights_in : World → Weights
@@ -46,18 +45,7 @@ weights_in w = weights_of (block_of w 1)
 -- the ids of the combinations of some entries of a block
 abbrev pub ids_of : World → ℕ → ℕ → List Ids
 ids_of w number mask =
-    map (λ rows. record { block = number; mask = mask; rows = rows }) (combinations w.catalogue (block_of w number) (view_of w number) mask)
-
--- the rows of a block before they are put into order, with DISTINCT the first one of each list of output values
-abbrev pub base_in : World → ℕ → List Answer
-base_in w number =
-    distinct_if (block_of w number).distinct
-    (map (row_of w.answer w.catalogue (block_of w number) number) (combinations w.catalogue (block_of w number) (view_of w number) (all_entries (block_of w number))))
-
--- those of both blocks of a set query, put together by its operator
-abbrev pub base_with : World → Query → List Answer
-base_with w (One block limit) = base_in w 1
-base_with w (Set op left right limit) = set_base op (base_in w 1) (base_in w 2)
+    map (λ rows. record { block = number; mask = mask; rows = rows }) (combinations w.catalogue (block_of w number) (sizes_in w number) mask)
 
 -- the ids of the rows of a node of a plan of a block, in no order that matters: all combinations of its entries; from where
 -- duplicates are dropped those of the block; from the set operator on those of the query
@@ -67,12 +55,12 @@ sources w number (RankScan entry term index) = ids_of w number (mask_of entry)
 sources w number (Rank term child) = sources w number child
 sources w number (HashJoin left right) = ids_of w number (bit_or (entries left) (entries right))
 sources w number (NestedJoin left right) = ids_of w number (bit_or (entries left) (entries right))
-sources w number (Distinct child) = map (λ (row : Answer). row.ids) (base_in w number)
-sources w number (SetOperator left right) = map (λ (row : Answer). row.ids) (base_with w w.query)
+sources w number (Distinct child) = map (λ (row : Answer). row.ids) (base_of w.answer w.catalogue number (block_of w number) (sizes_in w number))
+sources w number (SetOperator left right) = map (λ (row : Answer). row.ids) (rows_of w.answer w.catalogue w.query w.view)
 
 -- the worths of the terms for some ids
 abbrev pub worths : World → Ids → List ℕ
-worths w ids = map (worth_of w.answer w.catalogue (block_of w ids.block) ids.rows) (block_of w ids.block).terms
+worths w ids = worths_of w.answer w.catalogue (block_of w ids.block) ids.rows
 
 -- a row of these ids, with the sum of the terms in a mask
 abbrev pub row_under : World → ℕ → Ids → RankRow

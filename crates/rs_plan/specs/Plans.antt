@@ -1,9 +1,10 @@
 -- Which trees are plans of a query.
-use Rattle.std.specs.Prelude.{ℕ, ◌≡◌, ◌≤◌, ◌<◌, ◌-◌, ◌^◌, ◌⊎◌, Bool, true, false, List, [], ◌∷◌, length, Option, Some, None, bit_and, slice_get}
+use Rattle.std.specs.Prelude.{ℕ, ◌≡◌, ◌≤◌, ◌<◌, ◌-◌, ◌⊎◌, Bool, true, false, List, [], ◌∷◌, length, Option, Some, None, bit_and, slice_get}
 use Rattle.std.specs.List.{filter}
 use Rattle.rs_catalog.specs.Catalogue.{Catalogue}
 use Rattle.rs_catalog.specs.Indexes.{index_of}
 use Rattle.rs_rank.specs.Masks.{AreDisjoint, has_number, mask_of}
+use Rattle.rs_query.specs.Answers.{all_terms}
 use Rattle.rs_query.specs.Conjuncts.{ConjunctDef}
 use Rattle.rs_query.specs.Meaning.{is_inside}
 use Rattle.rs_query.specs.Tables.{all_entries}
@@ -87,10 +88,6 @@ IsPart catalogue block (HashJoin left right) =
 IsPart catalogue block (NestedJoin left right) = IsPart catalogue block left × IsPart catalogue block right × AreJoined left right
 IsPart catalogue block (Distinct child) = IsPart catalogue block child × IsDistinct block child
 IsPart catalogue block (SetOperator left right) = ⊥
-
--- the mask of all terms of a block
-abbrev pub all_terms : Block → ℕ
-all_terms block = 2 ^ length block.terms - 1
 
 -- a plan of a block: of all its entries, and with duplicates dropped where the block says so
 pub record IsComplete (catalogue : Catalogue) (block : Block) (tree : Tree) : Type 0 where

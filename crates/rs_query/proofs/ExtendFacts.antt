@@ -24,14 +24,16 @@ use Rattle.rs_order.proofs.ItemFacts.{In-map-back, filter-none, filter-flat_map,
 use Rattle.rs_query.proofs.LocalFacts.{conjunct_holds-local}
 
 -- the mask of the first entries
-prefix-first : (n : ℕ) → eqb ((2 ^ suc n - 1) % 2) 0 ≡ false
-prefix-first n =
-    let power = pow-suc 2 n in
-    let some = pow_pos n in
-    let odd : (2 ^ suc n - 1) % 2 ≡ 1 = omega arith in
-    ap (λ d. eqb d 0) odd
+prefix-odd : (n : ℕ) → (2 ^ suc n - 1) % 2 ≡ 1
+prefix-odd n = let power = pow-suc 2 n in let some = pow_pos n in omega arith
 
-prefix-others : (n : ℕ) → (2 ^ suc n - 1) / 2 ≡ 2 ^ n - 1
+prefix-first : (n : ℕ) → eqb ((2 ^ suc n - 1) % 2) 0 ≡ false
+prefix-first n = ap (λ d. eqb d 0) (prefix-odd n)
+
+pub prefix-one : (n : ℕ) → eqb ((2 ^ suc n - 1) % 2) 1 ≡ true
+prefix-one n = ap (λ d. eqb d 1) (prefix-odd n)
+
+pub prefix-others : (n : ℕ) → (2 ^ suc n - 1) / 2 ≡ 2 ^ n - 1
 prefix-others n = let power = pow-suc 2 n in let some = pow_pos n in omega arith
 
 -- a choice for the first entries, and a row of the next one

@@ -6,6 +6,7 @@ pub mod ExtendFacts
 pub mod HoldFacts
 pub mod ListFacts
 pub mod LocalFacts
+pub mod ScoreFacts
 pub mod WeightFacts
 pub mod WithinFacts
 pub mod WorkedCombinations

@@ -1,5 +1,5 @@
 -- The answer of a query: every combination is scored, duplicates are dropped where the query says so, and the rest is put into the stable order.
-use Rattle.std.specs.Prelude.{ℕ, zero, suc, ℤ, pos, negsuc, min, not, ◌+◌, ◌*◌, ◌&&◌, Bool, true, false, List, [], ◌∷◌, ◌++◌, map, take, Option, Some, None, slice_get, unwrap_or}
+use Rattle.std.specs.Prelude.{ℕ, zero, suc, ℤ, pos, negsuc, min, not, ◌+◌, ◌-◌, ◌*◌, ◌^◌, ◌&&◌, Bool, true, false, List, [], ◌∷◌, ◌++◌, length, map, take, Option, Some, None, slice_get, unwrap_or}
 use Rattle.std.specs.List.{filter, list_any}
 use Rattle.std.specs.Ordering.{int_eq}
 use Rattle.std.specs.Str.{bytes_eq}
@@ -10,6 +10,7 @@ use Rattle.rs_rank.specs.declared.answer.Answer.{Answer}
 use Rattle.rs_rank.specs.declared.weights.Weights.{Weights}
 use Rattle.rs_expr.specs.Formulas.{Constant}
 use Rattle.rs_expr.specs.Predicates.{PredicateDef}
+use Rattle.rs_expr.specs.Scoring.{Answering}
 use Rattle.rs_catalog.specs.Catalogue.{Catalogue}
 use Rattle.rs_syntax.specs.declared.select.SetOp.{SetOp}
 use Rattle.rs_syntax.specs.declared.select.SetOp.TheVariants.{UnionAll, Union, Intersect, Except}
@@ -17,13 +18,10 @@ use Rattle.rs_query.specs.declared.block.Block.{Block}
 use Rattle.rs_query.specs.declared.term.Term.{Term}
 use Rattle.rs_query.specs.declared.query.Query.{Query}
 use Rattle.rs_query.specs.declared.query.Query.TheVariants.{One, Set}
-use Rattle.rs_query.specs.Combinations.{all_combinations}
+use Rattle.rs_query.specs.Combinations.{combinations}
 use Rattle.rs_query.specs.Meaning.{args_of, outputs_of}
 use Rattle.rs_query.specs.Tables.{all_entries}
-
--- what a scorer answers to a predicate and arguments
-abbrev pub Answering : Type 0
-Answering = PredicateDef → List Value → ℤ
+use Rattle.rs_query.specs.Views.{View}
 
 -- the predicate of this number
 abbrev pub predicate_at : Catalogue → ℕ → PredicateDef
@@ -82,13 +80,16 @@ abbrev pub firsts : List Answer → List Answer
 firsts [] = []
 firsts (row ∷ rows) = row ∷ others row (firsts rows)
 
--- the rows of a block: all its combinations, and with DISTINCT the first one of each list of output values
+-- the first ones where the block is DISTINCT, else all
 abbrev pub distinct_if : Bool → List Answer → List Answer
 distinct_if true rows = firsts rows
 distinct_if false rows = rows
 
-abbrev pub base_of : Answering → Catalogue → ℕ → Block → List Answer
-base_of answer catalogue number block = distinct_if block.distinct (map (row_of answer catalogue block number) (all_combinations catalogue block))
+-- the rows of a block whose entries have so many rows: all its combinations, and with DISTINCT the first one of each list of
+-- output values
+abbrev pub base_of : Answering → Catalogue → ℕ → Block → List ℕ → List Answer
+base_of answer catalogue number block sizes =
+    distinct_if block.distinct (map (row_of answer catalogue block number) (combinations catalogue block sizes (all_entries block)))
 
 -- the rows that a set operator makes of those of two blocks
 abbrev pub set_base : SetOp → List Answer → List Answer → List Answer
@@ -106,14 +107,19 @@ abbrev pub limit_of : Query → Option ℕ
 limit_of (One block limit) = limit
 limit_of (Set op left right limit) = limit
 
--- the rows of a query, before they are put into order
-abbrev pub rows_of : Answering → Catalogue → Query → List Answer
-rows_of answer catalogue (One block limit) = base_of answer catalogue 1 block
-rows_of answer catalogue (Set op left right limit) = set_base op (base_of answer catalogue 1 left) (base_of answer catalogue 2 right)
+-- the rows of a query that sees so many rows of its tables, before they are put into order
+abbrev pub rows_of : Answering → Catalogue → Query → View → List Answer
+rows_of answer catalogue (One block limit) view = base_of answer catalogue 1 block view.first
+rows_of answer catalogue (Set op left right limit) view =
+    set_base op (base_of answer catalogue 1 left view.first) (base_of answer catalogue 2 right view.second)
 
 -- the answer of a query
-abbrev pub answer_of : Answering → Catalogue → Query → List Answer
-answer_of answer catalogue query = cut (limit_of query) (stable (λ (row : Answer). row.score) (rows_of answer catalogue query))
+abbrev pub answer_of : Answering → Catalogue → Query → View → List Answer
+answer_of answer catalogue query view = cut (limit_of query) (stable (λ (row : Answer). row.score) (rows_of answer catalogue query view))
+
+-- the worths of the terms of a block for these rows
+abbrev pub worths_of : Answering → Catalogue → Block → List ℕ → List ℕ
+worths_of answer catalogue block rows = map (worth_of answer catalogue block rows) block.terms
 
 -- numbers, with 0 behind them up to a length
 abbrev pub padded : ℕ → List ℕ → List ℕ
@@ -124,3 +130,7 @@ padded (suc n) (number ∷ numbers) = number ∷ padded n numbers
 -- the weights of the terms of a block, and their maxima
 abbrev pub weights_of : Block → Weights
 weights_of block = record { weight = padded 8 (map (λ (t : Term). t.weight) block.terms); max = padded 8 (map (λ (t : Term). t.max) block.terms) }
+
+-- the mask of all terms of a block
+abbrev pub all_terms : Block → ℕ
+all_terms block = 2 ^ length block.terms - 1

@@ -6,4 +6,5 @@ pub mod Extending
 pub mod Meaning
 pub mod Stored
 pub mod Tables
+pub mod Views
 pub mod WellFormed

@@ -1,18 +1,28 @@
-//! What combinations are, and which rows the parts of a block depend on: laws that hold of every catalogue and block. The
-//! functions compute nothing; each is called for its contract.
+//! What combinations are, which rows the parts of a block depend on, and what scores and their order are: laws that hold of
+//! every catalogue and block. The functions compute nothing; each is called for its contract.
 
-ghost use Rattle.std.specs.Prelude.{◌≡◌, ℕ, ◌≤◌, ◌↔◌, List, true};
+ghost use Rattle.std.specs.Prelude.{◌≡◌, ℕ, ◌≤◌, ◌*◌, ◌↔◌, List, length, map, true};
 ghost use Rattle.std.specs.Cmp.Lexicographic.{slice_cmp};
+ghost use Rattle.std.specs.List.{AllByRecursion};
 ghost use Rattle.std.specs.Ordering.{nat_cmp};
 ghost use Rattle.rs_order.specs.Climbing.{Climbs, In};
+ghost use Rattle.rs_order.specs.Sorting.{sorted};
+ghost use Rattle.rs_rank.specs.Keys.{ids_cmp, key_cmp};
 ghost use Rattle.rs_rank.specs.Masks.{has_number};
+ghost use Rattle.rs_rank.specs.Rows.{key_of};
+ghost use Rattle.rs_rank.specs.Stable.{stable};
+ghost use Rattle.rs_rank.specs.Weights.{evaluated};
+ghost use Rattle.rs_rank.specs.declared.row.RankRow.{RankRow};
+ghost use Rattle.rs_rank.specs.declared.scored_row.ScoredRow.{ScoredRow};
+ghost use Rattle.rs_rank.specs.declared.weights.Weights.{Weights};
 ghost use Rattle.rs_catalog.specs.Catalogue.{Catalogue};
-ghost use Rattle.rs_query.specs.Answers.{Answering, number_of, worth_of};
+ghost use Rattle.rs_expr.specs.Scoring.{Answering};
+ghost use Rattle.rs_query.specs.Answers.{all_terms, number_of, score_of, weights_of, worth_of, worths_of};
 ghost use Rattle.rs_query.specs.Choices.{AgreeOn, IsChoice};
 ghost use Rattle.rs_query.specs.Combinations.{combinations, satisfies};
 ghost use Rattle.rs_query.specs.Conjuncts.{ConjunctDef};
 ghost use Rattle.rs_query.specs.Meaning.{args_of, cell_of, conjunct_holds, is_inside, outputs_of};
-ghost use Rattle.rs_query.specs.WellFormed.{IsBlock, entries_of};
+ghost use Rattle.rs_query.specs.WellFormed.{AreSides, IsBlock, entries_of};
 ghost use Rattle.rs_query.specs.declared.block.Block.{Block as Bound};
 ghost use Rattle.rs_query.specs.declared.term.Term.{Term as BoundTerm};
 
@@ -52,4 +62,24 @@ pub fn parts_are_local()
     ensures outputs { (catalogue : Catalogue) (block : Bound) (mask : ℕ) (xs ys : List ℕ)
         → IsBlock catalogue block → AgreeOn mask xs ys → is_inside (entries_of block.items) mask ≡ true
         → outputs_of catalogue block xs ≡ outputs_of catalogue block ys }
+{}
+
+/// The score of a combination is what all terms of its block give to it, of the worths of the terms. Both blocks of a set
+/// query have the same weights.
+pub fn scores_are_evaluated()
+    ensures score { (answer : Answering) (catalogue : Catalogue) (block : Bound) (rows : List ℕ) → length block.terms ≤ 8
+        → evaluated (weights_of block) (all_terms block) (worths_of answer catalogue block rows)
+        ≡ score_of answer catalogue block rows block.terms }
+    ensures sides { (catalogue : Catalogue) (left right : Bound) → AreSides catalogue left right
+        → weights_of left ≡ weights_of right }
+{}
+
+/// The order of a rank index is that of keys, whatever the weight of the term. Let the sum of a row be a weight of at least 1
+/// times the score of an entry, and let the entries stand by the ids of their rows. Then to rank the entries by score is to
+/// order the rows by key.
+pub fn rankings_are_ordered_by_key()
+    ensures { (weights : Weights) (terms weight : ℕ) (row_for : ScoredRow → RankRow) (entries : List ScoredRow) → 1 ≤ weight
+        → AllByRecursion (λ e. (row_for e).sum ≡ weight * e.score) entries
+        → Climbs ids_cmp (λ e. (row_for e).ids) entries
+        → map row_for (stable (λ e. e.score) entries) ≡ sorted key_cmp (key_of weights terms) (map row_for entries) }
 {}

@@ -15,6 +15,9 @@ mod weights;
 pub use block::Block;
 pub use conjunct::Conjunct;
 pub use inside::parts_are_inside;
-pub use laws::{combinations_are_choices_that_satisfy, combinations_climb, parts_are_local};
+pub use laws::{
+    combinations_are_choices_that_satisfy, combinations_climb, parts_are_local,
+    rankings_are_ordered_by_key, scores_are_evaluated,
+};
 pub use query::Query;
 pub use term::Term;

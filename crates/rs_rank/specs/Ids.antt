@@ -14,6 +14,11 @@ pub record IsIds (ids : Ids) : Type 0 where
   pub entries : ids.mask < 2 ^ 6
   pub within : IsWithin ids.mask ids.rows
 
+-- the row numbers of the entries in a mask, and 0 at the others
+abbrev pub rows_inside : ℕ → List ℕ → List ℕ
+rows_inside mask [] = []
+rows_inside mask (row ∷ rows) = (if mask % 2 == 0 then 0 else row) ∷ rows_inside (mask / 2) rows
+
 -- ids of another block, or with other row numbers
 abbrev pub AreOtherIds : Ids → Ids → Type 0
 AreOtherIds ids other = ids.block ≡ other.block → ids.rows ≡ other.rows → ⊥

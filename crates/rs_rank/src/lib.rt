@@ -5,6 +5,7 @@
 mod answer;
 mod ask;
 mod ids;
+mod ids_laws;
 mod key;
 mod key_laws;
 mod laws;
@@ -20,6 +21,7 @@ mod weights;
 pub use answer::Answer;
 pub use ask::{Ask, JoinAsk};
 pub use ids::Ids;
+pub use ids_laws::{equal_merged_ids_have_equal_sides, merged_ids_have_both_sides};
 pub use key::Key;
 pub use key_laws::{
     equal_keys_have_equal_rows, key_order_is_total, merged_rows_have_merged_keys,
@@ -35,5 +37,7 @@ pub use row::RankRow;
 pub use scored_row::ScoredRow;
 pub use stable::{Scored, sort_stably};
 pub use turn_laws::turns_are_the_asks;
-pub use weight_laws::{no_sum_passes_the_limit, one_more_term, terms_are_inside_or_outside};
+pub use weight_laws::{
+    no_sum_passes_the_limit, one_more_term, terms_are_inside_or_outside, terms_of_two_masks_add_up,
+};
 pub use weights::Weights;

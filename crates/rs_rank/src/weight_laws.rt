@@ -2,7 +2,7 @@
 
 ghost use Rattle.std.specs.Prelude.{◌≡◌, ◌≤◌, ◌+◌, ◌*◌, ◌-◌, ℕ, bit_or, false, List, length, slice_index};
 ghost use Rattle.rs_rank.specs.declared.weights.Weights.{Weights};
-ghost use Rattle.rs_rank.specs.Masks.{has_number, mask_of};
+ghost use Rattle.rs_rank.specs.Masks.{AreDisjoint, has_number, mask_of};
 ghost use Rattle.rs_rank.specs.Weights.{IsBound, IsWeights, evaluated, greatest_score, most_evaluated, rest, score_limit};
 
 /// A term is in a mask or outside it: both parts of the greatest score make it up.
@@ -30,4 +30,13 @@ pub fn one_more_term()
         → length worths ≡ 8 → has_number terms term ≡ false
         → evaluated weights (bit_or terms (mask_of term)) worths
         ≡ evaluated weights terms worths + slice_index weights.weight (term - 1) * slice_index worths (term - 1) }
+{}
+
+/// What the terms of two masks give together is the sum of what each gives, where no term is in both; and so it is of the
+/// most that they can give.
+pub fn terms_of_two_masks_add_up()
+    ensures evaluated { (weights : Weights) (left right : ℕ) (worths : List ℕ) → AreDisjoint left right
+        → evaluated weights (bit_or left right) worths ≡ evaluated weights left worths + evaluated weights right worths }
+    ensures most { (weights : Weights) (left right : ℕ) → AreDisjoint left right
+        → most_evaluated weights (bit_or left right) ≡ most_evaluated weights left + most_evaluated weights right }
 {}

@@ -1,18 +1,22 @@
-use Rattle.std.proofs.Common.{◌≡◌, ◌∙◌, ◌-◌, ◌<◌, ◌∷◌, [], length, true, get_or, ap, subst, arith, rules}
+use Rattle.std.proofs.Common.{◌≡◌, ◌∙◌, ◌-◌, ◌<◌, ◌∷◌, [], length, true, get_or, sym, ap, subst, arith, rules}
 use Rattle.std.specs.Prelude.{Err}
 use Rattle.std.specs.Int.{w128}
 use Rattle.std.proofs.lemmas.Int.{to_z-of_z}
 use Rattle.std.proofs.lemmas.Option.{slice_get_within}
 use Rattle.rs_value.specs.Value.{all_fit}
+use Rattle.rs_expr.specs.InOrder.{Inquires}
+use Rattle.rs_expr.specs.Scoring.{call_of}
+use Rattle.rs_expr.proofs.ScoringFacts.{Scored}
 use Rattle.rs_query.specs.Answers.{worth_of}
 use Rattle.rs_query.specs.Meaning.{is_inside}
 use Rattle.rs_query.specs.Tables.{all_entries}
 use Rattle.rs_query.specs.WellFormed.{IsTerm}
 use Rattle.rs_query.specs.declared.term.Term.{Term as BoundTerm}
-use Rattle.rs_plain.specs.Asking.{evaluating, question_of, seen, worth_for}
-use Rattle.rs_plain.specs.Evaluating.{Evaluates}
-use Rattle.rs_plain.specs.declared.fault.PlainFault.TheVariants.{Probe}
-use Rattle.rs_plain.proofs.AskFacts.{Evaluates-got, Evaluates-refused}
+use Rattle.rs_plain.specs.Asking.{worth_for}
+use Rattle.rs_plain.specs.Plain.{evaluating, question_of}
+use Rattle.rs_plain.specs.declared.fault.PlainFault.TheVariants.{Memory, Probe}
+use Rattle.rs_plain.proofs.AskFacts.{Inquires-got, Inquires-no_call, Inquires-no_memory, Inquires-refused}
+use Rattle.rs_plain.proofs.QuestionFacts.{given-err}
 use Rattle.rs_query.proofs.EntryFacts.{terms-inside}
 use Rattle.rs_order.proofs.EachFacts.{each-slice_get}
 use Rattle.rs_plain.proofs.RowFacts.{each-at, slice_get-at}
@@ -41,37 +45,59 @@ score-requires g c =
     ap (all_fit c.predicate-predicate.result.now.params) c.deref.ensures.value
     ∙ c.in_ok-args.ensures.fit c.index-term.result.now c.predicate-predicate.result.now at c.predicate-predicate.ensures
 
-pub returns-in-Ok-clause-asks : goal.returns-in-Ok-clause-asks
-returns-in-Ok-clause-asks g c = λ term e.
-    let is : c.index-term.result.now ≡ get_or c.args.block.now.terms (c.args.number - 1) c.index-term.result.now =
-    subst (λ terms. c.index-term.result.now ≡ get_or terms (c.args.number - 1) c.index-term.result.now) c.items.ensures c.index-term.ensures in
-    let within : c.args.number - 1 < length c.args.block.now.terms = omega arith in
-    let at = slice_get-at c.args.block.now.terms (c.args.number - 1) c.index-term.result.now within is in
-    let same : c.index-term.result.now ≡ term = cc in
-    subst (λ t. Evaluates c.args.catalog.now
-    (evaluating (g.S.Scorer.answer c.args.scorer.now) c.args.catalog.now (question_of c.args.ids.now.block c.args.block.now c.args.ids.now.rows t ∷ [])
-    (worth_of (g.S.Scorer.answer c.args.scorer.now) c.args.catalog.now c.args.block.now c.args.ids.now.rows t))
-    c.worth_for.result
-    (seen (g.S.Scorer.told c.args.scorer.now) (g.S.Scorer.told c.score.new.self) (g.S.Scorer.calls c.args.scorer.now) (g.S.Scorer.calls c.score.new.self) (g.S.Scorer.faults c.args.scorer.now) (g.S.Scorer.faults c.score.new.self))
-    (g.S.Scorer.steady c.args.scorer.now)) same
-    (Evaluates-got (g.S.Scorer.answer c.args.scorer.now) c.args.catalog.now c.args.block.now c.args.ids.now c.index-term.result.now c.predicate-predicate.result.now c.deref.result.now
-    c.max.result c.in-Ok.got c.worth_for.result _ _ c.predicate-predicate.ensures (c.deref.ensures.value ∙ c.in_ok-args.ensures.value c.index-term.result.now at) c.max.ensures.value
-    c.in-Ok.ensures.answers
-    (c.worth_for.ensures ∙ ap (worth_for c.index-term.result.now c.args.ids.now c.max.result) (to_z-of_z w128 c.in-Ok.got (search rules))) (record { told = c.in-Ok.ensures.told; counted = c.in-Ok.ensures.calls }))
+pub returns-in_err-args : goal.returns-in_err-args
+returns-in_err-args g c = λ term e.
+    let old = g.S.Scorer.state c.args.scorer.now in
+    subst (λ r. Inquires Memory (evaluating old.answer c.args.catalog.now (question_of c.args.ids.now.block c.args.block.now c.args.ids.now.rows term ∷ [])
+    (worth_of old.answer c.args.catalog.now c.args.block.now c.args.ids.now.rows term)) r old old)
+    (sym (given-err c.from_residual.result Memory c.from_residual.ensures))
+    (Inquires-no_call c.args.catalog.now c.args.block.now c.args.ids.now term old)
 
-pub returns-in-Err-Failed-clause-asks : goal.returns-in-Err-Failed-clause-asks
-returns-in-Err-Failed-clause-asks g c = λ term e.
+pub returns-in-Ok : goal.returns-in-Ok
+returns-in-Ok g c = λ term e.
     let is : c.index-term.result.now ≡ get_or c.args.block.now.terms (c.args.number - 1) c.index-term.result.now =
     subst (λ terms. c.index-term.result.now ≡ get_or terms (c.args.number - 1) c.index-term.result.now) c.items.ensures c.index-term.ensures in
     let within : c.args.number - 1 < length c.args.block.now.terms = omega arith in
     let at = slice_get-at c.args.block.now.terms (c.args.number - 1) c.index-term.result.now within is in
     let same : c.index-term.result.now ≡ term = cc in
-    subst (λ t. Evaluates c.args.catalog.now
-    (evaluating (g.S.Scorer.answer c.args.scorer.now) c.args.catalog.now (question_of c.args.ids.now.block c.args.block.now c.args.ids.now.rows t ∷ [])
-    (worth_of (g.S.Scorer.answer c.args.scorer.now) c.args.catalog.now c.args.block.now c.args.ids.now.rows t))
-    (Err (Probe c.index-term.result.now.predicate))
-    (seen (g.S.Scorer.told c.args.scorer.now) (g.S.Scorer.told c.score.new.self) (g.S.Scorer.calls c.args.scorer.now) (g.S.Scorer.calls c.score.new.self) (g.S.Scorer.faults c.args.scorer.now) (g.S.Scorer.faults c.score.new.self))
-    (g.S.Scorer.steady c.args.scorer.now)) same
-    (Evaluates-refused (g.S.Scorer.answer c.args.scorer.now) c.args.catalog.now c.args.block.now c.args.ids.now c.index-term.result.now c.predicate-predicate.result.now c.deref.result.now
-    c.in-Err-Failed.field-0 _ _ _ _ _ _ _ (g.S.Scorer.steady c.score.new.self) c.predicate-predicate.ensures (c.deref.ensures.value ∙ c.in_ok-args.ensures.value c.index-term.result.now at)
-    c.in-Err-Failed.field-0-is c.in-Err-Failed.ensures.told c.in-Err-Failed.ensures.calls c.in-Err-Failed.ensures.failed c.in-Err-Failed.ensures.steady)
+    let old = g.S.Scorer.state c.args.scorer.now in
+    let new = g.S.Scorer.state c.score.new.self in
+    subst (λ t. Inquires Memory (evaluating old.answer c.args.catalog.now (question_of c.args.ids.now.block c.args.block.now c.args.ids.now.rows t ∷ [])
+    (worth_of old.answer c.args.catalog.now c.args.block.now c.args.ids.now.rows t)) c.worth_for.result old new) same
+    (Inquires-got c.args.catalog.now c.args.block.now c.args.ids.now c.index-term.result.now old new c.predicate-predicate.result.now c.deref.result.now
+    c.predicate-predicate.ensures (c.deref.ensures.value ∙ c.in_ok-args.ensures.value c.index-term.result.now at)
+    c.max.result c.in-Ok.got c.worth_for.result c.max.ensures.value c.in-Ok.ensures.answers
+    (c.worth_for.ensures ∙ ap (worth_for c.index-term.result.now c.args.ids.now c.max.result) (to_z-of_z w128 c.in-Ok.got (search rules)))
+    (record { same = c.in-Ok.ensures.same; told = c.in-Ok.ensures.told; calls = c.in-Ok.ensures.calls; counts = c.in-Ok.ensures.counts }))
+
+pub returns-in-Err-Failed : goal.returns-in-Err-Failed
+returns-in-Err-Failed g c = λ term e.
+    let is : c.index-term.result.now ≡ get_or c.args.block.now.terms (c.args.number - 1) c.index-term.result.now =
+    subst (λ terms. c.index-term.result.now ≡ get_or terms (c.args.number - 1) c.index-term.result.now) c.items.ensures c.index-term.ensures in
+    let within : c.args.number - 1 < length c.args.block.now.terms = omega arith in
+    let at = slice_get-at c.args.block.now.terms (c.args.number - 1) c.index-term.result.now within is in
+    let same : c.index-term.result.now ≡ term = cc in
+    let old = g.S.Scorer.state c.args.scorer.now in
+    let new = g.S.Scorer.state c.score.new.self in
+    subst (λ t. Inquires Memory (evaluating old.answer c.args.catalog.now (question_of c.args.ids.now.block c.args.block.now c.args.ids.now.rows t ∷ [])
+    (worth_of old.answer c.args.catalog.now c.args.block.now c.args.ids.now.rows t)) (Err (Probe c.index-term.result.now.predicate)) old new) same
+    (Inquires-refused c.args.catalog.now c.args.block.now c.args.ids.now c.index-term.result.now old new c.predicate-predicate.result.now c.deref.result.now
+    c.predicate-predicate.ensures (c.deref.ensures.value ∙ c.in_ok-args.ensures.value c.index-term.result.now at)
+    (subst (λ f. Scored (call_of c.predicate-predicate.result.now c.deref.result.now) (Err f) old new) c.in-Err-Failed.field-0-is
+    (record { same = c.in-Err-Failed.ensures.same; told = c.in-Err-Failed.ensures.told; calls = c.in-Err-Failed.ensures.calls; counts = c.in-Err-Failed.ensures.counts })))
+
+pub returns : goal.returns
+returns g c = λ term e.
+    let is : c.index-term.result.now ≡ get_or c.args.block.now.terms (c.args.number - 1) c.index-term.result.now =
+    subst (λ terms. c.index-term.result.now ≡ get_or terms (c.args.number - 1) c.index-term.result.now) c.items.ensures c.index-term.ensures in
+    let within : c.args.number - 1 < length c.args.block.now.terms = omega arith in
+    let at = slice_get-at c.args.block.now.terms (c.args.number - 1) c.index-term.result.now within is in
+    let same : c.index-term.result.now ≡ term = cc in
+    let old = g.S.Scorer.state c.args.scorer.now in
+    let new = g.S.Scorer.state c.score.new.self in
+    subst (λ t. Inquires Memory (evaluating old.answer c.args.catalog.now (question_of c.args.ids.now.block c.args.block.now c.args.ids.now.rows t ∷ [])
+    (worth_of old.answer c.args.catalog.now c.args.block.now c.args.ids.now.rows t)) (Err Memory) old new) same
+    (Inquires-no_memory c.args.catalog.now c.args.block.now c.args.ids.now c.index-term.result.now old new c.predicate-predicate.result.now c.deref.result.now
+    c.predicate-predicate.ensures (c.deref.ensures.value ∙ c.in_ok-args.ensures.value c.index-term.result.now at)
+    (subst (λ f. Scored (call_of c.predicate-predicate.result.now c.deref.result.now) (Err f) old new) c.in-Err-Memory.field-0-is
+    (record { same = c.in-Err-Memory.ensures.same; told = c.in-Err-Memory.ensures.told; calls = c.in-Err-Memory.ensures.calls; counts = c.in-Err-Memory.ensures.counts })))

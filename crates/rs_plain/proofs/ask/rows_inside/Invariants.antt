@@ -1,5 +1,5 @@
 use Rattle.std.proofs.Common.{◌≡◌, ◌++◌, length, take, drop}
-use Rattle.rs_plain.specs.Plain.{rows_inside}
+use Rattle.rs_rank.specs.Ids.{rows_inside}
 use Rattle.rs_plain.proofs.ask.rows_inside.Given as goal
 
 -- the row numbers in front of the entry are done, and the mask is that of the entries from there on

@@ -2,4 +2,4 @@ use Rattle.rs_plain.proofs.OrderFacts.{Rise-query}
 use Rattle.rs_plain.proofs.laws.rows_climb.Goals as goal
 
 pub returns : goal.returns
-returns c = λ answer catalogue query. Rise-query answer catalogue query
+returns c = λ answer catalogue query view. Rise-query answer catalogue query view

@@ -1,85 +1,97 @@
-use Rattle.std.proofs.Common.{List, ◌∙◌, ◌++◌, [], Ok, refl, sym, ap, subst, append-nil, arith}
+use Rattle.std.proofs.Common.{List, ◌∙◌, ◌++◌, [], Ok, refl, sym, ap, subst, append-nil}
 use Rattle.rs_rank.specs.declared.answer.Answer.{Answer}
-use Rattle.rs_query.specs.Answers.{Answering, base_of, rows_of, set_base}
-use Rattle.rs_plain.specs.Asking.{evaluating, seen}
-use Rattle.rs_plain.specs.Evaluating.{Evaluates, items_of}
-use Rattle.rs_plain.specs.Plain.{block_questions, questions_of}
+use Rattle.rs_expr.specs.InOrder.{Inquires}
+use Rattle.rs_expr.specs.Scoring.{Answering}
+use Rattle.rs_query.specs.Answers.{base_of, rows_of, set_base}
+use Rattle.rs_query.specs.Tables.{sizes_of}
+use Rattle.rs_query.specs.Views.{all_rows}
+use Rattle.rs_plain.specs.Plain.{block_questions, evaluating, questions_of}
+use Rattle.rs_plain.specs.Results.{items_of}
 use Rattle.rs_plain.specs.declared.fault.PlainFault.TheVariants.{Memory}
-use Rattle.rs_plain.proofs.QuestionFacts.{Asked-more, Asked-none, Ends-behind, Evaluates-behind, Gave-alike, Gave-ok, Stops-behind, given-items}
+use Rattle.rs_plain.proofs.QuestionFacts.{Asked-more, Asked-none, Ended-behind, Gave-behind, Gave-ok, Failed-behind, Stopped-behind, given-items}
 use Rattle.rs_plain.proofs.rows.query_rows.Goals as goal
 
-pub returns-in-One-clause-evaluates : goal.returns-in-One-clause-evaluates
-returns-in-One-clause-evaluates g c =
-    subst (λ query. Evaluates c.args.catalog.now
-    (evaluating (g.S.Scorer.answer c.args.scorer.now) c.args.catalog.now (questions_of c.args.catalog.now query) (rows_of (g.S.Scorer.answer c.args.scorer.now) c.args.catalog.now query))
-    (items_of c.base_rows.result)
-    (seen (g.S.Scorer.told c.args.scorer.now) (g.S.Scorer.told c.base_rows.new.scorer) (g.S.Scorer.calls c.args.scorer.now) (g.S.Scorer.calls c.base_rows.new.scorer) (g.S.Scorer.faults c.args.scorer.now) (g.S.Scorer.faults c.base_rows.new.scorer))
-    (g.S.Scorer.steady c.args.scorer.now))
-    (sym c.in-One.is) c.base_rows.ensures.evaluates
+pub returns-in-One : goal.returns-in-One
+returns-in-One g c =
+    let old = g.S.Scorer.state c.args.scorer.now in
+    subst (λ query. Inquires Memory
+    (evaluating old.answer c.args.catalog.now (questions_of c.args.catalog.now query (all_rows c.args.catalog.now query))
+    (rows_of old.answer c.args.catalog.now query (all_rows c.args.catalog.now query)))
+    (items_of c.base_rows.result) old (g.S.Scorer.state c.base_rows.new.scorer))
+    (sym c.in-One.is) c.base_rows.ensures
 
-pub returns-in_err-first-in-Set-clause-evaluates : goal.returns-in_err-first-in-Set-clause-evaluates
-returns-in_err-first-in-Set-clause-evaluates g c =
-    let left = block_questions c.args.catalog.now 1 c.in-Set.left in
-    let right = block_questions c.args.catalog.now 2 c.in-Set.right in
-    subst (λ query. Evaluates c.args.catalog.now
-    (evaluating (g.S.Scorer.answer c.args.scorer.now) c.args.catalog.now (questions_of c.args.catalog.now query) (rows_of (g.S.Scorer.answer c.args.scorer.now) c.args.catalog.now query))
-    (items_of c.from_residual.result)
-    (seen (g.S.Scorer.told c.args.scorer.now) (g.S.Scorer.told c.base_rows-in-Set.new.scorer) (g.S.Scorer.calls c.args.scorer.now) (g.S.Scorer.calls c.base_rows-in-Set.new.scorer) (g.S.Scorer.faults c.args.scorer.now) (g.S.Scorer.faults c.base_rows-in-Set.new.scorer))
-    (g.S.Scorer.steady c.args.scorer.now))
+pub returns-in_err-first-in-Set : goal.returns-in_err-first-in-Set
+returns-in_err-first-in-Set g c =
+    let left = block_questions c.args.catalog.now 1 c.in-Set.left (sizes_of c.args.catalog.now c.in-Set.left) in
+    let right = block_questions c.args.catalog.now 2 c.in-Set.right (sizes_of c.args.catalog.now c.in-Set.right) in
+    let old = g.S.Scorer.state c.args.scorer.now in
+    let middle = g.S.Scorer.state c.base_rows-in-Set.new.scorer in
+    subst (λ query. Inquires Memory
+    (evaluating old.answer c.args.catalog.now (questions_of c.args.catalog.now query (all_rows c.args.catalog.now query))
+    (rows_of old.answer c.args.catalog.now query (all_rows c.args.catalog.now query)))
+    (items_of c.from_residual.result) old middle)
     (sym c.in-Set.is)
-    (Evaluates-behind {A = List Answer} {B = List Answer} (g.S.Scorer.answer c.args.scorer.now) (g.S.Scorer.answer c.args.scorer.now) c.args.catalog.now
-    [] left right (left ++ right) (λ (a : Answering). base_of a c.args.catalog.now 1 c.in-Set.left) _ c.in_err-first-in-Set.field-0.0 _
-    _ _ _ _ _ _ _ _ _ _ _ refl refl (given-items c.from_residual.result c.in_err-first-in-Set.field-0.0 c.from_residual.ensures)
-    (Asked-none (g.S.Scorer.answer c.args.scorer.now) c.args.catalog.now _ _ _) (omega arith) (λ s. s) c.in_err-first-in-Set.ensures.evaluates)
+    (Failed-behind c.args.catalog.now {A = List Answer} {B = List Answer} [] left right (left ++ right)
+    (λ (a : Answering). base_of a c.args.catalog.now 1 c.in-Set.left (sizes_of c.args.catalog.now c.in-Set.left)) _ c.in_err-first-in-Set.field-0.0 _ old old middle
+    refl (given-items c.from_residual.result c.in_err-first-in-Set.field-0.0 c.from_residual.ensures)
+    (Asked-none old.answer c.args.catalog.now old) c.in_err-first-in-Set.ensures)
 
-pub returns-in_err-second-in-Set-clause-evaluates : goal.returns-in_err-second-in-Set-clause-evaluates
-returns-in_err-second-in-Set-clause-evaluates g c =
-    let left = block_questions c.args.catalog.now 1 c.in-Set.left in
-    let right = block_questions c.args.catalog.now 2 c.in-Set.right in
-    let gave = Gave-ok (g.S.Scorer.answer c.args.scorer.now) c.args.catalog.now left _ c.in_ok-first-in-Set.first.items _ _ c.in_ok-first-in-Set.ensures.evaluates in
-    subst (λ query. Evaluates c.args.catalog.now
-    (evaluating (g.S.Scorer.answer c.args.scorer.now) c.args.catalog.now (questions_of c.args.catalog.now query) (rows_of (g.S.Scorer.answer c.args.scorer.now) c.args.catalog.now query))
-    (items_of c.from_residual-in_err-second-in-Set.result)
-    (seen (g.S.Scorer.told c.args.scorer.now) (g.S.Scorer.told c.base_rows-in-Set-2.new.scorer) (g.S.Scorer.calls c.args.scorer.now) (g.S.Scorer.calls c.base_rows-in-Set-2.new.scorer) (g.S.Scorer.faults c.args.scorer.now) (g.S.Scorer.faults c.base_rows-in-Set-2.new.scorer))
-    (g.S.Scorer.steady c.args.scorer.now))
+pub returns-in_err-second-in-Set : goal.returns-in_err-second-in-Set
+returns-in_err-second-in-Set g c =
+    let left = block_questions c.args.catalog.now 1 c.in-Set.left (sizes_of c.args.catalog.now c.in-Set.left) in
+    let right = block_questions c.args.catalog.now 2 c.in-Set.right (sizes_of c.args.catalog.now c.in-Set.right) in
+    let old = g.S.Scorer.state c.args.scorer.now in
+    let middle = g.S.Scorer.state c.base_rows-in-Set.new.scorer in
+    let new = g.S.Scorer.state c.base_rows-in-Set-2.new.scorer in
+    let gave = Gave-ok old.answer c.args.catalog.now left _ c.in_ok-first-in-Set.first.items old middle c.in_ok-first-in-Set.ensures in
+    subst (λ query. Inquires Memory
+    (evaluating old.answer c.args.catalog.now (questions_of c.args.catalog.now query (all_rows c.args.catalog.now query))
+    (rows_of old.answer c.args.catalog.now query (all_rows c.args.catalog.now query)))
+    (items_of c.from_residual-in_err-second-in-Set.result) old new)
     (sym c.in-Set.is)
-    (Evaluates-behind {A = List Answer} {B = List Answer} (g.S.Scorer.answer c.args.scorer.now) (g.S.Scorer.answer c.base_rows-in-Set.new.scorer) c.args.catalog.now
-    left right [] (left ++ right) (λ (a : Answering). base_of a c.args.catalog.now 2 c.in-Set.right) _ c.in_err-second-in-Set.field-0.0 _
-    _ _ _ _ _ _ _ _ _ _ _ c.in_ok-first-in-Set.ensures.same (ap (λ more. left ++ more) (sym (append-nil right)))
+    (Failed-behind c.args.catalog.now {A = List Answer} {B = List Answer} left right [] (left ++ right)
+    (λ (a : Answering). base_of a c.args.catalog.now 2 c.in-Set.right (sizes_of c.args.catalog.now c.in-Set.right)) _ c.in_err-second-in-Set.field-0.0 _ old middle new
+    (ap (λ more. left ++ more) (sym (append-nil right)))
     (given-items c.from_residual-in_err-second-in-Set.result c.in_err-second-in-Set.field-0.0 c.from_residual-in_err-second-in-Set.ensures)
-    gave.asked c.in_ok-first-in-Set.ensures.faults c.in_ok-first-in-Set.ensures.steady c.in_err-second-in-Set.ensures.evaluates)
+    gave.asked c.in_err-second-in-Set.ensures)
 
-pub returns-in_err-set_rows-in-Set-clause-evaluates : goal.returns-in_err-set_rows-in-Set-clause-evaluates
-returns-in_err-set_rows-in-Set-clause-evaluates g c =
-    let left = block_questions c.args.catalog.now 1 c.in-Set.left in
-    let right = block_questions c.args.catalog.now 2 c.in-Set.right in
-    let gave = Gave-ok (g.S.Scorer.answer c.args.scorer.now) c.args.catalog.now left _ c.in_ok-first-in-Set.first.items _ _ c.in_ok-first-in-Set.ensures.evaluates in
-    let also = Gave-alike {A = List Answer} (g.S.Scorer.answer c.args.scorer.now) (g.S.Scorer.answer c.base_rows-in-Set.new.scorer) c.args.catalog.now right
-    (λ (a : Answering). base_of a c.args.catalog.now 2 c.in-Set.right) c.in_ok-second-in-Set.second.items _ _ c.in_ok-first-in-Set.ensures.same c.in_ok-second-in-Set.ensures.evaluates in
-    let asked = Asked-more (g.S.Scorer.answer c.args.scorer.now) c.args.catalog.now left right _ _ _ _ _ _ _ _ _ gave.asked also.asked in
-    subst (λ query. Evaluates c.args.catalog.now
-    (evaluating (g.S.Scorer.answer c.args.scorer.now) c.args.catalog.now (questions_of c.args.catalog.now query) (rows_of (g.S.Scorer.answer c.args.scorer.now) c.args.catalog.now query))
-    (items_of c.from_residual-in_err-set_rows-in-Set.result)
-    (seen (g.S.Scorer.told c.args.scorer.now) (g.S.Scorer.told c.base_rows-in-Set-2.new.scorer) (g.S.Scorer.calls c.args.scorer.now) (g.S.Scorer.calls c.base_rows-in-Set-2.new.scorer) (g.S.Scorer.faults c.args.scorer.now) (g.S.Scorer.faults c.base_rows-in-Set-2.new.scorer))
-    (g.S.Scorer.steady c.args.scorer.now))
+pub returns-in_err-set_rows-in-Set : goal.returns-in_err-set_rows-in-Set
+returns-in_err-set_rows-in-Set g c =
+    let left = block_questions c.args.catalog.now 1 c.in-Set.left (sizes_of c.args.catalog.now c.in-Set.left) in
+    let right = block_questions c.args.catalog.now 2 c.in-Set.right (sizes_of c.args.catalog.now c.in-Set.right) in
+    let old = g.S.Scorer.state c.args.scorer.now in
+    let middle = g.S.Scorer.state c.base_rows-in-Set.new.scorer in
+    let new = g.S.Scorer.state c.base_rows-in-Set-2.new.scorer in
+    let gave = Gave-ok old.answer c.args.catalog.now left _ c.in_ok-first-in-Set.first.items old middle c.in_ok-first-in-Set.ensures in
+    let also = Gave-behind c.args.catalog.now {A = List Answer} left right
+    (λ (a : Answering). base_of a c.args.catalog.now 2 c.in-Set.right (sizes_of c.args.catalog.now c.in-Set.right)) c.in_ok-second-in-Set.second.items old middle new
+    gave.asked c.in_ok-second-in-Set.ensures in
+    subst (λ query. Inquires Memory
+    (evaluating old.answer c.args.catalog.now (questions_of c.args.catalog.now query (all_rows c.args.catalog.now query))
+    (rows_of old.answer c.args.catalog.now query (all_rows c.args.catalog.now query)))
+    (items_of c.from_residual-in_err-set_rows-in-Set.result) old new)
     (sym c.in-Set.is)
-    (Stops-behind {A = List Answer} (g.S.Scorer.answer c.args.scorer.now) c.args.catalog.now (left ++ right) _ _ _ _
-    (given-items c.from_residual-in_err-set_rows-in-Set.result Memory c.from_residual-in_err-set_rows-in-Set.ensures) asked)
+    (Stopped-behind c.args.catalog.now {A = List Answer} (left ++ right) _ _ old new
+    (given-items c.from_residual-in_err-set_rows-in-Set.result Memory c.from_residual-in_err-set_rows-in-Set.ensures)
+    (Asked-more old.answer c.args.catalog.now left right old middle new gave.asked also.asked))
 
-pub returns-in_ok-set_rows-in-Set-clause-evaluates : goal.returns-in_ok-set_rows-in-Set-clause-evaluates
-returns-in_ok-set_rows-in-Set-clause-evaluates g c =
-    let left = block_questions c.args.catalog.now 1 c.in-Set.left in
-    let right = block_questions c.args.catalog.now 2 c.in-Set.right in
-    let gave = Gave-ok (g.S.Scorer.answer c.args.scorer.now) c.args.catalog.now left _ c.in_ok-first-in-Set.first.items _ _ c.in_ok-first-in-Set.ensures.evaluates in
-    let also = Gave-alike {A = List Answer} (g.S.Scorer.answer c.args.scorer.now) (g.S.Scorer.answer c.base_rows-in-Set.new.scorer) c.args.catalog.now right
-    (λ (a : Answering). base_of a c.args.catalog.now 2 c.in-Set.right) c.in_ok-second-in-Set.second.items _ _ c.in_ok-first-in-Set.ensures.same c.in_ok-second-in-Set.ensures.evaluates in
-    let asked = Asked-more (g.S.Scorer.answer c.args.scorer.now) c.args.catalog.now left right _ _ _ _ _ _ _ _ _ gave.asked also.asked in
-    subst (λ query. Evaluates c.args.catalog.now
-    (evaluating (g.S.Scorer.answer c.args.scorer.now) c.args.catalog.now (questions_of c.args.catalog.now query) (rows_of (g.S.Scorer.answer c.args.scorer.now) c.args.catalog.now query))
-    (Ok c.in_ok-set_rows-in-Set.field-0.items)
-    (seen (g.S.Scorer.told c.args.scorer.now) (g.S.Scorer.told c.base_rows-in-Set-2.new.scorer) (g.S.Scorer.calls c.args.scorer.now) (g.S.Scorer.calls c.base_rows-in-Set-2.new.scorer) (g.S.Scorer.faults c.args.scorer.now) (g.S.Scorer.faults c.base_rows-in-Set-2.new.scorer))
-    (g.S.Scorer.steady c.args.scorer.now))
+pub returns-in_ok-set_rows-in-Set : goal.returns-in_ok-set_rows-in-Set
+returns-in_ok-set_rows-in-Set g c =
+    let left = block_questions c.args.catalog.now 1 c.in-Set.left (sizes_of c.args.catalog.now c.in-Set.left) in
+    let right = block_questions c.args.catalog.now 2 c.in-Set.right (sizes_of c.args.catalog.now c.in-Set.right) in
+    let old = g.S.Scorer.state c.args.scorer.now in
+    let middle = g.S.Scorer.state c.base_rows-in-Set.new.scorer in
+    let new = g.S.Scorer.state c.base_rows-in-Set-2.new.scorer in
+    let gave = Gave-ok old.answer c.args.catalog.now left _ c.in_ok-first-in-Set.first.items old middle c.in_ok-first-in-Set.ensures in
+    let also = Gave-behind c.args.catalog.now {A = List Answer} left right
+    (λ (a : Answering). base_of a c.args.catalog.now 2 c.in-Set.right (sizes_of c.args.catalog.now c.in-Set.right)) c.in_ok-second-in-Set.second.items old middle new
+    gave.asked c.in_ok-second-in-Set.ensures in
+    subst (λ query. Inquires Memory
+    (evaluating old.answer c.args.catalog.now (questions_of c.args.catalog.now query (all_rows c.args.catalog.now query))
+    (rows_of old.answer c.args.catalog.now query (all_rows c.args.catalog.now query)))
+    (Ok c.in_ok-set_rows-in-Set.field-0.items) old new)
     (sym c.in-Set.is)
-    (Ends-behind {A = List Answer} (g.S.Scorer.answer c.args.scorer.now) c.args.catalog.now (left ++ right) (left ++ right) _ c.in_ok-set_rows-in-Set.field-0.items _ _ refl
+    (Ended-behind c.args.catalog.now {A = List Answer} (left ++ right) (left ++ right) _ c.in_ok-set_rows-in-Set.field-0.items old new refl
     (c.in_ok-set_rows-in-Set.ensures ∙ ap (λ rows. set_base c.in-Set.op rows c.in_ok-second-in-Set.second.items) gave.is_value
-    ∙ ap (set_base c.in-Set.op (base_of (g.S.Scorer.answer c.args.scorer.now) c.args.catalog.now 1 c.in-Set.left)) also.is_value) asked)
+    ∙ ap (set_base c.in-Set.op (base_of old.answer c.args.catalog.now 1 c.in-Set.left (sizes_of c.args.catalog.now c.in-Set.left))) also.is_value)
+    (Asked-more old.answer c.args.catalog.now left right old middle new gave.asked also.asked))
