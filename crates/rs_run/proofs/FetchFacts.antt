@@ -1,5 +1,5 @@
 -- What follows of a fetch in the calls above it.
-use Rattle.std.proofs.Common.{ℕ, ◌≡◌, ◌∙◌, ◌++◌, List, [], ◌∷◌, refl, sym, ap, subst, inl, inr}
+use Rattle.std.proofs.Common.{ℕ, ◌≡◌, ◌∙◌, List, [], ◌∷◌, refl, sym, ap, subst, inl, inr}
 use Rattle.std.specs.Prelude.{Option, Some, Result, Ok, Err, ◌⊎◌}
 use Rattle.rs_value.specs.Outside.{Outside}
 use Rattle.rs_outside.specs.Files.{FilesTold}

@@ -1,9 +1,9 @@
 -- What the step of a rank index did, from what the catalogue did.
-use Rattle.std.proofs.Common.{ℕ, ◌≡◌, ◌∙◌, ◌++◌, List, [], ◌∷◌, map, Some, None, refl, sym, ap, subst, inl, inr, append-nil}
-use Rattle.std.specs.Prelude.{Option, Result, Ok, Err, slice_get}
+use Rattle.std.proofs.Common.{ℕ, ◌≡◌, ◌∙◌, List, [], ◌∷◌, map, Some, None, refl, sym, ap, subst, inl, append-nil}
+use Rattle.std.specs.Prelude.{Result, Ok, Err, slice_get}
 use Rattle.rs_rank.specs.declared.scored_row.ScoredRow.{ScoredRow}
 use Rattle.rs_value.specs.declared.value.Value.{Value}
-use Rattle.rs_expr.specs.InOrder.{Inquires, Inquiry}
+use Rattle.rs_expr.specs.InOrder.{Inquires}
 use Rattle.rs_expr.specs.Predicates.{PredicateDef}
 use Rattle.rs_expr.specs.Scoring.{Answering, ScorerState}
 use Rattle.rs_catalog.specs.Catalogue.{Catalogue}

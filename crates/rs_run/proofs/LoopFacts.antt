@@ -1,6 +1,6 @@
 -- Statements that were run one after another.
-use Rattle.std.proofs.Common.{ℕ, zero, suc, ◌≡◌, ◌∙◌, ◌≤◌, ◌++◌, List, [], ◌∷◌, Some, None, refl, sym, ap, subst, append_assoc, append-nil, arith}
-use Rattle.std.specs.Prelude.{Option, Result, Ok, Err, drop, length, map, slice_index_or, ◌<◌}
+use Rattle.std.proofs.Common.{ℕ, zero, suc, ◌≡◌, ◌≤◌, ◌++◌, List, [], ◌∷◌, Some, None, refl, sym, ap, subst, append_assoc, append-nil, arith}
+use Rattle.std.specs.Prelude.{Result, Ok, Err, drop, length, map, slice_index_or, ◌<◌}
 use Rattle.rs_run.specs.declared.fault.Fault.{Fault}
 use Rattle.rs_run.specs.Parts.Steps.{HasDone, Ran, Runs, Stepped, run_of}
 use Rattle.rs_run.specs.Run.{Event, Run, behind}
@@ -27,12 +27,12 @@ module _ {S C : Type 0} (does : ℕ → S → C → Step S → Type 0) where
         go later step is (Err fault) e = (
           record { events = step.events; fault = Some fault },
           runs-step number state command rest step (record { events = step.events; fault = Some fault }) is
-            (subst (λ o. RunsOn (λ next more. RunOf does (suc number) next rest more) step.events o (record { events = step.events; fault = Some fault })) (sym e) refl),
+              (subst (λ o. RunsOn (λ next more. RunOf does (suc number) next rest more) step.events o (record { events = step.events; fault = Some fault })) (sym e) refl),
         )
         go later step is (Ok next) e = let more = later next in (
           behind step.events more.0,
           runs-step number state command rest step (behind step.events more.0) is
-            (subst (λ o. RunsOn (λ next more. RunOf does (suc number) next rest more) step.events o (behind step.events more.0)) (sym e) (more.0, more.1, refl)),
+              (subst (λ o. RunsOn (λ next more. RunOf does (suc number) next rest more) step.events o (behind step.events more.0)) (sym e) (more.0, more.1, refl)),
         )
 
   -- what the statements up to a place did, and what is left of the run

@@ -1,11 +1,11 @@
 -- Words have one run at most, where a name has one file at most.
-use Rattle.std.proofs.Common.{ℕ, ◌≡◌, ◌∙◌, List, [], ◌∷◌, refl, sym, ap, subst, inl, inr, arith}
+use Rattle.std.proofs.Common.{ℕ, ◌≡◌, ◌∙◌, List, [], ◌∷◌, sym, ap, subst, arith}
 use Rattle.std.specs.Prelude.{suc, Option, Some, Result, Ok, Err}
 use Rattle.rs_lex.proofs.SpellingFacts.{Spells-unique, Refuses-unique, Spells-not_refused}
 use Rattle.rs_lex.specs.Spelling as lex
 use Rattle.rs_lex.specs.declared.fault.LexFault.{LexFault}
 use Rattle.rs_lex.specs.declared.token.Token.{Token}
-use Rattle.rs_outside.specs.Files.{FilesTold, file_named}
+use Rattle.rs_outside.specs.Files.{FilesTold}
 use Rattle.rs_syntax.specs.Scripts.{IsSound, Parses, Refuses}
 use Rattle.rs_syntax.specs.Syntax.{Command, CreateTable, CreatePredicate, CreateRankIndex}
 use Rattle.rs_syntax.specs.declared.fault.SyntaxFault.{SyntaxFault}

@@ -1,10 +1,8 @@
 -- Outcomes of runs, from what was done and what was reported.
-use Rattle.std.proofs.Common.{◌≡◌, ◌∙◌, ◌++◌, List, [], ◌∷◌, ℕ, Some, None, refl, sym, ap, subst, inl, inr, append-nil}
-use Rattle.std.specs.Prelude.{Option, Result, Ok, Err, ◌⊎◌}
+use Rattle.std.proofs.Common.{◌≡◌, ◌∙◌, ◌++◌, List, [], ◌∷◌, ℕ, Some, None, refl, sym, ap, subst, inl, inr}
+use Rattle.std.specs.Prelude.{Option, Ok, Err, ◌⊎◌}
 use Rattle.rs_value.specs.Outside.{Faulted, Keeps, Outside}
-use Rattle.rs_value.proofs.OutsideFacts.{Keeps-refl}
 use Rattle.rs_outside.specs.declared.files.FetchFault.TheVariants.{Failed}
-use Rattle.rs_expr.specs.Scoring.{Answering}
 use Rattle.rs_run.specs.declared.fault.Fault.{Fault}
 use Rattle.rs_run.specs.declared.fault.Fault.TheVariants.{Memory, Usage, Write, Read, Table, BadScore, Probe, Script}
 use Rattle.rs_run.specs.declared.status.Status.{Status}
@@ -12,8 +10,8 @@ use Rattle.rs_run.specs.declared.status.Status.TheVariants as status
 use Rattle.rs_run.specs.Faults.{status_of}
 use Rattle.rs_run.specs.Halts.{CallFailed, Did, Done, Ended, FetchFailed, Halt, HaltsAt, NoMemory, PutFailed, fault_of, last_of}
 use Rattle.rs_run.specs.Outcome.{EndsOrNoMemory, ForRun, HasCause, Outcome, Reports}
-use Rattle.rs_run.specs.Parts.Steps.{Answers, Ran, Runs}
-use Rattle.rs_run.specs.Run.{Event, Finds, Run, fails, finds_in}
+use Rattle.rs_run.specs.Parts.Steps.{Answers, Runs}
+use Rattle.rs_run.specs.Run.{Event, Run, fails, finds_in}
 use Rattle.rs_run.specs.Running.{IsRun, IsRunOf, IsCut}
 use Rattle.rs_run.specs.Words.{NoForm, form_of}
 use Rattle.rs_run.specs.World.{KeepsWorld, NoneFailed, World}

@@ -1,6 +1,6 @@
 -- What the step of a query did, from what the evaluation and the puts did.
-use Rattle.std.proofs.Common.{ℕ, zero, suc, ◌≡◌, ◌∙◌, ◌+◌, ◌<◌, ◌++◌, List, [], ◌∷◌, length, take, drop, get_or, map, Some, None, refl, sym, ap, subst, inl, inr, arith, append_assoc, append-nil}
-use Rattle.std.specs.Prelude.{Option, Result, Ok, Err, IfOk, slice_get, ◌⊎◌}
+use Rattle.std.proofs.Common.{ℕ, zero, suc, ◌≡◌, ◌∙◌, ◌+◌, ◌<◌, ◌++◌, List, [], ◌∷◌, length, take, drop, get_or, map, Some, refl, sym, ap, subst, inl, inr, arith, append_assoc, append-nil}
+use Rattle.std.specs.Prelude.{Result, Ok, Err, IfOk, slice_get, ◌⊎◌}
 use Rattle.std.proofs.lemmas.List.{take_more, take-take, length-take, drop_at}
 use Rattle.rs_value.specs.Answer.{Gives}
 use Rattle.rs_lines.specs.Row.{line_of}

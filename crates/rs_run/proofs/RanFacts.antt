@@ -1,6 +1,6 @@
 -- Events that were done, and runs up to their halts.
 use Rattle.std.proofs.Common.{ℕ, ◌≡◌, ◌∙◌, ◌++◌, List, [], ◌∷◌, map, Some, None, refl, sym, ap, subst, inl, inr, append_assoc, append-nil}
-use Rattle.std.specs.Prelude.{Option, Result, Ok, Err, option_map, ◌⊎◌}
+use Rattle.std.specs.Prelude.{Option, Result, Ok, Err, option_map}
 use Rattle.rs_value.specs.Outside.{Faulted, Keeps, Outside}
 use Rattle.rs_value.proofs.OutsideFacts.{Faulted-from, Keeps-refl, Keeps-then}
 use Rattle.rs_outside.specs.Files.{FilesTold}

@@ -1,6 +1,6 @@
 -- The runs of words, put together from what the parts did.
-use Rattle.std.proofs.Common.{ℕ, ◌≡◌, ◌∙◌, ◌+◌, ◌++◌, List, [], ◌∷◌, map, take, zero, suc, Some, None, refl, sym, ap, subst, inl, inr}
-use Rattle.std.specs.Prelude.{Option, Result, Ok, Err, unwrap_or, ◌⊎◌}
+use Rattle.std.proofs.Common.{ℕ, ◌≡◌, ◌∙◌, ◌+◌, List, [], ◌∷◌, map, take, zero, suc, refl, sym, ap, subst, inl, inr}
+use Rattle.std.specs.Prelude.{Result, Ok, Err, unwrap_or, ◌⊎◌}
 use Rattle.std.specs.List.{AllByRecursion}
 use Rattle.rs_value.specs.Outside.{Outside}
 use Rattle.rs_outside.specs.Files.{FilesTold}
@@ -14,7 +14,7 @@ use Rattle.rs_run.specs.declared.fault.Fault.{Fault}
 use Rattle.rs_run.specs.declared.fault.Fault.TheVariants.{Memory, Usage}
 use Rattle.rs_run.specs.Words.{Form, NoForm, Top, TopWords, form_of}
 use Rattle.rs_run.specs.Top.{top_lines, ranked_lines, lines_from, score_at, scored_from, best_rows}
-use Rattle.rs_run.specs.Run.{Event, Fetch, Finds, Put, Run, behind, fails, fetch_then, finds_in}
+use Rattle.rs_run.specs.Run.{Event, Fetch, Finds, Put, fails, fetch_then, finds_in}
 use Rattle.rs_run.specs.Running.{IsCut, IsRun, IsRunOf}
 use Rattle.rs_run.specs.World.{World}
 use Rattle.rs_run.specs.Parts.Steps.{FetchesFile, IsRanked, IsRow, IsTopTable, Ran, Ranks, Runs, lines_of, lines_run, row_in}

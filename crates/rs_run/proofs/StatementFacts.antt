@@ -1,5 +1,5 @@
 -- What statements do over files that were fetched from before.
-use Rattle.std.proofs.Common.{ℕ, zero, suc, ◌≡◌, ◌∙◌, List, [], ◌∷◌, Some, None, refl, sym, ap, subst, arith}
+use Rattle.std.proofs.Common.{ℕ, zero, suc, ◌≡◌, List, [], ◌∷◌, Some, None, refl, sym, subst, arith}
 use Rattle.std.specs.Prelude.{Option, Result, Ok, Err, length, option_map, slice_index_or, ◌<◌}
 use Rattle.rs_outside.specs.Files.{FilesTold}
 use Rattle.rs_table.specs.Column.{Column}

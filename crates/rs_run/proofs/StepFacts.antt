@@ -1,6 +1,6 @@
 -- What the steps of statements did, from what their parts did.
-use Rattle.std.proofs.Common.{ℕ, ℤ, ◌≡◌, ◌∙◌, ◌++◌, List, [], ◌∷◌, Some, None, refl, sym, ap, subst, inl, inr, append-nil}
-use Rattle.std.specs.Prelude.{Option, Result, Ok, Err, IfOk, ◌⊎◌}
+use Rattle.std.proofs.Common.{ℕ, ℤ, ◌≡◌, ◌∙◌, List, [], ◌∷◌, Some, None, refl, sym, ap, subst, inl, inr}
+use Rattle.std.specs.Prelude.{Option, Result, Ok, Err, ◌⊎◌}
 use Rattle.rs_value.specs.Answer.{Gives}
 use Rattle.rs_value.specs.Outside.{Outside}
 use Rattle.rs_outside.specs.Files.{FilesTold, file_named}
@@ -15,7 +15,7 @@ use Rattle.rs_run.specs.declared.fault.Fault.TheVariants.{Memory, Script}
 use Rattle.rs_run.specs.declared.script_fault.ScriptFault.TheVariants.{NotBuilt}
 use Rattle.rs_lex.specs.declared.token.Span.{Span}
 use Rattle.rs_value.specs.declared.kind.Kind.{Kind}
-use Rattle.rs_syntax.specs.Syntax.{Command, command_of, query_of}
+use Rattle.rs_syntax.specs.Syntax.{command_of, query_of}
 use Rattle.rs_syntax.specs.declared.name.Arg.{Arg}
 use Rattle.rs_syntax.specs.declared.node.Node.{Node}
 use Rattle.rs_syntax.specs.declared.select.Select.{Select}

@@ -1,6 +1,6 @@
 -- Steps, and the states that they leave, whatever the state.
-use Rattle.std.proofs.Common.{◌≡◌, List, [], ◌∷◌, Some, None, refl, sym, ap, subst, inl, inr}
-use Rattle.std.specs.Prelude.{Option, Result, Ok, Err, IfOk, ◌⊎◌}
+use Rattle.std.proofs.Common.{◌≡◌, List, [], Some, None, refl, sym, subst, inl, inr}
+use Rattle.std.specs.Prelude.{Option, Result, Ok, Err}
 use Rattle.rs_run.specs.declared.fault.Fault.{Fault}
 use Rattle.rs_run.specs.declared.fault.Fault.TheVariants.{Memory}
 use Rattle.rs_run.specs.Parts.Steps.{Leaves, Ran, Stepped, run_of}

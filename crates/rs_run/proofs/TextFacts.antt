@@ -1,5 +1,5 @@
 -- What the text of a script did, from what the lexer, the parser and the statements did; and what its file did.
-use Rattle.std.proofs.Common.{ℕ, suc, ◌≡◌, ◌∙◌, ◌≤◌, ◌++◌, List, [], ◌∷◌, Some, None, refl, sym, ap, subst, inl, inr}
+use Rattle.std.proofs.Common.{ℕ, suc, ◌≡◌, ◌≤◌, List, [], ◌∷◌, refl, sym, ap, subst, inl, inr}
 use Rattle.std.specs.Prelude.{Option, Result, Ok, Err, IsErr, IsErrAnd, length, ◌⊎◌}
 use Rattle.rs_value.specs.Outside.{Outside}
 use Rattle.rs_outside.specs.Files.{FilesTold}
@@ -17,8 +17,8 @@ use Rattle.rs_catalog.specs.Catalogue.{Catalogue, empty}
 use Rattle.rs_run.specs.declared.fault.Fault.{Fault}
 use Rattle.rs_run.specs.declared.fault.Fault.TheVariants.{Memory}
 use Rattle.rs_run.specs.Faults.{lex_fault, parse_fault}
-use Rattle.rs_run.specs.Parts.Steps.{FetchFails, Fetched, FetchesFile, IsSource, NotFetched, Ran, Runs}
-use Rattle.rs_run.specs.Plain.{HasTokens, TextRuns, read, runs, unlexed, unparsed, unread, source_of}
+use Rattle.rs_run.specs.Parts.Steps.{FetchFails, Fetched, FetchesFile, IsSource, NotFetched, Runs}
+use Rattle.rs_run.specs.Plain.{HasTokens, TextRuns, read, runs, unlexed, unparsed, unread}
 use Rattle.rs_run.specs.Run.{Event, Fetch, Finds, Run, behind, fails, fetch_then, finds_in}
 use Rattle.rs_run.specs.Running.{IsCut, IsRunOf}
 use Rattle.rs_run.specs.Sequence.{RunOf, RunsOn}

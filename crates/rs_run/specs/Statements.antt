@@ -1,7 +1,5 @@
 -- The statements of a script, one after another: what each does, and the catalogue that it leaves.
 use Rattle.std.specs.Prelude.{ℕ, ◌≡◌, ◌+◌, List, [], ◌∷◌, ◌++◌, map, Option, Result, Ok, Err}
-use Rattle.rs_value.specs.declared.kind.Kind.{Kind}
-use Rattle.rs_lex.specs.declared.token.Span.{Span}
 use Rattle.rs_rank.specs.declared.answer.Answer.{Answer}
 use Rattle.rs_rank.specs.declared.scored_row.ScoredRow.{ScoredRow}
 use Rattle.rs_lines.specs.Row.{line_of}

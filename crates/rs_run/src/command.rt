@@ -29,14 +29,12 @@ pub fn run<F: Files, S: Scorer, O: Sink, E: Sink>(
     err: &mut E,
 ) -> Status
     // The events of the run are done up to a halt, and the status and the line are the halt's.
-    ensures run {
-        let old = world (F.state files.old) (S.state scorer.old) (O.state out.old) (E.state err.old) in
+    ensures run { let old = world (F.state files.old) (S.state scorer.old) (O.state out.old) (E.state err.old) in
         let new = world (F.state files.new) (S.state scorer.new) (O.state out.new) (E.state err.new) in
         ForRun old words.now (λ run. Outcome run result old new) }
 
     // Each status has its cause: the definition of the run, want of memory, or a put, a fetch or a call that failed.
-    ensures causes {
-        let old = world (F.state files.old) (S.state scorer.old) (O.state out.old) (E.state err.old) in
+    ensures causes { let old = world (F.state files.old) (S.state scorer.old) (O.state out.old) (E.state err.old) in
         let new = world (F.state files.new) (S.state scorer.new) (O.state out.new) (E.state err.new) in
         ForRun old words.now (λ run. HasCause run result old new) }
 
@@ -49,8 +47,7 @@ pub fn run<F: Files, S: Scorer, O: Sink, E: Sink>(
 
     // Where no fetch, no call and no put on standard output failed, the run ends as its definition says, after all its
     // events.
-    ensures complete {
-        let old = world (F.state files.old) (S.state scorer.old) (O.state out.old) (E.state err.old) in
+    ensures complete { let old = world (F.state files.old) (S.state scorer.old) (O.state out.old) (E.state err.old) in
         let new = world (F.state files.new) (S.state scorer.new) (O.state out.new) (E.state err.new) in
         NoneFailed old new → ForRun old words.now (λ run. EndsOrNoMemory run result old new) }
 

@@ -1,5 +1,5 @@
 -- What the parts of `top` and `plain` do.
-use Rattle.std.specs.Prelude.{ℕ, ◌≡◌, ◌⊎◌, ◌≤◌, ◌-◌, ◌+◌, List, [], ◌∷◌, ◌++◌, length, map, Option, Some, None, IfOk, MatchResult, unwrap_or, option_map, slice_get, Result, Ok, Err}
+use Rattle.std.specs.Prelude.{ℕ, ◌≡◌, ◌⊎◌, ◌≤◌, ◌-◌, ◌+◌, List, [], ◌∷◌, length, map, Option, Some, None, IfOk, MatchResult, unwrap_or, option_map, slice_get, Result, Ok, Err}
 use Rattle.std.specs.List.{AllByRecursion}
 use Rattle.rs_value.specs.Outside.{Faulted, Keeps, Outside}
 use Rattle.rs_value.specs.declared.value.Value.{Value}

@@ -1,4 +1,4 @@
-use Rattle.std.proofs.Common.{refl, subst, sym}
+use Rattle.std.proofs.Common.{subst}
 use Rattle.rs_bind.specs.Queries.{bound_query}
 use Rattle.rs_query.specs.Views.{all_rows}
 use Rattle.rs_plain.specs.Plain.{evaluation_of}

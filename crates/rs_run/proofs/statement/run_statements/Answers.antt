@@ -1,4 +1,4 @@
-use Rattle.std.proofs.Common.{refl, sym, subst, suc, ◌+◌, ◌∙◌, drop, arith}
+use Rattle.std.proofs.Common.{refl, sym, subst, suc, ◌+◌, drop, arith}
 use Rattle.std.specs.Prelude.{Err, Ok}
 use Rattle.rs_syntax.specs.Syntax.{command_of, commands_of}
 use Rattle.rs_catalog.specs.Catalogue.{empty}
@@ -44,9 +44,9 @@ loop-index-preserved g c = record {
       (drop-at command_of c.args.statements.now c.loop-index.index c.index-statements-index.result c.loop-index-test.true c.index-statements-index.is)
       (c.loop-index.index + 1) (omega arith) refl
       (Stepped-first (c.loop-index.invariant.between beside).made Plainly (c.loop-index.index + 1) c.loop-index.catalog c.run_statement.new.catalog
-    (command_of c.index-statements-index.result) (Ok tt) (record beside { files = g.F.Files.state c.args.files.now; scorer = g.S.Scorer.state c.args.scorer.now; out = g.O.Sink.state c.args.out.now })
-    (record beside { files = g.F.Files.state c.loop-index.files; scorer = g.S.Scorer.state c.loop-index.scorer; out = g.O.Sink.state c.loop-index.out }) (record beside { files = g.F.Files.state c.run_statement.new.files; scorer = g.S.Scorer.state c.run_statement.new.scorer; out = g.O.Sink.state c.run_statement.new.out })
-    (c.loop-index.invariant.between beside).has (c.in-Ok.ensures beside));
+      (command_of c.index-statements-index.result) (Ok tt) (record beside { files = g.F.Files.state c.args.files.now; scorer = g.S.Scorer.state c.args.scorer.now; out = g.O.Sink.state c.args.out.now })
+      (record beside { files = g.F.Files.state c.loop-index.files; scorer = g.S.Scorer.state c.loop-index.scorer; out = g.O.Sink.state c.loop-index.out }) (record beside { files = g.F.Files.state c.run_statement.new.files; scorer = g.S.Scorer.state c.run_statement.new.scorer; out = g.O.Sink.state c.run_statement.new.out })
+      (c.loop-index.invariant.between beside).has (c.in-Ok.ensures beside));
   statements_same = refl;
 }
 

@@ -1,5 +1,5 @@
 use Rattle.std.proofs.Common.{◌≡◌, ◌<◌, ◌≤◌, ◌+◌, ◌∙◌, ◌++◌, ◌∷◌, [], take, drop, length, map, refl, sym, ap, subst, arith, get_or}
-use Rattle.std.specs.Prelude.{Err, Ok}
+use Rattle.std.specs.Prelude.{Ok}
 use Rattle.std.proofs.lemmas.List.{take_all}
 use Rattle.rs_lines.specs.Row.{line_of}
 use Rattle.rs_rank.specs.declared.scored_row.ScoredRow.{ScoredRow}

@@ -1,7 +1,6 @@
 use Rattle.std.proofs.Common.{sym, subst, take}
 use Rattle.std.specs.List.{AllByRecursion}
 use Rattle.rs_run.specs.Parts.Steps.{IsRow, Ran, lines_of, lines_run}
-use Rattle.rs_run.specs.Words.{TopWords}
 use Rattle.rs_run.proofs.RunFacts.{RanTop-no_table, RanTop-ranked_fault, RanTop-ranked, are_rows}
 use Rattle.rs_run.proofs.top.top.Goals as goal
 
