@@ -1,11 +1,11 @@
 -- Words have one run at most, where a name has one file at most.
-use Rattle.std.proofs.Common.{ℕ, ◌≡◌, ◌∙◌, List, [], ◌∷◌, refl, sym, ap, subst, inl, inr, arith}
+use Rattle.std.proofs.Common.{ℕ, ◌≡◌, ◌∙◌, List, [], ◌∷◌, sym, ap, subst, arith}
 use Rattle.std.specs.Prelude.{suc, Option, Some, Result, Ok, Err}
 use Rattle.rs_lex.proofs.SpellingFacts.{Spells-unique, Refuses-unique, Spells-not_refused}
 use Rattle.rs_lex.specs.Spelling as lex
 use Rattle.rs_lex.specs.declared.fault.LexFault.{LexFault}
 use Rattle.rs_lex.specs.declared.token.Token.{Token}
-use Rattle.rs_outside.specs.Files.{FilesTold, file_named}
+use Rattle.rs_outside.specs.Files.{FilesTold}
 use Rattle.rs_syntax.specs.Scripts.{IsSound, Parses, Refuses}
 use Rattle.rs_syntax.specs.Syntax.{Command, CreateTable, CreatePredicate, CreateRankIndex}
 use Rattle.rs_syntax.specs.declared.fault.SyntaxFault.{SyntaxFault}
@@ -21,9 +21,11 @@ use Rattle.rs_run.specs.declared.script_fault.ScriptFault.TheVariants.{Lex, Pars
 use Rattle.rs_run.specs.Words.{Form, NoForm, Plain, Top, form_of}
 use Rattle.rs_run.specs.Top.{top_lines}
 use Rattle.rs_run.specs.Plain.{HasTokens, HasStatements, ScriptRuns, TextRuns, unlexed, unparsed, runs, unread, read, source_of}
-use Rattle.rs_run.specs.Run.{Answering, Event, Fetch, Finds, Run, behind, fails, fetch_then, finds_in, found_in}
+use Rattle.rs_expr.specs.Scoring.{Answering}
+use Rattle.rs_run.specs.Run.{Event, Fetch, Finds, Run, behind, fails, fetch_then, finds_in, found_in}
 use Rattle.rs_run.specs.Running.{IsRun, IsRunOf}
-use Rattle.rs_run.specs.Statements.{Does, DoesTable, RunOf, RunsOn, Step, table_step, with_room}
+use Rattle.rs_run.specs.Sequence.{RunOf, RunsOn, Step}
+use Rattle.rs_run.specs.Statements.{Does, DoesTable, Evaluating, Plainly, StatementsRun, table_step, with_room}
 
 -- a script has one list of tokens at most, and isn't refused by the lexer where it has one
 HasTokens-one : (script : List ℕ) (a b : List Token) → HasTokens script a → HasTokens script b → a ≡ b
@@ -47,65 +49,72 @@ abbrev pub OneFile : Finds → Type 0
 OneFile finds = (name : List ℕ) (a b : Option (List ℕ)) → finds name a → finds name b → a ≡ b
 
 -- a statement does one thing at most
-DoesTable-one : (finds : Finds) → OneFile finds → (catalogue : Catalogue) (name : Name) (file : List ℕ) (columns : Result (List Column) Fault) (a b : Step)
+DoesTable-one : (finds : Finds) → OneFile finds → (catalogue : Catalogue) (name : Name) (file : List ℕ) (columns : Result (List Column) Fault) (a b : Step Catalogue)
     → DoesTable finds catalogue name file columns a → DoesTable finds catalogue name file columns b → a ≡ b
 DoesTable-one finds one catalogue name file (Err fault) a b p q = p ∙ sym q
 DoesTable-one finds one catalogue name file (Ok columns) a b p q = p.2 ∙ ap (table_step catalogue name file columns) (one file p.0 q.0 p.1 q.1) ∙ sym q.2
 
-Does-one : (finds : Finds) → OneFile finds → (answer : Answering) (number : ℕ) (catalogue : Catalogue) (command : Command) (a b : Step)
-    → Does finds answer number catalogue command a → Does finds answer number catalogue command b → a ≡ b
-Does-one finds one answer number catalogue (CreateTable name columns file) a b p q =
+Does-one : (finds : Finds) → OneFile finds → (answer : Answering) (evaluating : Evaluating) (number : ℕ) (catalogue : Catalogue) (command : Command) (a b : Step Catalogue)
+    → Does finds answer evaluating number catalogue command a → Does finds answer evaluating number catalogue command b → a ≡ b
+Does-one finds one answer evaluating number catalogue (CreateTable name columns file) a b p q =
     DoesTable-one finds one catalogue name file (with_room catalogue what.Table name (columns_of columns)) a b p q
-Does-one finds one answer number catalogue (CreatePredicate name params max cost formula) a b p q = p ∙ sym q
-Does-one finds one answer number catalogue (CreateRankIndex name table predicate args at) a b p q = p ∙ sym q
-Does-one finds one answer number catalogue _ a b p q = p ∙ sym q
+Does-one finds one answer evaluating number catalogue (CreatePredicate name params max cost formula) a b p q = p ∙ sym q
+Does-one finds one answer evaluating number catalogue (CreateRankIndex name table predicate args at) a b p q = p ∙ sym q
+Does-one finds one answer evaluating number catalogue _ a b p q = p ∙ sym q
 
--- statements have one run at most
-RunsOn-one : (rest : Catalogue → Run → Type 0) → ((next : Catalogue) (a b : Run) → rest next a → rest next b → a ≡ b) → (events : List Event) (outcome : Result Catalogue Fault) (a b : Run)
+-- statements have one run at most, where each does one thing at most
+RunsOn-one : {S : Type 0} (rest : S → Run → Type 0) → ((next : S) (a b : Run) → rest next a → rest next b → a ≡ b) → (events : List Event) (outcome : Result S Fault) (a b : Run)
     → RunsOn rest events outcome a → RunsOn rest events outcome b → a ≡ b
 RunsOn-one rest one events (Err fault) a b p q = p ∙ sym q
 RunsOn-one rest one events (Ok next) a b p q = p.2 ∙ ap (behind events) (one next p.0 q.0 p.1 q.1) ∙ sym q.2
 
-RunOf-one : (finds : Finds) → OneFile finds → (answer : Answering) (number : ℕ) (catalogue : Catalogue) (commands : List Command) (a b : Run)
-    → RunOf finds answer number catalogue commands a → RunOf finds answer number catalogue commands b → a ≡ b
-RunOf-one finds one answer number catalogue [] a b p q = p ∙ sym q
-RunOf-one finds one answer number catalogue (command ∷ rest) a b p q =
-    RunsOn-one (λ next more. RunOf finds answer (suc number) next rest more) (λ next. RunOf-one finds one answer (suc number) next rest) q.0.events q.0.outcome a b
-    (subst (λ step. RunsOn (λ next more. RunOf finds answer (suc number) next rest more) step.events step.outcome a)
-    (Does-one finds one answer number catalogue command p.0 q.0 p.1 q.1) p.2) q.2
+RunOf-one : {S C : Type 0} (does : ℕ → S → C → Step S → Type 0) → ((number : ℕ) (state : S) (command : C) (a b : Step S) → does number state command a → does number state command b → a ≡ b)
+    → (number : ℕ) (state : S) (commands : List C) (a b : Run) → RunOf does number state commands a → RunOf does number state commands b → a ≡ b
+RunOf-one does one number state [] a b p q = p ∙ sym q
+RunOf-one does one number state (command ∷ rest) a b p q =
+    RunsOn-one (λ next more. RunOf does (suc number) next rest more) (λ next. RunOf-one does one (suc number) next rest) q.0.events q.0.outcome a b
+    (subst (λ step. RunsOn (λ next more. RunOf does (suc number) next rest more) step.events step.outcome a) (one number state command p.0 q.0 p.1 q.1) p.2) q.2
+
+-- the statements of a script have one run at most
+abbrev pub OneRun : (List Command → Run → Type 0) → Type 0
+OneRun statements = (commands : List Command) (a b : Run) → statements commands a → statements commands b → a ≡ b
+
+Statements-one : (finds : Finds) → OneFile finds → (answer : Answering) (evaluating : Evaluating) → OneRun (StatementsRun finds answer evaluating)
+Statements-one finds one answer evaluating commands a b p q =
+    RunOf-one (Does finds answer evaluating) (λ number catalogue command a b p q. Does-one finds one answer evaluating number catalogue command a b p q) 1 empty commands a b p q
 
 -- a text has one run at most
-TextRuns-one : (finds : Finds) → OneFile finds → (answer : Answering) (script : List ℕ) (a b : Run) → TextRuns finds answer script a → TextRuns finds answer script b → a ≡ b
-TextRuns-one finds one answer script _ _ (unlexed x p) (unlexed y q) = ap (λ fault. fails (Script (Lex fault))) (Refuses-unique 0 0 script x y p q)
-TextRuns-one finds one answer script _ _ (unlexed x p) (unparsed tokens y lexed q) = absurd (HasTokens-not_refused script tokens x lexed p)
-TextRuns-one finds one answer script _ _ (unlexed x p) (runs commands run made is) = absurd (HasTokens-not_refused script made.tokens x made.lexed p)
-TextRuns-one finds one answer script _ _ (unparsed tokens x lexed p) (unlexed y q) = absurd (HasTokens-not_refused script tokens y lexed q)
-TextRuns-one finds one answer script _ _ (unparsed tokens x lexed p) (unparsed others y other_lexed q) =
+TextRuns-one : (statements : List Command → Run → Type 0) → OneRun statements → (script : List ℕ) (a b : Run) → TextRuns statements script a → TextRuns statements script b → a ≡ b
+TextRuns-one statements one script _ _ (unlexed x p) (unlexed y q) = ap (λ fault. fails (Script (Lex fault))) (Refuses-unique 0 0 script x y p q)
+TextRuns-one statements one script _ _ (unlexed x p) (unparsed tokens y lexed q) = absurd (HasTokens-not_refused script tokens x lexed p)
+TextRuns-one statements one script _ _ (unlexed x p) (runs commands run made is) = absurd (HasTokens-not_refused script made.tokens x made.lexed p)
+TextRuns-one statements one script _ _ (unparsed tokens x lexed p) (unlexed y q) = absurd (HasTokens-not_refused script tokens y lexed q)
+TextRuns-one statements one script _ _ (unparsed tokens x lexed p) (unparsed others y other_lexed q) =
     ap (λ fault. fails (Script (Parse fault)))
     (Refuses-one script others x y (subst (λ tokens. Refuses script tokens x) (HasTokens-one script tokens others lexed other_lexed) p) q)
-TextRuns-one finds one answer script _ _ (unparsed tokens x lexed p) (runs commands run made is) = absurd (HasStatements-not_refused script commands tokens x made lexed p)
-TextRuns-one finds one answer script _ _ (runs commands run made is) (unlexed y q) = absurd (HasTokens-not_refused script made.tokens y made.lexed q)
-TextRuns-one finds one answer script _ _ (runs commands run made is) (unparsed tokens y lexed q) = absurd (HasStatements-not_refused script commands tokens y made lexed q)
-TextRuns-one finds one answer script _ _ (runs commands run made is) (runs others other again also) =
-    RunOf-one finds one answer 1 empty others run other
-    (subst (λ list. RunOf finds answer 1 empty list run) (HasStatements-one script commands others made again) is) also
+TextRuns-one statements one script _ _ (unparsed tokens x lexed p) (runs commands run made is) = absurd (HasStatements-not_refused script commands tokens x made lexed p)
+TextRuns-one statements one script _ _ (runs commands run made is) (unlexed y q) = absurd (HasTokens-not_refused script made.tokens y made.lexed q)
+TextRuns-one statements one script _ _ (runs commands run made is) (unparsed tokens y lexed q) = absurd (HasStatements-not_refused script commands tokens y made lexed q)
+TextRuns-one statements one script _ _ (runs commands run made is) (runs others other again also) =
+    one others run other (subst (λ list. statements list run) (HasStatements-one script commands others made again) is) also
 
 -- a script has one run at most
-ScriptRuns-one : (finds : Finds) → OneFile finds → (answer : Answering) (name : List ℕ) (a b : Run) → ScriptRuns finds answer name a → ScriptRuns finds answer name b → a ≡ b
-ScriptRuns-one finds one answer name _ _ (unread there x found e) (unread other y again f) =
+ScriptRuns-one : (finds : Finds) → OneFile finds → (statements : List Command → Run → Type 0) → OneRun statements → (name : List ℕ) (a b : Run) → ScriptRuns finds statements name a → ScriptRuns finds statements name b → a ≡ b
+ScriptRuns-one finds one statements runs_one name _ _ (unread there x found e) (unread other y again f) =
     let same : x ≡ y = let source = ap (source_of name) (one name there other found again) in cc in ap (λ fault. behind (Fetch name ∷ []) (fails fault)) same
-ScriptRuns-one finds one answer name _ _ (unread there x found e) (read other script run again f is) =
+ScriptRuns-one finds one statements runs_one name _ _ (unread there x found e) (read other script run again f is) =
     absurd (let source = ap (source_of name) (one name there other found again) in cc)
-ScriptRuns-one finds one answer name _ _ (read there script run found e is) (unread other y again f) =
+ScriptRuns-one finds one statements runs_one name _ _ (read there script run found e is) (unread other y again f) =
     absurd (let source = ap (source_of name) (one name there other found again) in cc)
-ScriptRuns-one finds one answer name _ _ (read there script run found e is) (read other text more again f also) =
+ScriptRuns-one finds one statements runs_one name _ _ (read there script run found e is) (read other text more again f also) =
     let same : script ≡ text = let source = ap (source_of name) (one name there other found again) in cc in
-    ap (behind (Fetch name ∷ [])) (TextRuns-one finds one answer text run more (subst (λ s. TextRuns finds answer s run) same is) also)
+    ap (behind (Fetch name ∷ [])) (TextRuns-one statements runs_one text run more (subst (λ s. TextRuns statements s run) same is) also)
 
 -- words of a form have one run at most
 IsRunOf-one : (finds : Finds) → OneFile finds → (answer : Answering) (form : Form) (run other : Run) → IsRunOf finds answer form run → IsRunOf finds answer form other → run ≡ other
 IsRunOf-one finds one answer (Top top) run other p q = p.2 ∙ ap (λ there. fetch_then top.file (top_lines top there)) (one top.file p.0 q.0 p.1 q.1) ∙ sym q.2
-IsRunOf-one finds one answer (Plain name) run other p q = ScriptRuns-one finds one answer name run other p q
+IsRunOf-one finds one answer (Plain name) run other p q =
+    ScriptRuns-one finds one (StatementsRun finds answer Plainly) (Statements-one finds one answer Plainly) name run other p q
 IsRunOf-one finds one answer NoForm run other p q = p ∙ sym q
 
 pub IsRun-one : (finds : Finds) → OneFile finds → (answer : Answering) (words : List (List ℕ)) (run other : Run) → IsRun finds answer words run → IsRun finds answer words other → run ≡ other

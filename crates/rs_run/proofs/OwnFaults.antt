@@ -27,6 +27,7 @@ use Rattle.rs_bind.specs.Names.{columns_of}
 use Rattle.rs_bind.specs.Predicates.{predicate_of}
 use Rattle.rs_bind.specs.Queries.{bound_query}
 use Rattle.rs_query.specs.declared.query.Query.{Query}
+use Rattle.rs_query.specs.Views.{View, all_rows}
 use Rattle.rs_plain.specs.Plain.{Question, evaluation_of, first_of, is_bad, questions_of}
 use Rattle.rs_plain.specs.declared.fault.PlainFault.{PlainFault}
 use Rattle.rs_plain.specs.declared.fault.PlainFault.TheVariants as plain
@@ -39,10 +40,12 @@ use Rattle.rs_run.specs.Words.{Form, NoForm, Plain, Top, TopWords, form_of}
 use Rattle.rs_run.specs.Content.{content_of}
 use Rattle.rs_run.specs.Top.{or_table_fault, table_limit, named_table, top_table, top_lines, ranked_lines, scored_from, number_at}
 use Rattle.rs_run.specs.Plain.{ScriptRuns, TextRuns, unlexed, unparsed, runs, unread, read, or_text_fault, script_limit, source_of, without_mark}
-use Rattle.rs_run.specs.Run.{Answering, Event, Finds, Run, fetch_then}
+use Rattle.rs_expr.specs.Scoring.{Answering}
+use Rattle.rs_run.specs.Run.{Event, Finds, Run, fetch_then}
 use Rattle.rs_run.specs.Running.{IsRun, IsRunOf, IsCut}
+use Rattle.rs_run.specs.Sequence.{RunOf, RunsOn, Step}
 use Rattle.rs_run.specs.Faults.{only}
-use Rattle.rs_run.specs.Statements.{Does, DoesTable, RunOf, RunsOn, Step, explain_outcome, index_outcome, index_step, or_bind_fault, or_room_fault, query_outcome, query_step, refused_or, table_step, with_room}
+use Rattle.rs_run.specs.Statements.{Does, DoesTable, Evaluating, Plainly, StatementsRun, explain_outcome, index_outcome, index_step, or_bind_fault, or_room_fault, query_outcome, query_step, refused_or, table_step, with_room}
 
 -- the faults of `top` and of `plain`
 IsOwn : Fault → Type 0
@@ -166,9 +169,9 @@ OwnAnswer (Err (plain.BadScore predicate ids got max)) = Unit {0}
 OwnAnswer (Err (plain.Probe predicate)) = ⊥
 OwnAnswer (Err plain.Memory) = ⊥
 
-OwnAnswer-evaluation : (answer : Answering) (catalogue : Catalogue) (query : Query) → OwnAnswer (evaluation_of answer catalogue query).outcome
-OwnAnswer-evaluation answer catalogue query = go (first_of (is_bad answer catalogue) (questions_of catalogue query)) refl where
-  go : (bad : Option Question) → first_of (is_bad answer catalogue) (questions_of catalogue query) ≡ bad → OwnAnswer (evaluation_of answer catalogue query).outcome
+OwnAnswer-evaluation : (answer : Answering) (catalogue : Catalogue) (query : Query) (view : View) → OwnAnswer (evaluation_of answer catalogue query view).outcome
+OwnAnswer-evaluation answer catalogue query view = go (first_of (is_bad answer catalogue) (questions_of catalogue query view)) refl where
+  go : (bad : Option Question) → first_of (is_bad answer catalogue) (questions_of catalogue query view) ≡ bad → OwnAnswer (evaluation_of answer catalogue query view).outcome
   go None e = rw e tt
   go (Some question) e = rw e tt
 
@@ -179,15 +182,16 @@ Own-query catalogue (Err (plain.BadScore predicate ids got max)) own = tt
 Own-query catalogue (Err (plain.Probe predicate)) own = own
 Own-query catalogue (Err plain.Memory) own = tt
 
-Own-query_step : (answer : Answering) (catalogue : Catalogue) (query : Query) → Own (query_step answer catalogue query).outcome
-Own-query_step answer catalogue query = Own-query catalogue (evaluation_of answer catalogue query).outcome (OwnAnswer-evaluation answer catalogue query)
+Own-query_step : (evaluating : Evaluating) (answer : Answering) (catalogue : Catalogue) (query : Query) → Own (query_step evaluating answer catalogue query).outcome
+Own-query_step Plainly answer catalogue query =
+    Own-query catalogue (evaluation_of answer catalogue query (all_rows catalogue query)).outcome (OwnAnswer-evaluation answer catalogue query (all_rows catalogue query))
 
 Own-explain : (catalogue : Catalogue) (query : syntax.Query) → Own (explain_outcome catalogue query)
 unfolding Own
 Own-explain catalogue query = Own-then (or_bind_fault (bound_query catalogue query)) (λ bound. Ok catalogue) (Own-bind (bound_query catalogue query)) (λ bound. tt)
 
 -- a statement
-Own-refused : {A : Type 0} (does : A → Step) (r : Result A Fault) → Own r → ((a : A) → Own (does a).outcome) → Own (refused_or does r).outcome
+Own-refused : {A : Type 0} (does : A → Step Catalogue) (r : Result A Fault) → Own r → ((a : A) → Own (does a).outcome) → Own (refused_or does r).outcome
 unfolding Own
 Own-refused does (Ok a) own goes = goes a
 Own-refused does (Err fault) own goes = own
@@ -199,29 +203,29 @@ Own-table_step catalogue name file columns there =
     (Own-content table_limit file there)
     (λ bytes. Own-then (or_table_fault file (table_of columns bytes)) (λ table. Ok (with_table name.text table catalogue)) (Own-table file (table_of columns bytes)) (λ table. tt))
 
-Own-does_table : (finds : Finds) (catalogue : Catalogue) (name : Name) (file : List ℕ) (columns : Result (List Column) Fault) (step : Step) → Own columns
+Own-does_table : (finds : Finds) (catalogue : Catalogue) (name : Name) (file : List ℕ) (columns : Result (List Column) Fault) (step : Step Catalogue) → Own columns
     → DoesTable finds catalogue name file columns step → Own step.outcome
 unfolding Own
 Own-does_table finds catalogue name file (Err fault) step own does = subst (λ s. Own s.outcome) (sym does) own
 Own-does_table finds catalogue name file (Ok columns) step own does = subst (λ s. Own s.outcome) (sym does.2) (Own-table_step catalogue name file columns does.0)
 
-Own-step : (finds : Finds) (answer : Answering) (number : ℕ) (catalogue : Catalogue) (command : Command) (step : Step) → Does finds answer number catalogue command step → Own step.outcome
+Own-step : (finds : Finds) (answer : Answering) (evaluating : Evaluating) (number : ℕ) (catalogue : Catalogue) (command : Command) (step : Step Catalogue) → Does finds answer evaluating number catalogue command step → Own step.outcome
 unfolding Own IsOwn
-Own-step finds answer number catalogue (CreateTable name columns file) step does =
+Own-step finds answer evaluating number catalogue (CreateTable name columns file) step does =
     Own-does_table finds catalogue name file (with_room catalogue what.Table name (columns_of columns)) step (Own-with_room catalogue what.Table name (columns_of columns)) does
-Own-step finds answer number catalogue (CreatePredicate name params max cost formula) step does =
+Own-step finds answer evaluating number catalogue (CreatePredicate name params max cost formula) step does =
     subst (λ s. Own s.outcome) (sym does)
     (Own-then _ (λ predicate. Ok (with_predicate predicate catalogue))
     (Own-with_room catalogue what.Predicate name (predicate_of (CreatePredicate name params max cost formula))) (λ predicate. tt))
-Own-step finds answer number catalogue (CreateRankIndex name table predicate args at) step does =
+Own-step finds answer evaluating number catalogue (CreateRankIndex name table predicate args at) step does =
     subst (λ s. Own s.outcome) (sym does)
     (Own-refused (index_step answer catalogue) _ (Own-with_room catalogue what.Index name (index_def_of catalogue (CreateRankIndex name table predicate args at)))
     (Own-index_step answer catalogue))
-Own-step finds answer number catalogue (syntax.Ask query) step does =
-    subst (λ s. Own s.outcome) (sym does) (Own-refused (query_step answer catalogue) _ (Own-bind (bound_query catalogue query)) (Own-query_step answer catalogue))
-Own-step finds answer number catalogue (Explain query) step does = subst (λ s. Own s.outcome) (sym does) (Own-explain catalogue query)
-Own-step finds answer number catalogue (ExplainAnalyze query) step does = subst (λ s. Own s.outcome) (sym does) (Own-explain catalogue query)
-Own-step finds answer number catalogue _ step does = subst (λ s. Own s.outcome) (sym does) tt
+Own-step finds answer evaluating number catalogue (syntax.Ask query) step does =
+    subst (λ s. Own s.outcome) (sym does) (Own-refused (query_step evaluating answer catalogue) _ (Own-bind (bound_query catalogue query)) (Own-query_step evaluating answer catalogue))
+Own-step finds answer evaluating number catalogue (Explain query) step does = subst (λ s. Own s.outcome) (sym does) (Own-explain catalogue query)
+Own-step finds answer evaluating number catalogue (ExplainAnalyze query) step does = subst (λ s. Own s.outcome) (sym does) (Own-explain catalogue query)
+Own-step finds answer evaluating number catalogue _ step does = subst (λ s. Own s.outcome) (sym does) tt
 
 -- the statements of a script
 Own-behind : (rest : Catalogue → Run → Type 0) (events : List Event) (outcome : Result Catalogue Fault) (run : Run) → Own outcome
@@ -230,20 +234,20 @@ unfolding Own OwnEnd
 Own-behind rest events (Err fault) run own goes on = subst (λ r. OwnEnd r.fault) (sym on) own
 Own-behind rest events (Ok next) run own goes on = subst (λ r. OwnEnd r.fault) (sym on.2) (goes next on.0 on.1)
 
-Own-statements : (finds : Finds) (answer : Answering) (number : ℕ) (catalogue : Catalogue) (commands : List Command) (run : Run) → RunOf finds answer number catalogue commands run → OwnEnd run.fault
+Own-statements : (finds : Finds) (answer : Answering) (evaluating : Evaluating) (number : ℕ) (catalogue : Catalogue) (commands : List Command) (run : Run) → RunOf (Does finds answer evaluating) number catalogue commands run → OwnEnd run.fault
 unfolding OwnEnd
-Own-statements finds answer number catalogue [] run is = subst (λ r. OwnEnd r.fault) (sym is) tt
-Own-statements finds answer number catalogue (command ∷ rest) run is =
-    Own-behind (λ next more. RunOf finds answer (suc number) next rest more) is.0.events is.0.outcome run
-    (Own-step finds answer number catalogue command is.0 is.1) (λ next more. Own-statements finds answer (suc number) next rest more) is.2
+Own-statements finds answer evaluating number catalogue [] run is = subst (λ r. OwnEnd r.fault) (sym is) tt
+Own-statements finds answer evaluating number catalogue (command ∷ rest) run is =
+    Own-behind (λ next more. RunOf (Does finds answer evaluating) (suc number) next rest more) is.0.events is.0.outcome run
+    (Own-step finds answer evaluating number catalogue command is.0 is.1) (λ next more. Own-statements finds answer evaluating (suc number) next rest more) is.2
 
-Own-runs : (finds : Finds) (answer : Answering) (script : List ℕ) (run : Run) → TextRuns finds answer script run → OwnEnd run.fault
+Own-runs : (finds : Finds) (answer : Answering) (script : List ℕ) (run : Run) → TextRuns (StatementsRun finds answer Plainly) script run → OwnEnd run.fault
 unfolding OwnEnd IsOwn
 Own-runs finds answer script _ (unlexed fault refuses) = tt
 Own-runs finds answer script _ (unparsed tokens fault lexed refuses) = tt
-Own-runs finds answer script run (runs commands _ made is) = Own-statements finds answer 1 empty commands run is
+Own-runs finds answer script run (runs commands _ made is) = Own-statements finds answer Plainly 1 empty commands run is
 
-Own-script : (finds : Finds) (answer : Answering) (name : List ℕ) (run : Run) → ScriptRuns finds answer name run → OwnEnd run.fault
+Own-script : (finds : Finds) (answer : Answering) (name : List ℕ) (run : Run) → ScriptRuns finds (StatementsRun finds answer Plainly) name run → OwnEnd run.fault
 unfolding Own OwnEnd
 Own-script finds answer name _ (unread there fault found e) = subst Own e (Own-source name there)
 Own-script finds answer name _ (read there script run found e is) = Own-runs finds answer script run is

@@ -16,7 +16,7 @@ use Rattle.rs_run.specs.Faults.{only}
 use Rattle.rs_run.specs.Top.{number_at, score_at, scored_from}
 use Rattle.rs_expr.specs.Scores.{is_score}
 use Rattle.rs_lines.specs.Row.{line_of}
-use Rattle.rs_run.specs.Steps.{IsRow, IsRanked, lines_of, row_in}
+use Rattle.rs_run.specs.Parts.Steps.{IsRow, IsRanked, lines_of, row_in}
 
 -- a row by its number, as an element of the list
 pub row_in-get_or : (table : Relation) (row : ℕ) → row_in table row ≡ get_or table.rows (row - 1) []

@@ -20,7 +20,8 @@ use Rattle.rs_catalog.specs.declared.room.RoomFault.TheVariants as room
 use Rattle.rs_bind.specs.declared.fault.Why.TheVariants as why
 use Rattle.rs_run.specs.Faults.{fault_line, only, status_of}
 use Rattle.rs_run.specs.Plain.{source_of, without_mark}
-use Rattle.rs_run.specs.Run.{Answering, Fetch, Put, Run, found_in}
+use Rattle.rs_expr.specs.Scoring.{Answering}
+use Rattle.rs_run.specs.Run.{Fetch, Put, Run, found_in}
 use Rattle.rs_run.specs.Running.{IsRun}
 
 hotels : List ℕ

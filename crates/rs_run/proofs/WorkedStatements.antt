@@ -17,14 +17,14 @@ use Rattle.rs_syntax.specs.Syntax as syntax
 use Rattle.rs_syntax.specs.declared.name.Name.{Name}
 use Rattle.rs_syntax.specs.declared.name.Arg.TheVariants as arg
 use Rattle.rs_syntax.specs.declared.select.Items.TheVariants as items
-use Rattle.rs_catalog.specs.Catalogue.{empty}
 use Rattle.rs_catalog.specs.declared.room.RoomFault.TheVariants as room
 use Rattle.rs_bind.specs.declared.fault.Why.TheVariants as why
 use Rattle.rs_run.specs.declared.fault.Fault.TheVariants as fault
 use Rattle.rs_run.specs.declared.script_fault.ScriptFault.TheVariants as script
 use Rattle.rs_run.specs.Faults.{only}
-use Rattle.rs_run.specs.Run.{Answering, Ask, Fetch, Finds, Put, found_in}
-use Rattle.rs_run.specs.Statements.{RunOf}
+use Rattle.rs_expr.specs.Scoring.{Answering}
+use Rattle.rs_run.specs.Run.{Fetch, Finds, Put, Score, found_in}
+use Rattle.rs_run.specs.Statements.{Plainly, StatementsRun}
 
 -- a name at a place
 abbrev name_at : List ℕ → ℕ → Name
@@ -56,8 +56,8 @@ call : ℤ → Call
 call n = record { predicate = codes "p"; args = value.Int n ∷ [] }
 
 -- the table, the predicate and the index are made, and each row is asked for, in their order
-makes_all : RunOf (finds (Some (codes "v\n3\n10\n"))) answer 1 empty (create_table ∷ create_predicate ∷ create_index ∷ [])
-    (record { events = Fetch (codes "f") ∷ Ask (call (pos 3)) ∷ Ask (call (pos 10)) ∷ []; fault = None })
+makes_all : StatementsRun (finds (Some (codes "v\n3\n10\n"))) answer Plainly (create_table ∷ create_predicate ∷ create_index ∷ [])
+    (record { events = Fetch (codes "f") ∷ Score (call (pos 3)) ∷ Score (call (pos 10)) ∷ []; fault = None })
 unfolding create_table create_predicate create_index finds answer call csv_on_literals digits chars is_utf8 encode_utf8
 makes_all = (_, (Some (codes "v\n3\n10\n"), refl, refl), (_, (_, refl, (_, (_, refl, (_, refl, refl)), refl)), refl))
 
@@ -81,72 +81,72 @@ select = record {
 }
 
 -- each row is asked for, and then the rows are put, each as one line, the best first
-prints_a_query : RunOf (finds (Some (codes "v\n3\n10\n"))) answer 1 empty (create_table ∷ create_predicate ∷ syntax.Ask select ∷ [])
-    (record { events = Fetch (codes "f") ∷ Ask (call (pos 3)) ∷ Ask (call (pos 10)) ∷ Put (codes "1,10,10\n") ∷ Put (codes "2,3,3\n") ∷ []; fault = None })
+prints_a_query : StatementsRun (finds (Some (codes "v\n3\n10\n"))) answer Plainly (create_table ∷ create_predicate ∷ syntax.Ask select ∷ [])
+    (record { events = Fetch (codes "f") ∷ Score (call (pos 3)) ∷ Score (call (pos 10)) ∷ Put (codes "1,10,10\n") ∷ Put (codes "2,3,3\n") ∷ []; fault = None })
 unfolding create_table create_predicate select finds answer call csv_on_literals digits chars is_utf8 encode_utf8 escaped fields_text is_blank
 prints_a_query = (_, (Some (codes "v\n3\n10\n"), refl, refl), (_, (_, refl, (_, (_, refl, (_, refl, refl)), refl)), refl))
 
 -- a number that is no score ends the run before any row of the query is put
-prints_nothing : RunOf (finds (Some (codes "v\n3\n40\n5\n"))) answer 1 empty (create_table ∷ create_predicate ∷ syntax.Ask select ∷ create_table ∷ [])
-    (record { events = Fetch (codes "f") ∷ Ask (call (pos 3)) ∷ Ask (call (pos 40)) ∷ []; fault = Some (fault.BadScore (codes "p") (only 2) (pos 40) 10) })
+prints_nothing : StatementsRun (finds (Some (codes "v\n3\n40\n5\n"))) answer Plainly (create_table ∷ create_predicate ∷ syntax.Ask select ∷ create_table ∷ [])
+    (record { events = Fetch (codes "f") ∷ Score (call (pos 3)) ∷ Score (call (pos 40)) ∷ []; fault = Some (fault.BadScore (codes "p") (only 2) (pos 40) 10) })
 unfolding create_table create_predicate select finds answer call csv_on_literals digits chars is_utf8 encode_utf8 escaped fields_text is_blank
 prints_nothing = (_, (Some (codes "v\n3\n40\n5\n"), refl, refl), (_, (_, refl, (_, (_, refl, refl), refl)), refl))
 
 -- EXPLAIN is bound, and asks for nothing and puts nothing
-explains : RunOf (finds None) answer 1 empty (create_predicate ∷ syntax.Explain select ∷ [])
+explains : StatementsRun (finds None) answer Plainly (create_predicate ∷ syntax.Explain select ∷ [])
     (record { events = []; fault = Some (fault.Script (script.Bind why.NoTable 114)) })
 unfolding create_table create_predicate select finds answer call csv_on_literals digits chars is_utf8 encode_utf8 escaped fields_text is_blank
 explains = (_, refl, (_, (_, refl, refl), refl))
 
-explains_in_silence : RunOf (finds (Some (codes "v\n3\n40\n5\n"))) answer 1 empty (create_table ∷ create_predicate ∷ syntax.Explain select ∷ syntax.ExplainAnalyze select ∷ [])
+explains_in_silence : StatementsRun (finds (Some (codes "v\n3\n40\n5\n"))) answer Plainly (create_table ∷ create_predicate ∷ syntax.Explain select ∷ syntax.ExplainAnalyze select ∷ [])
     (record { events = Fetch (codes "f") ∷ []; fault = None })
 unfolding create_table create_predicate select finds answer call csv_on_literals digits chars is_utf8 encode_utf8 escaped fields_text is_blank
 explains_in_silence = (_, (Some (codes "v\n3\n40\n5\n"), refl, refl), (_, (_, refl, (_, (_, refl, (_, (_, refl, (_, refl, refl)), refl)), refl)), refl))
 
 -- the first number that is no score ends the run, and no row behind it is asked for
-bad_score : RunOf (finds (Some (codes "v\n3\n40\n5\n"))) answer 1 empty (create_table ∷ create_predicate ∷ create_index ∷ create_table ∷ [])
-    (record { events = Fetch (codes "f") ∷ Ask (call (pos 3)) ∷ Ask (call (pos 40)) ∷ []; fault = Some (fault.BadScore (codes "p") (only 2) (pos 40) 10) })
+bad_score : StatementsRun (finds (Some (codes "v\n3\n40\n5\n"))) answer Plainly (create_table ∷ create_predicate ∷ create_index ∷ create_table ∷ [])
+    (record { events = Fetch (codes "f") ∷ Score (call (pos 3)) ∷ Score (call (pos 40)) ∷ []; fault = Some (fault.BadScore (codes "p") (only 2) (pos 40) 10) })
 unfolding create_table create_predicate create_index finds answer call csv_on_literals digits chars is_utf8 encode_utf8
 bad_score = (_, (Some (codes "v\n3\n40\n5\n"), refl, refl), (_, (_, refl, (_, (_, refl, refl), refl)), refl))
 
 -- a name that is taken ends the run before the fetch
-name_taken : RunOf (finds (Some (codes "v\n3\n"))) answer 1 empty (create_table ∷ create_table ∷ [])
+name_taken : StatementsRun (finds (Some (codes "v\n3\n"))) answer Plainly (create_table ∷ create_table ∷ [])
     (record { events = Fetch (codes "f") ∷ []; fault = Some (fault.Script (script.Room room.NameTaken 13)) })
 unfolding create_table create_predicate create_index finds answer call csv_on_literals digits chars is_utf8 encode_utf8
 name_taken = (_, (Some (codes "v\n3\n"), refl, refl), (_, (_, refl, refl), refl))
 
 -- the file isn't there
-missing : RunOf (finds None) answer 1 empty (create_table ∷ create_predicate ∷ [])
+missing : StatementsRun (finds None) answer Plainly (create_table ∷ create_predicate ∷ [])
     (record { events = Fetch (codes "f") ∷ []; fault = Some (fault.Read (codes "f") fetch.Missing) })
 unfolding create_table create_predicate create_index finds answer call csv_on_literals digits chars is_utf8 encode_utf8
 missing = (_, (None, refl, refl), refl)
 
 -- the file is no table
-no_table_file : RunOf (finds (Some (codes "v\nx\n"))) answer 1 empty (create_table ∷ create_predicate ∷ [])
+no_table_file : StatementsRun (finds (Some (codes "v\nx\n"))) answer Plainly (create_table ∷ create_predicate ∷ [])
     (record { events = Fetch (codes "f") ∷ []; fault = Some (fault.Table (codes "f") (table.NotInt 1 1)) })
 unfolding create_table create_predicate create_index finds answer call csv_on_literals digits chars is_utf8 encode_utf8
 no_table_file = (_, (Some (codes "v\nx\n"), refl, refl), refl)
 
 -- an index of a table that isn't there
-no_table : RunOf (finds None) answer 1 empty (create_predicate ∷ create_index ∷ [])
+no_table : StatementsRun (finds None) answer Plainly (create_predicate ∷ create_index ∷ [])
     (record { events = []; fault = Some (fault.Script (script.Bind why.NoTable 85)) })
 unfolding create_table create_predicate create_index finds answer call csv_on_literals digits chars is_utf8 encode_utf8
 no_table = (_, refl, (_, (_, refl, refl), refl))
 
 -- an index of a predicate that isn't there
-no_predicate : RunOf (finds (Some (codes "v\n3\n"))) answer 1 empty (create_table ∷ create_index ∷ [])
+no_predicate : StatementsRun (finds (Some (codes "v\n3\n"))) answer Plainly (create_table ∷ create_index ∷ [])
     (record { events = Fetch (codes "f") ∷ []; fault = Some (fault.Script (script.Bind why.NoPredicate 92)) })
 unfolding create_table create_predicate create_index finds answer call csv_on_literals digits chars is_utf8 encode_utf8
 no_predicate = (_, (Some (codes "v\n3\n"), refl, refl), (_, (_, refl, refl), refl))
 
 -- a statement of a kind that isn't there yet, with its number
-not_built : RunOf (finds None) answer 1 empty (create_predicate ∷ Close (name_at (codes "c") 70) ∷ create_table ∷ [])
+not_built : StatementsRun (finds None) answer Plainly (create_predicate ∷ Close (name_at (codes "c") 70) ∷ create_table ∷ [])
     (record { events = []; fault = Some (fault.Script (script.NotBuilt 2)) })
 unfolding create_table create_predicate create_index finds answer call csv_on_literals digits chars is_utf8 encode_utf8
 not_built = (_, refl, (_, (_, refl, refl), refl))
 
 -- no statement
-no_statement : RunOf (finds None) answer 1 empty []
+no_statement : StatementsRun (finds None) answer Plainly []
     (record { events = []; fault = None })
 unfolding create_table create_predicate create_index finds answer call csv_on_literals digits chars is_utf8 encode_utf8
 no_statement = refl

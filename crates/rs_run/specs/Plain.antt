@@ -14,10 +14,8 @@ use Rattle.rs_syntax.specs.declared.fault.SyntaxFault.{SyntaxFault}
 use Rattle.rs_run.specs.declared.fault.Fault.{Fault}
 use Rattle.rs_run.specs.declared.fault.Fault.TheVariants.{Memory, Script}
 use Rattle.rs_run.specs.declared.script_fault.ScriptFault.TheVariants.{NotUtf8, Lex, Parse}
-use Rattle.rs_catalog.specs.Catalogue.{empty}
 use Rattle.rs_run.specs.Content.{content_of}
-use Rattle.rs_run.specs.Run.{Answering, Fetch, Finds, Run, behind, fails}
-use Rattle.rs_run.specs.Statements.{RunOf}
+use Rattle.rs_run.specs.Run.{Fetch, Finds, Run, behind, fails}
 
 -- the most bytes of a script's file, a byte order mark counted
 abbrev pub script_limit : ℕ
@@ -54,14 +52,14 @@ pub record HasStatements (script : List ℕ) (commands : List Command) : Type 0 
   pub parsed : Parses script tokens commands
   pub sound : IsSound script tokens
 
--- what the text of a script does: the lexer comes first, then the parser, and then the statements one after another, over an empty catalogue
-pub data TextRuns (finds : Finds) (answer : Answering) (script : List ℕ) : Run → Type 0 where
-  unlexed : (fault : LexFault) → lex.Refuses 0 0 script fault → TextRuns finds answer script (fails (Script (Lex fault)))
-  unparsed : (tokens : List Token) (fault : SyntaxFault) → HasTokens script tokens → Refuses script tokens fault → TextRuns finds answer script (fails (Script (Parse fault)))
-  runs : (commands : List Command) (run : Run) → HasStatements script commands → RunOf finds answer 1 empty commands run → TextRuns finds answer script run
+-- what the text of a script does: the lexer comes first, then the parser, and then the statements, which have these runs
+pub data TextRuns (statements : List Command → Run → Type 0) (script : List ℕ) : Run → Type 0 where
+  unlexed : (fault : LexFault) → lex.Refuses 0 0 script fault → TextRuns statements script (fails (Script (Lex fault)))
+  unparsed : (tokens : List Token) (fault : SyntaxFault) → HasTokens script tokens → Refuses script tokens fault → TextRuns statements script (fails (Script (Parse fault)))
+  runs : (commands : List Command) (run : Run) → HasStatements script commands → statements commands run → TextRuns statements script run
 
 -- what a script does: its file is fetched first
-pub data ScriptRuns (finds : Finds) (answer : Answering) (name : List ℕ) : Run → Type 0 where
-  unread : (there : Option (List ℕ)) (fault : Fault) → finds name there → source_of name there ≡ Err fault → ScriptRuns finds answer name (behind (Fetch name ∷ []) (fails fault))
-  read : (there : Option (List ℕ)) (script : List ℕ) (run : Run) → finds name there → source_of name there ≡ Ok script → TextRuns finds answer script run
-      → ScriptRuns finds answer name (behind (Fetch name ∷ []) run)
+pub data ScriptRuns (finds : Finds) (statements : List Command → Run → Type 0) (name : List ℕ) : Run → Type 0 where
+  unread : (there : Option (List ℕ)) (fault : Fault) → finds name there → source_of name there ≡ Err fault → ScriptRuns finds statements name (behind (Fetch name ∷ []) (fails fault))
+  read : (there : Option (List ℕ)) (script : List ℕ) (run : Run) → finds name there → source_of name there ≡ Ok script → TextRuns statements script run
+      → ScriptRuns finds statements name (behind (Fetch name ∷ []) run)

@@ -1,15 +1,14 @@
 -- What a run of the command does: its events, in order, and the fault that ends it.
-use Rattle.std.specs.Prelude.{ℕ, ℤ, ◌≡◌, List, [], ◌∷◌, ◌++◌, map, Option, Some, None, IfSome, Result, Ok, Err}
-use Rattle.rs_value.specs.declared.value.Value.{Value}
+use Rattle.std.specs.Prelude.{ℕ, ◌≡◌, List, [], ◌∷◌, ◌++◌, map, Option, Some, None, IfSome, Result, Ok, Err}
 use Rattle.rs_outside.specs.Files.{FilesTold, file_named}
-use Rattle.rs_expr.specs.Predicates.{PredicateDef}
+use Rattle.rs_expr.specs.InOrder.{Inquiry, calls_of}
 use Rattle.rs_expr.specs.declared.scorer.Call.{Call}
 use Rattle.rs_run.specs.declared.fault.Fault.{Fault}
 
 -- a fetch of the file of this name, a call of the scorer, or a put of these bytes on standard output
 pub data Event : Type 0 where
   Fetch : List ℕ → Event
-  Ask : Call → Event
+  Score : Call → Event
   Put : List ℕ → Event
 
 -- what a run does, and the fault that ends it, if one does
@@ -21,22 +20,26 @@ pub record Run : Type 0 where
 abbrev pub fetches : List Event → List (List ℕ)
 fetches [] = []
 fetches (Fetch name ∷ rest) = name ∷ fetches rest
-fetches (Ask call ∷ rest) = fetches rest
+fetches (Score call ∷ rest) = fetches rest
 fetches (Put bytes ∷ rest) = fetches rest
 
 -- the calls of the scorer, in order
 abbrev pub calls : List Event → List Call
 calls [] = []
 calls (Fetch name ∷ rest) = calls rest
-calls (Ask call ∷ rest) = call ∷ calls rest
+calls (Score call ∷ rest) = call ∷ calls rest
 calls (Put bytes ∷ rest) = calls rest
 
 -- what is put, in order
 abbrev pub puts : List Event → List (List ℕ)
 puts [] = []
 puts (Fetch name ∷ rest) = puts rest
-puts (Ask call ∷ rest) = puts rest
+puts (Score call ∷ rest) = puts rest
 puts (Put bytes ∷ rest) = bytes ∷ puts rest
+
+-- the calls of an inquiry, in order
+abbrev pub calls_in : {A F : Type 0} → Inquiry A F → List Event
+calls_in inquiry = map Score (calls_of inquiry.requests)
 
 -- a run that ends with a fault before any event
 abbrev pub fails : Fault → Run
@@ -62,7 +65,3 @@ finds_in told name there = IfSome told (λ t. file_named name t.folder ≡ there
 -- files that stay as they are: these bytes are under a name, or no file is
 abbrev pub found_in : (List ℕ → Option (List ℕ)) → Finds
 found_in there name found = there name ≡ found
-
--- what a scorer answers
-abbrev pub Answering : Type 0
-Answering = PredicateDef → List Value → ℤ

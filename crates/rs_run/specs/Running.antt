@@ -4,12 +4,14 @@ use Rattle.rs_run.specs.declared.fault.Fault.TheVariants.{Memory, Usage}
 use Rattle.rs_run.specs.Words.{Form, NoForm, Plain, Top, form_of}
 use Rattle.rs_run.specs.Top.{top_lines}
 use Rattle.rs_run.specs.Plain.{ScriptRuns}
-use Rattle.rs_run.specs.Run.{Answering, Finds, Run, fails, fetch_then}
+use Rattle.rs_expr.specs.Scoring.{Answering}
+use Rattle.rs_run.specs.Run.{Finds, Run, fails, fetch_then}
+use Rattle.rs_run.specs.Statements.{Plainly, StatementsRun}
 
 -- the run of words of this form
 abbrev pub IsRunOf : Finds → Answering → Form → Run → Type 0
 IsRunOf finds answer (Top top) run = (there : Option (List ℕ)) × finds top.file there × (run ≡ fetch_then top.file (top_lines top there))
-IsRunOf finds answer (Plain name) run = ScriptRuns finds answer name run
+IsRunOf finds answer (Plain name) run = ScriptRuns finds (StatementsRun finds answer Plainly) name run
 IsRunOf finds answer NoForm run = run ≡ fails Usage
 
 -- the run of these words

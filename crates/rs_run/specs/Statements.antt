@@ -1,7 +1,5 @@
 -- The statements of a script, one after another: what each does, and the catalogue that it leaves.
-use Rattle.std.specs.Prelude.{ℕ, suc, ◌≡◌, ◌+◌, List, [], ◌∷◌, ◌++◌, map, Option, Some, None, Result, Ok, Err}
-use Rattle.rs_value.specs.declared.kind.Kind.{Kind}
-use Rattle.rs_lex.specs.declared.token.Span.{Span}
+use Rattle.std.specs.Prelude.{ℕ, ◌≡◌, ◌+◌, List, [], ◌∷◌, ◌++◌, map, Option, Result, Ok, Err}
 use Rattle.rs_rank.specs.declared.answer.Answer.{Answer}
 use Rattle.rs_rank.specs.declared.scored_row.ScoredRow.{ScoredRow}
 use Rattle.rs_lines.specs.Row.{line_of}
@@ -10,9 +8,10 @@ use Rattle.rs_syntax.specs.Syntax.{Command, CreateTable, CreatePredicate, Create
 use Rattle.rs_syntax.specs.Syntax as syntax
 use Rattle.rs_table.specs.Column.{Column}
 use Rattle.rs_table.specs.Reading.{◌>>=◌, table_of}
-use Rattle.rs_expr.specs.Predicates.{PredicateDef}
-use Rattle.rs_catalog.specs.Catalogue.{Catalogue, room_for, with_index, with_predicate, with_table}
-use Rattle.rs_catalog.specs.Indexes.{Making, making, predicate_for}
+use Rattle.rs_expr.specs.InOrder.{Inquiry}
+use Rattle.rs_expr.specs.Scoring.{Answering}
+use Rattle.rs_catalog.specs.Catalogue.{Catalogue, empty, room_for, with_index, with_predicate, with_table}
+use Rattle.rs_catalog.specs.Indexes.{making, predicate_for}
 use Rattle.rs_catalog.specs.declared.index.IndexDef.{IndexDef}
 use Rattle.rs_catalog.specs.declared.index.IndexFault.{IndexFault}
 use Rattle.rs_catalog.specs.declared.index.IndexFault.TheVariants as index
@@ -26,8 +25,9 @@ use Rattle.rs_bind.specs.Queries.{bound_query}
 use Rattle.rs_bind.specs.declared.fault.BindFault.{BindFault}
 use Rattle.rs_bind.specs.declared.fault.BindFault.TheVariants as bind
 use Rattle.rs_query.specs.Answers.{predicate_at}
+use Rattle.rs_query.specs.Views.{all_rows}
 use Rattle.rs_query.specs.declared.query.Query.{Query}
-use Rattle.rs_plain.specs.Plain.{Evaluation, evaluation_of}
+use Rattle.rs_plain.specs.Plain.{evaluation_of}
 use Rattle.rs_plain.specs.declared.fault.PlainFault.{PlainFault}
 use Rattle.rs_plain.specs.declared.fault.PlainFault.TheVariants as plain
 use Rattle.rs_run.specs.declared.fault.Fault.{Fault}
@@ -35,7 +35,8 @@ use Rattle.rs_run.specs.declared.fault.Fault.TheVariants.{BadScore, Memory, Prob
 use Rattle.rs_run.specs.declared.script_fault.ScriptFault.TheVariants.{Bind, Room, NotBuilt}
 use Rattle.rs_run.specs.Content.{content_of}
 use Rattle.rs_run.specs.Faults.{only}
-use Rattle.rs_run.specs.Run.{Answering, Ask, Event, Fetch, Finds, Put, Run, behind}
+use Rattle.rs_run.specs.Run.{Fetch, Finds, Put, Run, calls_in}
+use Rattle.rs_run.specs.Sequence.{RunOf, Step, still}
 use Rattle.rs_run.specs.Top.{or_table_fault, table_limit}
 
 -- a rule that a statement breaks ends the run
@@ -59,17 +60,8 @@ with_room catalogue what name bound = do
   room ← or_room_fault name (room_for what name.text catalogue)
   Ok a
 
--- what a statement does: its events, and the catalogue that it leaves, or the fault that ends the run
-pub record Step : Type 0 where
-  pub events : List Event
-  pub outcome : Result Catalogue Fault
-
--- a statement without an event
-abbrev pub still : Result Catalogue Fault → Step
-still outcome = record { events = []; outcome = outcome }
-
 -- the table of the file joins
-abbrev pub table_step : Catalogue → Name → List ℕ → List Column → Option (List ℕ) → Step
+abbrev pub table_step : Catalogue → Name → List ℕ → List Column → Option (List ℕ) → Step Catalogue
 table_step catalogue name file columns there = record {
   events = Fetch file ∷ [];
   outcome = (do
@@ -78,17 +70,21 @@ table_step catalogue name file columns there = record {
     Ok (with_table name.text table catalogue));
 }
 
+-- the fault of a run in which an index of this predicate isn't made
+abbrev pub index_fault : List ℕ → IndexFault → Fault
+index_fault predicate (index.BadScore row got max) = BadScore predicate (only row) got max
+index_fault predicate index.Probe = Probe predicate
+index_fault predicate index.Memory = Memory
+
 -- the index joins, with its rows by score; a bad score of a row ends the run
 abbrev pub index_outcome : Catalogue → IndexDef → Result (List ScoredRow) IndexFault → Result Catalogue Fault
 index_outcome catalogue def (Ok ranking) = Ok (with_index def ranking catalogue)
-index_outcome catalogue def (Err (index.BadScore row got max)) = Err (BadScore (predicate_for catalogue def).name (only row) got max)
-index_outcome catalogue def (Err index.Probe) = Err (Probe (predicate_for catalogue def).name)
-index_outcome catalogue def (Err index.Memory) = Err Memory
+index_outcome catalogue def (Err why) = Err (index_fault (predicate_for catalogue def).name why)
 
-abbrev pub index_step : Answering → Catalogue → IndexDef → Step
+abbrev pub index_step : Answering → Catalogue → IndexDef → Step Catalogue
 index_step answer catalogue def =
     let made = making answer catalogue def in
-    record { events = map Ask made.calls; outcome = index_outcome catalogue def made.outcome }
+    record { events = calls_in made; outcome = index_outcome catalogue def made.outcome }
 
 -- the predicate joins
 abbrev pub predicate_outcome : Catalogue → Name → Command → Result Catalogue Fault
@@ -117,48 +113,44 @@ query_outcome catalogue (Ok rows) = Ok catalogue
 query_outcome catalogue (Err fault) = Err (query_fault catalogue fault)
 
 -- a query: all its calls, and then its rows, each as one line
-abbrev pub evaluation_step : Catalogue → Evaluation (List Answer) → Step
+abbrev pub evaluation_step : Catalogue → Inquiry (List Answer) PlainFault → Step Catalogue
 evaluation_step catalogue evaluated =
-    record { events = map Ask evaluated.calls ++ map Put (answer_lines evaluated.outcome); outcome = query_outcome catalogue evaluated.outcome }
+    record { events = calls_in evaluated ++ map Put (answer_lines evaluated.outcome); outcome = query_outcome catalogue evaluated.outcome }
 
-abbrev pub query_step : Answering → Catalogue → Query → Step
-query_step answer catalogue query = evaluation_step catalogue (evaluation_of answer catalogue query)
+-- how the queries of a script are evaluated: plainly, which scores every combination of rows
+pub data Evaluating : Type 0 where
+  Plainly : Evaluating
+
+abbrev pub query_step : Evaluating → Answering → Catalogue → Query → Step Catalogue
+query_step Plainly answer catalogue query = evaluation_step catalogue (evaluation_of answer catalogue query (all_rows catalogue query))
 
 -- EXPLAIN: the query has to be bound, and nothing is told of it
 abbrev pub explain_outcome : Catalogue → syntax.Query → Result Catalogue Fault
 explain_outcome catalogue query = or_bind_fault (bound_query catalogue query) >>= λ bound. Ok catalogue
 
 -- a statement that is refused, or one that goes on with what it binds
-abbrev pub refused_or : {A : Type 0} → (A → Step) → Result A Fault → Step
+abbrev pub refused_or : {A S : Type 0} → (A → Step S) → Result A Fault → Step S
 refused_or does (Ok a) = does a
 refused_or does (Err fault) = still (Err fault)
 
 -- the fetch of a table's file, where the statement isn't refused before it
-abbrev pub DoesTable : Finds → Catalogue → Name → List ℕ → Result (List Column) Fault → Step → Type 0
+abbrev pub DoesTable : Finds → Catalogue → Name → List ℕ → Result (List Column) Fault → Step Catalogue → Type 0
 DoesTable finds catalogue name file (Err fault) step = step ≡ still (Err fault)
 DoesTable finds catalogue name file (Ok columns) step = (there : Option (List ℕ)) × finds file there × (step ≡ table_step catalogue name file columns there)
 
 -- what a statement of this number does: first its names and types count, then whether there is room for its name, and then what it does
-abbrev pub Does : Finds → Answering → ℕ → Catalogue → Command → Step → Type 0
-Does finds answer number catalogue (CreateTable name columns file) step =
+abbrev pub Does : Finds → Answering → Evaluating → ℕ → Catalogue → Command → Step Catalogue → Type 0
+Does finds answer evaluating number catalogue (CreateTable name columns file) step =
     DoesTable finds catalogue name file (with_room catalogue what.Table name (columns_of columns)) step
-Does finds answer number catalogue (CreatePredicate name params max cost formula) step =
+Does finds answer evaluating number catalogue (CreatePredicate name params max cost formula) step =
     step ≡ still (predicate_outcome catalogue name (CreatePredicate name params max cost formula))
-Does finds answer number catalogue (CreateRankIndex name table predicate args at) step =
+Does finds answer evaluating number catalogue (CreateRankIndex name table predicate args at) step =
     step ≡ refused_or (index_step answer catalogue) (with_room catalogue what.Index name (index_def_of catalogue (CreateRankIndex name table predicate args at)))
-Does finds answer number catalogue (syntax.Ask query) step = step ≡ refused_or (query_step answer catalogue) (or_bind_fault (bound_query catalogue query))
-Does finds answer number catalogue (Explain query) step = step ≡ still (explain_outcome catalogue query)
-Does finds answer number catalogue (ExplainAnalyze query) step = step ≡ still (explain_outcome catalogue query)
-Does finds answer number catalogue _ step = step ≡ still (Err (Script (NotBuilt number)))
+Does finds answer evaluating number catalogue (syntax.Ask query) step = step ≡ refused_or (query_step evaluating answer catalogue) (or_bind_fault (bound_query catalogue query))
+Does finds answer evaluating number catalogue (Explain query) step = step ≡ still (explain_outcome catalogue query)
+Does finds answer evaluating number catalogue (ExplainAnalyze query) step = step ≡ still (explain_outcome catalogue query)
+Does finds answer evaluating number catalogue _ step = step ≡ still (Err (Script (NotBuilt number)))
 
--- the run of a statement and those behind it, which only go on where it ends without a fault
-abbrev pub RunsOn : (Catalogue → Run → Type 0) → List Event → Result Catalogue Fault → Run → Type 0
-RunsOn rest events (Err fault) run = run ≡ record { events = events; fault = Some fault }
-RunsOn rest events (Ok next) run = (more : Run) × rest next more × (run ≡ behind events more)
-
--- the run of statements one after another, the first of this number, up to the first fault
-abbrev pub RunOf : Finds → Answering → ℕ → Catalogue → List Command → Run → Type 0
-RunOf finds answer number catalogue [] run = run ≡ record { events = []; fault = None }
-RunOf finds answer number catalogue (command ∷ rest) run =
-    (step : Step) × Does finds answer number catalogue command step
-    × RunsOn (λ next more. RunOf finds answer (suc number) next rest more) step.events step.outcome run
+-- the run of the statements of a script, over an empty catalogue
+abbrev pub StatementsRun : Finds → Answering → Evaluating → List Command → Run → Type 0
+StatementsRun finds answer evaluating commands run = RunOf (Does finds answer evaluating) 1 empty commands run

@@ -1,8 +1,11 @@
 ghost use Rattle.std.specs.Prelude.{◌≡◌, ◌⊎◌};
-ghost use Rattle.rs_expr.specs.Scoring.{ScorerFaulted};
-ghost use Rattle.rs_run.specs.Outcome.{EndsOrNoMemory, Faulted, ForRun, HasCause, Outcome, Ran, seen};
-ghost use Rattle.rs_run.specs.Steps.{seen_scorer};
+ghost use Rattle.rs_value.specs.Outside.{Faulted};
+ghost use Rattle.rs_run.specs.Outcome.{EndsOrNoMemory, ForRun, HasCause, Outcome};
+ghost use Rattle.rs_run.specs.Parts.Steps.{Runs};
+ghost use Rattle.rs_run.specs.Run.{finds_in};
+ghost use Rattle.rs_run.specs.Running.{IsCut, IsRun};
 ghost use Rattle.rs_run.specs.Words.{NoForm, form_of};
+ghost use Rattle.rs_run.specs.World.{KeepsWorld, NoneFailed, World, world};
 
 use crate::fault::Fault;
 use crate::plain::plain;
@@ -25,41 +28,34 @@ pub fn run<F: Files, S: Scorer, O: Sink, E: Sink>(
     out: &mut O,
     err: &mut E,
 ) -> Status
-    // The events of the run are done up to a halt, which has its cause, and the status and the line are the halt's.
-    ensures run { ForRun (F.told files.old) (S.answer scorer.old) words.now (λ run. Outcome run result
-        (seen (F.told files.old) (F.told files.new) (F.faults files.old) (F.faults files.new))
-        (seen_scorer (S.told scorer.old) (S.told scorer.new) (S.calls scorer.old) (S.calls scorer.new) (S.faults scorer.old) (S.faults scorer.new))
-        (seen (O.pieces out.old) (O.pieces out.new) (O.faults out.old) (O.faults out.new))
-        (seen (E.pieces err.old) (E.pieces err.new) (E.faults err.old) (E.faults err.new))
-        (F.steady files.old) (S.steady scorer.old) (O.steady out.old) (E.steady err.old)) }
+    // The events of the run are done up to a halt, and the status and the line are the halt's.
+    ensures run { let old = world (F.state files.old) (S.state scorer.old) (O.state out.old) (E.state err.old) in
+        let new = world (F.state files.new) (S.state scorer.new) (O.state out.new) (E.state err.new) in
+        ForRun old words.now (λ run. Outcome run result old new) }
 
     // Each status has its cause: the definition of the run, want of memory, or a put, a fetch or a call that failed.
-    ensures causes { ForRun (F.told files.old) (S.answer scorer.old) words.now (λ run. HasCause run result
-        (seen (F.told files.old) (F.told files.new) (F.faults files.old) (F.faults files.new))
-        (seen_scorer (S.told scorer.old) (S.told scorer.new) (S.calls scorer.old) (S.calls scorer.new) (S.faults scorer.old) (S.faults scorer.new))
-        (seen (O.pieces out.old) (O.pieces out.new) (O.faults out.old) (O.faults out.new))
-        (F.steady files.old) (S.steady scorer.old) (O.steady out.old)) }
+    ensures causes { let old = world (F.state files.old) (S.state scorer.old) (O.state out.old) (E.state err.old) in
+        let new = world (F.state files.new) (S.state scorer.new) (O.state out.new) (E.state err.new) in
+        ForRun old words.now (λ run. HasCause run result old new) }
 
     // Usage comes exactly where the words are of no form, Write only where a put on standard output failed, and Probe
     // only where a call of the scorer did.
     ensures usage { result ≡ Status.Usage → form_of words.now ≡ NoForm }
     ensures no_form { form_of words.now ≡ NoForm → (result ≡ Status.Usage) ⊎ (result ≡ Status.Memory) }
-    ensures write { result ≡ Status.Write → Faulted
-        (seen (O.pieces out.old) (O.pieces out.new) (O.faults out.old) (O.faults out.new)) (O.steady out.old) }
-    ensures probe { result ≡ Status.Probe → ScorerFaulted
-        (seen_scorer (S.told scorer.old) (S.told scorer.new) (S.calls scorer.old) (S.calls scorer.new) (S.faults scorer.old) (S.faults scorer.new))
-        (S.steady scorer.old) }
+    ensures write { result ≡ Status.Write → Faulted (O.state out.old) (O.state out.new) }
+    ensures probe { result ≡ Status.Probe → Faulted (S.state scorer.old).outside (S.state scorer.new).outside }
 
-    // Where no fetch, no call and no put on standard output failed, the run ends as its definition says, after all its events.
-    ensures complete { (Faulted (seen (F.told files.old) (F.told files.new) (F.faults files.old) (F.faults files.new)) (F.steady files.old) → ⊥)
-        → (ScorerFaulted
-        (seen_scorer (S.told scorer.old) (S.told scorer.new) (S.calls scorer.old) (S.calls scorer.new) (S.faults scorer.old) (S.faults scorer.new))
-        (S.steady scorer.old) → ⊥)
-        → (Faulted (seen (O.pieces out.old) (O.pieces out.new) (O.faults out.old) (O.faults out.new)) (O.steady out.old) → ⊥)
-        → ForRun (F.told files.old) (S.answer scorer.old) words.now (λ run. EndsOrNoMemory run result
-        (seen (F.told files.old) (F.told files.new) (F.faults files.old) (F.faults files.new))
-        (seen_scorer (S.told scorer.old) (S.told scorer.new) (S.calls scorer.old) (S.calls scorer.new) (S.faults scorer.old) (S.faults scorer.new))
-        (seen (O.pieces out.old) (O.pieces out.new) (O.faults out.old) (O.faults out.new))) }
+    // Where no fetch, no call and no put on standard output failed, the run ends as its definition says, after all its
+    // events.
+    ensures complete { let old = world (F.state files.old) (S.state scorer.old) (O.state out.old) (E.state err.old) in
+        let new = world (F.state files.new) (S.state scorer.new) (O.state out.new) (E.state err.new) in
+        NoneFailed old new → ForRun old words.now (λ run. EndsOrNoMemory run result old new) }
+
+    // What a second run with the same objects stands on: the scorer's answers stay, no count of faults falls, and what
+    // is steady stays so.
+    ensures keeps { KeepsWorld
+        (world (F.state files.old) (S.state scorer.old) (O.state out.old) (E.state err.old))
+        (world (F.state files.new) (S.state scorer.new) (O.state out.new) (E.state err.new)) }
 {
     match answer(alloc, words, files, scorer, out) {
         Ok(()) => Status::Done,
@@ -75,11 +71,10 @@ fn answer<F: Files, S: Scorer, O: Sink>(
     scorer: &mut S,
     out: &mut O,
 ) -> Result<(), Fault>
-    ensures { ForRun (F.told files.old) (S.answer scorer.old) words.now (λ run. Ran run result
-        (seen (F.told files.old) (F.told files.new) (F.faults files.old) (F.faults files.new))
-        (seen_scorer (S.told scorer.old) (S.told scorer.new) (S.calls scorer.old) (S.calls scorer.new) (S.faults scorer.old) (S.faults scorer.new))
-        (seen (O.pieces out.old) (O.pieces out.new) (O.faults out.old) (O.faults out.new))
-        (F.steady files.old) (S.steady scorer.old) (O.steady out.old)) }
+    ensures { (beside : World) → Runs
+        (λ run. IsRun (finds_in (F.state files.old).told) (S.state scorer.old).answer words.now run ⊎ IsCut (form_of words.now) run) result
+        (record beside { files = F.state files.old; scorer = S.state scorer.old; out = O.state out.old })
+        (record beside { files = F.state files.new; scorer = S.state scorer.new; out = O.state out.new }) }
 {
     match command_of(words) {
         Some(Command::Top(top_words)) => top(

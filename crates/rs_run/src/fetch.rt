@@ -1,7 +1,6 @@
 ghost use Rattle.std.specs.Prelude.{◌≡◌, ◌⊎◌, ◌≤◌, Ok, Err, IfOk, MatchResult, length};
 ghost use Rattle.rs_run.specs.Content.{content_of};
-ghost use Rattle.rs_run.specs.Outcome.{seen};
-ghost use Rattle.rs_run.specs.Steps.{FetchesFile, Keeps};
+ghost use Rattle.rs_run.specs.Parts.Steps.{FetchesFile};
 
 use crate::fault::Fault;
 use rs_outside::{FetchFault, Files};
@@ -18,10 +17,8 @@ pub fn fetch_file<F: Files>(
 ) -> Result<Vec<u8>, Fault>
     ensures fetches { FetchesFile file.now result
         (λ there r. MatchResult r (λ bytes. content_of limit file.now there ≡ Ok bytes.items) (λ fault. content_of limit file.now there ≡ Err fault))
-        (seen (F.told files.old) (F.told files.new) (F.faults files.old) (F.faults files.new))
-        (F.steady files.old) }
+        (F.state files.old) (F.state files.new) }
     ensures within { IfOk result (λ bytes. length bytes.items ≤ limit) }
-    ensures keeps { Keeps (seen (F.told files.old) (F.told files.new) (F.faults files.old) (F.faults files.new)) (F.steady files.old) (F.steady files.new) }
 {
     let mut bytes = Vec::new(alloc);
     match files.fetch(file, limit, &mut bytes) {

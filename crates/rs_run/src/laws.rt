@@ -3,7 +3,8 @@
 
 ghost use Rattle.std.specs.Prelude.{◌≡◌, ℕ, List, Option, Some};
 ghost use Rattle.rs_outside.specs.Files.{FilesTold};
-ghost use Rattle.rs_run.specs.Run.{Answering, Run, finds_in, found_in};
+ghost use Rattle.rs_expr.specs.Scoring.{Answering};
+ghost use Rattle.rs_run.specs.Run.{Run, finds_in, found_in};
 ghost use Rattle.rs_run.specs.Running.{IsRun};
 
 /// Words have one run at most over the same files and the same answers of a scorer, where the files stay as they are, as

@@ -1,10 +1,14 @@
-ghost use Rattle.std.specs.Prelude.{◌≡◌, ◌≤◌, IfOk, length};
+ghost use Rattle.std.specs.Prelude.{◌≡◌, ◌≤◌, ◌⊎◌, IfOk, length};
 ghost use Rattle.rs_value.specs.Answer.{Gives};
 ghost use Rattle.rs_value.specs.Text.{text_of};
-ghost use Rattle.rs_run.specs.Outcome.{seen};
-ghost use Rattle.rs_run.specs.Plain.{or_text_fault, without_mark};
-ghost use Rattle.rs_run.specs.Run.{finds_in};
-ghost use Rattle.rs_run.specs.Steps.{FetchesFile, IsSource, Keeps, RanScript, RanText, seen_scorer};
+ghost use Rattle.rs_run.specs.declared.fault.Fault.TheVariants.{Memory};
+ghost use Rattle.rs_run.specs.Parts.Steps.{FetchesFile, IsSource, Runs};
+ghost use Rattle.rs_run.specs.Plain.{TextRuns, or_text_fault, without_mark};
+ghost use Rattle.rs_run.specs.Run.{fails, finds_in};
+ghost use Rattle.rs_run.specs.Running.{IsCut, IsRunOf};
+ghost use Rattle.rs_run.specs.Statements.{Plainly, StatementsRun};
+ghost use Rattle.rs_run.specs.Words.{Plain};
+ghost use Rattle.rs_run.specs.World.{World};
 
 use crate::fault::Fault;
 use crate::fetch::fetch_file;
@@ -28,11 +32,10 @@ pub fn plain<F: Files, S: Scorer, O: Sink>(
     scorer: &mut S,
     out: &mut O,
 ) -> Result<(), Fault>
-    ensures { RanScript (finds_in (F.told files.old)) (S.answer scorer.old) name.now result
-        (seen (F.told files.old) (F.told files.new) (F.faults files.old) (F.faults files.new))
-        (seen_scorer (S.told scorer.old) (S.told scorer.new) (S.calls scorer.old) (S.calls scorer.new) (S.faults scorer.old) (S.faults scorer.new))
-        (seen (O.pieces out.old) (O.pieces out.new) (O.faults out.old) (O.faults out.new))
-        (F.steady files.old) (S.steady scorer.old) (O.steady out.old) }
+    ensures { (beside : World) → Runs
+        (λ run. IsRunOf (finds_in (F.state files.old).told) (S.state scorer.old).answer (Plain name.now) run ⊎ IsCut (Plain name.now) run) result
+        (record beside { files = F.state files.old; scorer = S.state scorer.old; out = O.state out.old })
+        (record beside { files = F.state files.new; scorer = S.state scorer.new; out = O.state out.new }) }
 {
     let script = match fetch_script(alloc, name, files) {
         Ok(script) => script,
@@ -43,11 +46,8 @@ pub fn plain<F: Files, S: Scorer, O: Sink>(
 
 /// Fetches the text of a script, without the byte order mark at its start.
 fn fetch_script<F: Files>(alloc: Global, name: &Text, files: &mut F) -> Result<Text, Fault>
-    ensures fetches { FetchesFile name.now result (IsSource name.now)
-        (seen (F.told files.old) (F.told files.new) (F.faults files.old) (F.faults files.new))
-        (F.steady files.old) }
+    ensures fetches { FetchesFile name.now result (IsSource name.now) (F.state files.old) (F.state files.new) }
     ensures small { IfOk result (λ script. length script ≤ 1048576) }
-    ensures keeps { Keeps (seen (F.told files.old) (F.told files.new) (F.faults files.old) (F.faults files.new)) (F.steady files.old) (F.steady files.new) }
 {
     let bytes = match fetch_file(alloc, name, MOST_BYTES, files) {
         Ok(bytes) => bytes,
@@ -88,11 +88,10 @@ fn run_text<F: Files, S: Scorer, O: Sink>(
     out: &mut O,
 ) -> Result<(), Fault>
     requires { length script.now ≤ 1048576 }
-    ensures { RanText (finds_in (F.told files.old)) (S.answer scorer.old) script.now result
-        (seen (F.told files.old) (F.told files.new) (F.faults files.old) (F.faults files.new))
-        (seen_scorer (S.told scorer.old) (S.told scorer.new) (S.calls scorer.old) (S.calls scorer.new) (S.faults scorer.old) (S.faults scorer.new))
-        (seen (O.pieces out.old) (O.pieces out.new) (O.faults out.old) (O.faults out.new))
-        (F.steady files.old) (S.steady scorer.old) (O.steady out.old) }
+    ensures { (beside : World) → Runs
+        (λ run. TextRuns (StatementsRun (finds_in (F.state files.old).told) (S.state scorer.old).answer Plainly) script.now run ⊎ (run ≡ fails Memory)) result
+        (record beside { files = F.state files.old; scorer = S.state scorer.old; out = O.state out.old })
+        (record beside { files = F.state files.new; scorer = S.state scorer.new; out = O.state out.new }) }
 {
     let tokens = tokens(alloc, script)?;
     let statements = parse(alloc, script, &tokens)?;

@@ -1,17 +1,13 @@
-ghost use Rattle.std.specs.Prelude.{◌≤◌, [], ◌∷◌};
-ghost use Rattle.rs_run.specs.Outcome.{seen};
-ghost use Rattle.rs_run.specs.Steps.{PutsLines};
+ghost use Rattle.std.specs.Prelude.{[], ◌∷◌};
+ghost use Rattle.rs_run.specs.Parts.Steps.{Ran, lines_run};
+ghost use Rattle.rs_run.specs.World.{World};
 
 use crate::fault::Fault;
 use rs_outside::{Sink, SinkFault};
 
 /// Puts a line on standard output.
 pub fn put_line<O: Sink>(line: &[u8], out: &mut O) -> Result<(), Fault>
-    ensures puts { PutsLines (line.now ∷ []) result
-        (seen (O.pieces out.old) (O.pieces out.new) (O.faults out.old) (O.faults out.new))
-        (O.steady out.old) }
-    ensures faults { O.faults out.old ≤ O.faults out.new }
-    ensures steady { O.steady out.old → O.steady out.new }
+    ensures { (beside : World) → Ran (lines_run (line.now ∷ [])) result (record beside { out = O.state out.old }) (record beside { out = O.state out.new }) }
 {
     match out.put(line) {
         Ok(()) => Ok(()),

@@ -1,13 +1,14 @@
-ghost use Rattle.std.specs.Prelude.{◌≡◌, ◌⊎◌, ◌+◌, IfErr, IfOk, IfSome};
+ghost use Rattle.std.specs.Prelude.{◌≡◌, ◌⊎◌, ◌<◌, IfErr, IfOk, IfSome, length};
 ghost use Rattle.rs_syntax.specs.Syntax.{query_of};
 ghost use Rattle.rs_lines.specs.Row.{line_of};
 ghost use Rattle.rs_query.specs.Answers.{predicate_at};
-ghost use Rattle.rs_query.specs.WellFormed.{IsBlock, IsQuery};
+ghost use Rattle.rs_plain.specs.Results.{NamesCalled};
+ghost use Rattle.rs_query.specs.declared.query.Query.{Query};
 ghost use Rattle.rs_bind.specs.Queries.{bound_query};
 ghost use Rattle.rs_bind.specs.Written.{IsWrittenQuery};
-ghost use Rattle.rs_run.specs.Outcome.{seen};
-ghost use Rattle.rs_run.specs.Statements.{explain_outcome, or_bind_fault, query_fault, rank_lines};
-ghost use Rattle.rs_run.specs.Steps.{Keeps, KeepsScorer, Leaves, PutsLines, RanQuery, seen_scorer};
+ghost use Rattle.rs_run.specs.Parts.Steps.{Leaves, Ran, Stepped, lines_run};
+ghost use Rattle.rs_run.specs.Statements.{Plainly, explain_outcome, or_bind_fault, query_fault, query_step, rank_lines, refused_or};
+ghost use Rattle.rs_run.specs.World.{World};
 
 use crate::fault::Fault;
 use crate::put::put_line;
@@ -17,7 +18,6 @@ use rs_expr::Scorer;
 use rs_lines::row_line;
 use rs_outside::Sink;
 use rs_plain::{PlainFault, plain};
-use rs_query::{Block, Query};
 use rs_rank::Answer;
 use rs_syntax::Select;
 use rs_value::Text;
@@ -32,14 +32,10 @@ pub fn run_query<S: Scorer, O: Sink>(
     out: &mut O,
 ) -> Result<(), Fault>
     requires written { IsWrittenQuery (query_of select.now) }
-    ensures ran { RanQuery (S.answer scorer.old) catalog.now (or_bind_fault (bound_query catalog.now (query_of select.now))) result
-        (seen_scorer (S.told scorer.old) (S.told scorer.new) (S.calls scorer.old) (S.calls scorer.new) (S.faults scorer.old) (S.faults scorer.new))
-        (seen (O.pieces out.old) (O.pieces out.new) (O.faults out.old) (O.faults out.new))
-        (S.steady scorer.old) (O.steady out.old) }
-    ensures scorer { KeepsScorer
-        (seen_scorer (S.told scorer.old) (S.told scorer.new) (S.calls scorer.old) (S.calls scorer.new) (S.faults scorer.old) (S.faults scorer.new))
-        (S.answer scorer.old) (S.answer scorer.new) (S.steady scorer.old) (S.steady scorer.new) }
-    ensures out { Keeps (seen (O.pieces out.old) (O.pieces out.new) (O.faults out.old) (O.faults out.new)) (O.steady out.old) (O.steady out.new) }
+    ensures { (beside : World) → Stepped
+        (λ step. step ≡ refused_or (query_step Plainly (S.state scorer.old).answer catalog.now) (or_bind_fault (bound_query catalog.now (query_of select.now))))
+        catalog.now result
+        (record beside { scorer = S.state scorer.old; out = O.state out.old }) (record beside { scorer = S.state scorer.new; out = O.state out.new }) }
 {
     let query = match bind(alloc, catalog, select) {
         Ok(query) => query,
@@ -47,7 +43,7 @@ pub fn run_query<S: Scorer, O: Sink>(
     };
     let rows = match plain(alloc, catalog, &query, scorer) {
         Ok(rows) => rows,
-        Err(why) => return Err(query_fault(catalog, &query, why)),
+        Err(why) => return Err(query_fault(catalog, why)),
     };
     put_answers(alloc, &rows, out)
 }
@@ -64,8 +60,8 @@ pub fn explain_query(alloc: Global, select: &Select, catalog: &Catalog) -> Resul
 }
 
 /// The fault of a query that has no answer, with the name of the predicate.
-fn query_fault(catalog: &Catalog, query: &Query, why: PlainFault) -> Fault
-    requires { IsQuery catalog.now query.now }
+fn query_fault(catalog: &Catalog, why: PlainFault) -> Fault
+    requires { (query : Query) × NamesCalled catalog.now query why }
     ensures { (result ≡ query_fault catalog.now why) ⊎ (result ≡ Fault.Memory) }
 {
     match why {
@@ -76,7 +72,7 @@ fn query_fault(catalog: &Catalog, query: &Query, why: PlainFault) -> Fault
             max,
         } => {
             let rows = ids.rows;
-            match name_in_query(catalog, query, predicate) {
+            match predicate_name(catalog, predicate) {
                 Some(predicate) => Fault::BadScore {
                     predicate,
                     rows,
@@ -86,7 +82,7 @@ fn query_fault(catalog: &Catalog, query: &Query, why: PlainFault) -> Fault
                 None => Fault::Memory,
             }
         }
-        PlainFault::Probe { predicate } => match name_in_query(catalog, query, predicate) {
+        PlainFault::Probe { predicate } => match predicate_name(catalog, predicate) {
             Some(predicate) => Fault::Probe { predicate },
             None => Fault::Memory,
         },
@@ -94,38 +90,18 @@ fn query_fault(catalog: &Catalog, query: &Query, why: PlainFault) -> Fault
     }
 }
 
-/// A copy of the name of the predicate of this number, which a term of the query calls. There is none where there is no
-/// memory for it.
-fn name_in_query(catalog: &Catalog, query: &Query, number: u8) -> Option<Text>
-    requires { IsQuery catalog.now query.now }
+/// A copy of the name of the predicate of this number. There is none where there is no memory for it.
+fn predicate_name(catalog: &Catalog, number: u8) -> Option<Text>
+    requires { number < length catalog.now.predicates }
     ensures { IfSome result (λ name. name ≡ (predicate_at catalog.now number).name) }
 {
-    match query {
-        Query::One(block, _) => name_in_block(catalog, block, number),
-        // The terms of the right block call the same predicates.
-        Query::Set(_, left, _, _) => name_in_block(catalog, left, number),
-    }
-}
-
-/// The same, of a block.
-fn name_in_block(catalog: &Catalog, block: &Block, number: u8) -> Option<Text>
-    requires { IsBlock catalog.now block.now }
-    ensures { IfSome result (λ name. name ≡ (predicate_at catalog.now number).name) }
-{
-    for term in block.terms.items() {
-        if term.predicate == number {
-            return catalog.predicate(number).name().copy().ok();
-        }
-    }
-    None
+    catalog.predicate(number).name().copy().ok()
 }
 
 /// Puts the lines of the rows of an answer, ranked from 1, each in one put before the next row is looked at.
 fn put_answers<O: Sink>(alloc: Global, rows: &[Answer], out: &mut O) -> Result<(), Fault>
-    ensures puts { PutsLines (rank_lines 1 rows.now) result
-        (seen (O.pieces out.old) (O.pieces out.new) (O.faults out.old) (O.faults out.new))
-        (O.steady out.old) }
-    ensures keeps { Keeps (seen (O.pieces out.old) (O.pieces out.new) (O.faults out.old) (O.faults out.new)) (O.steady out.old) (O.steady out.new) }
+    ensures { (beside : World) → Ran (lines_run (rank_lines 1 rows.now)) result
+        (record beside { out = O.state out.old }) (record beside { out = O.state out.new }) }
 {
     for (index, row) in rows.iter().enumerate() {
         let line = match answer_line(alloc, index + 1, row) {

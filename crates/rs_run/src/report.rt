@@ -1,5 +1,6 @@
 ghost use Rattle.std.specs.Prelude.{Some};
-ghost use Rattle.rs_run.specs.Outcome.{Reports, seen};
+ghost use Rattle.rs_value.specs.Outside.{Keeps};
+ghost use Rattle.rs_run.specs.Outcome.{Reports};
 
 use crate::fault::Fault;
 use crate::status::Status;
@@ -9,7 +10,8 @@ use std::alloc::Global;
 /// Puts the fault's line to standard error, and answers the status: the fault's, or Memory where there was no memory
 /// for the line.
 pub fn report<E: Sink>(alloc: Global, fault: &Fault, err: &mut E) -> Status
-    ensures { Reports (Some fault.now) result (seen (E.pieces err.old) (E.pieces err.new) (E.faults err.old) (E.faults err.new)) (E.steady err.old) }
+    ensures reports { Reports (Some fault.now) result (E.state err.old) (E.state err.new) }
+    ensures keeps { Keeps (E.state err.old) (E.state err.new) }
 {
     if let Ok(line) = fault.line(alloc) {
         match err.put(line.as_bytes()) {

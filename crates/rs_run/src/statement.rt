@@ -8,10 +8,10 @@ ghost use Rattle.rs_bind.specs.Written.{AreWritten, IsWritten};
 ghost use Rattle.rs_catalog.specs.Catalogue.{room_for};
 ghost use Rattle.rs_catalog.specs.Indexes.{IsIndex};
 ghost use Rattle.rs_catalog.specs.declared.room.What.TheVariants as what;
-ghost use Rattle.rs_run.specs.Outcome.{seen};
+ghost use Rattle.rs_run.specs.Parts.Steps.{FetchesFile, IsIndexNamed, IsPredicateNamed, IsReadTable, Leaves, Runs, Stepped};
 ghost use Rattle.rs_run.specs.Run.{finds_in};
-ghost use Rattle.rs_run.specs.Statements.{or_room_fault, predicate_outcome, with_room};
-ghost use Rattle.rs_run.specs.Steps.{FetchesFile, IsIndexNamed, IsPredicateNamed, IsReadTable, Keeps, KeepsScorer, Leaves, RanIndex, RanStatements, RanTable, Stepped, index_fault, seen_scorer};
+ghost use Rattle.rs_run.specs.Statements.{Does, DoesTable, Plainly, StatementsRun, index_fault, index_step, or_room_fault, predicate_outcome, refused_or, with_room};
+ghost use Rattle.rs_run.specs.World.{World};
 
 use crate::fault::{Fault, only_row};
 use crate::fetch::{fetch_file, table_fault};
@@ -35,11 +35,9 @@ pub fn run_statements<F: Files, S: Scorer, O: Sink>(
     out: &mut O,
 ) -> Result<(), Fault>
     requires written { AreWritten (commands_of statements.now) }
-    ensures { RanStatements (finds_in (F.told files.old)) (S.answer scorer.old) (commands_of statements.now) result
-        (seen (F.told files.old) (F.told files.new) (F.faults files.old) (F.faults files.new))
-        (seen_scorer (S.told scorer.old) (S.told scorer.new) (S.calls scorer.old) (S.calls scorer.new) (S.faults scorer.old) (S.faults scorer.new))
-        (seen (O.pieces out.old) (O.pieces out.new) (O.faults out.old) (O.faults out.new))
-        (F.steady files.old) (S.steady scorer.old) (O.steady out.old) }
+    ensures { (beside : World) → Runs (StatementsRun (finds_in (F.state files.old).told) (S.state scorer.old).answer Plainly (commands_of statements.now)) result
+        (record beside { files = F.state files.old; scorer = S.state scorer.old; out = O.state out.old })
+        (record beside { files = F.state files.new; scorer = S.state scorer.new; out = O.state out.new }) }
 {
     let mut catalog = Catalog::new(alloc);
     for (index, statement) in statements.iter().enumerate() {
@@ -70,16 +68,10 @@ fn run_statement<F: Files, S: Scorer, O: Sink>(
     out: &mut O,
 ) -> Result<(), Fault>
     requires written { IsWritten (command_of statement.now) }
-    ensures stepped { Stepped (finds_in (F.told files.old)) (S.answer scorer.old) number (command_of statement.now) catalog.old catalog.new result
-        (seen (F.told files.old) (F.told files.new) (F.faults files.old) (F.faults files.new))
-        (seen_scorer (S.told scorer.old) (S.told scorer.new) (S.calls scorer.old) (S.calls scorer.new) (S.faults scorer.old) (S.faults scorer.new))
-        (seen (O.pieces out.old) (O.pieces out.new) (O.faults out.old) (O.faults out.new))
-        (F.steady files.old) (S.steady scorer.old) (O.steady out.old) }
-    ensures files { Keeps (seen (F.told files.old) (F.told files.new) (F.faults files.old) (F.faults files.new)) (F.steady files.old) (F.steady files.new) }
-    ensures scorer { KeepsScorer
-        (seen_scorer (S.told scorer.old) (S.told scorer.new) (S.calls scorer.old) (S.calls scorer.new) (S.faults scorer.old) (S.faults scorer.new))
-        (S.answer scorer.old) (S.answer scorer.new) (S.steady scorer.old) (S.steady scorer.new) }
-    ensures out { Keeps (seen (O.pieces out.old) (O.pieces out.new) (O.faults out.old) (O.faults out.new)) (O.steady out.old) (O.steady out.new) }
+    ensures { (beside : World) → Stepped
+        (Does (finds_in (F.state files.old).told) (S.state scorer.old).answer Plainly number catalog.old (command_of statement.now)) catalog.new result
+        (record beside { files = F.state files.old; scorer = S.state scorer.old; out = O.state out.old })
+        (record beside { files = F.state files.new; scorer = S.state scorer.new; out = O.state out.new }) }
 {
     match statement {
         Statement::CreateTable {
@@ -141,10 +133,7 @@ fn read_table<F: Files>(
     schema: Schema,
     files: &mut F,
 ) -> Result<Table, Fault>
-    ensures fetches { FetchesFile file.now result (IsReadTable file.now schema)
-        (seen (F.told files.old) (F.told files.new) (F.faults files.old) (F.faults files.new))
-        (F.steady files.old) }
-    ensures keeps { Keeps (seen (F.told files.old) (F.told files.new) (F.faults files.old) (F.faults files.new)) (F.steady files.old) (F.steady files.new) }
+    ensures { FetchesFile file.now result (IsReadTable file.now schema) (F.state files.old) (F.state files.new) }
 {
     let bytes = match fetch_file(alloc, file, TABLE_LIMIT, files) {
         Ok(bytes) => bytes,
@@ -166,10 +155,9 @@ fn create_table<F: Files>(
     files: &mut F,
 ) -> Result<(), Fault>
     requires { 1 ≤ length columns.now }
-    ensures ran { RanTable (finds_in (F.told files.old)) catalog.old name.now file.now (with_room catalog.old what.Table name.now (columns_of columns.now)) catalog.new result
-        (seen (F.told files.old) (F.told files.new) (F.faults files.old) (F.faults files.new))
-        (F.steady files.old) }
-    ensures keeps { Keeps (seen (F.told files.old) (F.told files.new) (F.faults files.old) (F.faults files.new)) (F.steady files.old) (F.steady files.new) }
+    ensures { (beside : World) → Stepped
+        (DoesTable (finds_in (F.state files.old).told) catalog.old name.now file.now (with_room catalog.old what.Table name.now (columns_of columns.now)))
+        catalog.new result (record beside { files = F.state files.old }) (record beside { files = F.state files.new }) }
 {
     let schema = match table_schema(alloc, name, columns, catalog) {
         Ok(schema) => schema,
@@ -264,12 +252,10 @@ fn create_index<S: Scorer>(
 ) -> Result<(), Fault>
     requires form { IsIndexNamed name.now (command_of statement.now) }
     requires written { IsWritten (command_of statement.now) }
-    ensures ran { RanIndex (S.answer scorer.old) catalog.old (with_room catalog.old what.Index name.now (index_def_of catalog.old (command_of statement.now))) catalog.new result
-        (seen_scorer (S.told scorer.old) (S.told scorer.new) (S.calls scorer.old) (S.calls scorer.new) (S.faults scorer.old) (S.faults scorer.new))
-        (S.steady scorer.old) }
-    ensures keeps { KeepsScorer
-        (seen_scorer (S.told scorer.old) (S.told scorer.new) (S.calls scorer.old) (S.calls scorer.new) (S.faults scorer.old) (S.faults scorer.new))
-        (S.answer scorer.old) (S.answer scorer.new) (S.steady scorer.old) (S.steady scorer.new) }
+    ensures { (beside : World) → Stepped
+        (λ step. step ≡ refused_or (index_step (S.state scorer.old).answer catalog.old)
+        (with_room catalog.old what.Index name.now (index_def_of catalog.old (command_of statement.now))))
+        catalog.new result (record beside { scorer = S.state scorer.old }) (record beside { scorer = S.state scorer.new }) }
 {
     let def = match roomy_index(alloc, name, statement, catalog) {
         Ok(def) => def,

@@ -5,12 +5,14 @@ ghost use Rattle.rs_value.specs.declared.kind.Kind.TheVariants as kind;
 ghost use Rattle.rs_table.specs.Column.{Column, place_of};
 ghost use Rattle.rs_table.specs.NumberColumn.{HasNumberColumn};
 ghost use Rattle.rs_lines.specs.Row.{line_of};
-ghost use Rattle.rs_run.specs.Outcome.{seen};
 ghost use Rattle.rs_run.specs.Faults.{only};
 ghost use Rattle.rs_run.specs.Run.{finds_in};
+ghost use Rattle.rs_run.specs.Running.{IsRunOf};
 ghost use Rattle.rs_run.specs.Top.{named_table, number_at, scored_from};
 ghost use Rattle.rs_expr.specs.Scores.{is_score, score_of};
-ghost use Rattle.rs_run.specs.Steps.{FetchesFile, IsRanked, IsRow, IsTopTable, PutsLines, RanTop, Ranks, lines_of, row_in};
+ghost use Rattle.rs_run.specs.Parts.Steps.{FetchesFile, IsRanked, IsRow, IsTopTable, Ran, Ranks, Runs, lines_of, lines_run, row_in};
+ghost use Rattle.rs_run.specs.Words.{Top};
+ghost use Rattle.rs_run.specs.World.{World};
 
 use crate::fault::{Fault, only_row};
 use crate::fetch::{fetch_file, table_fault};
@@ -32,10 +34,9 @@ pub fn top<F: Files, O: Sink>(
     files: &mut F,
     out: &mut O,
 ) -> Result<(), Fault>
-    ensures { RanTop (finds_in (F.told files.old)) (record { file = file.now; column = column.now; max = max; count = count }) result
-        (seen (F.told files.old) (F.told files.new) (F.faults files.old) (F.faults files.new))
-        (seen (O.pieces out.old) (O.pieces out.new) (O.faults out.old) (O.faults out.new))
-        (F.steady files.old) (O.steady out.old) }
+    ensures { (beside : World) → Runs
+        (IsRunOf (finds_in (F.state files.old).told) beside.scorer.answer (Top (record { file = file.now; column = column.now; max = max; count = count }))) result
+        (record beside { files = F.state files.old; out = O.state out.old }) (record beside { files = F.state files.new; out = O.state out.new }) }
 {
     let table = match fetch_table(alloc, file, column, files) {
         Ok(table) => table,
@@ -55,9 +56,7 @@ fn fetch_table<F: Files>(
     column: &Text,
     files: &mut F,
 ) -> Result<Table, Fault>
-    ensures fetches { FetchesFile file.now result (IsTopTable file.now column.now)
-        (seen (F.told files.old) (F.told files.new) (F.faults files.old) (F.faults files.new))
-        (F.steady files.old) }
+    ensures fetches { FetchesFile file.now result (IsTopTable file.now column.now) (F.state files.old) (F.state files.new) }
     ensures number_column { IfOk result (λ table. HasNumberColumn column.now table.schema) }
 {
     let bytes = match fetch_file(alloc, file, TABLE_LIMIT, files) {
@@ -181,9 +180,8 @@ fn put_rows<O: Sink>(
     out: &mut O,
 ) -> Result<(), Fault>
     requires { AllByRecursion (λ r. IsRow table.now r.row) ranked.now }
-    ensures { PutsLines (lines_of table.now 1 (take count ranked.now)) result
-        (seen (O.pieces out.old) (O.pieces out.new) (O.faults out.old) (O.faults out.new))
-        (O.steady out.old) }
+    ensures { (beside : World) → Ran (lines_run (lines_of table.now 1 (take count ranked.now))) result
+        (record beside { out = O.state out.old }) (record beside { out = O.state out.new }) }
 {
     let mut rank: u32 = 0;
     for row in ranked {

@@ -1,6 +1,6 @@
 ghost use Rattle.std.specs.Prelude.{◌≡◌, Option, option_map};
 ghost use Rattle.rs_run.specs.Words.{form_of, number_word, plain_words, top_words};
-ghost use Rattle.rs_run.specs.Command.{form_of_command, words_of};
+ghost use Rattle.rs_run.specs.Parts.Command.{form_of_command, words_of};
 
 use rs_value::{Text, decimal_of};
 

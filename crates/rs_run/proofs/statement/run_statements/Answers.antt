@@ -1,15 +1,19 @@
-use Rattle.std.proofs.Common.{refl, sym, subst, suc, ◌+◌, ◌∙◌, drop, inl, inr, arith}
+use Rattle.std.proofs.Common.{refl, sym, subst, suc, ◌+◌, drop, arith}
+use Rattle.std.specs.Prelude.{Err, Ok}
 use Rattle.rs_syntax.specs.Syntax.{command_of, commands_of}
-use Rattle.rs_run.proofs.LoopFacts.{Between-next, Between-start, RanStatements-all, RanStatements-stops, drop-all, drop-at, written-at}
-use Rattle.rs_run.proofs.RunFacts.{Asks-none}
+use Rattle.rs_catalog.specs.Catalogue.{empty}
+use Rattle.rs_run.specs.Run.{finds_in}
+use Rattle.rs_run.specs.Statements.{Does, Plainly}
+use Rattle.rs_run.proofs.LoopFacts.{Between, Between-next, Between-start, Runs-all, Runs-stops, drop-all, drop-at}
+use Rattle.rs_run.proofs.StatementFacts.{Stepped-first, some-step, written-at}
 use Rattle.rs_run.proofs.statement.run_statements.Goals as goal
 
 pub loop-index-init : goal.loop-index-init
 loop-index-init g c = record {
-  between = Between-start _ _ _ _ _ _ _ c.new-catalog.ensures refl (Asks-none _ refl refl) refl;
-  files = record { grows = omega arith; keeps = λ s. s };
-  scorer = record { grows = omega arith; keeps = λ s. s; same = refl };
-  out = record { grows = omega arith; keeps = λ s. s };
+  between = λ beside. subst (λ catalogue. Between (Does (finds_in (g.F.Files.state c.args.files.now).told) (g.S.Scorer.state c.args.scorer.now).answer Plainly) empty (commands_of c.args.statements.now) 0 catalogue
+      (record beside { files = g.F.Files.state c.args.files.now; scorer = g.S.Scorer.state c.args.scorer.now; out = g.O.Sink.state c.args.out.now }) (record beside { files = g.F.Files.state c.args.files.now; scorer = g.S.Scorer.state c.args.scorer.now; out = g.O.Sink.state c.args.out.now }))
+      (sym c.new-catalog.ensures)
+      (Between-start (Does (finds_in (g.F.Files.state c.args.files.now).told) (g.S.Scorer.state c.args.scorer.now).answer Plainly) empty (commands_of c.args.statements.now) (record beside { files = g.F.Files.state c.args.files.now; scorer = g.S.Scorer.state c.args.scorer.now; out = g.O.Sink.state c.args.out.now }));
   statements_same = refl;
 }
 
@@ -19,41 +23,34 @@ run_statement-requires g c = record {
 }
 
 pub returns-in-Err : goal.returns-in-Err
-returns-in-Err g c = RanStatements-stops (g.F.Files.told c.args.files.now) (g.F.Files.told c.loop-index.files) (g.F.Files.told c.run_statement.new.files)
-    (g.S.Scorer.answer c.args.scorer.now) (g.S.Scorer.answer c.loop-index.scorer) (commands_of c.args.statements.now) (drop (suc c.loop-index.index) (commands_of c.args.statements.now))
-    (command_of c.index-statements-index.result) c.loop-index.index c.loop-index.catalog c.run_statement.new.catalog _ _ _ _ _ _ _ _ _ _ _ _ _ _ _ _ _ _
-    (g.F.Files.steady c.args.files.now) (g.F.Files.steady c.loop-index.files) (g.S.Scorer.steady c.args.scorer.now) (g.S.Scorer.steady c.loop-index.scorer) (g.O.Sink.steady c.args.out.now) (g.O.Sink.steady c.loop-index.out)
-    c.loop-index.invariant.between c.loop-index.invariant.scorer.same
+returns-in-Err g c = λ beside. Runs-stops (Does (finds_in (g.F.Files.state c.args.files.now).told) (g.S.Scorer.state c.args.scorer.now).answer Plainly) empty (commands_of c.args.statements.now)
+    (drop (suc c.loop-index.index) (commands_of c.args.statements.now)) (command_of c.index-statements-index.result) c.loop-index.index c.loop-index.catalog c.run_statement.new.catalog
+    (record beside { files = g.F.Files.state c.args.files.now; scorer = g.S.Scorer.state c.args.scorer.now; out = g.O.Sink.state c.args.out.now }) (record beside { files = g.F.Files.state c.loop-index.files; scorer = g.S.Scorer.state c.loop-index.scorer; out = g.O.Sink.state c.loop-index.out }) (record beside { files = g.F.Files.state c.run_statement.new.files; scorer = g.S.Scorer.state c.run_statement.new.scorer; out = g.O.Sink.state c.run_statement.new.out })
+    (c.loop-index.invariant.between beside)
     (drop-at command_of c.args.statements.now c.loop-index.index c.index-statements-index.result c.loop-index-test.true c.index-statements-index.is)
-    (c.loop-index.index + 1) (omega arith) c.in-Err.fault c.loop-index.invariant.files.grows c.loop-index.invariant.files.keeps c.loop-index.invariant.scorer.grows c.loop-index.invariant.scorer.keeps
-    c.loop-index.invariant.out.grows c.loop-index.invariant.out.keeps
-    c.in-Err.ensures.stepped
+    (some-step (g.F.Files.state c.args.files.now).told (g.S.Scorer.state c.args.scorer.now).answer Plainly)
+    (c.loop-index.index + 1) (omega arith) c.in-Err.fault
+    (Stepped-first (c.loop-index.invariant.between beside).made Plainly (c.loop-index.index + 1) c.loop-index.catalog c.run_statement.new.catalog
+    (command_of c.index-statements-index.result) (Err c.in-Err.fault) (record beside { files = g.F.Files.state c.args.files.now; scorer = g.S.Scorer.state c.args.scorer.now; out = g.O.Sink.state c.args.out.now })
+    (record beside { files = g.F.Files.state c.loop-index.files; scorer = g.S.Scorer.state c.loop-index.scorer; out = g.O.Sink.state c.loop-index.out }) (record beside { files = g.F.Files.state c.run_statement.new.files; scorer = g.S.Scorer.state c.run_statement.new.scorer; out = g.O.Sink.state c.run_statement.new.out })
+    (c.loop-index.invariant.between beside).has (c.in-Err.ensures beside))
 
 pub loop-index-preserved : goal.loop-index-preserved
 loop-index-preserved g c = record {
-  between = Between-next (g.F.Files.told c.args.files.now) (g.F.Files.told c.loop-index.files) (g.F.Files.told c.run_statement.new.files)
-      (g.S.Scorer.answer c.args.scorer.now) (g.S.Scorer.answer c.loop-index.scorer) (commands_of c.args.statements.now) (drop (suc c.loop-index.index) (commands_of c.args.statements.now))
-      (command_of c.index-statements-index.result) c.loop-index.index c.loop-index.catalog c.run_statement.new.catalog _ _ _ _ _ _ _ _ _ _ _ _ _ _ _ _ _ _
-      (g.F.Files.steady c.args.files.now) (g.F.Files.steady c.loop-index.files) (g.S.Scorer.steady c.args.scorer.now) (g.S.Scorer.steady c.loop-index.scorer) (g.O.Sink.steady c.args.out.now) (g.O.Sink.steady c.loop-index.out)
-      c.loop-index.invariant.between c.loop-index.invariant.scorer.same
+  between = λ beside. Between-next (Does (finds_in (g.F.Files.state c.args.files.now).told) (g.S.Scorer.state c.args.scorer.now).answer Plainly) empty (commands_of c.args.statements.now)
+      (drop (suc c.loop-index.index) (commands_of c.args.statements.now)) (command_of c.index-statements-index.result) c.loop-index.index c.loop-index.catalog c.run_statement.new.catalog
+      (record beside { files = g.F.Files.state c.args.files.now; scorer = g.S.Scorer.state c.args.scorer.now; out = g.O.Sink.state c.args.out.now }) (record beside { files = g.F.Files.state c.loop-index.files; scorer = g.S.Scorer.state c.loop-index.scorer; out = g.O.Sink.state c.loop-index.out }) (record beside { files = g.F.Files.state c.run_statement.new.files; scorer = g.S.Scorer.state c.run_statement.new.scorer; out = g.O.Sink.state c.run_statement.new.out })
+      (c.loop-index.invariant.between beside)
       (drop-at command_of c.args.statements.now c.loop-index.index c.index-statements-index.result c.loop-index-test.true c.index-statements-index.is)
-      (c.loop-index.index + 1) (omega arith) refl c.in-Ok.ensures.stepped;
-  files = record {
-    grows = omega (arith, c.loop-index.invariant.files.grows, c.in-Ok.ensures.files.grows);
-    keeps = λ s. c.in-Ok.ensures.files.keeps (c.loop-index.invariant.files.keeps s);
-  };
-  scorer = record {
-    grows = omega (arith, c.loop-index.invariant.scorer.grows, c.in-Ok.ensures.scorer.grows);
-    keeps = λ s. c.in-Ok.ensures.scorer.keeps (c.loop-index.invariant.scorer.keeps s);
-    same = c.in-Ok.ensures.scorer.same ∙ c.loop-index.invariant.scorer.same;
-  };
-  out = record {
-    grows = omega (arith, c.loop-index.invariant.out.grows, c.in-Ok.ensures.out.grows);
-    keeps = λ s. c.in-Ok.ensures.out.keeps (c.loop-index.invariant.out.keeps s);
-  };
+      (c.loop-index.index + 1) (omega arith) refl
+      (Stepped-first (c.loop-index.invariant.between beside).made Plainly (c.loop-index.index + 1) c.loop-index.catalog c.run_statement.new.catalog
+      (command_of c.index-statements-index.result) (Ok tt) (record beside { files = g.F.Files.state c.args.files.now; scorer = g.S.Scorer.state c.args.scorer.now; out = g.O.Sink.state c.args.out.now })
+      (record beside { files = g.F.Files.state c.loop-index.files; scorer = g.S.Scorer.state c.loop-index.scorer; out = g.O.Sink.state c.loop-index.out }) (record beside { files = g.F.Files.state c.run_statement.new.files; scorer = g.S.Scorer.state c.run_statement.new.scorer; out = g.O.Sink.state c.run_statement.new.out })
+      (c.loop-index.invariant.between beside).has (c.in-Ok.ensures beside));
   statements_same = refl;
 }
 
 pub returns : goal.returns
-returns g c = RanStatements-all (g.F.Files.told c.args.files.now) (g.S.Scorer.answer c.args.scorer.now) (commands_of c.args.statements.now) c.loop-index.index c.loop-index.catalog _ _ _ _ _ _ refl
-    (drop-all command_of c.args.statements.now c.loop-index.index c.loop-index-test.false) c.loop-index.invariant.between
+returns g c = λ beside. Runs-all (Does (finds_in (g.F.Files.state c.args.files.now).told) (g.S.Scorer.state c.args.scorer.now).answer Plainly) empty (commands_of c.args.statements.now) c.loop-index.index c.loop-index.catalog
+    (record beside { files = g.F.Files.state c.args.files.now; scorer = g.S.Scorer.state c.args.scorer.now; out = g.O.Sink.state c.args.out.now }) (record beside { files = g.F.Files.state c.loop-index.files; scorer = g.S.Scorer.state c.loop-index.scorer; out = g.O.Sink.state c.loop-index.out })
+    (drop-all command_of c.args.statements.now c.loop-index.index c.loop-index-test.false) (c.loop-index.invariant.between beside)

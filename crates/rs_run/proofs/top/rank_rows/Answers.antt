@@ -5,7 +5,7 @@ use Rattle.rs_table.specs.Column.{place_of}
 use Rattle.rs_rank.specs.Stable.{stable}
 use Rattle.rs_run.specs.Top.{score_at}
 use Rattle.rs_rank.proofs.StableFacts.{stable-map, AllByRecursion-stable}
-use Rattle.rs_run.specs.Steps.{IsRanked, row_in}
+use Rattle.rs_run.specs.Parts.Steps.{IsRanked, row_in}
 use Rattle.rs_run.proofs.RowFacts.{scores-ranked}
 use Rattle.rs_run.proofs.top.rank_rows.Goals as goal
 

@@ -1,6 +1,6 @@
 use Rattle.std.proofs.Common.{◌≡◌, ◌≤◌, ◌∙◌, length, sym, ap, arith}
 use Rattle.std.proofs.lemmas.List.{take_all}
-use Rattle.rs_run.specs.Steps.{row_in}
+use Rattle.rs_run.specs.Parts.Steps.{row_in}
 use Rattle.rs_run.proofs.RowFacts.{take-slice_get, slice_get-cell, length-row_in}
 use Rattle.rs_run.proofs.top.row_values.Goals as goal
 

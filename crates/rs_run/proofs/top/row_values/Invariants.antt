@@ -1,5 +1,5 @@
 use Rattle.std.proofs.Common.{◌≡◌, take}
-use Rattle.rs_run.specs.Steps.{row_in}
+use Rattle.rs_run.specs.Parts.Steps.{row_in}
 use Rattle.rs_run.proofs.top.row_values.Given as goal
 
 -- the values so far are the first of the row

@@ -10,7 +10,7 @@ use Rattle.rs_run.specs.Top.{scored_from}
 use Rattle.rs_expr.specs.Scores.{is_score, score_of}
 use Rattle.std.specs.List.{AllByRecursion}
 use Rattle.rs_rank.specs.declared.scored_row.ScoredRow.{ScoredRow}
-use Rattle.rs_run.specs.Steps.{IsRanked, row_in}
+use Rattle.rs_run.specs.Parts.Steps.{IsRanked, row_in}
 use Rattle.rs_run.proofs.RowFacts.{get_or-next, score-some, score-none, scored_from-score, scored_from-no_score, appended-all, AllByRecursion-push}
 use Rattle.rs_run.proofs.top.score_rows.Goals as goal
 

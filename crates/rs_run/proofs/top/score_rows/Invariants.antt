@@ -2,7 +2,7 @@ use Rattle.std.proofs.Common.{◌≡◌, ◌+◌, take, drop, map}
 use Rattle.std.specs.List.{AllByRecursion}
 use Rattle.rs_table.specs.Appended.{appended}
 use Rattle.rs_run.specs.Top.{scored_from}
-use Rattle.rs_run.specs.Steps.{IsRanked, row_in}
+use Rattle.rs_run.specs.Parts.Steps.{IsRanked, row_in}
 use Rattle.rs_run.proofs.top.score_rows.Given as goal
 
 -- the rows so far have scores, and the rest decides

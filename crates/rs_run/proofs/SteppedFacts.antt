@@ -1,0 +1,63 @@
+-- Steps, and the states that they leave, whatever the state.
+use Rattle.std.proofs.Common.{◌≡◌, List, [], Some, None, refl, sym, subst, inl, inr}
+use Rattle.std.specs.Prelude.{Option, Result, Ok, Err}
+use Rattle.rs_run.specs.declared.fault.Fault.{Fault}
+use Rattle.rs_run.specs.declared.fault.Fault.TheVariants.{Memory}
+use Rattle.rs_run.specs.Parts.Steps.{Leaves, Ran, Stepped, run_of}
+use Rattle.rs_run.specs.Run.{Event}
+use Rattle.rs_run.specs.Sequence.{Step, still}
+use Rattle.rs_run.specs.World.{World}
+use Rattle.rs_run.proofs.RanFacts.{HasDone-none, Ran-all, Ran-first}
+
+-- the fault of an outcome, if it is one
+abbrev pub fault_in : {S : Type 0} → Result S Fault → Option Fault
+fault_in (Ok next) = None
+fault_in (Err fault) = Some fault
+
+abbrev pub step_of : {S : Type 0} → List Event → Result S Fault → Step S
+step_of events outcome = record { events = events; outcome = outcome }
+
+fault-run_of : {S : Type 0} (events : List Event) (outcome : Result S Fault) → (run_of (step_of events outcome)).fault ≡ fault_in outcome
+fault-run_of events (Ok next) = refl
+fault-run_of events (Err fault) = refl
+
+pub events-run_of : {S : Type 0} (events : List Event) (outcome : Result S Fault) → (run_of (step_of events outcome)).events ≡ events
+events-run_of events (Ok next) = refl
+events-run_of events (Err fault) = refl
+
+-- the same step, of which something follows
+pub Stepped-map : {S : Type 0} (P Q : Step S → Type 0) (left : S) (result : Result (Unit {0}) Fault) (old new : World) → ((step : Step S) → P step → Q step)
+    → Stepped P left result old new → Stepped Q left result old new
+Stepped-map P Q left result old new turn made = record { step = made.step; does = turn made.step made.does; ran = made.ran; leaves = made.leaves }
+
+-- a step that is known
+pub Stepped-is : {S : Type 0} (of : Step S → Type 0) (known : Step S) (left : S) (result : Result (Unit {0}) Fault) (old new : World) → of known
+    → Stepped (λ step. step ≡ known) left result old new → Stepped of left result old new
+Stepped-is of known left result old new does made = Stepped-map (λ step. step ≡ known) of left result old new (λ step e. subst of (sym e) does) made
+
+-- a step without an event
+pub Stepped-still : {S : Type 0} (of : Step S → Type 0) (outcome : Result S Fault) (left : S) (result : Result (Unit {0}) Fault) (world : World) → of (still outcome) → Leaves outcome left result
+    → Stepped of left result world world
+Stepped-still of outcome left (Ok done) world does leaves = record {
+  step = still outcome;
+  does = does;
+  ran = subst (λ o. Ran (run_of (still o)) (Ok tt) world world) (sym leaves) (Ran-all (record { events = []; fault = None }) (Ok tt) world world (HasDone-none world) refl);
+  leaves = leaves;
+}
+Stepped-still of outcome left (Err fault) world does (inl memory) = record {
+  step = still outcome;
+  does = does;
+  ran = subst (λ f. Ran (run_of (still outcome)) (Err f) world world) (sym memory) (Ran-first (run_of (still outcome)) world);
+  leaves = tt;
+}
+Stepped-still of outcome left (Err fault) world does (inr e) = record {
+  step = still outcome;
+  does = does;
+  ran = subst (λ o. Ran (run_of (still o)) (Err fault) world world) (sym e)
+      (Ran-all (record { events = []; fault = Some fault }) (Err fault) world world (HasDone-none world) (inl refl));
+  leaves = tt;
+}
+
+-- there was no memory for the step
+pub Stepped-no_memory : {S : Type 0} (of : Step S → Type 0) (step : Step S) (left : S) (world : World) → of step → Stepped of left (Err Memory) world world
+Stepped-no_memory of step left world does = record { step = step; does = does; ran = Ran-first (run_of step) world; leaves = tt }

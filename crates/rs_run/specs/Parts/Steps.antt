@@ -1,0 +1,138 @@
+-- What the parts of `top` and `plain` do.
+use Rattle.std.specs.Prelude.{ℕ, ◌≡◌, ◌⊎◌, ◌≤◌, ◌-◌, ◌+◌, List, [], ◌∷◌, length, map, Option, Some, None, IfOk, MatchResult, unwrap_or, option_map, slice_get, Result, Ok, Err}
+use Rattle.std.specs.List.{AllByRecursion}
+use Rattle.rs_value.specs.Outside.{Faulted, Keeps, Outside}
+use Rattle.rs_value.specs.declared.value.Value.{Value}
+use Rattle.rs_outside.specs.Files.{FilesTold}
+use Rattle.rs_outside.specs.declared.files.FetchFault.TheVariants.{Failed}
+use Rattle.rs_table.specs.Column.{Column}
+use Rattle.rs_table.specs.Reading.{◌>>=◌, table_of}
+use Rattle.rs_table.specs.Relation.{Relation}
+use Rattle.rs_rank.specs.Stable.{stable}
+use Rattle.rs_rank.specs.declared.scored_row.ScoredRow.{ScoredRow}
+use Rattle.rs_lines.specs.Row.{line_of}
+use Rattle.rs_syntax.specs.Syntax.{Command, CreatePredicate, CreateRankIndex}
+use Rattle.rs_syntax.specs.declared.name.Name.{Name}
+use Rattle.rs_run.specs.declared.fault.Fault.{Fault}
+use Rattle.rs_run.specs.declared.fault.Fault.TheVariants.{Memory, Read}
+use Rattle.rs_run.specs.Content.{content_of}
+use Rattle.rs_run.specs.Halts.{Did, Done, Halt, fault_of, fetched_more}
+use Rattle.rs_run.specs.Plain.{source_of}
+use Rattle.rs_run.specs.Run.{Event, Put, Run, finds_in}
+use Rattle.rs_run.specs.Sequence.{Step}
+use Rattle.rs_run.specs.Top.{or_table_fault, table_limit, top_table, score_at, scored_from}
+use Rattle.rs_run.specs.World.{KeepsWorld, World}
+
+-- the answer of a call whose fault this is, if there is one; there may be no memory for what a fault tells
+abbrev pub Answers : Option Fault → Result (Unit {0}) Fault → Type 0
+Answers None result = result ≡ Ok tt
+Answers (Some fault) result = (result ≡ Err fault) ⊎ (result ≡ Err Memory)
+
+-- a run up to its halt, with the answer of the call that made it
+pub record Ran (run : Run) (result : Result (Unit {0}) Fault) (old new : World) : Type 0 where
+  pub halt : Halt
+  pub did : Did run halt old new
+  pub answers : Answers (fault_of run halt) result
+  pub keeps : KeepsWorld old new
+
+-- events that were done, so that others may follow them
+pub record HasDone (events : List Event) (old new : World) : Type 0 where
+  pub all : Done events old new
+  pub keeps : KeepsWorld old new
+
+-- a run of which this is so, up to its halt
+pub record Runs (of : Run → Type 0) (result : Result (Unit {0}) Fault) (old new : World) : Type 0 where
+  pub run : Run
+  pub is : of run
+  pub ran : Ran run result old new
+
+-- what is done of a step
+abbrev pub run_of : {S : Type 0} → Step S → Run
+run_of {S} step = of step.outcome where
+  of : Result S Fault → Run
+  of (Ok next) = record { events = step.events; fault = None }
+  of (Err fault) = record { events = step.events; fault = Some fault }
+
+-- a step of which this is so, up to its halt, and the state that it leaves
+pub record Stepped {S : Type 0} (of : Step S → Type 0) (left : S) (result : Result (Unit {0}) Fault) (old new : World) : Type 0 where
+  pub step : Step S
+  pub does : of step
+  pub ran : Ran (run_of step) result old new
+  pub leaves : IfOk result (λ done. step.outcome ≡ Ok left)
+
+-- what a call gives that leaves a state, or ends the run
+abbrev pub Leaves : {S : Type 0} → Result S Fault → S → Result (Unit {0}) Fault → Type 0
+Leaves outcome left result = MatchResult result (λ done. outcome ≡ Ok left) (λ fault. (fault ≡ Memory) ⊎ (outcome ≡ Err fault))
+
+-- a run that puts these lines, each in one put
+abbrev pub lines_run : List (List ℕ) → Run
+lines_run lines = record { events = map Put lines; fault = None }
+
+-- there was no memory for a fetch
+pub record NotFetched {A : Type 0} (result : Result A Fault) (old new : Outside FilesTold) : Type 0 where
+  pub same : new.told ≡ old.told
+  pub memory : result ≡ Err Memory
+
+-- the fetch of this file failed
+pub record FetchFails {A : Type 0} (file : List ℕ) (result : Result A Fault) (old new : Outside FilesTold) : Type 0 where
+  pub fetched : new.told ≡ option_map (fetched_more (file ∷ [])) old.told
+  pub faulted : Faulted old new
+  pub answers : (result ≡ Err (Read file Failed)) ⊎ (result ≡ Err Memory)
+
+-- the file was fetched, or isn't there, and the result is one that it gives
+pub record Fetched {A : Type 0} (file : List ℕ) (gives : Result A Fault → Type 0) (result : Result A Fault) (old new : Outside FilesTold) : Type 0 where
+  pub fetched : new.told ≡ option_map (fetched_more (file ∷ [])) old.told
+  pub answers : gives result ⊎ (result ≡ Err Memory)
+
+-- what a call did that fetches a file: the bytes that are there under this name, or that there are none, give its result
+pub record FetchesFile {A : Type 0} (file : List ℕ) (result : Result A Fault) (gives : Option (List ℕ) → Result A Fault → Type 0) (old new : Outside FilesTold) : Type 0 where
+  pub there : Option (List ℕ)
+  pub is_told : finds_in old.told file there
+  pub does : (NotFetched result old new ⊎ FetchFails file result old new) ⊎ Fetched file (gives there) result old new
+  pub keeps : Keeps old new
+
+-- the table of the file
+abbrev pub IsTopTable : List ℕ → List ℕ → Option (List ℕ) → Result Relation Fault → Type 0
+IsTopTable file column there result = result ≡ top_table file column there
+
+-- the text of the script in the file
+abbrev pub IsSource : List ℕ → Option (List ℕ) → Result (List ℕ) Fault → Type 0
+IsSource file there result = result ≡ source_of file there
+
+-- the table of the file, by these columns, or why there is none
+abbrev pub IsReadTable : List ℕ → List Column → Option (List ℕ) → Result Relation Fault → Type 0
+IsReadTable file columns there result = result ≡ (content_of table_limit file there >>= λ bytes. or_table_fault file (table_of columns bytes))
+
+-- statements that make a predicate of this name, and a rank index of this name
+abbrev pub IsPredicateNamed : Name → Command → Type 0
+IsPredicateNamed name (CreatePredicate own params max cost formula) = name ≡ own
+IsPredicateNamed name _ = ⊥
+
+abbrev pub IsIndexNamed : Name → Command → Type 0
+IsIndexNamed name (CreateRankIndex own table predicate args at) = name ≡ own
+IsIndexNamed name _ = ⊥
+
+-- the values of a row of this number
+abbrev pub row_in : Relation → ℕ → List Value
+row_in table row = unwrap_or (slice_get table.rows (row - 1)) []
+
+-- a row of this number is in the table
+pub record IsRow (table : Relation) (row : ℕ) : Type 0 where
+  pub some : 1 ≤ row
+  pub within : row ≤ length table.rows
+
+-- a row of this number is in the table, and this is its score by the number at a place
+pub record IsRanked (table : Relation) (place score row : ℕ) : Type 0 where
+  pub is_row : IsRow table row
+  pub scored : score ≡ score_at place (row_in table row)
+
+-- the lines of rows with their scores, from this rank on
+abbrev pub lines_of : Relation → ℕ → List ScoredRow → List (List ℕ)
+lines_of table rank [] = []
+lines_of table rank (r ∷ rest) = line_of rank r.score (row_in table r.row) ∷ lines_of table (rank + 1) rest
+
+-- the rows of a table with their scores, in the stable order
+pub record Ranks (table : Relation) (column : List ℕ) (max place : ℕ) (ranked : List ScoredRow) : Type 0 where
+  pub scored : scored_from column max place 1 table.rows ≡ Ok table.rows
+  pub ordered : map (λ r. row_in table r.row) ranked ≡ stable (score_at place) table.rows
+  pub each : AllByRecursion (λ r. IsRanked table place r.score r.row) ranked
