@@ -2,7 +2,6 @@ ghost use Rattle.std.specs.Prelude.{◌≡◌, ◌≤◌, ◌<◌, ◌+◌, ◌^
 ghost use Rattle.csv.specs.Records.{fields_of};
 ghost use Rattle.rs_value.specs.Answer.{Gives};
 ghost use Rattle.rs_value.specs.declared.kind.Kind.TheVariants as kind;
-ghost use Rattle.rs_value.specs.Value.{kind_of};
 ghost use Rattle.rs_table.specs.Column.{Column};
 ghost use Rattle.rs_table.specs.Relation.{cell_at, row_fits};
 ghost use Rattle.rs_value.specs.Value.{fits};
@@ -93,18 +92,7 @@ impl Table {
         ensures number { (c : Column) → slice_get self.now.schema column ≡ Some c → c.1 ≡ kind.Int → IsOk result }
     {
         let values = self.rows[row as usize - 1].items();
-        copy_of(&values[column as usize])
-    }
-}
-
-/// An equal value. A number takes no memory.
-fn copy_of(value: &Value) -> Result<Value, Memory>
-    ensures same { IfOk result (λ copy. copy ≡ value.now) }
-    ensures number { kind_of value.now ≡ kind.Int → IsOk result }
-{
-    match value {
-        Value::Int(number) => Ok(Value::Int(*number)),
-        Value::Text(text) => Ok(Value::Text(text.copy()?)),
+        values[column as usize].copy()
     }
 }
 
