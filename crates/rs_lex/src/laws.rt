@@ -2,6 +2,8 @@
 //! contract.
 
 ghost use Rattle.std.specs.Prelude.{◌≡◌, ◌<◌, ◌≤◌, ◌+◌, ◌∷◌, ℕ, All, List, drop, length, take};
+ghost use Rattle.rs_lex.specs.Bytes.{quote};
+ghost use Rattle.rs_lex.specs.Faults.{BeginsNoToken, HasLetterBehind, IsFault, IsOpen, IsWide};
 ghost use Rattle.rs_lex.specs.Spelling.{Refuses, Spells, most_tokens, token_at};
 ghost use Rattle.rs_lex.specs.Tokens.{EndsAt, IsToken, from_token, token_length};
 ghost use Rattle.rs_lex.specs.declared.fault.LexFault.{LexFault};
@@ -44,4 +46,28 @@ pub fn one_list_of_tokens()
 pub fn spelled_is_not_refused()
     ensures { (at : ℕ) (bytes : List ℕ) (tokens : List Token) (fault : LexFault) → length tokens ≤ most_tokens
         → Spells at bytes tokens → Refuses 0 at bytes fault → ⊥ }
+{}
+
+/// A script is refused only at a place where what the fault says stands. Its definition speaks of the bytes from that
+/// place on.
+pub fn refusals_are_faults()
+    ensures { (script : List ℕ) (fault : LexFault) → Refuses 0 0 script fault → IsFault script fault }
+{}
+
+/// At a place behind so many tokens, fewer than a script may have, a script is refused with what stands there; and where
+/// a token stands there and ends, with what is told behind it.
+pub fn faults_are_refused()
+    ensures no_token { (count at : ℕ) (bytes : List ℕ) → count < most_tokens → BeginsNoToken bytes
+        → Refuses count at bytes (LexFault.BadByte at) }
+    ensures empty_name { (count at : ℕ) (after : List ℕ) → count < most_tokens → ((more : List ℕ) → after ≡ quote ∷ more → ⊥)
+        → Refuses count at (quote ∷ quote ∷ after) (LexFault.BadByte at) }
+    ensures letter { (count at n : ℕ) (bytes : List ℕ) → count < most_tokens → HasLetterBehind n bytes
+        → Refuses count at bytes (LexFault.BadByte (at + n)) }
+    ensures never_closed { (count at : ℕ) (bytes : List ℕ) → count < most_tokens → IsOpen bytes
+        → Refuses count at bytes (LexFault.OpenText at) }
+    ensures too_great { (count at : ℕ) (bytes : List ℕ) → count < most_tokens → IsWide bytes
+        → Refuses count at bytes (LexFault.NumberTooWide at) }
+    ensures behind { (count at n : ℕ) (sort : Sort) (bytes : List ℕ) (fault : LexFault) → count < most_tokens → n ≤ length bytes
+        → IsToken sort (take n bytes) → EndsAt sort n bytes → Refuses (count + 1) (at + n) (drop n bytes) fault
+        → Refuses count at bytes fault }
 {}
