@@ -12,7 +12,7 @@ use Rattle.rs_syntax.specs.Syntax.{Command, CreateTable, CreatePredicate, Create
 use Rattle.rs_syntax.specs.Syntax.{command_of, commands_of}
 use Rattle.rs_syntax.specs.declared.name.Name.{Name}
 use Rattle.rs_syntax.specs.declared.statement.Statement.{Statement}
-use Rattle.rs_bind.specs.Written.{AreWritten, IsWritten}
+use Rattle.rs_syntax.specs.Written.{AreWritten, IsWritten}
 use Rattle.rs_run.specs.declared.fault.Fault.{Fault}
 use Rattle.rs_outside.specs.declared.files.FetchFault.TheVariants.{Failed}
 use Rattle.rs_run.specs.declared.fault.Fault.TheVariants.{Memory, Probe, Read, Write}

@@ -4,7 +4,7 @@ ghost use Rattle.rs_lines.specs.Row.{line_of};
 ghost use Rattle.rs_query.specs.Answers.{predicate_at};
 ghost use Rattle.rs_query.specs.WellFormed.{IsBlock, IsQuery};
 ghost use Rattle.rs_bind.specs.Queries.{bound_query};
-ghost use Rattle.rs_bind.specs.Written.{IsWrittenQuery};
+ghost use Rattle.rs_syntax.specs.Written.{IsWrittenQuery};
 ghost use Rattle.rs_run.specs.Outcome.{seen};
 ghost use Rattle.rs_run.specs.Statements.{explain_outcome, or_bind_fault, query_fault, rank_lines};
 ghost use Rattle.rs_run.specs.Steps.{Keeps, KeepsScorer, Leaves, PutsLines, RanQuery, seen_scorer};
