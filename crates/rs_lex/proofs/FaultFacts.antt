@@ -9,13 +9,13 @@ use Rattle.rs_lex.specs.Faults.{IsOpen, IsWide, HasLetterBehind, BeginsOther, Be
 use Rattle.rs_lex.specs.Front.{front_of, run_length, closed_length, number_front, literal_front, quoted_front, symbol_front, begins_comment, is_pair, is_symbol}
 use Rattle.rs_lex.specs.Spelling.{Refuses, too_many, bad, open_text, too_wide, IsMore}
 use Rattle.rs_lex.specs.Spelling as spelling
-use Rattle.rs_lex.specs.Tokens.{IsToken, doubled}
+use Rattle.rs_lex.specs.Tokens.{IsBlanks, IsComment, IsGap, IsToken, doubled}
 use Rattle.rs_lex.specs.declared.token.Sort.{Sort}
 use Rattle.rs_lex.specs.declared.token.Sort.TheVariants.{Word, Quoted, Number, Literal, Symbol}
 use Rattle.rs_lex.specs.declared.front.Front.{Front}
 use Rattle.rs_lex.specs.declared.front.Front.TheVariants.{End, Gap, Found, Bad, Open, Wide}
 use Rattle.rs_lex.specs.declared.fault.LexFault.{LexFault}
-use Rattle.rs_lex.proofs.SpellingFacts.{chosen, behind, begins-length, front_of-bad, front_of-fits, front_of-found, IsMore-gap, run_length-le}
+use Rattle.rs_lex.proofs.SpellingFacts.{chosen, behind, begins-length, IsMore-other, front_of-bad, front_of-fits, front_of-found, IsMore-gap, run_length-le}
 use Rattle.rs_lex.proofs.FrontFacts.{closed_length-other, closed_length-doubled, taken, passed}
 use Rattle.rs_lex.proofs.TokenFacts.{IsToken-first, closed-is_longest, doubled-mark, doubled-other, front-is_token, is_spelling, letter-digit, run-first, run-passes, sort_of, symbol-is_spelling, tail_of, two-are_no_symbol}
 use Rattle.rs_lex.proofs.TakenFacts.{IsToken-some, above-blank, digit-least, doubled-length, doubled-longer, no_comment, run-is, run-next}
@@ -379,6 +379,34 @@ BeginsOther-more (byte ∷ rest) more = record {
   no_blank = λ blank. IsMore-gap (front_of (byte ∷ rest)) (run_length is_blank (byte ∷ rest)) (taken (is_blank byte) _ _ blank) more;
   no_comment = λ after is. IsMore-gap (front_of (byte ∷ rest)) (run_length (λ c. not (c == 10)) (codes "--" ++ after)) (ap front_of is) more;
 }
+
+pub IsMore-BeginsOther : (bytes : List ℕ) → BeginsOther bytes → IsMore (front_of bytes)
+IsMore-BeginsOther bytes h =
+    IsMore-other (front_of bytes) (λ e. let none : length bytes ≡ 0 = rw e at (front_of-fits bytes) in omega (arith, none, h.some)) (λ n e. front-gap bytes n e h)
+
+-- blanks, and a comment
+blanks_at : (bytes : List ℕ) (n : ℕ) → 0 < n → n ≤ length bytes → list_all is_blank (take n bytes) ≡ true → (begins is_blank (drop n bytes) ≡ true → ⊥) → front_of bytes ≡ Gap n
+unfolding front_of
+blanks_at bytes zero some le blanks whole = absurd (omega (arith, some))
+blanks_at [] (suc m) some le blanks whole = absurd (omega (arith, le))
+blanks_at (byte ∷ rest) (suc m) some le blanks whole =
+    let first = (and_parts (is_blank byte) (list_all is_blank (take m rest)) blanks).0 in
+    let size : run_length is_blank (byte ∷ rest) ≡ suc m = run-is is_blank (byte ∷ rest) (suc m) le blanks (stops is_blank (drop (suc m) (byte ∷ rest)) whole) in
+    taken (is_blank byte) _ _ first ∙ ap (λ k. Gap k) size
+
+front_of-comment_at : (more : List ℕ) → front_of (codes "--" ++ more) ≡ Gap (run_length (λ c. not (c == 10)) (codes "--" ++ more))
+unfolding front_of
+front_of-comment_at more = refl
+
+comment_at : (n : ℕ) (bytes : List ℕ) → IsComment n bytes → front_of bytes ≡ Gap n
+comment_at n bytes h =
+    let size : run_length (λ c. not (c == 10)) bytes ≡ n
+    = run-is (λ c. not (c == 10)) bytes n h.within h.line (stops (λ c. not (c == 10)) (drop n bytes) h.whole) in
+    ap front_of h.begun ∙ front_of-comment_at h.more ∙ ap (λ rest. Gap (run_length (λ c. not (c == 10)) rest)) (sym h.begun) ∙ ap (λ k. Gap k) size
+
+pub IsGap-front : (n : ℕ) (bytes : List ℕ) → IsGap n bytes → front_of bytes ≡ Gap n
+IsGap-front n bytes (inl h) = blanks_at bytes n h.some h.within h.blanks h.whole
+IsGap-front n bytes (inr h) = comment_at n bytes h
 
 -- the place and the fault that a script is refused with are what they are said to be
 pub IsFault-refused : (script : List ℕ) (count at : ℕ) (bytes : List ℕ) (fault : LexFault) → drop at script ≡ bytes → Refuses count at bytes fault → IsFault script fault

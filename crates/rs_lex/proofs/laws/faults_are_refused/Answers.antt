@@ -1,9 +1,9 @@
 use Rattle.std.proofs.Common.{◌≡◌, ◌+◌, ◌∷◌, arith, subst}
 use Rattle.rs_lex.specs.Bytes.{quote}
-use Rattle.rs_lex.specs.Spelling.{Refuses, bad, open_text, too_wide}
+use Rattle.rs_lex.specs.Spelling.{Refuses, bad, open_text, too_many, too_wide}
 use Rattle.rs_lex.specs.Spelling as spelling
 use Rattle.rs_lex.specs.declared.fault.LexFault.TheVariants.{BadByte}
-use Rattle.rs_lex.proofs.FaultFacts.{BeginsNoToken-front, HasLetterBehind-front, IsOpen-front, IsWide-front, empty_name-front}
+use Rattle.rs_lex.proofs.FaultFacts.{BeginsNoToken-front, HasLetterBehind-front, IsOpen-front, IsMore-BeginsOther, IsWide-front, empty_name-front}
 use Rattle.rs_lex.proofs.TakenFacts.{token-is_found}
 use Rattle.rs_lex.proofs.laws.faults_are_refused.Goals as goal
 
@@ -25,6 +25,9 @@ returns-clause-never_closed c = λ count at bytes few h. open_text count at byte
 
 pub returns-clause-too_great : goal.returns-clause-too_great
 returns-clause-too_great c = λ count at bytes few h. too_wide count at bytes few (IsWide-front bytes h)
+
+pub returns-clause-too_many : goal.returns-clause-too_many
+returns-clause-too_many c = λ at bytes h. too_many at bytes (IsMore-BeginsOther bytes h)
 
 pub returns-clause-behind : goal.returns-clause-behind
 returns-clause-behind c = λ count at n sort bytes fault few le h ends more.
