@@ -224,7 +224,7 @@ empty-no_token rest e sort (suc m) le h =
     let same : Quoted ≡ sort = IsToken-first sort quote (take m rest) h in
     empty-no_name rest m (omega (arith, le)) e (subst (λ s. IsToken s (quote ∷ take m rest)) (sym same) h)
 
--- no token begins with a byte that begins no symbol and nothing else
+-- no piece from a byte on that begins no symbol is a token
 other-no_symbol : (byte : ℕ) (rest : List ℕ) (m : ℕ) → m ≤ length rest → begins (is_pair byte) rest ≡ false → is_symbol byte ≡ false → is_spelling (byte ∷ take m rest) ≡ true → ⊥
 unfolding is_spelling
 other-no_symbol byte rest zero le none alone h = cc
@@ -245,6 +245,23 @@ no_comment-at byte rest more none is =
     let begun : begins_comment byte rest ≡ true = rw (one, two) refl in
     cc
 
+-- no token begins at the first mark of an empty name
+BeginsNoToken-empty : (rest : List ℕ) → closed_length quote rest ≡ Some 1 → BeginsNoToken (quote ∷ rest)
+BeginsNoToken-empty rest closed = record {
+  other = record { some = omega arith; no_blank = λ no. cc; no_comment = λ more no. let one : quote ≡ 45 = head_of no in omega (arith, one) };
+  no_token = empty-no_token rest closed;
+  not_open = closed-not_open quote rest 1 closed;
+}
+
+-- nor at a byte that begins neither a symbol nor anything else
+BeginsNoToken-other : (byte : ℕ) (rest : List ℕ) → is_blank byte ≡ false → begins_comment byte rest ≡ false → sort_of byte ≡ Symbol → begins (is_pair byte) rest ≡ false
+    → is_symbol byte ≡ false → BeginsNoToken (byte ∷ rest)
+BeginsNoToken-other byte rest no_blank none first no_pair alone = record {
+  other = record { some = omega arith; no_blank = λ blank. cc; no_comment = λ more is. no_comment-at byte rest more none is };
+  no_token = other-no_token byte rest first no_pair alone;
+  not_open = other-not_open byte rest first;
+}
+
 -- where a byte is bad
 pub front-bad : (bytes : List ℕ) (n : ℕ) → front_of bytes ≡ Bad n → ((n ≡ 0) × BeginsNoToken bytes) ⊎ HasLetterBehind n bytes
 unfolding front_of
@@ -261,16 +278,12 @@ front-bad (byte ∷ rest) n e =
             letter = letter;
           }));
       opens = λ mark _ _ _ f. cc;
-      empty = λ is closed f. let here : n ≡ 0 = cc in inl (here, subst (λ b. BeginsNoToken (b ∷ rest)) (sym is) (record {
-        other = record { some = omega arith; no_blank = λ no. cc; no_comment = λ more no. let one : quote ≡ 45 = head_of no in omega (arith, one) };
-        no_token = empty-no_token rest closed;
-        not_open = closed-not_open quote rest 1 closed;
-      }));
-      other = λ no_blank none first no_pair alone f. let here : n ≡ 0 = cc in inl (here, record {
-        other = record { some = omega arith; no_blank = λ blank. cc; no_comment = λ more is. no_comment-at byte rest more none is };
-        no_token = other-no_token byte rest first no_pair alone;
-        not_open = other-not_open byte rest first;
-      });
+      empty = λ is closed f.
+          let here : n ≡ 0 = cc in
+          inl (here, subst (λ b. BeginsNoToken (b ∷ rest)) (sym is) (BeginsNoToken-empty rest closed));
+      other = λ no_blank none first no_pair alone f.
+          let here : n ≡ 0 = cc in
+          inl (here, BeginsNoToken-other byte rest no_blank none first no_pair alone);
     }) e
 
 -- a digit at the front begins a number
@@ -314,9 +327,9 @@ letter_at (byte ∷ rest) (suc m) le digits fits letter =
     let first = (and_parts (is_digit byte) (list_all is_digit (take m rest)) digits).0 in
     let size : run_length is_digit (byte ∷ rest) ≡ suc m
     = run-is is_digit (byte ∷ rest) (suc m) le digits (λ next after f digit.
-        let is : is_letter next ≡ true = rw f at letter in
-        let no = letter-digit next digit in
-        cc) in
+    let is : is_letter next ≡ true = rw f at letter in
+    let no = letter-digit next digit in
+    cc) in
     front_of-digit byte rest first ∙ number_front-bad (byte ∷ rest) (suc m) size (le-leb (number_of (byte ∷ take m rest)) greatest_int fits) letter
 
 pub HasLetterBehind-front : (n : ℕ) (bytes : List ℕ) → HasLetterBehind n bytes → front_of bytes ≡ Bad n
