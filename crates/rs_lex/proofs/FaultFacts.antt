@@ -1,5 +1,5 @@
 -- What stands at the front of a script where it is refused, and that a script is refused where that stands.
-use Rattle.std.proofs.Common.{ℕ, zero, suc, ◌≡◌, ◌+◌, ◌-◌, ◌<◌, ◌≤◌, ◌==◌, nat_le, ◌⊎◌, inl, inr, Bool, true, false, not, ◌&&◌, List, [], ◌∷◌, ◌++◌, length, take, drop, Option, Some, None, refl, sym, ap, subst, ◌∙◌, arith, cond, if◌then◌else◌, length-drop}
+use Rattle.std.proofs.Common.{ℕ, zero, suc, ◌≡◌, ◌+◌, ◌-◌, ◌<◌, ◌≤◌, ◌==◌, nat_le, ◌⊎◌, inl, inr, Bool, true, false, not, List, [], ◌∷◌, ◌++◌, length, take, drop, Option, Some, None, refl, sym, ap, subst, ◌∙◌, arith, if◌then◌else◌, length-drop}
 use Rattle.std.specs.Prelude.{codes, option_map}
 use Rattle.std.specs.List.{list_all}
 use Rattle.std.proofs.lemmas.Bool.{eqb-true, leb-true, le-leb, leb-false, lt-leb, and_parts}
@@ -9,7 +9,7 @@ use Rattle.rs_lex.specs.Faults.{IsOpen, IsWide, HasLetterBehind, BeginsOther, Be
 use Rattle.rs_lex.specs.Front.{front_of, run_length, closed_length, number_front, literal_front, quoted_front, symbol_front, begins_comment, is_pair, is_symbol}
 use Rattle.rs_lex.specs.Spelling.{Refuses, too_many, bad, open_text, too_wide, IsMore}
 use Rattle.rs_lex.specs.Spelling as spelling
-use Rattle.rs_lex.specs.Tokens.{IsBlanks, IsComment, IsGap, IsToken, doubled}
+use Rattle.rs_lex.specs.Tokens.{IsComment, IsGap, IsToken, doubled}
 use Rattle.rs_lex.specs.declared.token.Sort.{Sort}
 use Rattle.rs_lex.specs.declared.token.Sort.TheVariants.{Word, Quoted, Number, Literal, Symbol}
 use Rattle.rs_lex.specs.declared.front.Front.{Front}

@@ -1,5 +1,5 @@
 -- What the faults of a script mean, computed on literals.
-use Rattle.std.proofs.Common.{◌≡◌, inl, inr, ◌⊎◌, [], ◌∷◌, refl, lit<, lit≤}
+use Rattle.std.proofs.Common.{inl, inr, refl, lit<, lit≤}
 use Rattle.std.specs.Prelude.{codes}
 use Rattle.rs_lex.specs.Front.{front_of}
 use Rattle.rs_lex.specs.Faults.{IsOpen, IsWide, HasLetterBehind, BeginsNoToken}
