@@ -1,11 +1,11 @@
 ghost use Rattle.std.specs.Prelude.{IfOk};
 ghost use Rattle.rs_syntax.specs.Syntax.{command_of, commands_of};
-ghost use Rattle.rs_bind.specs.Written.{AreWritten, IsWritten};
+ghost use Rattle.rs_syntax.specs.Written.{AreWritten, IsWritten};
 
 use crate::fault::Fault;
 use crate::make::make;
 use crate::show::{show_count, show_index, show_predicate, show_query, show_table};
-use rs_bind::{bind, bind_count, bind_index, bind_predicate, bind_table, statements_are_written};
+use rs_bind::{bind, bind_count, bind_index, bind_predicate, bind_table};
 use rs_catalog::Catalog;
 use rs_lex::{MOST_BYTES, tokens};
 use rs_syntax::{Statement, parse};
@@ -42,11 +42,10 @@ fn statements_of(alloc: Global, script: &str) -> Result<Vec<Statement>, Fault>
     let Ok(tokens) = tokens(alloc, &text) else {
         return Err(Fault::Script);
     };
-    let Ok(statements) = parse(alloc, &text, &tokens) else {
-        return Err(Fault::Script);
-    };
-    statements_are_written();
-    Ok(statements)
+    match parse(alloc, &text, &tokens) {
+        Ok(statements) => Ok(statements),
+        Err(_) => Err(Fault::Script),
+    }
 }
 
 /// Binds the only statement of a script, and shows what came of it. Where it is to be made, it joins the catalogue.

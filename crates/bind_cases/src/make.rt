@@ -1,7 +1,7 @@
 ghost use Rattle.std.specs.Prelude.{◌≡◌, ◌≤◌, Ok, OnErr, length};
 ghost use Rattle.rs_syntax.specs.Syntax.{command_of};
 ghost use Rattle.rs_bind.specs.Predicates.{IsCreatePredicate};
-ghost use Rattle.rs_bind.specs.Written.{IsWritten};
+ghost use Rattle.rs_syntax.specs.Written.{IsWritten};
 
 use crate::fault::Fault;
 use rs_bind::{bind_predicate, bind_table};

@@ -21,7 +21,7 @@ use Rattle.rs_bind.specs.Conditions.{column_scope, filter_of}
 use Rattle.rs_bind.specs.Limits.{HasFewColumns, HasLimits, HaveLimits, IsNarrow}
 use Rattle.rs_bind.specs.Queries.{Unranked, agree, are_outputs, block_columns, bound_query, first_item, limit_of, names_of, needed_by, one_of, output_columns, set_of, terms_of, unranked_of, with_terms}
 use Rattle.rs_bind.specs.Sources.{Found, entries_of, items_of, sources_of}
-use Rattle.rs_bind.specs.Written.{IsWrittenBlock, IsWrittenQuery, IsWrittenTerm}
+use Rattle.rs_syntax.specs.Written.{IsWrittenBlock, IsWrittenQuery, IsWrittenTerm}
 use Rattle.rs_bind.proofs.ColumnFacts.{AreEntries, AreItems, IsColumn-found, IsFound, entries_of-formed, items_of-found}
 use Rattle.rs_bind.proofs.ConjunctFacts.{AreConjuncts, filter_of-formed}
 use Rattle.rs_bind.proofs.EachFacts.{each-all, each-map, each-then}

@@ -31,7 +31,7 @@ use Rattle.rs_bind.specs.Indexes.{arg_of, args_of, columns_in, entry_column, in_
 use Rattle.rs_bind.specs.Names.{or_fault}
 use Rattle.rs_bind.specs.Predicates.{placed}
 use Rattle.rs_bind.specs.Typing.{span_of_column}
-use Rattle.rs_bind.specs.Written.{IsWritten, IsWrittenArg, AreWrittenArgs}
+use Rattle.rs_syntax.specs.Written.{IsWritten, IsWrittenArg, AreWrittenArgs}
 use Rattle.rs_bind.proofs.PlaceFacts.{kind-placed, slice_get-numbered}
 use Rattle.rs_bind.proofs.StepFacts.{Ok-steps, Ok-test, Ok-or_fault}
 

@@ -2,7 +2,6 @@ mod WorkedIndexes
 mod WorkedNames
 mod WorkedQueries
 mod WorkedTyping
-mod WorkedWritten
 pub mod ArgFacts
 pub mod ArgumentFacts
 pub mod ColumnFacts
@@ -33,4 +32,3 @@ pub mod TermSteps
 pub mod TypingFacts
 pub mod UnrankedFacts
 pub mod UsesFacts
-pub mod WrittenFacts

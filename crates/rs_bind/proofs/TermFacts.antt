@@ -27,7 +27,7 @@ use Rattle.rs_bind.specs.Names.{number_in, or_fault}
 use Rattle.rs_bind.specs.Queries.{are_outputs, as_argument, block_columns, limit_of, max_in, terms_behind, terms_of}
 use Rattle.rs_bind.specs.Sources.{Found, column_in, sources_of}
 use Rattle.rs_bind.specs.Typing.{span_of_column}
-use Rattle.rs_bind.specs.Written.{AreWrittenArgs, IsWrittenArg, IsWrittenTerm}
+use Rattle.rs_syntax.specs.Written.{AreWrittenArgs, IsWrittenArg, IsWrittenTerm}
 use Rattle.rs_bind.proofs.ColumnFacts.{IsColumn-found, IsFound, column_in-found}
 use Rattle.rs_bind.proofs.PlaceFacts.{slice_get-numbered}
 use Rattle.rs_bind.proofs.ResultFacts.{Ok-else, same_Ok, well}

@@ -1,4 +1,3 @@
-pub mod Written
 pub mod Names
 pub mod Typing
 pub mod Rules

@@ -5,7 +5,7 @@ ghost use Rattle.rs_syntax.specs.Syntax.{command_of};
 ghost use Rattle.rs_value.specs.Answer.{Gives};
 ghost use Rattle.rs_bind.specs.Indexes.{IsCreateRankIndex, index_def_of};
 ghost use Rattle.rs_bind.specs.Names.{or_fault};
-ghost use Rattle.rs_bind.specs.Written.{IsWritten};
+ghost use Rattle.rs_syntax.specs.Written.{IsWritten};
 
 use crate::columns::OneEntry;
 use crate::fault::{BindFault, Why};

@@ -23,7 +23,6 @@ mod terms;
 mod typed;
 mod typing;
 mod unranked;
-mod written;
 
 pub use count::bind_count;
 pub use fault::{BindFault, Why};
@@ -34,4 +33,3 @@ pub use laws::{
 pub use predicate::bind_predicate;
 pub use query::bind;
 pub use table::bind_table;
-pub use written::statements_are_written;

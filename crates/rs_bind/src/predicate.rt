@@ -6,7 +6,7 @@ ghost use Rattle.rs_expr.specs.Uses.{has_parameter, uses};
 ghost use Rattle.rs_expr.specs.Widths.{width_of};
 ghost use Rattle.rs_bind.specs.Predicates.{IsCreatePredicate, cost_of, formula_in, predicate_of};
 ghost use Rattle.rs_bind.specs.Views.{result_map};
-ghost use Rattle.rs_bind.specs.Written.{IsWritten};
+ghost use Rattle.rs_syntax.specs.Written.{IsWritten};
 
 use crate::fault::BindFault;
 use crate::names::{named, number_in};

@@ -8,7 +8,7 @@ ghost use Rattle.rs_bind.specs.Limits.{HaveLimits};
 ghost use Rattle.rs_bind.specs.Queries.{block_columns, bound_query, needed_by, one_of, output_columns, set_of, terms_of};
 ghost use Rattle.rs_bind.specs.Sources.{sources_of};
 ghost use Rattle.rs_bind.specs.Terms.{IsEntryItem};
-ghost use Rattle.rs_bind.specs.Written.{IsWrittenQuery};
+ghost use Rattle.rs_syntax.specs.Written.{IsWrittenQuery};
 
 use crate::fault::{BindFault, Why};
 use crate::outputs::OutputColumns;

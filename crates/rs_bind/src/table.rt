@@ -5,12 +5,9 @@ ghost use Rattle.rs_bind.specs.Names.{columns_of};
 use crate::fault::BindFault;
 use crate::names::named;
 use rs_syntax::Name;
-use rs_table::Schema;
+use rs_table::{MOST_COLUMNS, Schema};
 use rs_value::Kind;
 use std::alloc::Global;
-
-/// The greatest number of columns of a table.
-const MOST_COLUMNS: usize = 64;
 
 /// The columns of a CREATE TABLE statement: at most 64, no two of one name. From left to right, at each column its number
 /// is looked at first (`LimitOf`), and then its name (`NameTwice`).

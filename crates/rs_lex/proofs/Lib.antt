@@ -4,4 +4,6 @@ pub mod WorkedFront
 mod WorkedSpelling
 pub mod TokenFacts
 pub mod TakenFacts
+pub mod FaultFacts
 mod WorkedTokens
+mod WorkedFaults

@@ -32,7 +32,7 @@ FrontFits-if true x y size first second = first refl
 FrontFits-if false x y size first second = second refl
 
 -- a run is no longer than the bytes
-run_length-le : (test : ℕ → Bool) (bytes : List ℕ) → run_length test bytes ≤ length bytes
+pub run_length-le : (test : ℕ → Bool) (bytes : List ℕ) → run_length test bytes ≤ length bytes
 run_length-le test [] = omega arith
 run_length-le test (byte ∷ rest) =
     rw take_while-cons (go (test byte) (run_length-le test rest))
@@ -80,7 +80,7 @@ quoted_front-fits size None h = omega arith
 quoted_front-fits size (Some n) h = FrontFits-if (n == 1) (Bad 0) (Found Quoted (n + 1)) (suc size) (λ _. omega arith) (λ _. (omega arith, omega arith))
 
 -- bytes of which the first passes a test aren't empty
-begins-length : (test : ℕ → Bool) (bytes : List ℕ) → begins test bytes ≡ true → 0 < length bytes
+pub begins-length : (test : ℕ → Bool) (bytes : List ℕ) → begins test bytes ≡ true → 0 < length bytes
 begins-length test [] e = cc
 begins-length test (byte ∷ rest) e = omega arith
 
@@ -167,7 +167,7 @@ Spells-unique at bytes xs ys (spelling.Spells.takes _ n sort _ rest e h) (spelli
     rw (same, same_sort, same_rest) refl
 
 -- a front that is more is none of the two others
-IsMore-gap : (front : Front) (n : ℕ) → front ≡ Gap n → IsMore front → ⊥
+pub IsMore-gap : (front : Front) (n : ℕ) → front ≡ Gap n → IsMore front → ⊥
 IsMore-gap front n is more = rw is at more
 
 -- bytes are refused with one fault at most
@@ -277,7 +277,7 @@ pub record Reaches (count from at : ℕ) (script : List ℕ) : Type 0 where
   pub refused : (fault : LexFault) → Refuses count at (drop at script) fault → Refuses count from (drop from script) fault
 
 -- the bytes behind a front
-behind : (at n : ℕ) (script : List ℕ) → drop (at + n) script ≡ drop n (drop at script)
+pub behind : (at n : ℕ) (script : List ℕ) → drop (at + n) script ≡ drop n (drop at script)
 behind at n script = sym (drop-drop n at script)
 
 -- a gap is passed over

@@ -17,7 +17,7 @@ use Rattle.rs_lex.proofs.FrontFacts.{closed_length-other, closed_length-doubled,
 use Rattle.rs_lex.proofs.TokenFacts.{front_of-ways, run-longest, doubled-mark, doubled-other, option_map-some, no_other, is_spelling, symbol-is_spelling, letter-digit, tail_of, symbol-passes, or_parts, Contains-pair}
 
 -- the byte behind a run doesn't pass the test
-run-next : (test : ℕ → Bool) (bytes : List ℕ) (next : ℕ) (after : List ℕ) → drop (run_length test bytes) bytes ≡ next ∷ after → test next ≡ true → ⊥
+pub run-next : (test : ℕ → Bool) (bytes : List ℕ) (next : ℕ) (after : List ℕ) → drop (run_length test bytes) bytes ≡ next ∷ after → test next ≡ true → ⊥
 run-next test [] next after e passes = cc
 run-next test (byte ∷ rest) next after e passes = go (test byte) refl (rw take_while-cons at e) (run-next test rest next after)
   where
@@ -116,7 +116,7 @@ run-stops test (byte ∷ rest) (suc n) stops = rw take_while-cons (go (test byte
     go false h = omega arith
 
 -- so many bytes that pass are the run, where the next one doesn't
-run-is : (test : ℕ → Bool) (bytes : List ℕ) (n : ℕ) → n ≤ length bytes → list_all test (take n bytes) ≡ true
+pub run-is : (test : ℕ → Bool) (bytes : List ℕ) (n : ℕ) → n ≤ length bytes → list_all test (take n bytes) ≡ true
     → ((next : ℕ) (after : List ℕ) → drop n bytes ≡ next ∷ after → test next ≡ true → ⊥) → run_length test bytes ≡ n
 run-is test bytes n le all stops =
     let least = run-longest test bytes n le all in
@@ -140,12 +140,12 @@ doubled-closes mark (byte ∷ text) after ends = go (byte == mark) refl (doubled
         rw (doubled-other mark byte text is) (closed_length-other mark byte (doubled mark text ++ (mark ∷ after)) is ∙ ap (option_map (λ n. n + 1)) h ∙ ap Some size)
 
 -- a byte that is greater than a space is no blank
-above-blank : (byte : ℕ) → 33 ≤ byte → is_blank byte ≡ false
+pub above-blank : (byte : ℕ) → 33 ≤ byte → is_blank byte ≡ false
 above-blank byte h =
     rw (ne_eqb byte 32 (λ e. omega (arith, h, e)), ne_eqb byte 9 (λ e. omega (arith, h, e)), ne_eqb byte 10 (λ e. omega (arith, h, e)), ne_eqb byte 13 (λ e. omega (arith, h, e))) refl
 
 -- no comment begins with another byte than `-`
-no_comment : (byte : ℕ) (rest : List ℕ) → (byte ≡ 45 → ⊥) → begins_comment byte rest ≡ false
+pub no_comment : (byte : ℕ) (rest : List ℕ) → (byte ≡ 45 → ⊥) → begins_comment byte rest ≡ false
 no_comment byte rest other = rw (ne_eqb byte 45 other) refl
 
 -- letters and digits are greater than `-`
@@ -157,7 +157,7 @@ letter-least byte e =
     (λ b. let least = leb-true 97 byte (and_parts (nat_le 97 byte) (nat_le byte 122) b).0 in omega (arith, least)))
     (λ a. let same = eqb-true byte 95 a in omega (arith, same))
 
-digit-least : (byte : ℕ) → is_digit byte ≡ true → 48 ≤ byte
+pub digit-least : (byte : ℕ) → is_digit byte ≡ true → 48 ≤ byte
 digit-least byte e = leb-true 48 byte (and_parts (nat_le 48 byte) (nat_le byte 57) e).0
 
 -- a text with its marks doubled is no shorter
@@ -171,7 +171,7 @@ doubled-longer mark (byte ∷ text) = go (byte == mark) (doubled-longer mark tex
     go false h = omega (arith, h)
 
 -- how long a text with its marks doubled is, and the mark behind it
-doubled-length : (mark : ℕ) (rest : List ℕ) (m : ℕ) (text : List ℕ) → m ≤ length rest → take m rest ≡ doubled mark text ++ (mark ∷ []) → m ≡ length (doubled mark text) + 1
+pub doubled-length : (mark : ℕ) (rest : List ℕ) (m : ℕ) (text : List ℕ) → m ≤ length rest → take m rest ≡ doubled mark text ++ (mark ∷ []) → m ≡ length (doubled mark text) + 1
 doubled-length mark rest m text le h = sym (length-take-le m rest le) ∙ ap length h ∙ length-append (doubled mark text) (mark ∷ [])
 
 -- a text between marks closes at its last mark, where no second one follows
@@ -201,7 +201,7 @@ front_of-symbol byte rest least other none =
     rw (above-blank byte least, none, parts.0, parts.1, parts.2, parts.3) refl
 
 -- no bytes are no token
-IsToken-some : (sort : Sort) → IsToken sort [] → ⊥
+pub IsToken-some : (sort : Sort) → IsToken sort [] → ⊥
 unfolding is_spelling
 IsToken-some Word h = cc
 IsToken-some Quoted (name, some, e) = cc

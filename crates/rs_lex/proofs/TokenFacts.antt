@@ -150,7 +150,7 @@ front_of-ways P byte rest sort n ways e =
     ]
 
 -- the bytes of a run pass the test
-run-passes : (test : ℕ → Bool) (bytes : List ℕ) → list_all test (take (run_length test bytes) bytes) ≡ true
+pub run-passes : (test : ℕ → Bool) (bytes : List ℕ) → list_all test (take (run_length test bytes) bytes) ≡ true
 run-passes test [] = refl
 run-passes test (byte ∷ rest) = rw take_while-cons (go (test byte) refl (run-passes test rest))
   where
@@ -431,7 +431,7 @@ IsLongest-sort byte rest sort n first none other (suc m) lt le h =
     none m (omega (arith, lt)) (omega (arith, le)) (rw same at h)
 
 -- a longer text between marks would have been closed before
-closed-is_longest : (mark : ℕ) (rest : List ℕ) (k : ℕ) → closed_length mark rest ≡ Some k → (m : ℕ) → k < m → m ≤ length rest → (text : List ℕ) → take m rest ≡ doubled mark text ++ (mark ∷ []) → ⊥
+pub closed-is_longest : (mark : ℕ) (rest : List ℕ) (k : ℕ) → closed_length mark rest ≡ Some k → (m : ℕ) → k < m → m ≤ length rest → (text : List ℕ) → take m rest ≡ doubled mark text ++ (mark ∷ []) → ⊥
 closed-is_longest mark rest k e m lt le text h =
     let split : rest ≡ doubled mark text ++ (mark ∷ drop m rest) = sym (take-append-drop m rest) ∙ ap (λ front. front ++ drop m rest) h ∙ append_assoc (doubled mark text) (mark ∷ []) (drop m rest) in
     let closed : closed_length mark (doubled mark text ++ (mark ∷ drop m rest)) ≡ Some k = ap (closed_length mark) (sym split) ∙ e in
@@ -455,7 +455,7 @@ three-are_no_symbol byte (next ∷ third ∷ rest) zero lt le e = omega (arith, 
 three-are_no_symbol byte (next ∷ third ∷ rest) (suc zero) lt le e = omega (arith, lt)
 three-are_no_symbol byte (next ∷ third ∷ rest) (suc (suc m)) lt le e = cc
 
-two-are_no_symbol : (byte : ℕ) (rest : List ℕ) (m : ℕ) → begins (is_pair byte) rest ≡ false → 1 ≤ m → m ≤ length rest → is_spelling (byte ∷ take m rest) ≡ true → ⊥
+pub two-are_no_symbol : (byte : ℕ) (rest : List ℕ) (m : ℕ) → begins (is_pair byte) rest ≡ false → 1 ≤ m → m ≤ length rest → is_spelling (byte ∷ take m rest) ≡ true → ⊥
 unfolding is_spelling
 two-are_no_symbol byte rest zero none lt le e = omega (arith, lt)
 two-are_no_symbol byte [] (suc m) none lt le e = omega (arith, le)

@@ -3,7 +3,7 @@ use Rattle.std.proofs.Common.{◌≡◌, ◌++◌, [], ◌∷◌, inr, length, s
 use Rattle.std.specs.Prelude.{codes}
 use Rattle.rs_lex.specs.Bytes.{quote}
 use Rattle.rs_lex.specs.Front.{front_of}
-use Rattle.rs_lex.specs.Tokens.{IsToken, EndsAt, doubled}
+use Rattle.rs_lex.specs.Tokens.{IsBlanks, IsComment, IsToken, EndsAt, doubled}
 use Rattle.rs_lex.proofs.TakenFacts.{doubled-longer, front-ends}
 use Rattle.rs_lex.specs.declared.token.Sort.TheVariants.{Word, Quoted, Number, Literal, Symbol}
 
@@ -54,3 +54,14 @@ no_minus h = h 45 [] refl (inr refl)
 below_twice : EndsAt Symbol 1 (codes "<<")
 unfolding front_of
 below_twice = front-ends (codes "<<") Symbol 1 refl
+
+blanks : IsBlanks 3 (codes " \t\nx")
+blanks = record { some = lit< tt; within = lit≤ tt; blanks = refl; whole = λ blank. cc }
+
+-- the line feed behind a comment isn't part of it
+comment : IsComment 4 (codes "--c;\nx")
+comment = record { within = lit≤ tt; more = codes "c;\nx"; begun = refl; line = refl; whole = λ goes_on. cc }
+
+-- nor is a comment cut off in its line
+no_comment : IsComment 3 (codes "--c;") → ⊥
+no_comment h = h.whole refl

@@ -2,3 +2,4 @@ pub mod Bytes
 pub mod Front
 pub mod Spelling
 pub mod Tokens
+pub mod Faults

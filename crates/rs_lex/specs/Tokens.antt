@@ -1,8 +1,8 @@
--- What a token is, said of its bytes alone.
-use Rattle.std.specs.Prelude.{ℕ, ◌≡◌, ◌<◌, ◌≤◌, ◌-◌, ◌==◌, ◌&&◌, ◌++◌, ◌⊎◌, Bool, false, IsTrue, Contains, List, [], ◌∷◌, codes, length, take, drop, if◌then◌else◌}
+-- What a token is, and what stands between tokens, said of their bytes alone.
+use Rattle.std.specs.Prelude.{ℕ, ◌≡◌, ◌<◌, ◌≤◌, ◌-◌, ◌==◌, ◌&&◌, ◌++◌, ◌⊎◌, Bool, false, not, IsTrue, Contains, List, [], ◌∷◌, codes, length, take, drop, if◌then◌else◌}
 use Rattle.std.specs.List.{list_all}
 use Rattle.rs_value.specs.Number.{number_of, are_digits, greatest_int}
-use Rattle.rs_lex.specs.Bytes.{is_letter, is_word_byte, quote, apostrophe}
+use Rattle.rs_lex.specs.Bytes.{is_letter, is_word_byte, is_blank, begins, quote, apostrophe}
 use Rattle.rs_lex.specs.declared.token.Sort.{Sort}
 use Rattle.rs_lex.specs.declared.token.Sort.TheVariants.{Word, Quoted, Number, Literal, Symbol}
 use Rattle.rs_lex.specs.declared.token.Token.{Token}
@@ -55,3 +55,22 @@ GoesOn Symbol bytes next = Contains symbols (bytes ++ (next ∷ [])) ⊎ (bytes 
 -- none of so many bytes goes on behind them
 abbrev pub EndsAt : Sort → ℕ → List ℕ → Type 0
 EndsAt sort n bytes = (next : ℕ) (rest : List ℕ) → drop n bytes ≡ next ∷ rest → GoesOn sort (take n bytes) next → ⊥
+
+-- blanks, all that stand there, so many
+pub record IsBlanks (n : ℕ) (bytes : List ℕ) : Type 0 where
+  pub some : 0 < n
+  pub within : n ≤ length bytes
+  pub blanks : IsTrue (list_all is_blank (take n bytes))
+  pub whole : IsTrue (begins is_blank (drop n bytes)) → ⊥
+
+-- a comment of so many bytes: from `--` up to the next line feed, or to the end of the script
+pub record IsComment (n : ℕ) (bytes : List ℕ) : Type 0 where
+  pub within : n ≤ length bytes
+  pub more : List ℕ
+  pub begun : bytes ≡ codes "--" ++ more
+  pub line : IsTrue (list_all (λ byte. not (byte == 10)) (take n bytes))
+  pub whole : IsTrue (begins (λ byte. not (byte == 10)) (drop n bytes)) → ⊥
+
+-- what stands between tokens
+abbrev pub IsGap : ℕ → List ℕ → Type 0
+IsGap n bytes = IsBlanks n bytes ⊎ IsComment n bytes

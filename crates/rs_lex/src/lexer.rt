@@ -15,12 +15,15 @@ pub const MOST_TOKENS: usize = 100_000;
 /// The most bytes of a script.
 pub const MOST_BYTES: usize = 1_048_576;
 
+// Each place in a script fits the `u32` of a span, that of its end too.
+const _: () = prove!(MOST_BYTES <= u32::MAX as usize);
+
 /// The tokens of a script in their order, each with its place. Blanks and comments stand between tokens and
 /// are left out. Where no token begins, or one too many does, the answer is the first such place.
 pub fn tokens(alloc: Global, script: &Text) -> Result<Vec<Token>, LexFault>
     requires { length script.now ≤ 1048576 }
     ensures spells { IfOk result (λ tokens. Spells 0 script.now tokens.items) }
-    ensures few { IfOk result (λ tokens. length tokens.items ≤ 100000) }
+    ensures few { IfOk result (λ tokens. length tokens.items ≤ most_tokens) }
     ensures ordered { IfOk result (λ tokens. InOrder 0 tokens.items (length script.now)) }
     ensures refused { IfErr result (λ fault. (fault ≡ LexFault.Memory) ⊎ Refuses 0 0 script.now fault) }
     ensures only { (tokens : List Token) → Spells 0 script.now tokens → length tokens ≤ most_tokens → MatchResult result (λ made. made.items ≡ tokens) (λ fault. fault ≡ LexFault.Memory) }

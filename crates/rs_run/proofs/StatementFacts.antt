@@ -9,7 +9,7 @@ use Rattle.rs_syntax.specs.Syntax.{Command, CreateTable, CreatePredicate, Create
 use Rattle.rs_syntax.specs.Syntax.{command_of, commands_of}
 use Rattle.rs_syntax.specs.declared.name.Name.{Name}
 use Rattle.rs_syntax.specs.declared.statement.Statement.{Statement}
-use Rattle.rs_bind.specs.Written.{AreWritten, IsWritten}
+use Rattle.rs_syntax.specs.Written.{AreWritten, IsWritten}
 use Rattle.rs_run.specs.declared.fault.Fault.{Fault}
 use Rattle.rs_run.specs.Halts.{fetched_more}
 use Rattle.rs_run.specs.Parts.Steps.{HasDone, Stepped}

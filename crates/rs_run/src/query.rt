@@ -5,7 +5,7 @@ ghost use Rattle.rs_query.specs.Answers.{predicate_at};
 ghost use Rattle.rs_plain.specs.Results.{NamesCalled};
 ghost use Rattle.rs_query.specs.declared.query.Query.{Query};
 ghost use Rattle.rs_bind.specs.Queries.{bound_query};
-ghost use Rattle.rs_bind.specs.Written.{IsWrittenQuery};
+ghost use Rattle.rs_syntax.specs.Written.{IsWrittenQuery};
 ghost use Rattle.rs_run.specs.Parts.Steps.{Leaves, Ran, Stepped, lines_run};
 ghost use Rattle.rs_run.specs.Statements.{Plainly, explain_outcome, or_bind_fault, query_fault, query_step, rank_lines, refused_or};
 ghost use Rattle.rs_run.specs.World.{World};

@@ -4,7 +4,7 @@ ghost use Rattle.rs_syntax.specs.Syntax.{command_of, commands_of};
 ghost use Rattle.rs_bind.specs.Indexes.{index_def_of};
 ghost use Rattle.rs_bind.specs.Names.{columns_of};
 ghost use Rattle.rs_bind.specs.Predicates.{predicate_of};
-ghost use Rattle.rs_bind.specs.Written.{AreWritten, IsWritten};
+ghost use Rattle.rs_syntax.specs.Written.{AreWritten, IsWritten};
 ghost use Rattle.rs_catalog.specs.Catalogue.{room_for};
 ghost use Rattle.rs_catalog.specs.Indexes.{IsIndex};
 ghost use Rattle.rs_catalog.specs.declared.room.What.TheVariants as what;

@@ -11,4 +11,6 @@ pub mod Cutting
 pub mod Numbers
 pub mod ScriptFacts
 pub mod SpanFacts
+pub mod WrittenFacts
 mod WorkedScripts
+mod WorkedWritten

@@ -1,5 +1,5 @@
 -- The numbers of lexemes are those that a script can write.
-use Rattle.std.proofs.Common.{ℕ, zero, suc, ◌≡◌, ◌+◌, ◌≤◌, nat_le, List, [], ◌∷◌, ◌++◌, take, Some, None, refl, sym, subst, arith, ◌&&◌, Bool, true, false}
+use Rattle.std.proofs.Common.{ℕ, zero, suc, ◌≡◌, ◌≤◌, nat_le, List, [], ◌∷◌, ◌++◌, take, Some, None, refl, sym, subst, arith, ◌&&◌, Bool, true, false}
 use Rattle.std.specs.Prelude.{map, reverse, if◌then◌else◌}
 use Rattle.std.specs.List.{All}
 use Rattle.std.proofs.lemmas.List.{reverse-append}

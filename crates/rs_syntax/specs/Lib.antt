@@ -9,3 +9,4 @@ pub mod Cases
 pub mod Scripts
 pub mod Cut
 pub mod Spans
+pub mod Written

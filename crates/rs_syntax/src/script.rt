@@ -6,6 +6,7 @@ ghost use Rattle.rs_syntax.specs.Cut.{EndsLast, refusal_of};
 ghost use Rattle.rs_syntax.specs.Scripts.{IsSound, Parses, Refuses};
 ghost use Rattle.rs_syntax.specs.Spans.{SpansInOrder};
 ghost use Rattle.rs_syntax.specs.Syntax.{Command, commands_of};
+ghost use Rattle.rs_syntax.specs.Written.{AreWritten};
 ghost use Rattle.rs_syntax.specs.declared.fault.SyntaxFault.{SyntaxFault};
 
 use crate::fault::SyntaxFault;
@@ -25,6 +26,8 @@ pub fn parse(alloc: Global, script: &Text, tokens: &[Token]) -> Result<Vec<State
     ensures sound { IfOk result (λ _. IsSound script.now tokens.now) }
     // Each span lies in the script, within that of what it is a part of, and those of its parts stand in order.
     ensures ordered { IfOk result (λ made. SpansInOrder 0 (length script.now) (commands_of made.items)) }
+    // A table has a column, a predicate a parameter, a block a FROM entry, and numbers among arguments are in range.
+    ensures written { IfOk result (λ made. AreWritten (commands_of made.items)) }
     // Whatever the tokens parse to, where nothing is wrong with them, is answered: the grammar gives one list at most.
     ensures only { (commands : List Command) → Parses script.now tokens.now commands → IsSound script.now tokens.now
         → MatchResult result (λ made. commands_of made.items ≡ commands) (λ fault. fault ≡ SyntaxFault.Memory) }

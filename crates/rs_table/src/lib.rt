@@ -8,8 +8,11 @@ mod schema;
 mod table;
 
 pub use fault::TableFault;
-pub use schema::Schema;
+pub use schema::{MOST_COLUMNS, Schema};
 pub use table::{MOST_ROWS, Table};
 
 /// The greatest number of bytes of a table's file.
 pub const TABLE_LIMIT: usize = 33_554_432;
+
+// A record has at most one field more than its file has bytes, and their number fits a `u32`.
+const _: () = prove!(TABLE_LIMIT < u32::MAX as usize);

@@ -16,6 +16,9 @@ use std::marker::Model;
 /// The greatest number of columns of a table.
 pub const MOST_COLUMNS: usize = 64;
 
+// A column's place fits the `u8` by which it is named.
+const _: () = prove!(MOST_COLUMNS <= u8::MAX as usize);
+
 /// The columns of a table: 1 to 64 names with their kinds.
 #[derive(Drop)]
 pub struct Schema {

@@ -2,9 +2,8 @@ ghost use Rattle.std.specs.Prelude.{◌≡◌, ◌≤◌, ◌<◌, ◌+◌, ◌^
 ghost use Rattle.csv.specs.Records.{fields_of};
 ghost use Rattle.rs_value.specs.Answer.{Gives};
 ghost use Rattle.rs_value.specs.declared.kind.Kind.TheVariants as kind;
-ghost use Rattle.rs_value.specs.Value.{kind_of};
 ghost use Rattle.rs_table.specs.Column.{Column};
-ghost use Rattle.rs_table.specs.Relation.{cell_at, row_fits};
+ghost use Rattle.rs_table.specs.Relation.{cell_at, most_rows, row_fits};
 ghost use Rattle.rs_value.specs.Value.{fits};
 ghost use Rattle.std.specs.List.{AllByRecursion};
 ghost use Rattle.rs_table.specs.Appended.{appended};
@@ -21,6 +20,9 @@ use std::marker::Model;
 
 /// The greatest number of rows of a table.
 pub const MOST_ROWS: usize = 131_072;
+
+// The number of a row fits the `u32` by which it is named, that of the first row too many too.
+const _: () = prove!(MOST_ROWS < u32::MAX as usize);
 
 /// The rows of a CSV file in the file's order, with a value for each column of the schema.
 #[derive(Drop)]
@@ -71,7 +73,7 @@ impl Table {
     /// How many rows there are.
     pub fn len(&self) -> u32
         ensures value { result ≡ length self.now.rows }
-        ensures few { result ≤ 131072 }
+        ensures few { result ≤ most_rows }
     {
         self.rows.len() as u32
     }
@@ -93,18 +95,7 @@ impl Table {
         ensures number { (c : Column) → slice_get self.now.schema column ≡ Some c → c.1 ≡ kind.Int → IsOk result }
     {
         let values = self.rows[row as usize - 1].items();
-        copy_of(&values[column as usize])
-    }
-}
-
-/// An equal value. A number takes no memory.
-fn copy_of(value: &Value) -> Result<Value, Memory>
-    ensures same { IfOk result (λ copy. copy ≡ value.now) }
-    ensures number { kind_of value.now ≡ kind.Int → IsOk result }
-{
-    match value {
-        Value::Int(number) => Ok(Value::Int(*number)),
-        Value::Text(text) => Ok(Value::Text(text.copy()?)),
+        values[column as usize].copy()
     }
 }
 
@@ -181,7 +172,7 @@ fn next_row(
 ) -> Result<Option<List<Value>>, TableFault>
     requires { length columns.now ≤ 64 }
     ensures end { IfOk result (λ next. MatchOption next (records.old ≡ []) (λ values. rows_from columns.now row records.old ≡ appended (values ∷ []) (rows_from columns.now (row + 1) records.new))) }
-    ensures few { IfOk result (λ next. MatchOption next (Unit {0}) (λ values. row ≤ 131072)) }
+    ensures few { IfOk result (λ next. MatchOption next (Unit {0}) (λ values. row ≤ most_rows)) }
     ensures refused { IfErr result (λ fault. (fault ≡ TableFault.Memory) ⊎ (rows_from columns.now row records.old ≡ Err fault)) }
 {
     match records.read(record_) {
@@ -204,7 +195,7 @@ fn read_row(
     requires columns { length columns.now ≤ 64 }
     requires fields { length (fields_of record_.now) < 2 ^ 32 }
     ensures gives { Gives TableFault.Memory (row_of columns.now row (fields_of record_.now)) result }
-    ensures few { IfOk result (λ values. row ≤ 131072) }
+    ensures few { IfOk result (λ values. row ≤ most_rows) }
 {
     if row as usize > MOST_ROWS {
         return Err(TableFault::TooManyRows);

@@ -4,6 +4,9 @@ ghost use Rattle.rs_value.specs.Number.{decimal_value, greatest_int, int_value};
 /// The greatest magnitude of a number in a table or a script.
 pub const GREATEST_INT: u64 = 4_000_000_000_000_000_000;
 
+// The sum or the difference of two such numbers fits an `i64`.
+const _: () = prove!(GREATEST_INT <= i64::MAX as u64 / 2);
+
 /// The number that decimal digits write, where it is at most `most`: one or more digits, and nothing else.
 /// Leading zeros are allowed, any number of them.
 pub fn decimal_of(digits: &[u8], most: u64) -> Option<u64>

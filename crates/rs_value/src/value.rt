@@ -1,5 +1,6 @@
-ghost use Rattle.std.specs.Prelude.{◌≡◌, ◌++◌, IfOk, OnOk, OnErr};
+ghost use Rattle.std.specs.Prelude.{◌≡◌, ◌++◌, IfOk, IsOk, OnOk, OnErr};
 ghost use Rattle.rs_value.specs.Value.{kind_of, printed, value_cmp};
+ghost use Rattle.rs_value.specs.declared.kind.Kind.TheVariants as kind;
 
 use crate::kind::Kind;
 use crate::memory::Memory;
@@ -31,7 +32,8 @@ impl Value {
 
     /// An equal value. Only the copy of a text takes memory, on the text's own allocator.
     pub fn copy(&self) -> Result<Value, Memory>
-        ensures { IfOk result (λ value. value ≡ self.now) }
+        ensures same { IfOk result (λ value. value ≡ self.now) }
+        ensures number { kind_of self.now ≡ kind.Int → IsOk result }
     {
         match self {
             Value::Int(number) => Ok(Value::Int(*number)),

@@ -1,7 +1,6 @@
 use Rattle.std.proofs.Common.{subst, sym}
 use Rattle.rs_syntax.specs.Syntax.{commands_of}
-use Rattle.rs_bind.specs.Written.{AreWritten}
-use Rattle.rs_bind.proofs.WrittenFacts.{AreWritten-parsed}
+use Rattle.rs_syntax.specs.Written.{AreWritten}
 use Rattle.rs_run.specs.Parts.Steps.{Runs}
 use Rattle.rs_run.specs.Run.{finds_in}
 use Rattle.rs_run.specs.Statements.{Plainly, StatementsRun}
@@ -19,9 +18,7 @@ returns-in_err-statements g c = λ beside. Text-unparsed (StatementsRun (finds_i
 
 pub run_statements-requires : goal.run_statements-requires
 run_statements-requires g c = record {
-  written = subst (λ statements. AreWritten (commands_of statements)) (sym c.deref-2.ensures.value)
-      (AreWritten-parsed c.args.script.now c.deref.result.now (commands_of c.in_ok-statements.statements.items)
-      (HasTokens-slice c.args.script.now c.in_ok-tokens.tokens.items c.deref.result.now c.in_ok-tokens.ensures.spells c.in_ok-tokens.ensures.few c.deref.ensures.value).spells c.in_ok-statements.ensures.found);
+  written = subst (λ statements. AreWritten (commands_of statements)) (sym c.deref-2.ensures.value) c.in_ok-statements.ensures.written;
 }
 
 pub returns : goal.returns

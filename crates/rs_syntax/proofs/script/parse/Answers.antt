@@ -10,6 +10,7 @@ use Rattle.rs_syntax.proofs.Numbers.{AreNumbers-lexemes, AreNumbers-take}
 use Rattle.rs_syntax.proofs.ScriptFacts.{Given, Given-made, begin, begin-made, rest_of, none-behind, some-behind, Refuses-one, IsSound-not_refused, Halts-refused, Halts-too_deep, Read-refused, Read-too_many_refused, Read-parses, Read-sound, Read-one}
 use Rattle.rs_grammar.proofs.LexemeFacts.{IsFront-whole}
 use Rattle.rs_syntax.proofs.SpanFacts.{Parses-spans}
+use Rattle.rs_syntax.proofs.WrittenFacts.{AreWritten-parsed}
 use Rattle.rs_syntax.proofs.script.parse.Goals as goal
 
 pub new-parser-requires : goal.new-parser-requires
@@ -218,6 +219,21 @@ returns-clause-ordered c =
     let done : c.script.new.self.rest ≡ [] = c.if-not-is_done.ensures.0 refl in
     let none : drop n tokens ≡ [] = none-behind n tokens c.if-not-is_empty.ensures in
     Parses-spans text tokens (commands_of c.in-Ok-script.statements.items) c.requires.spelled
+    (Read-parses text tokens n found.tree c.script.new.self (commands_of c.in-Ok-script.statements.items) given found.read done none found.means)
+
+pub returns-clause-written : goal.returns-clause-written
+returns-clause-written c =
+    let text = c.args.script.now in
+    let tokens = c.args.tokens.now in
+    let n = c.statements_end-end.result in
+    let made : c.deref.result.now ≡ lexemes_of text tokens = c.deref.ensures.value ∙ c.in-Ok.ensures in
+    let given : Given text tokens n = Given-made text tokens n c.deref.result.now made c.statements_end-end.ensures.few c.statements_end-end.ensures.cut in
+    let start : c.new-parser.result ≡ begin text tokens n = begin-made text tokens n c.in-Ok.lexemes.items c.truncate.new.self.items c.new-parser.result c.new-parser.ensures c.truncate.ensures.items c.in-Ok.ensures in
+    let found : Found script script_of (begin text tokens n) c.script.new.self (commands_of c.in-Ok-script.statements.items) =
+    subst (λ b. Found script script_of b c.script.new.self (commands_of c.in-Ok-script.statements.items)) start c.in-Ok-script.ensures in
+    let done : c.script.new.self.rest ≡ [] = c.if-not-is_done.ensures.0 refl in
+    let none : drop n tokens ≡ [] = none-behind n tokens c.if-not-is_empty.ensures in
+    AreWritten-parsed text tokens (commands_of c.in-Ok-script.statements.items) c.requires.spelled
     (Read-parses text tokens n found.tree c.script.new.self (commands_of c.in-Ok-script.statements.items) given found.read done none found.means)
 
 pub returns-clause-sound : goal.returns-clause-sound

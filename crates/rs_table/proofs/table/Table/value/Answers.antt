@@ -20,7 +20,7 @@ returns-clause-cell c =
     let values : List Value = c.index.result.now in
     let row : values ≡ get_or table.rows (c.args.row - 1) values = subst (λ (t : Relation). values ≡ get_or t.rows (c.args.row - 1) values) c.self.view_is c.index.ensures in
     let read = IsCell-read table c.args.row c.args.column values c.index-2.result.now (subst IsTable c.self.view_is c.self.invariant) c.requires.some_row c.requires.row_in c.requires.column_in row (rw c.items-values.ensures at c.index-2.ensures) in
-    IfOk-copy (λ copy. cell_at table c.args.row c.args.column ≡ Some copy) c.index-2.result.now c.copy_of.result read.cell c.copy_of.ensures.same
+    IfOk-copy (λ copy. cell_at table c.args.row c.args.column ≡ Some copy) c.index-2.result.now c.copy.result read.cell c.copy.ensures.same
 
 pub returns-clause-fits : goal.returns-clause-fits
 returns-clause-fits c column is =
@@ -28,7 +28,7 @@ returns-clause-fits c column is =
     let values : List Value = c.index.result.now in
     let row : values ≡ get_or table.rows (c.args.row - 1) values = subst (λ (t : Relation). values ≡ get_or t.rows (c.args.row - 1) values) c.self.view_is c.index.ensures in
     let read = IsCell-read table c.args.row c.args.column values c.index-2.result.now (subst IsTable c.self.view_is c.self.invariant) c.requires.some_row c.requires.row_in c.requires.column_in row (rw c.items-values.ensures at c.index-2.ensures) in
-    IfOk-copy (λ copy. fits column.1 copy ≡ true) c.index-2.result.now c.copy_of.result (read.fit column is) c.copy_of.ensures.same
+    IfOk-copy (λ copy. fits column.1 copy ≡ true) c.index-2.result.now c.copy.result (read.fit column is) c.copy.ensures.same
 
 pub returns-clause-number : goal.returns-clause-number
 returns-clause-number c column is is_int =
@@ -36,4 +36,4 @@ returns-clause-number c column is is_int =
     let values : List Value = c.index.result.now in
     let row : values ≡ get_or table.rows (c.args.row - 1) values = subst (λ (t : Relation). values ≡ get_or t.rows (c.args.row - 1) values) c.self.view_is c.index.ensures in
     let read = IsCell-read table c.args.row c.args.column values c.index-2.result.now (subst IsTable c.self.view_is c.self.invariant) c.requires.some_row c.requires.row_in c.requires.column_in row (rw c.items-values.ensures at c.index-2.ensures) in
-    c.copy_of.ensures.number (kind_of-fits column.1 c.index-2.result.now is_int (read.fit column is))
+    c.copy.ensures.number (kind_of-fits column.1 c.index-2.result.now is_int (read.fit column is))

@@ -16,7 +16,7 @@ use Rattle.rs_syntax.specs.Syntax.{Block, Command, Explain, ExplainAnalyze}
 use Rattle.rs_syntax.specs.Trees.{leaf, last, part, inside, of_rule, last_of_rule, if_there, is_there, items_of, listed}
 use Rattle.rs_syntax.specs.declared.select.SetOp.{SetOp}
 use Rattle.rs_syntax.proofs.Numbers.{AreNumbers-lexemes}
-use Rattle.rs_bind.specs.Written.{IsWrittenArg, AreWrittenArgs, IsWrittenBlock, IsWrittenTerm, IsWrittenQuery, IsWritten, AreWritten}
+use Rattle.rs_syntax.specs.Written.{IsWrittenArg, AreWrittenArgs, IsWrittenBlock, IsWrittenTerm, IsWrittenQuery, IsWritten, AreWritten}
 
 -- the numbers of a tree's tokens are such that a script can write them
 abbrev HasNumbers : Tree → Type 0

@@ -6,7 +6,7 @@ use Rattle.rs_value.specs.declared.kind.Kind.TheVariants as kind
 use Rattle.rs_syntax.specs.Syntax.{Command, CreateTable, CreateRankIndex, Close}
 use Rattle.rs_syntax.specs.declared.name.Name.{Name}
 use Rattle.rs_syntax.specs.declared.name.Arg.TheVariants.{Int, Text}
-use Rattle.rs_bind.specs.Written.{IsWritten, AreWritten}
+use Rattle.rs_syntax.specs.Written.{IsWritten, AreWritten}
 
 abbrev at : Span
 at = record { start = 0; end = 1 }
