@@ -1,7 +1,7 @@
 -- Which trees are plans, on literals and worked by hand. The tests say what the relations say, of trees with such numbers
 -- (`plan-decided`).
 use Rattle.std.proofs.Common.{◌≡◌, ℕ, Bool, true, false, List, [], ◌∷◌, refl}
-use Rattle.std.specs.Prelude.{pos, Some, None, codes}
+use Rattle.std.specs.Prelude.{Some, None, codes}
 use Rattle.rs_value.specs.declared.kind.Kind.TheVariants as kind
 use Rattle.rs_value.specs.declared.rel.Rel.TheVariants.{Eq}
 use Rattle.rs_expr.specs.Formulas.{Argument, Numbers}

@@ -1,5 +1,5 @@
 -- The list of a node of a plan: the rows that it gives, one after another, until it is asked no more.
-use Rattle.std.specs.Prelude.{ℕ, ◌==◌, List, [], ◌∷◌, bit_or, map, if◌then◌else◌}
+use Rattle.std.specs.Prelude.{ℕ, ◌==◌, List, bit_or, map, if◌then◌else◌}
 use Rattle.rs_catalog.specs.Catalogue.{Catalogue}
 use Rattle.rs_order.specs.Sorting.{sorted}
 use Rattle.rs_rank.specs.Keys.{key_cmp}

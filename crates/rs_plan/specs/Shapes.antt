@@ -1,5 +1,4 @@
 -- The tree that a plan is, without where its parts lie in memory.
-use Rattle.std.specs.Prelude.{ℕ}
 use Rattle.rs_plan.specs.declared.plan.Plan.{Plan}
 use Rattle.rs_plan.specs.declared.plan.Plan.TheVariants as plan
 use Rattle.rs_plan.specs.Trees.{Distinct, HashJoin, NestedJoin, Rank, RankScan, SeqScan, SetOperator, Tree}
