@@ -1,4 +1,4 @@
--- The query that the tests build is well-formed.
+-- The block that the tests build is well-formed.
 use Rattle.std.proofs.Common.{◌≡◌, true, [], ◌∷◌, Option, Some, None, length, refl, subst, sym, arith}
 use Rattle.std.specs.List.{AllByRecursion}
 use Rattle.std.proofs.lemmas.Bool.{false≢true}
@@ -9,8 +9,7 @@ use Rattle.rs_expr.specs.Uses.{is_kind}
 use Rattle.rs_catalog.specs.Catalogue.{Catalogue}
 use Rattle.rs_catalog.specs.declared.index.BoundArg.TheVariants as arg
 use Rattle.rs_query.specs.declared.block.Block.{Block}
-use Rattle.rs_query.specs.declared.query.Query.TheVariants.{One}
-use Rattle.rs_query.specs.WellFormed.{HasOutputs, IsBlock, IsColumn, IsConjunct, IsEntry, IsQuery, IsTerm, kind_of}
+use Rattle.rs_query.specs.WellFormed.{IsBlock, IsColumn, IsConjunct, IsEntry, IsTerm, kind_of}
 use Rattle.plan_tests.specs.Pair.{HasPredicate, IsPair}
 
 a_number : (found : Option Kind) → is_kind kind.Int found ≡ true → found ≡ Some kind.Int
@@ -48,10 +47,3 @@ IsBlock-pair catalogue block one has pair number =
       most_terms = rw pair.terms (omega arith);
       terms = subst (AllByRecursion (IsTerm catalogue block)) (sym pair.terms) (is_term catalogue block has column is_number, tt);
     }
-
--- its term is of its output
-outputs : (block : Block) → IsPair block → AllByRecursion (HasOutputs block) block.terms
-outputs block pair = subst (AllByRecursion (HasOutputs block)) (sym pair.terms) ((rw pair.items refl, tt), tt)
-
-pub IsQuery-pair : (catalogue : Catalogue) (block : Block) → IsBlock catalogue block → IsPair block → IsQuery catalogue (One block None)
-IsQuery-pair catalogue block is pair = (is, λ _. outputs block pair, tt)

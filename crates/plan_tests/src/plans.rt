@@ -21,18 +21,42 @@ type Case = (&'static [Step], bool, bool);
 const CASES: [Case; 14] = [
     (&[Scan(1), Scan(2), NestedJoin, Rank(1)], true, false),
     (&[Scan(2), Scan(1), Rank(1), NestedJoin], true, false),
-    (&[Scan(1), Scan(2), NestedJoin, Distinct, Rank(1)], false, true),
-    (&[Scan(1), Scan(2), NestedJoin, Rank(1), Distinct], false, true),
+    (
+        &[Scan(1), Scan(2), NestedJoin, Distinct, Rank(1)],
+        false,
+        true,
+    ),
+    (
+        &[Scan(1), Scan(2), NestedJoin, Rank(1), Distinct],
+        false,
+        true,
+    ),
     (&[Scan(1), Scan(2), NestedJoin], false, false),
     (&[Scan(1), Rank(1)], false, false),
     (&[Scan(1), Scan(2), Rank(1), NestedJoin], false, false),
-    (&[Scan(1), Scan(2), NestedJoin, Rank(1), Rank(1)], false, false),
+    (
+        &[Scan(1), Scan(2), NestedJoin, Rank(1), Rank(1)],
+        false,
+        false,
+    ),
     (&[Scan(1), Scan(2), HashJoin, Rank(1)], false, false),
     (&[RankScan(1, 1, 0), Scan(2), NestedJoin], false, false),
-    (&[Scan(1), Scan(2), NestedJoin, Scan(1), NestedJoin, Rank(1)], false, false),
-    (&[Scan(1), Scan(2), NestedJoin, Rank(1), Scan(1), SetOperator], false, false),
+    (
+        &[Scan(1), Scan(2), NestedJoin, Scan(1), NestedJoin, Rank(1)],
+        false,
+        false,
+    ),
+    (
+        &[Scan(1), Scan(2), NestedJoin, Rank(1), Scan(1), SetOperator],
+        false,
+        false,
+    ),
     (&[Scan(0), Scan(9), NestedJoin, Rank(1)], false, false),
-    (&[Scan(1), Scan(2), NestedJoin, Rank(0), Rank(9)], false, false),
+    (
+        &[Scan(1), Scan(2), NestedJoin, Rank(0), Rank(9)],
+        false,
+        false,
+    ),
 ];
 
 /// Asserts of a tree whether it is a plan of the query, with DISTINCT or without.
@@ -115,7 +139,10 @@ fn orders_plans_by_their_codes(rt: HostRuntime) -> Result<(), Fail> {
 
 #[test]
 fn names_entries_and_terms(rt: HostRuntime) -> Result<(), Fail> {
-    let plan = tree(rt.alloc(), &[Scan(3), RankScan(1, 4, 0), NestedJoin, Rank(2)])?;
+    let plan = tree(
+        rt.alloc(),
+        &[Scan(3), RankScan(1, 4, 0), NestedJoin, Rank(2)],
+    )?;
     assert!(rt; plan.has_numbers());
     let signature = Signature {
         entries: 0b101,

@@ -45,7 +45,8 @@ fn table(alloc: Global) -> Result<Table, Fail> {
 /// Adds the predicate.
 fn add_predicate(rt: &impl Abort, alloc: Global, catalog: &mut Catalog) -> Result<(), Fail>
     requires { catalog.old.predicates ≡ [] }
-    ensures { IfOk result (λ _. HasPredicate catalog.new) }
+    ensures predicate { IfOk result (λ _. HasPredicate catalog.new) }
+    ensures tables { IfOk result (λ _. catalog.new.tables ≡ catalog.old.tables) }
 {
     let predicate = predicate(alloc)?;
     assert!(rt; catalog.room(What::Predicate, predicate.name()) == Ok(()));
@@ -154,7 +155,12 @@ fn assert_pair(rt: &impl Abort, catalog: &Catalog, block: &Block)
 }
 
 /// The query.
-pub(crate) fn query(rt: &impl Abort, alloc: Global, catalog: &Catalog, distinct: bool) -> Result<Query, Fail>
+pub(crate) fn query(
+    rt: &impl Abort,
+    alloc: Global,
+    catalog: &Catalog,
+    distinct: bool,
+) -> Result<Query, Fail>
     requires tables { length catalog.now.tables ≡ 1 }
     requires predicate { HasPredicate catalog.now }
     ensures { IfOk result (IsQuery catalog.now) }
