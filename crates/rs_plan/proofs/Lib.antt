@@ -1,3 +1,7 @@
+pub mod CodeFacts
+pub mod DecidingFacts
+pub mod LawFacts
 pub mod WorkedJoins
+pub mod WorkedPlans
 pub mod WorkedRanks
 pub mod WorkedSets

@@ -9,7 +9,6 @@ use Rattle.rs_order.specs.Schedule.{Left, Right, SideAsk}
 use Rattle.rs_rank.specs.declared.row.RankRow.{RankRow}
 use Rattle.rs_expr.specs.Formulas.{Argument, Numbers}
 use Rattle.rs_expr.specs.Meaning.{value_of}
-use Rattle.rs_expr.specs.Predicates.{PredicateDef}
 use Rattle.rs_catalog.specs.Catalogue.{Catalogue, NamedTable}
 use Rattle.rs_catalog.specs.declared.index.BoundArg.TheVariants as arg
 use Rattle.rs_query.specs.declared.query.Query.TheVariants.{One}

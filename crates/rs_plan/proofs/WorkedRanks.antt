@@ -1,6 +1,6 @@
 -- Rank operators over one table: lists, asks and calls of plans, computed on literals and worked by hand.
 use Rattle.std.proofs.Common.{◌≡◌, ℕ, false, List, [], ◌∷◌, map, refl}
-use Rattle.std.specs.Prelude.{pos, Option, Some, None, codes}
+use Rattle.std.specs.Prelude.{pos, None, codes}
 use Rattle.rs_value.specs.declared.kind.Kind.TheVariants as kind
 use Rattle.rs_value.specs.declared.value.Value.{Value}
 use Rattle.rs_value.specs.declared.value.Value.TheVariants as value

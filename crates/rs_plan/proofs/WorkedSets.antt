@@ -8,10 +8,10 @@ use Rattle.rs_order.specs.Schedule.{Left, Right, SideAsk}
 use Rattle.rs_rank.specs.declared.row.RankRow.{RankRow}
 use Rattle.rs_expr.specs.Formulas.{Argument, Quotient}
 use Rattle.rs_expr.specs.Meaning.{value_of}
-use Rattle.rs_catalog.specs.Catalogue.{Catalogue, NamedTable}
+use Rattle.rs_catalog.specs.Catalogue.{NamedTable}
 use Rattle.rs_catalog.specs.declared.index.BoundArg.TheVariants as arg
 use Rattle.rs_syntax.specs.declared.select.SetOp.{SetOp}
-use Rattle.rs_syntax.specs.declared.select.SetOp.TheVariants.{Except, Intersect, Union, UnionAll}
+use Rattle.rs_syntax.specs.declared.select.SetOp.TheVariants.{Except, Intersect, Union}
 use Rattle.rs_query.specs.declared.block.Block.{Block}
 use Rattle.rs_query.specs.declared.query.Query.TheVariants.{Set}
 use Rattle.rs_plan.specs.Asks.{child_asks}

@@ -1,15 +1,13 @@
 -- How often a node of a plan asks its children, and in which order, once it was asked so often itself. Nothing is said here of
 -- how it finds that out: all is said over the finished lists.
-use Rattle.std.specs.Prelude.{ℕ, zero, suc, ◌-◌, ◌==◌, max, nat_le, List, [], ◌∷◌, ◌++◌, length, map, take, Option, Some, None, if◌then◌else◌}
+use Rattle.std.specs.Prelude.{ℕ, zero, suc, ◌-◌, max, nat_le, List, [], ◌∷◌, ◌++◌, length, map, Option}
 use Rattle.std.specs.List.{filter}
 use Rattle.rs_order.specs.Asks.{asks_for, tau}
-use Rattle.rs_order.specs.Last.{last_of}
 use Rattle.rs_order.specs.Schedule.{JoinSide, Left, Right, SideAsk, numbers_from, schedule}
 use Rattle.rs_rank.specs.Keys.{key_cmp}
 use Rattle.rs_rank.specs.Merging.{merge_key}
 use Rattle.rs_rank.specs.Turns.{join_schedule}
 use Rattle.rs_rank.specs.declared.key.Key.{Key}
-use Rattle.rs_rank.specs.declared.row.RankRow.{RankRow}
 use Rattle.rs_syntax.specs.declared.select.SetOp.{SetOp}
 use Rattle.rs_syntax.specs.declared.select.SetOp.TheVariants.{Except, Intersect, Union, UnionAll}
 use Rattle.rs_query.specs.declared.query.Query.{Query}

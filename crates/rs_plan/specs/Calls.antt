@@ -1,7 +1,7 @@
 -- The calls of the scorer that a node of a plan makes, with those of all nodes below it, once it was asked so often.
-use Rattle.std.specs.Prelude.{ℕ, zero, suc, ◌-◌, List, [], ◌∷◌, ◌++◌, length, map, drop, Option, Some, None, slice_get}
+use Rattle.std.specs.Prelude.{ℕ, zero, suc, ◌-◌, List, [], ◌∷◌, ◌++◌, length, drop, Option, Some, None, slice_get}
 use Rattle.std.specs.List.{flat_map}
-use Rattle.rs_order.specs.Schedule.{JoinSide, Left, Right, SideAsk}
+use Rattle.rs_order.specs.Schedule.{Left, Right, SideAsk}
 use Rattle.rs_expr.specs.Scoring.{call_of}
 use Rattle.rs_expr.specs.declared.scorer.Call.{Call}
 use Rattle.rs_rank.specs.declared.ids.Ids.{Ids}

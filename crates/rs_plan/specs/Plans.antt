@@ -1,6 +1,5 @@
 -- Which trees are plans of a query.
-use Rattle.std.specs.Prelude.{ℕ, ◌≡◌, ◌≤◌, ◌<◌, ◌-◌, ◌⊎◌, Bool, true, false, List, [], ◌∷◌, length, Option, Some, None, bit_and, slice_get}
-use Rattle.std.specs.List.{filter}
+use Rattle.std.specs.Prelude.{ℕ, ◌≡◌, ◌≤◌, ◌-◌, ◌⊎◌, true, false, List, length, Some, slice_get}
 use Rattle.rs_catalog.specs.Catalogue.{Catalogue}
 use Rattle.rs_catalog.specs.Indexes.{index_of}
 use Rattle.rs_rank.specs.Masks.{AreDisjoint, has_number, mask_of}

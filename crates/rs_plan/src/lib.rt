@@ -1,4 +1,15 @@
-//! Plans of queries: which trees are plans, the list of rows that each node gives, how often and in which order it asks
-//! its children, and which calls of the scorer that makes. The definitions stand in `specs/`, and are computed on worked
-//! cases in `proofs/`. No code stands on them yet.
+//! Plans of queries: which trees are plans, what they range over and evaluate, and the order of their codes. The list of rows
+//! that each node gives, how often and in which order it asks its children, and which calls of the scorer that makes, are
+//! defined in `specs/` and computed on worked cases in `proofs/`; no code stands on these yet.
 #![tactic(auto)]
+
+mod code;
+mod laws;
+mod numbers;
+mod plan;
+mod signature;
+mod valid;
+
+pub use laws::{code_order_is_total, different_plans_have_different_codes, plans_have_numbers};
+pub use plan::Plan;
+pub use signature::Signature;

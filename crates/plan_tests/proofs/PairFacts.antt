@@ -1,0 +1,49 @@
+-- The block that the tests build is well-formed.
+use Rattle.std.proofs.Common.{◌≡◌, true, [], ◌∷◌, Option, Some, None, length, refl, subst, sym, arith}
+use Rattle.std.specs.List.{AllByRecursion}
+use Rattle.std.proofs.lemmas.Bool.{false≢true}
+use Rattle.rs_value.specs.declared.kind.Kind.{Kind}
+use Rattle.rs_value.specs.declared.kind.Kind.TheVariants as kind
+use Rattle.rs_expr.specs.Formulas.{Argument}
+use Rattle.rs_expr.specs.Uses.{is_kind}
+use Rattle.rs_catalog.specs.Catalogue.{Catalogue}
+use Rattle.rs_catalog.specs.declared.index.BoundArg.TheVariants as arg
+use Rattle.rs_query.specs.declared.block.Block.{Block}
+use Rattle.rs_query.specs.WellFormed.{IsBlock, IsColumn, IsConjunct, IsEntry, IsTerm, kind_of}
+use Rattle.plan_tests.specs.Pair.{HasPredicate, IsPair}
+
+a_number : (found : Option Kind) → is_kind kind.Int found ≡ true → found ≡ Some kind.Int
+a_number (Some kind.Int) is = refl
+a_number (Some kind.Text) is = absurd (false≢true is)
+a_number None is = absurd (false≢true is)
+
+is_term : (catalogue : Catalogue) (block : Block) → HasPredicate catalogue → IsColumn catalogue block (1, 0) → kind_of catalogue block (1, 0) ≡ Some kind.Int
+    → IsTerm catalogue block (record { weight = 1; predicate = 0; args = arg.Column 1 0 ∷ []; max = 10; entries = 1 })
+is_term catalogue block has column number = record {
+  predicate = record { name = has.name; params = kind.Int ∷ []; max = 10; cost = 1; formula = Argument 0 };
+  has_predicate = rw has.predicates refl;
+  args = ((column, number), tt);
+  some_column = omega arith;
+  entries = refl;
+  some_weight = omega arith;
+  most_weight = omega arith;
+  max = refl;
+}
+
+pub IsBlock-pair : (catalogue : Catalogue) (block : Block) → length catalogue.tables ≡ 1 → HasPredicate catalogue → IsPair block
+    → is_kind kind.Int (kind_of catalogue block (1, 0)) ≡ true → IsBlock catalogue block
+IsBlock-pair catalogue block one has pair number =
+    let is_number : kind_of catalogue block (1, 0) ≡ Some kind.Int = a_number (kind_of catalogue block (1, 0)) number in
+    let from : length block.from ≡ 2 = rw pair.entries.are refl in
+    let column : IsColumn catalogue block (1, 0) = (omega arith, omega arith, (kind.Int, is_number)) in
+    record {
+      some_entries = omega arith;
+      most_entries = omega arith;
+      entries = subst (AllByRecursion (IsEntry catalogue)) (sym pair.entries.are) (omega arith, (omega arith, tt));
+      most_conjuncts = rw pair.conjuncts (omega arith);
+      conjuncts = subst (AllByRecursion (IsConjunct catalogue block)) (sym pair.conjuncts) tt;
+      most_items = rw pair.items (omega arith);
+      items = subst (AllByRecursion (IsColumn catalogue block)) (sym pair.items) (column, tt);
+      most_terms = rw pair.terms (omega arith);
+      terms = subst (AllByRecursion (IsTerm catalogue block)) (sym pair.terms) (is_term catalogue block has column is_number, tt);
+    }

@@ -1,0 +1,8 @@
+use Rattle.std.proofs.Common.{◌≡◌, ◌∙◌, true, rules, sym}
+use Rattle.plan_tests.proofs.PairFacts.{IsBlock-pair}
+use Rattle.plan_tests.proofs.query.assert_pair.Goals as goal
+
+pub returns : goal.returns
+returns g c =
+    let number : c.is_number.result ≡ true = search rules in
+    IsBlock-pair c.args.catalog.now c.args.block.now c.requires.tables c.requires.predicate c.requires.pair (sym c.is_number.ensures ∙ number)

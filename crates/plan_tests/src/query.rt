@@ -1,0 +1,171 @@
+//! A query of two entries of one table: SELECT a.k FROM t a, t b ORDER BY p(a.k), with DISTINCT or without.
+
+ghost use Rattle.std.specs.Prelude.{◌≡◌, ◌≤◌, ◌+◌, ◌∷◌, [], IfOk, length, slice_get, true};
+ghost use Rattle.std.specs.List.{AllByRecursion};
+ghost use Rattle.rs_value.specs.declared.kind.Kind.TheVariants as kind;
+ghost use Rattle.rs_expr.specs.Formulas.{Argument};
+ghost use Rattle.rs_expr.specs.Uses.{is_kind};
+ghost use Rattle.rs_catalog.specs.declared.index.BoundArg.TheVariants as arg;
+ghost use Rattle.rs_query.specs.WellFormed.{IsBlock, IsEntry, IsQuery, kind_of};
+ghost use Rattle.plan_tests.specs.Pair.{ArePair, HasPredicate, IsPair};
+
+use rs_catalog::{BoundArg, Catalog, What};
+use rs_expr::{Expr, Predicate};
+use rs_query::{Block, Query, Term};
+use rs_table::{Schema, Table};
+use rs_value::{Kind, List, Text};
+use std::alloc::Global;
+use std::process::Abort;
+use std::test::Fail;
+
+fn text(alloc: Global, chars: &str) -> Result<Text, Fail> {
+    Ok(Text::from_bytes(alloc, chars.as_bytes())?)
+}
+
+/// The predicate p of a number, which is its score.
+fn predicate(alloc: Global) -> Result<Predicate, Fail>
+    ensures { IfOk result (λ p. p ≡ record { name = p.name; params = kind.Int ∷ []; max = 10; cost = 1; formula = Argument 0 }) }
+{
+    let params = List::of(vec![in alloc; Kind::Int]?);
+    match text(alloc, "p") {
+        Ok(name) => Ok(Predicate::new(name, params, 10, 1, Expr::Arg(0))),
+        Err(fail) => {
+            drop(params);
+            Err(fail)
+        }
+    }
+}
+
+/// The table of a column of numbers, k.
+fn table(alloc: Global) -> Result<Table, Fail> {
+    let columns = vec![in alloc; (text(alloc, "k")?, Kind::Int)]?;
+    Ok(Table::read(alloc, Schema::make(columns), b"k\n4\n7\n")?)
+}
+
+/// Adds the predicate.
+fn add_predicate(rt: &impl Abort, alloc: Global, catalog: &mut Catalog) -> Result<(), Fail>
+    requires { catalog.old.predicates ≡ [] }
+    ensures predicate { IfOk result (λ _. HasPredicate catalog.new) }
+    ensures tables { IfOk result (λ _. catalog.new.tables ≡ catalog.old.tables) }
+{
+    let predicate = predicate(alloc)?;
+    assert!(rt; catalog.room(What::Predicate, predicate.name()) == Ok(()));
+    Ok(catalog.add_predicate(predicate)?)
+}
+
+/// Adds the table.
+fn add_table(rt: &impl Abort, alloc: Global, catalog: &mut Catalog) -> Result<(), Fail>
+    ensures tables { IfOk result (λ _. length catalog.new.tables ≡ length catalog.old.tables + 1) }
+    ensures predicates { IfOk result (λ _. catalog.new.predicates ≡ catalog.old.predicates) }
+{
+    let table = table(alloc)?;
+    let name = match text(alloc, "t") {
+        Ok(name) => name,
+        Err(fail) => {
+            drop(table);
+            return Err(fail);
+        }
+    };
+    assert!(rt; catalog.room(What::Table, &name) == Ok(()));
+    Ok(catalog.add_table(name, table)?)
+}
+
+/// The table and the predicate.
+pub(crate) fn catalogue(rt: &impl Abort, alloc: Global) -> Result<Catalog, Fail>
+    ensures tables { IfOk result (λ catalog. length catalog.tables ≡ 1) }
+    ensures predicate { IfOk result HasPredicate }
+{
+    let mut catalog = Catalog::new(alloc);
+    add_predicate(rt, alloc, &mut catalog)?;
+    add_table(rt, alloc, &mut catalog)?;
+    Ok(catalog)
+}
+
+/// Both entries.
+fn from(alloc: Global) -> Result<Vec<(u8, Text)>, Fail>
+    ensures { IfOk result (λ from. ArePair from.items) }
+{
+    let left = text(alloc, "a")?;
+    match text(alloc, "b") {
+        Ok(right) => Ok(vec![in alloc; (0, left), (0, right)]?),
+        Err(fail) => {
+            drop(left);
+            Err(fail)
+        }
+    }
+}
+
+/// The term.
+fn terms(alloc: Global) -> Result<Vec<Term>, Fail>
+    ensures { IfOk result (λ terms. terms.items ≡ record {
+      weight = 1;
+      predicate = 0;
+      args = arg.Column 1 0 ∷ [];
+      max = 10;
+      entries = 1;
+    } ∷ []) }
+{
+    let term = Term {
+        weight: 1,
+        predicate: 0,
+        args: List::of(vec![in alloc; BoundArg::Column(1, 0)]?),
+        max: 10,
+        entries: 1,
+    };
+    Ok(vec![in alloc; term]?)
+}
+
+/// The block.
+fn pair(alloc: Global, distinct: bool) -> Result<Block, Fail>
+    ensures { IfOk result IsPair }
+{
+    let items = vec![in alloc; (1, 0)]?;
+    let from = from(alloc)?;
+    let terms = terms(alloc)?;
+    Ok(Block {
+        from: List::of(from),
+        conjuncts: List::of(Vec::new(alloc)),
+        items: List::of(items),
+        terms: List::of(terms),
+        distinct,
+    })
+}
+
+/// Whether the first column of entry 1 is one of numbers.
+fn is_number(catalog: &Catalog, block: &Block) -> bool
+    requires entries { AllByRecursion (IsEntry catalog.now) block.now.from }
+    requires some { 1 ≤ length block.now.from }
+    ensures { result ≡ is_kind kind.Int (kind_of catalog.now block.now (1, 0)) }
+{
+    let (table, _) = &block.from.items()[0];
+    match catalog.table(*table).schema().columns().first() {
+        Some((_, kind)) => *kind == Kind::Int,
+        None => false,
+    }
+}
+
+/// Asserts that the block is well-formed.
+fn assert_pair(rt: &impl Abort, catalog: &Catalog, block: &Block)
+    requires tables { length catalog.now.tables ≡ 1 }
+    requires predicate { HasPredicate catalog.now }
+    requires pair { IsPair block.now }
+    ensures { IsBlock catalog.now block.now }
+{
+    assert!(rt; is_number(catalog, block));
+}
+
+/// The query.
+pub(crate) fn query(
+    rt: &impl Abort,
+    alloc: Global,
+    catalog: &Catalog,
+    distinct: bool,
+) -> Result<Query, Fail>
+    requires tables { length catalog.now.tables ≡ 1 }
+    requires predicate { HasPredicate catalog.now }
+    ensures { IfOk result (IsQuery catalog.now) }
+{
+    let block = pair(alloc, distinct)?;
+    assert_pair(rt, catalog, &block);
+    Ok(Query::One(block, None))
+}
