@@ -4,7 +4,6 @@ mod WorkedQueries
 mod WorkedTyping
 mod WorkedWritten
 pub mod ArgFacts
-pub mod ArgumentFacts
 pub mod ColumnFacts
 pub mod ConjunctFacts
 pub mod EachFacts
@@ -20,7 +19,6 @@ pub mod InOrderFacts
 pub mod IndexFacts
 pub mod MaskFacts
 pub mod NameFacts
-pub mod NumberingFacts
 pub mod OutputFacts
 pub mod PlaceFacts
 pub mod ResultFacts
@@ -34,3 +32,7 @@ pub mod TypingFacts
 pub mod UnrankedFacts
 pub mod UsesFacts
 pub mod WrittenFacts
+pub mod PartFacts
+pub mod ReferenceFacts
+pub mod RetypingFacts
+pub mod WhereFacts

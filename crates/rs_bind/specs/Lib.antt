@@ -15,3 +15,4 @@ pub mod ArgumentRules
 pub mod BlockRules
 pub mod QueryRules
 pub mod StatementRules
+pub mod Where
