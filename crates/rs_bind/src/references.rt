@@ -22,6 +22,7 @@ pub fn named_columns(alloc: Global, sources: &Sources, node: &Node) -> Result<Ve
 }
 
 /// Adds the columns that an expression names, from left to right, unless they are there.
+#[tactic(auto, using(crate::proofs::ReferenceFacts::with_references_append))]
 fn add_columns(sources: &Sources, node: &Node, columns: &mut Vec<(u8, u8)>) -> Result<(), Memory>
     ensures { OnOk result (columns.new.items
         ≡ with_references (sources_of sources.now.catalog.now sources.now.from.now) columns.old.items (references_of (expression_of node.now))) }
