@@ -1,9 +1,10 @@
 -- A block without its terms is typed, and refused, by its rules.
 use Rattle.std.proofs.Common.{ℕ, zero, suc, ◌≡◌, ◌≢◌, ◌≤◌, ◌<◌, ◌==◌, Bool, true, false, ◌||◌, List, [], ◌∷◌, length, map, refl, sym, subst, ap, ◌∙◌, inl, inr, arith}
-use Rattle.std.specs.Prelude.{◌⊎◌, ◌-◌, nat_le, Option, Some, None, option_map, Result, Ok, Err, slice_get, if◌then◌else◌}
+use Rattle.std.specs.Prelude.{◌⊎◌, ◌-◌, pos, nat_le, Option, Some, None, option_map, Result, Ok, Err, slice_get, if◌then◌else◌}
 use Rattle.std.specs.List.{list_any}
 use Rattle.std.specs.Str.{bytes_eq}
 use Rattle.std.proofs.lemmas.Bool.Decides.{nat_tests}
+use Rattle.rs_value.specs.declared.value.Value.TheVariants as value
 use Rattle.rs_lex.specs.declared.token.Span.{Span}
 use Rattle.rs_syntax.specs.declared.name.ColRef.{ColRef}
 use Rattle.rs_syntax.specs.declared.select.Items.{Items}
@@ -15,19 +16,22 @@ use Rattle.rs_expr.specs.Formulas.{Condition}
 use Rattle.rs_catalog.specs.Catalogue.{Catalogue, number_of}
 use Rattle.rs_catalog.specs.declared.room.What.TheVariants as what
 use Rattle.rs_query.specs.Conjuncts.{ConjunctDef}
+use Rattle.rs_query.specs.WellFormed.{entries_of as entries_of_columns, equality_of}
 use Rattle.rs_bind.specs.declared.fault.BindFault.{BindFault}
 use Rattle.rs_bind.specs.declared.fault.BindFault.TheVariants.{At}
 use Rattle.rs_bind.specs.declared.fault.Why.TheVariants.{LimitOf, NameTwice, NoTable, WrongKind}
-use Rattle.rs_bind.specs.BlockRules.{Entry, FromEntry, IsNoTruth, RefusedBlock, RefusedEntry, RefusedFilter, RefusedItem, RefusedItems, TypesBlock, TypesEntry, TypesFilter, TypesItem, TypesItems}
+use Rattle.rs_bind.specs.BlockRules.{Entry, FromEntry, IsNoTruth, RefusedBlock, RefusedEntry, RefusedFilter, RefusedItem, RefusedItems, TypesBlock, TypesConjunct, TypesEntry, TypesFilter, TypesItem, TypesItems}
 use Rattle.rs_bind.specs.BlockRules.{too_many, no_table, twice, no_filter, condition, in_condition, no_truth, no_column, star, listed, in_list, in_from, in_filter, in_items}
-use Rattle.rs_bind.specs.Conditions.{column_scope, conditions_of, conjunct_of, few_parts, filter_of, parts_of}
+use Rattle.rs_bind.specs.Conditions.{condition_over, conjunct_in, conjunct_of, conjuncts_of, few_parts, filter_of, named_columns, own_places, parts_of}
 use Rattle.rs_bind.specs.InOrder.{Each, FirstRefused}
+use Rattle.rs_bind.specs.InOrder as in_order
 use Rattle.rs_bind.specs.Names.{or_fault}
 use Rattle.rs_bind.specs.Queries.{Unranked, unranked_of}
 use Rattle.rs_bind.specs.Rules.{Types}
 use Rattle.rs_bind.specs.Sources.{Found, Source, alias_of, all_columns_from, column_in, entries_behind, entries_of, items_behind, items_of, sources_of}
 use Rattle.rs_bind.specs.Typing.{Scope, Typed, Number, Words, Truth, span_of, span_of_column, truth_of, type_of}
 use Rattle.rs_bind.proofs.FilterFacts.{few_parts-fit, few_parts-full, one_too_many}
+use Rattle.rs_bind.proofs.PartFacts.{HaveConjuncts-typed}
 use Rattle.rs_bind.proofs.InOrderFacts.{Each-steps, FirstRefused-steps, Follows, steps, steps-Each, steps-FirstRefused}
 use Rattle.rs_bind.proofs.ResultFacts.{Ok-else, same_Ok, well}
 use Rattle.rs_bind.proofs.RuleFacts.{refused_by_rules, typed_by_rules}
@@ -182,66 +186,115 @@ few-fit parts h = few_parts-fit parts (32 - length parts) (omega arith)
 few-full : (parts : List Expression) (part : Expression) → slice_get parts 32 ≡ Some part → few_parts parts ≡ Err (At LimitOf (span_of part))
 few-full parts part h = few_parts-full parts (At LimitOf (span_of part)) (ap (option_map one_too_many) h)
 
-module _ (scope : Scope) where
-  abbrev condition_of : Expression → Result Condition BindFault
-  condition_of x = type_of scope x >>= truth_of (span_of x)
-
-  abbrev behind_condition : Expression → Condition → Result (List ConjunctDef) BindFault
-  behind_condition x c = few_parts (parts_of x) >>= λ few. well (map conjunct_of (conditions_of c))
-
-  condition-typed : (x : Expression) (c : Condition) → condition_of x ≡ Ok c → Types scope x (Truth c)
+module _ (sources : List Source) where
+  condition-typed : (x : Expression) (c : Condition) → condition_over (named_columns sources x) sources x ≡ Ok c → Types (own_places sources x) x (Truth c)
   condition-typed x c h =
-      let steps_of = Ok-steps (type_of scope x) (truth_of (span_of x)) c h in
-      (typed_by_rules scope x (Truth c)).0 (steps_of.1 ∙ ap (λ t. Ok t) (truth-is (span_of x) steps_of.0 c steps_of.2))
+      let steps_of = Ok-steps (type_of (own_places sources x) x) (truth_of (span_of x)) c h in
+      (typed_by_rules (own_places sources x) x (Truth c)).0 (steps_of.1 ∙ ap (λ t. Ok t) (truth-is (span_of x) steps_of.0 c steps_of.2))
 
-  condition-is : (x : Expression) (c : Condition) → Types scope x (Truth c) → condition_of x ≡ Ok c
-  condition-is x c h = ap (λ r. r >>= truth_of (span_of x)) ((typed_by_rules scope x (Truth c)).1 h)
+  condition-is : (x : Expression) (c : Condition) → Types (own_places sources x) x (Truth c) → condition_over (named_columns sources x) sources x ≡ Ok c
+  condition-is x c h = ap (λ r. r >>= truth_of (span_of x)) ((typed_by_rules (own_places sources x) x (Truth c)).1 h)
 
-  pub filter-typed : (filter : Option Expression) (made : List ConjunctDef) → filter_of scope filter ≡ Ok made → TypesFilter scope filter made
-  filter-typed None made h = let same : [] ≡ made = cc in subst (TypesFilter scope None) same no_filter
+  -- a condition as a conjunct
+  abbrev as_conjunct : Expression → Condition → Result ConjunctDef BindFault
+  as_conjunct x c = well (conjunct_of (named_columns sources x) c)
+
+  conjunct-typed : (x : Expression) (made : ConjunctDef) → conjunct_in sources x ≡ Ok made → TypesConjunct sources x made
+  conjunct-typed x made h =
+      let steps_of = Ok-steps (condition_over (named_columns sources x) sources x) (as_conjunct x) made h in
+      let same = same_Ok (conjunct_of (named_columns sources x) steps_of.0) made steps_of.2 in
+      subst (TypesConjunct sources x) same
+      (record { condition = condition-typed x steps_of.0 steps_of.1; columns = refl; entries = refl; equality = refl })
+
+  conjunct-whole : (x : Expression) (c : Condition) → Types (own_places sources x) x (Truth c)
+      → conjunct_in sources x ≡ Ok (conjunct_of (named_columns sources x) c)
+  conjunct-whole x c typed = ap (λ r. r >>= as_conjunct x) (condition-is x c typed)
+
+  conjunct-is : (x : Expression) (made : ConjunctDef) → TypesConjunct sources x made → conjunct_in sources x ≡ Ok made
+  conjunct-is x made t =
+      let columns : named_columns sources x ≡ made.columns = sym t.columns in
+      let entries : entries_of_columns (named_columns sources x) ≡ made.entries = ap entries_of_columns columns ∙ sym t.entries in
+      let equality : equality_of made.condition (named_columns sources x) ≡ made.equality = ap (equality_of made.condition) columns ∙ sym t.equality in
+      conjunct-whole x made.condition t.condition
+      ∙ λ i. well (record { condition = made.condition; columns = columns i; entries = entries i; equality = equality i })
+
+  conjuncts-typed : (before : List ConjunctDef) (xs : List Expression) (made : List ConjunctDef) → conjuncts_of sources xs ≡ Ok made
+      → Each (λ before. TypesConjunct sources) before xs made
+  conjuncts-typed before [] made h =
+      let same = same_Ok {A = List ConjunctDef} [] made h in
+      subst (Each (λ before. TypesConjunct sources) before []) same (in_order.none before)
+  conjuncts-typed before (x ∷ xs) made h =
+      let first = Ok-steps (conjunct_in sources x) (λ one. conjuncts_of sources xs >>= λ rest. well (one ∷ rest)) made h in
+      let rest = Ok-steps (conjuncts_of sources xs) (λ more. well (first.0 ∷ more)) made first.2 in
+      let same = same_Ok (first.0 ∷ rest.0) made rest.2 in
+      subst (Each (λ before. TypesConjunct sources) before (x ∷ xs)) same
+      (in_order.and before x xs first.0 rest.0 (conjunct-typed x first.0 first.1) (conjuncts-typed (first.0 ∷ before) xs rest.0 rest.1))
+
+  pub conjuncts-are : {before : List ConjunctDef} {xs : List Expression} {made : List ConjunctDef} → Each (λ before. TypesConjunct sources) before xs made
+      → conjuncts_of sources xs ≡ Ok made
+  conjuncts-are (in_order.none before) = refl
+  conjuncts-are (in_order.and before x xs made more is each) =
+      ap (λ r. r >>= λ one. conjuncts_of sources xs >>= λ rest. well (one ∷ rest)) (conjunct-is x made is)
+      ∙ ap (λ r. r >>= λ rest. well (made ∷ rest)) (conjuncts-are each)
+
+  abbrev behind_whole : Expression → ConjunctDef → Result (List ConjunctDef) BindFault
+  behind_whole x whole = few_parts (parts_of x) >>= λ few. conjuncts_of sources (parts_of x)
+
+  abbrev behind_count : Expression → Result (Unit {0}) BindFault → Result (List ConjunctDef) BindFault
+  behind_count x few = few >>= λ passed. conjuncts_of sources (parts_of x)
+
+  pub filter-typed : (filter : Option Expression) (made : List ConjunctDef) → filter_of sources filter ≡ Ok made → TypesFilter sources filter made
+  filter-typed None made h = let same : [] ≡ made = cc in subst (TypesFilter sources None) same no_filter
   filter-typed (Some x) made h =
-      let first = Ok-steps (condition_of x) (behind_condition x) made h in
-      let second = Ok-steps (few_parts (parts_of x)) (λ few. well (map conjunct_of (conditions_of first.0))) made first.2 in
-      let same = same_Ok (map conjunct_of (conditions_of first.0)) made second.2 in
+      let first = Ok-steps (conjunct_in sources x) (behind_whole x) made h in
+      let second = Ok-steps (few_parts (parts_of x)) (λ few. conjuncts_of sources (parts_of x)) made first.2 in
+      let whole = conjunct-typed x first.0 first.1 in
       elim (short-or-more 32 (parts_of x)) [
-        | inl short ↦ subst (TypesFilter scope (Some x)) same (condition x first.0 (condition-typed x first.0 first.1) short)
-        | inr more ↦ (let full = few-full (parts_of x) more.0 more.1 in cc)
+        | inl short ↦ condition x first.0.condition made whole.condition short (conjuncts-typed [] (parts_of x) made second.2)
+        | inr more ↦ (let full = few-full (parts_of x) more.0 more.1 in let passed = second.1 in absurd (cc))
       ]
 
-  pub filter-is : (filter : Option Expression) (made : List ConjunctDef) → TypesFilter scope filter made → filter_of scope filter ≡ Ok made
+  pub filter-is : (filter : Option Expression) (made : List ConjunctDef) → TypesFilter sources filter made → filter_of sources filter ≡ Ok made
   filter-is filter made no_filter = refl
-  filter-is filter made (condition x c typed few) =
-      ap (λ r. r >>= behind_condition x) (condition-is x c typed)
-      ∙ ap (λ r. r >>= λ f. well (map conjunct_of (conditions_of c))) (few-fit (parts_of x) few)
+  filter-is filter made (condition x c conjuncts typed few each) =
+      ap (λ r. r >>= behind_whole x) (conjunct-whole x c typed)
+      ∙ (ap (behind_count x) (few-fit (parts_of x) few) ∙ conjuncts-are each)
 
-  pub filter-refused : (filter : Option Expression) (fault : BindFault) → filter_of scope filter ≡ Err fault → RefusedFilter scope filter fault
+  pub filter-refused : (filter : Option Expression) (fault : BindFault) → filter_of sources filter ≡ Err fault → RefusedFilter sources filter fault
   filter-refused None fault h = cc
   filter-refused (Some x) fault h =
-      elim (Err-steps (condition_of x) (behind_condition x) fault h) [
-        | inl refuses ↦ elim (Err-steps (type_of scope x) (truth_of (span_of x)) fault refuses) [
-          | inl untyped ↦ in_condition x fault ((refused_by_rules scope x fault).0 untyped)
-          | inr typed ↦ (let is = refused-no-truth (span_of x) typed.0 fault typed.2 in
-              subst (RefusedFilter scope (Some x)) is.1 (no_truth x typed.0 ((typed_by_rules scope x typed.0).0 typed.1) is.0))
+      elim (Err-steps (conjunct_in sources x) (behind_whole x) fault h) [
+        | inl refuses ↦ elim (Err-steps (condition_over (named_columns sources x) sources x) (as_conjunct x) fault refuses) [
+          | inl no_condition ↦ elim (Err-steps (type_of (own_places sources x) x) (truth_of (span_of x)) fault no_condition) [
+            | inl untyped ↦ in_condition x fault ((refused_by_rules (own_places sources x) x fault).0 untyped)
+            | inr typed ↦ (let is = refused-no-truth (span_of x) typed.0 fault typed.2 in
+                subst (RefusedFilter sources (Some x)) is.1 (no_truth x typed.0 ((typed_by_rules (own_places sources x) x typed.0).0 typed.1) is.0))
+          ]
+          | inr made ↦ (let well_made = made.2 in absurd (cc))
         ]
-        | inr first ↦ elim (short-or-more 32 (parts_of x)) [
-          | inl short ↦ (let fits = few-fit (parts_of x) short in
-              let well_made = ap (λ r. r >>= λ f. well (map conjunct_of (conditions_of first.0))) fits in cc)
-          | inr more ↦ (let full = ap (λ r. r >>= λ f. well (map conjunct_of (conditions_of first.0))) (few-full (parts_of x) more.0 more.1) in
-              let same : At LimitOf (span_of more.0) ≡ fault = cc in
-              subst (RefusedFilter scope (Some x)) same
-              (too_many x more.0 first.0 (condition-typed x first.0 first.1) more.1))
-        ]
+        | inr first ↦ (let whole = conjunct-typed x first.0 first.1 in
+            let typed = (typed_by_rules (own_places sources x) x (Truth first.0.condition)).1 whole.condition in
+            elim (short-or-more 32 (parts_of x)) [
+              | inl short ↦ (let fits = ap (behind_count x) (few-fit (parts_of x) short) in
+                  let are = (HaveConjuncts-typed sources (λ column. value.Int (pos 0)) (named_columns sources x) x first.0.condition typed).are in
+                  let refuses = first.2 in
+                  absurd (cc))
+              | inr more ↦ (let full = ap (behind_count x) (few-full (parts_of x) more.0 more.1) in
+                  let refuses = first.2 in
+                  let same : At LimitOf (span_of more.0) ≡ fault = cc in
+                  subst (RefusedFilter sources (Some x)) same (too_many x more.0 first.0.condition whole.condition more.1))
+            ])
       ]
 
-  pub filter-is_refused : (filter : Option Expression) (fault : BindFault) → RefusedFilter scope filter fault → filter_of scope filter ≡ Err fault
+  pub filter-is_refused : (filter : Option Expression) (fault : BindFault) → RefusedFilter sources filter fault → filter_of sources filter ≡ Err fault
   filter-is_refused filter fault (in_condition x f refused) =
-      ap (λ r. (r >>= truth_of (span_of x)) >>= behind_condition x) ((refused_by_rules scope x f).1 refused)
+      ap (λ r. ((r >>= truth_of (span_of x)) >>= as_conjunct x) >>= behind_whole x) ((refused_by_rules (own_places sources x) x f).1 refused)
   filter-is_refused filter fault (no_truth x t typed is_none) =
-      ap (λ r. (r >>= truth_of (span_of x)) >>= behind_condition x) ((typed_by_rules scope x t).1 typed)
-      ∙ ap (λ r. r >>= behind_condition x) (no-truth-refused (span_of x) t is_none)
+      ap (λ r. ((r >>= truth_of (span_of x)) >>= as_conjunct x) >>= behind_whole x) ((typed_by_rules (own_places sources x) x t).1 typed)
+      ∙ ap (λ r. (r >>= as_conjunct x) >>= behind_whole x) (no-truth-refused (span_of x) t is_none)
   filter-is_refused filter fault (too_many x part c typed more) =
-      ap (λ r. r >>= behind_condition x) (condition-is x c typed)
-      ∙ ap (λ r. r >>= λ f. well (map conjunct_of (conditions_of c))) (few-full (parts_of x) part more)
+      ap (λ r. r >>= behind_whole x) (conjunct-whole x c typed)
+      ∙ ap (behind_count x) (few-full (parts_of x) part more)
 
 -- the output columns
 module _ (sources : List Source) where
@@ -335,18 +388,18 @@ module _ (catalogue : Catalogue) where
   behind_filter block from conjuncts = items_of (sources_of catalogue from) block.items >>= behind_items from conjuncts block.distinct
 
   abbrev behind_from : syntax.Block → List Entry → Result Unranked BindFault
-  behind_from block from = filter_of (column_scope (sources_of catalogue from)) block.filter >>= behind_filter block from
+  behind_from block from = filter_of (sources_of catalogue from) block.filter >>= behind_filter block from
 
   pub block-typed : (block : syntax.Block) (made : Unranked) → unranked_of catalogue block ≡ Ok made → TypesBlock catalogue block made
   block-typed block made h =
       let first = Ok-steps (entries_of catalogue block.from) (behind_from block) made h in
       let sources = sources_of catalogue first.0 in
-      let second = Ok-steps (filter_of (column_scope sources) block.filter) (behind_filter block first.0) made first.2 in
+      let second = Ok-steps (filter_of sources block.filter) (behind_filter block first.0) made first.2 in
       let third = Ok-steps (items_of sources block.items) (behind_items first.0 second.0 block.distinct) made second.2 in
       let same = same_Ok (record { from = first.0; conjuncts = second.0; items = third.0; distinct = block.distinct }) made third.2 in
       subst (TypesBlock catalogue block) same (record {
         from = from-typed catalogue block.from first.0 first.1;
-        conjuncts = filter-typed (column_scope sources) block.filter second.0 second.1;
+        conjuncts = filter-typed sources block.filter second.0 second.1;
         items = items-typed sources block.items third.0 third.1;
         distinct = refl;
       })
@@ -354,7 +407,7 @@ module _ (catalogue : Catalogue) where
   pub block-is : (block : syntax.Block) (made : Unranked) → TypesBlock catalogue block made → unranked_of catalogue block ≡ Ok made
   block-is block made t =
       ap (λ r. r >>= behind_from block) (from-is catalogue block.from made.from t.from)
-      ∙ (ap (λ r. r >>= behind_filter block made.from) (filter-is (column_scope (sources_of catalogue made.from)) block.filter made.conjuncts t.conjuncts)
+      ∙ (ap (λ r. r >>= behind_filter block made.from) (filter-is (sources_of catalogue made.from) block.filter made.conjuncts t.conjuncts)
       ∙ (ap (λ r. r >>= behind_items made.from made.conjuncts block.distinct) (items-are (sources_of catalogue made.from) block.items made.items t.items)
       ∙ ap (λ distinct. behind_items made.from made.conjuncts distinct made.items) (sym t.distinct)))
 
@@ -362,12 +415,12 @@ module _ (catalogue : Catalogue) where
   block-refused block fault h =
       elim (Err-steps (entries_of catalogue block.from) (behind_from block) fault h) [
         | inl refuses ↦ in_from fault (from-refused catalogue block.from fault refuses)
-        | inr first ↦ elim (Err-steps (filter_of (column_scope (sources_of catalogue first.0)) block.filter) (behind_filter block first.0) fault first.2) [
+        | inr first ↦ elim (Err-steps (filter_of (sources_of catalogue first.0) block.filter) (behind_filter block first.0) fault first.2) [
           | inl refuses ↦ in_filter first.0 fault (from-typed catalogue block.from first.0 first.1)
-              (filter-refused (column_scope (sources_of catalogue first.0)) block.filter fault refuses)
+              (filter-refused (sources_of catalogue first.0) block.filter fault refuses)
           | inr second ↦ elim (Err-steps (items_of (sources_of catalogue first.0) block.items) (behind_items first.0 second.0 block.distinct) fault second.2) [
             | inl refuses ↦ in_items first.0 second.0 fault (from-typed catalogue block.from first.0 first.1)
-                (filter-typed (column_scope (sources_of catalogue first.0)) block.filter second.0 second.1)
+                (filter-typed (sources_of catalogue first.0) block.filter second.0 second.1)
                 (items-refused (sources_of catalogue first.0) block.items fault refuses)
             | inr third ↦ cc
           ]
@@ -379,8 +432,8 @@ module _ (catalogue : Catalogue) where
       ap (λ r. r >>= behind_from block) (from-is_refused catalogue block.from f first)
   block-is_refused block fault (in_filter from f each refused) =
       ap (λ r. r >>= behind_from block) (from-is catalogue block.from from each)
-      ∙ ap (λ r. r >>= behind_filter block from) (filter-is_refused (column_scope (sources_of catalogue from)) block.filter f refused)
+      ∙ ap (λ r. r >>= behind_filter block from) (filter-is_refused (sources_of catalogue from) block.filter f refused)
   block-is_refused block fault (in_items from conjuncts f each typed refused) =
       ap (λ r. r >>= behind_from block) (from-is catalogue block.from from each)
-      ∙ (ap (λ r. r >>= behind_filter block from) (filter-is (column_scope (sources_of catalogue from)) block.filter conjuncts typed)
+      ∙ (ap (λ r. r >>= behind_filter block from) (filter-is (sources_of catalogue from) block.filter conjuncts typed)
       ∙ ap (λ r. r >>= behind_items from conjuncts block.distinct) (items-are_refused (sources_of catalogue from) block.items f refused))

@@ -1,22 +1,19 @@
 -- The parts of a condition, and the steps from an expression to its conjuncts.
-use Rattle.std.proofs.Common.{ℕ, zero, suc, ◌≡◌, ◌<◌, ◌+◌, nat_lt, true, List, [], ◌∷◌, ◌++◌, length, drop, map, All, sym, subst, ap, ◌∙◌, inl, inr, arith, lt-ltb}
-use Rattle.std.specs.Prelude.{Some, Result, Ok, Err, IfOk, option_map, slice_get}
+use Rattle.std.proofs.Common.{ℕ, zero, suc, ◌≡◌, ◌+◌, List, [], ◌∷◌, ◌++◌, length, drop, append_assoc, refl, sym, subst, ap, ◌∙◌, inl, inr, arith}
+use Rattle.std.specs.Prelude.{Some, Result, Ok, Err, option_map, slice_get}
 use Rattle.std.proofs.lemmas.List.{drop_all}
-use Rattle.std.proofs.lemmas.List.Elements.{All-from_recursion}
 use Rattle.rs_value.specs.Answer.{Gives}
-use Rattle.rs_value.specs.declared.kind.Kind.{Kind}
-use Rattle.rs_syntax.specs.declared.name.ColRef.{ColRef}
 use Rattle.rs_syntax.specs.Syntax.{Expression}
 use Rattle.rs_table.specs.Reading.{◌>>=◌}
-use Rattle.rs_expr.specs.Formulas.{Condition}
 use Rattle.rs_query.specs.Conjuncts.{ConjunctDef}
 use Rattle.rs_bind.specs.declared.fault.BindFault.{BindFault}
 use Rattle.rs_bind.specs.declared.fault.BindFault.TheVariants.{At, Memory}
 use Rattle.rs_bind.specs.declared.fault.Why.TheVariants.{LimitOf}
-use Rattle.rs_bind.specs.Conditions.{arguments_of, conditions_of, conjunct_of, conjuncts_in, few_parts, parts_of}
-use Rattle.rs_bind.specs.Typing.{Scope, Truth, span_of, truth_of, type_of}
-use Rattle.rs_bind.proofs.ArgumentFacts.{condition-below}
-use Rattle.rs_bind.proofs.UsesFacts.{type_of-uses}
+use Rattle.rs_bind.specs.Conditions.{conjunct_in, conjuncts_in, conjuncts_of, few_parts, parts_of}
+use Rattle.rs_bind.specs.Sources.{Source}
+use Rattle.rs_bind.specs.Typing.{span_of}
+use Rattle.rs_bind.proofs.PartFacts.{conjuncts_of-append}
+use Rattle.rs_bind.proofs.ResultFacts.{same_Ok, well}
 
 -- a part that is one too many
 abbrev pub one_too_many : Expression → BindFault
@@ -55,22 +52,6 @@ too_many-right [] right rest room fault split e =
 too_many-right (x ∷ left) right rest zero fault split e = absurd (omega arith)
 too_many-right (x ∷ left) right rest (suc room) fault split e = too_many-right left right rest room fault (omega arith) e
 
--- the arguments of a condition are such as the scope finds
-Truth-below : (scope : Scope) (x : Expression) (c : Condition) → ((column : ColRef) → IfOk (scope column) (λ found. found.0 < 384))
-    → type_of scope x ≡ Ok (Truth c) → All (λ number. number < 384) (arguments_of c)
-Truth-below scope x c few e =
-    All-from_recursion (λ number. number < 384) (arguments_of c)
-    (condition-below 384 c (type_of-uses (λ kind number. nat_lt number 384) scope backed x (Truth c) e)) where
-      backed : (column : ColRef) (found : ℕ × Kind) → scope column ≡ Ok found → nat_lt found.0 384 ≡ true
-      backed column found is =
-          lt-ltb found.0 384 (subst (λ (r : Result (ℕ × Kind) BindFault). IfOk r (λ f. f.0 < 384)) is (few column))
-
--- the same of a condition that was made
-pub Gives-below : (scope : Scope) (x : Expression) (c : Condition) → ((column : ColRef) → IfOk (scope column) (λ found. found.0 < 384))
-    → Gives Memory (type_of scope x) (Ok (Truth c)) → All (λ number. number < 384) (arguments_of c)
-Gives-below scope x c few (inl e) = Truth-below scope x c few (sym e)
-Gives-below scope x c few (inr e) = cc
-
 -- what fails first fails
 pub Gives-failed : {A B : Type 0} (first : Result A BindFault) (next : A → Result B BindFault) (fault : BindFault) → Gives Memory first (Err fault)
     → Gives Memory (first >>= next) (Err fault)
@@ -85,27 +66,70 @@ Gives-behind {A} (Ok other) next a made (inl e) h = let same : a ≡ other = cc 
 Gives-behind (Err failed) next a made (inl e) h = cc
 Gives-behind first next a made (inr e) h = cc
 
-module _ (scope : Scope) (x : Expression) where
-  abbrev condition : Result Condition BindFault
-  condition = type_of scope x >>= truth_of (span_of x)
-
-  abbrev rest : Condition → Result (List ConjunctDef) BindFault
-  rest c = few_parts (parts_of x) >>= λ few. Ok (map conjunct_of (conditions_of c))
+module _ (sources : List Source) (x : Expression) where
+  abbrev behind_whole : ConjunctDef → Result (List ConjunctDef) BindFault
+  behind_whole whole = few_parts (parts_of x) >>= λ few. conjuncts_of sources (parts_of x)
 
   -- an expression that isn't a condition has no conjuncts
-  pub conjuncts_in-refused : (fault : BindFault) → Gives Memory condition (Err fault) → Gives Memory (conjuncts_in scope x) (Err fault)
-  conjuncts_in-refused fault h = Gives-failed condition rest fault h
+  pub conjuncts_in-refused : (fault : BindFault) → Gives Memory (conjunct_in sources x) (Err fault) → Gives Memory (conjuncts_in sources x) (Err fault)
+  conjuncts_in-refused fault h = Gives-failed (conjunct_in sources x) behind_whole fault h
 
   -- nor has one with too many parts
-  pub conjuncts_in-many : (c : Condition) (fault : BindFault) → Gives Memory condition (Ok c) → Err fault ≡ few_parts (parts_of x)
-      → Gives Memory (conjuncts_in scope x) (Err fault)
-  conjuncts_in-many c fault h e =
-      Gives-behind condition rest c (Err fault) h
-      (inl (ap (λ (few : Result (Unit {0}) BindFault). few >>= λ passed. Ok (map conjunct_of (conditions_of c))) e))
+  pub conjuncts_in-many : (whole : ConjunctDef) (fault : BindFault) → Gives Memory (conjunct_in sources x) (Ok whole) → Err fault ≡ few_parts (parts_of x)
+      → Gives Memory (conjuncts_in sources x) (Err fault)
+  conjuncts_in-many whole fault h e =
+      Gives-behind (conjunct_in sources x) behind_whole whole (Err fault) h
+      (inl (ap (λ (few : Result (Unit {0}) BindFault). few >>= λ passed. conjuncts_of sources (parts_of x)) e))
 
   -- the others have those of their parts
-  pub conjuncts_in-made : (c : Condition) (made : List ConjunctDef) → Gives Memory condition (Ok c) → Ok tt ≡ few_parts (parts_of x)
-      → made ≡ map conjunct_of (conditions_of c) → Gives Memory (conjuncts_in scope x) (Ok made)
-  conjuncts_in-made c made h e is =
-      Gives-behind condition rest c (Ok made) h
-      (inl (ap (λ ms. Ok ms) is ∙ ap (λ (few : Result (Unit {0}) BindFault). few >>= λ passed. Ok (map conjunct_of (conditions_of c))) e))
+  pub conjuncts_in-made : (whole : ConjunctDef) (made : Result (List ConjunctDef) BindFault) → Gives Memory (conjunct_in sources x) (Ok whole)
+      → Ok tt ≡ few_parts (parts_of x) → Gives Memory (conjuncts_of sources (parts_of x)) made → Gives Memory (conjuncts_in sources x) made
+  conjuncts_in-made whole made h e is =
+      Gives-behind (conjunct_in sources x) behind_whole whole made h
+      (subst (λ (few : Result (Unit {0}) BindFault). Gives Memory (few >>= λ passed. conjuncts_of sources (parts_of x)) made) e is)
+
+-- the conjuncts of a condition behind those that were made
+module _ (sources : List Source) (made : List ConjunctDef) where
+  abbrev pub with_parts : List Expression → Result (List ConjunctDef) BindFault
+  with_parts parts = conjuncts_of sources parts >>= λ more. Ok (made ++ more)
+
+  -- one part
+  pub part-given : (x : Expression) (parts : List Expression) (result : Result (List ConjunctDef) BindFault) → parts ≡ x ∷ []
+      → Gives Memory (conjunct_in sources x >>= λ one. Ok (made ++ one ∷ [])) result → Gives Memory (with_parts parts) result
+  part-given x parts result is h =
+      subst (λ xs. Gives Memory (with_parts xs) result) (sym is) (subst (λ answer. Gives Memory answer result) (same (conjunct_in sources x)) h) where
+        same : (r : Result ConjunctDef BindFault)
+            → (r >>= λ one. well (made ++ one ∷ [])) ≡ ((r >>= λ one. well (one ∷ [])) >>= λ more. well (made ++ more))
+        same (Ok one) = refl
+        same (Err fault) = refl
+
+-- the parts of an AND: those of the left condition, which were made, and then those of the right one
+pub both-given : (sources : List Source) (old middle : List ConjunctDef) (xs ys : List Expression) (result : Result (List ConjunctDef) BindFault)
+    → Gives Memory (with_parts sources old xs) (Ok middle) → Gives Memory (with_parts sources middle ys) result
+    → Gives Memory (with_parts sources old (xs ++ ys)) result
+both-given sources old middle xs ys result left right =
+    subst (λ (answer : Result (List ConjunctDef) BindFault). Gives Memory answer result)
+    (go (conjuncts_of sources xs) left ∙ ap (λ (r : Result (List ConjunctDef) BindFault). r >>= λ more. well (old ++ more)) (sym (conjuncts_of-append sources xs ys)))
+    right where
+      behind : (ms : List ConjunctDef) (q : Result (List ConjunctDef) BindFault) → middle ≡ old ++ ms
+          → (q >>= λ more. well (middle ++ more)) ≡ ((q >>= λ ns. well (ms ++ ns)) >>= λ more. well (old ++ more))
+      behind ms (Ok ns) is = ap (λ front. well (front ++ ns)) is ∙ ap (λ all. well all) (append_assoc old ms ns)
+      behind ms (Err fault) is = refl
+
+      go : (r : Result (List ConjunctDef) BindFault) → Gives Memory (r >>= λ more. well (old ++ more)) (Ok middle)
+          → with_parts sources middle ys ≡ ((r >>= λ ms. conjuncts_of sources ys >>= λ ns. well (ms ++ ns)) >>= λ more. well (old ++ more))
+      go (Ok ms) (inl e) = behind ms (conjuncts_of sources ys) (same_Ok middle (old ++ ms) e)
+      go (Err fault) (inl e) = cc
+      go r (inr e) = cc
+
+-- the left condition was refused
+pub left-refused : (sources : List Source) (old : List ConjunctDef) (xs ys : List Expression) (fault : BindFault)
+    → Gives Memory (with_parts sources old xs) (Err fault) → Gives Memory (with_parts sources old (xs ++ ys)) (Err fault)
+left-refused sources old xs ys fault left =
+    subst (λ (r : Result (List ConjunctDef) BindFault). Gives Memory (r >>= λ more. well (old ++ more)) (Err fault)) (sym (conjuncts_of-append sources xs ys))
+    (go (conjuncts_of sources xs) left) where
+      go : (r : Result (List ConjunctDef) BindFault) → Gives Memory (r >>= λ more. well (old ++ more)) (Err fault)
+          → Gives Memory ((r >>= λ ms. conjuncts_of sources ys >>= λ ns. well (ms ++ ns)) >>= λ more. well (old ++ more)) (Err fault)
+      go (Ok ms) (inl e) = cc
+      go (Err failed) (inl e) = inl e
+      go r (inr e) = inr e

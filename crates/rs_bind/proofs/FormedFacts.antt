@@ -17,7 +17,7 @@ use Rattle.rs_query.specs.declared.query.Query.TheVariants.{One, Set}
 use Rattle.rs_bind.specs.declared.fault.BindFault.{BindFault}
 use Rattle.rs_bind.specs.declared.fault.BindFault.TheVariants.{At, Memory}
 use Rattle.rs_bind.specs.declared.fault.Why.TheVariants.{SetColumnsDiffer}
-use Rattle.rs_bind.specs.Conditions.{column_scope, filter_of}
+use Rattle.rs_bind.specs.Conditions.{filter_of}
 use Rattle.rs_bind.specs.Limits.{HasFewColumns, HasLimits, HaveLimits, IsNarrow}
 use Rattle.rs_bind.specs.Queries.{Unranked, agree, are_outputs, block_columns, bound_query, first_item, limit_of, names_of, needed_by, one_of, output_columns, set_of, terms_of, unranked_of, with_terms}
 use Rattle.rs_bind.specs.Sources.{Found, entries_of, items_of, sources_of}
@@ -39,7 +39,7 @@ HasLimits-with catalogue block terms made is few narrow =
 -- what the parts of a block are, without its terms
 record HasParts (catalogue : Catalogue) (written : syntax.Block) (block : Unranked) : Type 0 where
   from : entries_of catalogue written.from ≡ Ok block.from
-  conjuncts : filter_of (column_scope (sources_of catalogue block.from)) written.filter ≡ Ok block.conjuncts
+  conjuncts : filter_of (sources_of catalogue block.from) written.filter ≡ Ok block.conjuncts
   items : items_of (sources_of catalogue block.from) written.items ≡ Ok block.items
 
 HasParts-unranked_of : (catalogue : Catalogue) (written : syntax.Block) (block : Unranked) → unranked_of catalogue written ≡ Ok block
@@ -49,9 +49,9 @@ HasParts-unranked_of catalogue written block h =
     well {A = Unranked} (record { from = from; conjuncts = conjuncts; items = items; distinct = written.distinct }) in
     let after_conjuncts = λ (from : List (ℕ × List ℕ)) (conjuncts : List ConjunctDef).
     items_of (sources_of catalogue from) written.items >>= of_items from conjuncts in
-    let after_from = λ (from : List (ℕ × List ℕ)). filter_of (column_scope (sources_of catalogue from)) written.filter >>= after_conjuncts from in
+    let after_from = λ (from : List (ℕ × List ℕ)). filter_of (sources_of catalogue from) written.filter >>= after_conjuncts from in
     let first = Ok-steps (entries_of catalogue written.from) after_from block h in
-    let second = Ok-steps (filter_of (column_scope (sources_of catalogue first.0)) written.filter) (after_conjuncts first.0) block first.2 in
+    let second = Ok-steps (filter_of (sources_of catalogue first.0) written.filter) (after_conjuncts first.0) block first.2 in
     let third = Ok-steps (items_of (sources_of catalogue first.0) written.items) (of_items first.0 second.0) block second.2 in
     let made : Unranked = record { from = first.0; conjuncts = second.0; items = third.0; distinct = written.distinct } in
     let same = same_Ok made block third.2 in
@@ -69,7 +69,7 @@ IsUnranked-of catalogue written block terms limits h =
     let parts = HasParts-unranked_of catalogue written block h in
     record {
       entries = entries_of-formed catalogue written.from block.from parts.from;
-      conjuncts = filter_of-formed catalogue (with_terms block terms) limits.few written.filter block.conjuncts limits.narrow parts.conjuncts;
+      conjuncts = filter_of-formed catalogue (with_terms block terms) written.filter block.conjuncts limits.narrow parts.conjuncts;
       items = items_of-found catalogue (with_terms block terms) written.items block.items parts.items;
     }
 

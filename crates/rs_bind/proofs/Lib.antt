@@ -3,7 +3,6 @@ mod WorkedNames
 mod WorkedQueries
 mod WorkedTyping
 pub mod ArgFacts
-pub mod ArgumentFacts
 pub mod ColumnFacts
 pub mod ConjunctFacts
 pub mod EachFacts
@@ -19,7 +18,6 @@ pub mod InOrderFacts
 pub mod IndexFacts
 pub mod MaskFacts
 pub mod NameFacts
-pub mod NumberingFacts
 pub mod OutputFacts
 pub mod PlaceFacts
 pub mod ResultFacts
@@ -32,3 +30,7 @@ pub mod TermSteps
 pub mod TypingFacts
 pub mod UnrankedFacts
 pub mod UsesFacts
+pub mod PartFacts
+pub mod ReferenceFacts
+pub mod RetypingFacts
+pub mod WhereFacts

@@ -10,7 +10,6 @@ use Rattle.rs_table.specs.Column.{Column, is_named}
 use Rattle.rs_table.specs.Reading.{◌>>=◌}
 use Rattle.rs_catalog.specs.Catalogue.{Catalogue}
 use Rattle.rs_bind.specs.declared.fault.BindFault.{BindFault}
-use Rattle.rs_bind.specs.Conditions.{column_scope, numbered}
 use Rattle.rs_bind.specs.Indexes.{columns_in, is_of_entry}
 use Rattle.rs_bind.specs.Predicates.{placed, placed_from}
 use Rattle.rs_bind.specs.Queries.{IsEntryArg, as_argument, block_columns}
@@ -93,13 +92,6 @@ module _ (catalogue : Catalogue) (from : List (ℕ × List ℕ)) (few : length f
       let count : length (sources_of catalogue from) ≡ length from = length-map from (λ (entry : ℕ × List ℕ). (entry.1, columns_in catalogue entry.0)) in
       the_only-holds (IsWithin 6) _ (matches_from 1 c (sources_of catalogue from))
       (matches_from-within 6 c (sources_of catalogue from) 1 (omega arith) (omega (arith, count, few)) (sources_of-columns catalogue from columns))
-
-  -- its number is below 384
-  pub column_scope-within : IfOk (column_scope (sources_of catalogue from) c) (λ found. found.0 < 384)
-  column_scope-within = go (column_in (sources_of catalogue from) c) column_in-within where
-    go : (found : Result Found BindFault) → IfOk found (IsWithin 6) → IfOk (found >>= λ f. Ok (numbered f)) (λ n. n.0 < 384)
-    go (Ok found) h = omega (arith, h.some, h.few, h.place)
-    go (Err fault) h = tt
 
   -- as an argument it is a column of an entry from 1 to 6
   pub block_columns-within : IfOk (block_columns (sources_of catalogue from) c) (λ found. IsEntryArg found.0)

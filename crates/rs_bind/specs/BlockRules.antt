@@ -13,15 +13,16 @@ use Rattle.rs_expr.specs.Formulas.{Condition}
 use Rattle.rs_catalog.specs.Catalogue.{Catalogue, number_of}
 use Rattle.rs_catalog.specs.declared.room.What.TheVariants as what
 use Rattle.rs_query.specs.Conjuncts.{ConjunctDef}
+use Rattle.rs_query.specs.WellFormed.{entries_of, equality_of}
 use Rattle.rs_bind.specs.declared.fault.BindFault.{BindFault}
 use Rattle.rs_bind.specs.declared.fault.BindFault.TheVariants.{At}
 use Rattle.rs_bind.specs.declared.fault.Why.TheVariants.{LimitOf, NameTwice, NoTable, WrongKind}
-use Rattle.rs_bind.specs.Conditions.{column_scope, conditions_of, conjunct_of, parts_of}
+use Rattle.rs_bind.specs.Conditions.{named_columns, own_places, parts_of}
 use Rattle.rs_bind.specs.InOrder.{Each, FirstRefused}
 use Rattle.rs_bind.specs.Queries.{Unranked}
 use Rattle.rs_bind.specs.Rules.{Refused, Types}
 use Rattle.rs_bind.specs.Sources.{Found, Source, alias_of, all_columns_from, column_in, sources_of}
-use Rattle.rs_bind.specs.Typing.{Scope, Typed, Number, Words, Truth, span_of, span_of_column}
+use Rattle.rs_bind.specs.Typing.{Typed, Number, Words, Truth, span_of, span_of_column}
 
 -- a FROM entry as it is written, and as the number of its table with its alias
 abbrev pub FromEntry : Type 0
@@ -57,18 +58,26 @@ IsNoTruth (Number f) = Unit {0}
 IsNoTruth (Words side) = Unit {0}
 IsNoTruth (Truth c) = ⊥
 
-module _ (scope : Scope) where
-  -- WHERE: a truth value of at most 32 parts, which AND joins at its top
+module _ (sources : List Source) where
+  -- a part of WHERE as a conjunct: a truth value over the columns that it names, with the mask of their entries, and the two columns that it equates, where
+  -- they are of two entries
+  pub record TypesConjunct (x : Expression) (made : ConjunctDef) : Type 0 where
+    pub condition : Types (own_places sources x) x (Truth made.condition)
+    pub columns : made.columns ≡ named_columns sources x
+    pub entries : made.entries ≡ entries_of made.columns
+    pub equality : made.equality ≡ equality_of made.condition made.columns
+
+  -- WHERE: a truth value of at most 32 parts, which AND joins at its top; each part is a conjunct
   pub data TypesFilter : Option Expression → List ConjunctDef → Type 0 where
     no_filter : TypesFilter None []
-    condition : (x : Expression) (c : Condition) → Types scope x (Truth c) → length (parts_of x) ≤ 32
-        → TypesFilter (Some x) (map conjunct_of (conditions_of c))
+    condition : (x : Expression) (c : Condition) (made : List ConjunctDef) → Types (own_places sources x) x (Truth c) → length (parts_of x) ≤ 32
+        → Each (λ before. TypesConjunct) [] (parts_of x) made → TypesFilter (Some x) made
 
   pub data RefusedFilter : Option Expression → BindFault → Type 0 where
-    in_condition : (x : Expression) (fault : BindFault) → Refused scope x fault → RefusedFilter (Some x) fault
-    no_truth : (x : Expression) (t : Typed) → Types scope x t → IsNoTruth t → RefusedFilter (Some x) (At WrongKind (span_of x))
+    in_condition : (x : Expression) (fault : BindFault) → Refused (own_places sources x) x fault → RefusedFilter (Some x) fault
+    no_truth : (x : Expression) (t : Typed) → Types (own_places sources x) x t → IsNoTruth t → RefusedFilter (Some x) (At WrongKind (span_of x))
     -- the 33rd part
-    too_many : (x part : Expression) (c : Condition) → Types scope x (Truth c) → slice_get (parts_of x) 32 ≡ Some part
+    too_many : (x part : Expression) (c : Condition) → Types (own_places sources x) x (Truth c) → slice_get (parts_of x) 32 ≡ Some part
         → RefusedFilter (Some x) (At LimitOf (span_of part))
 
 module _ (sources : List Source) where
@@ -94,14 +103,14 @@ module _ (catalogue : Catalogue) where
   -- a block: FROM comes first, then WHERE, and then the output columns
   pub record TypesBlock (block : syntax.Block) (bound : Unranked) : Type 0 where
     pub from : Each (TypesEntry catalogue) [] block.from bound.from
-    pub conjuncts : TypesFilter (column_scope (sources_of catalogue bound.from)) block.filter bound.conjuncts
+    pub conjuncts : TypesFilter (sources_of catalogue bound.from) block.filter bound.conjuncts
     pub items : TypesItems (sources_of catalogue bound.from) block.items bound.items
     pub distinct : bound.distinct ≡ block.distinct
 
   pub data RefusedBlock (block : syntax.Block) : BindFault → Type 0 where
     in_from : (fault : BindFault) → FirstRefused (TypesEntry catalogue) (RefusedEntry catalogue) [] block.from fault → RefusedBlock block fault
     in_filter : (from : List Entry) (fault : BindFault) → Each (TypesEntry catalogue) [] block.from from
-        → RefusedFilter (column_scope (sources_of catalogue from)) block.filter fault → RefusedBlock block fault
+        → RefusedFilter (sources_of catalogue from) block.filter fault → RefusedBlock block fault
     in_items : (from : List Entry) (conjuncts : List ConjunctDef) (fault : BindFault) → Each (TypesEntry catalogue) [] block.from from
-        → TypesFilter (column_scope (sources_of catalogue from)) block.filter conjuncts
+        → TypesFilter (sources_of catalogue from) block.filter conjuncts
         → RefusedItems (sources_of catalogue from) block.items fault → RefusedBlock block fault

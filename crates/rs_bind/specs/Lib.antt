@@ -14,3 +14,4 @@ pub mod ArgumentRules
 pub mod BlockRules
 pub mod QueryRules
 pub mod StatementRules
+pub mod Where

@@ -26,7 +26,7 @@ use Rattle.rs_bind.specs.declared.fault.BindFault.{BindFault}
 use Rattle.rs_bind.specs.declared.fault.BindFault.TheVariants.{At}
 use Rattle.rs_bind.specs.declared.fault.Why.TheVariants.{DistinctNeedsOutput, LimitOf, NoPredicate, SetColumnsDiffer}
 use Rattle.rs_bind.specs.declared.unranked.Unranked as parts
-use Rattle.rs_bind.specs.Conditions.{column_scope, filter_of}
+use Rattle.rs_bind.specs.Conditions.{filter_of}
 use Rattle.rs_bind.specs.Indexes.{Entries, params_in, term_args}
 use Rattle.rs_bind.specs.Names.{number_in, or_fault}
 use Rattle.rs_bind.specs.Sources.{Found, Source, column_in, entries_of, items_of, sources_of, the_only}
@@ -40,7 +40,7 @@ Unranked = parts.Unranked
 abbrev pub unranked_of : Catalogue → syntax.Block → Result Unranked BindFault
 unranked_of catalogue block = do
   from ← entries_of catalogue block.from
-  conjuncts ← filter_of (column_scope (sources_of catalogue from)) block.filter
+  conjuncts ← filter_of (sources_of catalogue from) block.filter
   items ← items_of (sources_of catalogue from) block.items
   Ok (record { from = from; conjuncts = conjuncts; items = items; distinct = block.distinct })
 

@@ -37,6 +37,10 @@ is_output items (bound.Column entry column) = list_any (λ (item : Found). same_
 is_output items (bound.Int n) = true
 is_output items (bound.Text text) = true
 
+-- the entry of a column is one of six
+abbrev pub IsEntryColumn : ℕ × ℕ → Type 0
+IsEntryColumn column = (1 ≤ column.0) × (column.0 ≤ 6)
+
 -- the entry of an output column is one of six
 abbrev pub IsEntryItem : Found → Type 0
 IsEntryItem item = (1 ≤ item.0.0) × (item.0.0 ≤ 6)

@@ -1,30 +1,33 @@
 //! WHERE: the condition of a block, split at each AND at its top.
 
-ghost use Rattle.std.specs.Prelude.{◌≡◌, ◌≤◌, ◌<◌, ◌+◌, ◌++◌, All, IfOk, MatchResult, OnOk, Some, length, map, option_map, slice_get, true};
+ghost use Rattle.std.specs.Prelude.{◌≡◌, ◌≤◌, ◌+◌, ◌++◌, ◌∷◌, [], IfOk, MatchResult, OnOk, Ok, Some, length, option_map, slice_get, true};
 ghost use Rattle.std.specs.List.{AllByRecursion};
 ghost use Rattle.rs_value.specs.Answer.{Gives};
 ghost use Rattle.rs_syntax.specs.Syntax.{expression_of};
-ghost use Rattle.rs_syntax.specs.declared.name.ColRef.{ColRef};
 ghost use Rattle.rs_table.specs.Reading.{◌>>=◌ as ◌and_then◌};
 ghost use Rattle.rs_expr.specs.Formulas.{condition_of};
 ghost use Rattle.rs_expr.specs.Widths.{is_narrow};
 ghost use Rattle.rs_query.specs.WellFormed.{across, entries_of, equality_of, equated};
-ghost use Rattle.rs_bind.specs.Conditions.{arguments_of, column_of, conditions_of, conjunct_of, conjuncts_in, few_parts, filter_of, parts_of};
+ghost use Rattle.rs_bind.specs.Conditions.{condition_over, conjunct_in, conjuncts_in, conjuncts_of, few_parts, filter_of, parts_of};
 ghost use Rattle.rs_bind.specs.Limits.{IsNarrow};
+ghost use Rattle.rs_bind.specs.Sources.{sources_of};
+ghost use Rattle.rs_bind.specs.Terms.{IsEntryColumn};
 ghost use Rattle.rs_bind.specs.Typing.{span_of, truth_of, type_of};
 ghost use Rattle.rs_bind.specs.Views.{result_map};
 
 use crate::fault::{BindFault, Why};
-use crate::renumber::{distinct_arguments, renumbered};
+use crate::places::Places;
+use crate::references::named_columns;
 use crate::rules::span_of;
 use crate::scope::Scope;
+use crate::sources::Sources;
 use crate::typed::Typed;
 use crate::typing::type_node;
 use rs_expr::{Cond, Expr, Rel, TextSide};
 use rs_query::Conjunct;
 use rs_rank::{mask_of, union};
 use rs_syntax::Node;
-use rs_value::{List, Memory};
+use rs_value::List;
 use std::alloc::Global;
 
 /// The most conjuncts of a block.
@@ -33,61 +36,104 @@ const MOST_CONJUNCTS: usize = 32;
 /// The conjuncts of the condition of a block, none where it has no condition. The rules are looked at in this order: those
 /// of the condition, its parts first; that it is a truth value (`WrongKind`); and that AND joins at most 32 parts at its
 /// top (`LimitOf` for the 33rd).
-pub fn bind_filter<S: Scope>(
+pub fn bind_filter(
     alloc: Global,
-    scope: &S,
+    sources: &Sources,
     filter: &Option<Node>,
 ) -> Result<List<Conjunct>, BindFault>
-    requires few { (c : ColRef) → IfOk (S.finds scope.now c) (λ found. found.0 < 384) }
-    ensures gives { Gives BindFault.Memory (filter_of (S.finds scope.now) (option_map expression_of filter.now)) result }
+    ensures gives { Gives BindFault.Memory
+        (filter_of (sources_of sources.now.catalog.now sources.now.from.now) (option_map expression_of filter.now)) result }
     ensures narrow { IfOk result (λ made. AllByRecursion IsNarrow made) }
 {
     match filter {
         None => Ok(List::of(Vec::new(alloc))),
-        Some(node) => conjuncts_in(alloc, scope, node),
+        Some(node) => conjuncts_in(alloc, sources, node),
     }
 }
 
 /// The conjuncts of a condition.
-fn conjuncts_in<S: Scope>(
-    alloc: Global,
-    scope: &S,
-    node: &Node,
-) -> Result<List<Conjunct>, BindFault>
-    requires few { (c : ColRef) → IfOk (S.finds scope.now c) (λ found. found.0 < 384) }
-    ensures gives { Gives BindFault.Memory (conjuncts_in (S.finds scope.now) (expression_of node.now)) result }
+fn conjuncts_in(alloc: Global, sources: &Sources, node: &Node) -> Result<List<Conjunct>, BindFault>
+    ensures gives { Gives BindFault.Memory (conjuncts_in (sources_of sources.now.catalog.now sources.now.from.now) (expression_of node.now)) result }
     ensures narrow { IfOk result (λ made. AllByRecursion IsNarrow made) }
 {
-    let condition = condition_in(alloc, scope, node)?;
-    match few_parts(node) {
-        Ok(()) => {
-            let made = conjuncts_of(alloc, &condition);
-            drop(condition);
-            Ok(made?)
+    // The rules of the whole condition come before the number of its parts.
+    let whole = conjunct_in(alloc, sources, node)?;
+    drop(whole);
+    few_parts(node)?;
+    let mut made = Vec::new(alloc);
+    add_conjuncts(alloc, sources, node, &mut made)?;
+    Ok(List::of(made))
+}
+
+/// Adds the parts of a condition as conjuncts, from left to right.
+fn add_conjuncts(
+    alloc: Global,
+    sources: &Sources,
+    node: &Node,
+    made: &mut Vec<Conjunct>,
+) -> Result<(), BindFault>
+    ensures gives { Gives BindFault.Memory
+        (conjuncts_of (sources_of sources.now.catalog.now sources.now.from.now) (parts_of (expression_of node.now)) and_then λ more. Ok (made.old.items ++ more))
+        (result_map (λ done. made.new.items) result) }
+    ensures narrow { OnOk result (AllByRecursion IsNarrow made.old.items → AllByRecursion IsNarrow made.new.items) }
+{
+    match node {
+        Node::And(left, right, _) => {
+            add_conjuncts(alloc, sources, left, made)?;
+            add_conjuncts(alloc, sources, right, made)
         }
-        Err(fault) => {
-            drop(condition);
-            Err(fault)
-        }
+        _ => add_conjunct(alloc, sources, node, made),
     }
 }
 
-/// The parts of a condition as conjuncts, from left to right.
-fn conjuncts_of(alloc: Global, condition: &Cond) -> Result<List<Conjunct>, Memory>
-    requires { All (λ number. number < 384) (arguments_of (condition_of condition.now)) }
-    ensures { IfOk result (λ made. made ≡ map conjunct_of (conditions_of (condition_of condition.now))) }
+/// Adds a condition as a conjunct.
+fn add_conjunct(
+    alloc: Global,
+    sources: &Sources,
+    node: &Node,
+    made: &mut Vec<Conjunct>,
+) -> Result<(), BindFault>
+    ensures gives { Gives BindFault.Memory
+        (conjunct_in (sources_of sources.now.catalog.now sources.now.from.now) (expression_of node.now) and_then λ one. Ok (made.old.items ++ one ∷ []))
+        (result_map (λ done. made.new.items) result) }
+    ensures narrow { OnOk result (AllByRecursion IsNarrow made.old.items → AllByRecursion IsNarrow made.new.items) }
 {
-    let mut made = Vec::new(alloc);
-    add_conjuncts(alloc, condition, &mut made)?;
-    Ok(List::of(made))
+    made.push(conjunct_in(alloc, sources, node)?)?;
+    Ok(())
+}
+
+/// A condition as a conjunct: its arguments are the columns that it names.
+fn conjunct_in(alloc: Global, sources: &Sources, node: &Node) -> Result<Conjunct, BindFault>
+    ensures gives { Gives BindFault.Memory (conjunct_in (sources_of sources.now.catalog.now sources.now.from.now) (expression_of node.now)) result }
+    ensures narrow { IfOk result IsNarrow }
+{
+    let columns = named_columns(alloc, sources, node)?;
+    let condition = condition_over(alloc, sources, &columns, node)?;
+    let entries = entries_of(&columns);
+    let equality = equality_of(&condition, &columns);
+    Ok(Conjunct::new(condition, List::of(columns), entries, equality))
+}
+
+/// The condition that an expression is over these columns, which has to be a truth value.
+fn condition_over(
+    alloc: Global,
+    sources: &Sources,
+    columns: &[(u8, u8)],
+    node: &Node,
+) -> Result<Cond, BindFault>
+    requires { length columns.now ≤ 384 }
+    ensures gives { Gives BindFault.Memory
+        (condition_over columns.now (sources_of sources.now.catalog.now sources.now.from.now) (expression_of node.now)) (result_map condition_of result) }
+    ensures narrow { IfOk result (λ made. is_narrow (condition_of made) ≡ true) }
+{
+    let places = Places { sources, columns };
+    condition_in(alloc, &places, node)
 }
 
 /// The condition that an expression is, which has to be a truth value.
 fn condition_in<S: Scope>(alloc: Global, scope: &S, node: &Node) -> Result<Cond, BindFault>
-    requires few { (c : ColRef) → IfOk (S.finds scope.now c) (λ found. found.0 < 384) }
     ensures gives { Gives BindFault.Memory (type_of (S.finds scope.now) (expression_of node.now) and_then truth_of (span_of (expression_of node.now)))
         (result_map condition_of result) }
-    ensures small { IfOk result (λ made. All (λ number. number < 384) (arguments_of (condition_of made))) }
     ensures narrow { IfOk result (λ made. is_narrow (condition_of made) ≡ true) }
 {
     match type_node(alloc, node, scope)? {
@@ -125,64 +171,14 @@ fn room_behind(node: &Node, room: usize) -> Result<usize, BindFault>
     }
 }
 
-/// Adds the conjuncts of a condition, from left to right.
-fn add_conjuncts(alloc: Global, condition: &Cond, made: &mut Vec<Conjunct>) -> Result<(), Memory>
-    requires { All (λ number. number < 384) (arguments_of (condition_of condition.now)) }
-    ensures { OnOk result (made.new.items ≡ made.old.items ++ map conjunct_of (conditions_of (condition_of condition.now))) }
+/// The mask of the entries of these columns.
+fn entries_of(columns: &[(u8, u8)]) -> u8
+    requires { AllByRecursion IsEntryColumn columns.now }
+    ensures { result ≡ entries_of columns.now }
 {
-    match condition {
-        Cond::And(left, right) => {
-            add_conjuncts(alloc, left, made)?;
-            add_conjuncts(alloc, right, made)
-        }
-        _ => {
-            made.push(conjunct_of(alloc, condition)?)?;
-            Ok(())
-        }
-    }
-}
-
-/// A part of a condition as a conjunct: its arguments are its columns, each once.
-fn conjunct_of(alloc: Global, condition: &Cond) -> Result<Conjunct, Memory>
-    requires { All (λ number. number < 384) (arguments_of (condition_of condition.now)) }
-    ensures { IfOk result (λ made. made ≡ conjunct_of (condition_of condition.now)) }
-{
-    let numbers = distinct_arguments(alloc, condition)?;
-    let columns = columns_of(alloc, &numbers)?;
-    let own = renumbered(alloc, condition, &numbers)?;
-    let entries = entries_of(&numbers);
-    let equality = equality_of(&own, &columns);
-    Ok(Conjunct::new(own, List::of(columns), entries, equality))
-}
-
-/// The columns of these numbers.
-fn columns_of(alloc: Global, numbers: &[u16]) -> Result<Vec<(u8, u8)>, Memory>
-    requires { All (λ number. number < 384) numbers.now }
-    ensures { IfOk result (λ made. made.items ≡ map column_of numbers.now) }
-{
-    let mut made = Vec::new(alloc);
-    for number in numbers {
-        made.push(column_of(*number))?;
-    }
-    Ok(made)
-}
-
-/// The column of a number: its FROM entry, counted from 1, and its place among the columns of the table, counted from 0.
-fn column_of(number: u16) -> (u8, u8)
-    requires { number < 384 }
-    ensures { result ≡ column_of number }
-{
-    ((number / 64 + 1) as u8, (number % 64) as u8)
-}
-
-/// The mask of the entries of the columns of these numbers.
-fn entries_of(numbers: &[u16]) -> u8
-    requires { All (λ number. number < 384) numbers.now }
-    ensures { result ≡ entries_of (map column_of numbers.now) }
-{
-    match numbers {
+    match columns {
         [] => 0,
-        [number, rest @ ..] => union(mask_of(column_of(*number).0), entries_of(rest)),
+        [column, rest @ ..] => union(mask_of(column.0), entries_of(rest)),
     }
 }
 

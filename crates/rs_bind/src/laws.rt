@@ -1,27 +1,33 @@
 //! What binding is: laws that hold of every expression and of every statement. The functions compute nothing; they are
 //! called for their contracts.
 
-ghost use Rattle.std.specs.Prelude.{◌≡◌, ◌↔◌, Err, Ok};
+ghost use Rattle.std.specs.Prelude.{◌≡◌, ◌↔◌, Err, Ok, Some, true};
 ghost use Rattle.std.specs.Prelude.{List, Option, ℕ, ℤ};
 ghost use Rattle.rs_catalog.specs.Catalogue.{Catalogue};
 ghost use Rattle.rs_catalog.specs.declared.index.IndexDef.{IndexDef};
+ghost use Rattle.rs_expr.specs.Formulas.{Condition};
 ghost use Rattle.rs_expr.specs.Predicates.{PredicateDef};
 ghost use Rattle.rs_lex.specs.declared.token.Span.{Span as Place};
-ghost use Rattle.rs_syntax.specs.Syntax.{CreatePredicate, CreateRankIndex, Expression, Query as Select};
+ghost use Rattle.rs_syntax.specs.Syntax.{Block as BlockSelect, CreatePredicate, CreateRankIndex, Expression, Query as Select};
 ghost use Rattle.rs_syntax.specs.declared.name.Arg.{Arg};
 ghost use Rattle.rs_syntax.specs.declared.name.Name.{Name};
 ghost use Rattle.rs_table.specs.Column.{Column};
 ghost use Rattle.rs_value.specs.declared.kind.Kind.{Kind as ValueKind};
 ghost use Rattle.rs_query.specs.declared.query.Query.{Query};
+ghost use Rattle.rs_query.specs.declared.term.Term.{Term as BoundTerm};
 ghost use Rattle.rs_bind.specs.ArgumentRules.{IsOutside, IsWithin};
+ghost use Rattle.rs_bind.specs.BlockRules.{TypesBlock};
+ghost use Rattle.rs_bind.specs.Conditions.{places_in};
 ghost use Rattle.rs_bind.specs.Indexes.{index_def_of};
 ghost use Rattle.rs_bind.specs.Names.{columns_of};
 ghost use Rattle.rs_bind.specs.Predicates.{predicate_of};
-ghost use Rattle.rs_bind.specs.Queries.{bound_query, count_of};
+ghost use Rattle.rs_bind.specs.Queries.{Unranked as UnrankedBlock, bound_query, count_of, with_terms};
 ghost use Rattle.rs_bind.specs.QueryRules.{RefusedQuery, TypesQuery};
 ghost use Rattle.rs_bind.specs.Rules.{Refused, Types};
-ghost use Rattle.rs_bind.specs.Typing.{Scope, Typed, type_of};
+ghost use Rattle.rs_bind.specs.Sources.{sources_of};
+ghost use Rattle.rs_bind.specs.Typing.{Scope, Truth, Typed, type_of};
 ghost use Rattle.rs_bind.specs.StatementRules.{RefusedIndex, RefusedNames, RefusedPredicate, TypesIndex, TypesNames, TypesPredicate};
+ghost use Rattle.rs_bind.specs.Where.{WhereHolds, conjuncts_hold, holds_of};
 ghost use Rattle.rs_bind.specs.declared.fault.BindFault.{BindFault};
 ghost use Rattle.rs_bind.specs.declared.fault.BindFault.TheVariants.{At};
 ghost use Rattle.rs_bind.specs.declared.fault.Why.TheVariants.{LimitOf};
@@ -31,6 +37,19 @@ ghost use Rattle.rs_bind.specs.declared.fault.Why.TheVariants.{LimitOf};
 pub fn expressions_are_typed_by_rules()
     ensures typed { (scope : Scope) (x : Expression) (t : Typed) → (type_of scope x ≡ Ok t) ↔ Types scope x t }
     ensures refused { (scope : Scope) (x : Expression) (fault : BindFault) → (type_of scope x ≡ Err fault) ↔ Refused scope x fault }
+{}
+
+/// The conjuncts of a block all hold of some rows exactly where its WHERE does: where the condition that WHERE is holds of
+/// the values that the columns have in these rows. That is so over whatever columns the condition is typed, if they have
+/// those that it names.
+pub fn conjuncts_mean_where()
+    ensures holds { (catalogue : Catalogue) (written : BlockSelect) (bound : UnrankedBlock) (terms : List BoundTerm) (rows : List ℕ)
+        → TypesBlock catalogue written bound
+        → (conjuncts_hold catalogue (with_terms bound terms) rows ≡ true) ↔ WhereHolds catalogue (with_terms bound terms) rows written.filter }
+    ensures columns { (catalogue : Catalogue) (written : BlockSelect) (bound : UnrankedBlock) (terms : List BoundTerm) (rows : List ℕ)
+        (x : Expression) (columns : List (ℕ × ℕ)) (c : Condition)
+        → TypesBlock catalogue written bound → written.filter ≡ Some x → Types (places_in columns (sources_of catalogue bound.from)) x (Truth c)
+        → conjuncts_hold catalogue (with_terms bound terms) rows ≡ holds_of catalogue (with_terms bound terms) rows columns c }
 {}
 
 /// A SELECT is one query at most, as the rules say, or refused with one fault, that of the first rule that fails; it is

@@ -11,9 +11,10 @@ mod items;
 mod laws;
 mod names;
 mod outputs;
+mod places;
 mod predicate;
 mod query;
-mod renumber;
+mod references;
 mod rules;
 mod scope;
 mod sources;
@@ -28,7 +29,8 @@ pub use count::bind_count;
 pub use fault::{BindFault, Why};
 pub use index::bind_index;
 pub use laws::{
-    expressions_are_typed_by_rules, queries_are_typed_by_rules, statements_are_typed_by_rules,
+    conjuncts_mean_where, expressions_are_typed_by_rules, queries_are_typed_by_rules,
+    statements_are_typed_by_rules,
 };
 pub use predicate::bind_predicate;
 pub use query::bind;

@@ -1,7 +1,6 @@
 ghost use Rattle.std.specs.Prelude.{◌≡◌, ◌≤◌, ◌<◌, None, if◌then◌else◌, length};
 ghost use Rattle.std.specs.List.{AllByRecursion};
 ghost use Rattle.std.proofs.Props.{props};
-ghost use Rattle.rs_bind.specs.Conditions.{column_scope};
 ghost use Rattle.rs_bind.specs.Indexes.{columns_in, is_of_entry};
 ghost use Rattle.rs_bind.specs.Predicates.{placed};
 ghost use Rattle.rs_bind.specs.Queries.{block_columns};
@@ -9,7 +8,7 @@ ghost use Rattle.rs_bind.specs.Sources.{column_in, sources_of};
 
 use crate::columns::{Columns, OneEntry};
 use crate::fault::{BindFault, Why};
-use crate::scope::{Scope, span_of_column};
+use crate::scope::span_of_column;
 use rs_catalog::{BoundArg, Catalog};
 use rs_syntax::ColRef;
 use rs_table::Schema;
@@ -44,15 +43,6 @@ impl Sources<'_> {
             found = Some(((index as u8 + 1, place), kind));
         }
         found.ok_or(BindFault::At(Why::NoColumn, at))
-    }
-}
-
-impl Scope for Sources<'_> {
-    ghost finds = { λ sources. column_scope (sources_of sources.catalog.now sources.from.now) };
-
-    fn find(&self, column: &ColRef) -> Result<(u16, Kind), BindFault> {
-        let ((entry, place), kind) = self.column(column)?;
-        Ok(((entry as u16 - 1) * 64 + place as u16, kind))
     }
 }
 

@@ -2,4 +2,4 @@ use Rattle.std.proofs.Common.{length}
 use Rattle.rs_bind.proofs.filter.+entries_of.Given as goal
 
 abbrev pub decreases-entries_of : goal.decreases-entries_of
-decreases-entries_of l = length l.numbers.now
+decreases-entries_of l = length l.columns.now
