@@ -399,6 +399,7 @@ expect 'an empty number' 2 '' "$usage"$'\n' -- top h.csv price '' 2
 expect 'numbers of 20 digits' 0 $'1,90,b,90,1\n' '' -- top h.csv price 00000000000000000100 00000000000000000001
 expect 'a word that is not UTF-8' 2 '' "$usage"$'\n' -- top h.csv $'pr\xffce' 100 2
 expect 'a file name that is not UTF-8' 2 '' "$usage"$'\n' -- top $'h\xff.csv' price 100 2
+expect 'a word too many, which is not UTF-8' 2 '' "$usage"$'\n' -- plain s.sql $'\xff'
 
 # ---- the streams
 file_of_rows 100000
