@@ -9,7 +9,7 @@ ghost use Rattle.case_lines.specs.Words.{digit_meaning, letter_meaning};
 
 use crate::fault::Fault;
 use crate::words::{count_of, cut_at};
-use rs_value::{Memory, Text};
+use rs_value::{Memory, Text, Value};
 use std::alloc::Global;
 use std::slice::Iter;
 
@@ -135,6 +135,18 @@ fn two_digits(number: u32) -> [u8; 2] {
 pub fn print_escaped(bytes: &[u8], into: &mut String) -> Result<(), Memory> {
     for byte in bytes {
         print_byte(*byte, into)?;
+    }
+    Ok(())
+}
+
+/// Adds a call of a predicate: its name and its arguments, with one space between.
+pub fn print_call(predicate: &[u8], args: &[Value], into: &mut String) -> Result<(), Memory> {
+    print_escaped(predicate, into)?;
+    for value in args {
+        let mut bytes = Vec::new(*into.allocator());
+        value.print(&mut bytes)?;
+        into.push_str(" ")?;
+        print_escaped(&bytes, into)?;
     }
     Ok(())
 }

@@ -9,7 +9,7 @@ mod fault;
 mod lines;
 mod words;
 
-pub use escape::{bytes_of, print_escaped, read_escaped, read_times, text_of};
+pub use escape::{bytes_of, print_call, print_escaped, read_escaped, read_times, text_of};
 pub use fault::Fault;
 pub use lines::{Cases, answer_lines};
 pub use words::{

@@ -5,7 +5,7 @@ ghost use Rattle.rs_catalog.specs.Catalogue.{names_of, room_for};
 ghost use Rattle.rs_catalog.specs.Indexes.{IsIndex, arg_fits, args_fit};
 ghost use Rattle.rs_catalog.specs.declared.room.What.TheVariants as what;
 
-use case_lines::{Fault, cut_at, cut_word, print_escaped, small_number_of, text_of, value_of};
+use case_lines::{Fault, cut_at, cut_word, print_call, small_number_of, text_of, value_of};
 use rs_catalog::{BoundArg, Catalog, IndexDef, IndexFault, What};
 use rs_expr::{Call, MemScorer, Predicate};
 use rs_table::Table;
@@ -173,23 +173,14 @@ fn tell_entries_of(alloc: Global, catalog: &Catalog, index: u8) -> Result<String
     Ok(told)
 }
 
-/// Tells the calls of a scorer: of each the predicate and the arguments.
+/// Tells the calls of a scorer.
 fn tell_calls(calls: &[Call], told: &mut String) -> Result<(), Memory> {
     told.push_str("; calls")?;
+    let mut between = " ";
     for call in calls {
-        tell_call(call, told)?;
-    }
-    Ok(())
-}
-
-fn tell_call(call: &Call, told: &mut String) -> Result<(), Memory> {
-    told.push_str(" ")?;
-    print_escaped(call.predicate.bytes(), told)?;
-    for value in call.args.items() {
-        let mut bytes = Vec::new(*told.allocator());
-        value.print(&mut bytes)?;
-        told.push_str(",")?;
-        print_escaped(&bytes, told)?;
+        told.push_str(between)?;
+        print_call(call.predicate.bytes(), call.args.items(), told)?;
+        between = ", ";
     }
     Ok(())
 }
