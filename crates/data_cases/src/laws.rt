@@ -15,6 +15,7 @@ use rs_rank::{
     merging_keeps_the_order, merging_keeps_the_strict_order, no_sum_passes_the_limit,
     one_more_term, terms_are_inside_or_outside, turns_are_the_asks,
 };
+use rs_scan::{index_rows_can_be_input, table_rows_can_be_input};
 use rs_value::Text;
 
 pub fn laws_hold_of_numbers() {
@@ -62,4 +63,6 @@ pub fn laws_hold_of_keys() {
     turns_are_the_asks::<Key>();
     turns_are_the_asks::<u64>();
     rankings_are_in_order();
+    table_rows_can_be_input();
+    index_rows_can_be_input();
 }

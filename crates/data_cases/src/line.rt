@@ -10,6 +10,7 @@ use crate::ranks::{
     tell_answers, tell_asks, tell_has, tell_join_asks, tell_mask, tell_masks, tell_rest,
     tell_sorted,
 };
+use crate::scans::{tell_index_scan, tell_table_scan};
 use case_lines::{Cases, Fault, cut_word, number_of};
 use rs_catalog::Catalog;
 use rs_expr::MemScorer;
@@ -64,6 +65,8 @@ impl Data {
             b"find-index" => tell_index(alloc, &self.catalog, rest),
             b"room" => tell_room(alloc, &self.catalog, rest),
             b"index-for" => tell_index_for(alloc, &self.catalog, rest),
+            b"scan-table" => tell_table_scan(alloc, &self.catalog, rest),
+            b"scan-index" => tell_index_scan(alloc, &self.catalog, rest),
             _ => answer(alloc, word, rest),
         }
     }

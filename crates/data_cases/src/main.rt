@@ -1,5 +1,5 @@
-//! Answers what the lines of standard input ask of the crates of the data. Such lines are tests of `rs_rank`, `rs_queue`
-//! and `rs_catalog`.
+//! Answers what the lines of standard input ask of the crates of the data. Such lines are tests of `rs_rank`, `rs_queue`,
+//! `rs_catalog` and `rs_scan`.
 //!
 //! Each line is printed as it is, and its answer behind it. A line is one of these, its words with one space between:
 //! - `sort SCORE..`: the places of rows of these scores in the stable order, counted from 1.
@@ -31,6 +31,9 @@
 //!   many rows it has, or its name, or the numbers of its table and its predicate.
 //! - `room LIST NAME`: whether one more of this name can join the `tables`, `predicates` or `indexes`.
 //! - `index-for TABLE PREDICATE ENTRY ARGUMENT..`: the number of the first index of a term.
+//! - `scan-table NAME ENTRY BLOCK COUNT`: what a scan of all rows of a table gives, drawn so often, for a FROM entry of a block,
+//!   and how many rows it gave. Of a row its block, mask, rows and sum are told. `scan-index NAME WEIGHT ENTRY BLOCK COUNT`:
+//!   the same of a rank index, for a term of this weight.
 //! - a comment that begins with `#`, or nothing.
 //!
 //! A key is `BOUND:BLOCK:MASK:ROW.ROW..`, and an answer `SCORE:BLOCK:MASK:ROW.ROW..:VALUE,VALUE..`. A value is a number, or
@@ -44,6 +47,7 @@ mod laws;
 mod line;
 mod queues;
 mod ranks;
+mod scans;
 
 use case_lines::answer_lines;
 use laws::{laws_hold_of_keys, laws_hold_of_numbers, laws_hold_of_pairs};
