@@ -15,6 +15,8 @@ use script::script_of;
 use std::alloc::Global;
 use std::process::ExitCode;
 
+/// What scripts parse to.
+#[derive(Drop)]
 struct Scripts;
 
 impl Cases for Scripts {
