@@ -1,5 +1,5 @@
 -- The lines that have a case, the words of a line, and the bytes that escapes stand for.
-use Rattle.std.specs.Prelude.{ℕ, ◌+◌, ◌-◌, ◌==◌, nat_le, Bool, true, false, not, List, [], ◌∷◌, take, drop, position, Option, Some, None, option_map, unwrap_or, ◌&&◌, if◌then◌else◌}
+use Rattle.std.specs.Prelude.{ℕ, ◌+◌, ◌-◌, ◌==◌, nat_le, Bool, false, not, List, [], ◌∷◌, take, drop, position, Option, Some, None, option_map, unwrap_or, ◌&&◌, if◌then◌else◌}
 
 -- a line has a case unless it is empty or begins with '#'
 abbrev pub has_case : List ℕ → Bool
