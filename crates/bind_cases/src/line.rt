@@ -1,90 +1,173 @@
 ghost use Rattle.std.specs.Prelude.{IfOk};
 ghost use Rattle.rs_syntax.specs.Syntax.{command_of, commands_of};
+ghost use Rattle.rs_query.specs.WellFormed.{IsQuery};
 ghost use Rattle.rs_syntax.specs.Written.{AreWritten, IsWritten};
 
-use crate::fault::Fault;
 use crate::make::make;
+use crate::queries::{tell_combinations, tell_plain};
 use crate::show::{show_count, show_index, show_predicate, show_query, show_table};
+use case_lines::{Cases, Fault, cut_word, number_of, text_of};
 use rs_bind::{bind, bind_count, bind_index, bind_predicate, bind_table};
 use rs_catalog::Catalog;
 use rs_lex::{MOST_BYTES, tokens};
+use rs_query::Query;
 use rs_syntax::{Statement, parse};
-use rs_value::Text;
 use std::alloc::Global;
 
-/// Does what a line says.
-pub fn work_line(rt: &HostRuntime, catalog: &mut Catalog, line: &str) -> Result<(), Fault> {
-    if line.is_empty() || line.starts_with('#') {
-        println!(rt; "{line}")?;
-        return Ok(());
+/// The tables and predicates that the lines in front have made.
+#[derive(Drop)]
+pub struct Made {
+    catalog: Catalog,
+}
+
+impl Made {
+    pub fn new(alloc: Global) -> Made {
+        Made {
+            catalog: Catalog::new(alloc),
+        }
     }
-    if let Some(script) = line.strip_prefix("bind ") {
-        let statements = statements_of(rt.alloc(), script)?;
-        return work_statements(rt, catalog, &statements, false);
+}
+
+impl Cases for Made {
+    fn answer(&mut self, alloc: Global, line: &[u8]) -> Result<String, Fault> {
+        let (word, script) = cut_word(line);
+        match word {
+            b"bind" => tell_bound(alloc, &self.catalog, script),
+            b"make" => tell_made(alloc, &mut self.catalog, script),
+            b"rows" => tell_query(alloc, &self.catalog, Asked::Rows, script),
+            b"plain" => tell_query(alloc, &self.catalog, Asked::Answers(0), script),
+            b"failing" => tell_failing(alloc, &self.catalog, script),
+            _ => Err(Fault::Form),
+        }
     }
-    if let Some(script) = line.strip_prefix("make ") {
-        let statements = statements_of(rt.alloc(), script)?;
-        return work_statements(rt, catalog, &statements, true);
+}
+
+/// Binds the only statement of a script, and tells what came of it.
+fn tell_bound(alloc: Global, catalog: &Catalog, script: &[u8]) -> Result<String, Fault> {
+    let statements = statements_of(alloc, script)?;
+    tell_statement(alloc, catalog, &statements)
+}
+
+/// The same, and the statement joins the catalogue.
+fn tell_made(alloc: Global, catalog: &mut Catalog, script: &[u8]) -> Result<String, Fault> {
+    let statements = statements_of(alloc, script)?;
+    make_statement(alloc, catalog, &statements)
+}
+
+/// What is asked of a query.
+#[derive(Clone, Copy)]
+enum Asked {
+    /// Its combinations of rows.
+    Rows,
+    /// Its answers, where the call of this number fails, counted from 1.
+    Answers(u64),
+}
+
+/// The answers of a query where a call fails: `NUMBER QUERY`.
+fn tell_failing(alloc: Global, catalog: &Catalog, words: &[u8]) -> Result<String, Fault> {
+    let (number, script) = cut_word(words);
+    tell_query(alloc, catalog, Asked::Answers(number_of(number)?), script)
+}
+
+/// Binds the query that is the only statement of a script, and tells what is asked of it.
+fn tell_query(
+    alloc: Global,
+    catalog: &Catalog,
+    asked: Asked,
+    script: &[u8],
+) -> Result<String, Fault> {
+    let statements = statements_of(alloc, script)?;
+    let query = query_of(alloc, catalog, &statements)?;
+    match asked {
+        Asked::Rows => tell_combinations(alloc, catalog, &query),
+        Asked::Answers(failing) => tell_plain(alloc, catalog, &query, failing),
     }
-    Err(Fault::Form)
+}
+
+fn query_of(alloc: Global, catalog: &Catalog, statements: &[Statement]) -> Result<Query, Fault>
+    requires { AreWritten (commands_of statements.now) }
+    ensures { IfOk result (λ query. IsQuery catalog.now query) }
+{
+    if statements.len() != 1 {
+        return Err(Fault::Form);
+    }
+    let Statement::Query(select) = &statements[0] else {
+        return Err(Fault::Form);
+    };
+    match bind(alloc, catalog, select) {
+        Ok(query) => Ok(query),
+        Err(_) => Err(Fault::Form),
+    }
 }
 
 /// The statements of a script.
-fn statements_of(alloc: Global, script: &str) -> Result<Vec<Statement>, Fault>
+fn statements_of(alloc: Global, script: &[u8]) -> Result<Vec<Statement>, Fault>
     ensures { IfOk result (λ made. AreWritten (commands_of made.items)) }
 {
-    let Ok(text) = Text::from_bytes(alloc, script.as_bytes()) else {
-        return Err(Fault::Memory);
-    };
+    let text = text_of(alloc, script)?;
     if text.bytes().len() > MOST_BYTES {
-        return Err(Fault::Script);
+        return Err(Fault::Form);
     }
     let Ok(tokens) = tokens(alloc, &text) else {
-        return Err(Fault::Script);
+        return Err(Fault::Form);
     };
-    match parse(alloc, &text, &tokens) {
-        Ok(statements) => Ok(statements),
-        Err(_) => Err(Fault::Script),
-    }
+    let Ok(statements) = parse(alloc, &text, &tokens) else {
+        return Err(Fault::Form);
+    };
+    Ok(statements)
 }
 
-/// Binds the only statement of a script, and shows what came of it. Where it is to be made, it joins the catalogue.
-fn work_statements(
-    rt: &HostRuntime,
-    catalog: &mut Catalog,
+fn tell_statement(
+    alloc: Global,
+    catalog: &Catalog,
     statements: &[Statement],
-    is_made: bool,
-) -> Result<(), Fault>
+) -> Result<String, Fault>
     requires { AreWritten (commands_of statements.now) }
 {
     if statements.len() != 1 {
-        return Err(Fault::Script);
+        return Err(Fault::Form);
     }
-    let statement = &statements[0];
-    show_bound(rt, catalog, statement)?;
-    if is_made {
-        return make(rt.alloc(), catalog, statement);
+    let mut told = String::new(alloc);
+    show_bound(alloc, catalog, &statements[0], &mut told)?;
+    Ok(told)
+}
+
+fn make_statement(
+    alloc: Global,
+    catalog: &mut Catalog,
+    statements: &[Statement],
+) -> Result<String, Fault>
+    requires { AreWritten (commands_of statements.now) }
+{
+    let told = tell_statement(alloc, catalog, statements)?;
+    if statements.len() != 1 {
+        return Err(Fault::Form);
     }
-    Ok(())
+    make(alloc, catalog, &statements[0])?;
+    Ok(told)
 }
 
 /// Binds a statement, and shows what came of it.
-fn show_bound(rt: &HostRuntime, catalog: &Catalog, statement: &Statement) -> Result<(), Fault>
+fn show_bound(
+    alloc: Global,
+    catalog: &Catalog,
+    statement: &Statement,
+    told: &mut String,
+) -> Result<(), Fault>
     requires { IsWritten (command_of statement.now) }
 {
-    let alloc = rt.alloc();
     match statement {
         Statement::CreateTable { columns, .. } => {
-            show_table(rt, &bind_table(alloc, columns.items()))
+            show_table(told, &bind_table(alloc, columns.items()))
         }
         Statement::CreatePredicate { .. } => {
-            show_predicate(rt, &bind_predicate(alloc, statement))
+            show_predicate(told, &bind_predicate(alloc, statement))
         }
         Statement::CreateRankIndex { .. } => {
-            show_index(rt, &bind_index(alloc, catalog, statement))
+            show_index(told, &bind_index(alloc, catalog, statement))
         }
-        Statement::Query(select) => show_query(rt, &bind(alloc, catalog, select)),
-        Statement::Fetch { count, .. } => show_count(rt, bind_count(count.0, count.1)),
-        _ => Err(Fault::Kind),
+        Statement::Query(select) => show_query(told, &bind(alloc, catalog, select)),
+        Statement::Fetch { count, .. } => show_count(told, bind_count(count.0, count.1)),
+        _ => Err(Fault::Form),
     }
 }

@@ -1,54 +1,34 @@
-//! Binds the statements of standard input, one of each line, and prints for each one line: what is bound, or the rule
-//! that it breaks and where. Such lines are the tests of `rs_bind`.
+//! Binds the statements of standard input, one of each line, and prints behind each line one more: what is bound, or
+//! the rule that it breaks and where. Such lines are the tests of `rs_bind`. Others ask what a bound query gives: they are
+//! tests of `rs_query` and `rs_plain`, whose queries nothing but the binder makes.
 //!
 //! A line is one of these:
 //! - `bind STATEMENT`: the statement is bound.
 //! - `make STATEMENT`: it is bound, and the table or predicate joins the catalogue of the lines behind it. The text
 //!   behind FROM is not the name of a table's file here, but what is in the file.
-//! - a comment that begins with `#`, or nothing: it is printed as it is.
+//! - `rows QUERY`: the combinations of rows of a query of one block.
+//! - `plain QUERY`: its answers or the fault that stops it, and the calls of the scorer. An answer is its block, its mask,
+//!   its rows, its score and its values. `failing N QUERY`: the same, where the Nth call fails.
+//! - a comment that begins with `#`, or nothing.
 //!
-//! Places count from the first byte of the statement.
+//! A statement has the escapes of `case_lines`. Places count from the first byte of what it stands for.
 #![tactic(auto)]
 
-mod fault;
 mod line;
 mod make;
+mod queries;
 mod show;
 
-use fault::Fault;
-use line::work_line;
+use case_lines::answer_lines;
+use line::Made;
 use rs_bind::{
     expressions_are_typed_by_rules, queries_are_typed_by_rules, statements_are_typed_by_rules,
 };
-use rs_catalog::Catalog;
 use std::process::ExitCode;
 
 fn main(rt: HostRuntime) -> ExitCode {
     expressions_are_typed_by_rules();
     queries_are_typed_by_rules();
     statements_are_typed_by_rules();
-    let mut catalog = Catalog::new(rt.alloc());
-    match work_lines(&rt, &mut catalog) {
-        Ok(()) => ExitCode::SUCCESS,
-        Err((number, fault)) => {
-            let text = fault.text();
-            let _ = eprintln!(rt; "line {number}: {text}");
-            ExitCode::from(fault.status())
-        }
-    }
-}
-
-/// Works all lines, up to the first one that has a fault, which is told with its number, counted from 1.
-fn work_lines(rt: &HostRuntime, catalog: &mut Catalog) -> Result<(), (u64, Fault)> {
-    let mut number = 0u64;
-    for line in rt.lines(rt.alloc()) {
-        number = number.saturating_add(1);
-        let Ok(line) = line else {
-            return Err((number, Fault::Input));
-        };
-        if let Err(fault) = work_line(rt, catalog, line.as_str()) {
-            return Err((number, fault));
-        }
-    }
-    Ok(())
+    answer_lines(&rt, &mut Made::new(rt.alloc()))
 }

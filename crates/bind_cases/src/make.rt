@@ -3,7 +3,7 @@ ghost use Rattle.rs_syntax.specs.Syntax.{command_of};
 ghost use Rattle.rs_bind.specs.Predicates.{IsCreatePredicate};
 ghost use Rattle.rs_syntax.specs.Written.{IsWritten};
 
-use crate::fault::Fault;
+use case_lines::Fault;
 use rs_bind::{bind_predicate, bind_table};
 use rs_catalog::{Catalog, What};
 use rs_syntax::{Name, Statement};
@@ -23,7 +23,7 @@ pub fn make(alloc: Global, catalog: &mut Catalog, statement: &Statement) -> Resu
             file,
         } => make_table(alloc, catalog, name, columns.items(), file),
         Statement::CreatePredicate { .. } => make_predicate(alloc, catalog, statement),
-        _ => Err(Fault::Made),
+        _ => Err(Fault::Form),
     }
 }
 
@@ -43,7 +43,7 @@ fn make_table(
         return Err(Fault::Memory);
     };
     if catalog.room(What::Table, &name) != Ok(()) {
-        return Err(Fault::Made);
+        return Err(Fault::Form);
     }
     match catalog.add_table(name, table) {
         Ok(()) => Ok(()),
@@ -56,14 +56,14 @@ fn table_of(alloc: Global, columns: &[(Name, Kind)], file: &Text) -> Result<Tabl
     requires { 1 ≤ length columns.now }
 {
     if file.bytes().len() > TABLE_LIMIT {
-        return Err(Fault::Made);
+        return Err(Fault::Form);
     }
     let Ok(schema) = bind_table(alloc, columns) else {
-        return Err(Fault::Made);
+        return Err(Fault::Form);
     };
     match Table::read(alloc, schema, file.bytes()) {
         Ok(table) => Ok(table),
-        Err(_) => Err(Fault::Made),
+        Err(_) => Err(Fault::Form),
     }
 }
 
@@ -74,10 +74,10 @@ fn make_predicate(alloc: Global, catalog: &mut Catalog, statement: &Statement) -
     ensures { OnErr result (catalog.new ≡ catalog.old) }
 {
     let Ok(predicate) = bind_predicate(alloc, statement) else {
-        return Err(Fault::Made);
+        return Err(Fault::Form);
     };
     if catalog.room(What::Predicate, predicate.name()) != Ok(()) {
-        return Err(Fault::Made);
+        return Err(Fault::Form);
     }
     match catalog.add_predicate(predicate) {
         Ok(()) => Ok(()),

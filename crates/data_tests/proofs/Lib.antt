@@ -1,3 +1,2 @@
 pub mod JoinedFacts
 pub mod KindFacts
-pub mod SideFacts

@@ -3,8 +3,7 @@
 ghost use Rattle.std.specs.Prelude.{◌≡◌, [], ◌∷◌};
 
 use rs_mu::*;
-use rs_queue::Queue;
-use rs_rank::{Ask, Ids, Key, RankRow, Weights};
+use rs_rank::{Ask, Ids, RankRow, Weights};
 use std::test::Fail;
 
 // Two terms of weight 1 and at most 10; the first is evaluated below.
@@ -59,31 +58,6 @@ fn gives_a_row_whose_key_stays_at_once(rt: HostRuntime) -> Result<(), Fail> {
     assert_eq!(rt; core.take(), Some(row(2, 17)));
     assert_eq!(rt; core.ask(), Ask::End);
     assert_eq!(rt; core.take(), None);
-    Ok(())
-}
-
-// A key of this bound, of a row of the first entry.
-fn key(bound: u64, number: u32) -> Key {
-    Key {
-        bound,
-        ids: row(number, 0).ids,
-    }
-}
-
-#[test]
-fn queue_gives_keys_in_their_order(rt: HostRuntime) -> Result<(), Fail> {
-    let mut queue = Queue::new(rt.alloc());
-    // The greater bound comes first, and at equal bounds the earlier row.
-    for key in [key(5, 2), key(9, 3), key(5, 1), key(9, 3)] {
-        if !queue.has_key(&key) {
-            assert!(rt; queue.push(key, key.bound).is_ok());
-        }
-    }
-    for first in [key(9, 3), key(5, 1), key(5, 2)] {
-        assert_eq!(rt; queue.peek(), Some(&first));
-        assert_eq!(rt; queue.pop(), Some((first, first.bound)));
-    }
-    assert_eq!(rt; queue.pop(), None);
     Ok(())
 }
 

@@ -7,7 +7,6 @@ ghost use Rattle.rs_query.specs.WellFormed.{IsBlock};
 ghost use Rattle.data_tests.specs.Joined.{IsJoin};
 ghost use Rattle.data_tests.specs.Tables.{HasPredicate};
 
-use crate::calls::is_number;
 use crate::joined::{both_rows, formed_join, join, two_tables};
 use rs_catalog::Catalog;
 use rs_query::Block;
@@ -32,6 +31,13 @@ fn compare(rt: &impl Abort, values: &[Value], first: i64, second: i64) {
         is_number(&values[0], first) && is_number(&values[1], second),
         "{first}, {second}"
     );
+}
+
+fn is_number(value: &Value, want: i64) -> bool {
+    match value {
+        Value::Int(number) => *number == want,
+        Value::Text(_) => false,
+    }
 }
 
 fn assert_args(

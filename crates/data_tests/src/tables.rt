@@ -22,28 +22,20 @@ pub(crate) fn text(alloc: Global, chars: &str) -> Result<Text, Fail> {
 }
 
 /// The predicate of these parameters, whose score is the number that it is given first.
-fn predicate(alloc: Global, name: &str, params: &[Kind], max: u32) -> Result<Predicate, Fail>
+fn predicate(name: Text, params: List<Kind>, max: u32) -> Predicate
     requires some { 1 ≤ max }
-    requires few { length params.now ≤ 8 }
-    requires number { is_kind kind.Int (slice_get params.now 0) ≡ true }
-    ensures { IfOk result (λ predicate. predicate ≡ record { name = predicate.name; params = params.now; max = max; cost = 1; formula = Argument 0 }) }
+    requires few { length params ≤ 8 }
+    requires number { is_kind kind.Int (slice_get params 0) ≡ true }
+    ensures { result ≡ record { name = name; params = params; max = max; cost = 1; formula = Argument 0 } }
 {
-    let params = List::of(Vec::from_slice(alloc, params)?);
-    match text(alloc, name) {
-        Ok(name) => Ok(Predicate::new(name, params, max, 1, Expr::Arg(0))),
-        Err(fail) => {
-            drop(params);
-            Err(fail)
-        }
-    }
+    Predicate::new(name, params, max, 1, Expr::Arg(0))
 }
 
-/// Adds such a predicate.
-pub(crate) fn add_predicate(
+/// Adds the predicate "p" of these parameters.
+fn add_predicate(
     rt: &impl Abort,
     alloc: Global,
     catalog: &mut Catalog,
-    name: &str,
     params: &[Kind],
     max: u32,
 ) -> Result<(), Fail>
@@ -51,12 +43,12 @@ pub(crate) fn add_predicate(
     requires few { length params.now ≤ 8 }
     requires number { is_kind kind.Int (slice_get params.now 0) ≡ true }
     ensures predicate { IfOk result (λ _. catalog.old.predicates ≡ [] → HasPredicate params.now max catalog.new) }
-    ensures count { IfOk result (λ _. length catalog.new.predicates ≡ length catalog.old.predicates + 1) }
     ensures tables { IfOk result (λ _. catalog.new.tables ≡ catalog.old.tables) }
 {
-    let predicate = predicate(alloc, name, params, max)?;
-    assert!(rt; catalog.room(What::Predicate, predicate.name()) == Ok(()));
-    Ok(catalog.add_predicate(predicate)?)
+    let name = text(alloc, "p")?;
+    let params = Vec::from_slice(alloc, params)?;
+    assert!(rt; catalog.room(What::Predicate, &name) == Ok(()));
+    Ok(catalog.add_predicate(predicate(name, List::of(params), max))?)
 }
 
 /// The table of a file of one column of numbers, "k".
@@ -104,7 +96,7 @@ pub(crate) fn catalogue(
     ensures predicate { IfOk result (HasPredicate params.now max) }
 {
     let mut catalog = Catalog::new(alloc);
-    add_predicate(rt, alloc, &mut catalog, "p", params, max)?;
+    add_predicate(rt, alloc, &mut catalog, params, max)?;
     add_table(rt, alloc, &mut catalog, "left", files.0)?;
     add_table(rt, alloc, &mut catalog, "right", files.1)?;
     Ok(catalog)

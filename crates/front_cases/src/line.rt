@@ -1,44 +1,60 @@
 //! What the lines ask for.
 
-use crate::escape::{cut_word, read_escaped};
-use crate::fault::Fault;
 use crate::scripts::{Asked, tell_script};
 use crate::tables::{tell_cell, tell_place, tell_rows};
 use crate::values::{
-    number_of, tell_digits, tell_line, tell_list, tell_no_memory, tell_no_texts, tell_number,
+    tell_digits, tell_line, tell_list, tell_no_memory, tell_no_texts, tell_number,
     tell_order_of_numbers, tell_order_of_texts, tell_place_of_key, tell_print, tell_text,
     tell_whether,
 };
+use case_lines::{Cases, Fault, count_of, cut_word, read_escaped, read_times};
 use std::alloc::Global;
 
-/// Prints a line and what it asks for.
-pub fn do_line(rt: &HostRuntime, line: &str, file: &mut Vec<u8>) -> Result<(), Fault> {
-    println!(rt; "{line}")?;
-    if line.is_empty() || line.starts_with('#') {
-        return Ok(());
-    }
-    let (word, rest) = cut_word(line.as_bytes());
-    match word {
-        b"file" => {
-            file.clear();
-            read_escaped(rest, file)
-        }
-        b"more" => add_to_file(rest, file),
-        _ => {
-            let answer = answer(rt.alloc(), word, rest, file)?;
-            println!(rt; "  {answer}")?;
-            Ok(())
+/// The bytes of the last line `file`, and of the lines `more` behind it.
+#[derive(Drop)]
+pub struct Front {
+    file: Vec<u8>,
+}
+
+impl Front {
+    pub fn new(alloc: Global) -> Front {
+        Front {
+            file: Vec::new(alloc),
         }
     }
 }
 
-/// Adds bytes as often as the number in front of them says.
-fn add_to_file(rest: &[u8], file: &mut Vec<u8>) -> Result<(), Fault> {
-    let (count, bytes) = cut_word(rest);
-    for _ in 0..number_of(count)? {
-        read_escaped(bytes, file)?;
+impl Cases for Front {
+    fn answer(&mut self, alloc: Global, line: &[u8]) -> Result<String, Fault> {
+        let (word, rest) = cut_word(line);
+        match word {
+            b"file" => {
+                set_file(rest, &mut self.file)?;
+                Ok(String::new(alloc))
+            }
+            b"more" => {
+                add_to_file(rest, &mut self.file)?;
+                Ok(String::new(alloc))
+            }
+            _ => told_line(alloc, answer(alloc, word, rest, &self.file)?),
+        }
     }
-    Ok(())
+}
+
+/// The line that tells an answer.
+fn told_line(alloc: Global, answer: String) -> Result<String, Fault> {
+    Ok(format!(in alloc; "  {answer}\n")?)
+}
+
+fn set_file(escaped: &[u8], file: &mut Vec<u8>) -> Result<(), Fault> {
+    file.clear();
+    read_escaped(escaped, file)
+}
+
+/// Adds bytes as often as the number in front of them says.
+fn add_to_file(words: &[u8], file: &mut Vec<u8>) -> Result<(), Fault> {
+    let (count, escaped) = cut_word(words);
+    read_times(count_of(count)?, escaped, file)
 }
 
 fn answer(alloc: Global, word: &[u8], rest: &[u8], file: &[u8]) -> Result<String, Fault> {

@@ -19,19 +19,17 @@
 //! - a comment that begins with `#`, or nothing.
 //!
 //! A value is a number, `least` for the least one, or a text behind `'`. A schema is `=COLUMN`, as the file's header
-//! says, or the names of columns with `,` between, those of numbers behind `#`. In bytes and words `\n` is a line feed,
-//! `\r` a carriage return, `\s` a space, `\\` a backslash and `\xHH` the byte with these two hexadecimal digits.
+//! says, or the names of columns with `,` between, those of numbers behind `#`. Bytes and words have the escapes of
+//! `case_lines`.
 #![tactic(auto)]
 
-mod escape;
-mod fault;
 mod line;
 mod scripts;
 mod tables;
 mod values;
 
-use fault::Fault;
-use line::do_line;
+use case_lines::answer_lines;
+use line::Front;
 use rs_lex::{
     one_list_of_tokens, spelled_is_not_refused, tokens_are_longest, tokens_are_taken,
     tokens_are_tokens, tokens_end,
@@ -40,15 +38,7 @@ use std::process::ExitCode;
 
 fn main(rt: HostRuntime) -> ExitCode {
     laws_hold_of_scripts();
-    let mut file = Vec::new(rt.alloc());
-    match do_lines(&rt, &mut file) {
-        Ok(()) => ExitCode::SUCCESS,
-        Err((number, fault)) => {
-            let text = fault.text();
-            let _ = eprintln!(rt; "line {number}: {text}");
-            ExitCode::from(fault.status())
-        }
-    }
+    answer_lines(&rt, &mut Front::new(rt.alloc()))
 }
 
 fn laws_hold_of_scripts() {
@@ -58,19 +48,4 @@ fn laws_hold_of_scripts() {
     tokens_are_taken();
     one_list_of_tokens();
     spelled_is_not_refused();
-}
-
-/// Does what the lines say, up to the first one that has a fault, which is told with its number, counted from 1.
-fn do_lines(rt: &HostRuntime, file: &mut Vec<u8>) -> Result<(), (u64, Fault)> {
-    let mut number = 0u64;
-    for line in rt.lines(rt.alloc()) {
-        number = number.saturating_add(1);
-        let Ok(line) = line else {
-            return Err((number, Fault::Input));
-        };
-        if let Err(fault) = do_line(rt, line.as_str(), file) {
-            return Err((number, fault));
-        }
-    }
-    Ok(())
 }

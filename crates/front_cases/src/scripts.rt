@@ -3,11 +3,11 @@
 ghost use Rattle.std.specs.Prelude.{◌≤◌, IfOk, length};
 ghost use Rattle.rs_grammar.specs.Lexemes.{IsFront};
 
-use crate::fault::Fault;
-use rs_grammar::lexemes;
+use case_lines::Fault;
+use rs_grammar::{Lexeme, lexemes};
 use rs_lex::{LexFault, MOST_BYTES, Token, tokens};
 use rs_value::Text;
-use std::alloc::Global;
+use std::alloc::{AllocError, Global};
 
 /// What is asked of a script.
 #[derive(Clone, Copy)]
@@ -54,12 +54,16 @@ fn tell_asked(alloc: Global, asked: Asked, script: &Text, tokens: &[Token]) -> R
 fn tell_tokens(alloc: Global, tokens: &[Token]) -> Result<String, Fault> {
     let mut told = String::from_str(alloc, "tokens")?;
     for token in tokens {
-        let sort = token.sort;
-        let start = token.at.start;
-        let end = token.at.end;
-        told.push_str(format!(in alloc; " {sort:?} {start}-{end}")?.as_str())?;
+        tell_token(token, &mut told)?;
     }
     Ok(told)
+}
+
+fn tell_token(token: &Token, told: &mut String) -> Result<(), AllocError> {
+    let sort = token.sort;
+    let start = token.at.start;
+    let end = token.at.end;
+    write!(told, " {sort:?} {start}-{end}")
 }
 
 /// The kind of each lexeme, its text between `'`, and its number.
@@ -68,10 +72,14 @@ fn tell_lexemes(alloc: Global, script: &Text, tokens: &[Token]) -> Result<String
 {
     let mut told = String::from_str(alloc, "lexemes")?;
     for lexeme in &lexemes(alloc, script, tokens)? {
-        let kind = lexeme.kind;
-        let text = lexeme.text.as_str();
-        let number = lexeme.number;
-        told.push_str(format!(in alloc; " {kind:?}'{text}'{number}")?.as_str())?;
+        tell_lexeme(lexeme, &mut told)?;
     }
     Ok(told)
+}
+
+fn tell_lexeme(lexeme: &Lexeme, told: &mut String) -> Result<(), AllocError> {
+    let kind = lexeme.kind;
+    let text = lexeme.text.as_str();
+    let number = lexeme.number;
+    write!(told, " {kind:?}'{text}'{number}")
 }

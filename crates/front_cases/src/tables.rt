@@ -1,12 +1,8 @@
 //! What is asked of tables.
 
-ghost use Rattle.std.specs.Prelude.{◌≤◌, IfOk, length};
-
-use crate::escape::{cut_word, print_escaped, text_of};
-use crate::fault::Fault;
-use crate::values::number_of;
+use case_lines::{Fault, columns_of, cut_word, print_escaped, small_number_of, text_of};
 use rs_table::{Schema, TABLE_LIMIT, Table, TableFault};
-use rs_value::{Kind, Memory, Text, Value};
+use rs_value::{Memory, Value};
 use std::alloc::Global;
 
 /// Why there is no table.
@@ -88,13 +84,6 @@ pub fn tell_cell(alloc: Global, words: &[u8], file: &[u8]) -> Result<String, Fau
     }
 }
 
-fn small_number_of(word: &[u8]) -> Result<u8, Fault> {
-    match u8::try_from(number_of(word)?) {
-        Ok(number) => Ok(number),
-        Err(_) => Err(Fault::Form),
-    }
-}
-
 fn tell_cell_of(alloc: Global, table: &Table, row: u8, column: u8) -> Result<String, Fault> {
     let row = u32::from(row);
     if row < 1 || row > table.len() || column as usize >= table.schema().columns().len() {
@@ -127,27 +116,5 @@ fn schema_of(alloc: Global, word: &[u8], file: &[u8]) -> Result<Schema, Refusal>
     match word {
         [b'=', column @ ..] => schema_of_header(alloc, column, file),
         _ => Ok(Schema::make(columns_of(alloc, word)?)),
-    }
-}
-
-/// Columns with `,` between.
-fn columns_of(alloc: Global, word: &[u8]) -> Result<Vec<(Text, Kind)>, Fault>
-    ensures { IfOk result (λ columns. (1 ≤ length columns.items) × (length columns.items ≤ 64)) }
-{
-    let mut columns = Vec::new(alloc);
-    for column in word.split(|byte| *byte == b',') {
-        columns.push(column_of(alloc, column)?)?;
-    }
-    if columns.is_empty() || columns.len() > 64 {
-        return Err(Fault::Form);
-    }
-    Ok(columns)
-}
-
-/// The name of a column, and its kind: behind `#` numbers, else texts.
-fn column_of(alloc: Global, word: &[u8]) -> Result<(Text, Kind), Fault> {
-    match word {
-        [b'#', name @ ..] => Ok((text_of(alloc, name)?, Kind::Int)),
-        name => Ok((text_of(alloc, name)?, Kind::Text)),
     }
 }

@@ -3,8 +3,7 @@
 ghost use Rattle.std.specs.Prelude.{◌≡◌};
 ghost use Rattle.rs_value.specs.Value.{kind_of};
 
-use crate::escape::{bytes_of, cut_word, print_escaped, text_of};
-use crate::fault::Fault;
+use case_lines::{Fault, bytes_of, cut_word, number_of, numbers_of, print_escaped, text_of, value_of};
 use rs_lines::row_line;
 use rs_value::{List, Rel, Text, TextFault, Value, decimal_of, int_of};
 use std::alloc::Global;
@@ -26,13 +25,6 @@ pub fn tell_digits(alloc: Global, words: &[u8]) -> Result<String, Fault> {
     match decimal_of(digits, number_of(most)?) {
         Some(number) => Ok(format!(in alloc; "{number}")?),
         None => Ok(String::from_str(alloc, "none")?),
-    }
-}
-
-pub fn number_of(word: &[u8]) -> Result<u64, Fault> {
-    match decimal_of(word, u64::MAX) {
-        Some(number) => Ok(number),
-        None => Err(Fault::Form),
     }
 }
 
@@ -137,18 +129,6 @@ fn printed(alloc: Global, value: &Value) -> Result<Vec<u8>, Fault> {
     Ok(bytes)
 }
 
-/// The value that a word stands for: behind `'` a text, else a number.
-fn value_of(alloc: Global, word: &[u8]) -> Result<Value, Fault> {
-    match word {
-        [b'\'', text @ ..] => Ok(Value::Text(text_of(alloc, text)?)),
-        b"least" => Ok(Value::Int(i64::MIN)),
-        _ => match int_of(word) {
-            Some(number) => Ok(Value::Int(number)),
-            None => Err(Fault::Form),
-        },
-    }
-}
-
 /// The line of a printed row: of a rank, a score and values.
 pub fn tell_line(alloc: Global, words: &[u8]) -> Result<String, Fault> {
     let (rank, words) = cut_word(words);
@@ -204,7 +184,7 @@ fn places_of(alloc: Global, words: &[u8]) -> Result<BTreeMap<Vec<Value>, usize>,
 
 /// The items of a list of numbers, how many there are, whether there is none, and the items that are taken out of it.
 pub fn tell_list(alloc: Global, words: &[u8]) -> Result<String, Fault> {
-    let list = list_of(alloc, words)?;
+    let list = List::of(numbers_of(alloc, words)?);
     let items = list.items().as_slice();
     let count = list.len();
     let is_empty = list.is_empty();
@@ -212,14 +192,6 @@ pub fn tell_list(alloc: Global, words: &[u8]) -> Result<String, Fault> {
     let taken = list.into_items();
     let taken = taken.as_slice();
     Ok(format!(in alloc; "{told} {taken:?}")?)
-}
-
-fn list_of(alloc: Global, words: &[u8]) -> Result<List<u64>, Fault> {
-    let mut numbers = Vec::new(alloc);
-    for word in words.split(|byte| *byte == b' ') {
-        numbers.push(number_of(word)?)?;
-    }
-    Ok(List::of(numbers))
 }
 
 /// Whether a list of no texts has no item.

@@ -11,17 +11,16 @@ fn text(alloc: Global, bytes: &[u8]) -> Result<Text, Fail> {
     Ok(Text::from_bytes(alloc, bytes)?)
 }
 
-/// What a fetch answers, and then the whole buffer, which held `>`.
+/// What a fetch answers.
 fn fetch<F: Files>(
     files: &mut F,
     alloc: Global,
     name: &str,
     limit: usize,
-) -> Result<(Result<(), FetchFault>, Vec<u8>), Fail> {
-    let mut into = b">".to_vec(alloc)?;
+    into: &mut Vec<u8>,
+) -> Result<Result<(), FetchFault>, Fail> {
     let name = text(alloc, name.as_bytes())?;
-    let answer = files.fetch(&name, limit, &mut into);
-    Ok((answer, into))
+    Ok(files.fetch(&name, limit, into))
 }
 
 /// Adds a file.
@@ -37,7 +36,7 @@ fn add_two_files(files: &mut MemFiles, alloc: Global) -> Result<(), Fail> {
     add(files, alloc, "a", "newer")
 }
 
-/// A name, a limit, what the fetch answers, and what the buffer then holds.
+/// A name, a limit, what the fetch answers, and what the buffer then holds, which held `>`.
 type Fetch = (&'static str, usize, Result<(), FetchFault>, &'static str);
 
 /// Fetches from the two files, and compares.
@@ -48,7 +47,8 @@ fn assert_fetches(
     rows: &[Fetch],
 ) -> Result<(), Fail> {
     for (name, limit, answer, bytes) in rows {
-        let (got, into) = fetch(files, alloc, name, *limit)?;
+        let mut into = b">".to_vec(alloc)?;
+        let got = fetch(files, alloc, name, *limit, &mut into)?;
         assert_eq!(rt; got, *answer, "at {name}, {limit}");
         assert_eq!(rt; into.as_slice(), bytes.as_bytes(), "at {name}, {limit}");
     }
@@ -171,21 +171,34 @@ fn assert_length<F: Files>(
     answer: Result<(), FetchFault>,
     length: usize,
 ) -> Result<(), Fail> {
-    let (got, into) = fetch(files, alloc, name, limit)?;
+    let mut into = b">".to_vec(alloc)?;
+    let got = fetch(files, alloc, name, limit, &mut into)?;
     assert_eq!(rt; got, answer, "at {name}, {limit}");
     assert_eq!(rt; into.len(), length, "at {name}, {limit}");
+    Ok(())
+}
+
+fn assert_lengths<F: Files>(rt: &impl Abort, alloc: Global, files: &mut F) -> Result<(), Fail> {
+    for (name, limit, answer, length) in ON_DISK_FETCHES {
+        assert_length(rt, alloc, files, name, limit, answer, length)?;
+    }
     Ok(())
 }
 
 #[test]
 fn fetches_from_the_disk(rt: HostRuntime) -> Result<(), Fail> {
     write_long_file(&rt)?;
-    let mut files = DirFiles::new(&rt);
-    for (name, limit, answer, length) in ON_DISK_FETCHES {
-        assert_length(&rt, rt.alloc(), &mut files, name, limit, answer, length)?;
-    }
+    assert_lengths(&rt, rt.alloc(), &mut DirFiles::new(&rt))?;
     fs::write(&rt, ON_DISK, b"")?;
-    assert_length(&rt, rt.alloc(), &mut files, ON_DISK, 0, Ok(()), 1)?;
+    assert_length(
+        &rt,
+        rt.alloc(),
+        &mut DirFiles::new(&rt),
+        ON_DISK,
+        0,
+        Ok(()),
+        1,
+    )?;
     fs::remove_file(&rt, ON_DISK)?;
     Ok(())
 }

@@ -4,7 +4,7 @@ ghost use Rattle.std.specs.Prelude.{◌≡◌, ◌∷◌, [], IfOk};
 ghost use Rattle.rs_value.specs.declared.kind.Kind.TheVariants as kind;
 
 use rs_expr::{Call, Expr, FormulaScorer, MemScorer, Predicate, Scorer, ScorerFault};
-use rs_value::{Kind, List, Memory, Text, Value};
+use rs_value::{Kind, List, Text, Value};
 use std::alloc::Global;
 use std::process::Abort;
 use std::test::Fail;
@@ -89,13 +89,27 @@ fn answers_the_value_of_the_formula(rt: HostRuntime) -> Result<(), Fail> {
     Ok(())
 }
 
+/// Asserts what a scorer answers for one name, and that these are its calls.
+fn assert_near(
+    rt: &impl Abort,
+    alloc: Global,
+    scorer: &mut MemScorer,
+    answers: &[Answer],
+) -> Result<(), Fail> {
+    let near = doubling(alloc, b"near")?;
+    assert_answers(rt, scorer, &near, answers);
+    assert_calls(rt, scorer.calls(), b"near", answers);
+    Ok(())
+}
+
 #[test]
 fn answers_the_value_where_no_score_is_written(rt: HostRuntime) -> Result<(), Fail> {
-    let near = doubling(rt.alloc(), b"near")?;
-    let mut scorer = MemScorer::new(rt.alloc());
-    assert_answers(&rt, &mut scorer, &near, &OF_FORMULA);
-    assert_calls(&rt, scorer.calls(), b"near", &OF_FORMULA);
-    Ok(())
+    assert_near(
+        &rt,
+        rt.alloc(),
+        &mut MemScorer::new(rt.alloc()),
+        &OF_FORMULA,
+    )
 }
 
 /// Writes 70 for 7, over 60, and -3 for 8, and 90 for the text `9`.
@@ -111,13 +125,6 @@ fn write_scores(scorer: &mut MemScorer, alloc: Global) -> Result<(), Fail> {
 
 const WRITTEN: [Answer; 4] = [(7, Ok(70)), (8, Ok(-3)), (9, Ok(19)), (7, Ok(70))];
 
-fn assert_written(rt: &impl Abort, alloc: Global, scorer: &mut MemScorer) -> Result<(), Fail> {
-    let near = doubling(alloc, b"near")?;
-    assert_answers(rt, scorer, &near, &WRITTEN);
-    assert_calls(rt, scorer.calls(), b"near", &WRITTEN);
-    Ok(())
-}
-
 /// Asserts that the scores are of one name alone.
 fn assert_far(rt: &impl Abort, alloc: Global, scorer: &mut MemScorer) -> Result<(), Fail> {
     let far = doubling(alloc, b"far")?;
@@ -129,7 +136,7 @@ fn assert_far(rt: &impl Abort, alloc: Global, scorer: &mut MemScorer) -> Result<
 fn answers_the_last_score_that_is_written(rt: HostRuntime) -> Result<(), Fail> {
     let mut scorer = MemScorer::new(rt.alloc());
     write_scores(&mut scorer, rt.alloc())?;
-    assert_written(&rt, rt.alloc(), &mut scorer)?;
+    assert_near(&rt, rt.alloc(), &mut scorer, &WRITTEN)?;
     assert_far(&rt, rt.alloc(), &mut scorer)
 }
 
@@ -142,18 +149,17 @@ const PLANNED: [Answer; 5] = [
     (8, Ok(17)),
 ];
 
-fn plan(scorer: &mut MemScorer, name: &Text) -> Result<(), Memory> {
-    scorer.set(name, &[Value::Int(7)], 70)?;
+fn plan(scorer: &mut MemScorer, alloc: Global) -> Result<(), Fail> {
+    let near = text(alloc, b"near")?;
+    scorer.set(&near, &[Value::Int(7)], 70)?;
     scorer.fail_at(4)?;
-    scorer.fail_at(2)
+    scorer.fail_at(2)?;
+    Ok(())
 }
 
 fn assert_planned(rt: &impl Abort, alloc: Global, scorer: &mut MemScorer) -> Result<(), Fail> {
-    let near = doubling(alloc, b"near")?;
-    plan(scorer, near.name())?;
-    assert_answers(rt, scorer, &near, &PLANNED);
-    assert_calls(rt, scorer.calls(), b"near", &PLANNED);
-    Ok(())
+    plan(scorer, alloc)?;
+    assert_near(rt, alloc, scorer, &PLANNED)
 }
 
 #[test]

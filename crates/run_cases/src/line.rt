@@ -1,33 +1,31 @@
 //! What the lines ask for.
 
-use crate::escape::{cut_word, read_escaped};
-use crate::fault::Fault;
 use crate::outside::Outside;
 use crate::told::tell_run;
-use rs_value::{Text, Value, decimal_of, int_of};
+use case_lines::{Cases, Fault, count_of, cut_word, text_of};
+use rs_value::{Text, Value, int_of};
 use std::alloc::Global;
 
-/// Prints a line and does what it asks for.
-pub fn do_line(rt: &HostRuntime, line: &str, outside: &mut Outside) -> Result<(), Fault> {
-    println!(rt; "{line}")?;
-    if line.is_empty() || line.starts_with('#') {
-        return Ok(());
-    }
-    let (word, rest) = cut_word(line.as_bytes());
-    match word {
-        b"run" => do_run(rt, rest, outside),
-        _ => prepare(rt.alloc(), word, rest, outside),
+impl Cases for Outside {
+    fn answer(&mut self, alloc: Global, line: &[u8]) -> Result<String, Fault> {
+        let (word, rest) = cut_word(line);
+        match word {
+            b"run" => tell_words(alloc, rest, self),
+            _ => {
+                prepare(alloc, word, rest, self)?;
+                Ok(String::new(alloc))
+            }
+        }
     }
 }
 
-/// Makes a run and prints what came of it.
-fn do_run(rt: &HostRuntime, words: &[u8], outside: &mut Outside) -> Result<(), Fault> {
-    let words = words_of(rt.alloc(), words)?;
-    let status = outside.run(rt.alloc(), &words)?;
-    let told = tell_run(rt.alloc(), status, outside)?;
-    print!(rt; "{told}")?;
-    outside.forget_run(rt.alloc());
-    Ok(())
+/// Runs the words of a line, and tells what came of it.
+fn tell_words(alloc: Global, words: &[u8], outside: &mut Outside) -> Result<String, Fault> {
+    let words = words_of(alloc, words)?;
+    let status = outside.run(alloc, &words)?;
+    let told = tell_run(alloc, status, outside)?;
+    outside.forget_run(alloc);
+    Ok(told)
 }
 
 /// The words of a command line.
@@ -42,13 +40,6 @@ fn words_of(alloc: Global, line: &[u8]) -> Result<Vec<Text>, Fault> {
     Ok(words)
 }
 
-/// The text that a word stands for.
-fn text_of(alloc: Global, word: &[u8]) -> Result<Text, Fault> {
-    let mut bytes = Vec::new(alloc);
-    read_escaped(word, 0, &mut bytes)?;
-    Ok(Text::from_bytes(alloc, &bytes)?)
-}
-
 /// Does what a line asks for that is no run.
 fn prepare(alloc: Global, word: &[u8], rest: &[u8], outside: &mut Outside) -> Result<(), Fault> {
     match word {
@@ -60,18 +51,11 @@ fn prepare(alloc: Global, word: &[u8], rest: &[u8], outside: &mut Outside) -> Re
         b"script" => outside.set_script(alloc, rest),
         b"more" => {
             let (count, bytes) = cut_word(rest);
-            outside.add_to_file(number_of(count)?, bytes)
+            outside.add_to_file(count_of(count)?, bytes)
         }
         b"score" => write_score(alloc, rest, outside),
         b"fail" => plan_failure(rest, outside),
         _ => Err(Fault::Form),
-    }
-}
-
-fn number_of(word: &[u8]) -> Result<u32, Fault> {
-    match decimal_of(word, u32::MAX as u64) {
-        Some(number) => Ok(number as u32),
-        None => Err(Fault::Form),
     }
 }
 
@@ -108,12 +92,12 @@ fn value_of(alloc: Global, word: &[u8]) -> Result<Value, Fault> {
 fn plan_failure(rest: &[u8], outside: &mut Outside) -> Result<(), Fault> {
     let (what, rest) = cut_word(rest);
     let (number, after) = cut_word(rest);
-    let number = number_of(number)?;
+    let number = count_of(number)?;
     match what {
         b"call" => outside.scorer.fail_at(number as u64)?,
         b"fetch" => outside.fail_fetch(number)?,
-        b"out" => outside.out.fail_at(number, number_of(after)? as usize)?,
-        b"err" => outside.err.fail_at(number, number_of(after)? as usize)?,
+        b"out" => outside.out.fail_at(number, count_of(after)? as usize)?,
+        b"err" => outside.err.fail_at(number, count_of(after)? as usize)?,
         _ => return Err(Fault::Form),
     }
     Ok(())

@@ -1,7 +1,6 @@
 //! What a run is made over.
 
-use crate::escape::read_escaped;
-use crate::fault::Fault;
+use case_lines::{Fault, read_escaped, read_times};
 use rs_expr::MemScorer;
 use rs_outside::{MemFiles, MemSink};
 use rs_run::{Status, run};
@@ -47,14 +46,14 @@ impl Outside {
     /// Holds these bytes, which are escaped, under this name.
     pub fn set_file(&mut self, alloc: Global, name: &[u8], escaped: &[u8]) -> Result<(), Fault> {
         let mut bytes = Vec::new(alloc);
-        read_escaped(escaped, 0, &mut bytes)?;
+        read_escaped(escaped, &mut bytes)?;
         self.hold(alloc, name, bytes)
     }
 
     /// Holds the front and these bytes, which are escaped, as the script.
     pub fn set_script(&mut self, alloc: Global, escaped: &[u8]) -> Result<(), Fault> {
         let mut bytes = self.front.to_vec(alloc)?;
-        read_escaped(escaped, 0, &mut bytes)?;
+        read_escaped(escaped, &mut bytes)?;
         self.hold(alloc, SCRIPT, bytes)
     }
 
@@ -68,13 +67,10 @@ impl Outside {
 
     /// Adds these bytes, which are escaped, to the last file, so many times.
     pub fn add_to_file(&mut self, count: u32, escaped: &[u8]) -> Result<(), Fault> {
-        let Some(file) = self.held.last_mut() else {
-            return Err(Fault::Form);
-        };
-        for number in 1..=count {
-            read_escaped(escaped, number, &mut file.bytes)?;
+        match self.held.last_mut() {
+            Some(file) => read_times(count, escaped, &mut file.bytes),
+            None => Err(Fault::Form),
         }
-        Ok(())
     }
 
     /// Adds these bytes, which are escaped, to the front of scripts, or empties it where there are none.
@@ -82,7 +78,7 @@ impl Outside {
         if escaped.is_empty() {
             self.front.clear();
         }
-        read_escaped(escaped, 0, &mut self.front)
+        read_escaped(escaped, &mut self.front)
     }
 
     /// Plans that the fetch of this number fails.

@@ -1,7 +1,7 @@
 //! What is printed of a run.
 
-use crate::escape::print_escaped;
 use crate::outside::Outside;
+use case_lines::{print_call, print_escaped};
 use rs_expr::Call;
 use rs_run::Status;
 use rs_value::{Memory, Text};
@@ -35,21 +35,10 @@ fn tell_calls(calls: &[Call], told: &mut String) -> Result<(), Memory> {
     let mut between = "  calls ";
     for call in calls {
         told.push_str(between)?;
-        tell_call(call, told)?;
+        print_call(call.predicate.bytes(), call.args.items(), told)?;
         between = "; ";
     }
     end_line(calls.is_empty(), told)
-}
-
-fn tell_call(call: &Call, told: &mut String) -> Result<(), Memory> {
-    print_escaped(call.predicate.bytes(), told)?;
-    for value in call.args.items() {
-        let mut bytes = Vec::new(*told.allocator());
-        value.print(&mut bytes)?;
-        told.push_str(" ")?;
-        print_escaped(&bytes, told)?;
-    }
-    Ok(())
 }
 
 /// Tells the names that were fetched. One that is empty is told as `\-`.

@@ -9,10 +9,10 @@ pub enum Asked {
 
 impl Asked {
     /// What the first word of a line asks.
-    pub fn of(word: &str) -> Option<Asked> {
+    pub fn of(word: &[u8]) -> Option<Asked> {
         match word {
-            "tree" => Some(Asked::Tree),
-            "read" => Some(Asked::Verdict),
+            b"tree" => Some(Asked::Tree),
+            b"read" => Some(Asked::Verdict),
             _ => None,
         }
     }

@@ -4,8 +4,8 @@ use rs_value::{Memory, TextFault};
 use std::alloc::{AllocError, AllocFailed};
 use std::io;
 
-/// Why a line has no answer.
-#[derive(Clone, Copy, Debug)]
+/// Why a line has no answer. The program ends at it.
+#[derive(Clone, Copy, Debug, PartialEq, Eq)]
 pub enum Fault {
     Memory,
     /// The line can't be read.

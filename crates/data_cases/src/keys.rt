@@ -1,0 +1,115 @@
+//! What is asked of keys.
+
+use case_lines::{Fault, count_of, cut_at, cut_word, number_of, small_number_of};
+use rs_rank::{Ids, Key};
+use std::alloc::{AllocError, Global};
+use std::cmp::Ordering;
+use std::collections::BTreeMap;
+
+/// The key that a word stands for: `BOUND:BLOCK:MASK:ROW.ROW..`.
+pub fn key_of(word: &[u8]) -> Result<Key, Fault> {
+    let (bound, ids) = parts_of(word)?;
+    Ok(Key {
+        bound: number_of(bound)?,
+        ids: ids_of(ids)?,
+    })
+}
+
+/// The ids that a word stands for: `BLOCK:MASK:ROW.ROW..`.
+pub fn ids_of(word: &[u8]) -> Result<Ids, Fault> {
+    let (block, word) = parts_of(word)?;
+    let (mask, rows) = parts_of(word)?;
+    Ok(Ids {
+        block: small_number_of(block)?,
+        mask: small_number_of(mask)?,
+        rows: rows_of(rows)?,
+    })
+}
+
+/// What stands in front of a `:`, and what behind it.
+pub fn parts_of(word: &[u8]) -> Result<(&[u8], &[u8]), Fault> {
+    match cut_at(word, b':') {
+        Some(parts) => Ok(parts),
+        None => Err(Fault::Form),
+    }
+}
+
+fn rows_of(word: &[u8]) -> Result<[u32; 6], Fault> {
+    let mut rows = [0; 6];
+    for (place, row) in word.split(|byte| *byte == b'.').enumerate() {
+        if place >= 6 {
+            return Err(Fault::Form);
+        }
+        rows[place] = count_of(row)?;
+    }
+    Ok(rows)
+}
+
+/// The keys that words stand for.
+pub fn keys_of(alloc: Global, words: &[u8]) -> Result<Vec<Key>, Fault> {
+    let mut keys = Vec::new(alloc);
+    for word in words.split(|byte| *byte == b' ') {
+        keys.push(key_of(word)?)?;
+    }
+    Ok(keys)
+}
+
+/// How each key stands to each of them.
+pub fn tell_keys(alloc: Global, words: &[u8]) -> Result<String, Fault> {
+    let keys = keys_of(alloc, words)?;
+    let mut told = String::new(alloc);
+    let mut between = "";
+    for key in &keys {
+        told.push_str(between)?;
+        tell_signs(key, &keys, &mut told)?;
+        between = " ";
+    }
+    Ok(told)
+}
+
+fn tell_signs(key: &Key, others: &[Key], told: &mut String) -> Result<(), AllocError> {
+    for other in others {
+        told.push_str(sign_of(key, other))?;
+    }
+    Ok(())
+}
+
+/// How a key stands to another one, or `?` where the three ways to compare them don't agree.
+fn sign_of(key: &Key, other: &Key) -> &'static str {
+    match (key.cmp(other), key == other) {
+        (Ordering::Less, false) => agreed(key, other, Ordering::Less, "<"),
+        (Ordering::Greater, false) => agreed(key, other, Ordering::Greater, ">"),
+        (Ordering::Equal, true) => {
+            let sign = if key.ids == other.ids { "=" } else { "~" };
+            agreed(key, other, Ordering::Equal, sign)
+        }
+        _ => "?",
+    }
+}
+
+/// The sign, where the partial order agrees with it.
+fn agreed(key: &Key, other: &Key, order: Ordering, sign: &'static str) -> &'static str {
+    if key.partial_cmp(other) == Some(order) {
+        sign
+    } else {
+        "?"
+    }
+}
+
+/// The place of a key among those behind it in a map, counted from 1, and that of the first one there.
+pub fn tell_place(alloc: Global, words: &[u8]) -> Result<String, Fault> {
+    let (key, words) = cut_word(words);
+    let key = key_of(key)?;
+    let places = places_of(alloc, words)?;
+    let place = places.get(&key).copied();
+    let first = places.first_key_value().map(|(_, place)| *place);
+    Ok(format!(in alloc; "{place:?}, first {first:?}")?)
+}
+
+fn places_of(alloc: Global, words: &[u8]) -> Result<BTreeMap<Key, u32>, Fault> {
+    let mut places = BTreeMap::new(alloc);
+    for (word, place) in words.split(|byte| *byte == b' ').zip(1..) {
+        places.insert(key_of(word)?, place)?;
+    }
+    Ok(places)
+}
