@@ -1,8 +1,8 @@
 -- Calls in order, on examples: two calls and what comes of them, over a scorer that tells its calls.
 use Rattle.std.proofs.Common.{ℕ, pos, ◌≡◌, ◌+◌, ◌++◌, List, [], ◌∷◌, false, refl, inl, inr, arith}
-use Rattle.std.specs.Prelude.{◌⊎◌, Some, Result, Ok, Err, IsOk, codes}
-use Rattle.rs_expr.specs.Scoring.{Answering, KeepsScorer, Made, ScorerState}
-use Rattle.rs_expr.specs.InOrder.{Ends, Fails, Inquires, Inquiry, Request, Stops, and_then, calls_of}
+use Rattle.std.specs.Prelude.{Some, Ok, Err, IsOk, codes}
+use Rattle.rs_expr.specs.Scoring.{KeepsScorer, ScorerState}
+use Rattle.rs_expr.specs.InOrder.{Inquires, Inquiry, Request, Stops, and_then, calls_of}
 use Rattle.rs_expr.specs.declared.scorer.Call.{Call}
 
 -- requests whose faults are numbers, and 0 is want of memory
