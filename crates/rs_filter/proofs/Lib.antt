@@ -1,0 +1,5 @@
+pub mod AcrossFacts
+pub mod JoinFacts
+pub mod MatchFacts
+pub mod SideFacts
+mod WorkedMatching

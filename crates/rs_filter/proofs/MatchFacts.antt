@@ -1,0 +1,90 @@
+-- What the tests of a match say, one after another.
+use Rattle.std.proofs.Common.{◌≡◌, ℕ, zero, suc, ◌-◌, ◌/◌, ◌%◌, ◌<◌, ◌≤◌, ◌&&◌, Bool, true, false, eqb, List, [], ◌∷◌, length, get_or, refl, sym, ◌∙◌, ap, subst, arith}
+use Rattle.std.specs.Int.{bit_at}
+use Rattle.std.proofs.lemmas.Bool.{eq-eqb, eqb-true}
+use Rattle.std.proofs.lemmas.Bool.Decides.{nat_tests}
+use Rattle.std.proofs.lemmas.Option.{unwrap_or-slice_get}
+use Rattle.std.proofs.Math.Nat.{div-one}
+use Rattle.rs_rank.specs.declared.row.RankRow.{RankRow}
+use Rattle.rs_rank.specs.Ids.{merge_rows}
+use Rattle.rs_rank.proofs.MaskFacts.{half-before}
+use Rattle.rs_catalog.specs.Catalogue.{Catalogue}
+use Rattle.rs_query.specs.declared.block.Block.{Block}
+use Rattle.rs_query.specs.Choices.{IsChoice, IsRowNumber}
+use Rattle.rs_query.specs.Tables.{HasRows, size_of, sizes_of}
+use Rattle.rs_filter.specs.Matching.{is_choice, is_side, joins, satisfies_across}
+
+no-second : (a : Bool) → (a && false) ≡ false
+no-second true = refl
+no-second false = refl
+
+no-choice : (a b : Bool) → ((a && false) && b) ≡ false
+no-choice true b = refl
+no-choice false b = refl
+
+module _ (catalogue : Catalogue) (block : Block) (left right : ℕ) (l r : RankRow) where
+  -- a row that isn't one of its side matches none
+  pub no-left-mask : (l.ids.mask ≡ left → ⊥) → false ≡ joins catalogue block left right l r
+  no-left-mask other =
+      let none : eqb l.ids.mask left ≡ false = grind (arith, nat_tests) in
+      sym (ap (λ b. (b && is_choice left (sizes_of catalogue block) l.ids.rows)
+      && (is_side catalogue block right r && satisfies_across catalogue block left right (merge_rows l.ids.rows r.ids.rows))) none)
+
+  pub no-left-choice : is_choice left (sizes_of catalogue block) l.ids.rows ≡ false → false ≡ joins catalogue block left right l r
+  no-left-choice none =
+      let others = is_side catalogue block right r && satisfies_across catalogue block left right (merge_rows l.ids.rows r.ids.rows) in
+      sym (ap (λ b. (eqb l.ids.mask left && b) && others) none ∙ no-choice (eqb l.ids.mask left) others)
+
+  pub no-right-mask : (r.ids.mask ≡ right → ⊥) → false ≡ joins catalogue block left right l r
+  no-right-mask other =
+      let none : eqb r.ids.mask right ≡ false = grind (arith, nat_tests) in
+      sym (ap (λ b. is_side catalogue block left l && ((b && is_choice right (sizes_of catalogue block) r.ids.rows)
+      && satisfies_across catalogue block left right (merge_rows l.ids.rows r.ids.rows))) none ∙ no-second (is_side catalogue block left l))
+
+  pub no-right-choice : is_choice right (sizes_of catalogue block) r.ids.rows ≡ false → false ≡ joins catalogue block left right l r
+  no-right-choice none =
+      let others = satisfies_across catalogue block left right (merge_rows l.ids.rows r.ids.rows) in
+      sym (ap (λ b. is_side catalogue block left l && ((eqb r.ids.mask right && b) && others)) none
+      ∙ ap (λ b. is_side catalogue block left l && b) (no-choice (eqb r.ids.mask right) others) ∙ no-second (is_side catalogue block left l))
+
+  -- of two rows that are, the conjuncts decide
+  pub both-sides : l.ids.mask ≡ left → is_choice left (sizes_of catalogue block) l.ids.rows ≡ true
+      → r.ids.mask ≡ right → is_choice right (sizes_of catalogue block) r.ids.rows ≡ true
+      → joins catalogue block left right l r ≡ satisfies_across catalogue block left right (merge_rows l.ids.rows r.ids.rows)
+  both-sides left_mask left_choice right_mask right_choice =
+      let left_same : eqb l.ids.mask left ≡ true = eq-eqb l.ids.mask left left_mask in
+      let right_same : eqb r.ids.mask right ≡ true = eq-eqb r.ids.mask right right_mask in
+      λ at. (left_same at && left_choice at)
+      && ((right_same at && right_choice at) && satisfies_across catalogue block left right (merge_rows l.ids.rows r.ids.rows))
+
+-- a choice has a row for each entry in the mask
+choice-rows : (i mask : ℕ) (sizes rows : List ℕ) → IsChoice mask sizes rows → i < length sizes → bit_at mask i ≡ 1
+    → (1 ≤ get_or rows i 0) × (get_or rows i 0 ≤ get_or sizes i 0)
+choice-rows i mask [] [] is within bit = absurd (omega arith)
+choice-rows i mask [] (row ∷ rows) is within bit = absurd is
+choice-rows i mask (size ∷ sizes) [] is within bit = absurd is
+choice-rows zero mask (size ∷ sizes) (row ∷ rows) is within bit =
+    let one : mask % 2 ≡ 1 = rw (div-one mask) at bit in
+    subst (λ d. IsRowNumber (eqb d 0) size row) one is.0
+choice-rows (suc i) mask (size ∷ sizes) (row ∷ rows) is within bit =
+    choice-rows i (mask / 2) sizes rows is.1 (omega arith) (rw (half-before mask i) at bit)
+
+size-at : (catalogue : Catalogue) (block : Block) (i : ℕ) → i < 6 → get_or (sizes_of catalogue block) i 0 ≡ size_of catalogue block (suc i)
+size-at catalogue block zero within = refl
+size-at catalogue block (suc zero) within = refl
+size-at catalogue block (suc (suc zero)) within = refl
+size-at catalogue block (suc (suc (suc zero))) within = refl
+size-at catalogue block (suc (suc (suc (suc zero)))) within = refl
+size-at catalogue block (suc (suc (suc (suc (suc zero))))) within = refl
+size-at catalogue block (suc (suc (suc (suc (suc (suc i)))))) within = absurd (omega arith)
+
+pub HasRows-choice : (catalogue : Catalogue) (block : Block) (mask : ℕ) (rows : List ℕ) → length block.from ≤ 6
+    → IsChoice mask (sizes_of catalogue block) rows → HasRows catalogue block mask rows
+HasRows-choice catalogue block mask rows few is entry some most has =
+    let within : entry - 1 < 6 = omega arith in
+    let all : entry - 1 < length (sizes_of catalogue block) = within in
+    let found = choice-rows (entry - 1) mask (sizes_of catalogue block) rows is all (eqb-true (bit_at mask (entry - 1)) 1 has) in
+    let row = unwrap_or-slice_get rows (entry - 1) 0 in
+    let back : suc (entry - 1) ≡ entry = omega arith in
+    let size = size-at catalogue block (entry - 1) within ∙ ap (size_of catalogue block) back in
+    (subst (λ n. 1 ≤ n) (sym row) found.0, subst (λ n. n ≤ size_of catalogue block entry) (sym row) (subst (λ n. get_or rows (entry - 1) 0 ≤ n) size found.1))

@@ -1,0 +1,83 @@
+-- A row that isn't one of its side matches none; of rows of both sides the conjuncts across them decide.
+use Rattle.std.proofs.Common.{◌≡◌, ◌∙◌, true, false, bit_or, sym, ap, subst, subst₂}
+use Rattle.std.specs.Prelude.{IfOk}
+use Rattle.rs_rank.specs.Ids.{merge_rows}
+use Rattle.rs_rank.specs.declared.ids.Ids.{Ids}
+use Rattle.rs_query.specs.Choices.{IsChoice}
+use Rattle.rs_query.specs.Meaning.{AreInside, all_hold}
+use Rattle.rs_query.specs.Tables.{HasRows, sizes_of}
+use Rattle.rs_filter.specs.Matching.{Matching, is_choice, joins}
+use Rattle.rs_filter.proofs.AcrossFacts.{AreInside-across, all_hold-across}
+use Rattle.rs_filter.proofs.MatchFacts.{HasRows-choice, both-sides, no-left-choice, no-left-mask, no-right-choice, no-right-mask}
+use Rattle.rs_filter.proofs.SideFacts.{IsChoice-merge, IsChoice-test}
+use Rattle.rs_filter.proofs.block_match.BlockMatchMatcher.matches.Goals as goal
+use Rattle.rs_filter.proofs.block_match.BlockMatchMatcher.matches.Goals.{then-left-self-via-then-left-self, then-left-self-via-else-left-self+then-not-is_choice, then-right-self-via-then-right-self, then-right-self-via-else-right-self+then-not-is_choice-2}
+
+pub returns-then-left-self-clause-answer : goal.returns-then-left-self-clause-answer
+returns-then-left-self-clause-answer c =
+    let m = c.self.inside in
+    let l = c.args.left.now in
+    let r = c.args.right.now in
+    subst (λ (s : Matching). false ≡ joins s.catalogue s.block s.left s.right l r) c.self.view_is
+    (elim c.then-left-self.branch [
+      | then-left-self-via-then-left-self w ↦ no-left-mask m.catalog.now m.block.now m.left m.right l r w.if-left-self.true
+      | then-left-self-via-else-left-self+then-not-is_choice w ↦
+          no-left-choice m.catalog.now m.block.now m.left m.right l r
+          (ap (λ s. is_choice m.left s l.ids.rows) (sym c.self.invariant.sizes_are) ∙ sym w.is_choice.ensures ∙ w.if-not-is_choice.true)
+    ])
+
+pub returns-then-right-self-clause-answer : goal.returns-then-right-self-clause-answer
+returns-then-right-self-clause-answer c =
+    let m = c.self.inside in
+    let l = c.args.left.now in
+    let r = c.args.right.now in
+    subst (λ (s : Matching). false ≡ joins s.catalogue s.block s.left s.right l r) c.self.view_is
+    (elim c.then-right-self.branch [
+      | then-right-self-via-then-right-self w ↦ no-right-mask m.catalog.now m.block.now m.left m.right l r w.if-right-self.true
+      | then-right-self-via-else-right-self+then-not-is_choice-2 w ↦
+          no-right-choice m.catalog.now m.block.now m.left m.right l r
+          (ap (λ s. is_choice m.right s r.ids.rows) (sym c.self.invariant.sizes_are) ∙ sym w.is_choice-else-right-self.ensures ∙ w.if-not-is_choice-2.true)
+    ])
+
+pub holds-requires-clause-inside : goal.holds-requires-clause-inside
+holds-requires-clause-inside c =
+    let m = c.self.inside in
+    let mask : c.merge-ids.result.mask ≡ bit_or m.left m.right =
+    ap (λ (i : Ids). i.mask) c.merge-ids.ensures.value ∙ (λ at. bit_or (c.if-left-self.false at) (c.if-right-self.false at)) in
+    subst₂ (λ n e. AreInside n e m.block.now.conjuncts) (sym c.self.invariant.conjuncts_are) (sym mask) (AreInside-across m.left m.right m.block.now.conjuncts)
+
+pub holds-requires-clause-rows : goal.holds-requires-clause-rows
+holds-requires-clause-rows c =
+    let m = c.self.inside in
+    let l = c.args.left.now in
+    let r = c.args.right.now in
+    let mask : c.merge-ids.result.mask ≡ bit_or m.left m.right =
+    ap (λ (i : Ids). i.mask) c.merge-ids.ensures.value ∙ (λ at. bit_or (c.if-left-self.false at) (c.if-right-self.false at)) in
+    let rows : c.merge-ids.result.rows ≡ merge_rows l.ids.rows r.ids.rows = ap (λ (i : Ids). i.rows) c.merge-ids.ensures.value in
+    let sizes = sizes_of m.catalog.now m.block.now in
+    let left : IsChoice m.left sizes l.ids.rows =
+    IsChoice-test m.left sizes l.ids.rows (ap (λ s. is_choice m.left s l.ids.rows) (sym c.self.invariant.sizes_are) ∙ sym c.is_choice.ensures ∙ c.if-not-is_choice.false) in
+    let right : IsChoice m.right sizes r.ids.rows =
+    IsChoice-test m.right sizes r.ids.rows
+    (ap (λ s. is_choice m.right s r.ids.rows) (sym c.self.invariant.sizes_are) ∙ sym c.is_choice-else-right-self.ensures ∙ c.if-not-is_choice-2.false) in
+    subst₂ (λ e x. HasRows m.catalog.now m.block.now e x) (sym mask) (sym rows)
+    (HasRows-choice m.catalog.now m.block.now (bit_or m.left m.right) (merge_rows l.ids.rows r.ids.rows) c.self.invariant.block_formed.most_entries
+    (IsChoice-merge m.left m.right sizes l.ids.rows r.ids.rows left right))
+
+pub returns-clause-answer : goal.returns-clause-answer
+returns-clause-answer c =
+    let m = c.self.inside in
+    let l = c.args.left.now in
+    let r = c.args.right.now in
+    let conjuncts = m.block.now.conjuncts in
+    let rows : c.merge-ids.result.rows ≡ merge_rows l.ids.rows r.ids.rows = ap (λ (i : Ids). i.rows) c.merge-ids.ensures.value in
+    let left : is_choice m.left (sizes_of m.catalog.now m.block.now) l.ids.rows ≡ true =
+    ap (λ s. is_choice m.left s l.ids.rows) (sym c.self.invariant.sizes_are) ∙ sym c.is_choice.ensures ∙ c.if-not-is_choice.false in
+    let right : is_choice m.right (sizes_of m.catalog.now m.block.now) r.ids.rows ≡ true =
+    ap (λ s. is_choice m.right s r.ids.rows) (sym c.self.invariant.sizes_are) ∙ sym c.is_choice-else-right-self.ensures ∙ c.if-not-is_choice-2.false in
+    let answer : all_hold m.catalog.now m.block.now m.across c.merge-ids.result.rows conjuncts ≡ joins m.catalog.now m.block.now m.left m.right l r =
+    (λ at. all_hold m.catalog.now m.block.now (c.self.invariant.conjuncts_are at) (rows at) conjuncts)
+    ∙ all_hold-across m.left m.right m.catalog.now m.block.now (merge_rows l.ids.rows r.ids.rows) conjuncts
+    ∙ sym (both-sides m.catalog.now m.block.now m.left m.right l r c.if-left-self.false left c.if-right-self.false right) in
+    subst (λ (s : Matching). IfOk c.holds.result (λ a. a ≡ joins s.catalogue s.block s.left s.right l r)) c.self.view_is
+    (subst (λ b. IfOk c.holds.result (λ a. a ≡ b)) answer c.holds.ensures)

@@ -1,0 +1,73 @@
+-- Which rows of two sides of a join match.
+use Rattle.std.specs.Prelude.{ℕ, ◌≡◌, ◌≤◌, ◌-◌, ◌/◌, ◌%◌, ◌==◌, ◌&&◌, Bool, true, false, not, nat_le, List, [], ◌∷◌, bit_or, if◌then◌else◌}
+use Rattle.std.specs.List.{list_all}
+use Rattle.rs_rank.specs.declared.row.RankRow.{RankRow}
+use Rattle.rs_rank.specs.Ids.{merge_rows}
+use Rattle.rs_catalog.specs.Catalogue.{Catalogue}
+use Rattle.rs_query.specs.declared.block.Block.{Block}
+use Rattle.rs_query.specs.Conjuncts.{ConjunctDef}
+use Rattle.rs_query.specs.Meaning.{conjunct_holds, is_inside, within}
+use Rattle.rs_query.specs.Tables.{sizes_of}
+use Rattle.rs_query.specs.WellFormed.{IsBlock}
+
+-- whether a number is 0 outside, and inside that of one of so many rows, counted from 1
+abbrev pub is_row_number : Bool → ℕ → ℕ → Bool
+is_row_number true size row = row == 0
+is_row_number false size row = nat_le 1 row && nat_le row size
+
+-- whether there is a row number for each entry in a mask, where the entries have so many rows, and 0 at the others
+abbrev pub is_choice : ℕ → List ℕ → List ℕ → Bool
+is_choice mask [] [] = true
+is_choice mask [] (row ∷ rows) = false
+is_choice mask (size ∷ sizes) [] = false
+is_choice mask (size ∷ sizes) (row ∷ rows) = is_row_number (mask % 2 == 0) size row && is_choice (mask / 2) sizes rows
+
+-- whether a row has the entries in a mask, each with a row of its table
+abbrev pub is_side : Catalogue → Block → ℕ → RankRow → Bool
+is_side catalogue block mask row = (row.ids.mask == mask) && is_choice mask (sizes_of catalogue block) row.ids.rows
+
+-- whether a conjunct speaks of both sides: all its entries are in the two masks together, and in neither alone
+abbrev pub is_across : ℕ → ℕ → ConjunctDef → Bool
+is_across left right conjunct =
+    is_inside conjunct.entries (bit_or left right) && (not (is_inside conjunct.entries left) && not (is_inside conjunct.entries right))
+
+-- whether a conjunct holds, where it speaks of both sides
+abbrev pub holds_across : Catalogue → Block → ℕ → ℕ → List ℕ → ConjunctDef → Bool
+holds_across catalogue block left right rows conjunct = if is_across left right conjunct then conjunct_holds catalogue block rows conjunct else true
+
+-- whether every conjunct holds that speaks of both sides
+abbrev pub satisfies_across : Catalogue → Block → ℕ → ℕ → List ℕ → Bool
+satisfies_across catalogue block left right rows = list_all (holds_across catalogue block left right rows) block.conjuncts
+
+-- whether two rows match: each is one of its side, and every conjunct that speaks of both sides holds of them together
+abbrev pub joins : Catalogue → Block → ℕ → ℕ → RankRow → RankRow → Bool
+joins catalogue block left right l r =
+    is_side catalogue block left l && (is_side catalogue block right r && satisfies_across catalogue block left right (merge_rows l.ids.rows r.ids.rows))
+
+-- what matches the rows of two sides: of which block, the masks of the sides, and how many calls were made
+pub record Matching : Type 0 where
+  pub catalogue : Catalogue
+  pub block : Block
+  pub left : ℕ
+  pub right : ℕ
+  pub calls : ℕ
+
+abbrev pub new_matching : Catalogue → Block → ℕ → ℕ → Matching
+new_matching catalogue block left right = record { catalogue = catalogue; block = block; left = left; right = right; calls = 0 }
+
+-- the mask of the conjuncts that speak of both sides: those of both together, without those of one side
+abbrev pub across : ℕ → ℕ → List ConjunctDef → ℕ
+across left right conjuncts = within (bit_or left right) conjuncts - bit_or (within left conjuncts) (within right conjuncts)
+
+-- what holds of each: the block is well formed, and the sizes and the conjuncts that are kept are those of the block
+pub record IsMatching (catalogue : Catalogue) (block : Block) (left right : ℕ) (sizes : List ℕ) (conjuncts : ℕ) : Type 0 where
+  pub block_formed : IsBlock catalogue block
+  pub sizes_are : sizes ≡ sizes_of catalogue block
+  pub conjuncts_are : conjuncts ≡ across left right block.conjuncts
+
+-- a view gives each entry a number of rows, at most those of its table
+abbrev pub IsView : List ℕ → List ℕ → Type 0
+IsView [] [] = Unit {0}
+IsView [] (most ∷ all) = ⊥
+IsView (size ∷ sizes) [] = ⊥
+IsView (size ∷ sizes) (most ∷ all) = (size ≤ most) × IsView sizes all

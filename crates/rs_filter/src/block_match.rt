@@ -1,0 +1,106 @@
+ghost use Rattle.std.specs.Prelude.{◌≡◌, ◌≤◌, length};
+ghost use Rattle.rs_query.specs.WellFormed.{IsBlock};
+ghost use Rattle.rs_filter.specs.Matching.{across, joins, new_matching};
+
+use crate::choice::{is_choice, sizes_of};
+use rs_catalog::Catalog;
+use rs_query::Block;
+use rs_rank::{Matcher, RankRow, union};
+use rs_value::Memory;
+use std::alloc::Global;
+use std::marker::Model;
+
+/// What matches the rows of two sides of a join, each of which has the entries of a mask. The conjuncts that speak of one side
+/// alone are those of the sides. The ones that are left speak of entries of both, and are looked at here.
+#[derive(Drop)]
+pub struct BlockMatch<'a> {
+    alloc: Global,
+    catalog: &'a Catalog,
+    block: &'a Block,
+    left: u8,
+    right: u8,
+    // How many rows the table of each entry has.
+    sizes: [u32; 6],
+    // The mask of the conjuncts that are looked at.
+    across: u32,
+    calls: u64,
+}
+
+impl<'a> Model for BlockMatch<'a> {
+    ghost use Rattle.rs_filter.specs.Matching.{IsMatching, Matching};
+    ghost use Rattle.rs_filter.specs.Stored.{matching_code};
+
+    ghost Value = { Matching };
+
+    ghost coded = { matching_code };
+
+    ghost view = { λ m. record {
+      catalogue = m.catalog.now;
+      block = m.block.now;
+      left = m.left;
+      right = m.right;
+      calls = m.calls;
+    } };
+
+    ghost invariant = { λ m. IsMatching m.catalog.now m.block.now m.left m.right m.sizes m.across };
+}
+
+impl<'a> BlockMatch<'a> {
+    /// What matches rows of the block, whose sides have the entries of these masks. It takes no memory.
+    pub fn new(
+        alloc: Global,
+        catalog: &'a Catalog,
+        block: &'a Block,
+        left: u8,
+        right: u8,
+    ) -> BlockMatch<'a>
+        requires { IsBlock catalog.now block.now }
+        ensures { result ≡ new_matching catalog.now block.now left right }
+    {
+        BlockMatch {
+            alloc,
+            catalog,
+            block,
+            left,
+            right,
+            sizes: sizes_of(catalog, block),
+            across: across(block, left, right),
+            calls: 0,
+        }
+    }
+
+    /// How many calls were made. It stands still at 2^64 - 1.
+    pub fn calls(&self) -> u64
+        ensures { result ≡ self.now.calls }
+    {
+        self.calls
+    }
+}
+
+impl<'a> Matcher for BlockMatch<'a> {
+    ghost truth = { λ m. joins m.catalogue m.block m.left m.right };
+
+    ghost calls = { λ m. m.calls };
+
+    fn matches(&mut self, left: &RankRow, right: &RankRow) -> Result<bool, Memory> {
+        self.calls = self.calls.saturating_add(1);
+        if left.ids.mask != self.left || !is_choice(self.left, &self.sizes, &left.ids.rows) {
+            return Ok(false);
+        }
+        if right.ids.mask != self.right || !is_choice(self.right, &self.sizes, &right.ids.rows) {
+            return Ok(false);
+        }
+        let ids = left.ids.merge(&right.ids);
+        self.block
+            .holds(self.alloc, self.catalog, self.across, &ids)
+    }
+}
+
+/// The mask of the conjuncts that speak of entries of both sides.
+fn across(block: &Block, left: u8, right: u8) -> u32
+    requires { length block.now.conjuncts ≤ 32 }
+    ensures { result ≡ across left right block.now.conjuncts }
+{
+    // What is inside one side is inside both together.
+    block.within(union(left, right)) - (block.within(left) | block.within(right))
+}
