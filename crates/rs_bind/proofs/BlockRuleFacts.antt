@@ -29,7 +29,7 @@ use Rattle.rs_bind.specs.Names.{or_fault}
 use Rattle.rs_bind.specs.Queries.{Unranked, unranked_of}
 use Rattle.rs_bind.specs.Rules.{Types}
 use Rattle.rs_bind.specs.Sources.{Found, Source, alias_of, all_columns_from, column_in, entries_behind, entries_of, items_behind, items_of, sources_of}
-use Rattle.rs_bind.specs.Typing.{Scope, Typed, Number, Words, Truth, span_of, span_of_column, truth_of, type_of}
+use Rattle.rs_bind.specs.Typing.{Typed, Number, Words, Truth, span_of, span_of_column, truth_of, type_of}
 use Rattle.rs_bind.proofs.FilterFacts.{few_parts-fit, few_parts-full, one_too_many}
 use Rattle.rs_bind.proofs.PartFacts.{HaveConjuncts-typed}
 use Rattle.rs_bind.proofs.InOrderFacts.{Each-steps, FirstRefused-steps, Follows, steps, steps-Each, steps-FirstRefused}

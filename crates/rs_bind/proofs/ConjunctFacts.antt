@@ -1,6 +1,6 @@
 -- The conjuncts of a WHERE condition are well formed.
-use Rattle.std.proofs.Common.{ℕ, suc, ◌≡◌, ◌≤◌, ◌+◌, true, List, [], ◌∷◌, length, drop, refl, sym, subst, ap, ◌∙◌, arith, length-drop}
-use Rattle.std.specs.Prelude.{Option, Some, None, Result, Ok, Err, slice_get}
+use Rattle.std.proofs.Common.{ℕ, suc, ◌≡◌, ◌≤◌, true, List, [], ◌∷◌, length, drop, refl, sym, subst, ap, arith, length-drop}
+use Rattle.std.specs.Prelude.{Option, Some, None, Result, Ok, Err}
 use Rattle.std.specs.List.{AllByRecursion}
 use Rattle.rs_value.specs.declared.kind.Kind.{Kind}
 use Rattle.rs_value.specs.declared.kind.Kind.TheVariants as kind
@@ -12,7 +12,7 @@ use Rattle.rs_expr.specs.Uses.{is_kind}
 use Rattle.rs_catalog.specs.Catalogue.{Catalogue}
 use Rattle.rs_query.specs.declared.block.Block.{Block}
 use Rattle.rs_query.specs.Conjuncts.{ConjunctDef}
-use Rattle.rs_query.specs.WellFormed.{IsColumn, IsConjunct, has_kind, kind_of}
+use Rattle.rs_query.specs.WellFormed.{IsColumn, IsConjunct, has_kind}
 use Rattle.rs_bind.specs.declared.fault.BindFault.{BindFault}
 use Rattle.rs_bind.specs.Conditions.{condition_over, conjunct_in, conjunct_of, conjuncts_in, conjuncts_of, few_parts, filter_of, most_conjuncts, named_columns, own_places, parts_of, places_in}
 use Rattle.rs_bind.specs.Limits.{IsNarrow}

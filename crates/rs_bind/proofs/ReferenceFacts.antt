@@ -1,6 +1,6 @@
 -- The columns that an expression names, and their places.
-use Rattle.std.proofs.Common.{ℕ, zero, suc, ◌≡◌, ◌≤◌, ◌<◌, ◌+◌, ◌*◌, ◌==◌, Bool, true, false, cond, eqb, ◌&&◌, ◌||◌, List, [], ◌∷◌, ◌++◌, length, get_or, map, refl, sym, subst, ap, ◌∙◌, arith}
-use Rattle.std.specs.Prelude.{◌-◌, Option, Some, None, option_map, unwrap_or, position, slice_get, nat_lt, Result, Ok, Err, if◌then◌else◌}
+use Rattle.std.proofs.Common.{ℕ, suc, ◌≡◌, ◌≤◌, ◌<◌, ◌+◌, ◌*◌, ◌==◌, Bool, true, false, cond, eqb, ◌||◌, List, [], ◌∷◌, ◌++◌, length, get_or, map, refl, sym, subst, ap, ◌∙◌, arith}
+use Rattle.std.specs.Prelude.{◌↔◌, ◌-◌, Option, Some, None, option_map, unwrap_or, position, slice_get, nat_lt, Result, Ok, Err, if◌then◌else◌}
 use Rattle.std.specs.List.{AllByRecursion, IsDistinct, list_any, position_or_len}
 use Rattle.std.proofs.lemmas.Bool.Decides.{nat_tests}
 use Rattle.std.proofs.lemmas.List.{length-map}
@@ -263,6 +263,24 @@ found-place : (columns : List (ℕ × ℕ)) (sources : List Source) (c : ColRef)
 found-place columns sources c found place is at =
     ap (λ (r : Result Found BindFault). r >>= place_of columns c) is
     ∙ ap (λ (o : Option ℕ). or_fault (At NoColumn (span_of_column c)) o >>= λ p. well (p, found.1)) at
+
+-- a reference whose column is among the columns is refused exactly where it stands for no column, or for several
+IsNamed-refused : (columns : List (ℕ × ℕ)) (sources : List Source) (c : ColRef) → IsNamed sources columns c → (fault : BindFault)
+    → (places_in columns sources c ≡ Err fault) ↔ (column_in sources c ≡ Err fault)
+IsNamed-refused columns sources c named fault = (λ h. go (column_in sources c) refl h, λ h. ap (λ (r : Result Found BindFault). r >>= place_of columns c) h) where
+  go : (r : Result Found BindFault) → column_in sources c ≡ r → places_in columns sources c ≡ Err fault → column_in sources c ≡ Err fault
+  go (Ok found) is h =
+      let there = IsThere-of columns found.0 (named found is) in
+      let placed = found-place columns sources c found there.place is there.first in
+      cc
+  go (Err failed) is h = let same = ap (λ (r : Result Found BindFault). r >>= place_of columns c) is in cc
+
+pub each-refused : (sources : List Source) (x : Expression)
+    → AllByRecursion (λ c. (fault : BindFault) → (places_in (named_columns sources x) sources c ≡ Err fault) ↔ (column_in sources c ≡ Err fault)) (references_of x)
+each-refused sources x =
+    each-then (IsNamed sources (named_columns sources x))
+    (λ c. (fault : BindFault) → (places_in (named_columns sources x) sources c ≡ Err fault) ↔ (column_in sources c ≡ Err fault))
+    (IsNamed-refused (named_columns sources x) sources) (references_of x) (each-reference-named sources x)
 
 -- the place among other columns of the column that is an argument
 abbrev place_among : List (ℕ × ℕ) → Option (ℕ × ℕ) → ℕ

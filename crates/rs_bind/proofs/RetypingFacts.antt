@@ -24,7 +24,7 @@ use Rattle.rs_bind.specs.declared.fault.BindFault.{BindFault}
 use Rattle.rs_bind.specs.declared.fault.BindFault.TheVariants.{At}
 use Rattle.rs_bind.specs.declared.fault.Why.TheVariants.{TooWide}
 use Rattle.rs_bind.specs.Conditions.{references_of}
-use Rattle.rs_bind.specs.Typing.{Scope, Typed, Number, Words, Truth, argument, arithmetic, divisor_of, narrow, one, quotient, quotient_by, rule, span_of, three, two, type_of}
+use Rattle.rs_bind.specs.Typing.{Scope, Typed, Number, Words, Truth, argument, divisor_of, narrow, one, quotient, quotient_by, rule, span_of, three, two, type_of}
 use Rattle.rs_bind.proofs.EachFacts.{each-behind, each-front}
 use Rattle.rs_bind.proofs.ResultFacts.{well, same_Ok}
 

@@ -1,6 +1,6 @@
 -- The conjuncts of a block hold exactly where its WHERE does.
-use Rattle.std.proofs.Common.{ℕ, ◌≡◌, true, List, ◌∷◌, [], map, refl, sym, subst, ap, ◌∙◌}
-use Rattle.std.specs.Prelude.{◌↔◌, Option, Some, None, Result, Ok}
+use Rattle.std.proofs.Common.{ℕ, ◌≡◌, true, List, refl, sym, subst, ap, ◌∙◌}
+use Rattle.std.specs.Prelude.{◌↔◌, Option, Some, None, Ok}
 use Rattle.std.specs.List.{list_all}
 use Rattle.rs_syntax.specs.Syntax as syntax
 use Rattle.rs_syntax.specs.Syntax.{Expression}
@@ -16,7 +16,7 @@ use Rattle.rs_bind.specs.Conditions.{conjuncts_of, named_columns, own_places, pa
 use Rattle.rs_bind.specs.Queries.{Unranked, with_terms}
 use Rattle.rs_bind.specs.Rules.{Types}
 use Rattle.rs_bind.specs.Sources.{Source, sources_of}
-use Rattle.rs_bind.specs.Typing.{Truth, type_of}
+use Rattle.rs_bind.specs.Typing.{Truth}
 use Rattle.rs_bind.specs.Where.{WhereHolds, conjuncts_hold, holds_of, no_where, condition}
 use Rattle.rs_bind.proofs.BlockRuleFacts.{conjuncts-are}
 use Rattle.rs_bind.proofs.PartFacts.{HaveConjuncts-typed}

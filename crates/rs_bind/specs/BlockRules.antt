@@ -1,5 +1,5 @@
 -- The rules of a block without its terms, as relations: what FROM, WHERE and the output columns are, or with what they are refused.
-use Rattle.std.specs.Prelude.{ℕ, ◌≡◌, ◌≢◌, ◌≤◌, ◌<◌, true, false, List, [], length, map, Option, Some, None, slice_get, Ok, Err}
+use Rattle.std.specs.Prelude.{ℕ, ◌≡◌, ◌≢◌, ◌≤◌, ◌<◌, true, false, List, [], length, Option, Some, None, slice_get, Ok, Err}
 use Rattle.std.specs.List.{list_any}
 use Rattle.std.specs.Str.{bytes_eq}
 use Rattle.rs_lex.specs.declared.token.Span.{Span}

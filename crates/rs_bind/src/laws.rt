@@ -3,6 +3,7 @@
 
 ghost use Rattle.std.specs.Prelude.{◌≡◌, ◌↔◌, Err, Ok, Some, true};
 ghost use Rattle.std.specs.Prelude.{List, Option, ℕ, ℤ};
+ghost use Rattle.std.specs.List.{AllByRecursion};
 ghost use Rattle.rs_catalog.specs.Catalogue.{Catalogue};
 ghost use Rattle.rs_catalog.specs.declared.index.IndexDef.{IndexDef};
 ghost use Rattle.rs_expr.specs.Formulas.{Condition};
@@ -17,14 +18,14 @@ ghost use Rattle.rs_query.specs.declared.query.Query.{Query};
 ghost use Rattle.rs_query.specs.declared.term.Term.{Term as BoundTerm};
 ghost use Rattle.rs_bind.specs.ArgumentRules.{IsOutside, IsWithin};
 ghost use Rattle.rs_bind.specs.BlockRules.{TypesBlock};
-ghost use Rattle.rs_bind.specs.Conditions.{places_in};
+ghost use Rattle.rs_bind.specs.Conditions.{named_columns, places_in, references_of};
 ghost use Rattle.rs_bind.specs.Indexes.{index_def_of};
 ghost use Rattle.rs_bind.specs.Names.{columns_of};
 ghost use Rattle.rs_bind.specs.Predicates.{predicate_of};
 ghost use Rattle.rs_bind.specs.Queries.{Unranked as UnrankedBlock, bound_query, count_of, with_terms};
 ghost use Rattle.rs_bind.specs.QueryRules.{RefusedQuery, TypesQuery};
 ghost use Rattle.rs_bind.specs.Rules.{Refused, Types};
-ghost use Rattle.rs_bind.specs.Sources.{sources_of};
+ghost use Rattle.rs_bind.specs.Sources.{Source, column_in, sources_of};
 ghost use Rattle.rs_bind.specs.Typing.{Scope, Truth, Typed, type_of};
 ghost use Rattle.rs_bind.specs.StatementRules.{RefusedIndex, RefusedNames, RefusedPredicate, TypesIndex, TypesNames, TypesPredicate};
 ghost use Rattle.rs_bind.specs.Where.{WhereHolds, conjuncts_hold, holds_of};
@@ -41,7 +42,8 @@ pub fn expressions_are_typed_by_rules()
 
 /// The conjuncts of a block all hold of some rows exactly where its WHERE does: where the condition that WHERE is holds of
 /// the values that the columns have in these rows. That is so over whatever columns the condition is typed, if they have
-/// those that it names.
+/// those that it names. Over the columns that it names, a reference in it is refused exactly where it stands for no column, or
+/// for several.
 pub fn conjuncts_mean_where()
     ensures holds { (catalogue : Catalogue) (written : BlockSelect) (bound : UnrankedBlock) (terms : List BoundTerm) (rows : List ℕ)
         → TypesBlock catalogue written bound
@@ -50,6 +52,8 @@ pub fn conjuncts_mean_where()
         (x : Expression) (columns : List (ℕ × ℕ)) (c : Condition)
         → TypesBlock catalogue written bound → written.filter ≡ Some x → Types (places_in columns (sources_of catalogue bound.from)) x (Truth c)
         → conjuncts_hold catalogue (with_terms bound terms) rows ≡ holds_of catalogue (with_terms bound terms) rows columns c }
+    ensures refused { (sources : List Source) (x : Expression) → AllByRecursion (λ c. (fault : BindFault)
+        → (places_in (named_columns sources x) sources c ≡ Err fault) ↔ (column_in sources c ≡ Err fault)) (references_of x) }
 {}
 
 /// A SELECT is one query at most, as the rules say, or refused with one fault, that of the first rule that fails; it is

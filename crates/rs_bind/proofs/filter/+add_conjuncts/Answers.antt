@@ -4,7 +4,7 @@ use Rattle.std.specs.Prelude.{Result, Ok, Err}
 use Rattle.std.proofs.lemmas.Grind.{common_steps}
 use Rattle.std.proofs.lemmas.Result.{err_from_is_err_and}
 use Rattle.rs_value.specs.Answer.{Gives}
-use Rattle.rs_syntax.specs.Syntax.{Expression, expression_of}
+use Rattle.rs_syntax.specs.Syntax.{expression_of}
 use Rattle.rs_syntax.specs.declared.node.Node.{Node, the_lemmas}
 use Rattle.rs_query.specs.Conjuncts.{ConjunctDef}
 use Rattle.rs_bind.specs.declared.fault.BindFault.{BindFault}

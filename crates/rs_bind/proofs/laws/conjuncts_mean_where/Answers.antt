@@ -1,3 +1,4 @@
+use Rattle.rs_bind.proofs.ReferenceFacts.{each-refused}
 use Rattle.rs_bind.proofs.WhereFacts.{holds-columns, holds-where}
 use Rattle.rs_bind.proofs.laws.conjuncts_mean_where.Goals as goal
 
@@ -7,3 +8,6 @@ returns-clause-holds c = λ catalogue written bound terms rows typed. holds-wher
 pub returns-clause-columns : goal.returns-clause-columns
 returns-clause-columns c = λ catalogue written bound terms rows x columns d typed is of_x.
     holds-columns catalogue written bound terms rows typed x columns d is of_x
+
+pub returns-clause-refused : goal.returns-clause-refused
+returns-clause-refused c = λ sources x. each-refused sources x
