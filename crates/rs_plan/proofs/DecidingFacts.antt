@@ -19,7 +19,8 @@ use Rattle.rs_query.specs.declared.query.Query.TheVariants.{One, Set}
 use Rattle.rs_query.specs.declared.term.Term.{Term}
 use Rattle.rs_plan.specs.Deciding.{are_joined, has_no_distinct, is_complete, is_distinct, is_found, is_hashed, is_part, is_plan, is_rank, is_rank_of, is_rank_scan, is_scan_of, is_set_plan, joins_sides}
 use Rattle.rs_plan.specs.Numbers.{HasNumbers, IsUpTo}
-use Rattle.rs_plan.specs.Plans.{AreJoined, HasNoDistinct, IsComplete, IsDistinct, IsEntry, IsHashed, IsPart, IsPlan, IsRank, IsRankScan, IsSetPlan, IsTermOf, JoinsSides, all_terms}
+use Rattle.rs_query.specs.Answers.{all_terms}
+use Rattle.rs_plan.specs.Plans.{AreJoined, HasNoDistinct, IsComplete, IsDistinct, IsEntry, IsHashed, IsPart, IsPlan, IsRank, IsRankScan, IsSetPlan, IsTermOf, JoinsSides}
 use Rattle.rs_plan.specs.Trees.{Distinct, HashJoin, NestedJoin, Rank, RankScan, SeqScan, SetOperator, Tree, entries, terms}
 
 -- a number beyond the eight of a mask isn't in it

@@ -7,7 +7,8 @@ ghost use Rattle.rs_query.specs.Meaning.{is_inside};
 ghost use Rattle.rs_query.specs.WellFormed.{IsBlock, IsQuery};
 ghost use Rattle.rs_plan.specs.Deciding.{are_joined, has_no_distinct, is_complete, is_distinct, is_found, is_hashed, is_part, is_plan, is_rank, is_rank_scan, is_set_plan, joins_sides};
 ghost use Rattle.rs_plan.specs.Numbers.{HasNumbers, IsUpTo};
-ghost use Rattle.rs_plan.specs.Plans.{IsPlan, all_terms};
+ghost use Rattle.rs_query.specs.Answers.{all_terms};
+ghost use Rattle.rs_plan.specs.Plans.{IsPlan};
 ghost use Rattle.rs_plan.specs.Shapes.{tree_of};
 ghost use Rattle.rs_plan.specs.Trees.{entries, terms};
 
