@@ -4,7 +4,8 @@ use Rattle.std.specs.List.{AllByRecursion}
 use Rattle.std.proofs.lemmas.Bool.{false≢true}
 use Rattle.rs_value.specs.declared.kind.Kind.{Kind}
 use Rattle.rs_value.specs.declared.kind.Kind.TheVariants as kind
-use Rattle.rs_expr.specs.Formulas.{Argument}
+use Rattle.rs_value.specs.declared.rel.Rel.TheVariants.{Eq}
+use Rattle.rs_expr.specs.Formulas.{Argument, Numbers}
 use Rattle.rs_expr.specs.Uses.{is_kind}
 use Rattle.rs_catalog.specs.Catalogue.{Catalogue}
 use Rattle.rs_catalog.specs.declared.index.BoundArg.TheVariants as arg
@@ -16,6 +17,18 @@ a_number : (found : Option Kind) → is_kind kind.Int found ≡ true → found �
 a_number (Some kind.Int) is = refl
 a_number (Some kind.Text) is = absurd (false≢true is)
 a_number None is = absurd (false≢true is)
+
+is_conjunct : (catalogue : Catalogue) (block : Block) → IsColumn catalogue block (1, 0) → IsColumn catalogue block (2, 0)
+    → is_kind kind.Int (kind_of catalogue block (1, 0)) ≡ true → is_kind kind.Int (kind_of catalogue block (2, 0)) ≡ true
+    → IsConjunct catalogue block (record { condition = Numbers Eq (Argument 0) (Argument 1); columns = (1, 0) ∷ (2, 0) ∷ []; entries = 3; equality = Some ((1, 0), (2, 0)) })
+is_conjunct catalogue block left right left_number right_number = record {
+  columns = (left, (right, tt));
+  distinct = (refl, (refl, tt));
+  entries = refl;
+  uses = rw (left_number, right_number) refl;
+  narrow = refl;
+  equality = refl;
+}
 
 is_term : (catalogue : Catalogue) (block : Block) → HasPredicate catalogue → IsColumn catalogue block (1, 0) → kind_of catalogue block (1, 0) ≡ Some kind.Int
     → IsTerm catalogue block (record { weight = 1; predicate = 0; args = arg.Column 1 0 ∷ []; max = 10; entries = 1 })
@@ -31,19 +44,21 @@ is_term catalogue block has column number = record {
 }
 
 pub IsBlock-pair : (catalogue : Catalogue) (block : Block) → length catalogue.tables ≡ 1 → HasPredicate catalogue → IsPair block
-    → is_kind kind.Int (kind_of catalogue block (1, 0)) ≡ true → IsBlock catalogue block
-IsBlock-pair catalogue block one has pair number =
-    let is_number : kind_of catalogue block (1, 0) ≡ Some kind.Int = a_number (kind_of catalogue block (1, 0)) number in
+    → is_kind kind.Int (kind_of catalogue block (1, 0)) ≡ true → is_kind kind.Int (kind_of catalogue block (2, 0)) ≡ true → IsBlock catalogue block
+IsBlock-pair catalogue block one has pair left_number right_number =
+    let left_kind : kind_of catalogue block (1, 0) ≡ Some kind.Int = a_number (kind_of catalogue block (1, 0)) left_number in
+    let right_kind : kind_of catalogue block (2, 0) ≡ Some kind.Int = a_number (kind_of catalogue block (2, 0)) right_number in
     let from : length block.from ≡ 2 = rw pair.entries.are refl in
-    let column : IsColumn catalogue block (1, 0) = (omega arith, omega arith, (kind.Int, is_number)) in
+    let left : IsColumn catalogue block (1, 0) = (omega arith, omega arith, (kind.Int, left_kind)) in
+    let right : IsColumn catalogue block (2, 0) = (omega arith, omega arith, (kind.Int, right_kind)) in
     record {
       some_entries = omega arith;
       most_entries = omega arith;
       entries = subst (AllByRecursion (IsEntry catalogue)) (sym pair.entries.are) (omega arith, (omega arith, tt));
       most_conjuncts = rw pair.conjuncts (omega arith);
-      conjuncts = subst (AllByRecursion (IsConjunct catalogue block)) (sym pair.conjuncts) tt;
+      conjuncts = subst (AllByRecursion (IsConjunct catalogue block)) (sym pair.conjuncts) (is_conjunct catalogue block left right left_number right_number, tt);
       most_items = rw pair.items (omega arith);
-      items = subst (AllByRecursion (IsColumn catalogue block)) (sym pair.items) (column, tt);
+      items = subst (AllByRecursion (IsColumn catalogue block)) (sym pair.items) (left, tt);
       most_terms = rw pair.terms (omega arith);
-      terms = subst (AllByRecursion (IsTerm catalogue block)) (sym pair.terms) (is_term catalogue block has column is_number, tt);
+      terms = subst (AllByRecursion (IsTerm catalogue block)) (sym pair.terms) (is_term catalogue block has left left_kind, tt);
     }

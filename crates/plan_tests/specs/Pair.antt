@@ -1,7 +1,8 @@
 -- The catalogue and the query that the tests build.
-use Rattle.std.specs.Prelude.{ℕ, ◌≡◌, List, [], ◌∷◌}
+use Rattle.std.specs.Prelude.{ℕ, ◌≡◌, List, [], ◌∷◌, Some}
 use Rattle.rs_value.specs.declared.kind.Kind.TheVariants as kind
-use Rattle.rs_expr.specs.Formulas.{Argument}
+use Rattle.rs_value.specs.declared.rel.Rel.TheVariants.{Eq}
+use Rattle.rs_expr.specs.Formulas.{Argument, Numbers}
 use Rattle.rs_catalog.specs.Catalogue.{Catalogue}
 use Rattle.rs_catalog.specs.declared.index.BoundArg.TheVariants as arg
 use Rattle.rs_query.specs.declared.block.Block.{Block}
@@ -23,10 +24,15 @@ pub record ArePair (from : List (ℕ × List ℕ)) : Type 0 where
   pub right : List ℕ
   pub are : from ≡ (0, left) ∷ (0, right) ∷ []
 
--- the block of both, whose output and whose term are the first column of the first one
+-- the block of both, whose first columns are equal, and whose output and whose term are that of the first one
 pub record IsPair (block : Block) : Type 0 where
   pub entries : ArePair block.from
-  pub conjuncts : block.conjuncts ≡ []
+  pub conjuncts : block.conjuncts ≡ record {
+    condition = Numbers Eq (Argument 0) (Argument 1);
+    columns = (1, 0) ∷ (2, 0) ∷ [];
+    entries = 3;
+    equality = Some ((1, 0), (2, 0));
+  } ∷ []
   pub items : block.items ≡ (1, 0) ∷ []
   pub terms : block.terms ≡ record {
     weight = 1;

@@ -39,7 +39,7 @@ const CASES: [Case; 14] = [
         false,
         false,
     ),
-    (&[Scan(1), Scan(2), HashJoin, Rank(1)], false, false),
+    (&[Scan(1), Scan(2), HashJoin, Rank(1)], true, false),
     (&[RankScan(1, 1, 0), Scan(2), NestedJoin], false, false),
     (
         &[Scan(1), Scan(2), NestedJoin, Scan(1), NestedJoin, Rank(1)],

@@ -1,19 +1,20 @@
-//! A query of two entries of one table: SELECT a.k FROM t a, t b ORDER BY p(a.k), with DISTINCT or without.
+//! A query of two entries of one table: SELECT a.k FROM t a, t b WHERE a.k = b.k ORDER BY p(a.k), with DISTINCT or without.
 
-ghost use Rattle.std.specs.Prelude.{◌≡◌, ◌≤◌, ◌+◌, ◌∷◌, [], IfOk, length, slice_get, true};
+ghost use Rattle.std.specs.Prelude.{◌≡◌, ◌≤◌, ◌+◌, ◌∷◌, [], IfOk, Some, length, true};
 ghost use Rattle.std.specs.List.{AllByRecursion};
 ghost use Rattle.rs_value.specs.declared.kind.Kind.TheVariants as kind;
-ghost use Rattle.rs_expr.specs.Formulas.{Argument};
+ghost use Rattle.rs_value.specs.declared.rel.Rel.TheVariants.{Eq};
+ghost use Rattle.rs_expr.specs.Formulas.{Argument, Numbers};
 ghost use Rattle.rs_expr.specs.Uses.{is_kind};
 ghost use Rattle.rs_catalog.specs.declared.index.BoundArg.TheVariants as arg;
 ghost use Rattle.rs_query.specs.WellFormed.{IsBlock, IsEntry, IsQuery, kind_of};
 ghost use Rattle.plan_tests.specs.Pair.{ArePair, HasPredicate, IsPair};
 
 use rs_catalog::{BoundArg, Catalog, What};
-use rs_expr::{Expr, Predicate};
-use rs_query::{Block, Query, Term};
+use rs_expr::{Cond, Expr, Predicate};
+use rs_query::{Block, Conjunct, Query, Term};
 use rs_table::{Schema, Table};
-use rs_value::{Kind, List, Text};
+use rs_value::{Kind, List, Rel, Text};
 use std::alloc::Global;
 use std::process::Abort;
 use std::test::Fail;
@@ -39,7 +40,7 @@ fn predicate(alloc: Global) -> Result<Predicate, Fail>
 /// The table of a column of numbers, k.
 fn table(alloc: Global) -> Result<Table, Fail> {
     let columns = vec![in alloc; (text(alloc, "k")?, Kind::Int)]?;
-    Ok(Table::read(alloc, Schema::make(columns), b"k\n4\n7\n")?)
+    Ok(Table::read(alloc, Schema::make(columns), b"k\n4\n7\n4\n")?)
 }
 
 /// Adds the predicate.
@@ -95,6 +96,21 @@ fn from(alloc: Global) -> Result<Vec<(u8, Text)>, Fail>
     }
 }
 
+/// That their numbers are equal.
+fn conjuncts(alloc: Global) -> Result<Vec<Conjunct>, Fail>
+    ensures { IfOk result (λ conjuncts. conjuncts.items ≡ record {
+      condition = Numbers Eq (Argument 0) (Argument 1);
+      columns = (1, 0) ∷ (2, 0) ∷ [];
+      entries = 3;
+      equality = Some ((1, 0), (2, 0));
+    } ∷ []) }
+{
+    let columns = List::of(vec![in alloc; (1, 0), (2, 0)]?);
+    let condition = Cond::Numbers(Rel::Eq, Expr::Arg(0), Expr::Arg(1));
+    let conjunct = Conjunct::new(condition, columns, 3, Some(((1, 0), (2, 0))));
+    Ok(vec![in alloc; conjunct]?)
+}
+
 /// The term.
 fn terms(alloc: Global) -> Result<Vec<Term>, Fail>
     ensures { IfOk result (λ terms. terms.items ≡ record {
@@ -121,23 +137,25 @@ fn pair(alloc: Global, distinct: bool) -> Result<Block, Fail>
 {
     let items = vec![in alloc; (1, 0)]?;
     let from = from(alloc)?;
+    let conjuncts = conjuncts(alloc)?;
     let terms = terms(alloc)?;
     Ok(Block {
         from: List::of(from),
-        conjuncts: List::of(Vec::new(alloc)),
+        conjuncts: List::of(conjuncts),
         items: List::of(items),
         terms: List::of(terms),
         distinct,
     })
 }
 
-/// Whether the first column of entry 1 is one of numbers.
-fn is_number(catalog: &Catalog, block: &Block) -> bool
+/// Whether the first column of an entry is one of numbers.
+fn is_number(catalog: &Catalog, block: &Block, entry: u8) -> bool
     requires entries { AllByRecursion (IsEntry catalog.now) block.now.from }
-    requires some { 1 ≤ length block.now.from }
-    ensures { result ≡ is_kind kind.Int (kind_of catalog.now block.now (1, 0)) }
+    requires least { 1 ≤ entry }
+    requires most { entry ≤ length block.now.from }
+    ensures { result ≡ is_kind kind.Int (kind_of catalog.now block.now (entry, 0)) }
 {
-    let (table, _) = &block.from.items()[0];
+    let (table, _) = &block.from.items()[entry as usize - 1];
     match catalog.table(*table).schema().columns().first() {
         Some((_, kind)) => *kind == Kind::Int,
         None => false,
@@ -151,7 +169,25 @@ fn assert_pair(rt: &impl Abort, catalog: &Catalog, block: &Block)
     requires pair { IsPair block.now }
     ensures { IsBlock catalog.now block.now }
 {
-    assert!(rt; is_number(catalog, block));
+    assert!(rt; is_number(catalog, block, 1));
+    assert!(rt; is_number(catalog, block, 2));
+}
+
+/// The block, which is well-formed.
+pub(crate) fn formed_pair(
+    rt: &impl Abort,
+    alloc: Global,
+    catalog: &Catalog,
+    distinct: bool,
+) -> Result<Block, Fail>
+    requires tables { length catalog.now.tables ≡ 1 }
+    requires predicate { HasPredicate catalog.now }
+    ensures pair { IfOk result IsPair }
+    ensures formed { IfOk result (IsBlock catalog.now) }
+{
+    let block = pair(alloc, distinct)?;
+    assert_pair(rt, catalog, &block);
+    Ok(block)
 }
 
 /// The query.
@@ -165,7 +201,5 @@ pub(crate) fn query(
     requires predicate { HasPredicate catalog.now }
     ensures { IfOk result (IsQuery catalog.now) }
 {
-    let block = pair(alloc, distinct)?;
-    assert_pair(rt, catalog, &block);
-    Ok(Query::One(block, None))
+    Ok(Query::One(formed_pair(rt, alloc, catalog, distinct)?, None))
 }

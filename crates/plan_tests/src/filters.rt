@@ -1,0 +1,170 @@
+//! Which rows of two entries satisfy a condition, match, and what they put out.
+
+ghost use Rattle.std.specs.Prelude.{◌≡◌, length};
+ghost use Rattle.rs_query.specs.Tables.{HasRows};
+ghost use Rattle.rs_query.specs.WellFormed.{IsBlock};
+ghost use Rattle.plan_tests.specs.Pair.{HasPredicate, IsPair};
+
+use crate::query::{catalogue, formed_pair};
+use rs_catalog::Catalog;
+use rs_filter::{BlockMatch, passes, project, sides_and_matches_are_combinations};
+use rs_query::Block;
+use rs_rank::{Ids, Matcher, RankRow};
+use rs_value::Value;
+use std::alloc::Global;
+use std::process::Abort;
+use std::test::Fail;
+
+/// A row of the entries in a mask.
+fn row_of(mask: u8, rows: [u32; 6]) -> RankRow
+    ensures { result ≡ record { ids = record { block = 1; mask = mask; rows = rows }; sum = 0 } }
+{
+    let ids = Ids {
+        block: 1,
+        mask,
+        rows,
+    };
+    RankRow { ids, sum: 0 }
+}
+
+/// A row of both entries.
+fn both_rows(rt: &impl Abort, catalog: &Catalog, block: &Block, left: u32, right: u32) -> RankRow
+    requires tables { length catalog.now.tables ≡ 1 }
+    requires pair { IsPair block.now }
+    ensures mask { result.ids.mask ≡ 3 }
+    ensures rows { HasRows catalog.now block.now 3 result.ids.rows }
+{
+    assert!(rt; left >= 1 && left <= catalog.table(0).len());
+    assert!(rt; right >= 1 && right <= catalog.table(0).len());
+    row_of(3, [left, right, 0, 0, 0, 0])
+}
+
+/// Asserts whether the condition holds of a row, and that without it each row passes.
+fn assert_passes(
+    rt: &impl Abort,
+    alloc: Global,
+    catalog: &Catalog,
+    block: &Block,
+    row: &RankRow,
+    want: bool,
+) -> Result<(), Fail>
+    requires pair { IsPair block.now }
+    requires block { IsBlock catalog.now block.now }
+    requires mask { row.now.ids.mask ≡ 3 }
+    requires rows { HasRows catalog.now block.now 3 row.now.ids.rows }
+{
+    assert_eq!(rt; passes(alloc, catalog, block, 1, row)?, want);
+    assert!(rt; passes(alloc, catalog, block, 0, row)?);
+    Ok(())
+}
+
+/// Whether a value is this number.
+fn is_int(value: &Value, want: i64) -> bool {
+    match value {
+        Value::Int(number) => *number == want,
+        Value::Text(_) => false,
+    }
+}
+
+/// Asserts what a row puts out.
+fn assert_value(
+    rt: &impl Abort,
+    alloc: Global,
+    catalog: &Catalog,
+    block: &Block,
+    row: &RankRow,
+    want: i64,
+) -> Result<(), Fail>
+    requires pair { IsPair block.now }
+    requires block { IsBlock catalog.now block.now }
+    requires mask { row.now.ids.mask ≡ 3 }
+    requires rows { HasRows catalog.now block.now 3 row.now.ids.rows }
+{
+    let values = project(alloc, catalog, block, row)?;
+    assert_eq!(rt; values.len(), 1);
+    assert!(rt; is_int(&values[0], want));
+    Ok(())
+}
+
+/// A left row and a right one, whether their numbers are equal, and the left one's.
+const ROWS: [(u32, u32, bool, i64); 3] = [(1, 1, true, 4), (2, 1, false, 7), (3, 1, true, 4)];
+
+fn assert_row(
+    rt: &impl Abort,
+    alloc: Global,
+    catalog: &Catalog,
+    block: &Block,
+    row: &(u32, u32, bool, i64),
+) -> Result<(), Fail>
+    requires tables { length catalog.now.tables ≡ 1 }
+    requires pair { IsPair block.now }
+    requires block { IsBlock catalog.now block.now }
+{
+    let both = both_rows(rt, catalog, block, row.0, row.1);
+    assert_passes(rt, alloc, catalog, block, &both, row.2)?;
+    assert_value(rt, alloc, catalog, block, &both, row.3)
+}
+
+fn assert_rows(rt: &impl Abort, alloc: Global, catalog: &Catalog) -> Result<(), Fail>
+    requires tables { length catalog.now.tables ≡ 1 }
+    requires predicate { HasPredicate catalog.now }
+{
+    let block = formed_pair(rt, alloc, catalog, false)?;
+    for row in &ROWS {
+        assert_row(rt, alloc, catalog, &block, row)?;
+    }
+    Ok(())
+}
+
+#[test]
+fn tells_which_rows_pass(rt: HostRuntime) -> Result<(), Fail> {
+    let catalog = catalogue(&rt, rt.alloc())?;
+    assert_rows(&rt, rt.alloc(), &catalog)
+}
+
+/// Numbers at both entries, and whether they are of rows that match. The table has three rows.
+const PAIRS: [(u32, u32, bool); 6] = [
+    (1, 1, true),
+    (1, 2, false),
+    (3, 1, true),
+    (4, 1, false),
+    (0, 1, false),
+    (1, 0, false),
+];
+
+fn assert_pair<M: Matcher>(
+    rt: &impl Abort,
+    matcher: &mut M,
+    pair: &(u32, u32, bool),
+) -> Result<(), Fail> {
+    let left = row_of(1, [pair.0, 0, 0, 0, 0, 0]);
+    let right = row_of(2, [0, pair.1, 0, 0, 0, 0]);
+    assert_eq!(rt; matcher.matches(&left, &right)?, pair.2);
+    // Each is a row of its own side alone.
+    assert!(rt; !matcher.matches(&right, &left)?);
+    Ok(())
+}
+
+fn assert_pairs(rt: &impl Abort, alloc: Global, catalog: &Catalog) -> Result<(), Fail>
+    requires tables { length catalog.now.tables ≡ 1 }
+    requires predicate { HasPredicate catalog.now }
+{
+    let block = formed_pair(rt, alloc, catalog, false)?;
+    let mut matcher = BlockMatch::new(alloc, catalog, &block, 1, 2);
+    for pair in &PAIRS {
+        assert_pair(rt, &mut matcher, pair)?;
+    }
+    assert_eq!(rt; matcher.calls(), 12);
+    Ok(())
+}
+
+#[test]
+fn matches_rows_of_two_entries(rt: HostRuntime) -> Result<(), Fail> {
+    let catalog = catalogue(&rt, rt.alloc())?;
+    assert_pairs(&rt, rt.alloc(), &catalog)
+}
+
+#[test]
+fn laws_hold_of_filters() {
+    sides_and_matches_are_combinations();
+}
