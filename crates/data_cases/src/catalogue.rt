@@ -5,9 +5,7 @@ ghost use Rattle.rs_value.specs.declared.kind.Kind.TheVariants as kind;
 ghost use Rattle.rs_expr.specs.Formulas.{Argument};
 ghost use Rattle.rs_expr.specs.Uses.{is_kind};
 
-use case_lines::{
-    Fault, bytes_of, columns_of, count_of, cut_word, text_of, value_of,
-};
+use case_lines::{Fault, bytes_of, columns_of, count_of, cut_word, text_of, value_of};
 use rs_catalog::{Catalog, What};
 use rs_expr::{Expr, MemScorer, Predicate};
 use rs_table::{Schema, TABLE_LIMIT, Table, TableFault};

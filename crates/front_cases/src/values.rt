@@ -3,7 +3,9 @@
 ghost use Rattle.std.specs.Prelude.{◌≡◌};
 ghost use Rattle.rs_value.specs.Value.{kind_of};
 
-use case_lines::{Fault, bytes_of, cut_word, number_of, numbers_of, print_escaped, text_of, value_of};
+use case_lines::{
+    Fault, bytes_of, cut_word, number_of, numbers_of, print_escaped, text_of, value_of,
+};
 use rs_lines::row_line;
 use rs_value::{List, Rel, Text, TextFault, Value, decimal_of, int_of};
 use std::alloc::Global;
