@@ -56,8 +56,7 @@ pub fn spelled_is_not_refused()
         → Spells at bytes tokens → Refuses 0 at bytes fault → ⊥ }
 {}
 
-/// A script is refused only at a place where what the fault says stands. Its definition speaks of the bytes from that
-/// place on.
+/// A script is refused only at a place where what the fault says stands, as `IsFault` says it of the script's bytes.
 pub fn refusals_are_faults()
     ensures { (script : List ℕ) (fault : LexFault) → Refuses 0 0 script fault → IsFault script fault }
 {}
