@@ -36,24 +36,27 @@ impl<'a> io::Read for Slow<'a> {
     }
 }
 
-/// How many bytes the reader has, the error behind them, the limit; the answer, and how many bytes were read.
+/// How many bytes the reader has, the error behind them, the limit; the answer, how long the buffer is then, and how many
+/// bytes were read.
 const READS: [(
     usize,
     Option<ErrorKind>,
     usize,
     Result<(), FetchFault>,
     usize,
+    usize,
 ); 8] = [
-    (0, None, 0, Ok(()), 0),
-    (7, None, 9, Ok(()), 7),
-    (9, None, 9, Ok(()), 9),
-    (10, None, 9, Err(FetchFault::TooLong), 10),
-    (20, None, 9, Err(FetchFault::TooLong), 10),
+    (0, None, 0, Ok(()), 1, 0),
+    (7, None, 9, Ok(()), 8, 7),
+    (9, None, 9, Ok(()), 10, 9),
+    (10, None, 9, Err(FetchFault::TooLong), 1, 10),
+    (20, None, 9, Err(FetchFault::TooLong), 1, 10),
     (
         5,
         Some(ErrorKind::OutOfMemory),
         9,
         Err(FetchFault::Memory),
+        1,
         5,
     ),
     (
@@ -61,9 +64,17 @@ const READS: [(
         Some(ErrorKind::PermissionDenied),
         9,
         Err(FetchFault::Failed),
+        1,
         5,
     ),
-    (5, Some(ErrorKind::NotFound), 9, Err(FetchFault::Failed), 5),
+    (
+        5,
+        Some(ErrorKind::NotFound),
+        9,
+        Err(FetchFault::Failed),
+        1,
+        5,
+    ),
 ];
 
 /// What is fetched of a reader, into a buffer that held `>`.
@@ -74,6 +85,7 @@ fn assert_read(
     fails: Option<ErrorKind>,
     limit: usize,
     answer: Result<(), FetchFault>,
+    kept: usize,
     read: usize,
 ) -> Result<(), Fail> {
     let mut into = b">".to_vec(alloc)?;
@@ -85,17 +97,16 @@ fn assert_read(
         given: &mut given,
     };
     let got = fetch_opened(Ok(reader), limit, &mut into);
-    let kept = if answer.is_ok() { length } else { 0 };
     assert_eq!(rt; got, answer, "at {length}, {limit}");
-    assert_eq!(rt; into.len(), 1 + kept, "at {length}, {limit}");
+    assert_eq!(rt; into.len(), kept, "at {length}, {limit}");
     assert_eq!(rt; given, read, "at {length}, {limit}");
     Ok(())
 }
 
 #[test]
 fn reads_to_the_end_or_one_byte_beyond_the_limit(rt: HostRuntime) -> Result<(), Fail> {
-    for (length, fails, limit, answer, read) in READS {
-        assert_read(&rt, rt.alloc(), length, fails, limit, answer, read)?;
+    for (length, fails, limit, answer, kept, read) in READS {
+        assert_read(&rt, rt.alloc(), length, fails, limit, answer, kept, read)?;
     }
     Ok(())
 }
