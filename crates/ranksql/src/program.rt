@@ -32,7 +32,7 @@ where
     // Where there was no memory for the words nothing is run, and standard error says so.
     ensures no_memory { OnErr words (exit_status result ≡ number_of Status.Memory) }
     ensures nothing { OnErr words ((files.new ≡ files.old) × (scorer.new ≡ scorer.old) × (out.new ≡ out.old)) }
-    ensures line { OnErr words (SaysNoMemory (E.pieces err.old) (E.pieces err.new)) }
+    ensures line { OnErr words (SaysNoMemory (E.state err.old).told (E.state err.new).told) }
 {
     match words {
         Ok(words) => exit_code(run(alloc, &words, files, scorer, out, err)),
@@ -50,7 +50,7 @@ fn exit_code(status: Status) -> ExitCode
 /// Says on standard error that there was no memory for the words.
 fn no_memory<E: Sink>(err: &mut E) -> Status
     ensures status { result ≡ Status.Memory }
-    ensures line { SaysNoMemory (E.pieces err.old) (E.pieces err.new) }
+    ensures line { SaysNoMemory (E.state err.old).told (E.state err.new).told }
 {
     let _ = err.put(b"memory\n");
     Status::Memory
