@@ -237,18 +237,39 @@ const NARROW_PUTS: [(usize, u32, u32, &str); 3] = [
     (3, 2, 1, "abc"),
 ];
 
+/// A narrow writer with this room.
+fn narrow_writer(alloc: Global, room: usize) -> Narrow {
+    Narrow {
+        taken: Vec::new(alloc),
+        room,
+        interrupted: false,
+        flushes: 0,
+    }
+}
+
+fn assert_narrow(
+    rt: &impl Abort,
+    writer: &mut Narrow,
+    failed: u32,
+    flushes: u32,
+    bytes: &str,
+) -> Result<(), Fail> {
+    assert_puts(rt, &mut OutSink::new(&mut *writer), failed)?;
+    assert_eq!(rt; writer.taken.as_slice(), bytes.as_bytes());
+    assert_eq!(rt; writer.flushes, flushes);
+    Ok(())
+}
+
 #[test]
 fn puts_through_a_narrow_writer(rt: HostRuntime) -> Result<(), Fail> {
     for (room, failed, flushes, bytes) in NARROW_PUTS {
-        let mut writer = Narrow {
-            taken: Vec::new(rt.alloc()),
-            room,
-            interrupted: false,
-            flushes: 0,
-        };
-        assert_puts(&rt, &mut OutSink::new(&mut writer), failed)?;
-        assert_eq!(rt; writer.taken.as_slice(), bytes.as_bytes(), "at {room}");
-        assert_eq!(rt; writer.flushes, flushes, "at {room}");
+        assert_narrow(
+            &rt,
+            &mut narrow_writer(rt.alloc(), room),
+            failed,
+            flushes,
+            bytes,
+        )?;
     }
     Ok(())
 }

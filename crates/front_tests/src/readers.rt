@@ -77,7 +77,25 @@ const READS: [(
     ),
 ];
 
-/// What is fetched of a reader, into a buffer that held `>`.
+/// What is fetched of a reader into a buffer that held `>`, and how long the buffer is then.
+fn fetched(
+    alloc: Global,
+    length: usize,
+    fails: Option<ErrorKind>,
+    limit: usize,
+    given: &mut usize,
+) -> Result<(Result<(), FetchFault>, usize), Fail> {
+    let mut into = b">".to_vec(alloc)?;
+    let reader = Slow {
+        left: length,
+        fails,
+        interrupted: false,
+        given,
+    };
+    let got = fetch_opened(Ok(reader), limit, &mut into);
+    Ok((got, into.len()))
+}
+
 fn assert_read(
     rt: &impl Abort,
     alloc: Global,
@@ -88,17 +106,10 @@ fn assert_read(
     kept: usize,
     read: usize,
 ) -> Result<(), Fail> {
-    let mut into = b">".to_vec(alloc)?;
     let mut given = 0;
-    let reader = Slow {
-        left: length,
-        fails,
-        interrupted: false,
-        given: &mut given,
-    };
-    let got = fetch_opened(Ok(reader), limit, &mut into);
+    let (got, held) = fetched(alloc, length, fails, limit, &mut given)?;
     assert_eq!(rt; got, answer, "at {length}, {limit}");
-    assert_eq!(rt; into.len(), kept, "at {length}, {limit}");
+    assert_eq!(rt; held, kept, "at {length}, {limit}");
     assert_eq!(rt; given, read, "at {length}, {limit}");
     Ok(())
 }

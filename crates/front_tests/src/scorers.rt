@@ -61,21 +61,35 @@ fn assert_calls(rt: &impl Abort, calls: &[Call], name: &[u8], answers: &[Answer]
     assert_eq!(rt; calls.len(), answers.len());
     for (call, answer) in calls.iter().zip(answers) {
         assert_eq!(rt; call.predicate.bytes(), name);
-        assert_eq!(rt;
-            call.args.items().as_slice(),
-            [Value::Int(i64::from(answer.0))].as_slice()
-        );
+        assert_eq!(rt; only_number(call), Some(i64::from(answer.0)));
     }
+}
+
+/// The number of a call that has no other argument.
+fn only_number(call: &Call) -> Option<i64> {
+    match call.args.items().as_slice() {
+        [Value::Int(number)] => Some(*number),
+        _ => None,
+    }
+}
+
+/// Asserts the parts of such a predicate, but for its formula.
+fn assert_parts(rt: &impl Abort, predicate: &Predicate, name: &[u8]) {
+    assert_eq!(rt; predicate.name().bytes(), name);
+    assert_eq!(rt; predicate.params(), [Kind::Int].as_slice());
+    assert_eq!(rt; predicate.max(), 100);
+    assert_eq!(rt; predicate.cost(), 5);
+}
+
+fn is_sum(formula: &Expr) -> bool {
+    matches!(formula, Expr::Add(_, _))
 }
 
 #[test]
 fn gives_the_parts_of_a_predicate(rt: HostRuntime) -> Result<(), Fail> {
     let near = doubling(rt.alloc(), b"near")?;
-    assert_eq!(rt; near.name().bytes(), b"near".as_slice());
-    assert_eq!(rt; near.params(), [Kind::Int].as_slice());
-    assert_eq!(rt; near.max(), 100);
-    assert_eq!(rt; near.cost(), 5);
-    assert!(rt; matches!(near.formula(), Expr::Add(_, _)));
+    assert_parts(&rt, &near, b"near");
+    assert!(rt; is_sum(near.formula()));
     Ok(())
 }
 
