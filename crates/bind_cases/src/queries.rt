@@ -5,7 +5,7 @@ ghost use Rattle.rs_query.specs.WellFormed.{IsBlock, IsQuery};
 use case_lines::{Fault, print_call};
 use rs_catalog::Catalog;
 use rs_expr::{Call, MemScorer};
-use rs_plain::{PlainFault, plain};
+use rs_plain::{PlainFault, answer_plainly};
 use rs_query::{Block, Query};
 use rs_rank::Answer;
 use rs_value::Memory;
@@ -43,7 +43,7 @@ pub fn tell_plain(
 {
     let mut scorer = MemScorer::new(alloc);
     scorer.fail_at(failing)?;
-    let mut told = tell_outcome(alloc, plain(alloc, catalog, query, &mut scorer))?;
+    let mut told = tell_outcome(alloc, answer_plainly(alloc, catalog, query, &mut scorer))?;
     tell_calls(scorer.calls(), &mut told)?;
     Ok(told)
 }

@@ -12,10 +12,10 @@ use Rattle.data_tests.proofs.KindFacts.{a_number}
 use Rattle.rs_query.specs.declared.block.Block.{Block}
 use Rattle.data_tests.specs.Joined.{IsJoin}
 use Rattle.data_tests.specs.Tables.{HasPredicate}
-use Rattle.rs_query.specs.WellFormed.{IsBlock, IsColumn, IsConjunct, IsEntry, IsTerm, kind_of}
+use Rattle.rs_query.specs.WellFormed.{IsBlock, IsColumn, IsConjunct, IsFromEntry, IsTerm, column_kind}
 
 is_conjunct : (catalogue : Catalogue) (block : Block) → IsColumn catalogue block (1, 0) → IsColumn catalogue block (2, 0)
-    → is_kind kind.Int (kind_of catalogue block (1, 0)) ≡ true → is_kind kind.Int (kind_of catalogue block (2, 0)) ≡ true
+    → is_kind kind.Int (column_kind catalogue block (1, 0)) ≡ true → is_kind kind.Int (column_kind catalogue block (2, 0)) ≡ true
     → IsConjunct catalogue block (record { condition = Numbers Eq (Argument 0) (Argument 1); columns = (1, 0) ∷ (2, 0) ∷ []; entries = 3; equality = Some ((1, 0), (2, 0)) })
 is_conjunct catalogue block left right left_number right_number = record {
   columns = (left, (right, tt));
@@ -26,7 +26,7 @@ is_conjunct catalogue block left right left_number right_number = record {
   equality = refl;
 }
 
-is_term : (catalogue : Catalogue) (block : Block) → HasPredicate (kind.Int ∷ kind.Int ∷ []) 100 catalogue → IsColumn catalogue block (2, 0) → kind_of catalogue block (2, 0) ≡ Some kind.Int
+is_term : (catalogue : Catalogue) (block : Block) → HasPredicate (kind.Int ∷ kind.Int ∷ []) 100 catalogue → IsColumn catalogue block (2, 0) → column_kind catalogue block (2, 0) ≡ Some kind.Int
     → IsTerm catalogue block (record { weight = 3; predicate = 0; args = arg.Column 2 0 ∷ arg.Int (pos 7) ∷ []; max = 100; entries = 2 })
 is_term catalogue block has column number = record {
   predicate = record { name = has.name; params = kind.Int ∷ kind.Int ∷ []; max = 100; cost = 1; formula = Argument 0 };
@@ -40,17 +40,17 @@ is_term catalogue block has column number = record {
 }
 
 pub IsBlock-join : (catalogue : Catalogue) (block : Block) → length catalogue.tables ≡ 2 → HasPredicate (kind.Int ∷ kind.Int ∷ []) 100 catalogue → IsJoin block
-    → is_kind kind.Int (kind_of catalogue block (1, 0)) ≡ true → is_kind kind.Int (kind_of catalogue block (2, 0)) ≡ true → IsBlock catalogue block
+    → is_kind kind.Int (column_kind catalogue block (1, 0)) ≡ true → is_kind kind.Int (column_kind catalogue block (2, 0)) ≡ true → IsBlock catalogue block
 IsBlock-join catalogue block two has join left_number right_number =
-    let left_kind : kind_of catalogue block (1, 0) ≡ Some kind.Int = a_number (kind_of catalogue block (1, 0)) left_number in
-    let right_kind : kind_of catalogue block (2, 0) ≡ Some kind.Int = a_number (kind_of catalogue block (2, 0)) right_number in
+    let left_kind : column_kind catalogue block (1, 0) ≡ Some kind.Int = a_number (column_kind catalogue block (1, 0)) left_number in
+    let right_kind : column_kind catalogue block (2, 0) ≡ Some kind.Int = a_number (column_kind catalogue block (2, 0)) right_number in
     let from : length block.from ≡ 2 = rw join.from refl in
     let left : IsColumn catalogue block (1, 0) = (omega arith, omega arith, (kind.Int, left_kind)) in
     let right : IsColumn catalogue block (2, 0) = (omega arith, omega arith, (kind.Int, right_kind)) in
     record {
       some_entries = omega arith;
       most_entries = omega arith;
-      entries = subst (AllByRecursion (IsEntry catalogue)) (sym join.from) (omega arith, (omega arith, tt));
+      entries = subst (AllByRecursion (IsFromEntry catalogue)) (sym join.from) (omega arith, (omega arith, tt));
       most_conjuncts = rw join.conjuncts (omega arith);
       conjuncts = subst (AllByRecursion (IsConjunct catalogue block)) (sym join.conjuncts) (is_conjunct catalogue block left right left_number right_number, tt);
       most_items = rw join.items (omega arith);

@@ -76,6 +76,25 @@ fn assert_outputs(
     Ok(())
 }
 
+/// Asserts whether the condition holds of a row, and that without it each row passes.
+fn assert_holds(
+    rt: &impl Abort,
+    alloc: Global,
+    catalog: &Catalog,
+    block: &Block,
+    ids: &Ids,
+    want: bool,
+) -> Result<(), Fail>
+    requires join { IsJoin block.now }
+    requires block { IsBlock catalog.now block.now }
+    requires mask { ids.now.mask ≡ 3 }
+    requires rows { HasRows catalog.now block.now 3 ids.now.rows }
+{
+    assert_eq!(rt; block.holds(alloc, catalog, 1, ids)?, want);
+    assert!(rt; block.holds(alloc, catalog, 0, ids)?);
+    Ok(())
+}
+
 fn assert_row(
     rt: &impl Abort,
     alloc: Global,
@@ -89,9 +108,7 @@ fn assert_row(
 {
     let (left, right, l, r) = *row;
     let ids = both_rows(rt, catalog, block, left, right);
-    let holds = block.holds(alloc, catalog, 1, &ids)?;
-    assert_eq!(rt; holds, l == r, "{left}, {right}");
-    assert!(rt; block.holds(alloc, catalog, 0, &ids)?);
+    assert_holds(rt, alloc, catalog, block, &ids, l == r)?;
     assert_args(rt, alloc, catalog, block, &ids, r)?;
     assert_outputs(rt, alloc, catalog, block, &ids, (r, l))
 }
@@ -113,17 +130,27 @@ fn tells_what_rows_have(rt: HostRuntime) -> Result<(), Fail> {
     assert_rows(&rt, rt.alloc(), &catalog)
 }
 
+/// Masks of entries, and the masks of the conjuncts whose entries are all among them.
+const MASKS: [(u8, u32); 5] = [(0, 0), (1, 0), (2, 0), (3, 1), (63, 1)];
+
+const WEIGHTS: Weights = Weights {
+    weight: [3, 0, 0, 0, 0, 0, 0, 0],
+    max: [100, 0, 0, 0, 0, 0, 0, 0],
+};
+
+fn assert_masks_and_weights(rt: &impl Abort, block: &Block)
+    requires { IsJoin block.now }
+{
+    assert_eq!(rt; block.all_entries(), 3);
+    for (entries, want) in MASKS {
+        assert_eq!(rt; block.within(entries), want, "{entries}");
+    }
+    assert_eq!(rt; block.weights(), WEIGHTS);
+}
+
 #[test]
 fn tells_masks_and_weights(rt: HostRuntime) -> Result<(), Fail> {
     let block = join(rt.alloc())?;
-    assert_eq!(rt; block.all_entries(), 3);
-    for (entries, want) in [(0, 0), (1, 0), (2, 0), (3, 1), (63, 1)] {
-        assert_eq!(rt; block.within(entries), want, "{entries}");
-    }
-    let want = Weights {
-        weight: [3, 0, 0, 0, 0, 0, 0, 0],
-        max: [100, 0, 0, 0, 0, 0, 0, 0],
-    };
-    assert_eq!(rt; block.weights(), want);
+    assert_masks_and_weights(&rt, &block);
     Ok(())
 }

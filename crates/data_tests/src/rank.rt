@@ -41,28 +41,33 @@ const BOTH: Ids = Ids {
     rows: [5, 0, 8, 0, 0, 0],
 };
 
-#[test]
-fn rows_and_keys_are_merged(rt: HostRuntime) {
-    assert_eq!(rt; LEFT.ids.merge(&RIGHT.ids), BOTH);
-    let row = LEFT.merge(&RIGHT);
-    assert_eq!(rt;
-        row,
-        RankRow {
-            ids: BOTH,
-            sum: 127
-        }
-    );
+// The merged row.
+const MERGED: RankRow = RankRow {
+    ids: BOTH,
+    sum: 127,
+};
 
-    // 7 of term 1 and at most 200 of term 2; at most 10 of term 1 and 120 of term 2.
+#[test]
+fn rows_are_merged(rt: HostRuntime) {
+    assert_eq!(rt; LEFT.ids.merge(&RIGHT.ids), BOTH);
+    assert_eq!(rt; LEFT.merge(&RIGHT), MERGED);
+}
+
+// 7 of term 1 and at most 200 of term 2; at most 10 of term 1 and 120 of term 2.
+#[test]
+fn rows_have_keys(rt: HostRuntime) {
+    assert_eq!(rt; LEFT.key(&TWO_TERMS, 0b01), keyed(207, LEFT.ids));
+    assert_eq!(rt; RIGHT.key(&TWO_TERMS, 0b10), keyed(130, RIGHT.ids));
+}
+
+#[test]
+fn keys_are_merged(rt: HostRuntime) {
     let left = LEFT.key(&TWO_TERMS, 0b01);
     let right = RIGHT.key(&TWO_TERMS, 0b10);
-    assert_eq!(rt; left, keyed(207, LEFT.ids));
-    assert_eq!(rt; right, keyed(130, RIGHT.ids));
-
     let merged = left.merge(&right, &TWO_TERMS, 0b01, 0b10);
     assert_eq!(rt; merged, keyed(127, BOTH));
     assert_eq!(rt; merged.ids.mask, 0b101);
-    assert_eq!(rt; merged, row.key(&TWO_TERMS, 0b11));
+    assert_eq!(rt; merged, MERGED.key(&TWO_TERMS, 0b11));
 }
 
 #[test]

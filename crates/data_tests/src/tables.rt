@@ -5,7 +5,8 @@ ghost use Rattle.std.specs.List.{AllByRecursion};
 ghost use Rattle.rs_value.specs.declared.kind.Kind.TheVariants as kind;
 ghost use Rattle.rs_expr.specs.Formulas.{Argument};
 ghost use Rattle.rs_expr.specs.Uses.{is_kind};
-ghost use Rattle.rs_query.specs.WellFormed.{IsEntry, kind_of};
+ghost use Rattle.rs_catalog.specs.Catalogue.{empty};
+ghost use Rattle.rs_query.specs.WellFormed.{IsFromEntry, column_kind};
 ghost use Rattle.data_tests.specs.Tables.{HasPredicate};
 
 use rs_catalog::{Catalog, What};
@@ -81,7 +82,28 @@ fn add_table(
     Ok(catalog.add_table(name, table)?)
 }
 
-/// The predicate of these parameters, and the tables "left" and "right" of two files.
+/// Adds the predicate of these parameters, and the tables "left" and "right" of two files.
+fn fill(
+    rt: &impl Abort,
+    alloc: Global,
+    catalog: &mut Catalog,
+    params: &[Kind],
+    max: u32,
+    files: (&[u8], &[u8]),
+) -> Result<(), Fail>
+    requires empty { catalog.old ≡ empty }
+    requires some { 1 ≤ max }
+    requires few { length params.now ≤ 8 }
+    requires number { is_kind kind.Int (slice_get params.now 0) ≡ true }
+    ensures tables { IfOk result (λ _. length catalog.new.tables ≡ 2) }
+    ensures predicate { IfOk result (λ _. HasPredicate params.now max catalog.new) }
+{
+    add_predicate(rt, alloc, catalog, params, max)?;
+    add_table(rt, alloc, catalog, "left", files.0)?;
+    add_table(rt, alloc, catalog, "right", files.1)
+}
+
+/// The catalogue of such a predicate and such tables.
 pub(crate) fn catalogue(
     rt: &impl Abort,
     alloc: Global,
@@ -96,18 +118,16 @@ pub(crate) fn catalogue(
     ensures predicate { IfOk result (HasPredicate params.now max) }
 {
     let mut catalog = Catalog::new(alloc);
-    add_predicate(rt, alloc, &mut catalog, params, max)?;
-    add_table(rt, alloc, &mut catalog, "left", files.0)?;
-    add_table(rt, alloc, &mut catalog, "right", files.1)?;
+    fill(rt, alloc, &mut catalog, params, max, files)?;
     Ok(catalog)
 }
 
 /// Whether the first column of a FROM entry is one of numbers.
 pub(crate) fn is_number(catalog: &Catalog, block: &Block, entry: u8) -> bool
-    requires entries { AllByRecursion (IsEntry catalog.now) block.now.from }
+    requires entries { AllByRecursion (IsFromEntry catalog.now) block.now.from }
     requires least { 1 ≤ entry }
     requires most { entry ≤ length block.now.from }
-    ensures { result ≡ is_kind kind.Int (kind_of catalog.now block.now (entry, 0)) }
+    ensures { result ≡ is_kind kind.Int (column_kind catalog.now block.now (entry, 0)) }
 {
     let (table, _) = &block.from.items()[entry as usize - 1];
     match catalog.table(*table).schema().columns().first() {

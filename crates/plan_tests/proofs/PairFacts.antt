@@ -10,7 +10,7 @@ use Rattle.rs_expr.specs.Uses.{is_kind}
 use Rattle.rs_catalog.specs.Catalogue.{Catalogue}
 use Rattle.rs_catalog.specs.declared.index.BoundArg.TheVariants as arg
 use Rattle.rs_query.specs.declared.block.Block.{Block}
-use Rattle.rs_query.specs.WellFormed.{IsBlock, IsColumn, IsConjunct, IsEntry, IsTerm, kind_of}
+use Rattle.rs_query.specs.WellFormed.{IsBlock, IsColumn, IsConjunct, IsFromEntry, IsTerm, column_kind}
 use Rattle.plan_tests.specs.Pair.{HasPredicate, IsPair}
 
 a_number : (found : Option Kind) → is_kind kind.Int found ≡ true → found ≡ Some kind.Int
@@ -19,7 +19,7 @@ a_number (Some kind.Text) is = absurd (false≢true is)
 a_number None is = absurd (false≢true is)
 
 is_conjunct : (catalogue : Catalogue) (block : Block) → IsColumn catalogue block (1, 0) → IsColumn catalogue block (2, 0)
-    → is_kind kind.Int (kind_of catalogue block (1, 0)) ≡ true → is_kind kind.Int (kind_of catalogue block (2, 0)) ≡ true
+    → is_kind kind.Int (column_kind catalogue block (1, 0)) ≡ true → is_kind kind.Int (column_kind catalogue block (2, 0)) ≡ true
     → IsConjunct catalogue block (record { condition = Numbers Eq (Argument 0) (Argument 1); columns = (1, 0) ∷ (2, 0) ∷ []; entries = 3; equality = Some ((1, 0), (2, 0)) })
 is_conjunct catalogue block left right left_number right_number = record {
   columns = (left, (right, tt));
@@ -30,7 +30,7 @@ is_conjunct catalogue block left right left_number right_number = record {
   equality = refl;
 }
 
-is_term : (catalogue : Catalogue) (block : Block) → HasPredicate catalogue → IsColumn catalogue block (1, 0) → kind_of catalogue block (1, 0) ≡ Some kind.Int
+is_term : (catalogue : Catalogue) (block : Block) → HasPredicate catalogue → IsColumn catalogue block (1, 0) → column_kind catalogue block (1, 0) ≡ Some kind.Int
     → IsTerm catalogue block (record { weight = 1; predicate = 0; args = arg.Column 1 0 ∷ []; max = 10; entries = 1 })
 is_term catalogue block has column number = record {
   predicate = record { name = has.name; params = kind.Int ∷ []; max = 10; cost = 1; formula = Argument 0 };
@@ -44,17 +44,17 @@ is_term catalogue block has column number = record {
 }
 
 pub IsBlock-pair : (catalogue : Catalogue) (block : Block) → length catalogue.tables ≡ 1 → HasPredicate catalogue → IsPair block
-    → is_kind kind.Int (kind_of catalogue block (1, 0)) ≡ true → is_kind kind.Int (kind_of catalogue block (2, 0)) ≡ true → IsBlock catalogue block
+    → is_kind kind.Int (column_kind catalogue block (1, 0)) ≡ true → is_kind kind.Int (column_kind catalogue block (2, 0)) ≡ true → IsBlock catalogue block
 IsBlock-pair catalogue block one has pair left_number right_number =
-    let left_kind : kind_of catalogue block (1, 0) ≡ Some kind.Int = a_number (kind_of catalogue block (1, 0)) left_number in
-    let right_kind : kind_of catalogue block (2, 0) ≡ Some kind.Int = a_number (kind_of catalogue block (2, 0)) right_number in
+    let left_kind : column_kind catalogue block (1, 0) ≡ Some kind.Int = a_number (column_kind catalogue block (1, 0)) left_number in
+    let right_kind : column_kind catalogue block (2, 0) ≡ Some kind.Int = a_number (column_kind catalogue block (2, 0)) right_number in
     let from : length block.from ≡ 2 = rw pair.entries.are refl in
     let left : IsColumn catalogue block (1, 0) = (omega arith, omega arith, (kind.Int, left_kind)) in
     let right : IsColumn catalogue block (2, 0) = (omega arith, omega arith, (kind.Int, right_kind)) in
     record {
       some_entries = omega arith;
       most_entries = omega arith;
-      entries = subst (AllByRecursion (IsEntry catalogue)) (sym pair.entries.are) (omega arith, (omega arith, tt));
+      entries = subst (AllByRecursion (IsFromEntry catalogue)) (sym pair.entries.are) (omega arith, (omega arith, tt));
       most_conjuncts = rw pair.conjuncts (omega arith);
       conjuncts = subst (AllByRecursion (IsConjunct catalogue block)) (sym pair.conjuncts) (is_conjunct catalogue block left right left_number right_number, tt);
       most_items = rw pair.items (omega arith);

@@ -7,7 +7,7 @@ ghost use Rattle.rs_value.specs.declared.rel.Rel.TheVariants.{Eq};
 ghost use Rattle.rs_expr.specs.Formulas.{Argument, Numbers};
 ghost use Rattle.rs_expr.specs.Uses.{is_kind};
 ghost use Rattle.rs_catalog.specs.declared.index.BoundArg.TheVariants as arg;
-ghost use Rattle.rs_query.specs.WellFormed.{IsBlock, IsEntry, IsQuery, kind_of};
+ghost use Rattle.rs_query.specs.WellFormed.{IsBlock, IsFromEntry, IsQuery, column_kind};
 ghost use Rattle.plan_tests.specs.Pair.{ArePair, HasPredicate, IsPair};
 
 use rs_catalog::{BoundArg, Catalog, What};
@@ -150,10 +150,10 @@ fn pair(alloc: Global, distinct: bool) -> Result<Block, Fail>
 
 /// Whether the first column of an entry is one of numbers.
 fn is_number(catalog: &Catalog, block: &Block, entry: u8) -> bool
-    requires entries { AllByRecursion (IsEntry catalog.now) block.now.from }
+    requires entries { AllByRecursion (IsFromEntry catalog.now) block.now.from }
     requires least { 1 ≤ entry }
     requires most { entry ≤ length block.now.from }
-    ensures { result ≡ is_kind kind.Int (kind_of catalog.now block.now (entry, 0)) }
+    ensures { result ≡ is_kind kind.Int (column_kind catalog.now block.now (entry, 0)) }
 {
     let (table, _) = &block.from.items()[entry as usize - 1];
     match catalog.table(*table).schema().columns().first() {

@@ -6,7 +6,7 @@ use denote.Ref.{Bor, MutBor}
 use Rattle.rs_outside.specs.Sink.{Puts}
 use Rattle.rs_outside.specs.declared.sink.SinkFault.{SinkFault}
 use Rattle.rs_run.specs.Faults.{fault_line}
-use Rattle.rs_run.specs.Status.{number_of}
+use Rattle.rs_run.specs.Status.{exit_status_of}
 use Rattle.rs_run.specs.declared.fault.Fault.TheVariants.{Memory}
 use Rattle.rs_run.specs.declared.status.Status.{Status}
 
@@ -45,7 +45,7 @@ pub record RanOnce {A F S O E : Type 0} (call : Running A F S O E) (alloc : A) (
 -- one call at these words did all that was done, and the exit status is the number of what it answered
 abbrev pub EndsAsRun : {A F S O E : Type 0} → Running A F S O E → A → List (List ℕ) → Objects F S O E → ExitCode → Objects F S O E → Type 0
 EndsAsRun call alloc words before exit after =
-    (status : Status) × RanOnce call alloc words before status after × (exit_status exit ≡ number_of status)
+    (status : Status) × RanOnce call alloc words before status after × (exit_status exit ≡ exit_status_of status)
 
 -- one put of the line of Memory, which may have failed
 abbrev pub SaysNoMemory : Option (List (List ℕ)) → Option (List (List ℕ)) → Type 0

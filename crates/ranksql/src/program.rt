@@ -1,6 +1,6 @@
 ghost use Rattle.std.specs.Prelude.{◌≡◌, IfOk, OnErr};
 ghost use Rattle.std.specs.Process.{exit_status};
-ghost use Rattle.rs_run.specs.Status.{number_of};
+ghost use Rattle.rs_run.specs.Status.{exit_status_of};
 ghost use Rattle.ranksql.specs.Program.{EndsAsRun, SaysNoMemory, objects};
 
 use rs_outside::Sink;
@@ -30,7 +30,7 @@ where
         (objects files.new scorer.new out.new err.new)) }
 
     // Where there was no memory for the words nothing is run, and standard error says so.
-    ensures no_memory { OnErr words (exit_status result ≡ number_of Status.Memory) }
+    ensures no_memory { OnErr words (exit_status result ≡ exit_status_of Status.Memory) }
     ensures nothing { OnErr words ((files.new ≡ files.old) × (scorer.new ≡ scorer.old) × (out.new ≡ out.old)) }
     ensures line { OnErr words (SaysNoMemory (E.state err.old).told (E.state err.new).told) }
 {
@@ -42,7 +42,7 @@ where
 
 /// The exit status of the program is the number of the status.
 fn exit_code(status: Status) -> ExitCode
-    ensures { exit_status result ≡ number_of status }
+    ensures { exit_status result ≡ exit_status_of status }
 {
     ExitCode::from(status.number())
 }

@@ -31,10 +31,7 @@ fn words_of(alloc: Global, args: Args) -> Result<Vec<Text>, Memory>
 {
     let mut words = Vec::new(alloc);
     for word in args.skip(1) {
-        match Text::from_bytes(alloc, word.as_bytes()) {
-            Ok(word) => words.push(word)?,
-            Err(_) => return Err(Memory),
-        }
+        words.push(Text::from(word))?;
     }
     Ok(words)
 }

@@ -10,11 +10,11 @@ use Rattle.rs_lex.specs.declared.token.Span.{Span}
 use Rattle.rs_syntax.specs.declared.name.ColRef.{ColRef}
 use Rattle.rs_syntax.specs.declared.name.Arg.{Arg}
 use Rattle.rs_syntax.specs.declared.name.Arg.TheVariants as arg
-use Rattle.rs_table.specs.Reading.{◌>>=◌}
+use Rattle.rs_value.specs.Results.{◌>>=◌}
 use Rattle.rs_expr.specs.Uses.{is_kind}
 use Rattle.rs_catalog.specs.declared.index.BoundArg.{BoundArg}
 use Rattle.rs_catalog.specs.declared.index.BoundArg.TheVariants as bound
-use Rattle.rs_query.specs.WellFormed.{columns_of}
+use Rattle.rs_query.specs.WellFormed.{argument_columns}
 use Rattle.rs_bind.specs.declared.fault.BindFault.TheVariants.{At, Memory}
 use Rattle.rs_bind.specs.declared.fault.Why.TheVariants.{ConstantTerm, WrongCount, WrongKind}
 use Rattle.rs_bind.specs.Indexes.{Entries, arg_of, args_of, is_column, of_kind, term_args}
@@ -25,7 +25,7 @@ use Rattle.rs_bind.specs.Typing.{span_of_column}
 use Rattle.rs_bind.proofs.StepFacts.{Ok-steps, Ok-test}
 
 -- the arguments that are columns are output columns
-pub list_all-is_output : (items : List Found) (args : List BoundArg) → list_all (is_output items) args ≡ are_outputs (Some items) (columns_of args)
+pub list_all-is_output : (items : List Found) (args : List BoundArg) → list_all (is_output items) args ≡ are_outputs (Some items) (argument_columns args)
 list_all-is_output items [] = refl
 list_all-is_output items (bound.Column entry column ∷ args) = ap (λ rest. is_output items (bound.Column entry column) && rest) (list_all-is_output items args)
 list_all-is_output items (bound.Int n ∷ args) = list_all-is_output items args

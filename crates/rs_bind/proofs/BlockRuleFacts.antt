@@ -11,25 +11,25 @@ use Rattle.rs_syntax.specs.declared.select.Items.{Items}
 use Rattle.rs_syntax.specs.declared.select.Items.TheVariants as items
 use Rattle.rs_syntax.specs.Syntax as syntax
 use Rattle.rs_syntax.specs.Syntax.{Expression}
-use Rattle.rs_table.specs.Reading.{◌>>=◌}
+use Rattle.rs_value.specs.Results.{◌>>=◌}
 use Rattle.rs_expr.specs.Formulas.{Condition}
-use Rattle.rs_catalog.specs.Catalogue.{Catalogue, number_of}
+use Rattle.rs_catalog.specs.Catalogue.{Catalogue, number_named}
 use Rattle.rs_catalog.specs.declared.room.What.TheVariants as what
 use Rattle.rs_query.specs.Conjuncts.{ConjunctDef}
-use Rattle.rs_query.specs.WellFormed.{entries_of as entries_of_columns, equality_of}
+use Rattle.rs_query.specs.WellFormed.{entries_mask, equality_of}
 use Rattle.rs_bind.specs.declared.fault.BindFault.{BindFault}
 use Rattle.rs_bind.specs.declared.fault.BindFault.TheVariants.{At}
 use Rattle.rs_bind.specs.declared.fault.Why.TheVariants.{LimitOf, NameTwice, NoTable, WrongKind}
 use Rattle.rs_bind.specs.BlockRules.{Entry, FromEntry, IsNoTruth, RefusedBlock, RefusedEntry, RefusedFilter, RefusedItem, RefusedItems, TypesBlock, TypesConjunct, TypesEntry, TypesFilter, TypesItem, TypesItems}
 use Rattle.rs_bind.specs.BlockRules.{too_many, no_table, twice, no_filter, condition, in_condition, no_truth, no_column, star, listed, in_list, in_from, in_filter, in_items}
-use Rattle.rs_bind.specs.Conditions.{condition_over, conjunct_in, conjunct_of, conjuncts_of, few_parts, filter_of, named_columns, own_places, parts_of}
+use Rattle.rs_bind.specs.Conditions.{condition_over, conjunct_in, conjunct_of, conjuncts_of, few_parts, filter_of, named_columns, own_places, parts_of_and}
 use Rattle.rs_bind.specs.InOrder.{Each, FirstRefused}
 use Rattle.rs_bind.specs.InOrder as in_order
 use Rattle.rs_bind.specs.Names.{or_fault}
 use Rattle.rs_bind.specs.Queries.{Unranked, unranked_of}
 use Rattle.rs_bind.specs.Rules.{Types}
 use Rattle.rs_bind.specs.Sources.{Found, Source, alias_of, all_columns_from, column_in, entries_behind, entries_of, items_behind, items_of, sources_of}
-use Rattle.rs_bind.specs.Typing.{Typed, Number, Words, Truth, span_of, span_of_column, truth_of, type_of}
+use Rattle.rs_bind.specs.Typing.{Typed, Number, Words, Truth, span_of, span_of_column, as_truth, type_of}
 use Rattle.rs_bind.proofs.FilterFacts.{few_parts-fit, few_parts-full, one_too_many}
 use Rattle.rs_bind.proofs.PartFacts.{HaveConjuncts-typed}
 use Rattle.rs_bind.proofs.InOrderFacts.{Each-steps, FirstRefused-steps, Follows, steps, steps-Each, steps-FirstRefused}
@@ -55,7 +55,7 @@ module _ (catalogue : Catalogue) where
   aliases before = map (λ (entry : Entry). entry.1) before
 
   abbrev table_of : FromEntry → Result ℕ BindFault
-  table_of entry = or_fault (At NoTable entry.0.at) (number_of what.Table entry.0.text catalogue)
+  table_of entry = or_fault (At NoTable entry.0.at) (number_named what.Table entry.0.text catalogue)
 
   abbrev new_entry : List Entry → FromEntry → ℕ → Result Entry BindFault
   new_entry before entry table =
@@ -73,13 +73,13 @@ module _ (catalogue : Catalogue) where
       let same = same_Ok (found.0, (alias_of entry).text) bound free.1 in
       subst (TypesEntry catalogue before entry) same (record {
         room = is-apart (length before) 6 past.0;
-        table = Ok-or_fault (At NoTable entry.0.at) (number_of what.Table entry.0.text catalogue) found.0 found.1;
+        table = Ok-or_fault (At NoTable entry.0.at) (number_named what.Table entry.0.text catalogue) found.0 found.1;
         alias = refl;
         free = free.0;
       })
 
   -- an entry with room and a table
-  roomy : (before : List Entry) (entry : FromEntry) (table : ℕ) → length before ≢ 6 → number_of what.Table entry.0.text catalogue ≡ Some table
+  roomy : (before : List Entry) (entry : FromEntry) (table : ℕ) → length before ≢ 6 → number_named what.Table entry.0.text catalogue ≡ Some table
       → entry_step before entry ≡ new_entry before entry table
   roomy before entry table room is =
       ap (λ b. if b then Err (At LimitOf entry.0.at) else (table_of entry >>= new_entry before entry)) (apart-test (length before) 6 room)
@@ -97,12 +97,12 @@ module _ (catalogue : Catalogue) where
       elim (Err-else (length before == 6) (table_of entry >>= new_entry before entry) (At LimitOf entry.0.at) fault h) [
         | inl full ↦ subst (RefusedEntry catalogue before entry) full.1 (too_many (is-equal (length before) 6 full.0))
         | inr past ↦ elim (Err-steps (table_of entry) (new_entry before entry) fault past.1) [
-          | inl missing ↦ (let none = Err-or_fault (At NoTable entry.0.at) fault (number_of what.Table entry.0.text catalogue) missing in
+          | inl missing ↦ (let none = Err-or_fault (At NoTable entry.0.at) fault (number_named what.Table entry.0.text catalogue) missing in
               subst (RefusedEntry catalogue before entry) none.1 (no_table (is-apart (length before) 6 past.0) none.0))
           | inr found ↦ elim (Err-else (taken (alias_of entry).text before) (well (found.0, (alias_of entry).text)) (At NameTwice (alias_of entry).at) fault found.2) [
             | inl taken_before ↦ subst (RefusedEntry catalogue before entry) taken_before.1
                 (twice found.0 (is-apart (length before) 6 past.0)
-                (Ok-or_fault (At NoTable entry.0.at) (number_of what.Table entry.0.text catalogue) found.0 found.1) taken_before.0)
+                (Ok-or_fault (At NoTable entry.0.at) (number_named what.Table entry.0.text catalogue) found.0 found.1) taken_before.0)
             | inr free ↦ cc
           ]
         ]
@@ -156,17 +156,17 @@ module _ (catalogue : Catalogue) where
       entries-steps [] from ∙ steps-FirstRefused (TypesEntry catalogue) (RefusedEntry catalogue) entry_step entry-follows first
 
 -- WHERE
-truth-is : (at : Span) (t : Typed) (c : Condition) → truth_of at t ≡ Ok c → t ≡ Truth c
+truth-is : (at : Span) (t : Typed) (c : Condition) → as_truth at t ≡ Ok c → t ≡ Truth c
 truth-is at (Number f) c h = cc
 truth-is at (Words side) c h = cc
 truth-is at (Truth d) c h = let same : d ≡ c = cc in ap (λ e. Truth e) same
 
-no-truth-refused : (at : Span) (t : Typed) → IsNoTruth t → truth_of at t ≡ Err (At WrongKind at)
+no-truth-refused : (at : Span) (t : Typed) → IsNoTruth t → as_truth at t ≡ Err (At WrongKind at)
 no-truth-refused at (Number f) h = refl
 no-truth-refused at (Words side) h = refl
 no-truth-refused at (Truth c) h = absurd h
 
-refused-no-truth : (at : Span) (t : Typed) (fault : BindFault) → truth_of at t ≡ Err fault → IsNoTruth t × (At WrongKind at ≡ fault)
+refused-no-truth : (at : Span) (t : Typed) (fault : BindFault) → as_truth at t ≡ Err fault → IsNoTruth t × (At WrongKind at ≡ fault)
 refused-no-truth at (Number f) fault h = (tt, cc)
 refused-no-truth at (Words side) fault h = (tt, cc)
 refused-no-truth at (Truth c) fault h = cc
@@ -189,11 +189,11 @@ few-full parts part h = few_parts-full parts (At LimitOf (span_of part)) (ap (op
 module _ (sources : List Source) where
   condition-typed : (x : Expression) (c : Condition) → condition_over (named_columns sources x) sources x ≡ Ok c → Types (own_places sources x) x (Truth c)
   condition-typed x c h =
-      let steps_of = Ok-steps (type_of (own_places sources x) x) (truth_of (span_of x)) c h in
+      let steps_of = Ok-steps (type_of (own_places sources x) x) (as_truth (span_of x)) c h in
       (typed_by_rules (own_places sources x) x (Truth c)).0 (steps_of.1 ∙ ap (λ t. Ok t) (truth-is (span_of x) steps_of.0 c steps_of.2))
 
   condition-is : (x : Expression) (c : Condition) → Types (own_places sources x) x (Truth c) → condition_over (named_columns sources x) sources x ≡ Ok c
-  condition-is x c h = ap (λ r. r >>= truth_of (span_of x)) ((typed_by_rules (own_places sources x) x (Truth c)).1 h)
+  condition-is x c h = ap (λ r. r >>= as_truth (span_of x)) ((typed_by_rules (own_places sources x) x (Truth c)).1 h)
 
   -- a condition as a conjunct
   abbrev as_conjunct : Expression → Condition → Result ConjunctDef BindFault
@@ -213,7 +213,7 @@ module _ (sources : List Source) where
   conjunct-is : (x : Expression) (made : ConjunctDef) → TypesConjunct sources x made → conjunct_in sources x ≡ Ok made
   conjunct-is x made t =
       let columns : named_columns sources x ≡ made.columns = sym t.columns in
-      let entries : entries_of_columns (named_columns sources x) ≡ made.entries = ap entries_of_columns columns ∙ sym t.entries in
+      let entries : entries_mask (named_columns sources x) ≡ made.entries = ap entries_mask columns ∙ sym t.entries in
       let equality : equality_of made.condition (named_columns sources x) ≡ made.equality = ap (equality_of made.condition) columns ∙ sym t.equality in
       conjunct-whole x made.condition t.condition
       ∙ λ i. well (record { condition = made.condition; columns = columns i; entries = entries i; equality = equality i })
@@ -238,34 +238,34 @@ module _ (sources : List Source) where
       ∙ ap (λ r. r >>= λ rest. well (made ∷ rest)) (conjuncts-are each)
 
   abbrev behind_whole : Expression → ConjunctDef → Result (List ConjunctDef) BindFault
-  behind_whole x whole = few_parts (parts_of x) >>= λ few. conjuncts_of sources (parts_of x)
+  behind_whole x whole = few_parts (parts_of_and x) >>= λ few. conjuncts_of sources (parts_of_and x)
 
   abbrev behind_count : Expression → Result (Unit {0}) BindFault → Result (List ConjunctDef) BindFault
-  behind_count x few = few >>= λ passed. conjuncts_of sources (parts_of x)
+  behind_count x few = few >>= λ passed. conjuncts_of sources (parts_of_and x)
 
   pub filter-typed : (filter : Option Expression) (made : List ConjunctDef) → filter_of sources filter ≡ Ok made → TypesFilter sources filter made
   filter-typed None made h = let same : [] ≡ made = cc in subst (TypesFilter sources None) same no_filter
   filter-typed (Some x) made h =
       let first = Ok-steps (conjunct_in sources x) (behind_whole x) made h in
-      let second = Ok-steps (few_parts (parts_of x)) (λ few. conjuncts_of sources (parts_of x)) made first.2 in
+      let second = Ok-steps (few_parts (parts_of_and x)) (λ few. conjuncts_of sources (parts_of_and x)) made first.2 in
       let whole = conjunct-typed x first.0 first.1 in
-      elim (short-or-more 32 (parts_of x)) [
-        | inl short ↦ condition x first.0.condition made whole.condition short (conjuncts-typed [] (parts_of x) made second.2)
-        | inr more ↦ (let full = few-full (parts_of x) more.0 more.1 in let passed = second.1 in absurd (cc))
+      elim (short-or-more 32 (parts_of_and x)) [
+        | inl short ↦ condition x first.0.condition made whole.condition short (conjuncts-typed [] (parts_of_and x) made second.2)
+        | inr more ↦ (let full = few-full (parts_of_and x) more.0 more.1 in let passed = second.1 in absurd (cc))
       ]
 
   pub filter-is : (filter : Option Expression) (made : List ConjunctDef) → TypesFilter sources filter made → filter_of sources filter ≡ Ok made
   filter-is filter made no_filter = refl
   filter-is filter made (condition x c conjuncts typed few each) =
       ap (λ r. r >>= behind_whole x) (conjunct-whole x c typed)
-      ∙ (ap (behind_count x) (few-fit (parts_of x) few) ∙ conjuncts-are each)
+      ∙ (ap (behind_count x) (few-fit (parts_of_and x) few) ∙ conjuncts-are each)
 
   pub filter-refused : (filter : Option Expression) (fault : BindFault) → filter_of sources filter ≡ Err fault → RefusedFilter sources filter fault
   filter-refused None fault h = cc
   filter-refused (Some x) fault h =
       elim (Err-steps (conjunct_in sources x) (behind_whole x) fault h) [
         | inl refuses ↦ elim (Err-steps (condition_over (named_columns sources x) sources x) (as_conjunct x) fault refuses) [
-          | inl no_condition ↦ elim (Err-steps (type_of (own_places sources x) x) (truth_of (span_of x)) fault no_condition) [
+          | inl no_condition ↦ elim (Err-steps (type_of (own_places sources x) x) (as_truth (span_of x)) fault no_condition) [
             | inl untyped ↦ in_condition x fault ((refused_by_rules (own_places sources x) x fault).0 untyped)
             | inr typed ↦ (let is = refused-no-truth (span_of x) typed.0 fault typed.2 in
                 subst (RefusedFilter sources (Some x)) is.1 (no_truth x typed.0 ((typed_by_rules (own_places sources x) x typed.0).0 typed.1) is.0))
@@ -274,12 +274,12 @@ module _ (sources : List Source) where
         ]
         | inr first ↦ (let whole = conjunct-typed x first.0 first.1 in
             let typed = (typed_by_rules (own_places sources x) x (Truth first.0.condition)).1 whole.condition in
-            elim (short-or-more 32 (parts_of x)) [
-              | inl short ↦ (let fits = ap (behind_count x) (few-fit (parts_of x) short) in
+            elim (short-or-more 32 (parts_of_and x)) [
+              | inl short ↦ (let fits = ap (behind_count x) (few-fit (parts_of_and x) short) in
                   let are = (HaveConjuncts-typed sources (λ column. value.Int (pos 0)) (named_columns sources x) x first.0.condition typed).are in
                   let refuses = first.2 in
                   absurd (cc))
-              | inr more ↦ (let full = ap (behind_count x) (few-full (parts_of x) more.0 more.1) in
+              | inr more ↦ (let full = ap (behind_count x) (few-full (parts_of_and x) more.0 more.1) in
                   let refuses = first.2 in
                   let same : At LimitOf (span_of more.0) ≡ fault = cc in
                   subst (RefusedFilter sources (Some x)) same (too_many x more.0 first.0.condition whole.condition more.1))
@@ -288,13 +288,13 @@ module _ (sources : List Source) where
 
   pub filter-is_refused : (filter : Option Expression) (fault : BindFault) → RefusedFilter sources filter fault → filter_of sources filter ≡ Err fault
   filter-is_refused filter fault (in_condition x f refused) =
-      ap (λ r. ((r >>= truth_of (span_of x)) >>= as_conjunct x) >>= behind_whole x) ((refused_by_rules (own_places sources x) x f).1 refused)
+      ap (λ r. ((r >>= as_truth (span_of x)) >>= as_conjunct x) >>= behind_whole x) ((refused_by_rules (own_places sources x) x f).1 refused)
   filter-is_refused filter fault (no_truth x t typed is_none) =
-      ap (λ r. ((r >>= truth_of (span_of x)) >>= as_conjunct x) >>= behind_whole x) ((typed_by_rules (own_places sources x) x t).1 typed)
+      ap (λ r. ((r >>= as_truth (span_of x)) >>= as_conjunct x) >>= behind_whole x) ((typed_by_rules (own_places sources x) x t).1 typed)
       ∙ ap (λ r. (r >>= as_conjunct x) >>= behind_whole x) (no-truth-refused (span_of x) t is_none)
   filter-is_refused filter fault (too_many x part c typed more) =
       ap (λ r. r >>= behind_whole x) (conjunct-whole x c typed)
-      ∙ ap (behind_count x) (few-full (parts_of x) part more)
+      ∙ ap (behind_count x) (few-full (parts_of_and x) part more)
 
 -- the output columns
 module _ (sources : List Source) where

@@ -1,5 +1,5 @@
 -- The columns that FROM entries give.
-use Rattle.std.proofs.Common.{ℕ, zero, suc, ◌≡◌, ◌≤◌, ◌<◌, ◌+◌, ◌==◌, Bool, true, false, List, [], ◌∷◌, length, refl, sym, subst, ap, ◌∙◌, arith}
+use Rattle.std.proofs.Common.{ℕ, suc, ◌≡◌, ◌≤◌, ◌<◌, ◌+◌, ◌==◌, Bool, true, false, List, [], ◌∷◌, length, refl, sym, subst, ap, ◌∙◌, arith}
 use Rattle.std.specs.Prelude.{◌-◌, nat_le, Option, Some, None, option_and_then, option_map, slice_get, unwrap_or, Ok, Err, if◌then◌else◌}
 use Rattle.std.specs.List.{AllByRecursion, list_any}
 use Rattle.std.specs.Str.{bytes_eq}
@@ -13,15 +13,14 @@ use Rattle.rs_syntax.specs.declared.select.Items.{Items}
 use Rattle.rs_syntax.specs.declared.select.Items.TheVariants as items
 use Rattle.rs_table.specs.Column.{Column}
 use Rattle.rs_table.specs.Relation.{Relation}
-use Rattle.rs_table.specs.Reading.{◌>>=◌}
-use Rattle.rs_catalog.specs.Catalogue.{Catalogue, NamedTable, number_of}
+use Rattle.rs_value.specs.Results.{◌>>=◌}
+use Rattle.rs_catalog.specs.Catalogue.{Catalogue, NamedTable, number_named}
 use Rattle.rs_catalog.specs.declared.room.What.TheVariants as what
 use Rattle.rs_query.specs.declared.block.Block.{Block}
-use Rattle.rs_query.specs.WellFormed.{IsColumn, IsEntry, kind_of}
+use Rattle.rs_query.specs.WellFormed.{IsColumn, IsFromEntry, column_kind}
 use Rattle.rs_bind.specs.declared.fault.BindFault.TheVariants.{At}
 use Rattle.rs_bind.specs.declared.fault.Why.TheVariants.{LimitOf, NameTwice, NoTable}
 use Rattle.rs_bind.specs.Indexes.{columns_in, is_of_entry}
-use Rattle.rs_bind.specs.Limits.{HasFewColumns}
 use Rattle.rs_bind.specs.Names.{or_fault}
 use Rattle.rs_bind.specs.Predicates.{placed}
 use Rattle.rs_bind.specs.Sources.{Found, alias_of, all_columns_from, column_in, columns_from, entries_behind, entries_of, items_behind, items_of, matches_from, most_items, sources_of, the_only}
@@ -49,9 +48,9 @@ entry_kind : (catalogue : Catalogue) (o : Option (ℕ × List ℕ)) (place : ℕ
 entry_kind catalogue None place = refl
 entry_kind catalogue (Some f) place = schema_kind (slice_get catalogue.tables f.0) place
 
-pub kind_of-at : (catalogue : Catalogue) (block : Block) (column : ℕ × ℕ)
-    → kind_of catalogue block column ≡ kind_at catalogue block.from (column.0 - 1) column.1
-kind_of-at catalogue block column = entry_kind catalogue (slice_get block.from (column.0 - 1)) column.1
+pub column_kind-at : (catalogue : Catalogue) (block : Block) (column : ℕ × ℕ)
+    → column_kind catalogue block column ≡ kind_at catalogue block.from (column.0 - 1) column.1
+column_kind-at catalogue block column = entry_kind catalogue (slice_get block.from (column.0 - 1)) column.1
 
 -- a column that has a kind is one of the block
 kind_at-within : (catalogue : Catalogue) (from : List (ℕ × List ℕ)) (entry place : ℕ) (kind : Kind) → kind_at catalogue from entry place ≡ Some kind
@@ -68,30 +67,17 @@ kind_at-within catalogue from entry place kind h = go (slice_get from entry) ref
   go None is e = cc
   go (Some f) is e = (f, is, at f (slice_get (columns_in catalogue f.0) place) refl e)
 
-pub IsColumn-kind : (catalogue : Catalogue) (block : Block) (column : ℕ × ℕ) (kind : Kind) → 1 ≤ column.0 → kind_of catalogue block column ≡ Some kind
+pub IsColumn-kind : (catalogue : Catalogue) (block : Block) (column : ℕ × ℕ) (kind : Kind) → 1 ≤ column.0 → column_kind catalogue block column ≡ Some kind
     → IsColumn catalogue block column
 IsColumn-kind catalogue block column kind least h =
-    let there = kind_at-within catalogue block.from (column.0 - 1) column.1 kind (sym (kind_of-at catalogue block column) ∙ h) in
+    let there = kind_at-within catalogue block.from (column.0 - 1) column.1 kind (sym (column_kind-at catalogue block column) ∙ h) in
     let within : column.0 - 1 < length block.from = slice_get_within block.from (column.0 - 1) there.0 there.1 in
     (least, omega (arith, within), (kind, h))
-
-few-entry : (catalogue : Catalogue) (from : List (ℕ × List ℕ)) (entry : ℕ) (f : ℕ × List ℕ) → AllByRecursion (HasFewColumns catalogue) from
-    → slice_get from entry ≡ Some f → HasFewColumns catalogue f
-few-entry catalogue [] entry f few is = cc
-few-entry catalogue (g ∷ from) zero f few is = let same : g ≡ f = cc in subst (HasFewColumns catalogue) same few.0
-few-entry catalogue (g ∷ from) (suc entry) f few is = few-entry catalogue from entry f few.1 is
-
-pub few-place : (catalogue : Catalogue) (block : Block) (column : ℕ × ℕ) (kind : Kind) → AllByRecursion (HasFewColumns catalogue) block.from
-    → kind_of catalogue block column ≡ Some kind → column.1 < 64
-few-place catalogue block column kind few h =
-    let there = kind_at-within catalogue block.from (column.0 - 1) column.1 kind (sym (kind_of-at catalogue block column) ∙ h) in
-    let most : length (columns_in catalogue there.0.0) ≤ 64 = few-entry catalogue block.from (column.0 - 1) there.0 few there.1 in
-    omega (arith, most, there.2)
 
 -- a column that was found is one of the block, of its kind
 pub record IsFound (catalogue : Catalogue) (block : Block) (found : Found) : Type 0 where
   pub least : 1 ≤ found.0.0
-  pub has_kind : kind_of catalogue block found.0 ≡ Some found.1
+  pub has_kind : column_kind catalogue block found.0 ≡ Some found.1
 
 pub IsColumn-found : (catalogue : Catalogue) (block : Block) (found : Found) → IsFound catalogue block found → IsColumn catalogue block found.0
 IsColumn-found catalogue block found h = IsColumn-kind catalogue block found.0 found.1 h.least h.has_kind
@@ -115,7 +101,7 @@ IsMatch-first catalogue f from entry place kind h =
     record { least = omega arith; has_kind = ap (λ e. kind_at catalogue (f ∷ from) e place) none ∙ h }
 
 IsFound-match : (catalogue : Catalogue) (block : Block) (found : Found) → IsMatch catalogue block.from 1 found → IsFound catalogue block found
-IsFound-match catalogue block found h = record { least = h.least; has_kind = kind_of-at catalogue block found.0 ∙ h.has_kind }
+IsFound-match catalogue block found h = record { least = h.least; has_kind = column_kind-at catalogue block found.0 ∙ h.has_kind }
 
 -- all that a reference can stand for
 matches : (catalogue : Catalogue) (from : List (ℕ × List ℕ)) (entry : ℕ) (c : ColRef)
@@ -214,7 +200,7 @@ items_of-found catalogue block (items.Star at) made h =
 pub record AreEntries (catalogue : Catalogue) (before : ℕ) (from : List (Name × Option Name)) (made : List (ℕ × List ℕ)) : Type 0 where
   pub many : length made ≡ length from
   pub most : before + length made ≤ 6
-  pub each : AllByRecursion (IsEntry catalogue) made
+  pub each : AllByRecursion (IsFromEntry catalogue) made
 
 entries : (catalogue : Catalogue) (before : List (List ℕ)) (from : List (Name × Option Name)) (made : List (ℕ × List ℕ)) → length before ≤ 6
     → entries_behind catalogue before from ≡ Ok made → AreEntries catalogue (length before) from made
@@ -224,7 +210,7 @@ entries catalogue before [] made most h =
 entries catalogue before (entry ∷ rest) made most h =
     let alias = alias_of entry in
     let stands = list_any (λ other. bytes_eq other alias.text) before in
-    let number = number_of what.Table entry.0.text catalogue in
+    let number = number_named what.Table entry.0.text catalogue in
     let twice = At NameTwice alias.at in
     let behind = entries_behind catalogue (alias.text ∷ before) rest in
     let next = λ (table : ℕ). (if stands then Err twice else behind) >>= λ more. Ok ((table, alias.text) ∷ more) in

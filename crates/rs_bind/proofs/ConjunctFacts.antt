@@ -6,7 +6,7 @@ use Rattle.rs_value.specs.declared.kind.Kind.{Kind}
 use Rattle.rs_value.specs.declared.kind.Kind.TheVariants as kind
 use Rattle.rs_syntax.specs.declared.name.ColRef.{ColRef}
 use Rattle.rs_syntax.specs.Syntax.{Expression}
-use Rattle.rs_table.specs.Reading.{◌>>=◌}
+use Rattle.rs_value.specs.Results.{◌>>=◌}
 use Rattle.rs_expr.specs.Formulas.{Condition}
 use Rattle.rs_expr.specs.Uses.{is_kind}
 use Rattle.rs_catalog.specs.Catalogue.{Catalogue}
@@ -14,10 +14,10 @@ use Rattle.rs_query.specs.declared.block.Block.{Block}
 use Rattle.rs_query.specs.Conjuncts.{ConjunctDef}
 use Rattle.rs_query.specs.WellFormed.{IsColumn, IsConjunct, has_kind}
 use Rattle.rs_bind.specs.declared.fault.BindFault.{BindFault}
-use Rattle.rs_bind.specs.Conditions.{condition_over, conjunct_in, conjunct_of, conjuncts_in, conjuncts_of, few_parts, filter_of, most_conjuncts, named_columns, own_places, parts_of, places_in}
-use Rattle.rs_bind.specs.Limits.{IsNarrow}
+use Rattle.rs_bind.specs.Conditions.{condition_over, conjunct_in, conjunct_of, conjuncts_in, conjuncts_of, few_parts, filter_of, most_conjuncts, named_columns, own_places, parts_of_and, places_in}
+use Rattle.rs_bind.specs.Narrow.{IsNarrow}
 use Rattle.rs_bind.specs.Sources.{Source, sources_of}
-use Rattle.rs_bind.specs.Typing.{Scope, Typed, Number, Words, Truth, span_of, truth_of, type_of}
+use Rattle.rs_bind.specs.Typing.{Scope, Typed, Number, Words, Truth, span_of, as_truth, type_of}
 use Rattle.rs_bind.proofs.ColumnFacts.{IsColumn-found, column_in-found}
 use Rattle.rs_bind.proofs.ReferenceFacts.{AreDistinct-named, IsPlace-found, each-named-column}
 use Rattle.rs_bind.proofs.ResultFacts.{same_Ok, well}
@@ -31,10 +31,10 @@ few-parts parts h = go (drop most_conjuncts parts) refl where
   go [] e = let none : length (drop 32 parts) ≡ 0 = ap length e in omega (arith, none, length-drop 32 parts)
   go (x ∷ more) e = let k = rw e at h in cc
 
-typed-truth : (scope : Scope) (x : Expression) (condition : Condition) → (type_of scope x >>= truth_of (span_of x)) ≡ Ok condition
+typed-truth : (scope : Scope) (x : Expression) (condition : Condition) → (type_of scope x >>= as_truth (span_of x)) ≡ Ok condition
     → type_of scope x ≡ Ok (Truth condition)
 typed-truth scope x condition h = go (type_of scope x) h where
-  go : (typed : Result Typed BindFault) → (typed >>= truth_of (span_of x)) ≡ Ok condition → typed ≡ Ok (Truth condition)
+  go : (typed : Result Typed BindFault) → (typed >>= as_truth (span_of x)) ≡ Ok condition → typed ≡ Ok (Truth condition)
   go (Ok (Number f)) e = cc
   go (Ok (Words side)) e = cc
   go (Ok (Truth c)) e = cc
@@ -99,11 +99,11 @@ module _ (catalogue : Catalogue) (block : Block) where
 
   conjuncts_in-formed : (x : Expression) (made : List ConjunctDef) → AllByRecursion IsNarrow made → conjuncts_in sources x ≡ Ok made → AreConjuncts made
   conjuncts_in-formed x made narrow h =
-      let behind = λ (whole : ConjunctDef). few_parts (parts_of x) >>= λ few. conjuncts_of sources (parts_of x) in
+      let behind = λ (whole : ConjunctDef). few_parts (parts_of_and x) >>= λ few. conjuncts_of sources (parts_of_and x) in
       let first = Ok-steps (conjunct_in sources x) behind made h in
-      let second = Ok-steps (few_parts (parts_of x)) (λ few. conjuncts_of sources (parts_of x)) made first.2 in
-      let are = AreOf-conjuncts (parts_of x) made narrow second.2 in
-      let most : length (parts_of x) ≤ 32 = few-parts (parts_of x) second.1 in
+      let second = Ok-steps (few_parts (parts_of_and x)) (λ few. conjuncts_of sources (parts_of_and x)) made first.2 in
+      let are = AreOf-conjuncts (parts_of_and x) made narrow second.2 in
+      let most : length (parts_of_and x) ≤ 32 = few-parts (parts_of_and x) second.1 in
       let count = are.count in
       record { most = omega (arith, count, most); each = are.each }
 

@@ -7,8 +7,8 @@ use Rattle.std.proofs.lemmas.Bool.Decides.{nat_tests}
 use Rattle.std.proofs.lemmas.List.{drop_more}
 use Rattle.rs_syntax.specs.declared.name.Name.{Name}
 use Rattle.rs_table.specs.Appended.{appended}
-use Rattle.rs_table.specs.Reading.{◌>>=◌}
-use Rattle.rs_catalog.specs.Catalogue.{Catalogue, number_of}
+use Rattle.rs_value.specs.Results.{◌>>=◌}
+use Rattle.rs_catalog.specs.Catalogue.{Catalogue, number_named}
 use Rattle.rs_catalog.specs.declared.room.What.TheVariants as what
 use Rattle.rs_bind.specs.declared.fault.BindFault.{BindFault}
 use Rattle.rs_bind.specs.declared.fault.BindFault.TheVariants.{At}
@@ -74,7 +74,7 @@ module _ (catalogue : Catalogue) where
   entries_left made left = appended made (entries_behind catalogue (aliases_of made []) left)
 
   abbrev table_of : Name × Option Name → Result ℕ BindFault
-  table_of entry = or_fault (At NoTable entry.0.at) (number_of what.Table entry.0.text catalogue)
+  table_of entry = or_fault (At NoTable entry.0.at) (number_named what.Table entry.0.text catalogue)
 
   -- no more entries may stand there
   left-full : (made : List (ℕ × List ℕ)) (entry : Name × Option Name) (rest : List (Name × Option Name)) → length made ≡ 6

@@ -4,12 +4,12 @@ use Rattle.std.specs.Prelude.{Some, Result, Ok, Err, option_map, slice_get}
 use Rattle.std.proofs.lemmas.List.{drop_all}
 use Rattle.rs_value.specs.Answer.{Gives}
 use Rattle.rs_syntax.specs.Syntax.{Expression}
-use Rattle.rs_table.specs.Reading.{◌>>=◌}
+use Rattle.rs_value.specs.Results.{◌>>=◌}
 use Rattle.rs_query.specs.Conjuncts.{ConjunctDef}
 use Rattle.rs_bind.specs.declared.fault.BindFault.{BindFault}
 use Rattle.rs_bind.specs.declared.fault.BindFault.TheVariants.{At, Memory}
 use Rattle.rs_bind.specs.declared.fault.Why.TheVariants.{LimitOf}
-use Rattle.rs_bind.specs.Conditions.{conjunct_in, conjuncts_in, conjuncts_of, few_parts, parts_of}
+use Rattle.rs_bind.specs.Conditions.{conjunct_in, conjuncts_of, few_parts}
 use Rattle.rs_bind.specs.Sources.{Source}
 use Rattle.rs_bind.specs.Typing.{span_of}
 use Rattle.rs_bind.proofs.PartFacts.{conjuncts_of-append}
@@ -51,42 +51,6 @@ too_many-right [] right rest room fault split e =
     subst (λ (n : ℕ). option_map one_too_many (slice_get right n) ≡ Some fault) same e
 too_many-right (x ∷ left) right rest zero fault split e = absurd (omega arith)
 too_many-right (x ∷ left) right rest (suc room) fault split e = too_many-right left right rest room fault (omega arith) e
-
--- what fails first fails
-pub Gives-failed : {A B : Type 0} (first : Result A BindFault) (next : A → Result B BindFault) (fault : BindFault) → Gives Memory first (Err fault)
-    → Gives Memory (first >>= next) (Err fault)
-Gives-failed (Ok a) next fault (inl e) = cc
-Gives-failed (Err failed) next fault (inl e) = inl cc
-Gives-failed first next fault (inr e) = inr cc
-
--- what is given behind a first step that is well
-pub Gives-behind : {A B : Type 0} (first : Result A BindFault) (next : A → Result B BindFault) (a : A) (made : Result B BindFault)
-    → Gives Memory first (Ok a) → Gives Memory (next a) made → Gives Memory (first >>= next) made
-Gives-behind {A} (Ok other) next a made (inl e) h = let same : a ≡ other = cc in subst (λ (b : A). Gives Memory (next b) made) same h
-Gives-behind (Err failed) next a made (inl e) h = cc
-Gives-behind first next a made (inr e) h = cc
-
-module _ (sources : List Source) (x : Expression) where
-  abbrev behind_whole : ConjunctDef → Result (List ConjunctDef) BindFault
-  behind_whole whole = few_parts (parts_of x) >>= λ few. conjuncts_of sources (parts_of x)
-
-  -- an expression that isn't a condition has no conjuncts
-  pub conjuncts_in-refused : (fault : BindFault) → Gives Memory (conjunct_in sources x) (Err fault) → Gives Memory (conjuncts_in sources x) (Err fault)
-  conjuncts_in-refused fault h = Gives-failed (conjunct_in sources x) behind_whole fault h
-
-  -- nor has one with too many parts
-  pub conjuncts_in-many : (whole : ConjunctDef) (fault : BindFault) → Gives Memory (conjunct_in sources x) (Ok whole) → Err fault ≡ few_parts (parts_of x)
-      → Gives Memory (conjuncts_in sources x) (Err fault)
-  conjuncts_in-many whole fault h e =
-      Gives-behind (conjunct_in sources x) behind_whole whole (Err fault) h
-      (inl (ap (λ (few : Result (Unit {0}) BindFault). few >>= λ passed. conjuncts_of sources (parts_of x)) e))
-
-  -- the others have those of their parts
-  pub conjuncts_in-made : (whole : ConjunctDef) (made : Result (List ConjunctDef) BindFault) → Gives Memory (conjunct_in sources x) (Ok whole)
-      → Ok tt ≡ few_parts (parts_of x) → Gives Memory (conjuncts_of sources (parts_of x)) made → Gives Memory (conjuncts_in sources x) made
-  conjuncts_in-made whole made h e is =
-      Gives-behind (conjunct_in sources x) behind_whole whole made h
-      (subst (λ (few : Result (Unit {0}) BindFault). Gives Memory (few >>= λ passed. conjuncts_of sources (parts_of x)) made) e is)
 
 -- the conjuncts of a condition behind those that were made
 module _ (sources : List Source) (made : List ConjunctDef) where

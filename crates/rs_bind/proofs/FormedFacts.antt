@@ -4,13 +4,12 @@ use Rattle.std.specs.Prelude.{map, Option, Some, None, IfOk, IfSome, Result, Ok,
 use Rattle.std.specs.List.{AllByRecursion, list_any}
 use Rattle.std.proofs.lemmas.List.{length-map}
 use Rattle.rs_value.specs.Answer.{Gives}
-use Rattle.rs_syntax.specs.declared.select.SetOp.{SetOp}
+use Rattle.rs_value.specs.declared.set_op.SetOp.{SetOp}
 use Rattle.rs_syntax.specs.Syntax as syntax
-use Rattle.rs_table.specs.Reading.{◌>>=◌}
+use Rattle.rs_value.specs.Results.{◌>>=◌}
 use Rattle.rs_catalog.specs.Catalogue.{Catalogue}
 use Rattle.rs_query.specs.Conjuncts.{ConjunctDef}
-use Rattle.rs_query.specs.WellFormed.{AreSides, HasOutputs, IsBlock, IsColumn, IsOutput, IsQuery, IsTerm, columns_of, same_column}
-use Rattle.rs_query.specs.declared.block.Block.{Block}
+use Rattle.rs_query.specs.WellFormed.{AreSetSides, HasOutputs, IsBlock, IsColumn, IsOutput, IsQuery, IsTerm, argument_columns, same_column}
 use Rattle.rs_query.specs.declared.term.Term.{Term}
 use Rattle.rs_query.specs.declared.query.Query.{Query}
 use Rattle.rs_query.specs.declared.query.Query.TheVariants.{One, Set}
@@ -18,8 +17,8 @@ use Rattle.rs_bind.specs.declared.fault.BindFault.{BindFault}
 use Rattle.rs_bind.specs.declared.fault.BindFault.TheVariants.{At, Memory}
 use Rattle.rs_bind.specs.declared.fault.Why.TheVariants.{SetColumnsDiffer}
 use Rattle.rs_bind.specs.Conditions.{filter_of}
-use Rattle.rs_bind.specs.Limits.{HasFewColumns, HasLimits, HaveLimits, IsNarrow}
-use Rattle.rs_bind.specs.Queries.{Unranked, agree, are_outputs, block_columns, bound_query, first_item, limit_of, names_of, needed_by, one_of, output_columns, set_of, terms_of, unranked_of, with_terms}
+use Rattle.rs_bind.specs.Narrow.{HasNarrowConjuncts, HaveNarrowConjuncts}
+use Rattle.rs_bind.specs.Queries.{Unranked, agree, are_outputs, block_columns, bound_query, first_item, bound_limit, output_names, needed_by, one_of, output_columns, set_of, terms_of, unranked_of, with_terms}
 use Rattle.rs_bind.specs.Sources.{Found, entries_of, items_of, sources_of}
 use Rattle.rs_syntax.specs.Written.{IsWrittenBlock, IsWrittenQuery, IsWrittenTerm}
 use Rattle.rs_bind.proofs.ColumnFacts.{AreEntries, AreItems, IsColumn-found, IsFound, entries_of-formed, items_of-found}
@@ -29,12 +28,6 @@ use Rattle.rs_bind.proofs.ResultFacts.{same_Ok, well}
 use Rattle.rs_bind.proofs.SameTermFacts.{AreArguments-output, same-kinds, terms_of-same}
 use Rattle.rs_bind.proofs.StepFacts.{Ok-steps, Ok-test}
 use Rattle.rs_bind.proofs.TermFacts.{AreArguments-block, AreNeeded, IsLimit-limit_of, terms_of-formed}
-
--- the limits of a block are those of what it is made of, whatever its terms
-pub HasLimits-with : (catalogue : Catalogue) (block : Unranked) (terms : List Term) (made : Block) → made ≡ with_terms block terms
-    → AllByRecursion (HasFewColumns catalogue) block.from → AllByRecursion IsNarrow block.conjuncts → HasLimits catalogue made
-HasLimits-with catalogue block terms made is few narrow =
-    subst (HasLimits catalogue) {x = with_terms block terms} (sym is) (record { few = few; narrow = narrow })
 
 -- what the parts of a block are, without its terms
 record HasParts (catalogue : Catalogue) (written : syntax.Block) (block : Unranked) : Type 0 where
@@ -63,13 +56,13 @@ record IsUnranked (catalogue : Catalogue) (written : syntax.Block) (block : Unra
   conjuncts : AreConjuncts catalogue (with_terms block terms) block.conjuncts
   items : AreItems catalogue (with_terms block terms) 0 block.items
 
-IsUnranked-of : (catalogue : Catalogue) (written : syntax.Block) (block : Unranked) (terms : List Term) → HasLimits catalogue (with_terms block terms)
+IsUnranked-of : (catalogue : Catalogue) (written : syntax.Block) (block : Unranked) (terms : List Term) → HasNarrowConjuncts (with_terms block terms)
     → unranked_of catalogue written ≡ Ok block → IsUnranked catalogue written block terms
-IsUnranked-of catalogue written block terms limits h =
+IsUnranked-of catalogue written block terms narrow h =
     let parts = HasParts-unranked_of catalogue written block h in
     record {
       entries = entries_of-formed catalogue written.from block.from parts.from;
-      conjuncts = filter_of-formed catalogue (with_terms block terms) written.filter block.conjuncts limits.narrow parts.conjuncts;
+      conjuncts = filter_of-formed catalogue (with_terms block terms) written.filter block.conjuncts narrow parts.conjuncts;
       items = items_of-found catalogue (with_terms block terms) written.items block.items parts.items;
     }
 
@@ -105,7 +98,7 @@ any-items column (item ∷ items) = ap (λ b. same_column column item.0 || b) (a
 HasOutputs-needed : (block : Unranked) (terms : List Term) (term : Term) → block.distinct ≡ true → AreNeeded (needed_by block) term
     → HasOutputs (with_terms block terms) term
 HasOutputs-needed block terms term distinct needed =
-    let columns = columns_of term.args in
+    let columns = argument_columns term.args in
     let outputs : are_outputs (Some block.items) columns ≡ true =
     ap (λ b. are_outputs (if b then Some block.items else None) columns) (sym distinct) ∙ needed.outputs in
     let is_item = λ (column : ℕ × ℕ). list_any (λ (item : Found). same_column column item.0) block.items in
@@ -119,17 +112,17 @@ record IsOne (catalogue : Catalogue) (query : syntax.Query) (bound : Query) : Ty
   limit : Option ℕ
   is_block : unranked_of catalogue query.left ≡ Ok block
   are_terms : terms_of catalogue (block_columns (sources_of catalogue block.from)) (needed_by block) query.terms ≡ Ok terms
-  is_limit : limit_of query.limit ≡ Ok limit
+  is_limit : bound_limit query.limit ≡ Ok limit
   is : One (with_terms block terms) limit ≡ bound
 
 IsOne-one_of : (catalogue : Catalogue) (query : syntax.Query) (bound : Query) → one_of catalogue query ≡ Ok bound → IsOne catalogue query bound
 IsOne-one_of catalogue query bound h =
     let terms_in = λ (block : Unranked). terms_of catalogue (block_columns (sources_of catalogue block.from)) (needed_by block) query.terms in
-    let after_terms = λ (block : Unranked) (terms : List Term). limit_of query.limit >>= λ limit. well (One (with_terms block terms) limit) in
+    let after_terms = λ (block : Unranked) (terms : List Term). bound_limit query.limit >>= λ limit. well (One (with_terms block terms) limit) in
     let after_block = λ (block : Unranked). terms_in block >>= after_terms block in
     let first = Ok-steps (unranked_of catalogue query.left) after_block bound h in
     let second = Ok-steps (terms_in first.0) (after_terms first.0) bound first.2 in
-    let third = Ok-steps (limit_of query.limit) (λ limit. well (One (with_terms first.0 second.0) limit)) bound second.2 in
+    let third = Ok-steps (bound_limit query.limit) (λ limit. well (One (with_terms first.0 second.0) limit)) bound second.2 in
     let same = same_Ok (One (with_terms first.0 second.0) third.0) bound third.2 in
     record {
       block = first.0;
@@ -142,15 +135,15 @@ IsOne-one_of catalogue query bound h =
     }
 
 one_of-formed : (catalogue : Catalogue) (query : syntax.Query) (block : Unranked) (terms : List Term) (limit : Option ℕ) → IsWrittenQuery query
-    → HasLimits catalogue (with_terms block terms) → unranked_of catalogue query.left ≡ Ok block
-    → terms_of catalogue (block_columns (sources_of catalogue block.from)) (needed_by block) query.terms ≡ Ok terms → limit_of query.limit ≡ Ok limit
+    → HasNarrowConjuncts (with_terms block terms) → unranked_of catalogue query.left ≡ Ok block
+    → terms_of catalogue (block_columns (sources_of catalogue block.from)) (needed_by block) query.terms ≡ Ok terms → bound_limit query.limit ≡ Ok limit
     → IsQuery catalogue (One (with_terms block terms) limit)
-one_of-formed catalogue query block terms limit written limits is_block are_terms is_limit =
+one_of-formed catalogue query block terms limit written narrow is_block are_terms is_limit =
     let own = with_terms block terms in
     let are = terms_of-formed catalogue own (block_columns (sources_of catalogue block.from)) (AreArguments-block catalogue own) (needed_by block) query.terms terms
     written.terms are_terms in
     let most = are.most in (
-      IsBlock-of catalogue query.left block terms written.left (IsUnranked-of catalogue query.left block terms limits is_block) (omega (arith, most)) are.each,
+      IsBlock-of catalogue query.left block terms written.left (IsUnranked-of catalogue query.left block terms narrow is_block) (omega (arith, most)) are.each,
       λ distinct. each-then (AreNeeded (needed_by block)) (HasOutputs own) (λ term needed. HasOutputs-needed block terms term distinct needed) terms are.outputs,
       IsLimit-limit_of query.limit limit is_limit,
     )
@@ -165,17 +158,17 @@ record IsSet (catalogue : Catalogue) (query : syntax.Query) (op : SetOp) (second
   is_left : unranked_of catalogue query.left ≡ Ok left
   is_right : unranked_of catalogue second ≡ Ok right
   agreed : agree left.items right.items ≡ true
-  are_terms : terms_of catalogue (output_columns (names_of catalogue left) left.items) None query.terms ≡ Ok terms
-  are_others : terms_of catalogue (output_columns (names_of catalogue left) right.items) None query.terms ≡ Ok others
-  is_limit : limit_of query.limit ≡ Ok limit
+  are_terms : terms_of catalogue (output_columns (output_names catalogue left) left.items) None query.terms ≡ Ok terms
+  are_others : terms_of catalogue (output_columns (output_names catalogue left) right.items) None query.terms ≡ Ok others
+  is_limit : bound_limit query.limit ≡ Ok limit
   is : Set op (with_terms left terms) (with_terms right others) limit ≡ bound
 
 IsSet-set_of : (catalogue : Catalogue) (query : syntax.Query) (op : SetOp) (second : syntax.Block) (bound : Query)
     → set_of catalogue query op second ≡ Ok bound → IsSet catalogue query op second bound
 IsSet-set_of catalogue query op second bound h =
-    let terms_in = λ (left of : Unranked). terms_of catalogue (output_columns (names_of catalogue left) of.items) None query.terms in
+    let terms_in = λ (left of : Unranked). terms_of catalogue (output_columns (output_names catalogue left) of.items) None query.terms in
     let after_others = λ (left right : Unranked) (terms others : List Term).
-    limit_of query.limit >>= λ limit. well (Set op (with_terms left terms) (with_terms right others) limit) in
+    bound_limit query.limit >>= λ limit. well (Set op (with_terms left terms) (with_terms right others) limit) in
     let after_terms = λ (left right : Unranked) (terms : List Term). terms_in left right >>= after_others left right terms in
     let differ = At SetColumnsDiffer (first_item second.items) in
     let agreed = λ (left right : Unranked). if agree left.items right.items then terms_in left left else Err differ in
@@ -186,7 +179,7 @@ IsSet-set_of catalogue query op second bound h =
     let terms = Ok-steps (agreed lefts.0 rights.0) (after_terms lefts.0 rights.0) bound rights.2 in
     let test = Ok-test (agree lefts.0.items rights.0.items) (terms_in lefts.0 lefts.0) differ terms.0 terms.1 in
     let others = Ok-steps (terms_in lefts.0 rights.0) (after_others lefts.0 rights.0 terms.0) bound terms.2 in
-    let limit = Ok-steps (limit_of query.limit) (λ limit. well (Set op (with_terms lefts.0 terms.0) (with_terms rights.0 others.0) limit)) bound others.2 in
+    let limit = Ok-steps (bound_limit query.limit) (λ limit. well (Set op (with_terms lefts.0 terms.0) (with_terms rights.0 others.0) limit)) bound others.2 in
     let same = same_Ok (Set op (with_terms lefts.0 terms.0) (with_terms rights.0 others.0) limit.0) bound limit.2 in
     record {
       left = lefts.0;
@@ -206,11 +199,11 @@ IsSet-set_of catalogue query op second bound h =
 -- two blocks of which each is well formed, whose terms are the same
 set_of-sides : (catalogue : Catalogue) (query : syntax.Query) (second : syntax.Block) (left right : Unranked) (terms others : List Term) → IsWrittenBlock query.left
     → IsWrittenBlock second → AllByRecursion IsWrittenTerm query.terms → IsUnranked catalogue query.left left terms → IsUnranked catalogue second right others
-    → agree left.items right.items ≡ true → terms_of catalogue (output_columns (names_of catalogue left) left.items) None query.terms ≡ Ok terms
-    → terms_of catalogue (output_columns (names_of catalogue left) right.items) None query.terms ≡ Ok others
-    → AreSides catalogue (with_terms left terms) (with_terms right others)
+    → agree left.items right.items ≡ true → terms_of catalogue (output_columns (output_names catalogue left) left.items) None query.terms ≡ Ok terms
+    → terms_of catalogue (output_columns (output_names catalogue left) right.items) None query.terms ≡ Ok others
+    → AreSetSides catalogue (with_terms left terms) (with_terms right others)
 set_of-sides catalogue query second left right terms others some_left some_right written is_left is_right agreed are_terms are_others =
-    let names = names_of catalogue left in
+    let names = output_names catalogue left in
     let own = with_terms left terms in
     let other = with_terms right others in
     let of_left = AreArguments-output catalogue own names left.items is_left.items.each in
@@ -227,20 +220,20 @@ set_of-sides catalogue query second left right terms others some_left some_right
     }
 
 -- the query that a SELECT is is well formed
-pub formed : (catalogue : Catalogue) (query : syntax.Query) (bound : Query) → IsWrittenQuery query → HaveLimits catalogue bound
+pub formed : (catalogue : Catalogue) (query : syntax.Query) (bound : Query) → IsWrittenQuery query → HaveNarrowConjuncts bound
     → bound_query catalogue query ≡ Ok bound → IsQuery catalogue bound
-formed catalogue query bound written limits h = go query.right refl where
+formed catalogue query bound written narrow h = go query.right refl where
   go : (right : Option (SetOp × syntax.Block)) → query.right ≡ right → IsQuery catalogue bound
   go None e =
       let made = IsOne-one_of catalogue query bound (rw e at h) in
-      let own = subst (HaveLimits catalogue) {x = bound} (sym made.is) limits in
+      let own = subst HaveNarrowConjuncts {x = bound} (sym made.is) narrow in
       subst (IsQuery catalogue) {x = One (with_terms made.block made.terms) made.limit} made.is
       (one_of-formed catalogue query made.block made.terms made.limit written own made.is_block made.are_terms made.is_limit)
   go (Some right) e =
       let some : IsWrittenBlock right.1 =
       subst (λ (o : Option (SetOp × syntax.Block)). IfSome o (λ (second : SetOp × syntax.Block). IsWrittenBlock second.1)) e written.right in
       let made = IsSet-set_of catalogue query right.0 right.1 bound (rw e at h) in
-      let own = subst (HaveLimits catalogue) {x = bound} (sym made.is) limits in
+      let own = subst HaveNarrowConjuncts {x = bound} (sym made.is) narrow in
       let left = IsUnranked-of catalogue query.left made.left made.terms own.0 made.is_left in
       let second = IsUnranked-of catalogue right.1 made.right made.others own.1 made.is_right in
       let sides = set_of-sides catalogue query right.1 made.left made.right made.terms made.others written.left some written.terms left second made.agreed made.are_terms made.are_others in
@@ -249,7 +242,7 @@ formed catalogue query bound written limits h = go query.right refl where
 
 -- the same of what was made
 pub IfOk-formed : (catalogue : Catalogue) (query : syntax.Query) (result : Result Query BindFault) → IsWrittenQuery query
-    → IfOk result (λ bound. HaveLimits catalogue bound) → Gives Memory (bound_query catalogue query) result → IfOk result (λ bound. IsQuery catalogue bound)
-IfOk-formed catalogue query (Ok bound) written limits (inl h) = formed catalogue query bound written limits (sym h)
-IfOk-formed catalogue query (Ok bound) written limits (inr h) = cc
-IfOk-formed catalogue query (Err fault) written limits h = tt
+    → IfOk result (λ bound. HaveNarrowConjuncts bound) → Gives Memory (bound_query catalogue query) result → IfOk result (λ bound. IsQuery catalogue bound)
+IfOk-formed catalogue query (Ok bound) written narrow (inl h) = formed catalogue query bound written narrow (sym h)
+IfOk-formed catalogue query (Ok bound) written narrow (inr h) = cc
+IfOk-formed catalogue query (Err fault) written narrow h = tt

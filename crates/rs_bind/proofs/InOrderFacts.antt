@@ -1,7 +1,7 @@
 -- Rules for one item after the other, as steps that may fail.
 use Rattle.std.proofs.Common.{◌≡◌, List, [], ◌∷◌, refl, subst, ap, ◌∙◌, inl, inr}
 use Rattle.std.specs.Prelude.{Result, Ok, Err}
-use Rattle.rs_table.specs.Reading.{◌>>=◌}
+use Rattle.rs_value.specs.Results.{◌>>=◌}
 use Rattle.rs_bind.specs.declared.fault.BindFault.{BindFault}
 use Rattle.rs_bind.specs.InOrder.{Each, FirstRefused, none, and, here, behind}
 use Rattle.rs_bind.proofs.StepFacts.{Ok-steps, Err-steps}

@@ -15,10 +15,10 @@ use Rattle.rs_syntax.specs.declared.name.Arg.{Arg}
 use Rattle.rs_syntax.specs.declared.name.Arg.TheVariants as arg
 use Rattle.rs_syntax.specs.Syntax.{Command, CreateRankIndex}
 use Rattle.rs_table.specs.Column.{Column}
-use Rattle.rs_table.specs.Reading.{◌>>=◌}
+use Rattle.rs_value.specs.Results.{◌>>=◌}
 use Rattle.rs_expr.specs.Predicates.{PredicateDef}
 use Rattle.rs_expr.specs.Uses.{is_kind}
-use Rattle.rs_catalog.specs.Catalogue.{Catalogue, NamedTable, number_of}
+use Rattle.rs_catalog.specs.Catalogue.{Catalogue, NamedTable, number_named}
 use Rattle.rs_catalog.specs.declared.room.What.TheVariants as what
 use Rattle.rs_catalog.specs.declared.index.IndexDef.{IndexDef}
 use Rattle.rs_catalog.specs.Indexes.{IsIndex, arg_fits, args_fit}
@@ -112,10 +112,10 @@ module _ (catalogue : Catalogue) (name table predicate : Name) (args : List Arg)
   of_predicate t p = term_args (entry_column table.text (columns_in catalogue t)) (params_in catalogue p) args at >>= λ made. Ok (of_args t p made)
 
   abbrev of_table : ℕ → Result IndexDef BindFault
-  of_table t = or_fault (At NoPredicate predicate.at) (number_of what.Predicate predicate.text catalogue) >>= of_predicate t
+  of_table t = or_fault (At NoPredicate predicate.at) (number_named what.Predicate predicate.text catalogue) >>= of_predicate t
 
-  IsIndex-of_args : (t p : ℕ) (made : List BoundArg) → AreWrittenArgs args → number_of what.Table table.text catalogue ≡ Some t
-      → number_of what.Predicate predicate.text catalogue ≡ Some p
+  IsIndex-of_args : (t p : ℕ) (made : List BoundArg) → AreWrittenArgs args → number_named what.Table table.text catalogue ≡ Some t
+      → number_named what.Predicate predicate.text catalogue ≡ Some p
       → term_args (entry_column table.text (columns_in catalogue t)) (params_in catalogue p) args at ≡ Ok made → IsIndex catalogue (of_args t p made)
   IsIndex-of_args t p made written is_table is_predicate h =
       let found = slice_get-numbered (λ t. t.name) catalogue.tables table.text t is_table in
@@ -136,14 +136,14 @@ module _ (catalogue : Catalogue) (name table predicate : Name) (args : List Arg)
   IsIndex-index_def_of : (def : IndexDef) → AreWrittenArgs args → index_def_of catalogue (CreateRankIndex name table predicate args at) ≡ Ok def
       → IsIndex catalogue def
   IsIndex-index_def_of def written h =
-      let first = Ok-steps (or_fault (At NoTable table.at) (number_of what.Table table.text catalogue)) of_table def h in
-      let second = Ok-steps (or_fault (At NoPredicate predicate.at) (number_of what.Predicate predicate.text catalogue)) (of_predicate first.0) def first.2 in
+      let first = Ok-steps (or_fault (At NoTable table.at) (number_named what.Table table.text catalogue)) of_table def h in
+      let second = Ok-steps (or_fault (At NoPredicate predicate.at) (number_named what.Predicate predicate.text catalogue)) (of_predicate first.0) def first.2 in
       let third = Ok-steps (term_args (entry_column table.text (columns_in catalogue first.0)) (params_in catalogue second.0) args at)
       (λ made. Ok (of_args first.0 second.0 made)) def second.2 in
       let same : of_args first.0 second.0 third.0 ≡ def = cc in
       subst (IsIndex catalogue) {x = of_args first.0 second.0 third.0} same (IsIndex-of_args first.0 second.0 third.0 written
-      (Ok-or_fault (At NoTable table.at) (number_of what.Table table.text catalogue) first.0 first.1)
-      (Ok-or_fault (At NoPredicate predicate.at) (number_of what.Predicate predicate.text catalogue) second.0 second.1) third.1)
+      (Ok-or_fault (At NoTable table.at) (number_named what.Table table.text catalogue) first.0 first.1)
+      (Ok-or_fault (At NoPredicate predicate.at) (number_named what.Predicate predicate.text catalogue) second.0 second.1) third.1)
 
 IsIndex-of_command : (catalogue : Catalogue) (command : Command) (def : IndexDef) → IsWritten command → index_def_of catalogue command ≡ Ok def
     → IsIndex catalogue def

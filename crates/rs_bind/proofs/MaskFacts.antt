@@ -4,7 +4,7 @@ use Rattle.std.specs.Int.Bits.{or_step, or_zero_l, or_zero_r}
 use Rattle.rs_catalog.specs.declared.index.BoundArg.{BoundArg}
 use Rattle.rs_catalog.specs.declared.index.BoundArg.TheVariants as arg
 use Rattle.rs_rank.specs.Masks.{mask_of}
-use Rattle.rs_query.specs.WellFormed.{columns_of, entries_of}
+use Rattle.rs_query.specs.WellFormed.{argument_columns, entries_mask}
 
 or-first : (a b : ℕ) → bit_or a b % 2 ≡ max (a % 2) (b % 2)
 or-first a b = grind (arith, or_step a b)
@@ -41,18 +41,18 @@ or_assoc : (a b c : ℕ) → bit_or (bit_or a b) c ≡ bit_or a (bit_or b c)
 or_assoc a b c = or_assoc-below (a + b + c) a b c (omega arith)
 
 -- the mask of the entry of an argument, where it is a column
-abbrev entries_of_one : BoundArg → ℕ
-entries_of_one a = entries_of (columns_of (a ∷ []))
+abbrev entries_mask_one : BoundArg → ℕ
+entries_mask_one a = entries_mask (argument_columns (a ∷ []))
 
-entries_of-cons : (a : BoundArg) (args : List BoundArg) → entries_of (columns_of (a ∷ args)) ≡ bit_or (entries_of_one a) (entries_of (columns_of args))
-entries_of-cons (arg.Column entry column) args = ap (λ m. bit_or m (entries_of (columns_of args))) (sym (or_zero_r (mask_of entry)))
-entries_of-cons (arg.Int n) args = sym (or_zero_l (entries_of (columns_of args)))
-entries_of-cons (arg.Text t) args = sym (or_zero_l (entries_of (columns_of args)))
+entries_mask-cons : (a : BoundArg) (args : List BoundArg) → entries_mask (argument_columns (a ∷ args)) ≡ bit_or (entries_mask_one a) (entries_mask (argument_columns args))
+entries_mask-cons (arg.Column entry column) args = ap (λ m. bit_or m (entries_mask (argument_columns args))) (sym (or_zero_r (mask_of entry)))
+entries_mask-cons (arg.Int n) args = sym (or_zero_l (entries_mask (argument_columns args)))
+entries_mask-cons (arg.Text t) args = sym (or_zero_l (entries_mask (argument_columns args)))
 
 -- one more argument
-pub entries_of-push : (args : List BoundArg) (a : BoundArg) → entries_of (columns_of (args ++ a ∷ [])) ≡ bit_or (entries_of (columns_of args)) (entries_of (columns_of (a ∷ [])))
-entries_of-push [] a = sym (or_zero_l (entries_of_one a))
-entries_of-push (first ∷ args) a =
-    entries_of-cons first (args ++ a ∷ []) ∙ (ap (bit_or (entries_of_one first)) (entries_of-push args a)
-    ∙ (sym (or_assoc (entries_of_one first) (entries_of (columns_of args)) (entries_of_one a))
-    ∙ ap (λ m. bit_or m (entries_of_one a)) (sym (entries_of-cons first args))))
+pub entries_mask-push : (args : List BoundArg) (a : BoundArg) → entries_mask (argument_columns (args ++ a ∷ [])) ≡ bit_or (entries_mask (argument_columns args)) (entries_mask (argument_columns (a ∷ [])))
+entries_mask-push [] a = sym (or_zero_l (entries_mask_one a))
+entries_mask-push (first ∷ args) a =
+    entries_mask-cons first (args ++ a ∷ []) ∙ (ap (bit_or (entries_mask_one first)) (entries_mask-push args a)
+    ∙ (sym (or_assoc (entries_mask_one first) (entries_mask (argument_columns args)) (entries_mask_one a))
+    ∙ ap (λ m. bit_or m (entries_mask_one a)) (sym (entries_mask-cons first args))))

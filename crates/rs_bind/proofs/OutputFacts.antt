@@ -1,17 +1,16 @@
 -- The output columns of a name, one behind the other.
-use Rattle.std.proofs.Common.{ℕ, ◌≡◌, ◌+◌, ◌<◌, ◌≤◌, Bool, true, false, List, [], ◌∷◌, ◌++◌, length, drop, refl, sym, ap, ◌∙◌}
+use Rattle.std.proofs.Common.{ℕ, ◌≡◌, ◌+◌, ◌<◌, Bool, true, false, List, [], ◌∷◌, ◌++◌, length, drop, refl, sym, ap, ◌∙◌}
 use Rattle.std.specs.Prelude.{Option, Some, None, Result, Ok, Err, IfOk, is_some, option_to_list, slice_index_or, if◌then◌else◌}
 use Rattle.std.specs.List.{AllByRecursion}
-use Rattle.std.specs.Option.{ok_or}
 use Rattle.std.specs.Str.{bytes_eq}
-use Rattle.std.proofs.lemmas.List.{drop_all, drop_more}
+use Rattle.std.proofs.lemmas.List.{drop_more}
 use Rattle.rs_lex.specs.declared.token.Span.{Span}
 use Rattle.rs_syntax.specs.declared.name.ColRef.{ColRef}
 use Rattle.rs_syntax.specs.declared.name.Name.{Name}
-use Rattle.rs_table.specs.Reading.{◌>>=◌}
+use Rattle.rs_value.specs.Results.{◌>>=◌}
 use Rattle.rs_bind.specs.declared.fault.BindFault.{BindFault}
 use Rattle.rs_bind.specs.declared.fault.BindFault.TheVariants.{At}
-use Rattle.rs_bind.specs.declared.fault.Why.TheVariants.{Ambiguous, NoColumn}
+use Rattle.rs_bind.specs.declared.fault.Why.TheVariants.{Ambiguous}
 use Rattle.rs_bind.specs.Queries.{IsEntryArg, as_argument, called, output_columns}
 use Rattle.rs_bind.specs.Sources.{Found, the_only}
 use Rattle.rs_bind.specs.Terms.{IsEntryItem}
@@ -62,14 +61,6 @@ module _ (name : List ℕ) (names : List (List ℕ)) (items : List Found) where
         → Err (At Ambiguous at) ≡ the_only at all
     called-twice None at is some so_far = cc
     called-twice (Some first) at is some so_far = called-second first at is so_far
-
-  pub called-end : (all : List Found) (i : ℕ) (found : Option Found) (at : Span) → length names ≤ i → called_left found i ≡ all
-      → ok_or found (At NoColumn at) ≡ the_only at all
-  called-end all i found at past so_far =
-      last found (ap (λ left. option_to_list found ++ called name left (drop i items)) (sym (drop_all i names past)) ∙ so_far) where
-        last : (found : Option Found) → option_to_list found ++ [] ≡ all → ok_or found (At NoColumn at) ≡ the_only at all
-        last None h = ap (the_only at) h
-        last (Some item) h = ap (the_only at) h
 
 -- what holds of each output column holds of the only one of a name
 called-all : (P : Found → Type 0) (name : List ℕ) (names : List (List ℕ)) (items : List Found) → AllByRecursion P items → AllByRecursion P (called name names items)

@@ -5,14 +5,14 @@ use Rattle.std.specs.List.{list_all}
 use Rattle.rs_value.specs.declared.value.Value.{Value}
 use Rattle.rs_lex.specs.declared.token.Span.{Span}
 use Rattle.rs_syntax.specs.Syntax.{Expression, And}
-use Rattle.rs_table.specs.Reading.{◌>>=◌}
+use Rattle.rs_value.specs.Results.{◌>>=◌}
 use Rattle.rs_expr.specs.Formulas.{Condition, Both}
 use Rattle.rs_expr.specs.Meaning.{holds}
 use Rattle.rs_query.specs.Conjuncts.{ConjunctDef}
 use Rattle.rs_bind.specs.declared.fault.BindFault.{BindFault}
-use Rattle.rs_bind.specs.Conditions.{conjunct_in, conjunct_of, conjuncts_of, named_columns, parts_of, places_in, references_of}
+use Rattle.rs_bind.specs.Conditions.{conjunct_in, conjunct_of, conjuncts_of, named_columns, parts_of_and, places_in, references_of}
 use Rattle.rs_bind.specs.Sources.{Source}
-use Rattle.rs_bind.specs.Typing.{Scope, Typed, Number, Words, Truth, rule, span_of, truth_of, two, type_of}
+use Rattle.rs_bind.specs.Typing.{Scope, Typed, Number, Words, Truth, rule, span_of, as_truth, two, type_of}
 use Rattle.rs_bind.proofs.EachFacts.{each-then}
 use Rattle.rs_bind.proofs.ReferenceFacts.{IsBacked-moved, IsNamed, each-reference-named, moved}
 use Rattle.rs_bind.proofs.ResultFacts.{same_Ok, well}
@@ -96,13 +96,13 @@ module _ (sources : List Source) (cell : ℕ × ℕ → Value) where
       let one = conjunct_of own (condition_with place c) in
       record {
         made = one ∷ [];
-        are = ap (λ (r : Result Typed BindFault). ((r >>= truth_of (span_of x)) >>= λ d. well (conjunct_of own d)) >>= λ first. well (first ∷ [])) kept.0;
+        are = ap (λ (r : Result Typed BindFault). ((r >>= as_truth (span_of x)) >>= λ d. well (conjunct_of own d)) >>= λ first. well (first ∷ [])) kept.0;
         hold = and_true (conjunct_true one) ∙ kept.1;
       }
 
   -- the parts of a condition that is typed over some columns
   pub HaveConjuncts-typed : (columns : List (ℕ × ℕ)) (x : Expression) (c : Condition) → type_of (places_in columns sources) x ≡ Ok (Truth c)
-      → HaveConjuncts (parts_of x) (map cell columns) c
+      → HaveConjuncts (parts_of_and x) (map cell columns) c
   HaveConjuncts-typed columns (And x y at) c h =
       let scope = places_in columns sources in
       let both = IsBoth-typed scope x y at (type_of scope x) (type_of scope y) c h in
@@ -110,8 +110,8 @@ module _ (sources : List Source) (cell : ℕ × ℕ → Value) where
       let right = HaveConjuncts-typed columns y both.right both.is_right in
       record {
         made = left.made ++ right.made;
-        are = conjuncts_of-append sources (parts_of x) (parts_of y)
-            ∙ (ap (λ (r : Result (List ConjunctDef) BindFault). r >>= λ ms. conjuncts_of sources (parts_of y) >>= λ ns. well (ms ++ ns)) left.are
+        are = conjuncts_of-append sources (parts_of_and x) (parts_of_and y)
+            ∙ (ap (λ (r : Result (List ConjunctDef) BindFault). r >>= λ ms. conjuncts_of sources (parts_of_and y) >>= λ ns. well (ms ++ ns)) left.are
             ∙ ap (λ (r : Result (List ConjunctDef) BindFault). r >>= λ ns. well (left.made ++ ns)) right.are);
         hold = all-append conjunct_true left.made right.made
             ∙ ((λ i. left.hold i && right.hold i) ∙ ap (λ d. holds d (map cell columns)) both.is);

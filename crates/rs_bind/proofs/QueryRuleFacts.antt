@@ -9,15 +9,15 @@ use Rattle.rs_syntax.specs.declared.name.Arg.{Arg}
 use Rattle.rs_syntax.specs.declared.name.Arg.TheVariants as arg
 use Rattle.rs_syntax.specs.declared.name.ColRef.{ColRef}
 use Rattle.rs_syntax.specs.declared.name.Name.{Name}
-use Rattle.rs_syntax.specs.declared.select.SetOp.{SetOp}
+use Rattle.rs_value.specs.declared.set_op.SetOp.{SetOp}
 use Rattle.rs_syntax.specs.declared.select.TermSyn.{TermSyn}
 use Rattle.rs_syntax.specs.Syntax as syntax
-use Rattle.rs_table.specs.Reading.{◌>>=◌}
+use Rattle.rs_value.specs.Results.{◌>>=◌}
 use Rattle.rs_expr.specs.Uses.{is_kind}
-use Rattle.rs_catalog.specs.Catalogue.{Catalogue, number_of}
+use Rattle.rs_catalog.specs.Catalogue.{Catalogue, number_named}
 use Rattle.rs_catalog.specs.declared.index.BoundArg.{BoundArg}
 use Rattle.rs_catalog.specs.declared.room.What.TheVariants as what
-use Rattle.rs_query.specs.WellFormed.{columns_of, entries_of}
+use Rattle.rs_query.specs.WellFormed.{argument_columns, entries_mask}
 use Rattle.rs_query.specs.declared.query.Query.{Query}
 use Rattle.rs_query.specs.declared.query.Query.TheVariants.{One, Set}
 use Rattle.rs_query.specs.declared.term.Term.{Term}
@@ -29,7 +29,7 @@ use Rattle.rs_bind.specs.BlockRules.{TypesBlock}
 use Rattle.rs_bind.specs.Indexes.{Entries, arg_of, args_of, is_column, of_kind, params_in, term_args}
 use Rattle.rs_bind.specs.InOrder.{Each, none, and}
 use Rattle.rs_bind.specs.Names.{number_in, or_fault}
-use Rattle.rs_bind.specs.Queries.{Unranked, agree, are_outputs, as_argument, bound_query, called, first_item, limit_of, names_of, needed_by, one_of, output_columns, set_of, terms_behind, terms_of, unranked_of, with_terms}
+use Rattle.rs_bind.specs.Queries.{Unranked, agree, are_outputs, as_argument, bound_query, called, first_item, bound_limit, most_rows, most_weight, output_names, needed_by, one_of, output_columns, set_of, terms_behind, terms_of, unranked_of, with_terms}
 use Rattle.rs_bind.specs.QueryRules.{HasPredicate, RefusedLimit, RefusedQuery, RefusedTerm, RefusedTerms, TypesLimit, TypesQuery, TypesTerm, TypesTerms, columns_in, outputs_in}
 use Rattle.rs_bind.specs.QueryRules.{too_many, wrong_weight, no_predicate, in_args, no_output, no_limit, within, outside, one_block, two_blocks, in_left, in_right, differ, in_terms, in_set_terms, in_limit, in_set_limit}
 use Rattle.rs_bind.specs.Sources.{Found, the_only}
@@ -51,10 +51,10 @@ module _ (catalogue : Catalogue) (entries : Entries) (needed : Option (List Foun
 
   abbrev behind_args : TermSyn → ℕ → ℕ → List BoundArg → Result Term BindFault
   behind_args term w predicate made =
-      if are_outputs needed (columns_of made) then well (term_with catalogue w predicate made) else Err (At DistinctNeedsOutput term.at)
+      if are_outputs needed (argument_columns made) then well (term_with catalogue w predicate made) else Err (At DistinctNeedsOutput term.at)
 
   abbrev predicate_of : TermSyn → Result ℕ BindFault
-  predicate_of term = or_fault (At NoPredicate term.predicate.at) (number_of what.Predicate term.predicate.text catalogue)
+  predicate_of term = or_fault (At NoPredicate term.predicate.at) (number_named what.Predicate term.predicate.text catalogue)
 
   abbrev behind_predicate : TermSyn → ℕ → ℕ → Result Term BindFault
   behind_predicate term w predicate = term_args entries (params_of predicate) term.args term.at >>= behind_args term w predicate
@@ -63,33 +63,33 @@ module _ (catalogue : Catalogue) (entries : Entries) (needed : Option (List Foun
   behind_weight term w = predicate_of term >>= behind_predicate term w
 
   abbrev behind_room : TermSyn → Result Term BindFault
-  behind_room term = number_in 1 1000000 term.weight >>= behind_weight term
+  behind_room term = number_in 1 most_weight term.weight >>= behind_weight term
 
   abbrev term_step : List Term → TermSyn → Result Term BindFault
   term_step before term = if length before == 8 then Err (At LimitOf term.at) else behind_room term
 
   -- what is known of a term up to its predicate
-  predicated : (before : List Term) (term : TermSyn) (w predicate : ℕ) → (length before == 8) ≡ false → number_in 1 1000000 term.weight ≡ Ok w
+  predicated : (before : List Term) (term : TermSyn) (w predicate : ℕ) → (length before == 8) ≡ false → number_in 1 most_weight term.weight ≡ Ok w
       → predicate_of term ≡ Ok predicate → HasPredicate catalogue before term predicate
   predicated before term w predicate room weighs is = record {
     room = is-apart (length before) 8 room;
     weight = w;
-    is_weight = within-typed 1 1000000 term.weight w weighs;
-    is_predicate = Ok-or_fault (At NoPredicate term.predicate.at) (number_of what.Predicate term.predicate.text catalogue) predicate is;
+    is_weight = within-typed 1 most_weight term.weight w weighs;
+    is_predicate = Ok-or_fault (At NoPredicate term.predicate.at) (number_named what.Predicate term.predicate.text catalogue) predicate is;
   }
 
   term-typed : (before : List Term) (term : TermSyn) (made : Term) → term_step before term ≡ Ok made → TypesTerm catalogue entries needed before term made
   term-typed before term made h =
       let past = Ok-else (length before == 8) (behind_room term) (At LimitOf term.at) made h in
-      let first = Ok-steps (number_in 1 1000000 term.weight) (behind_weight term) made past.1 in
+      let first = Ok-steps (number_in 1 most_weight term.weight) (behind_weight term) made past.1 in
       let second = Ok-steps (predicate_of term) (behind_predicate term first.0) made first.2 in
       let third = Ok-steps (term_args entries (params_of second.0) term.args term.at) (behind_args term first.0 second.0) made second.2 in
-      let test = Ok-test (are_outputs needed (columns_of third.0)) (well (term_with catalogue first.0 second.0 third.0)) (At DistinctNeedsOutput term.at) made third.2 in
+      let test = Ok-test (are_outputs needed (argument_columns third.0)) (well (term_with catalogue first.0 second.0 third.0)) (At DistinctNeedsOutput term.at) made third.2 in
       let same = same_Ok (term_with catalogue first.0 second.0 third.0) made test.1 in
       let has = predicated before term first.0 second.0 past.0 first.1 second.1 in
       subst (TypesTerm catalogue entries needed before term) same (record {
         room = has.room;
-        weight = within-typed 1 1000000 term.weight first.0 first.1;
+        weight = within-typed 1 most_weight term.weight first.0 first.1;
         predicate = has.is_predicate;
         args = term_args-typed entries (params_of second.0) term.args term.at third.0 third.1;
         outputs = test.0;
@@ -101,16 +101,16 @@ module _ (catalogue : Catalogue) (entries : Entries) (needed : Option (List Foun
   past-room : (before : List Term) (term : TermSyn) → length before ≢ 8 → term_step before term ≡ behind_room term
   past-room before term room = ap (λ b. if b then Err (At LimitOf term.at) else behind_room term) (apart-test (length before) 8 room)
 
-  past-weight : (before : List Term) (term : TermSyn) (w : ℕ) → length before ≢ 8 → IsWithin 1 1000000 term.weight.0 w → term_step before term ≡ behind_weight term w
-  past-weight before term w room weighs = past-room before term room ∙ ap (λ r. r >>= behind_weight term) (within-is 1 1000000 term.weight w weighs)
+  past-weight : (before : List Term) (term : TermSyn) (w : ℕ) → length before ≢ 8 → IsWithin 1 most_weight term.weight.0 w → term_step before term ≡ behind_weight term w
+  past-weight before term w room weighs = past-room before term room ∙ ap (λ r. r >>= behind_weight term) (within-is 1 most_weight term.weight w weighs)
 
-  past-predicate : (before : List Term) (term : TermSyn) (w predicate : ℕ) → length before ≢ 8 → IsWithin 1 1000000 term.weight.0 w
-      → number_of what.Predicate term.predicate.text catalogue ≡ Some predicate → term_step before term ≡ behind_predicate term w predicate
+  past-predicate : (before : List Term) (term : TermSyn) (w predicate : ℕ) → length before ≢ 8 → IsWithin 1 most_weight term.weight.0 w
+      → number_named what.Predicate term.predicate.text catalogue ≡ Some predicate → term_step before term ≡ behind_predicate term w predicate
   past-predicate before term w predicate room weighs is =
       past-weight before term w room weighs ∙ ap (λ p. or_fault (At NoPredicate term.predicate.at) p >>= behind_predicate term w) is
 
-  past-args : (before : List Term) (term : TermSyn) (w predicate : ℕ) (made : List BoundArg) → length before ≢ 8 → IsWithin 1 1000000 term.weight.0 w
-      → number_of what.Predicate term.predicate.text catalogue ≡ Some predicate → TypesArgs entries (params_of predicate) term.args made
+  past-args : (before : List Term) (term : TermSyn) (w predicate : ℕ) (made : List BoundArg) → length before ≢ 8 → IsWithin 1 most_weight term.weight.0 w
+      → number_named what.Predicate term.predicate.text catalogue ≡ Some predicate → TypesArgs entries (params_of predicate) term.args made
       → term_step before term ≡ behind_args term w predicate made
   past-args before term w predicate made room weighs is args =
       past-predicate before term w predicate room weighs is
@@ -120,20 +120,20 @@ module _ (catalogue : Catalogue) (entries : Entries) (needed : Option (List Foun
   term-is before term made t =
       past-args before term made.weight made.predicate made.args t.room t.weight t.predicate t.args
       ∙ (ap (λ b. if b then well (term_with catalogue made.weight made.predicate made.args) else Err (At DistinctNeedsOutput term.at)) t.outputs
-      ∙ (ap (λ m. well (record { weight = made.weight; predicate = made.predicate; args = made.args; max = m; entries = entries_of (columns_of made.args) })) (sym t.max)
+      ∙ (ap (λ m. well (record { weight = made.weight; predicate = made.predicate; args = made.args; max = m; entries = entries_mask (argument_columns made.args) })) (sym t.max)
       ∙ ap (λ e. well (record { weight = made.weight; predicate = made.predicate; args = made.args; max = made.max; entries = e })) (sym t.entries_are)))
 
   term-refused : (before : List Term) (term : TermSyn) (fault : BindFault) → term_step before term ≡ Err fault → RefusedTerm catalogue entries needed before term fault
   term-refused before term fault h =
       elim (Err-else (length before == 8) (behind_room term) (At LimitOf term.at) fault h) [
         | inl full ↦ subst (RefusedTerm catalogue entries needed before term) full.1 (too_many (is-equal (length before) 8 full.0))
-        | inr past ↦ elim (Err-steps (number_in 1 1000000 term.weight) (behind_weight term) fault past.1) [
-          | inl refuses ↦ (let out = outside-refused 1 1000000 term.weight fault refuses in
+        | inr past ↦ elim (Err-steps (number_in 1 most_weight term.weight) (behind_weight term) fault past.1) [
+          | inl refuses ↦ (let out = outside-refused 1 most_weight term.weight fault refuses in
               subst (RefusedTerm catalogue entries needed before term) out.1 (wrong_weight (is-apart (length before) 8 past.0) out.0))
           | inr first ↦ elim (Err-steps (predicate_of term) (behind_predicate term first.0) fault first.2) [
-            | inl refuses ↦ (let missing = Err-or_fault (At NoPredicate term.predicate.at) fault (number_of what.Predicate term.predicate.text catalogue) refuses in
+            | inl refuses ↦ (let missing = Err-or_fault (At NoPredicate term.predicate.at) fault (number_named what.Predicate term.predicate.text catalogue) refuses in
                 subst (RefusedTerm catalogue entries needed before term) missing.1
-                (no_predicate first.0 (is-apart (length before) 8 past.0) (within-typed 1 1000000 term.weight first.0 first.1) missing.0))
+                (no_predicate first.0 (is-apart (length before) 8 past.0) (within-typed 1 most_weight term.weight first.0 first.1) missing.0))
             | inr second ↦ behind_known first.0 second.0 (predicated before term first.0 second.0 past.0 first.1 second.1) second.2
           ]
         ]
@@ -142,7 +142,7 @@ module _ (catalogue : Catalogue) (entries : Entries) (needed : Option (List Foun
             → RefusedTerm catalogue entries needed before term fault
         behind_known w predicate has k = elim (Err-steps (term_args entries (params_of predicate) term.args term.at) (behind_args term w predicate) fault k) [
           | inl refuses ↦ in_args predicate fault has (term_args-refused entries (params_of predicate) term.args term.at fault refuses)
-          | inr made ↦ elim (Err-test (are_outputs needed (columns_of made.0)) (well (term_with catalogue w predicate made.0)) (At DistinctNeedsOutput term.at) fault made.2) [
+          | inr made ↦ elim (Err-test (are_outputs needed (argument_columns made.0)) (well (term_with catalogue w predicate made.0)) (At DistinctNeedsOutput term.at) fault made.2) [
             | inl fails ↦ subst (RefusedTerm catalogue entries needed before term) fails.1
                 (no_output predicate made.0 has (term_args-typed entries (params_of predicate) term.args term.at made.0 made.1) fails.0)
             | inr passes ↦ cc
@@ -152,7 +152,7 @@ module _ (catalogue : Catalogue) (entries : Entries) (needed : Option (List Foun
   term-is_refused : (before : List Term) (term : TermSyn) (fault : BindFault) → RefusedTerm catalogue entries needed before term fault → term_step before term ≡ Err fault
   term-is_refused before term fault (too_many full) = ap (λ b. if b then Err (At LimitOf term.at) else behind_room term) (equal-test (length before) 8 full)
   term-is_refused before term fault (wrong_weight room out) =
-      past-room before term room ∙ ap (λ r. r >>= behind_weight term) (outside-is 1 1000000 term.weight out)
+      past-room before term room ∙ ap (λ r. r >>= behind_weight term) (outside-is 1 most_weight term.weight out)
   term-is_refused before term fault (no_predicate n room weighs missing) =
       past-weight before term n room weighs ∙ ap (λ p. or_fault (At NoPredicate term.predicate.at) p >>= behind_predicate term n) missing
   term-is_refused before term fault (in_args predicate f has refused) =
@@ -171,7 +171,7 @@ module _ (catalogue : Catalogue) (entries : Entries) (needed : Option (List Foun
 
   terms-steps : (before : List Term) (terms : List TermSyn) → terms_behind catalogue entries needed (length before) terms ≡ steps term_step before terms
   terms-steps before [] = refl
-  terms-steps before (term ∷ terms) = go (λ b. terms-steps (b ∷ before) terms) (length before == 8) (number_in 1 1000000 term.weight) where
+  terms-steps before (term ∷ terms) = go (λ b. terms-steps (b ∷ before) terms) (length before == 8) (number_in 1 most_weight term.weight) where
     with_args : Again before terms → (w p : ℕ) (made : List BoundArg) (outputs : Bool)
         → ((if outputs then terms_behind catalogue entries needed (suc (length before)) terms else Err (At DistinctNeedsOutput term.at))
         >>= λ more. Ok (term_with catalogue w p made ∷ more))
@@ -180,14 +180,14 @@ module _ (catalogue : Catalogue) (entries : Entries) (needed : Option (List Foun
     with_args again w p made false = refl
 
     with_predicate : Again before terms → (w p : ℕ) (r : Result (List BoundArg) BindFault)
-        → (r >>= λ made. (if are_outputs needed (columns_of made) then terms_behind catalogue entries needed (suc (length before)) terms
+        → (r >>= λ made. (if are_outputs needed (argument_columns made) then terms_behind catalogue entries needed (suc (length before)) terms
         else Err (At DistinctNeedsOutput term.at)) >>= λ more. Ok (term_with catalogue w p made ∷ more))
         ≡ ((r >>= behind_args term w p) >>= λ b. steps term_step (b ∷ before) terms >>= λ more. Ok (b ∷ more))
     with_predicate again w p (Err fault) = refl
-    with_predicate again w p (Ok made) = with_args again w p made (are_outputs needed (columns_of made))
+    with_predicate again w p (Ok made) = with_args again w p made (are_outputs needed (argument_columns made))
 
     with_weight : Again before terms → (w : ℕ) (r : Result ℕ BindFault)
-        → (r >>= λ p. term_args entries (params_of p) term.args term.at >>= λ made. (if are_outputs needed (columns_of made)
+        → (r >>= λ p. term_args entries (params_of p) term.args term.at >>= λ made. (if are_outputs needed (argument_columns made)
         then terms_behind catalogue entries needed (suc (length before)) terms else Err (At DistinctNeedsOutput term.at))
         >>= λ more. Ok (term_with catalogue w p made ∷ more))
         ≡ ((r >>= behind_predicate term w) >>= λ b. steps term_step (b ∷ before) terms >>= λ more. Ok (b ∷ more))
@@ -196,7 +196,7 @@ module _ (catalogue : Catalogue) (entries : Entries) (needed : Option (List Foun
 
     go : Again before terms → (full : Bool) (r : Result ℕ BindFault)
         → (if full then Err (At LimitOf term.at) else (r >>= λ w. predicate_of term >>= λ p. term_args entries (params_of p) term.args term.at
-        >>= λ made. (if are_outputs needed (columns_of made) then terms_behind catalogue entries needed (suc (length before)) terms
+        >>= λ made. (if are_outputs needed (argument_columns made) then terms_behind catalogue entries needed (suc (length before)) terms
         else Err (At DistinctNeedsOutput term.at)) >>= λ more. Ok (term_with catalogue w p made ∷ more)))
         ≡ ((if full then Err (At LimitOf term.at) else (r >>= behind_weight term)) >>= λ b. steps term_step (b ∷ before) terms >>= λ more. Ok (b ∷ more))
     go again true r = refl
@@ -222,26 +222,26 @@ module _ (catalogue : Catalogue) (entries : Entries) (needed : Option (List Foun
       terms-steps [] terms ∙ steps-FirstRefused (TypesTerm catalogue entries needed) (RefusedTerm catalogue entries needed) term_step term-follows first
 
 -- LIMIT
-limit-typed : (written : Option (ℤ × Span)) (made : Option ℕ) → limit_of written ≡ Ok made → TypesLimit written made
+limit-typed : (written : Option (ℤ × Span)) (made : Option ℕ) → bound_limit written ≡ Ok made → TypesLimit written made
 limit-typed None made h = let same : None ≡ made = cc in subst (TypesLimit None) same no_limit
 limit-typed (Some limit) made h =
-    let found = Ok-steps (number_in 0 1000000 limit) (λ n. well (Some n)) made h in
+    let found = Ok-steps (number_in 0 most_rows limit) (λ n. well (Some n)) made h in
     let same = same_Ok (Some found.0) made found.2 in
-    subst (TypesLimit (Some limit)) same (within limit.0 limit.1 found.0 (within-typed 0 1000000 limit found.0 found.1))
+    subst (TypesLimit (Some limit)) same (within limit.0 limit.1 found.0 (within-typed 0 most_rows limit found.0 found.1))
 
-limit-is : (written : Option (ℤ × Span)) (made : Option ℕ) → TypesLimit written made → limit_of written ≡ Ok made
+limit-is : (written : Option (ℤ × Span)) (made : Option ℕ) → TypesLimit written made → bound_limit written ≡ Ok made
 limit-is written made no_limit = refl
-limit-is written made (within n at m is) = ap (λ r. r >>= λ k. well (Some k)) (within-is 0 1000000 (n, at) m is)
+limit-is written made (within n at m is) = ap (λ r. r >>= λ k. well (Some k)) (within-is 0 most_rows (n, at) m is)
 
-limit-refused : (written : Option (ℤ × Span)) (fault : BindFault) → limit_of written ≡ Err fault → RefusedLimit written fault
+limit-refused : (written : Option (ℤ × Span)) (fault : BindFault) → bound_limit written ≡ Err fault → RefusedLimit written fault
 limit-refused None fault h = cc
-limit-refused (Some limit) fault h = elim (Err-steps (number_in 0 1000000 limit) (λ n. well (Some n)) fault h) [
-  | inl refuses ↦ (let out = outside-refused 0 1000000 limit fault refuses in subst (RefusedLimit (Some limit)) out.1 (outside limit.0 limit.1 out.0))
+limit-refused (Some limit) fault h = elim (Err-steps (number_in 0 most_rows limit) (λ n. well (Some n)) fault h) [
+  | inl refuses ↦ (let out = outside-refused 0 most_rows limit fault refuses in subst (RefusedLimit (Some limit)) out.1 (outside limit.0 limit.1 out.0))
   | inr found ↦ cc
 ]
 
-limit-is_refused : (written : Option (ℤ × Span)) (fault : BindFault) → RefusedLimit written fault → limit_of written ≡ Err fault
-limit-is_refused written fault (outside n at out) = ap (λ r. r >>= λ k. well (Some k)) (outside-is 0 1000000 (n, at) out)
+limit-is_refused : (written : Option (ℤ × Span)) (fault : BindFault) → RefusedLimit written fault → bound_limit written ≡ Err fault
+limit-is_refused written fault (outside n at out) = ap (λ r. r >>= λ k. well (Some k)) (outside-is 0 most_rows (n, at) out)
 
 -- the terms of a set query are typed over the right block where they are over the left one
 same-kinds : (a b : Found) → is_kind a.1 (Some b.1) ≡ true → b.1 ≡ a.1
@@ -372,7 +372,7 @@ module _ (catalogue : Catalogue) where
   with_limit block terms limit = well (One (with_terms block terms) limit)
 
   abbrev behind_terms : syntax.Query → Unranked → List Term → Result Query BindFault
-  behind_terms query block terms = limit_of query.limit >>= with_limit block terms
+  behind_terms query block terms = bound_limit query.limit >>= with_limit block terms
 
   abbrev block_terms : syntax.Query → Unranked → Result (List Term) BindFault
   block_terms query block = terms_of catalogue (columns_in catalogue block) (needed_by block) query.terms
@@ -384,7 +384,7 @@ module _ (catalogue : Catalogue) where
   one-typed query made e h =
       let first = Ok-steps (unranked_of catalogue query.left) (behind_block query) made h in
       let second = Ok-steps (block_terms query first.0) (behind_terms query first.0) made first.2 in
-      let third = Ok-steps (limit_of query.limit) (with_limit first.0 second.0) made second.2 in
+      let third = Ok-steps (bound_limit query.limit) (with_limit first.0 second.0) made second.2 in
       let same = same_Ok (One (with_terms first.0 second.0) third.0) made third.2 in
       subst (TypesQuery catalogue query) same
       (one_block query first.0 second.0 third.0 e (block-typed catalogue query.left first.0 first.1)
@@ -396,7 +396,7 @@ module _ (catalogue : Catalogue) where
     | inr first ↦ elim (Err-steps (block_terms query first.0) (behind_terms query first.0) fault first.2) [
       | inl refuses ↦ in_terms query first.0 fault e (block-typed catalogue query.left first.0 first.1)
           (terms-refused catalogue (columns_in catalogue first.0) (needed_by first.0) query.terms fault refuses)
-      | inr second ↦ elim (Err-steps (limit_of query.limit) (with_limit first.0 second.0) fault second.2) [
+      | inr second ↦ elim (Err-steps (bound_limit query.limit) (with_limit first.0 second.0) fault second.2) [
         | inl refuses ↦ in_limit query first.0 second.0 fault e (block-typed catalogue query.left first.0 first.1)
             (terms-typed catalogue (columns_in catalogue first.0) (needed_by first.0) query.terms second.0 second.1) (limit-refused query.limit fault refuses)
         | inr third ↦ cc
@@ -409,7 +409,7 @@ module _ (catalogue : Catalogue) where
   with_set_limit op left right terms others limit = well (Set op (with_terms left terms) (with_terms right others) limit)
 
   abbrev behind_others : syntax.Query → SetOp → Unranked → Unranked → List Term → List Term → Result Query BindFault
-  behind_others query op left right terms others = limit_of query.limit >>= with_set_limit op left right terms others
+  behind_others query op left right terms others = bound_limit query.limit >>= with_set_limit op left right terms others
 
   abbrev set_terms : syntax.Query → Unranked → Unranked → Result (List Term) BindFault
   set_terms query left block = terms_of catalogue (outputs_in catalogue left block) None query.terms
@@ -434,7 +434,7 @@ module _ (catalogue : Catalogue) where
       let terms = Ok-steps (agreed_terms query second left.0 right.0) (behind_set_terms query op left.0 right.0) made right.2 in
       let agreed = Ok-test (agree left.0.items right.0.items) (set_terms query left.0 left.0) (At SetColumnsDiffer (first_item second.items)) terms.0 terms.1 in
       let others = Ok-steps (set_terms query left.0 right.0) (behind_others query op left.0 right.0 terms.0) made terms.2 in
-      let limit = Ok-steps (limit_of query.limit) (with_set_limit op left.0 right.0 terms.0 others.0) made others.2 in
+      let limit = Ok-steps (bound_limit query.limit) (with_set_limit op left.0 right.0 terms.0 others.0) made others.2 in
       let same = same_Ok (Set op (with_terms left.0 terms.0) (with_terms right.0 others.0) limit.0) made limit.2 in
       subst (TypesQuery catalogue query) same
       (two_blocks query op second left.0 right.0 terms.0 others.0 limit.0 e (block-typed catalogue query.left left.0 left.1)
@@ -446,7 +446,7 @@ module _ (catalogue : Catalogue) where
   others-typed : (query : syntax.Query) (left right : Unranked) (terms : List Term) → agree left.items right.items ≡ true
       → TypesTerms catalogue (outputs_in catalogue left left) None query.terms terms → (others : List Term) × (set_terms query left right ≡ Ok others)
   others-typed query left right terms agreed each =
-      let found = other-terms (names_of catalogue left) left.items right.items agreed catalogue [] refl each in
+      let found = other-terms (output_names catalogue left) left.items right.items agreed catalogue [] refl each in
       (found.0, terms-are catalogue (outputs_in catalogue left right) None query.terms found.0 found.1)
 
   set-refused : (query : syntax.Query) (op : SetOp) (second : syntax.Block) (fault : BindFault) → query.right ≡ Some (op, second)
@@ -464,7 +464,7 @@ module _ (catalogue : Catalogue) where
     behind_agreed left right terms l r agreed each k =
         let others = others-typed query left right terms agreed each in
         let rest = ap (λ o. o >>= behind_others query op left right terms) others.1 in
-        elim (Err-steps (limit_of query.limit) (with_set_limit op left right terms others.0) fault (sym rest ∙ k)) [
+        elim (Err-steps (bound_limit query.limit) (with_set_limit op left right terms others.0) fault (sym rest ∙ k)) [
           | inl refuses ↦ in_set_limit query op second left right terms fault e l r agreed each (limit-refused query.limit fault refuses)
           | inr limit ↦ cc
         ]

@@ -13,10 +13,10 @@ use Rattle.rs_lex.specs.declared.token.Span.{Span}
 use Rattle.rs_syntax.specs.declared.name.ColRef.{ColRef}
 use Rattle.rs_syntax.specs.declared.node.Op.TheVariants.{Add, Sub, Mul, Div}
 use Rattle.rs_syntax.specs.Syntax.{Expression, Int, Text, Column, Neg, Arith, Abs, Least, Greatest, Case, Compare, And, Or, Not}
-use Rattle.rs_table.specs.Reading.{◌>>=◌}
+use Rattle.rs_value.specs.Results.{◌>>=◌}
 use Rattle.rs_expr.specs.Formulas.{Formula, Condition, Argument, Constant, Negated, Sum, Difference, Product, Quotient, Magnitude, Numbers, Texts, Both, Either}
 use Rattle.rs_expr.specs.Formulas as formula
-use Rattle.rs_expr.specs.Meaning.{holds, number_of, side_of, text_of, value_of}
+use Rattle.rs_expr.specs.Meaning.{holds, argument_number, side_of, argument_text, value_of}
 use Rattle.rs_expr.specs.Widths.{is_narrow, of_two, width_of}
 use Rattle.rs_expr.specs.declared.expr.TextSide.{TextSide}
 use Rattle.rs_expr.specs.declared.expr.TextSide.TheVariants as side
@@ -126,8 +126,8 @@ module _ (place : ℕ → ℕ) (args others : List Value) where
   argument-with (i, kind.Text) = refl
 
   argument-value : (found : ℕ × Kind) → slice_get others (place found.0) ≡ slice_get args found.0 → SameValue (argument found)
-  argument-value (i, kind.Int) h = ap number_of h
-  argument-value (i, kind.Text) h = ap text_of h
+  argument-value (i, kind.Int) h = ap argument_number h
+  argument-value (i, kind.Text) h = ap argument_text h
 
   column-with : (answer own : Result (ℕ × Kind) BindFault) (t : Typed) → ((found : ℕ × Kind) → answer ≡ Ok found → IsKept own found)
       → (answer >>= λ found. Ok (argument found)) ≡ Ok t → Kept (own >>= λ found. Ok (argument found)) t

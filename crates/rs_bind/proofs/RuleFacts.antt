@@ -3,7 +3,7 @@ use Rattle.std.proofs.Common.{◌≡◌, List, [], ◌∷◌, ◌++◌, refl, sy
 use Rattle.std.specs.Prelude.{Result, Ok, Err, ◌↔◌}
 use Rattle.std.specs.List.{AllByRecursion}
 use Rattle.rs_syntax.specs.Syntax.{Expression, Int, Text, Column, Neg, Arith, Abs, Least, Greatest, Case, Compare, And, Or, Not}
-use Rattle.rs_table.specs.Reading.{◌>>=◌}
+use Rattle.rs_value.specs.Results.{◌>>=◌}
 use Rattle.rs_bind.specs.declared.fault.BindFault.{BindFault}
 use Rattle.rs_bind.proofs.StepFacts.{Ok-steps, Err-steps}
 use Rattle.rs_bind.specs.Rules.{Types, TypesEach, Refused, none, and, by_rule, in_part}
@@ -47,12 +47,12 @@ three_parts r (Err fault) b c = refl
 
 module _ (scope : Scope) where
   -- what expressions are, from left to right
-  abbrev types_of : List Expression → Result (List Typed) BindFault
+  abbrev pub types_of : List Expression → Result (List Typed) BindFault
   types_of [] = Ok []
   types_of (x ∷ xs) = type_of scope x >>= λ t. types_of xs >>= λ ts. Ok (t ∷ ts)
 
   -- an expression is what its rule says of its parts
-  type_of-parts : (x : Expression) → type_of scope x ≡ (types_of (parts_of x) >>= rule scope x)
+  pub type_of-parts : (x : Expression) → type_of scope x ≡ (types_of (parts_of x) >>= rule scope x)
   type_of-parts (Int n at) = refl
   type_of-parts (Text text at) = refl
   type_of-parts (Column c) = refl

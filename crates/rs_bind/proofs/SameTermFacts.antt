@@ -12,14 +12,14 @@ use Rattle.rs_syntax.specs.declared.name.Arg.TheVariants as arg
 use Rattle.rs_syntax.specs.declared.name.ColRef.{ColRef}
 use Rattle.rs_syntax.specs.declared.name.Name.{Name}
 use Rattle.rs_syntax.specs.declared.select.TermSyn.{TermSyn}
-use Rattle.rs_table.specs.Reading.{◌>>=◌}
+use Rattle.rs_value.specs.Results.{◌>>=◌}
 use Rattle.rs_expr.specs.Uses.{is_kind}
 use Rattle.rs_catalog.specs.Catalogue.{Catalogue}
 use Rattle.rs_catalog.specs.declared.index.BoundArg.{BoundArg}
 use Rattle.rs_catalog.specs.declared.index.BoundArg.TheVariants as bound
 use Rattle.rs_query.specs.declared.block.Block.{Block}
 use Rattle.rs_query.specs.declared.term.Term.{Term}
-use Rattle.rs_query.specs.WellFormed.{IsArg, AreSameArg, AreSameArgs, AreSameTerm, AreSameTerms, kind_of}
+use Rattle.rs_query.specs.WellFormed.{IsArg, AreSameArg, AreSameArgs, AreSameTerm, AreSameTerms, column_kind}
 use Rattle.rs_bind.specs.declared.fault.BindFault.TheVariants.{At}
 use Rattle.rs_bind.specs.declared.fault.Why.TheVariants.{ConstantTerm, WrongCount, WrongKind}
 use Rattle.rs_bind.specs.Indexes.{Entries, arg_of, args_of, is_column, of_kind, params_in, term_args}
@@ -195,7 +195,7 @@ module _ (left right : Block) (names : List (List ℕ)) (lefts rights : List Fou
 
 -- the kinds of the output columns of two blocks
 kinds-found : (catalogue : Catalogue) (block : Block) (items : List Found) → AllByRecursion (IsFound catalogue block) items
-    → map (kind_of catalogue block) (map (λ (item : Found). item.0) items) ≡ map (λ (item : Found). Some item.1) items
+    → map (column_kind catalogue block) (map (λ (item : Found). item.0) items) ≡ map (λ (item : Found). Some item.1) items
 kinds-found catalogue block [] h = refl
 kinds-found catalogue block (item ∷ items) h = λ i. h.0.has_kind i ∷ kinds-found catalogue block items h.1 i
 
@@ -210,6 +210,6 @@ kinds-agree (a ∷ left) (b ∷ right) h =
 
 pub same-kinds : (catalogue : Catalogue) (left right : Block) (lefts rights : List Found) → AllByRecursion (IsFound catalogue left) lefts
     → AllByRecursion (IsFound catalogue right) rights → agree lefts rights ≡ true
-    → map (kind_of catalogue left) (map (λ (item : Found). item.0) lefts) ≡ map (kind_of catalogue right) (map (λ (item : Found). item.0) rights)
+    → map (column_kind catalogue left) (map (λ (item : Found). item.0) lefts) ≡ map (column_kind catalogue right) (map (λ (item : Found). item.0) rights)
 same-kinds catalogue left right lefts rights h k test =
     kinds-found catalogue left lefts h ∙ (kinds-agree lefts rights test ∙ sym (kinds-found catalogue right rights k))

@@ -9,10 +9,10 @@ use Rattle.rs_syntax.specs.declared.name.Arg.{Arg}
 use Rattle.rs_syntax.specs.declared.name.Name.{Name}
 use Rattle.rs_syntax.specs.Syntax.{Expression, CreatePredicate, CreateRankIndex}
 use Rattle.rs_table.specs.Column.{Column, is_named}
-use Rattle.rs_table.specs.Reading.{◌>>=◌}
+use Rattle.rs_value.specs.Results.{◌>>=◌}
 use Rattle.rs_expr.specs.Formulas.{Formula}
 use Rattle.rs_expr.specs.Predicates.{PredicateDef}
-use Rattle.rs_catalog.specs.Catalogue.{Catalogue, number_of}
+use Rattle.rs_catalog.specs.Catalogue.{Catalogue, number_named}
 use Rattle.rs_catalog.specs.declared.index.BoundArg.{BoundArg}
 use Rattle.rs_catalog.specs.declared.index.IndexDef.{IndexDef}
 use Rattle.rs_catalog.specs.declared.room.What.TheVariants as what
@@ -23,10 +23,10 @@ use Rattle.rs_bind.specs.ArgumentRules.{IsOutside, IsWithin}
 use Rattle.rs_bind.specs.Indexes.{index_def_of, params_in, term_args}
 use Rattle.rs_bind.specs.Names.{named, named_behind, number_in, or_fault}
 use Rattle.rs_bind.specs.Predicates.{cost_of, formula_in, parameter_in, predicate_of}
-use Rattle.rs_bind.specs.Queries.{count_of}
+use Rattle.rs_bind.specs.Queries.{count_of, most_rows}
 use Rattle.rs_bind.specs.StatementRules.{IsNoNumber, RefusedCost, RefusedIndex, RefusedName, RefusedNames, RefusedPredicate, TypesCost, TypesIndex, TypesName, TypesNames, TypesPredicate, index_columns}
 use Rattle.rs_bind.specs.StatementRules.{too_many, twice, no_cost, within, outside, made, in_params, wrong_max, wrong_cost, in_formula, no_number, no_table, no_predicate, in_args}
-use Rattle.rs_bind.specs.Typing.{Typed, Number, Words, Truth, number_of as number_among, span_of, type_of}
+use Rattle.rs_bind.specs.Typing.{Typed, Number, Words, Truth, as_number, span_of, type_of}
 use Rattle.rs_bind.proofs.ArgumentRuleFacts.{outside-is, outside-refused, term_args-are, term_args-are_refused, term_args-refused, term_args-typed, within-is, within-typed}
 use Rattle.rs_bind.proofs.BlockRuleFacts.{any-map, length-map}
 use Rattle.rs_bind.proofs.InOrderFacts.{Each-steps, FirstRefused-steps, Follows, steps, steps-Each, steps-FirstRefused}
@@ -133,17 +133,17 @@ cost-is_refused : (written : Option (ℤ × Span)) (fault : BindFault) → Refus
 cost-is_refused written fault (outside w at out) = outside-is 0 65535 (w, at) out
 
 -- a formula, which is a number
-number-is : (at : Span) (t : Typed) (f : Formula) → number_among at t ≡ Ok f → t ≡ Number f
+number-is : (at : Span) (t : Typed) (f : Formula) → as_number at t ≡ Ok f → t ≡ Number f
 number-is at (Number g) f h = let same : g ≡ f = cc in ap (λ e. Number e) same
 number-is at (Words side) f h = cc
 number-is at (Truth c) f h = cc
 
-no-number-refused : (at : Span) (t : Typed) → IsNoNumber t → number_among at t ≡ Err (At WrongKind at)
+no-number-refused : (at : Span) (t : Typed) → IsNoNumber t → as_number at t ≡ Err (At WrongKind at)
 no-number-refused at (Number f) h = absurd h
 no-number-refused at (Words side) h = refl
 no-number-refused at (Truth c) h = refl
 
-refused-no-number : (at : Span) (t : Typed) (fault : BindFault) → number_among at t ≡ Err fault → IsNoNumber t × (At WrongKind at ≡ fault)
+refused-no-number : (at : Span) (t : Typed) (fault : BindFault) → as_number at t ≡ Err fault → IsNoNumber t × (At WrongKind at ≡ fault)
 refused-no-number at (Number f) fault h = cc
 refused-no-number at (Words side) fault h = (tt, cc)
 refused-no-number at (Truth c) fault h = (tt, cc)
@@ -171,7 +171,7 @@ module _ (name : Name) (params : List (Name × Kind)) (max : ℤ × Span) (cost 
       let second = Ok-steps (number_in 1 4294967295 max) (behind_max first.0) def first.2 in
       let third = Ok-steps (cost_of cost) (behind_cost first.0 second.0) def second.2 in
       let fourth = Ok-steps (formula_in first.0 formula) (λ body. well (def_of first.0 second.0 third.0 body)) def third.2 in
-      let typed = Ok-steps (type_of (parameter_in first.0) formula) (number_among (span_of formula)) fourth.0 fourth.1 in
+      let typed = Ok-steps (type_of (parameter_in first.0) formula) (as_number (span_of formula)) fourth.0 fourth.1 in
       let same = same_Ok (def_of first.0 second.0 third.0 fourth.0) def fourth.2 in
       subst (TypesPredicate name params max cost formula) same
       (made first.0 second.0 third.0 fourth.0 (names-typed 8 params first.0 first.1) (within-typed 1 4294967295 max second.0 second.1)
@@ -192,7 +192,7 @@ module _ (name : Name) (params : List (Name × Kind)) (max : ℤ × Span) (cost 
   predicate-is : (def : PredicateDef) → TypesPredicate name params max cost formula def → command_def ≡ Ok def
   predicate-is def (made columns most price body each is costs typed) =
       past-cost columns most price each is costs
-      ∙ ap (λ r. (r >>= number_among (span_of formula)) >>= λ b. well (def_of columns most price b))
+      ∙ ap (λ r. (r >>= as_number (span_of formula)) >>= λ b. well (def_of columns most price b))
       ((typed_by_rules (parameter_in columns) formula (Number body)).1 typed)
 
   predicate-refused : (fault : BindFault) → command_def ≡ Err fault → RefusedPredicate params max cost formula fault
@@ -213,7 +213,7 @@ module _ (name : Name) (params : List (Name × Kind)) (max : ℤ × Span) (cost 
         → behind_cost columns most price ≡ Err fault → RefusedPredicate params max cost formula fault
     in_body columns most price each is costs k =
         elim (Err-steps (formula_in columns formula) (λ body. well (def_of columns most price body)) fault k) [
-          | inl refuses ↦ elim (Err-steps (type_of (parameter_in columns) formula) (number_among (span_of formula)) fault refuses) [
+          | inl refuses ↦ elim (Err-steps (type_of (parameter_in columns) formula) (as_number (span_of formula)) fault refuses) [
             | inl untyped ↦ in_formula columns most price fault each is costs ((refused_by_rules (parameter_in columns) formula fault).0 untyped)
             | inr typed ↦ (let wrong = refused-no-number (span_of formula) typed.0 fault typed.2 in
                 subst (RefusedPredicate params max cost formula) wrong.1
@@ -230,10 +230,10 @@ module _ (name : Name) (params : List (Name × Kind)) (max : ℤ × Span) (cost 
       past-max columns most each is ∙ ap (λ r. r >>= behind_cost columns most) (cost-is_refused cost f refused)
   predicate-is_refused fault (in_formula columns most price f each is costs refused) =
       past-cost columns most price each is costs
-      ∙ ap (λ r. (r >>= number_among (span_of formula)) >>= λ b. well (def_of columns most price b)) ((refused_by_rules (parameter_in columns) formula f).1 refused)
+      ∙ ap (λ r. (r >>= as_number (span_of formula)) >>= λ b. well (def_of columns most price b)) ((refused_by_rules (parameter_in columns) formula f).1 refused)
   predicate-is_refused fault (no_number columns most price t each is costs typed is_none) =
       past-cost columns most price each is costs
-      ∙ (ap (λ r. (r >>= number_among (span_of formula)) >>= λ b. well (def_of columns most price b)) ((typed_by_rules (parameter_in columns) formula t).1 typed)
+      ∙ (ap (λ r. (r >>= as_number (span_of formula)) >>= λ b. well (def_of columns most price b)) ((typed_by_rules (parameter_in columns) formula t).1 typed)
       ∙ ap (λ r. r >>= λ b. well (def_of columns most price b)) (no-number-refused (span_of formula) t is_none))
 
   pub predicates_by_rules : (def : PredicateDef) → (command_def ≡ Ok def) ↔ TypesPredicate name params max cost formula def
@@ -254,27 +254,27 @@ module _ (catalogue : Catalogue) (name table predicate : Name) (args : List Arg)
   behind_predicate t p = own_args t p >>= λ bound. well (index_of t p bound)
 
   abbrev behind_table : ℕ → Result IndexDef BindFault
-  behind_table t = or_fault (At NoPredicate predicate.at) (number_of what.Predicate predicate.text catalogue) >>= behind_predicate t
+  behind_table t = or_fault (At NoPredicate predicate.at) (number_named what.Predicate predicate.text catalogue) >>= behind_predicate t
 
   abbrev command_index : Result IndexDef BindFault
   command_index = index_def_of catalogue (CreateRankIndex name table predicate args at)
 
   index-typed : (def : IndexDef) → command_index ≡ Ok def → TypesIndex catalogue name table predicate args def
   index-typed def h =
-      let first = Ok-steps (or_fault (At NoTable table.at) (number_of what.Table table.text catalogue)) behind_table def h in
-      let second = Ok-steps (or_fault (At NoPredicate predicate.at) (number_of what.Predicate predicate.text catalogue)) (behind_predicate first.0) def first.2 in
+      let first = Ok-steps (or_fault (At NoTable table.at) (number_named what.Table table.text catalogue)) behind_table def h in
+      let second = Ok-steps (or_fault (At NoPredicate predicate.at) (number_named what.Predicate predicate.text catalogue)) (behind_predicate first.0) def first.2 in
       let third = Ok-steps (own_args first.0 second.0) (λ bound. well (index_of first.0 second.0 bound)) def second.2 in
       subst (TypesIndex catalogue name table predicate args) (same_Ok (index_of first.0 second.0 third.0) def third.2) (record {
         is_named_so = refl;
-        is_table = Ok-or_fault (At NoTable table.at) (number_of what.Table table.text catalogue) first.0 first.1;
-        is_predicate = Ok-or_fault (At NoPredicate predicate.at) (number_of what.Predicate predicate.text catalogue) second.0 second.1;
+        is_table = Ok-or_fault (At NoTable table.at) (number_named what.Table table.text catalogue) first.0 first.1;
+        is_predicate = Ok-or_fault (At NoPredicate predicate.at) (number_named what.Predicate predicate.text catalogue) second.0 second.1;
         are_args = term_args-typed (index_columns catalogue table first.0) (params_in catalogue second.0) args at third.0 third.1;
       })
 
-  past-table : (t : ℕ) → number_of what.Table table.text catalogue ≡ Some t → command_index ≡ behind_table t
+  past-table : (t : ℕ) → number_named what.Table table.text catalogue ≡ Some t → command_index ≡ behind_table t
   past-table t is = ap (λ o. or_fault (At NoTable table.at) o >>= behind_table) is
 
-  past-predicate : (t p : ℕ) → number_of what.Table table.text catalogue ≡ Some t → number_of what.Predicate predicate.text catalogue ≡ Some p
+  past-predicate : (t p : ℕ) → number_named what.Table table.text catalogue ≡ Some t → number_named what.Predicate predicate.text catalogue ≡ Some p
       → command_index ≡ behind_predicate t p
   past-predicate t p is has = past-table t is ∙ ap (λ o. or_fault (At NoPredicate predicate.at) o >>= behind_predicate t) has
 
@@ -286,16 +286,16 @@ module _ (catalogue : Catalogue) (name table predicate : Name) (args : List Arg)
       ∙ ap (λ n. well (record { name = n; table = def.table; predicate = def.predicate; args = def.args })) (sym t.is_named_so))
 
   index-refused : (fault : BindFault) → command_index ≡ Err fault → RefusedIndex catalogue table predicate args at fault
-  index-refused fault h = elim (Err-steps (or_fault (At NoTable table.at) (number_of what.Table table.text catalogue)) behind_table fault h) [
-    | inl refuses ↦ (let missing = Err-or_fault (At NoTable table.at) fault (number_of what.Table table.text catalogue) refuses in
+  index-refused fault h = elim (Err-steps (or_fault (At NoTable table.at) (number_named what.Table table.text catalogue)) behind_table fault h) [
+    | inl refuses ↦ (let missing = Err-or_fault (At NoTable table.at) fault (number_named what.Table table.text catalogue) refuses in
         subst (RefusedIndex catalogue table predicate args at) missing.1 (no_table missing.0))
-    | inr first ↦ elim (Err-steps (or_fault (At NoPredicate predicate.at) (number_of what.Predicate predicate.text catalogue)) (behind_predicate first.0) fault first.2) [
-      | inl refuses ↦ (let missing = Err-or_fault (At NoPredicate predicate.at) fault (number_of what.Predicate predicate.text catalogue) refuses in
+    | inr first ↦ elim (Err-steps (or_fault (At NoPredicate predicate.at) (number_named what.Predicate predicate.text catalogue)) (behind_predicate first.0) fault first.2) [
+      | inl refuses ↦ (let missing = Err-or_fault (At NoPredicate predicate.at) fault (number_named what.Predicate predicate.text catalogue) refuses in
           subst (RefusedIndex catalogue table predicate args at) missing.1
-          (no_predicate first.0 (Ok-or_fault (At NoTable table.at) (number_of what.Table table.text catalogue) first.0 first.1) missing.0))
+          (no_predicate first.0 (Ok-or_fault (At NoTable table.at) (number_named what.Table table.text catalogue) first.0 first.1) missing.0))
       | inr second ↦ elim (Err-steps (own_args first.0 second.0) (λ bound. well (index_of first.0 second.0 bound)) fault second.2) [
-        | inl refuses ↦ in_args first.0 second.0 fault (Ok-or_fault (At NoTable table.at) (number_of what.Table table.text catalogue) first.0 first.1)
-            (Ok-or_fault (At NoPredicate predicate.at) (number_of what.Predicate predicate.text catalogue) second.0 second.1)
+        | inl refuses ↦ in_args first.0 second.0 fault (Ok-or_fault (At NoTable table.at) (number_named what.Table table.text catalogue) first.0 first.1)
+            (Ok-or_fault (At NoPredicate predicate.at) (number_named what.Predicate predicate.text catalogue) second.0 second.1)
             (term_args-refused (index_columns catalogue table first.0) (params_in catalogue second.0) args at fault refuses)
         | inr third ↦ cc
       ]
@@ -317,9 +317,9 @@ module _ (catalogue : Catalogue) (name table predicate : Name) (args : List Arg)
   indexes_refused_by_rules fault = (λ h. index-refused fault h, λ h. index-is_refused fault h)
 
 -- the number in FETCH
-pub counts_by_rules : (count : ℤ × Span) (n : ℕ) → (count_of count ≡ Ok n) ↔ IsWithin 0 1000000 count.0 n
-counts_by_rules count n = (λ h. within-typed 0 1000000 count n h, λ h. within-is 0 1000000 count n h)
+pub counts_by_rules : (count : ℤ × Span) (n : ℕ) → (count_of count ≡ Ok n) ↔ IsWithin 0 most_rows count.0 n
+counts_by_rules count n = (λ h. within-typed 0 most_rows count n h, λ h. within-is 0 most_rows count n h)
 
-pub counts_refused_by_rules : (count : ℤ × Span) (fault : BindFault) → (count_of count ≡ Err fault) ↔ (IsOutside 0 1000000 count.0 × (At LimitOf count.1 ≡ fault))
+pub counts_refused_by_rules : (count : ℤ × Span) (fault : BindFault) → (count_of count ≡ Err fault) ↔ (IsOutside 0 most_rows count.0 × (At LimitOf count.1 ≡ fault))
 counts_refused_by_rules count fault =
-    (λ h. outside-refused 0 1000000 count fault h, λ h. outside-is 0 1000000 count h.0 ∙ ap (λ f. Err f) h.1)
+    (λ h. outside-refused 0 most_rows count fault h, λ h. outside-is 0 most_rows count h.0 ∙ ap (λ f. Err f) h.1)

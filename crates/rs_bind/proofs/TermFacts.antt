@@ -10,21 +10,21 @@ use Rattle.rs_syntax.specs.declared.name.Arg.{Arg}
 use Rattle.rs_syntax.specs.declared.name.Arg.TheVariants as arg
 use Rattle.rs_syntax.specs.declared.name.ColRef.{ColRef}
 use Rattle.rs_syntax.specs.declared.select.TermSyn.{TermSyn}
-use Rattle.rs_table.specs.Reading.{◌>>=◌}
+use Rattle.rs_value.specs.Results.{◌>>=◌}
 use Rattle.rs_expr.specs.Predicates.{PredicateDef}
 use Rattle.rs_expr.specs.Uses.{is_kind}
-use Rattle.rs_catalog.specs.Catalogue.{Catalogue, number_of}
+use Rattle.rs_catalog.specs.Catalogue.{Catalogue, number_named}
 use Rattle.rs_catalog.specs.declared.index.BoundArg.{BoundArg}
 use Rattle.rs_catalog.specs.declared.index.BoundArg.TheVariants as bound
 use Rattle.rs_catalog.specs.declared.room.What.TheVariants as what
 use Rattle.rs_query.specs.declared.block.Block.{Block}
 use Rattle.rs_query.specs.declared.term.Term.{Term}
-use Rattle.rs_query.specs.WellFormed.{AreArgs, IsArg, IsLimit, IsTerm, columns_of, entries_of}
+use Rattle.rs_query.specs.WellFormed.{AreArgs, IsArg, IsLimit, IsTerm, argument_columns, entries_mask}
 use Rattle.rs_bind.specs.declared.fault.BindFault.TheVariants.{At}
 use Rattle.rs_bind.specs.declared.fault.Why.TheVariants.{ConstantTerm, DistinctNeedsOutput, LimitOf, NoPredicate, WrongCount, WrongKind}
 use Rattle.rs_bind.specs.Indexes.{Entries, arg_of, args_of, is_column, of_kind, params_in, term_args}
 use Rattle.rs_bind.specs.Names.{number_in, or_fault}
-use Rattle.rs_bind.specs.Queries.{are_outputs, as_argument, block_columns, limit_of, max_in, terms_behind, terms_of}
+use Rattle.rs_bind.specs.Queries.{are_outputs, as_argument, block_columns, bound_limit, max_in, most_rows, most_weight, terms_behind, terms_of}
 use Rattle.rs_bind.specs.Sources.{Found, column_in, sources_of}
 use Rattle.rs_bind.specs.Typing.{span_of_column}
 use Rattle.rs_syntax.specs.Written.{AreWrittenArgs, IsWrittenArg, IsWrittenTerm}
@@ -41,12 +41,12 @@ number_in-within least most (pos m, at) n h =
     subst (λ k. (least ≤ k) × (k ≤ most)) same (grind (arith, nat_tests, test.0), grind (arith, nat_tests, test.0))
 number_in-within least most (negsuc m, at) n h = cc
 
-pub IsLimit-limit_of : (limit : Option (ℤ × Span)) (made : Option ℕ) → limit_of limit ≡ Ok made → IsLimit made
+pub IsLimit-limit_of : (limit : Option (ℤ × Span)) (made : Option ℕ) → bound_limit limit ≡ Ok made → IsLimit made
 IsLimit-limit_of None made h = let same : None ≡ made = cc in subst IsLimit same tt
 IsLimit-limit_of (Some limit) made h =
-    let steps = Ok-steps (number_in 0 1000000 limit) (λ n. Ok (Some n)) made h in
+    let steps = Ok-steps (number_in 0 most_rows limit) (λ n. Ok (Some n)) made h in
     let same : Some steps.0 ≡ made = cc in
-    subst IsLimit same (number_in-within 0 1000000 limit steps.0 steps.1).1
+    subst IsLimit same (number_in-within 0 most_rows limit steps.0 steps.1).1
 
 pub same-kind : (wanted own : Kind) → is_kind wanted (Some own) ≡ true → own ≡ wanted
 same-kind kind.Int kind.Int h = refl
@@ -72,11 +72,11 @@ AreArguments-block catalogue block c found h =
 -- the term of this weight, predicate and arguments
 abbrev pub term_with : Catalogue → ℕ → ℕ → List BoundArg → Term
 term_with catalogue weight predicate args =
-    record { weight = weight; predicate = predicate; args = args; max = max_in catalogue predicate; entries = entries_of (columns_of args) }
+    record { weight = weight; predicate = predicate; args = args; max = max_in catalogue predicate; entries = entries_mask (argument_columns args) }
 
 -- where output columns are needed, the columns of an argument are such
 pub record AreNeeded (needed : Option (List Found)) (term : Term) : Type 0 where
-  pub outputs : are_outputs needed (columns_of term.args) ≡ true
+  pub outputs : are_outputs needed (argument_columns term.args) ≡ true
 
 -- what the first one of some terms is made of
 pub record IsMade (catalogue : Catalogue) (entries : Entries) (needed : Option (List Found)) (before : ℕ) (term : TermSyn) (rest : List TermSyn) (made : List Term) : Type 0 where
@@ -85,31 +85,31 @@ pub record IsMade (catalogue : Catalogue) (entries : Entries) (needed : Option (
   pub args : List BoundArg
   pub more : List Term
   pub past : (before == 8) ≡ false
-  pub is_weight : number_in 1 1000000 term.weight ≡ Ok weight
-  pub is_predicate : number_of what.Predicate term.predicate.text catalogue ≡ Some predicate
+  pub is_weight : number_in 1 most_weight term.weight ≡ Ok weight
+  pub is_predicate : number_named what.Predicate term.predicate.text catalogue ≡ Some predicate
   pub is_args : term_args entries (params_in catalogue predicate) term.args term.at ≡ Ok args
-  pub outputs : are_outputs needed (columns_of args) ≡ true
+  pub outputs : are_outputs needed (argument_columns args) ≡ true
   pub is_more : terms_behind catalogue entries needed (suc before) rest ≡ Ok more
   pub is : term_with catalogue weight predicate args ∷ more ≡ made
 
 pub IsMade-terms : (catalogue : Catalogue) (entries : Entries) (needed : Option (List Found)) (before : ℕ) (term : TermSyn) (rest : List TermSyn) (made : List Term)
     → terms_behind catalogue entries needed before (term ∷ rest) ≡ Ok made → IsMade catalogue entries needed before term rest made
 IsMade-terms catalogue entries needed before term rest made h =
-    let weight = number_in 1 1000000 term.weight in
+    let weight = number_in 1 most_weight term.weight in
     let no_predicate = At NoPredicate term.predicate.at in
-    let number = number_of what.Predicate term.predicate.text catalogue in
+    let number = number_named what.Predicate term.predicate.text catalogue in
     let needs = At DistinctNeedsOutput term.at in
     let behind = terms_behind catalogue entries needed (suc before) rest in
     let of_args = λ (w p : ℕ) (args : List BoundArg) (more : List Term). well (term_with catalogue w p args ∷ more) in
-    let after_args = λ (w p : ℕ) (args : List BoundArg). (if are_outputs needed (columns_of args) then behind else Err needs) >>= of_args w p args in
+    let after_args = λ (w p : ℕ) (args : List BoundArg). (if are_outputs needed (argument_columns args) then behind else Err needs) >>= of_args w p args in
     let after_predicate = λ (w p : ℕ). term_args entries (params_in catalogue p) term.args term.at >>= after_args w p in
     let after_weight = λ (w : ℕ). or_fault no_predicate number >>= after_predicate w in
     let past = Ok-else (before == 8) (weight >>= after_weight) (At LimitOf term.at) made h in
     let first = Ok-steps weight after_weight made past.1 in
     let second = Ok-steps (or_fault no_predicate number) (after_predicate first.0) made first.2 in
     let third = Ok-steps (term_args entries (params_in catalogue second.0) term.args term.at) (after_args first.0 second.0) made second.2 in
-    let fourth = Ok-steps (if are_outputs needed (columns_of third.0) then behind else Err needs) (of_args first.0 second.0 third.0) made third.2 in
-    let test = Ok-test (are_outputs needed (columns_of third.0)) behind needs fourth.0 fourth.1 in
+    let fourth = Ok-steps (if are_outputs needed (argument_columns third.0) then behind else Err needs) (of_args first.0 second.0 third.0) made third.2 in
+    let test = Ok-test (are_outputs needed (argument_columns third.0)) behind needs fourth.0 fourth.1 in
     let same = same_Ok (term_with catalogue first.0 second.0 third.0 ∷ fourth.0) made fourth.2 in
     record {
       weight = first.0;
@@ -153,7 +153,7 @@ module _ (catalogue : Catalogue) (block : Block) (entries : Entries) (are : AreA
       subst (AreArgs catalogue block (wanted ∷ kinds)) same
       (arg-fits wanted a first.0 written.0 first.1, args-fit kinds args rest.0 written.1 (omega (arith, many)) rest.1)
 
-  some-column : (args : List BoundArg) → list_any is_column args ≡ true → 1 ≤ length (columns_of args)
+  some-column : (args : List BoundArg) → list_any is_column args ≡ true → 1 ≤ length (argument_columns args)
   some-column [] h = cc
   some-column (bound.Column entry column ∷ args) h = omega arith
   some-column (bound.Int n ∷ args) h = some-column args h
@@ -162,7 +162,7 @@ module _ (catalogue : Catalogue) (block : Block) (entries : Entries) (are : AreA
   -- the arguments of a term
   record AreTermArgs (kinds : List Kind) (made : List BoundArg) : Type 0 where
     fit : AreArgs catalogue block kinds made
-    some : 1 ≤ length (columns_of made)
+    some : 1 ≤ length (argument_columns made)
 
   term_args-fit : (kinds : List Kind) (args : List Arg) (at : Span) (made : List BoundArg) → AreWrittenArgs args → term_args entries kinds args at ≡ Ok made
       → AreTermArgs kinds made
@@ -176,14 +176,14 @@ module _ (catalogue : Catalogue) (block : Block) (entries : Entries) (are : AreA
       subst (AreTermArgs kinds) same (record { fit = args-fit kinds args steps.0 written many steps.1; some = some-column steps.0 test.0 })
 
   -- a term of such arguments
-  term-fits : (weight : ℤ × Span) (name : List ℕ) (w p : ℕ) (made : List BoundArg) → number_in 1 1000000 weight ≡ Ok w
-      → number_of what.Predicate name catalogue ≡ Some p → AreTermArgs (params_in catalogue p) made
+  term-fits : (weight : ℤ × Span) (name : List ℕ) (w p : ℕ) (made : List BoundArg) → number_in 1 most_weight weight ≡ Ok w
+      → number_named what.Predicate name catalogue ≡ Some p → AreTermArgs (params_in catalogue p) made
       → IsTerm catalogue block (term_with catalogue w p made)
   term-fits weight name w p made is_weight is_predicate fits =
       let called = slice_get-numbered (λ p. p.name) catalogue.predicates name p is_predicate in
       let is_params : params_in catalogue p ≡ called.0.params = ap (λ o. unwrap_or (option_map (λ (q : PredicateDef). q.params) o) []) called.1 in
       let is_max : max_in catalogue p ≡ called.0.max = ap (λ o. unwrap_or (option_map (λ (q : PredicateDef). q.max) o) 0) called.1 in
-      let within = number_in-within 1 1000000 weight w is_weight in
+      let within = number_in-within 1 most_weight weight w is_weight in
       record {
         predicate = called.0;
         has_predicate = called.1;

@@ -6,18 +6,18 @@ use Rattle.std.proofs.lemmas.List.{drop_more, length_push}
 use Rattle.rs_value.specs.Answer.{Gives}
 use Rattle.rs_syntax.specs.declared.select.TermSyn.{TermSyn}
 use Rattle.rs_table.specs.Appended.{appended}
-use Rattle.rs_table.specs.Reading.{◌>>=◌}
-use Rattle.rs_catalog.specs.Catalogue.{Catalogue, number_of}
+use Rattle.rs_value.specs.Results.{◌>>=◌}
+use Rattle.rs_catalog.specs.Catalogue.{Catalogue, number_named}
 use Rattle.rs_catalog.specs.declared.index.BoundArg.{BoundArg}
 use Rattle.rs_catalog.specs.declared.room.What.TheVariants as what
-use Rattle.rs_query.specs.WellFormed.{columns_of, entries_of}
+use Rattle.rs_query.specs.WellFormed.{argument_columns, entries_mask}
 use Rattle.rs_query.specs.declared.term.Term.{Term}
 use Rattle.rs_bind.specs.declared.fault.BindFault.{BindFault}
 use Rattle.rs_bind.specs.declared.fault.BindFault.TheVariants.{At, Memory}
-use Rattle.rs_bind.specs.declared.fault.Why.TheVariants.{DistinctNeedsOutput, LimitOf, NoPredicate}
+use Rattle.rs_bind.specs.declared.fault.Why.TheVariants.{DistinctNeedsOutput, NoPredicate}
 use Rattle.rs_bind.specs.Indexes.{Entries, params_in, term_args}
 use Rattle.rs_bind.specs.Names.{number_in, or_fault}
-use Rattle.rs_bind.specs.Queries.{are_outputs, max_in, terms_behind, terms_of}
+use Rattle.rs_bind.specs.Queries.{are_outputs, max_in, most_weight, terms_behind, terms_of}
 use Rattle.rs_bind.specs.Sources.{Found}
 use Rattle.rs_bind.specs.Terms.{term_of}
 
@@ -68,18 +68,12 @@ module _ (catalogue : Catalogue) (entries : Entries) (needed : Option (List Foun
     predicate = predicate;
     args = args;
     max = max_in catalogue predicate;
-    entries = entries_of (columns_of args);
+    entries = entries_mask (argument_columns args);
   }
 
   -- what is left behind terms that were bound
   abbrev pub terms_left : List Term → List TermSyn → Result (List Term) BindFault
   terms_left made left = appended made (terms_behind catalogue entries needed (length made) left)
-
-  -- no more terms may stand there
-  left-full : (made : List Term) (t : TermSyn) (rest : List TermSyn) → length made ≡ 8 → terms_left made (t ∷ rest) ≡ Err (At LimitOf t.at)
-  left-full made t rest full =
-      let test : (length made == 8) ≡ true = grind (arith, nat_tests) in
-      rw test refl
 
   -- a term that may stand there, and then the others
   behind-next : (before : ℕ) (t : TermSyn) (rest : List TermSyn) → before ≢ 8
@@ -88,9 +82,9 @@ module _ (catalogue : Catalogue) (entries : Entries) (needed : Option (List Foun
   behind-next before t rest room =
       let test : (before == 8) ≡ false = grind (arith, nat_tests) in
       rw test
-      (steps-weight (λ predicate. term_args entries (params_in catalogue predicate) t.args t.at) (λ args. are_outputs needed (columns_of args))
-      (At DistinctNeedsOutput t.at) term_with (terms_behind catalogue entries needed (suc before) rest) (number_in 1 1000000 t.weight)
-      (or_fault (At NoPredicate t.predicate.at) (number_of what.Predicate t.predicate.text catalogue)))
+      (steps-weight (λ predicate. term_args entries (params_in catalogue predicate) t.args t.at) (λ args. are_outputs needed (argument_columns args))
+      (At DistinctNeedsOutput t.at) term_with (terms_behind catalogue entries needed (suc before) rest) (number_in 1 most_weight t.weight)
+      (or_fault (At NoPredicate t.predicate.at) (number_named what.Predicate t.predicate.text catalogue)))
 
   -- a term that is refused
   left-refused : (made : List Term) (t : TermSyn) (rest : List TermSyn) (fault : BindFault) → length made ≢ 8
@@ -115,10 +109,6 @@ module _ (catalogue : Catalogue) (entries : Entries) (needed : Option (List Foun
     read-item : i < length terms → t ≡ slice_index_or terms i t → terms_left made (drop i terms) ≡ terms_of catalogue entries needed terms
         → terms_left made (t ∷ drop (i + 1) terms) ≡ terms_of catalogue entries needed terms
     read-item within is so_far = ap (terms_left made) (sym (drop-item terms i t within is)) ∙ so_far
-
-    pub terms-full : i < length terms → t ≡ slice_index_or terms i t → terms_left made (drop i terms) ≡ terms_of catalogue entries needed terms
-        → length made ≡ 8 → Err (At LimitOf t.at) ≡ terms_of catalogue entries needed terms
-    terms-full within is so_far full = sym (left-full made t (drop (i + 1) terms) full) ∙ read-item within is so_far
 
     terms-refused : (fault : BindFault) → i < length terms → t ≡ slice_index_or terms i t
         → terms_left made (drop i terms) ≡ terms_of catalogue entries needed terms → length made ≢ 8

@@ -1,13 +1,12 @@
 -- What an expression is, where its parts are known, and what holds of it.
-use Rattle.std.proofs.Common.{◌≡◌, Bool, true, false, ◌&&◌, List, [], ◌∷◌, refl, sym, subst, inl, inr}
+use Rattle.std.proofs.Common.{◌≡◌, Bool, true, false, ◌&&◌, List, [], ◌∷◌, refl, ap, ◌∙◌, sym, subst, inl, inr}
 use Rattle.std.specs.Prelude.{ℤ, Option, Some, None, Result, Ok, Err, IfOk, is_some, if◌then◌else◌}
 use Rattle.std.specs.List.{AllByRecursion}
 use Rattle.rs_value.specs.Answer.{Gives}
+use Rattle.rs_value.specs.Results.{◌>>=◌}
 use Rattle.rs_lex.specs.declared.token.Span.{Span}
-use Rattle.rs_syntax.specs.declared.node.Node.{Node}
-use Rattle.rs_syntax.specs.declared.node.Op.{Op}
 use Rattle.rs_syntax.specs.declared.node.Op.TheVariants.{Add, Sub, Mul, Div}
-use Rattle.rs_syntax.specs.Syntax.{Expression, Neg, Arith, Abs, Least, Greatest, Case, Compare, And, Or, Not, expression_of}
+use Rattle.rs_syntax.specs.Syntax.{Expression, Neg, Arith, Abs, Least, Greatest, Case, Compare, And, Or, Not}
 use Rattle.rs_expr.specs.Formulas.{Formula, Negated, Sum, Difference, Product, Quotient, Magnitude, Numbers, Texts, Both, Either}
 use Rattle.rs_expr.specs.Formulas as formula
 use Rattle.rs_expr.specs.Widths.{is_narrow, width_of}
@@ -15,62 +14,54 @@ use Rattle.rs_bind.specs.declared.fault.BindFault.{BindFault}
 use Rattle.rs_bind.specs.declared.fault.BindFault.TheVariants.{At, Memory}
 use Rattle.rs_bind.specs.declared.fault.Why.TheVariants.{TooWide}
 use Rattle.rs_bind.specs.declared.typed.Typed.{Typed as TypedParts}
-use Rattle.rs_bind.specs.Typing.{Scope, Typed, Number, Words, Truth, divisor_of, has_width, narrow, one, pair_of, quotient, quotient_by, rule, span_of, three, two, type_of}
+use Rattle.rs_bind.specs.Typing.{Scope, Typed, Number, Words, Truth, divisor_of, has_width, narrow, pair_of, parts_of, quotient, quotient_by, rule, span_of, type_of}
 use Rattle.rs_bind.specs.Views.{result_map, typed_of}
+use Rattle.rs_bind.proofs.RuleFacts.{type_of-parts, types_of}
 
--- what a node is, is what the same node is
-pub Gives-at : (scope : Scope) (n m : Node) (t : Typed) → n ≡ m → Gives Memory (type_of scope (expression_of n)) (Ok t)
-    → Gives Memory (type_of scope (expression_of m)) (Ok t)
-Gives-at scope n m t same h = subst (λ (k : Node). Gives Memory (type_of scope (expression_of k)) (Ok t)) same h
+-- what parts are, where they are known
+parts-one : (scope : Scope) (x : Expression) (t : Typed) → Gives Memory (type_of scope x) (Ok t) → types_of scope (x ∷ []) ≡ Ok (t ∷ [])
+parts-one scope x t (inl e) = ap (λ r. r >>= λ u. Ok (u ∷ [])) (sym e)
+parts-one scope x t (inr e) = cc
 
-pub Gives-pair_at : (scope : Scope) (n m n' m' : Node) (t u : Typed) → n ≡ m → n' ≡ m'
-    → Gives Memory (pair_of (type_of scope (expression_of n)) (type_of scope (expression_of n'))) (Ok (t, u))
-    → Gives Memory (pair_of (type_of scope (expression_of m)) (type_of scope (expression_of m'))) (Ok (t, u))
-Gives-pair_at scope n m n' m' t u same same' h =
-    subst (λ (k : Node). Gives Memory (pair_of (type_of scope (expression_of m)) (type_of scope (expression_of k))) (Ok (t, u))) same'
-    (subst (λ (k : Node). Gives Memory (pair_of (type_of scope (expression_of k)) (type_of scope (expression_of n'))) (Ok (t, u))) same h)
+parts-two : (scope : Scope) (x y : Expression) (t u : Typed) → Gives Memory (pair_of (type_of scope x) (type_of scope y)) (Ok (t, u))
+    → types_of scope (x ∷ y ∷ []) ≡ Ok (t ∷ u ∷ [])
+parts-two scope x y t u h = go (type_of scope x) (type_of scope y) h where
+  go : (first second : Result Typed BindFault) → Gives Memory (pair_of first second) (Ok (t, u))
+      → (first >>= λ a. (second >>= λ b. Ok (b ∷ [])) >>= λ bs. Ok (a ∷ bs)) ≡ Ok (t ∷ u ∷ [])
+  go (Ok a) (Ok b) (inl e) = let same : (a, b) ≡ (t, u) = cc in ap (λ (p : Typed × Typed). Ok (p.0 ∷ p.1 ∷ [])) same
+  go (Ok a) (Ok b) (inr e) = cc
+  go (Ok a) (Err fault) (inl e) = cc
+  go (Ok a) (Err fault) (inr e) = cc
+  go (Err fault) second (inl e) = cc
+  go (Err fault) second (inr e) = cc
 
--- what the rule of arithmetic gives beside a right part, it gives beside the same one
-pub Gives-right_at : (scope : Scope) (op : Op) (x : Expression) (n m : Node) (at : Span) (parts : List Typed) (r : Result Typed BindFault) → n ≡ m
-    → Gives Memory (rule scope (Arith op x (expression_of n) at) parts) r → Gives Memory (rule scope (Arith op x (expression_of m) at) parts) r
-Gives-right_at scope op x n m at parts r same h = subst (λ (k : Node). Gives Memory (rule scope (Arith op x (expression_of k) at) parts) r) same h
+-- an expression whose parts are known is what its rule says of them
+Gives-by_parts : (scope : Scope) (x : Expression) (xs : List Expression) (ts : List Typed) (r : Result Typed BindFault) → parts_of x ≡ xs
+    → types_of scope xs ≡ Ok ts → Gives Memory (rule scope x ts) r → Gives Memory (type_of scope x) r
+Gives-by_parts scope x xs ts r are known given =
+    let typed : types_of scope (parts_of x) ≡ Ok ts = ap (types_of scope) are ∙ known in
+    let is : type_of scope x ≡ rule scope x ts = type_of-parts scope x ∙ ap (λ made. made >>= rule scope x) typed in
+    subst (λ made. Gives Memory made r) (sym is) given
 
--- an expression of one part, which is this
-pub Gives-one : (scope : Scope) (x : Expression) (first : Result Typed BindFault) (t : Typed) (r : Result Typed BindFault)
-    → Gives Memory first (Ok t) → Gives Memory (rule scope x (t ∷ [])) r → Gives Memory (one scope x first) r
-Gives-one scope x (Ok a) t r (inl e) h = let same : t ≡ a = cc in subst (λ b. Gives Memory (rule scope x (b ∷ [])) r) same h
-Gives-one scope x (Ok a) t r (inr e) h = cc
-Gives-one scope x (Err fault) t r (inl e) h = cc
-Gives-one scope x (Err fault) t r (inr e) h = cc
+pub Gives-one : (scope : Scope) (x part : Expression) (t : Typed) (r : Result Typed BindFault) → parts_of x ≡ part ∷ []
+    → Gives Memory (type_of scope part) (Ok t) → Gives Memory (rule scope x (t ∷ [])) r → Gives Memory (type_of scope x) r
+Gives-one scope x part t r are h given = Gives-by_parts scope x (part ∷ []) (t ∷ []) r are (parts-one scope part t h) given
 
--- an expression of two parts, which are these
-pub Gives-two : (scope : Scope) (x : Expression) (first second : Result Typed BindFault) (t u : Typed) (r : Result Typed BindFault)
-    → Gives Memory (pair_of first second) (Ok (t, u)) → Gives Memory (rule scope x (t ∷ u ∷ [])) r → Gives Memory (two scope x first second) r
-Gives-two scope x (Ok a) (Ok b) t u r (inl e) h =
-    let same : (t, u) ≡ (a, b) = cc in
-    subst (λ (p : Typed × Typed). Gives Memory (rule scope x (p.0 ∷ p.1 ∷ [])) r) same h
-Gives-two scope x (Ok a) (Ok b) t u r (inr e) h = cc
-Gives-two scope x (Ok a) (Err fault) t u r (inl e) h = cc
-Gives-two scope x (Ok a) (Err fault) t u r (inr e) h = cc
-Gives-two scope x (Err fault) second t u r (inl e) h = cc
-Gives-two scope x (Err fault) second t u r (inr e) h = cc
+pub Gives-two : (scope : Scope) (x first second : Expression) (t u : Typed) (r : Result Typed BindFault) → parts_of x ≡ first ∷ second ∷ []
+    → Gives Memory (pair_of (type_of scope first) (type_of scope second)) (Ok (t, u)) → Gives Memory (rule scope x (t ∷ u ∷ [])) r
+    → Gives Memory (type_of scope x) r
+Gives-two scope x first second t u r are h given =
+    Gives-by_parts scope x (first ∷ second ∷ []) (t ∷ u ∷ []) r are (parts-two scope first second t u h) given
 
--- an expression of three parts, which are these
-pub Gives-three : (scope : Scope) (x : Expression) (first second third : Result Typed BindFault) (t u v : Typed) (r : Result Typed BindFault)
-    → Gives Memory first (Ok t) → Gives Memory (pair_of second third) (Ok (u, v)) → Gives Memory (rule scope x (t ∷ u ∷ v ∷ [])) r
-    → Gives Memory (three scope x first second third) r
-Gives-three scope x (Ok a) (Ok b) (Ok c) t u v r (inl e) (inl e') h =
-    let same : t ≡ a = cc in
-    let same' : (u, v) ≡ (b, c) = cc in
-    subst (λ (p : Typed × Typed). Gives Memory (rule scope x (a ∷ p.0 ∷ p.1 ∷ [])) r) same' (subst (λ a'. Gives Memory (rule scope x (a' ∷ u ∷ v ∷ [])) r) same h)
-Gives-three scope x (Ok a) (Ok b) (Ok c) t u v r (inl e) (inr e') h = cc
-Gives-three scope x (Ok a) (Ok b) (Err fault) t u v r (inl e) (inl e') h = cc
-Gives-three scope x (Ok a) (Ok b) (Err fault) t u v r (inl e) (inr e') h = cc
-Gives-three scope x (Ok a) (Err fault) third t u v r (inl e) (inl e') h = cc
-Gives-three scope x (Ok a) (Err fault) third t u v r (inl e) (inr e') h = cc
-Gives-three scope x (Ok a) second third t u v r (inr e) g h = cc
-Gives-three scope x (Err fault) second third t u v r (inl e) g h = cc
-Gives-three scope x (Err fault) second third t u v r (inr e) g h = cc
+pub Gives-three : (scope : Scope) (x first second third : Expression) (t u v : Typed) (r : Result Typed BindFault) → parts_of x ≡ first ∷ second ∷ third ∷ []
+    → Gives Memory (type_of scope first) (Ok t) → Gives Memory (pair_of (type_of scope second) (type_of scope third)) (Ok (u, v))
+    → Gives Memory (rule scope x (t ∷ u ∷ v ∷ [])) r → Gives Memory (type_of scope x) r
+Gives-three scope x first second third t u v r are (inl e) h given =
+    let known : types_of scope (first ∷ second ∷ third ∷ []) ≡ Ok (t ∷ u ∷ v ∷ []) =
+    ap (λ made. made >>= λ a. types_of scope (second ∷ third ∷ []) >>= λ more. Ok (a ∷ more)) (sym e)
+    ∙ ap (λ made. made >>= λ more. Ok (t ∷ more)) (parts-two scope second third u v h) in
+    Gives-by_parts scope x (first ∷ second ∷ third ∷ []) (t ∷ u ∷ v ∷ []) r are known given
+Gives-three scope x first second third t u v r are (inr e) h given = cc
 
 -- both tests hold
 both : (a b : Bool) → a ≡ true → b ≡ true → (a && b) ≡ true

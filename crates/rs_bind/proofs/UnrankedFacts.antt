@@ -1,10 +1,10 @@
 -- The output columns of a block are columns of its entries, and have names.
 use Rattle.std.proofs.Common.{ℕ, suc, ◌≡◌, ◌+◌, ◌-◌, ◌<◌, ◌≤◌, Bool, true, false, List, [], ◌∷◌, ◌++◌, length, refl, sym, ap, subst, ◌∙◌, arith, inl, inr}
-use Rattle.std.specs.Prelude.{◌==◌, ◌&&◌, Option, Some, None, option_map, nat_le, slice_get, Result, Ok, Err, if◌then◌else◌}
+use Rattle.std.specs.Prelude.{◌==◌, ◌&&◌, Option, Some, None, nat_le, slice_get, Result, Ok, Err, if◌then◌else◌}
 use Rattle.std.specs.List.{AllByRecursion, list_all, zip}
 use Rattle.std.proofs.lemmas.Bool.{and_right}
 use Rattle.std.proofs.lemmas.List.{length-map}
-use Rattle.std.proofs.lemmas.Option.{slice_get-map, slice_get_within}
+use Rattle.std.proofs.lemmas.Option.{slice_get_within}
 use Rattle.rs_value.specs.Answer.{Gives}
 use Rattle.rs_value.specs.declared.kind.Kind.{Kind}
 use Rattle.rs_lex.specs.declared.token.Span.{Span}
@@ -12,14 +12,14 @@ use Rattle.rs_syntax.specs.declared.name.ColRef.{ColRef}
 use Rattle.rs_syntax.specs.declared.select.Items.{Items}
 use Rattle.rs_syntax.specs.declared.select.Items.TheVariants as items
 use Rattle.rs_table.specs.Column.{Column}
-use Rattle.rs_table.specs.Reading.{◌>>=◌}
+use Rattle.rs_value.specs.Results.{◌>>=◌}
 use Rattle.rs_expr.specs.Uses.{is_kind}
 use Rattle.rs_catalog.specs.Catalogue.{Catalogue}
 use Rattle.rs_bind.specs.declared.fault.BindFault.{BindFault}
 use Rattle.rs_bind.specs.declared.fault.BindFault.TheVariants.{At, Memory}
 use Rattle.rs_bind.specs.declared.fault.Why.TheVariants.{LimitOf}
 use Rattle.rs_bind.specs.Indexes.{columns_in}
-use Rattle.rs_bind.specs.Queries.{Unranked, agree, name_of, names_of}
+use Rattle.rs_bind.specs.Queries.{Unranked, agree, name_of, output_names}
 use Rattle.rs_bind.specs.Sources.{Found, Source, all_columns_from, column_in, columns_from, items_behind, items_of, matches_from, most_items, sources_of, the_only}
 use Rattle.rs_bind.specs.Terms.{IsEntryItem, IsItemOf}
 use Rattle.rs_bind.specs.Typing.{span_of_column}
@@ -131,16 +131,6 @@ items-entries catalogue from made few all = All-weaker (IsItemOf (sources_of cat
   entry_of : (item : Found) → IsItemOf (sources_of catalogue from) item → IsEntryItem item
   entry_of item h = (h.0, omega (arith, count, few, slice_get_within (sources_of catalogue from) (item.0.0 - 1) h.1.0 h.1.1))
 
--- the table of a column, and the name of the column there
-pub name_of-column : (catalogue : Catalogue) (block : Unranked) (column : ℕ × ℕ) (entry : ℕ × List ℕ) (named : Column)
-    → slice_get block.from (column.0 - 1) ≡ Some entry → slice_get (columns_in catalogue entry.0) column.1 ≡ Some named
-    → name_of catalogue block column ≡ named.0
-name_of-column catalogue block column entry named is_entry is_named =
-    let source : slice_get (sources_of catalogue block.from) (column.0 - 1) ≡ Some (entry.1, columns_in catalogue entry.0) =
-    slice_get-map (λ (e : ℕ × List ℕ). (e.1, columns_in catalogue e.0)) block.from (column.0 - 1)
-    ∙ ap (option_map (λ (e : ℕ × List ℕ). (e.1, columns_in catalogue e.0))) is_entry in
-    rw (source, is_named) refl
-
 -- output columns agree where there are as many, and they agree pair by pair
 pub agree-pairs : (left right : List Found) → length left ≡ length right
     → list_all (λ pair. is_kind pair.0.1 (Some pair.1.1)) (zip left right) ≡ agree left right
@@ -168,8 +158,8 @@ agree-same_length (a ∷ left) [] h = cc
 agree-same_length (a ∷ left) (b ∷ right) h = ap suc (agree-same_length left right (both (is_kind a.1 (Some b.1)) (agree left right) h))
 
 -- the names of the left output columns are no more than the right output columns
-pub names_of-few : (catalogue : Catalogue) (left : Unranked) (names : List (List ℕ)) (right : List Found) → names ≡ names_of catalogue left
+pub output_names-few : (catalogue : Catalogue) (left : Unranked) (names : List (List ℕ)) (right : List Found) → names ≡ output_names catalogue left
     → agree left.items right ≡ true → length names ≤ length right
-names_of-few catalogue left names right same h =
-    let count : length (names_of catalogue left) ≡ length left.items = length-map left.items (λ (item : Found). name_of catalogue left item.0) in
+output_names-few catalogue left names right same h =
+    let count : length (output_names catalogue left) ≡ length left.items = length-map left.items (λ (item : Found). name_of catalogue left item.0) in
     omega (arith, ap length same, count, agree-same_length left.items right h)

@@ -13,7 +13,7 @@ use Rattle.rs_syntax.specs.declared.node.Op.TheVariants.{Add, Sub, Mul, Div}
 use Rattle.rs_syntax.specs.Syntax.{Expression, Int, Text, Column, Neg, Arith, Abs, Least, Greatest, Case, Compare, And, Or, Not}
 use Rattle.rs_table.specs.Column as table
 use Rattle.rs_table.specs.Column.{is_named}
-use Rattle.rs_table.specs.Reading.{◌>>=◌}
+use Rattle.rs_value.specs.Results.{◌>>=◌}
 use Rattle.rs_expr.specs.Formulas.{Formula, Argument, Constant, Negated, Sum, Difference, Product, Quotient, Magnitude, Numbers, Texts, Both, Either}
 use Rattle.rs_expr.specs.Formulas.{formula_of}
 use Rattle.rs_expr.specs.Formulas as formula
@@ -26,7 +26,7 @@ use Rattle.rs_bind.specs.declared.fault.BindFault.TheVariants.{At, Memory}
 use Rattle.rs_bind.specs.declared.fault.Why.TheVariants.{NoColumn, TooWide}
 use Rattle.rs_bind.specs.Names.{or_fault}
 use Rattle.rs_bind.specs.Predicates.{parameter_in, parameter_of, placed, placed_from}
-use Rattle.rs_bind.specs.Typing.{Scope, Typed, Number, Words, Truth, argument, divisor_of, narrow, number_of, one, quotient, quotient_by, rule, span_of, span_of_column, three, two, type_of}
+use Rattle.rs_bind.specs.Typing.{Scope, Typed, Number, Words, Truth, argument, divisor_of, narrow, as_number, one, quotient, quotient_by, rule, span_of, span_of_column, three, two, type_of}
 use Rattle.rs_bind.specs.Views.{result_map}
 
 both : (a b : Bool) → a ≡ true → b ≡ true → (a && b) ≡ true
@@ -191,7 +191,7 @@ formula-uses columns x f e = type_of-uses (has_parameter (kinds_of columns)) (pa
 
 -- the same of a formula that was made
 pub IfOk-uses : (columns : List table.Column) (x : Expression) (at : Span) (t : Typed) (r : Result Expr BindFault)
-    → Gives Memory (type_of (parameter_in columns) x) (Ok t) → result_map formula_of r ≡ number_of at t
+    → Gives Memory (type_of (parameter_in columns) x) (Ok t) → result_map formula_of r ≡ as_number at t
     → IfOk r (λ made. uses (has_parameter (kinds_of columns)) (formula_of made) ≡ true)
 IfOk-uses columns x at (Number f) (Ok made) (inl is) e =
     let same : formula_of made ≡ f = cc in

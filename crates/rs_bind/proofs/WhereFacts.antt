@@ -7,12 +7,12 @@ use Rattle.rs_syntax.specs.Syntax.{Expression}
 use Rattle.rs_expr.specs.Formulas.{Condition}
 use Rattle.rs_catalog.specs.Catalogue.{Catalogue}
 use Rattle.rs_query.specs.Conjuncts.{ConjunctDef}
-use Rattle.rs_query.specs.Meaning.{cell_of, conjunct_holds}
+use Rattle.rs_query.specs.Meaning.{column_value, conjunct_holds}
 use Rattle.rs_query.specs.declared.block.Block.{Block}
 use Rattle.rs_query.specs.declared.term.Term.{Term}
 use Rattle.rs_bind.specs.BlockRules.{TypesBlock, TypesFilter}
 use Rattle.rs_bind.specs.BlockRules as rules_of
-use Rattle.rs_bind.specs.Conditions.{conjuncts_of, named_columns, own_places, parts_of, places_in}
+use Rattle.rs_bind.specs.Conditions.{conjuncts_of, named_columns, own_places, parts_of_and, places_in}
 use Rattle.rs_bind.specs.Queries.{Unranked, with_terms}
 use Rattle.rs_bind.specs.Rules.{Types}
 use Rattle.rs_bind.specs.Sources.{Source, sources_of}
@@ -25,11 +25,11 @@ use Rattle.rs_bind.proofs.RuleFacts.{typed_by_rules}
 
 -- the conjuncts of WHERE are those of its parts
 filter-parts : (sources : List Source) (filter : Option Expression) (made : List ConjunctDef) → TypesFilter sources filter made → (x : Expression)
-    → filter ≡ Some x → conjuncts_of sources (parts_of x) ≡ Ok made
+    → filter ≡ Some x → conjuncts_of sources (parts_of_and x) ≡ Ok made
 filter-parts sources filter made rules_of.no_filter x e = absurd (cc)
 filter-parts sources filter made (rules_of.condition y c conjuncts typed few each) x e =
     let same : y ≡ x = cc in
-    subst (λ z. conjuncts_of sources (parts_of z) ≡ Ok made) same (conjuncts-are sources each)
+    subst (λ z. conjuncts_of sources (parts_of_and z) ≡ Ok made) same (conjuncts-are sources each)
 
 module _ (catalogue : Catalogue) (block : Block) (rows : List ℕ) where
   abbrev all_hold : List ConjunctDef → Type 0
@@ -39,10 +39,10 @@ module _ (catalogue : Catalogue) (block : Block) (rows : List ℕ) where
   sources = sources_of catalogue block.from
 
   -- the conjuncts of WHERE hold where it does, whatever the columns over which it is typed
-  parts-hold : (x : Expression) (made : List ConjunctDef) (columns : List (ℕ × ℕ)) (c : Condition) → conjuncts_of sources (parts_of x) ≡ Ok made
+  parts-hold : (x : Expression) (made : List ConjunctDef) (columns : List (ℕ × ℕ)) (c : Condition) → conjuncts_of sources (parts_of_and x) ≡ Ok made
       → Types (places_in columns sources) x (Truth c) → list_all (conjunct_holds catalogue block rows) made ≡ holds_of catalogue block rows columns c
   parts-hold x made columns c are typed =
-      let have = HaveConjuncts-typed sources (cell_of catalogue block rows) columns x c ((typed_by_rules (places_in columns sources) x (Truth c)).1 typed) in
+      let have = HaveConjuncts-typed sources (column_value catalogue block rows) columns x c ((typed_by_rules (places_in columns sources) x (Truth c)).1 typed) in
       let same : have.made ≡ made = same_Ok have.made made (sym have.are ∙ are) in
       ap (list_all (conjunct_holds catalogue block rows)) (sym same) ∙ have.hold
 

@@ -11,7 +11,7 @@ use Rattle.rs_syntax.specs.declared.name.ColRef.{ColRef}
 use Rattle.rs_syntax.specs.declared.name.Name.{Name}
 use Rattle.rs_syntax.specs.declared.node.Op.TheVariants.{Add}
 use Rattle.rs_syntax.specs.declared.select.Items.TheVariants as items
-use Rattle.rs_syntax.specs.declared.select.SetOp.TheVariants.{Union}
+use Rattle.rs_value.specs.declared.set_op.SetOp.TheVariants.{Union}
 use Rattle.rs_syntax.specs.declared.select.TermSyn.{TermSyn}
 use Rattle.rs_syntax.specs.Syntax.{And, Arith, Compare, Column, Int, Query}
 use Rattle.rs_table.specs.Column as table

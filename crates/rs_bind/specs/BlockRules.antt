@@ -10,18 +10,18 @@ use Rattle.rs_syntax.specs.declared.select.Items.TheVariants as items
 use Rattle.rs_syntax.specs.Syntax as syntax
 use Rattle.rs_syntax.specs.Syntax.{Expression}
 use Rattle.rs_expr.specs.Formulas.{Condition}
-use Rattle.rs_catalog.specs.Catalogue.{Catalogue, number_of}
+use Rattle.rs_catalog.specs.Catalogue.{Catalogue, number_named}
 use Rattle.rs_catalog.specs.declared.room.What.TheVariants as what
 use Rattle.rs_query.specs.Conjuncts.{ConjunctDef}
-use Rattle.rs_query.specs.WellFormed.{entries_of, equality_of}
+use Rattle.rs_query.specs.WellFormed.{entries_mask, equality_of}
 use Rattle.rs_bind.specs.declared.fault.BindFault.{BindFault}
 use Rattle.rs_bind.specs.declared.fault.BindFault.TheVariants.{At}
 use Rattle.rs_bind.specs.declared.fault.Why.TheVariants.{LimitOf, NameTwice, NoTable, WrongKind}
-use Rattle.rs_bind.specs.Conditions.{named_columns, own_places, parts_of}
+use Rattle.rs_bind.specs.Conditions.{most_conjuncts, named_columns, own_places, parts_of_and}
 use Rattle.rs_bind.specs.InOrder.{Each, FirstRefused}
 use Rattle.rs_bind.specs.Queries.{Unranked}
 use Rattle.rs_bind.specs.Rules.{Refused, Types}
-use Rattle.rs_bind.specs.Sources.{Found, Source, alias_of, all_columns_from, column_in, sources_of}
+use Rattle.rs_bind.specs.Sources.{Found, Source, alias_of, all_columns_from, column_in, most_entries, most_items, sources_of}
 use Rattle.rs_bind.specs.Typing.{Typed, Number, Words, Truth, span_of, span_of_column}
 
 -- a FROM entry as it is written, and as the number of its table with its alias
@@ -41,15 +41,15 @@ is_free alias before = list_any (λ (entry : Entry). bytes_eq entry.1 alias) bef
 module _ (catalogue : Catalogue) where
   -- at most six entries, each of a table that is there, with an alias that no entry before it has
   pub record TypesEntry (before : List Entry) (entry : FromEntry) (bound : Entry) : Type 0 where
-    pub room : length before ≢ 6
-    pub table : number_of what.Table entry.0.text catalogue ≡ Some bound.0
+    pub room : length before ≢ most_entries
+    pub table : number_named what.Table entry.0.text catalogue ≡ Some bound.0
     pub alias : bound.1 ≡ (alias_of entry).text
     pub free : is_free bound.1 before
 
   pub data RefusedEntry (before : List Entry) (entry : FromEntry) : BindFault → Type 0 where
-    too_many : length before ≡ 6 → RefusedEntry before entry (At LimitOf entry.0.at)
-    no_table : length before ≢ 6 → number_of what.Table entry.0.text catalogue ≡ None → RefusedEntry before entry (At NoTable entry.0.at)
-    twice : (table : ℕ) → length before ≢ 6 → number_of what.Table entry.0.text catalogue ≡ Some table → is_taken (alias_of entry).text before
+    too_many : length before ≡ most_entries → RefusedEntry before entry (At LimitOf entry.0.at)
+    no_table : length before ≢ most_entries → number_named what.Table entry.0.text catalogue ≡ None → RefusedEntry before entry (At NoTable entry.0.at)
+    twice : (table : ℕ) → length before ≢ most_entries → number_named what.Table entry.0.text catalogue ≡ Some table → is_taken (alias_of entry).text before
         → RefusedEntry before entry (At NameTwice (alias_of entry).at)
 
 -- something that is no truth value
@@ -64,39 +64,39 @@ module _ (sources : List Source) where
   pub record TypesConjunct (x : Expression) (made : ConjunctDef) : Type 0 where
     pub condition : Types (own_places sources x) x (Truth made.condition)
     pub columns : made.columns ≡ named_columns sources x
-    pub entries : made.entries ≡ entries_of made.columns
+    pub entries : made.entries ≡ entries_mask made.columns
     pub equality : made.equality ≡ equality_of made.condition made.columns
 
   -- WHERE: a truth value of at most 32 parts, which AND joins at its top; each part is a conjunct
   pub data TypesFilter : Option Expression → List ConjunctDef → Type 0 where
     no_filter : TypesFilter None []
-    condition : (x : Expression) (c : Condition) (made : List ConjunctDef) → Types (own_places sources x) x (Truth c) → length (parts_of x) ≤ 32
-        → Each (λ before. TypesConjunct) [] (parts_of x) made → TypesFilter (Some x) made
+    condition : (x : Expression) (c : Condition) (made : List ConjunctDef) → Types (own_places sources x) x (Truth c) → length (parts_of_and x) ≤ most_conjuncts
+        → Each (λ before. TypesConjunct) [] (parts_of_and x) made → TypesFilter (Some x) made
 
   pub data RefusedFilter : Option Expression → BindFault → Type 0 where
     in_condition : (x : Expression) (fault : BindFault) → Refused (own_places sources x) x fault → RefusedFilter (Some x) fault
     no_truth : (x : Expression) (t : Typed) → Types (own_places sources x) x t → IsNoTruth t → RefusedFilter (Some x) (At WrongKind (span_of x))
     -- the 33rd part
-    too_many : (x part : Expression) (c : Condition) → Types (own_places sources x) x (Truth c) → slice_get (parts_of x) 32 ≡ Some part
+    too_many : (x part : Expression) (c : Condition) → Types (own_places sources x) x (Truth c) → slice_get (parts_of_and x) most_conjuncts ≡ Some part
         → RefusedFilter (Some x) (At LimitOf (span_of part))
 
 module _ (sources : List Source) where
   -- at most 384 output columns, each one column of the entries
   pub record TypesItem (before : List Found) (c : ColRef) (found : Found) : Type 0 where
-    pub room : length before ≢ 384
+    pub room : length before ≢ most_items
     pub column : column_in sources c ≡ Ok found
 
   pub data RefusedItem (before : List Found) (c : ColRef) : BindFault → Type 0 where
-    too_many : length before ≡ 384 → RefusedItem before c (At LimitOf (span_of_column c))
-    no_column : (fault : BindFault) → length before ≢ 384 → column_in sources c ≡ Err fault → RefusedItem before c fault
+    too_many : length before ≡ most_items → RefusedItem before c (At LimitOf (span_of_column c))
+    no_column : (fault : BindFault) → length before ≢ most_items → column_in sources c ≡ Err fault → RefusedItem before c fault
 
   -- the output columns; `*` stands for all columns of all entries, in their order
   pub data TypesItems : Items → List Found → Type 0 where
-    star : (at : Span) → length (all_columns_from 1 sources) ≤ 384 → TypesItems (items.Star at) (all_columns_from 1 sources)
+    star : (at : Span) → length (all_columns_from 1 sources) ≤ most_items → TypesItems (items.Star at) (all_columns_from 1 sources)
     listed : (columns : List ColRef) (found : List Found) → Each TypesItem [] columns found → TypesItems (items.List columns) found
 
   pub data RefusedItems : Items → BindFault → Type 0 where
-    too_many : (at : Span) → 384 < length (all_columns_from 1 sources) → RefusedItems (items.Star at) (At LimitOf at)
+    too_many : (at : Span) → most_items < length (all_columns_from 1 sources) → RefusedItems (items.Star at) (At LimitOf at)
     in_list : (columns : List ColRef) (fault : BindFault) → FirstRefused TypesItem RefusedItem [] columns fault → RefusedItems (items.List columns) fault
 
 module _ (catalogue : Catalogue) where

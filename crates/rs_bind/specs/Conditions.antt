@@ -3,16 +3,16 @@ use Rattle.std.specs.Prelude.{ℕ, List, [], ◌∷◌, ◌++◌, drop, position
 use Rattle.std.specs.List.{list_any}
 use Rattle.rs_syntax.specs.declared.name.ColRef.{ColRef}
 use Rattle.rs_syntax.specs.Syntax.{Expression, Int, Text, Column, Neg, Arith, Abs, Least, Greatest, Case, Compare, And, Or, Not}
-use Rattle.rs_table.specs.Reading.{◌>>=◌}
+use Rattle.rs_value.specs.Results.{◌>>=◌}
 use Rattle.rs_expr.specs.Formulas.{Condition}
 use Rattle.rs_query.specs.Conjuncts.{ConjunctDef}
-use Rattle.rs_query.specs.WellFormed.{entries_of, equality_of, same_column}
+use Rattle.rs_query.specs.WellFormed.{entries_mask, equality_of, same_column}
 use Rattle.rs_bind.specs.declared.fault.BindFault.{BindFault}
 use Rattle.rs_bind.specs.declared.fault.BindFault.TheVariants.{At}
 use Rattle.rs_bind.specs.declared.fault.Why.TheVariants.{LimitOf, NoColumn}
 use Rattle.rs_bind.specs.Names.{or_fault}
 use Rattle.rs_bind.specs.Sources.{Found, Source, column_in}
-use Rattle.rs_bind.specs.Typing.{Scope, span_of, span_of_column, truth_of, type_of}
+use Rattle.rs_bind.specs.Typing.{Scope, span_of, span_of_column, as_truth, type_of}
 
 -- the references in an expression, from left to right
 abbrev pub references_of : Expression → List ColRef
@@ -61,12 +61,12 @@ own_places sources x = places_in (named_columns sources x) sources
 
 -- a condition over some columns, which has to be a truth value
 abbrev pub condition_over : List (ℕ × ℕ) → List Source → Expression → Result Condition BindFault
-condition_over columns sources x = type_of (places_in columns sources) x >>= truth_of (span_of x)
+condition_over columns sources x = type_of (places_in columns sources) x >>= as_truth (span_of x)
 
 -- a condition over its columns as a conjunct
 abbrev pub conjunct_of : List (ℕ × ℕ) → Condition → ConjunctDef
 conjunct_of columns condition =
-    record { condition = condition; columns = columns; entries = entries_of columns; equality = equality_of condition columns }
+    record { condition = condition; columns = columns; entries = entries_mask columns; equality = equality_of condition columns }
 
 abbrev pub conjunct_in : List Source → Expression → Result ConjunctDef BindFault
 conjunct_in sources x = condition_over (named_columns sources x) sources x >>= λ c. Ok (conjunct_of (named_columns sources x) c)
@@ -80,9 +80,9 @@ conjuncts_of sources (x ∷ xs) = do
   Ok (first ∷ rest)
 
 -- the parts that AND joins at the top of an expression, from left to right
-abbrev pub parts_of : Expression → List Expression
-parts_of (And x y at) = parts_of x ++ parts_of y
-parts_of x = x ∷ []
+abbrev pub parts_of_and : Expression → List Expression
+parts_of_and (And x y at) = parts_of_and x ++ parts_of_and y
+parts_of_and x = x ∷ []
 
 -- the most conjuncts of a block
 abbrev pub most_conjuncts : ℕ
@@ -99,8 +99,8 @@ few_parts parts = of (drop most_conjuncts parts) where
 abbrev pub conjuncts_in : List Source → Expression → Result (List ConjunctDef) BindFault
 conjuncts_in sources x = do
   whole ← conjunct_in sources x
-  few ← few_parts (parts_of x)
-  conjuncts_of sources (parts_of x)
+  few ← few_parts (parts_of_and x)
+  conjuncts_of sources (parts_of_and x)
 
 abbrev pub filter_of : List Source → Option Expression → Result (List ConjunctDef) BindFault
 filter_of sources None = Ok []

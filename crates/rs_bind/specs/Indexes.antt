@@ -11,9 +11,9 @@ use Rattle.rs_syntax.specs.declared.name.Arg.{Arg}
 use Rattle.rs_syntax.specs.declared.name.Arg.TheVariants as arg
 use Rattle.rs_syntax.specs.Syntax.{Command, CreateRankIndex}
 use Rattle.rs_table.specs.Column.{Column}
-use Rattle.rs_table.specs.Reading.{◌>>=◌}
+use Rattle.rs_value.specs.Results.{◌>>=◌}
 use Rattle.rs_expr.specs.Uses.{is_kind}
-use Rattle.rs_catalog.specs.Catalogue.{Catalogue, number_of}
+use Rattle.rs_catalog.specs.Catalogue.{Catalogue, number_named}
 use Rattle.rs_catalog.specs.declared.room.What.TheVariants as what
 use Rattle.rs_catalog.specs.declared.index.BoundArg.{BoundArg}
 use Rattle.rs_catalog.specs.declared.index.BoundArg.TheVariants as bound
@@ -86,8 +86,8 @@ params_in catalogue predicate = unwrap_or (option_map (λ p. p.params) (slice_ge
 -- the table, then the predicate and its arguments, which are those of a term over the table under its own name
 abbrev pub index_def_of : Catalogue → Command → Result IndexDef BindFault
 index_def_of catalogue (CreateRankIndex name table predicate args at) = do
-  t ← or_fault (At NoTable table.at) (number_of what.Table table.text catalogue)
-  p ← or_fault (At NoPredicate predicate.at) (number_of what.Predicate predicate.text catalogue)
+  t ← or_fault (At NoTable table.at) (number_named what.Table table.text catalogue)
+  p ← or_fault (At NoPredicate predicate.at) (number_named what.Predicate predicate.text catalogue)
   made ← term_args (entry_column table.text (columns_in catalogue t)) (params_in catalogue p) args at
   Ok (record { name = name.text; table = t; predicate = p; args = made })
 index_def_of catalogue _ = Err Memory

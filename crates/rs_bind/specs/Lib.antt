@@ -8,7 +8,7 @@ pub mod Sources
 pub mod Conditions
 pub mod Queries
 pub mod Terms
-pub mod Limits
+pub mod Narrow
 pub mod InOrder
 pub mod ArgumentRules
 pub mod BlockRules

@@ -6,7 +6,7 @@ use Rattle.rs_value.specs.declared.kind.Kind.{Kind}
 use Rattle.rs_lex.specs.declared.token.Span.{Span}
 use Rattle.rs_syntax.specs.declared.name.Name.{Name}
 use Rattle.rs_table.specs.Column.{Column}
-use Rattle.rs_table.specs.Reading.{◌>>=◌}
+use Rattle.rs_value.specs.Results.{◌>>=◌}
 use Rattle.rs_bind.specs.declared.fault.BindFault.{BindFault}
 use Rattle.rs_bind.specs.declared.fault.BindFault.TheVariants.{At}
 use Rattle.rs_bind.specs.declared.fault.Why.TheVariants.{LimitOf, NameTwice}
@@ -29,9 +29,13 @@ named_behind most before (c ∷ rest) =
 abbrev pub named : ℕ → List (Name × Kind) → Result (List Column) BindFault
 named most columns = named_behind most [] columns
 
--- the columns of a table, at most 64
+-- the most columns of a table
+abbrev pub most_columns : ℕ
+most_columns = 64
+
+-- the columns of a table
 abbrev pub columns_of : List (Name × Kind) → Result (List Column) BindFault
-columns_of columns = named 64 columns
+columns_of columns = named most_columns columns
 
 -- a number from `least` to `most`
 abbrev pub number_in : ℕ → ℕ → ℤ × Span → Result ℕ BindFault

@@ -5,14 +5,14 @@ use Rattle.rs_lex.specs.declared.token.Span.{Span}
 use Rattle.rs_syntax.specs.declared.name.Name.{Name}
 use Rattle.rs_syntax.specs.Syntax.{Expression, Command, CreatePredicate}
 use Rattle.rs_table.specs.Column.{Column, is_named}
-use Rattle.rs_table.specs.Reading.{◌>>=◌}
+use Rattle.rs_value.specs.Results.{◌>>=◌}
 use Rattle.rs_expr.specs.Formulas.{Formula}
 use Rattle.rs_expr.specs.Predicates.{PredicateDef}
 use Rattle.rs_bind.specs.declared.fault.BindFault.{BindFault}
 use Rattle.rs_bind.specs.declared.fault.BindFault.TheVariants.{At, Memory}
 use Rattle.rs_bind.specs.declared.fault.Why.TheVariants.{NoColumn}
 use Rattle.rs_bind.specs.Names.{named, number_in, or_fault}
-use Rattle.rs_bind.specs.Typing.{Scope, number_of, span_of, span_of_column, type_of}
+use Rattle.rs_bind.specs.Typing.{Scope, as_number, span_of, span_of_column, type_of}
 
 -- the place of the first column of this name, and its kind
 abbrev pub placed_from : ℕ → List ℕ → List Column → Option (ℕ × Kind)
@@ -32,7 +32,7 @@ parameter_in params c = parameter_of params (span_of_column c) c.alias c.column.
 
 -- a formula has to be a number
 abbrev pub formula_in : List Column → Expression → Result Formula BindFault
-formula_in params x = type_of (parameter_in params) x >>= number_of (span_of x)
+formula_in params x = type_of (parameter_in params) x >>= as_number (span_of x)
 
 -- what a call costs; 1 where it isn't written
 abbrev pub cost_of : Option (ℤ × Span) → Result ℕ BindFault

@@ -7,17 +7,17 @@ use Rattle.rs_lex.specs.declared.token.Span.{Span}
 use Rattle.rs_syntax.specs.declared.name.Name.{Name}
 use Rattle.rs_syntax.specs.declared.select.Items.{Items}
 use Rattle.rs_syntax.specs.declared.select.Items.TheVariants as items
-use Rattle.rs_syntax.specs.declared.select.SetOp.{SetOp}
+use Rattle.rs_value.specs.declared.set_op.SetOp.{SetOp}
 use Rattle.rs_syntax.specs.declared.select.TermSyn.{TermSyn}
 use Rattle.rs_syntax.specs.Syntax as syntax
 use Rattle.rs_table.specs.Column.{Column}
-use Rattle.rs_table.specs.Reading.{◌>>=◌}
+use Rattle.rs_value.specs.Results.{◌>>=◌}
 use Rattle.rs_expr.specs.Uses.{is_kind}
-use Rattle.rs_catalog.specs.Catalogue.{Catalogue, number_of}
+use Rattle.rs_catalog.specs.Catalogue.{Catalogue, number_named}
 use Rattle.rs_catalog.specs.declared.index.BoundArg.{BoundArg}
 use Rattle.rs_catalog.specs.declared.index.BoundArg.TheVariants as bound
 use Rattle.rs_catalog.specs.declared.room.What.TheVariants as what
-use Rattle.rs_query.specs.WellFormed.{columns_of, entries_of as mask_of_columns, same_column}
+use Rattle.rs_query.specs.WellFormed.{argument_columns, entries_mask, same_column}
 use Rattle.rs_query.specs.declared.block.Block.{Block}
 use Rattle.rs_query.specs.declared.term.Term.{Term}
 use Rattle.rs_query.specs.declared.query.Query.{Query}
@@ -76,6 +76,10 @@ abbrev pub are_outputs : Option (List Found) → List (ℕ × ℕ) → Bool
 are_outputs None columns = true
 are_outputs (Some items) columns = list_all (λ (column : ℕ × ℕ). list_any (λ (item : Found). same_column column item.0) items) columns
 
+-- the greatest weight of a term
+abbrev pub most_weight : ℕ
+most_weight = 1000000
+
 -- terms behind so many: at each, from left to right, there may be no more than eight; then its weight, its predicate, its arguments, and whether its
 -- columns are output columns where they have to be
 abbrev pub terms_behind : Catalogue → Entries → Option (List Found) → ℕ → List TermSyn → Result (List Term) BindFault
@@ -83,26 +87,30 @@ terms_behind catalogue entries needed before [] = Ok []
 terms_behind catalogue entries needed before (term ∷ rest) =
     if before == 8 then Err (At LimitOf term.at)
     else (do
-      weight ← number_in 1 1000000 term.weight
-      predicate ← or_fault (At NoPredicate term.predicate.at) (number_of what.Predicate term.predicate.text catalogue)
+      weight ← number_in 1 most_weight term.weight
+      predicate ← or_fault (At NoPredicate term.predicate.at) (number_named what.Predicate term.predicate.text catalogue)
       args ← term_args entries (params_in catalogue predicate) term.args term.at
-      more ← (if are_outputs needed (columns_of args) then terms_behind catalogue entries needed (suc before) rest
+      more ← (if are_outputs needed (argument_columns args) then terms_behind catalogue entries needed (suc before) rest
           else Err (At DistinctNeedsOutput term.at))
       Ok (record {
         weight = weight;
         predicate = predicate;
         args = args;
         max = max_in catalogue predicate;
-        entries = mask_of_columns (columns_of args);
+        entries = entries_mask (argument_columns args);
       } ∷ more))
 
 abbrev pub terms_of : Catalogue → Entries → Option (List Found) → List TermSyn → Result (List Term) BindFault
 terms_of catalogue entries needed terms = terms_behind catalogue entries needed 0 terms
 
+-- the greatest number of rows that LIMIT or FETCH asks for
+abbrev pub most_rows : ℕ
+most_rows = 1000000
+
 -- the number in LIMIT, where it is written
-abbrev pub limit_of : Option (ℤ × Span) → Result (Option ℕ) BindFault
-limit_of None = Ok None
-limit_of (Some limit) = number_in 0 1000000 limit >>= λ n. Ok (Some n)
+abbrev pub bound_limit : Option (ℤ × Span) → Result (Option ℕ) BindFault
+bound_limit None = Ok None
+bound_limit (Some limit) = number_in 0 most_rows limit >>= λ n. Ok (Some n)
 
 -- the name of a column of a block
 abbrev pub name_of : Catalogue → Unranked → ℕ × ℕ → List ℕ
@@ -112,8 +120,8 @@ name_of catalogue block column = unwrap_or (option_map (λ (c : Column). c.0) (c
   column_at None = None
 
 -- what the output columns of the left block are called
-abbrev pub names_of : Catalogue → Unranked → List (List ℕ)
-names_of catalogue left = map (λ (item : Found). name_of catalogue left item.0) left.items
+abbrev pub output_names : Catalogue → Unranked → List (List ℕ)
+output_names catalogue left = map (λ (item : Found). name_of catalogue left item.0) left.items
 
 -- the output columns of this name, each as the item at its place
 abbrev pub called : List ℕ → List (List ℕ) → List Found → List Found
@@ -151,7 +159,7 @@ abbrev pub one_of : Catalogue → syntax.Query → Result Query BindFault
 one_of catalogue query = do
   block ← unranked_of catalogue query.left
   terms ← terms_of catalogue (block_columns (sources_of catalogue block.from)) (needed_by block) query.terms
-  limit ← limit_of query.limit
+  limit ← bound_limit query.limit
   Ok (One (with_terms block terms) limit)
 
 -- a query of two blocks: the left one, the right one, whether their output columns agree, the terms, and then LIMIT
@@ -159,11 +167,11 @@ abbrev pub set_of : Catalogue → syntax.Query → SetOp → syntax.Block → Re
 set_of catalogue query op second = do
   left ← unranked_of catalogue query.left
   right ← unranked_of catalogue second
-  terms ← (if agree left.items right.items then terms_of catalogue (output_columns (names_of catalogue left) left.items) None query.terms
+  terms ← (if agree left.items right.items then terms_of catalogue (output_columns (output_names catalogue left) left.items) None query.terms
       else Err (At SetColumnsDiffer (first_item second.items)))
   -- the same terms over the output columns at the same places
-  others ← terms_of catalogue (output_columns (names_of catalogue left) right.items) None query.terms
-  limit ← limit_of query.limit
+  others ← terms_of catalogue (output_columns (output_names catalogue left) right.items) None query.terms
+  limit ← bound_limit query.limit
   Ok (Set op (with_terms left terms) (with_terms right others) limit)
 
 -- the query that a SELECT is
@@ -175,4 +183,4 @@ bound_query catalogue query = of query.right where
 
 -- the number in FETCH
 abbrev pub count_of : ℤ × Span → Result ℕ BindFault
-count_of count = number_in 0 1000000 count
+count_of count = number_in 0 most_rows count

@@ -1,13 +1,13 @@
 -- The rules of a query, as relations: what its terms, its LIMIT and the whole of it are, or with what they are refused.
 use Rattle.std.specs.Prelude.{ℕ, ℤ, ◌≡◌, ◌≢◌, true, false, List, [], length, Option, Some, None}
 use Rattle.rs_lex.specs.declared.token.Span.{Span}
-use Rattle.rs_syntax.specs.declared.select.SetOp.{SetOp}
+use Rattle.rs_value.specs.declared.set_op.SetOp.{SetOp}
 use Rattle.rs_syntax.specs.declared.select.TermSyn.{TermSyn}
 use Rattle.rs_syntax.specs.Syntax as syntax
-use Rattle.rs_catalog.specs.Catalogue.{Catalogue, number_of}
+use Rattle.rs_catalog.specs.Catalogue.{Catalogue, number_named}
 use Rattle.rs_catalog.specs.declared.index.BoundArg.{BoundArg}
 use Rattle.rs_catalog.specs.declared.room.What.TheVariants as what
-use Rattle.rs_query.specs.WellFormed.{columns_of, entries_of}
+use Rattle.rs_query.specs.WellFormed.{argument_columns, entries_mask}
 use Rattle.rs_query.specs.declared.query.Query.{Query}
 use Rattle.rs_query.specs.declared.query.Query.TheVariants.{One, Set}
 use Rattle.rs_query.specs.declared.term.Term.{Term}
@@ -18,37 +18,37 @@ use Rattle.rs_bind.specs.ArgumentRules.{IsOutside, IsWithin, RefusedArgs, TypesA
 use Rattle.rs_bind.specs.BlockRules.{RefusedBlock, TypesBlock}
 use Rattle.rs_bind.specs.Indexes.{Entries, params_in}
 use Rattle.rs_bind.specs.InOrder.{Each, FirstRefused}
-use Rattle.rs_bind.specs.Queries.{Unranked, agree, are_outputs, block_columns, first_item, max_in, names_of, needed_by, output_columns, with_terms}
+use Rattle.rs_bind.specs.Queries.{Unranked, agree, are_outputs, block_columns, first_item, max_in, most_rows, most_weight, output_names, needed_by, output_columns, with_terms}
 use Rattle.rs_bind.specs.Sources.{Found, sources_of}
 
 -- a term that there may be, whose weight lies in its limits and whose predicate has this number
 pub record HasPredicate (catalogue : Catalogue) (before : List Term) (term : TermSyn) (predicate : ℕ) : Type 0 where
   pub room : length before ≢ 8
   pub weight : ℕ
-  pub is_weight : IsWithin 1 1000000 term.weight.0 weight
-  pub is_predicate : number_of what.Predicate term.predicate.text catalogue ≡ Some predicate
+  pub is_weight : IsWithin 1 most_weight term.weight.0 weight
+  pub is_predicate : number_named what.Predicate term.predicate.text catalogue ≡ Some predicate
 
 module _ (catalogue : Catalogue) (entries : Entries) (needed : Option (List Found)) where
   -- at most eight terms, each of a weight in its limits and a predicate that is there, with arguments for it, of which each column is an output column where
   -- it has to be
   pub record TypesTerm (before : List Term) (term : TermSyn) (made : Term) : Type 0 where
     pub room : length before ≢ 8
-    pub weight : IsWithin 1 1000000 term.weight.0 made.weight
-    pub predicate : number_of what.Predicate term.predicate.text catalogue ≡ Some made.predicate
+    pub weight : IsWithin 1 most_weight term.weight.0 made.weight
+    pub predicate : number_named what.Predicate term.predicate.text catalogue ≡ Some made.predicate
     pub args : TypesArgs entries (params_in catalogue made.predicate) term.args made.args
-    pub outputs : are_outputs needed (columns_of made.args) ≡ true
+    pub outputs : are_outputs needed (argument_columns made.args) ≡ true
     pub max : made.max ≡ max_in catalogue made.predicate
-    pub entries_are : made.entries ≡ entries_of (columns_of made.args)
+    pub entries_are : made.entries ≡ entries_mask (argument_columns made.args)
 
   pub data RefusedTerm (before : List Term) (term : TermSyn) : BindFault → Type 0 where
     too_many : length before ≡ 8 → RefusedTerm before term (At LimitOf term.at)
-    wrong_weight : length before ≢ 8 → IsOutside 1 1000000 term.weight.0 → RefusedTerm before term (At LimitOf term.weight.1)
-    no_predicate : (n : ℕ) → length before ≢ 8 → IsWithin 1 1000000 term.weight.0 n → number_of what.Predicate term.predicate.text catalogue ≡ None
+    wrong_weight : length before ≢ 8 → IsOutside 1 most_weight term.weight.0 → RefusedTerm before term (At LimitOf term.weight.1)
+    no_predicate : (n : ℕ) → length before ≢ 8 → IsWithin 1 most_weight term.weight.0 n → number_named what.Predicate term.predicate.text catalogue ≡ None
         → RefusedTerm before term (At NoPredicate term.predicate.at)
     in_args : (predicate : ℕ) (fault : BindFault) → HasPredicate catalogue before term predicate
         → RefusedArgs entries (params_in catalogue predicate) term.args term.at fault → RefusedTerm before term fault
     no_output : (predicate : ℕ) (made : List BoundArg) → HasPredicate catalogue before term predicate
-        → TypesArgs entries (params_in catalogue predicate) term.args made → are_outputs needed (columns_of made) ≡ false
+        → TypesArgs entries (params_in catalogue predicate) term.args made → are_outputs needed (argument_columns made) ≡ false
         → RefusedTerm before term (At DistinctNeedsOutput term.at)
 
   -- the terms of a query
@@ -61,10 +61,10 @@ module _ (catalogue : Catalogue) (entries : Entries) (needed : Option (List Foun
 -- LIMIT, where it is written
 pub data TypesLimit : Option (ℤ × Span) → Option ℕ → Type 0 where
   no_limit : TypesLimit None None
-  within : (written : ℤ) (at : Span) (n : ℕ) → IsWithin 0 1000000 written n → TypesLimit (Some (written, at)) (Some n)
+  within : (written : ℤ) (at : Span) (n : ℕ) → IsWithin 0 most_rows written n → TypesLimit (Some (written, at)) (Some n)
 
 pub data RefusedLimit : Option (ℤ × Span) → BindFault → Type 0 where
-  outside : (written : ℤ) (at : Span) → IsOutside 0 1000000 written → RefusedLimit (Some (written, at)) (At LimitOf at)
+  outside : (written : ℤ) (at : Span) → IsOutside 0 most_rows written → RefusedLimit (Some (written, at)) (At LimitOf at)
 
 module _ (catalogue : Catalogue) where
   -- the columns that a term may name: those of the block; in a set query the output columns, by the names of those of the left block
@@ -72,7 +72,7 @@ module _ (catalogue : Catalogue) where
   columns_in block = block_columns (sources_of catalogue block.from)
 
   abbrev pub outputs_in : Unranked → Unranked → Entries
-  outputs_in left block = output_columns (names_of catalogue left) block.items
+  outputs_in left block = output_columns (output_names catalogue left) block.items
 
   -- a query of one block: the block, the terms, and then LIMIT; or one of two blocks: the left one, the right one, whose output columns agree with its own,
   -- the terms, and then LIMIT

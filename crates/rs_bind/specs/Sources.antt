@@ -1,5 +1,5 @@
 -- FROM: the tables of a block, the columns that a reference stands for, and the output columns.
-use Rattle.std.specs.Prelude.{ℕ, suc, nat_le, ◌==◌, List, [], ◌∷◌, ◌++◌, length, map, Option, Some, None, Result, Ok, Err, if◌then◌else◌}
+use Rattle.std.specs.Prelude.{ℕ, suc, ◌*◌, nat_le, ◌==◌, List, [], ◌∷◌, ◌++◌, length, map, Option, Some, None, Result, Ok, Err, if◌then◌else◌}
 use Rattle.std.specs.List.{list_any}
 use Rattle.std.specs.Str.{bytes_eq}
 use Rattle.rs_value.specs.declared.kind.Kind.{Kind}
@@ -9,14 +9,14 @@ use Rattle.rs_syntax.specs.declared.name.Name.{Name}
 use Rattle.rs_syntax.specs.declared.select.Items.{Items}
 use Rattle.rs_syntax.specs.declared.select.Items.TheVariants as items
 use Rattle.rs_table.specs.Column.{Column}
-use Rattle.rs_table.specs.Reading.{◌>>=◌}
-use Rattle.rs_catalog.specs.Catalogue.{Catalogue, number_of}
+use Rattle.rs_value.specs.Results.{◌>>=◌}
+use Rattle.rs_catalog.specs.Catalogue.{Catalogue, number_named}
 use Rattle.rs_catalog.specs.declared.room.What.TheVariants as what
 use Rattle.rs_bind.specs.declared.fault.BindFault.{BindFault}
 use Rattle.rs_bind.specs.declared.fault.BindFault.TheVariants.{At}
 use Rattle.rs_bind.specs.declared.fault.Why.TheVariants.{Ambiguous, LimitOf, NameTwice, NoColumn, NoTable}
 use Rattle.rs_bind.specs.Indexes.{columns_in, is_of_entry}
-use Rattle.rs_bind.specs.Names.{or_fault}
+use Rattle.rs_bind.specs.Names.{most_columns, or_fault}
 use Rattle.rs_bind.specs.Predicates.{placed}
 use Rattle.rs_bind.specs.Typing.{span_of_column}
 
@@ -27,14 +27,18 @@ alias_of entry = of entry.1 where
   of None = entry.0
   of (Some alias) = alias
 
+-- the most FROM entries of a block
+abbrev pub most_entries : ℕ
+most_entries = 6
+
 -- entries behind those of these aliases: at each, from left to right, there may be no more than six, its table has to be there, and its alias may not
 -- stand before
 abbrev pub entries_behind : Catalogue → List (List ℕ) → List (Name × Option Name) → Result (List (ℕ × List ℕ)) BindFault
 entries_behind catalogue before [] = Ok []
 entries_behind catalogue before (entry ∷ rest) =
-    if length before == 6 then Err (At LimitOf entry.0.at)
+    if length before == most_entries then Err (At LimitOf entry.0.at)
     else (do
-      table ← or_fault (At NoTable entry.0.at) (number_of what.Table entry.0.text catalogue)
+      table ← or_fault (At NoTable entry.0.at) (number_named what.Table entry.0.text catalogue)
       more ← (if list_any (λ alias. bytes_eq alias (alias_of entry).text) before then Err (At NameTwice (alias_of entry).at)
           else entries_behind catalogue ((alias_of entry).text ∷ before) rest)
       Ok ((table, (alias_of entry).text) ∷ more))
@@ -83,9 +87,13 @@ abbrev pub all_columns_from : ℕ → List Source → List Found
 all_columns_from entry [] = []
 all_columns_from entry (source ∷ rest) = columns_from entry 0 source.1 ++ all_columns_from (suc entry) rest
 
+-- the most columns that the entries of a block have
+abbrev pub most_block_columns : ℕ
+most_block_columns = most_entries * most_columns
+
 -- the most output columns of a block
 abbrev pub most_items : ℕ
-most_items = 384
+most_items = most_block_columns
 
 -- output columns behind so many: at each, from left to right, there may be no more, and then it has to be a column
 abbrev pub items_behind : List Source → ℕ → List ColRef → Result (List Found) BindFault

@@ -9,7 +9,7 @@ use Rattle.rs_syntax.specs.Syntax.{Expression}
 use Rattle.rs_table.specs.Column.{Column, is_named}
 use Rattle.rs_expr.specs.Formulas.{Formula}
 use Rattle.rs_expr.specs.Predicates.{PredicateDef}
-use Rattle.rs_catalog.specs.Catalogue.{Catalogue, number_of}
+use Rattle.rs_catalog.specs.Catalogue.{Catalogue, number_named}
 use Rattle.rs_catalog.specs.declared.index.IndexDef.{IndexDef}
 use Rattle.rs_catalog.specs.declared.room.What.TheVariants as what
 use Rattle.rs_bind.specs.declared.fault.BindFault.{BindFault}
@@ -77,13 +77,13 @@ module _ (catalogue : Catalogue) where
   -- a rank index: its table, its predicate, and then its arguments
   pub record TypesIndex (name table predicate : Name) (args : List Arg) (def : IndexDef) : Type 0 where
     pub is_named_so : def.name ≡ name.text
-    pub is_table : number_of what.Table table.text catalogue ≡ Some def.table
-    pub is_predicate : number_of what.Predicate predicate.text catalogue ≡ Some def.predicate
+    pub is_table : number_named what.Table table.text catalogue ≡ Some def.table
+    pub is_predicate : number_named what.Predicate predicate.text catalogue ≡ Some def.predicate
     pub are_args : TypesArgs (index_columns table def.table) (params_in catalogue def.predicate) args def.args
 
   pub data RefusedIndex (table predicate : Name) (args : List Arg) (at : Span) : BindFault → Type 0 where
-    no_table : number_of what.Table table.text catalogue ≡ None → RefusedIndex table predicate args at (At NoTable table.at)
-    no_predicate : (t : ℕ) → number_of what.Table table.text catalogue ≡ Some t → number_of what.Predicate predicate.text catalogue ≡ None
+    no_table : number_named what.Table table.text catalogue ≡ None → RefusedIndex table predicate args at (At NoTable table.at)
+    no_predicate : (t : ℕ) → number_named what.Table table.text catalogue ≡ Some t → number_named what.Predicate predicate.text catalogue ≡ None
         → RefusedIndex table predicate args at (At NoPredicate predicate.at)
-    in_args : (t p : ℕ) (fault : BindFault) → number_of what.Table table.text catalogue ≡ Some t → number_of what.Predicate predicate.text catalogue ≡ Some p
+    in_args : (t p : ℕ) (fault : BindFault) → number_named what.Table table.text catalogue ≡ Some t → number_named what.Predicate predicate.text catalogue ≡ Some p
         → RefusedArgs (index_columns table t) (params_in catalogue p) args at fault → RefusedIndex table predicate args at fault

@@ -2,33 +2,33 @@
 use Rattle.std.specs.Prelude.{ℕ, ◌≡◌, ◌≤◌, ◌<◌, ◌-◌, Bool, true, List, length, Option, Some, slice_get, Result, Ok, Err, if◌then◌else◌}
 use Rattle.std.specs.List.{list_any}
 use Rattle.rs_syntax.specs.declared.select.TermSyn.{TermSyn}
-use Rattle.rs_table.specs.Reading.{◌>>=◌}
-use Rattle.rs_catalog.specs.Catalogue.{Catalogue, number_of}
+use Rattle.rs_value.specs.Results.{◌>>=◌}
+use Rattle.rs_catalog.specs.Catalogue.{Catalogue, number_named}
 use Rattle.rs_catalog.specs.declared.index.BoundArg.{BoundArg}
 use Rattle.rs_catalog.specs.declared.index.BoundArg.TheVariants as bound
 use Rattle.rs_catalog.specs.declared.room.What.TheVariants as what
-use Rattle.rs_query.specs.WellFormed.{columns_of, entries_of as mask_of_columns, same_column}
+use Rattle.rs_query.specs.WellFormed.{argument_columns, entries_mask, same_column}
 use Rattle.rs_query.specs.declared.term.Term.{Term}
 use Rattle.rs_bind.specs.declared.fault.BindFault.{BindFault}
 use Rattle.rs_bind.specs.declared.fault.BindFault.TheVariants.{At}
 use Rattle.rs_bind.specs.declared.fault.Why.TheVariants.{DistinctNeedsOutput, NoPredicate}
 use Rattle.rs_bind.specs.Indexes.{Entries, params_in, term_args}
 use Rattle.rs_bind.specs.Names.{number_in, or_fault}
-use Rattle.rs_bind.specs.Queries.{are_outputs, max_in}
+use Rattle.rs_bind.specs.Queries.{are_outputs, max_in, most_weight}
 use Rattle.rs_bind.specs.Sources.{Found, Source}
 
 -- a term: its weight, its predicate, its arguments, and whether its columns are output columns where they have to be
 abbrev pub term_of : Catalogue → Entries → Option (List Found) → TermSyn → Result Term BindFault
 term_of catalogue entries needed term = do
-  weight ← number_in 1 1000000 term.weight
-  predicate ← or_fault (At NoPredicate term.predicate.at) (number_of what.Predicate term.predicate.text catalogue)
+  weight ← number_in 1 most_weight term.weight
+  predicate ← or_fault (At NoPredicate term.predicate.at) (number_named what.Predicate term.predicate.text catalogue)
   args ← term_args entries (params_in catalogue predicate) term.args term.at
-  if are_outputs needed (columns_of args) then Ok (record {
+  if are_outputs needed (argument_columns args) then Ok (record {
     weight = weight;
     predicate = predicate;
     args = args;
     max = max_in catalogue predicate;
-    entries = mask_of_columns (columns_of args);
+    entries = entries_mask (argument_columns args);
   }) else Err (At DistinctNeedsOutput term.at)
 
 -- where an argument is a column, it is one of these output columns

@@ -9,7 +9,7 @@ use Rattle.rs_syntax.specs.declared.name.Name.{Name}
 use Rattle.rs_syntax.specs.declared.node.Op.{Op}
 use Rattle.rs_syntax.specs.declared.node.Op.TheVariants.{Add, Sub, Mul, Div}
 use Rattle.rs_syntax.specs.Syntax.{Expression, Int, Text, Column, Neg, Arith, Abs, Least, Greatest, Case, Compare, And, Or, Not}
-use Rattle.rs_table.specs.Reading.{◌>>=◌}
+use Rattle.rs_value.specs.Results.{◌>>=◌}
 use Rattle.rs_expr.specs.Formulas.{Formula, Condition, Argument, Constant, Negated, Sum, Difference, Product, Quotient, Magnitude, Numbers, Texts, Both, Either}
 use Rattle.rs_expr.specs.Formulas as formula
 use Rattle.rs_expr.specs.Widths.{is_narrow, width_of}
@@ -75,31 +75,31 @@ parts_of (Or x y at) = x ∷ y ∷ []
 parts_of (Not x at) = x ∷ []
 
 -- a part that has to be a number, one that has to be a text, and one that has to be a truth value
-abbrev pub number_of : Span → Typed → Result Formula BindFault
-number_of at (Number f) = Ok f
-number_of at (Words side) = Err (At WrongKind at)
-number_of at (Truth c) = Err (At WrongKind at)
+abbrev pub as_number : Span → Typed → Result Formula BindFault
+as_number at (Number f) = Ok f
+as_number at (Words side) = Err (At WrongKind at)
+as_number at (Truth c) = Err (At WrongKind at)
 
-abbrev pub words_of : Span → Typed → Result TextSide BindFault
-words_of at (Number f) = Err (At WrongKind at)
-words_of at (Words side) = Ok side
-words_of at (Truth c) = Err (At WrongKind at)
+abbrev pub as_text : Span → Typed → Result TextSide BindFault
+as_text at (Number f) = Err (At WrongKind at)
+as_text at (Words side) = Ok side
+as_text at (Truth c) = Err (At WrongKind at)
 
-abbrev pub truth_of : Span → Typed → Result Condition BindFault
-truth_of at (Number f) = Err (At WrongKind at)
-truth_of at (Words side) = Err (At WrongKind at)
-truth_of at (Truth c) = Ok c
+abbrev pub as_truth : Span → Typed → Result Condition BindFault
+as_truth at (Number f) = Err (At WrongKind at)
+as_truth at (Words side) = Err (At WrongKind at)
+as_truth at (Truth c) = Ok c
 
 -- two things, the first one first
 abbrev pub pair_of : {A B : Type 0} → Result A BindFault → Result B BindFault → Result (A × B) BindFault
 pair_of first second = first >>= λ a. second >>= λ b. Ok (a, b)
 
 -- two parts that have to be such
-abbrev pub numbers_of : Span → Typed → Typed → Result (Formula × Formula) BindFault
-numbers_of at t u = pair_of (number_of at t) (number_of at u)
+abbrev pub as_numbers : Span → Typed → Typed → Result (Formula × Formula) BindFault
+as_numbers at t u = pair_of (as_number at t) (as_number at u)
 
-abbrev pub truths_of : Span → Typed → Typed → Result (Condition × Condition) BindFault
-truths_of at t u = pair_of (truth_of at t) (truth_of at u)
+abbrev pub as_truths : Span → Typed → Typed → Result (Condition × Condition) BindFault
+as_truths at t u = pair_of (as_truth at t) (as_truth at u)
 
 -- a formula as a number, where it isn't too wide
 abbrev pub narrow : Span → Formula → Result Typed BindFault

@@ -5,7 +5,7 @@ use Rattle.rs_syntax.specs.Syntax.{Expression}
 use Rattle.rs_expr.specs.Formulas.{Condition}
 use Rattle.rs_expr.specs.Meaning.{holds}
 use Rattle.rs_catalog.specs.Catalogue.{Catalogue}
-use Rattle.rs_query.specs.Meaning.{cell_of, conjunct_holds}
+use Rattle.rs_query.specs.Meaning.{column_value, conjunct_holds}
 use Rattle.rs_query.specs.declared.block.Block.{Block}
 use Rattle.rs_bind.specs.Conditions.{named_columns, own_places}
 use Rattle.rs_bind.specs.Rules.{Types}
@@ -14,7 +14,7 @@ use Rattle.rs_bind.specs.Typing.{Truth}
 
 -- whether a condition whose arguments are these columns holds of the values that they have in these rows
 abbrev pub holds_of : Catalogue → Block → List ℕ → List (ℕ × ℕ) → Condition → Bool
-holds_of catalogue block rows columns condition = holds condition (map (cell_of catalogue block rows) columns)
+holds_of catalogue block rows columns condition = holds condition (map (column_value catalogue block rows) columns)
 
 -- whether every conjunct of a block holds of these rows
 abbrev pub conjuncts_hold : Catalogue → Block → List ℕ → Bool

@@ -5,8 +5,8 @@ use crate::fault::BindFault;
 use crate::names::number_in;
 use rs_lex::Span;
 
-/// The greatest number of rows that a FETCH asks for.
-const MOST_ROWS: u32 = 1_000_000;
+/// The greatest number of rows that LIMIT or FETCH asks for.
+pub const MOST_ROWS: u32 = 1_000_000;
 
 /// The number in FETCH, from 0 to 1,000,000 (`LimitOf`). It takes no memory.
 pub fn bind_count(count: i64, at: Span) -> Result<u32, BindFault>

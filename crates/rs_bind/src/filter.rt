@@ -4,24 +4,23 @@ ghost use Rattle.std.specs.Prelude.{◌≡◌, ◌≤◌, ◌+◌, ◌++◌, ◌
 ghost use Rattle.std.specs.List.{AllByRecursion};
 ghost use Rattle.rs_value.specs.Answer.{Gives};
 ghost use Rattle.rs_syntax.specs.Syntax.{expression_of};
-ghost use Rattle.rs_table.specs.Reading.{◌>>=◌ as ◌and_then◌};
+ghost use Rattle.rs_value.specs.Results.{◌>>=◌ as ◌and_then◌};
 ghost use Rattle.rs_expr.specs.Formulas.{condition_of};
 ghost use Rattle.rs_expr.specs.Widths.{is_narrow};
-ghost use Rattle.rs_query.specs.WellFormed.{across, entries_of, equality_of, equated};
-ghost use Rattle.rs_bind.specs.Conditions.{condition_over, conjunct_in, conjuncts_in, conjuncts_of, few_parts, filter_of, parts_of};
-ghost use Rattle.rs_bind.specs.Limits.{IsNarrow};
-ghost use Rattle.rs_bind.specs.Sources.{sources_of};
+ghost use Rattle.rs_query.specs.WellFormed.{across, entries_mask, equality_of, equated};
+ghost use Rattle.rs_bind.specs.Conditions.{condition_over, conjunct_in, conjuncts_in, conjuncts_of, few_parts, filter_of, parts_of_and};
+ghost use Rattle.rs_bind.specs.Narrow.{IsNarrow};
+ghost use Rattle.rs_bind.specs.Sources.{most_block_columns, sources_of};
 ghost use Rattle.rs_bind.specs.Terms.{IsEntryColumn};
-ghost use Rattle.rs_bind.specs.Typing.{span_of, truth_of, type_of};
+ghost use Rattle.rs_bind.specs.Typing.{span_of, as_truth, type_of};
 ghost use Rattle.rs_bind.specs.Views.{result_map};
 
 use crate::fault::{BindFault, Why};
 use crate::places::Places;
 use crate::references::named_columns;
-use crate::rules::span_of;
+use crate::rules::{span_of, truth};
 use crate::scope::Scope;
 use crate::sources::Sources;
-use crate::typed::Typed;
 use crate::typing::type_node;
 use rs_expr::{Cond, Expr, Rel, TextSide};
 use rs_query::Conjunct;
@@ -73,7 +72,7 @@ fn add_conjuncts(
     made: &mut Vec<Conjunct>,
 ) -> Result<(), BindFault>
     ensures gives { Gives BindFault.Memory
-        (conjuncts_of (sources_of sources.now.catalog.now sources.now.from.now) (parts_of (expression_of node.now)) and_then λ more. Ok (made.old.items ++ more))
+        (conjuncts_of (sources_of sources.now.catalog.now sources.now.from.now) (parts_of_and (expression_of node.now)) and_then λ more. Ok (made.old.items ++ more))
         (result_map (λ done. made.new.items) result) }
     ensures narrow { OnOk result (AllByRecursion IsNarrow made.old.items → AllByRecursion IsNarrow made.new.items) }
 {
@@ -121,7 +120,7 @@ fn condition_over(
     columns: &[(u8, u8)],
     node: &Node,
 ) -> Result<Cond, BindFault>
-    requires { length columns.now ≤ 384 }
+    requires { length columns.now ≤ most_block_columns }
     ensures gives { Gives BindFault.Memory
         (condition_over columns.now (sources_of sources.now.catalog.now sources.now.from.now) (expression_of node.now)) (result_map condition_of result) }
     ensures narrow { IfOk result (λ made. is_narrow (condition_of made) ≡ true) }
@@ -132,20 +131,17 @@ fn condition_over(
 
 /// The condition that an expression is, which has to be a truth value.
 fn condition_in<S: Scope>(alloc: Global, scope: &S, node: &Node) -> Result<Cond, BindFault>
-    ensures gives { Gives BindFault.Memory (type_of (S.finds scope.now) (expression_of node.now) and_then truth_of (span_of (expression_of node.now)))
+    ensures gives { Gives BindFault.Memory (type_of (S.finds scope.now) (expression_of node.now) and_then as_truth (span_of (expression_of node.now)))
         (result_map condition_of result) }
     ensures narrow { IfOk result (λ made. is_narrow (condition_of made) ≡ true) }
 {
-    match type_node(alloc, node, scope)? {
-        Typed::Number(_) => Err(BindFault::At(Why::WrongKind, span_of(node))),
-        Typed::Words(_) => Err(BindFault::At(Why::WrongKind, span_of(node))),
-        Typed::Truth(condition) => Ok(condition),
-    }
+    let typed = type_node(alloc, node, scope)?;
+    truth(typed, span_of(node))
 }
 
 /// Whether AND joins no more parts at the top of an expression than a block may have conjuncts.
 fn few_parts(node: &Node) -> Result<(), BindFault>
-    ensures { result ≡ few_parts (parts_of (expression_of node.now)) }
+    ensures { result ≡ few_parts (parts_of_and (expression_of node.now)) }
 {
     room_behind(node, MOST_CONJUNCTS)?;
     Ok(())
@@ -154,8 +150,8 @@ fn few_parts(node: &Node) -> Result<(), BindFault>
 /// How many more parts there may be behind those of this expression, where there may be so many in it and behind it. The
 /// first one too many is refused.
 fn room_behind(node: &Node, room: usize) -> Result<usize, BindFault>
-    ensures { MatchResult result (λ rest. length (parts_of (expression_of node.now)) + rest ≡ room)
-        (λ fault. option_map (λ part. BindFault.At Why.LimitOf (span_of part)) (slice_get (parts_of (expression_of node.now)) room) ≡ Some fault) }
+    ensures { MatchResult result (λ rest. length (parts_of_and (expression_of node.now)) + rest ≡ room)
+        (λ fault. option_map (λ part. BindFault.At Why.LimitOf (span_of part)) (slice_get (parts_of_and (expression_of node.now)) room) ≡ Some fault) }
 {
     match node {
         Node::And(left, right, _) => {
@@ -174,7 +170,7 @@ fn room_behind(node: &Node, room: usize) -> Result<usize, BindFault>
 /// The mask of the entries of these columns.
 fn entries_of(columns: &[(u8, u8)]) -> u8
     requires { AllByRecursion IsEntryColumn columns.now }
-    ensures { result ≡ entries_of columns.now }
+    ensures { result ≡ entries_mask columns.now }
 {
     match columns {
         [] => 0,

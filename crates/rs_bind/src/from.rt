@@ -1,12 +1,12 @@
 ghost use Rattle.std.specs.Prelude.{◌≡◌, ◌≤◌, ◌<◌, IfOk, length};
 ghost use Rattle.std.specs.List.{AllByRecursion, list_any};
 ghost use Rattle.std.specs.Str.{bytes_eq};
-ghost use Rattle.rs_catalog.specs.Catalogue.{number_of};
+ghost use Rattle.rs_catalog.specs.Catalogue.{number_named};
 ghost use Rattle.rs_catalog.specs.declared.room.What.TheVariants as what;
 ghost use Rattle.rs_value.specs.Answer.{Gives};
 ghost use Rattle.rs_bind.specs.Indexes.{columns_in};
-ghost use Rattle.rs_bind.specs.Names.{or_fault};
-ghost use Rattle.rs_bind.specs.Sources.{alias_of, entries_of};
+ghost use Rattle.rs_bind.specs.Names.{most_columns, or_fault};
+ghost use Rattle.rs_bind.specs.Sources.{alias_of, entries_of, most_entries};
 
 use crate::fault::{BindFault, Why};
 use rs_catalog::{Catalog, What};
@@ -15,7 +15,7 @@ use rs_value::{List, Text};
 use std::alloc::Global;
 
 /// The most FROM entries of a block.
-const MOST_ENTRIES: usize = 6;
+pub const MOST_ENTRIES: usize = 6;
 
 /// The tables of FROM by their numbers, with their aliases. The rules are looked at for one entry after the other, from left
 /// to right: that there are no more than six (`LimitOf`), its table (`NoTable`), and its alias (`NameTwice`).
@@ -25,9 +25,9 @@ pub fn bind_entries(
     from: &[(Name, Option<Name>)],
 ) -> Result<List<(u8, Text)>, BindFault>
     ensures gives { Gives BindFault.Memory (entries_of catalog.now from.now) result }
-    ensures few { IfOk result (λ made. length made ≤ 6) }
+    ensures few { IfOk result (λ made. length made ≤ most_entries) }
     ensures tables { IfOk result (λ made. AllByRecursion (λ entry. entry.0 < length catalog.now.tables) made) }
-    ensures columns { IfOk result (λ made. AllByRecursion (λ entry. length (columns_in catalog.now entry.0) ≤ 64) made) }
+    ensures columns { IfOk result (λ made. AllByRecursion (λ entry. length (columns_in catalog.now entry.0) ≤ most_columns) made) }
 {
     let mut made = Vec::new(alloc);
     for (table, alias) in from {
@@ -47,9 +47,9 @@ pub fn bind_entries(
 
 /// The number of a table by its name.
 fn table_number(catalog: &Catalog, name: &Name) -> Result<u8, BindFault>
-    ensures value { result ≡ or_fault (BindFault.At Why.NoTable name.now.at) (number_of what.Table name.now.text catalog.now) }
+    ensures value { result ≡ or_fault (BindFault.At Why.NoTable name.now.at) (number_named what.Table name.now.text catalog.now) }
     ensures within { IfOk result (λ number. number < length catalog.now.tables) }
-    ensures columns { IfOk result (λ number. length (columns_in catalog.now number) ≤ 64) }
+    ensures columns { IfOk result (λ number. length (columns_in catalog.now number) ≤ most_columns) }
 {
     let Some(number) = catalog.find(What::Table, &name.text) else {
         return Err(BindFault::At(Why::NoTable, name.at));

@@ -1,5 +1,5 @@
 ghost use Rattle.std.specs.Prelude.{◌≡◌, ◌<◌, IfOk, length};
-ghost use Rattle.rs_catalog.specs.Catalogue.{names_of, number_of};
+ghost use Rattle.rs_catalog.specs.Catalogue.{names_of, number_named};
 ghost use Rattle.rs_catalog.specs.Indexes.{IsIndex};
 ghost use Rattle.rs_syntax.specs.Syntax.{command_of};
 ghost use Rattle.rs_value.specs.Answer.{Gives};
@@ -55,7 +55,7 @@ pub fn bind_index(
 
 /// The number of a table, a predicate or an index by its name, or this fault at the name.
 fn number_of(catalog: &Catalog, what: What, name: &Name, why: Why) -> Result<u8, BindFault>
-    ensures value { result ≡ or_fault (BindFault.At why name.now.at) (number_of what name.now.text catalog.now) }
+    ensures value { result ≡ or_fault (BindFault.At why name.now.at) (number_named what name.now.text catalog.now) }
     ensures within { IfOk result (λ number. number < length (names_of what catalog.now)) }
 {
     match catalog.find(what, &name.text) {

@@ -1,18 +1,21 @@
 ghost use Rattle.std.specs.Prelude.{◌≡◌, ◌≤◌, ◌++◌, OnOk, length};
 ghost use Rattle.rs_syntax.specs.declared.select.Items.TheVariants as items;
 ghost use Rattle.rs_value.specs.Answer.{Gives};
+ghost use Rattle.rs_bind.specs.Names.{most_columns};
 ghost use Rattle.rs_bind.specs.Sources.{columns_from, items_behind, items_of, sources_of};
 
 use crate::fault::{BindFault, Why};
+use crate::from::MOST_ENTRIES;
 use crate::scope::span_of_column;
 use crate::sources::Sources;
 use rs_lex::Span;
 use rs_syntax::{ColRef, Items};
+use rs_table::MOST_COLUMNS;
 use rs_value::{Kind, List, Memory, Text};
 use std::alloc::Global;
 
-/// The most output columns of a block.
-const MOST_ITEMS: usize = 384;
+/// The most output columns of a block: as many as its tables have at most.
+const MOST_ITEMS: usize = MOST_ENTRIES * MOST_COLUMNS;
 
 /// The output columns of a block, FROM entries counted from 1 and columns from 0, with their kinds. The rules are looked at
 /// for one column after the other, from left to right: that there are no more than 384 (`LimitOf`), and that it is a column
@@ -73,7 +76,7 @@ fn push_columns(
     entry: u8,
     columns: &[(Text, Kind)],
 ) -> Result<(), Memory>
-    requires { length columns.now ≤ 64 }
+    requires { length columns.now ≤ most_columns }
     ensures { OnOk result (made.new.items ≡ made.old.items ++ columns_from entry 0 columns.now) }
 {
     for (place, column) in columns.iter().enumerate() {

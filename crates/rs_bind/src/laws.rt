@@ -20,9 +20,9 @@ ghost use Rattle.rs_bind.specs.ArgumentRules.{IsOutside, IsWithin};
 ghost use Rattle.rs_bind.specs.BlockRules.{TypesBlock};
 ghost use Rattle.rs_bind.specs.Conditions.{named_columns, places_in, references_of};
 ghost use Rattle.rs_bind.specs.Indexes.{index_def_of};
-ghost use Rattle.rs_bind.specs.Names.{columns_of};
+ghost use Rattle.rs_bind.specs.Names.{columns_of, most_columns};
 ghost use Rattle.rs_bind.specs.Predicates.{predicate_of};
-ghost use Rattle.rs_bind.specs.Queries.{Unranked as UnrankedBlock, bound_query, count_of, with_terms};
+ghost use Rattle.rs_bind.specs.Queries.{Unranked as UnrankedBlock, bound_query, count_of, most_rows, with_terms};
 ghost use Rattle.rs_bind.specs.QueryRules.{RefusedQuery, TypesQuery};
 ghost use Rattle.rs_bind.specs.Rules.{Refused, Types};
 ghost use Rattle.rs_bind.specs.Sources.{Source, column_in, sources_of};
@@ -69,8 +69,8 @@ pub fn queries_are_typed_by_rules()
 /// The same of the other statements that are bound: the columns of a CREATE TABLE, a CREATE PREDICATE, a CREATE RANK INDEX,
 /// and the number in FETCH.
 pub fn statements_are_typed_by_rules()
-    ensures table { (columns : List (Name × ValueKind)) (made : List Column) → (columns_of columns ≡ Ok made) ↔ TypesNames 64 columns made }
-    ensures no_table { (columns : List (Name × ValueKind)) (fault : BindFault) → (columns_of columns ≡ Err fault) ↔ RefusedNames 64 columns fault }
+    ensures table { (columns : List (Name × ValueKind)) (made : List Column) → (columns_of columns ≡ Ok made) ↔ TypesNames most_columns columns made }
+    ensures no_table { (columns : List (Name × ValueKind)) (fault : BindFault) → (columns_of columns ≡ Err fault) ↔ RefusedNames most_columns columns fault }
     ensures predicate { (name : Name) (params : List (Name × ValueKind)) (max : ℤ × Place) (cost : Option (ℤ × Place)) (formula : Expression) (made : PredicateDef)
         → (predicate_of (CreatePredicate name params max cost formula) ≡ Ok made) ↔ TypesPredicate name params max cost formula made }
     ensures no_predicate { (name : Name) (params : List (Name × ValueKind)) (max : ℤ × Place) (cost : Option (ℤ × Place)) (formula : Expression) (fault : BindFault)
@@ -79,7 +79,7 @@ pub fn statements_are_typed_by_rules()
         → (index_def_of catalogue (CreateRankIndex name table predicate args at) ≡ Ok made) ↔ TypesIndex catalogue name table predicate args made }
     ensures no_index { (catalogue : Catalogue) (name table predicate : Name) (args : List Arg) (at : Place) (fault : BindFault)
         → (index_def_of catalogue (CreateRankIndex name table predicate args at) ≡ Err fault) ↔ RefusedIndex catalogue table predicate args at fault }
-    ensures count { (count : ℤ × Place) (made : ℕ) → (count_of count ≡ Ok made) ↔ IsWithin 0 1000000 count.0 made }
+    ensures count { (count : ℤ × Place) (made : ℕ) → (count_of count ≡ Ok made) ↔ IsWithin 0 most_rows count.0 made }
     ensures no_count { (count : ℤ × Place) (fault : BindFault)
-        → (count_of count ≡ Err fault) ↔ (IsOutside 0 1000000 count.0 × (At LimitOf count.1 ≡ fault)) }
+        → (count_of count ≡ Err fault) ↔ (IsOutside 0 most_rows count.0 × (At LimitOf count.1 ≡ fault)) }
 {}

@@ -1,7 +1,7 @@
 ghost use Rattle.std.specs.Prelude.{◌≡◌, ◌≤◌, ◌<◌, IfSome, length, position};
 ghost use Rattle.rs_query.specs.WellFormed.{same_column};
 ghost use Rattle.rs_bind.specs.Conditions.{places_in};
-ghost use Rattle.rs_bind.specs.Sources.{sources_of};
+ghost use Rattle.rs_bind.specs.Sources.{most_block_columns, sources_of};
 
 use crate::fault::{BindFault, Why};
 use crate::scope::{Scope, span_of_column};
@@ -14,7 +14,7 @@ use rs_value::Kind;
 pub struct Places<'a> {
     pub sources: &'a Sources<'a>,
     pub columns: &'a [(u8, u8)],
-    ghost few: { length columns.now ≤ 384 },
+    ghost few: { length columns.now ≤ most_block_columns },
 }
 
 impl Scope for Places<'_> {

@@ -4,9 +4,10 @@ ghost use Rattle.rs_value.specs.Answer.{Gives};
 ghost use Rattle.rs_syntax.specs.Syntax.{block_of, query_of};
 ghost use Rattle.rs_query.specs.WellFormed.{IsQuery};
 ghost use Rattle.rs_bind.specs.Indexes.{columns_in};
-ghost use Rattle.rs_bind.specs.Limits.{HaveLimits};
+ghost use Rattle.rs_bind.specs.Names.{most_columns};
+ghost use Rattle.rs_bind.specs.Narrow.{HaveNarrowConjuncts};
 ghost use Rattle.rs_bind.specs.Queries.{block_columns, bound_query, needed_by, one_of, output_columns, set_of, terms_of};
-ghost use Rattle.rs_bind.specs.Sources.{sources_of};
+ghost use Rattle.rs_bind.specs.Sources.{most_entries, sources_of};
 ghost use Rattle.rs_bind.specs.Terms.{IsEntryItem};
 ghost use Rattle.rs_syntax.specs.Written.{IsWrittenQuery};
 
@@ -19,8 +20,8 @@ use crate::unranked::{
 };
 use rs_catalog::Catalog;
 use rs_query::{Query, Term};
-use rs_syntax::{BlockSyn, Select, SetOp, TermSyn};
-use rs_value::{Kind, List, Text};
+use rs_syntax::{BlockSyn, Select, TermSyn};
+use rs_value::{Kind, List, SetOp, Text};
 use std::alloc::Global;
 
 /// The query of a SELECT. The rules are looked at in this order: those of the left block, of the right block, that their
@@ -40,7 +41,7 @@ pub fn bind(alloc: Global, catalog: &Catalog, select: &Select) -> Result<Query, 
 /// A query of one block.
 fn bind_one(alloc: Global, catalog: &Catalog, select: &Select) -> Result<Query, BindFault>
     ensures gives { Gives BindFault.Memory (one_of catalog.now (query_of select.now)) result }
-    ensures limits { IfOk result (λ query. HaveLimits catalog.now query) }
+    ensures narrow { IfOk result HaveNarrowConjuncts }
 {
     let block = bind_unranked(alloc, catalog, &select.left)?;
     let terms = match block_terms(alloc, catalog, &block, select.terms.items()) {
@@ -68,9 +69,9 @@ fn block_terms(
     block: &Unranked,
     terms: &[TermSyn],
 ) -> Result<List<Term>, BindFault>
-    requires few { length block.now.from ≤ 6 }
+    requires few { length block.now.from ≤ most_entries }
     requires tables { AllByRecursion (λ entry. entry.0 < length catalog.now.tables) block.now.from }
-    requires columns { AllByRecursion (λ entry. length (columns_in catalog.now entry.0) ≤ 64) block.now.from }
+    requires columns { AllByRecursion (λ entry. length (columns_in catalog.now entry.0) ≤ most_columns) block.now.from }
     ensures { Gives BindFault.Memory
         (terms_of catalog.now (block_columns (sources_of catalog.now block.now.from)) (needed_by block.now) terms.now) result }
 {
@@ -90,7 +91,7 @@ fn bind_set(
     second: &BlockSyn,
 ) -> Result<Query, BindFault>
     ensures gives { Gives BindFault.Memory (set_of catalog.now (query_of select.now) op (block_of second.now)) result }
-    ensures limits { IfOk result (λ query. HaveLimits catalog.now query) }
+    ensures narrow { IfOk result HaveNarrowConjuncts }
 {
     let left = bind_unranked(alloc, catalog, &select.left)?;
     let right = match bind_unranked(alloc, catalog, second) {

@@ -1,6 +1,6 @@
 //! The columns that an expression names.
 
-ghost use Rattle.std.specs.Prelude.{◌≡◌, IfOk, OnOk};
+ghost use Rattle.std.specs.Prelude.{◌≡◌, ◌++◌, IfOk, OnOk};
 ghost use Rattle.std.specs.List.{list_any};
 ghost use Rattle.rs_query.specs.WellFormed.{same_column};
 ghost use Rattle.rs_syntax.specs.Syntax.{expression_of};
@@ -22,6 +22,7 @@ pub fn named_columns(alloc: Global, sources: &Sources, node: &Node) -> Result<Ve
 }
 
 /// Adds the columns that an expression names, from left to right, unless they are there.
+#[cycle(references)]
 #[tactic(auto, using(crate::proofs::ReferenceFacts::with_references_append))]
 fn add_columns(sources: &Sources, node: &Node, columns: &mut Vec<(u8, u8)>) -> Result<(), Memory>
     ensures { OnOk result (columns.new.items
@@ -32,38 +33,36 @@ fn add_columns(sources: &Sources, node: &Node, columns: &mut Vec<(u8, u8)>) -> R
         Node::Text(_, _) => Ok(()),
         Node::Column(column) => add_column(sources, column, columns),
         Node::Neg(part, _) => add_columns(sources, part, columns),
-        Node::Arith(_, left, right, _) => {
-            add_columns(sources, left, columns)?;
-            add_columns(sources, right, columns)
-        }
+        Node::Arith(_, left, right, _) => add_both(sources, left, right, columns),
         Node::Abs(part, _) => add_columns(sources, part, columns),
-        Node::Least(left, right, _) => {
-            add_columns(sources, left, columns)?;
-            add_columns(sources, right, columns)
-        }
-        Node::Greatest(left, right, _) => {
-            add_columns(sources, left, columns)?;
-            add_columns(sources, right, columns)
-        }
+        Node::Least(left, right, _) => add_both(sources, left, right, columns),
+        Node::Greatest(left, right, _) => add_both(sources, left, right, columns),
         Node::Case(condition, outcome, rest, _) => {
             add_columns(sources, condition, columns)?;
-            add_columns(sources, outcome, columns)?;
-            add_columns(sources, rest, columns)
+            add_both(sources, outcome, rest, columns)
         }
-        Node::Compare(_, left, right, _) => {
-            add_columns(sources, left, columns)?;
-            add_columns(sources, right, columns)
-        }
-        Node::And(left, right, _) => {
-            add_columns(sources, left, columns)?;
-            add_columns(sources, right, columns)
-        }
-        Node::Or(left, right, _) => {
-            add_columns(sources, left, columns)?;
-            add_columns(sources, right, columns)
-        }
+        Node::Compare(_, left, right, _) => add_both(sources, left, right, columns),
+        Node::And(left, right, _) => add_both(sources, left, right, columns),
+        Node::Or(left, right, _) => add_both(sources, left, right, columns),
         Node::Not(part, _) => add_columns(sources, part, columns),
     }
+}
+
+/// Adds the columns that two expressions name, those of the left one first.
+#[cycle(references)]
+#[tactic(auto, using(crate::proofs::ReferenceFacts::with_references_append))]
+fn add_both(
+    sources: &Sources,
+    left: &Node,
+    right: &Node,
+    columns: &mut Vec<(u8, u8)>,
+) -> Result<(), Memory>
+    ensures { OnOk result (columns.new.items
+        ≡ with_references (sources_of sources.now.catalog.now sources.now.from.now) columns.old.items
+        (references_of (expression_of left.now) ++ references_of (expression_of right.now))) }
+{
+    add_columns(sources, left, columns)?;
+    add_columns(sources, right, columns)
 }
 
 /// Adds the column that a reference stands for, unless it stands for none, or its column is there.

@@ -2,11 +2,11 @@
 //!
 //! Where a function ends early, it drops each part that it still owns by name. That keeps its proof short.
 
-ghost use Rattle.std.specs.Prelude.{◌≡◌, [], ◌∷◌};
+ghost use Rattle.std.specs.Prelude.{◌≡◌, [], ◌∷◌, length};
 ghost use Rattle.rs_value.specs.Answer.{Gives};
 ghost use Rattle.rs_syntax.specs.Syntax.{Abs, And, Arith, Case, Compare, Expression, Greatest, Least, Neg, Not, Or, expression_of};
 ghost use Rattle.rs_expr.specs.Formulas.{condition_of, formula_of};
-ghost use Rattle.rs_bind.specs.Typing.{Scope, Typed as Meaning, argument, divisor_of, narrow, negated_divisor, number_of, numbers_of, rule, span_of, truth_of, truths_of, words_of};
+ghost use Rattle.rs_bind.specs.Typing.{Scope, Typed as Meaning, argument, divisor_of, narrow, negated_divisor, parts_of, as_number, as_numbers, rule, span_of, as_truth, as_truths, as_text};
 ghost use Rattle.rs_bind.specs.Views.{result_map, typed_of};
 
 use crate::fault::{BindFault, Why};
@@ -28,7 +28,42 @@ pub fn argument(found: (u16, Kind)) -> Typed
     }
 }
 
-pub fn negated(alloc: Global, part: Typed, at: Span) -> Result<Typed, BindFault>
+/// What a node of one part is, where that part is typed.
+pub fn rule_of_one(alloc: Global, node: &Node, part: Typed) -> Result<Typed, BindFault>
+    requires { length (parts_of (expression_of node.now)) ≡ 1 }
+    ensures { (scope : Scope) → Gives BindFault.Memory (rule scope (expression_of node.now) (typed_of part ∷ [])) (result_map typed_of result) }
+{
+    match node {
+        Node::Neg(_, at) => negated(alloc, part, *at),
+        Node::Abs(_, at) => magnitude(alloc, part, *at),
+        Node::Not(_, at) => negation(alloc, part, *at),
+        _ => unreachable!(),
+    }
+}
+
+/// What a node of two parts is, where these are typed.
+pub fn rule_of_two(
+    alloc: Global,
+    node: &Node,
+    left: Typed,
+    right: Typed,
+) -> Result<Typed, BindFault>
+    requires { length (parts_of (expression_of node.now)) ≡ 2 }
+    ensures { (scope : Scope)
+        → Gives BindFault.Memory (rule scope (expression_of node.now) (typed_of left ∷ typed_of right ∷ [])) (result_map typed_of result) }
+{
+    match node {
+        Node::Arith(op, _, divisor, at) => arithmetic(alloc, *op, left, right, divisor, *at),
+        Node::Least(_, _, at) => least(alloc, left, right, *at),
+        Node::Greatest(_, _, at) => greatest(alloc, left, right, *at),
+        Node::Compare(rel, _, _, at) => compare(*rel, left, right, *at),
+        Node::And(_, _, at) => both(alloc, left, right, *at),
+        Node::Or(_, _, at) => either(alloc, left, right, *at),
+        _ => unreachable!(),
+    }
+}
+
+fn negated(alloc: Global, part: Typed, at: Span) -> Result<Typed, BindFault>
     ensures { (scope : Scope) (x : Expression) → Gives BindFault.Memory (rule scope (Neg x at) (typed_of part ∷ [])) (result_map typed_of result) }
 {
     let part = number(part, at)?;
@@ -36,7 +71,7 @@ pub fn negated(alloc: Global, part: Typed, at: Span) -> Result<Typed, BindFault>
 }
 
 /// A sum, a difference or a product; or a quotient, of which the right part is looked at as it is written.
-pub fn arithmetic(
+fn arithmetic(
     alloc: Global,
     op: Op,
     left: Typed,
@@ -106,14 +141,14 @@ fn negated_divisor(number: i64) -> Option<i64>
     Some(-number)
 }
 
-pub fn magnitude(alloc: Global, part: Typed, at: Span) -> Result<Typed, BindFault>
+fn magnitude(alloc: Global, part: Typed, at: Span) -> Result<Typed, BindFault>
     ensures { (scope : Scope) (x : Expression) → Gives BindFault.Memory (rule scope (Abs x at) (typed_of part ∷ [])) (result_map typed_of result) }
 {
     let part = number(part, at)?;
     narrow(Expr::Abs(Box::new(alloc, part)?), at)
 }
 
-pub fn least(alloc: Global, left: Typed, right: Typed, at: Span) -> Result<Typed, BindFault>
+fn least(alloc: Global, left: Typed, right: Typed, at: Span) -> Result<Typed, BindFault>
     ensures { (scope : Scope) (x y : Expression)
         → Gives BindFault.Memory (rule scope (Least x y at) (typed_of left ∷ typed_of right ∷ [])) (result_map typed_of result) }
 {
@@ -121,7 +156,7 @@ pub fn least(alloc: Global, left: Typed, right: Typed, at: Span) -> Result<Typed
     narrow(Expr::Least(left, right), at)
 }
 
-pub fn greatest(alloc: Global, left: Typed, right: Typed, at: Span) -> Result<Typed, BindFault>
+fn greatest(alloc: Global, left: Typed, right: Typed, at: Span) -> Result<Typed, BindFault>
     ensures { (scope : Scope) (x y : Expression)
         → Gives BindFault.Memory (rule scope (Greatest x y at) (typed_of left ∷ typed_of right ∷ [])) (result_map typed_of result) }
 {
@@ -166,7 +201,7 @@ pub fn case(
 }
 
 /// A comparison of two numbers or of two texts.
-pub fn compare(rel: Rel, left: Typed, right: Typed, at: Span) -> Result<Typed, BindFault>
+fn compare(rel: Rel, left: Typed, right: Typed, at: Span) -> Result<Typed, BindFault>
     ensures { (scope : Scope) (x y : Expression)
         → result_map typed_of result ≡ rule scope (Compare rel x y at) (typed_of left ∷ typed_of right ∷ []) }
 {
@@ -193,7 +228,7 @@ pub fn compare(rel: Rel, left: Typed, right: Typed, at: Span) -> Result<Typed, B
     }
 }
 
-pub fn both(alloc: Global, left: Typed, right: Typed, at: Span) -> Result<Typed, BindFault>
+fn both(alloc: Global, left: Typed, right: Typed, at: Span) -> Result<Typed, BindFault>
     ensures { (scope : Scope) (x y : Expression)
         → Gives BindFault.Memory (rule scope (And x y at) (typed_of left ∷ typed_of right ∷ [])) (result_map typed_of result) }
 {
@@ -201,7 +236,7 @@ pub fn both(alloc: Global, left: Typed, right: Typed, at: Span) -> Result<Typed,
     Ok(Typed::Truth(Cond::And(left, right)))
 }
 
-pub fn either(alloc: Global, left: Typed, right: Typed, at: Span) -> Result<Typed, BindFault>
+fn either(alloc: Global, left: Typed, right: Typed, at: Span) -> Result<Typed, BindFault>
     ensures { (scope : Scope) (x y : Expression)
         → Gives BindFault.Memory (rule scope (Or x y at) (typed_of left ∷ typed_of right ∷ [])) (result_map typed_of result) }
 {
@@ -209,7 +244,7 @@ pub fn either(alloc: Global, left: Typed, right: Typed, at: Span) -> Result<Type
     Ok(Typed::Truth(Cond::Or(left, right)))
 }
 
-pub fn negation(alloc: Global, part: Typed, at: Span) -> Result<Typed, BindFault>
+fn negation(alloc: Global, part: Typed, at: Span) -> Result<Typed, BindFault>
     ensures { (scope : Scope) (x : Expression) → Gives BindFault.Memory (rule scope (Not x at) (typed_of part ∷ [])) (result_map typed_of result) }
 {
     let part = truth(part, at)?;
@@ -229,33 +264,51 @@ fn narrow(formula: Expr, at: Span) -> Result<Typed, BindFault>
 
 /// The formula of a part that has to be a number.
 pub fn number(part: Typed, at: Span) -> Result<Expr, BindFault>
-    ensures { result_map formula_of result ≡ number_of at (typed_of part) }
+    ensures { result_map formula_of result ≡ as_number at (typed_of part) }
 {
     match part {
         Typed::Number(formula) => Ok(formula),
-        Typed::Words(_) => Err(BindFault::At(Why::WrongKind, at)),
-        Typed::Truth(_) => Err(BindFault::At(Why::WrongKind, at)),
+        Typed::Words(side) => {
+            drop(side);
+            Err(BindFault::At(Why::WrongKind, at))
+        }
+        Typed::Truth(condition) => {
+            drop(condition);
+            Err(BindFault::At(Why::WrongKind, at))
+        }
     }
 }
 
 /// The text of a part that has to be one.
 fn words(part: Typed, at: Span) -> Result<TextSide, BindFault>
-    ensures { result ≡ words_of at (typed_of part) }
+    ensures { result ≡ as_text at (typed_of part) }
 {
     match part {
-        Typed::Number(_) => Err(BindFault::At(Why::WrongKind, at)),
+        Typed::Number(formula) => {
+            drop(formula);
+            Err(BindFault::At(Why::WrongKind, at))
+        }
         Typed::Words(side) => Ok(side),
-        Typed::Truth(_) => Err(BindFault::At(Why::WrongKind, at)),
+        Typed::Truth(condition) => {
+            drop(condition);
+            Err(BindFault::At(Why::WrongKind, at))
+        }
     }
 }
 
 /// The condition of a part that has to be a truth value.
-fn truth(part: Typed, at: Span) -> Result<Cond, BindFault>
-    ensures { result_map condition_of result ≡ truth_of at (typed_of part) }
+pub fn truth(part: Typed, at: Span) -> Result<Cond, BindFault>
+    ensures { result_map condition_of result ≡ as_truth at (typed_of part) }
 {
     match part {
-        Typed::Number(_) => Err(BindFault::At(Why::WrongKind, at)),
-        Typed::Words(_) => Err(BindFault::At(Why::WrongKind, at)),
+        Typed::Number(formula) => {
+            drop(formula);
+            Err(BindFault::At(Why::WrongKind, at))
+        }
+        Typed::Words(side) => {
+            drop(side);
+            Err(BindFault::At(Why::WrongKind, at))
+        }
         Typed::Truth(condition) => Ok(condition),
     }
 }
@@ -267,7 +320,7 @@ fn numbers(
     right: Typed,
     at: Span,
 ) -> Result<(Box<Expr>, Box<Expr>), BindFault>
-    ensures { Gives BindFault.Memory (numbers_of at (typed_of left) (typed_of right))
+    ensures { Gives BindFault.Memory (as_numbers at (typed_of left) (typed_of right))
         (result_map (λ made. (formula_of made.0.value, formula_of made.1.value)) result) }
 {
     let left = match number(left, at) {
@@ -309,7 +362,7 @@ fn truths(
     right: Typed,
     at: Span,
 ) -> Result<(Box<Cond>, Box<Cond>), BindFault>
-    ensures { Gives BindFault.Memory (truths_of at (typed_of left) (typed_of right))
+    ensures { Gives BindFault.Memory (as_truths at (typed_of left) (typed_of right))
         (result_map (λ made. (condition_of made.0.value, condition_of made.1.value)) result) }
 {
     let left = match truth(left, at) {

@@ -2,9 +2,10 @@ ghost use Rattle.std.specs.Prelude.{◌≡◌, ◌≤◌, ◌<◌, None, if◌th
 ghost use Rattle.std.specs.List.{AllByRecursion};
 ghost use Rattle.std.proofs.Props.{props};
 ghost use Rattle.rs_bind.specs.Indexes.{columns_in, is_of_entry};
+ghost use Rattle.rs_bind.specs.Names.{most_columns};
 ghost use Rattle.rs_bind.specs.Predicates.{placed};
 ghost use Rattle.rs_bind.specs.Queries.{block_columns};
-ghost use Rattle.rs_bind.specs.Sources.{column_in, sources_of};
+ghost use Rattle.rs_bind.specs.Sources.{column_in, most_entries, sources_of};
 
 use crate::columns::{Columns, OneEntry};
 use crate::fault::{BindFault, Why};
@@ -19,9 +20,9 @@ use rs_value::{Kind, Text};
 pub struct Sources<'a> {
     pub catalog: &'a Catalog,
     pub from: &'a [(u8, Text)],
-    ghost few: { length from.now ≤ 6 },
+    ghost few: { length from.now ≤ most_entries },
     ghost tables: { AllByRecursion (λ entry. entry.0 < length catalog.now.tables) from.now } by { Prim.hlevel props },
-    ghost columns: { AllByRecursion (λ entry. length (columns_in catalog.now entry.0) ≤ 64) from.now } by { Prim.hlevel props },
+    ghost columns: { AllByRecursion (λ entry. length (columns_in catalog.now entry.0) ≤ most_columns) from.now } by { Prim.hlevel props },
 }
 
 impl Sources<'_> {

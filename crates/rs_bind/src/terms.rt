@@ -2,15 +2,16 @@ ghost use Rattle.std.specs.Prelude.{◌≡◌, ◌<◌, ◌∷◌, [], IfOk, Som
 ghost use Rattle.std.specs.List.{AllByRecursion, list_any};
 ghost use Rattle.std.specs.Option.{option_copied};
 ghost use Rattle.rs_syntax.specs.declared.name.ColRef.{ColRef};
-ghost use Rattle.rs_catalog.specs.Catalogue.{number_of};
+ghost use Rattle.rs_catalog.specs.Catalogue.{number_named};
 ghost use Rattle.rs_catalog.specs.declared.room.What.TheVariants as what;
 ghost use Rattle.rs_value.specs.Answer.{Gives};
-ghost use Rattle.rs_query.specs.WellFormed.{columns_of, entries_of, same_column};
+ghost use Rattle.rs_query.specs.WellFormed.{argument_columns, entries_mask, same_column};
 ghost use Rattle.rs_bind.specs.Names.{or_fault};
-ghost use Rattle.rs_bind.specs.Queries.{IsEntryArg, are_outputs, limit_of, terms_of};
+ghost use Rattle.rs_bind.specs.Queries.{IsEntryArg, are_outputs, bound_limit, terms_of};
 ghost use Rattle.rs_bind.specs.Terms.{is_output, term_of};
 
 use crate::columns::Columns;
+use crate::count::MOST_ROWS;
 use crate::fault::{BindFault, Why};
 use crate::names::number_in;
 use crate::term::term_args;
@@ -27,9 +28,6 @@ const MOST_TERMS: usize = 8;
 
 /// The greatest weight of a term.
 const MOST_WEIGHT: u32 = 1_000_000;
-
-/// The greatest number in LIMIT.
-const MOST_ROWS: u32 = 1_000_000;
 
 /// The terms of ORDER BY, at most eight, over what their columns stand for. At each, from left to right, the rules are
 /// looked at in this order: its number (`LimitOf` for the ninth); its weight (`LimitOf`); its predicate (`NoPredicate`); its
@@ -90,7 +88,7 @@ fn bind_term<C: Columns>(
 
 /// The number of a predicate by its name.
 fn predicate_number(catalog: &Catalog, name: &Name) -> Result<u8, BindFault>
-    ensures value { result ≡ or_fault (BindFault.At Why.NoPredicate name.now.at) (number_of what.Predicate name.now.text catalog.now) }
+    ensures value { result ≡ or_fault (BindFault.At Why.NoPredicate name.now.at) (number_named what.Predicate name.now.text catalog.now) }
     ensures within { IfOk result (λ number. number < length catalog.now.predicates) }
 {
     match catalog.find(What::Predicate, &name.text) {
@@ -101,7 +99,7 @@ fn predicate_number(catalog: &Catalog, name: &Name) -> Result<u8, BindFault>
 
 /// Whether each column among these arguments is an output column, where output columns are needed.
 fn are_outputs(needed: Option<&[((u8, u8), Kind)]>, args: &[BoundArg]) -> bool
-    ensures { result ≡ are_outputs (option_copied needed.entry) (columns_of args.now) }
+    ensures { result ≡ are_outputs (option_copied needed.entry) (argument_columns args.now) }
 {
     match needed {
         None => true,
@@ -111,7 +109,7 @@ fn are_outputs(needed: Option<&[((u8, u8), Kind)]>, args: &[BoundArg]) -> bool
 
 /// Whether each column among these arguments is one of these output columns.
 fn all_outputs(items: &[((u8, u8), Kind)], args: &[BoundArg]) -> bool
-    ensures { result ≡ are_outputs (Some items.now) (columns_of args.now) }
+    ensures { result ≡ are_outputs (Some items.now) (argument_columns args.now) }
 {
     args.iter().all(|arg| is_output(items, arg))
 }
@@ -138,7 +136,7 @@ fn has_column(items: &[((u8, u8), Kind)], entry: u8, column: u8) -> bool
 /// The mask of the FROM entries of the columns among these arguments.
 fn entries_of(args: &[BoundArg]) -> u8
     requires { AllByRecursion IsEntryArg args.now }
-    ensures { result ≡ entries_of (columns_of args.now) }
+    ensures { result ≡ entries_mask (argument_columns args.now) }
 {
     let mut entries = 0;
     for arg in args {
@@ -150,7 +148,7 @@ fn entries_of(args: &[BoundArg]) -> u8
 /// The mask of the FROM entry of an argument, where it is a column.
 fn entries_of_one(arg: &BoundArg) -> u8
     requires { IsEntryArg arg.now }
-    ensures { result ≡ entries_of (columns_of (arg.now ∷ [])) }
+    ensures { result ≡ entries_mask (argument_columns (arg.now ∷ [])) }
 {
     match arg {
         BoundArg::Column(entry, _) => mask_of(*entry),
@@ -160,7 +158,7 @@ fn entries_of_one(arg: &BoundArg) -> u8
 
 /// The number in LIMIT, where one is written.
 pub fn limit_of(limit: &Option<(i64, Span)>) -> Result<Option<u32>, BindFault>
-    ensures { result ≡ limit_of limit.now }
+    ensures { result ≡ bound_limit limit.now }
 {
     match limit {
         None => Ok(None),

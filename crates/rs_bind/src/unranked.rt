@@ -4,9 +4,10 @@ ghost use Rattle.std.specs.Option.{option_copied};
 ghost use Rattle.rs_syntax.specs.Syntax.{block_of};
 ghost use Rattle.rs_value.specs.Answer.{Gives};
 ghost use Rattle.rs_bind.specs.Indexes.{columns_in};
-ghost use Rattle.rs_bind.specs.Limits.{IsNarrow};
-ghost use Rattle.rs_bind.specs.Queries.{agree, first_item, name_of, names_of, needed_by, unranked_of, with_terms};
-ghost use Rattle.rs_bind.specs.Sources.{sources_of};
+ghost use Rattle.rs_bind.specs.Names.{most_columns};
+ghost use Rattle.rs_bind.specs.Narrow.{IsNarrow};
+ghost use Rattle.rs_bind.specs.Queries.{agree, first_item, name_of, output_names, needed_by, unranked_of, with_terms};
+ghost use Rattle.rs_bind.specs.Sources.{most_entries, sources_of};
 ghost use Rattle.rs_bind.specs.Terms.{IsColumnOf, IsItemOf};
 
 use crate::fault::BindFault;
@@ -39,9 +40,9 @@ pub fn bind_unranked(
     block: &BlockSyn,
 ) -> Result<Unranked, BindFault>
     ensures gives { Gives BindFault.Memory (unranked_of catalog.now (block_of block.now)) result }
-    ensures few { IfOk result (λ made. length made.from ≤ 6) }
+    ensures few { IfOk result (λ made. length made.from ≤ most_entries) }
     ensures tables { IfOk result (λ made. AllByRecursion (λ entry. entry.0 < length catalog.now.tables) made.from) }
-    ensures columns { IfOk result (λ made. AllByRecursion (λ entry. length (columns_in catalog.now entry.0) ≤ 64) made.from) }
+    ensures columns { IfOk result (λ made. AllByRecursion (λ entry. length (columns_in catalog.now entry.0) ≤ most_columns) made.from) }
     ensures narrow { IfOk result (λ made. AllByRecursion IsNarrow made.conjuncts) }
     ensures items { IfOk result (λ made. AllByRecursion (IsItemOf (sources_of catalog.now made.from)) made.items) }
 {
@@ -106,7 +107,7 @@ pub fn needed_by(block: &Unranked) -> Option<&[((u8, u8), Kind)]>
 pub fn names_of(alloc: Global, catalog: &Catalog, block: &Unranked) -> Result<Vec<Text>, Memory>
     requires tables { AllByRecursion (λ entry. entry.0 < length catalog.now.tables) block.now.from }
     requires items { AllByRecursion (IsItemOf (sources_of catalog.now block.now.from)) block.now.items }
-    ensures { IfOk result (λ names. names.items ≡ names_of catalog.now block.now) }
+    ensures { IfOk result (λ names. names.items ≡ output_names catalog.now block.now) }
 {
     let mut names = Vec::new(alloc);
     for item in block.items.items() {

@@ -9,7 +9,7 @@ use Rattle.std.specs.Prelude.{None, slice_get}
 use Rattle.std.specs.List.{position_or_len}
 use Rattle.std.specs.Map.{keys_of}
 use Rattle.std.specs.Str.{bytes_eq}
-use Rattle.rs_catalog.specs.Catalogue.{has_name, number_in}
+use Rattle.rs_catalog.specs.Catalogue.{has_name, place_of_name}
 use Rattle.rs_catalog.specs.Inside.{NamesDiffer}
 
 -- a list doesn't have a name behind another one of it
@@ -50,8 +50,8 @@ place_of (first ∷ names) (suc n) name differ at =
     ap (λ b. cond (not b) (1 + position_or_len (λ other. bytes_eq other name) names) 0) other ∙ (let one_more : 1 + position_or_len (λ other. bytes_eq other name) names ≡ suc n = omega arith in one_more)
 
 -- the number of a name is its place
-pub number_in-place : (names : List (List ℕ)) (n : ℕ) (name : List ℕ) → NamesDiffer names → slice_get names n ≡ Some name → number_in name names ≡ Some n
-number_in-place names n name differ at =
+pub place_of_name-place : (names : List (List ℕ)) (n : ℕ) (name : List ℕ) → NamesDiffer names → slice_get names n ≡ Some name → place_of_name name names ≡ Some n
+place_of_name-place names n name differ at =
     let is = place_of names n name differ at in
     ap (λ place. cond (nat_lt place (length names)) (Some place) None) is ∙ ap (λ b. cond b (Some n) None) (lt-ltb n (length names) (slice_get_within names n name at))
 

@@ -8,7 +8,7 @@ use Rattle.rs_rank.specs.declared.scored_row.ScoredRow.{ScoredRow}
 use Rattle.rs_table.specs.Relation.{Relation}
 use Rattle.rs_expr.specs.Predicates.{PredicateDef}
 use Rattle.rs_catalog.specs.Catalogue.{Catalogue, most_of, names_of}
-use Rattle.rs_catalog.specs.Indexes.{IsEntry, index_of, is_for, predicate_for, ranking_at, rows_for}
+use Rattle.rs_catalog.specs.Indexes.{IsIndexEntry, index_of, is_for, predicate_for, ranking_at, rows_for}
 use Rattle.rs_catalog.specs.Inside.{IsInside, IsRanked, NamesDiffer, catalogue_of}
 use Rattle.rs_catalog.specs.declared.catalog.RankIndex.{RankIndex as StoredIndex}
 use Rattle.rs_catalog.specs.declared.index.BoundArg.{BoundArg}
@@ -60,11 +60,11 @@ module _ (tables : List (List ℕ × Relation)) (predicates : List (List ℕ × 
   -- an entry of its ranking has a row of its table, and a score of its predicate
   pub entry_fits : IsInside tables predicates indexes → (n : ℕ) (stored : StoredIndex) → slice_get (values_of indexes) n ≡ Some stored → (place : ℕ) (entry : ScoredRow) → slice_get stored.ranking.items place ≡ Some entry
       → (def : IndexDef) → option_map (λ i. i.def) (slice_get (catalogue_of tables predicates indexes).indexes n) ≡ Some def
-      → IsEntry (length (rows_for (catalogue_of tables predicates indexes) def)) (predicate_for (catalogue_of tables predicates indexes) def).max entry
+      → IsIndexEntry (length (rows_for (catalogue_of tables predicates indexes) def)) (predicate_for (catalogue_of tables predicates indexes) def).max entry
   entry_fits inside n stored at place entry there def is =
       let catalogue = catalogue_of tables predicates indexes in
       let ranked = ranked_at inside n stored at in
       let found : Some stored.def ≡ Some def = sym (ap (option_map (λ i. i.def)) (index_at n stored at)) ∙ is in
       let same : stored.def ≡ def = cc in
-      subst (λ def. IsEntry (length (rows_for catalogue def)) (predicate_for catalogue def).max entry) same
-      (each-slice_get (IsEntry (length (rows_for catalogue stored.def)) (predicate_for catalogue stored.def).max) stored.ranking.items place entry ranked.ranking.each there)
+      subst (λ def. IsIndexEntry (length (rows_for catalogue def)) (predicate_for catalogue def).max entry) same
+      (each-slice_get (IsIndexEntry (length (rows_for catalogue stored.def)) (predicate_for catalogue stored.def).max) stored.ranking.items place entry ranked.ranking.each there)

@@ -7,6 +7,6 @@ mod NameFacts
 mod PlaceFacts
 mod RankingFacts
 mod SameArguments
-mod ScoreFacts
+pub mod ScoreFacts
 mod WorkedRankings
 mod WorkedCatalogue

@@ -1,7 +1,7 @@
 -- Making an index, row by row.
-use Rattle.std.proofs.Common.{ℕ, ℤ, ◌≡◌, ◌∙◌, ◌+◌, ◌-◌, ◌<◌, ◌≤◌, ◌++◌, Bool, false, not, List, [], ◌∷◌, length, map, take, drop, get_or, refl, sym, ap, subst, inl, inr, arith, append-nil, if◌then◌else◌}
-use Rattle.std.specs.Prelude.{Some, option_map, slice_get, Result, Ok, Err, IsOk, is_ok}
-use Rattle.std.proofs.lemmas.List.{map-append, take-append-drop, length-take-le, drop_more, drop_all, take_more, take_all}
+use Rattle.std.proofs.Common.{ℕ, ℤ, ◌≡◌, ◌∙◌, ◌+◌, ◌-◌, ◌<◌, ◌≤◌, ◌++◌, List, [], ◌∷◌, length, map, take, drop, get_or, refl, sym, ap, subst, inl, inr, arith, append-nil}
+use Rattle.std.specs.Prelude.{Some, option_map, slice_get, Result, Ok, Err, IsOk}
+use Rattle.std.proofs.lemmas.List.{map-append, take-append-drop, length-take-le, take_more, take_all}
 use Rattle.std.proofs.lemmas.Option.{unwrap_or-slice_get}
 use Rattle.rs_value.specs.declared.value.Value.{Value}
 use Rattle.rs_table.specs.Appended.{appended}
@@ -10,17 +10,17 @@ use Rattle.rs_expr.specs.Predicates.{PredicateDef}
 use Rattle.rs_expr.specs.Scoring.{Answering, KeepsScorer, Made, ScorerState}
 use Rattle.rs_expr.specs.InOrder.{Inquires, Inquiry, Request, calls_of}
 use Rattle.rs_expr.proofs.ScoringFacts.{KeepsScorer-refl, KeepsScorer-then, Made-none}
-use Rattle.rs_expr.proofs.InOrderFacts.{Begins, Ends-ok, Inquires-begun, Inquires-behind, Inquires-unheld, Made-requests, behind, one}
+use Rattle.rs_expr.proofs.InOrderFacts.{Begins, InquiryEnds-ok, Inquires-begun, Inquires-behind, Inquires-unheld, Made-requests, behind, one}
 use Rattle.rs_rank.specs.declared.scored_row.ScoredRow.{ScoredRow}
 use Rattle.rs_catalog.specs.Catalogue.{Catalogue, with_index}
-use Rattle.rs_catalog.specs.Indexes.{args_in, asked_rows, making, making_of, predicate_for, ranking_of, request_for, row_at, rows_for, scored_from}
+use Rattle.rs_catalog.specs.Indexes.{args_in, asked_rows, making, making_of, predicate_for, ranking_of, row_request, row_at, rows_for, scored_from}
 use Rattle.rs_catalog.specs.Making.{MakesIndex, score_for, scoring_of, scoring_row}
 use Rattle.rs_catalog.specs.declared.index.BoundArg.{BoundArg}
 use Rattle.rs_catalog.specs.declared.index.IndexDef.{IndexDef}
 use Rattle.rs_catalog.specs.declared.index.IndexFault.{IndexFault}
-use Rattle.rs_catalog.specs.declared.index.IndexFault.TheVariants.{BadScore, Memory}
+use Rattle.rs_catalog.specs.declared.index.IndexFault.TheVariants.{Memory}
 use Rattle.rs_catalog.proofs.GrowthFacts.{rows_for-table}
-use Rattle.rs_catalog.proofs.ScoreFacts.{Asked, Asked-scored, appended-nil, score_for-err, score_for-ok, scored-next, scored_from-bad}
+use Rattle.rs_catalog.proofs.ScoreFacts.{Asked, Asked-scored, Rest, rest-all, rest-bad, rest-next, rest-none, score_for-err}
 
 module _ (answer : List Value → ℤ) (request : List Value → Request IndexFault) (max : ℕ) (rows : List (List Value)) where
   -- the scores of all rows
@@ -34,26 +34,17 @@ module _ (answer : List Value → ℤ) (request : List Value → Request IndexFa
   abbrev scoring_at : ℕ → Inquiry ScoredRow IndexFault
   scoring_at i = one (request (row_at rows (i + 1))) (score_for max (i + 1) (answer (row_at rows (i + 1))))
 
-  -- the first rows have these scores, and the others decide
-  abbrev Rest : ℕ → List ScoredRow → Type 0
-  Rest i entries = appended entries (scored_from answer max (i + 1) (drop i rows)) ≡ scored
-
   -- the first rows were asked for and have these scores
   pub record Between (i : ℕ) (entries : List ScoredRow) (old new : ScorerState) : Type 0 where
-    pub rest : appended entries (scored_from answer max (i + 1) (drop i rows)) ≡ scored
+    pub rest : Rest answer max rows i entries
     pub made : Made (calls_of (map request (take i rows))) old new
     pub keeps : KeepsScorer old new
 
   -- before the first row
   pub Between-none : (scorer : ScorerState) → Between 0 [] scorer scorer
-  Between-none scorer = record { rest = appended-nil scored; made = Made-none scorer; keeps = KeepsScorer-refl scorer }
+  Between-none scorer = record { rest = rest-none answer max rows; made = Made-none scorer; keeps = KeepsScorer-refl scorer }
 
-  -- the row at a place, and those behind it
-  drop-row : (i : ℕ) → i < length rows → drop i rows ≡ row_at rows (i + 1) ∷ drop (i + 1) rows
-  drop-row i within =
-      drop_more rows i [] within
-      ∙ ap (λ row. row ∷ drop (i + 1) rows) (let same : i ≡ i + 1 - 1 = omega arith in ap (λ n. get_or rows n []) same ∙ sym (unwrap_or-slice_get rows (i + 1 - 1) []))
-
+  -- the rows up to a place, with the one behind
   take-row : (i : ℕ) → i < length rows → take (i + 1) rows ≡ take i rows ++ row_at rows (i + 1) ∷ []
   take-row i within =
       take_more rows i [] within
@@ -64,7 +55,7 @@ module _ (answer : List Value → ℤ) (request : List Value → Request IndexFa
   map-row i within = ap (map request) (take-row i within) ∙ map-append request (take i rows) (row_at rows (i + 1) ∷ [])
 
   -- the rows that are asked for begin with those that were
-  asked-split : (i : ℕ) (entries : List ScoredRow) → i ≤ length rows → appended entries (scored_from answer max (i + 1) (drop i rows)) ≡ scored
+  asked-split : (i : ℕ) (entries : List ScoredRow) → i ≤ length rows → Rest answer max rows i entries
       → Asked answer max (take i rows) (drop i rows) (asked_rows scored rows)
   asked-split i entries within rest =
       subst (λ all. Asked answer max (take i rows) (drop i rows) (asked_rows scored all)) (take-append-drop i rows)
@@ -77,7 +68,7 @@ module _ (answer : List Value → ℤ) (request : List Value → Request IndexFa
     split : scoring.requests ≡ map request (take i rows) ++ more
     good : more ≡ [] → IsOk scored
 
-  left : (i : ℕ) (entries : List ScoredRow) → i ≤ length rows → Rest i entries → Left i
+  left : (i : ℕ) (entries : List ScoredRow) → i ≤ length rows → Rest answer max rows i entries → Left i
   left i entries within rest =
       let asked = asked-split i entries within rest in
       record {
@@ -90,34 +81,13 @@ module _ (answer : List Value → ℤ) (request : List Value → Request IndexFa
         last asked none [] e = refl
         last asked none (first ∷ later) e = let next = asked.next first later e in absurd (let some = ap (map request) next.1 in cc)
 
-  -- the next row has a score
-  rest-next : (i : ℕ) (entries : List ScoredRow) (entry : ScoredRow) → i < length rows → Rest i entries
-      → score_for max (i + 1) (answer (row_at rows (i + 1))) ≡ Ok entry → Rest (i + 1) (entries ++ entry ∷ [])
-  rest-next i entries entry within rest score =
-      let is = score_for-ok answer max (i + 1) (row_at rows (i + 1)) entry score in
-      ap (λ e. appended (entries ++ e ∷ []) (scored_from answer max (i + 1 + 1) (drop (i + 1) rows))) is.1
-      ∙ sym (scored-next answer max i entries (row_at rows (i + 1)) (drop (i + 1) rows) is.0)
-      ∙ ap (λ left. appended entries (scored_from answer max (i + 1) left)) (sym (drop-row i within))
-      ∙ rest
-
-  -- the next row has none: its fault is that of all, and no row behind it is asked for
-  rest-bad : (i : ℕ) (entries : List ScoredRow) (fault : IndexFault) → i < length rows → Rest i entries
-      → score_for max (i + 1) (answer (row_at rows (i + 1))) ≡ Err fault → (scored ≡ Err fault) × (scoring.requests ≡ map request (take (i + 1) rows))
-  rest-bad i entries fault within rest score =
-      let is = score_for-err answer max (i + 1) (row_at rows (i + 1)) fault score in
-      let all : scored ≡ Err (BadScore (i + 1) (answer (row_at rows (i + 1))) max) =
-      sym (ap (appended entries) (sym (scored_from-bad answer max (i + 1) (row_at rows (i + 1)) (drop (i + 1) rows) is.0))
-      ∙ ap (λ left. appended entries (scored_from answer max (i + 1) left)) (sym (drop-row i within))
-      ∙ rest) in
-      (all ∙ ap Err (sym is.1), ap (λ s. map request (asked_rows s rows)) all)
-
   -- scoring begins with the first rows and the next one
-  Begins-at : (i : ℕ) (entries : List ScoredRow) → i < length rows → Rest i entries → Begins (behind (map request (take i rows)) (scoring_at i)) scoring
+  Begins-at : (i : ℕ) (entries : List ScoredRow) → i < length rows → Rest answer max rows i entries → Begins (behind (map request (take i rows)) (scoring_at i)) scoring
   Begins-at i entries within rest = go (score_for max (i + 1) (answer (row_at rows (i + 1)))) refl where
     go : (outcome : Result ScoredRow IndexFault) → score_for max (i + 1) (answer (row_at rows (i + 1))) ≡ outcome
         → Begins (behind (map request (take i rows)) (one (request (row_at rows (i + 1))) outcome)) scoring
     go (Ok entry) score =
-        let later = left (i + 1) (entries ++ entry ∷ []) (omega arith) (rest-next i entries entry within rest score) in
+        let later = left (i + 1) (entries ++ entry ∷ []) (omega arith) (rest-next answer max rows i entries entry within rest score) in
         record {
           more = later.more;
           split = later.split ∙ ap (λ some. some ++ later.more) (map-row i within);
@@ -125,11 +95,12 @@ module _ (answer : List Value → ℤ) (request : List Value → Request IndexFa
           good = λ ok none. later.good none;
         }
     go (Err fault) score =
-        let bad = rest-bad i entries fault within rest score in
+        let scored_is = rest-bad answer max rows i entries fault within rest score in
+        let bad = score_for-err answer max (i + 1) (row_at rows (i + 1)) fault score in
         record {
           more = [];
-          split = bad.1 ∙ map-row i within ∙ sym (append-nil (map request (take i rows) ++ request (row_at rows (i + 1)) ∷ []));
-          bad = λ other e. (refl, bad.0 ∙ (let same : fault ≡ other = cc in ap Err same));
+          split = ap (λ s. map request (asked_rows s rows)) (scored_is ∙ ap Err bad.1) ∙ map-row i within ∙ sym (append-nil (map request (take i rows) ++ request (row_at rows (i + 1)) ∷ []));
+          bad = λ other e. (refl, scored_is ∙ (let same : fault ≡ other = cc in ap Err same));
           good = λ ok none. cc;
         }
 
@@ -137,9 +108,9 @@ module _ (answer : List Value → ℤ) (request : List Value → Request IndexFa
   Between-more : (i : ℕ) (entries : List ScoredRow) (entry : ScoredRow) (old middle new : ScorerState) → i < length rows → Between i entries old middle
       → Inquires Memory (scoring_at i) (Ok entry) middle new → Between (i + 1) (entries ++ entry ∷ []) old new
   Between-more i entries entry old middle new within between inquires =
-      let ends = Ends-ok Memory (scoring_at i) entry middle new inquires in
+      let ends = InquiryEnds-ok Memory (scoring_at i) entry middle new inquires in
       record {
-        rest = rest-next i entries entry within between.rest (sym ends.gives);
+        rest = rest-next answer max rows i entries entry within between.rest (sym ends.gives);
         made = subst (λ requests. Made (calls_of requests) old new) (sym (map-row i within))
             (Made-requests (map request (take i rows)) (request (row_at rows (i + 1)) ∷ []) old middle new between.made ends.made);
         keeps = KeepsScorer-then old middle new between.keeps inquires.keeps;
@@ -164,7 +135,7 @@ module _ (answer : List Value → ℤ) (request : List Value → Request IndexFa
   -- all rows have scores
   pub Inquires-all : (i : ℕ) (entries : List ScoredRow) (old new : ScorerState) → length rows ≤ i → Between i entries old new → Inquires Memory scoring (Ok entries) old new
   Inquires-all i entries old new all between =
-      let is : Ok entries ≡ scored = ap Ok (sym (append-nil entries)) ∙ ap (λ left. appended entries (scored_from answer max (i + 1) left)) (sym (drop_all i rows all)) ∙ between.rest in
+      let is : Ok entries ≡ scored = sym (rest-all answer max rows i entries all between.rest) in
       record {
         comes = inl (inl (record {
           made = subst (λ requests. Made (calls_of requests) old new) (ap (map request) (take_all i rows all ∙ ap (λ s. asked_rows s rows) is)) between.made;
@@ -176,7 +147,7 @@ module _ (answer : List Value → ℤ) (request : List Value → Request IndexFa
 module _ (predicate : PredicateDef) (args : List BoundArg) (rows : List (List Value)) where
   -- the first rows were asked for, and have these scores, by the answers of a scorer that was first as `old`
   abbrev pub Scores : ℕ → List ScoredRow → ScorerState → ScorerState → Type 0
-  Scores i entries old new = Between (λ row. old.answer predicate (args_in args row)) (request_for predicate args) predicate.max rows i entries old new
+  Scores i entries old new = Between (λ row. old.answer predicate (args_in args row)) (row_request predicate args) predicate.max rows i entries old new
 
   -- the next row, by the answers of a scorer that answers alike
   row-same : (i : ℕ) (entries : List ScoredRow) (result : Result ScoredRow IndexFault) (old middle new : ScorerState) → Scores i entries old middle
@@ -187,29 +158,19 @@ module _ (predicate : PredicateDef) (args : List BoundArg) (rows : List (List Va
   pub Scores-more : (i : ℕ) (entries : List ScoredRow) (entry : ScoredRow) (old middle new : ScorerState) → i < length rows → Scores i entries old middle
       → Inquires Memory (scoring_row middle.answer predicate args (i + 1) (row_at rows (i + 1))) (Ok entry) middle new → Scores (i + 1) (entries ++ entry ∷ []) old new
   Scores-more i entries entry old middle new within scores inquires =
-      Between-more (λ row. old.answer predicate (args_in args row)) (request_for predicate args) predicate.max rows i entries entry old middle new within scores
+      Between-more (λ row. old.answer predicate (args_in args row)) (row_request predicate args) predicate.max rows i entries entry old middle new within scores
       (row-same i entries (Ok entry) old middle new scores inquires)
 
   -- it gave a fault
   pub Scores-err : (i : ℕ) (entries : List ScoredRow) (fault : IndexFault) (old middle new : ScorerState) → i < length rows → Scores i entries old middle
       → Inquires Memory (scoring_row middle.answer predicate args (i + 1) (row_at rows (i + 1))) (Err fault) middle new → Inquires Memory (scoring_of old.answer predicate args rows) (Err fault) old new
   Scores-err i entries fault old middle new within scores inquires =
-      Inquires-at (λ row. old.answer predicate (args_in args row)) (request_for predicate args) predicate.max rows i entries fault old middle new within scores
+      Inquires-at (λ row. old.answer predicate (args_in args row)) (row_request predicate args) predicate.max rows i entries fault old middle new within scores
       (row-same i entries (Err fault) old middle new scores inquires)
 
   -- there was no memory for the rows with their scores
   pub Scores-full : (i : ℕ) (entries : List ScoredRow) (old new : ScorerState) → i ≤ length rows → Scores i entries old new → Inquires Memory (scoring_of old.answer predicate args rows) (Err Memory) old new
-  Scores-full i entries old new within scores = Inquires-full (λ row. old.answer predicate (args_in args row)) (request_for predicate args) predicate.max rows i entries old new within scores
-
-  -- the same of scores that are kept so
-  pub Scores-kept : (i : ℕ) (entries kept : List ScoredRow) (old new : ScorerState) → kept ≡ entries → Scores i entries old new → Scores i kept old new
-  Scores-kept i entries kept old new same scores = subst (λ e. Scores i e old new) (sym same) scores
-
--- a list that was pushed to with no error
-pub pushed : {T E : Type 0} (result : Result T E) (kept more less : List ScoredRow) (failed : Bool)
-    → kept ≡ (if is_ok result then more else less) → is_ok result ≡ not failed → failed ≡ false → kept ≡ more
-pushed (Ok done) kept more less failed is e none = is
-pushed (Err fault) kept more less failed is e none = absurd (let other : false ≡ not false = e ∙ ap not none in cc)
+  Scores-full i entries old new within scores = Inquires-full (λ row. old.answer predicate (args_in args row)) (row_request predicate args) predicate.max rows i entries old new within scores
 
 -- the same calls, and the rows by score
 abbrev pub ranked : Inquiry (List ScoredRow) IndexFault → Inquiry (List ScoredRow) IndexFault
@@ -225,7 +186,7 @@ Begins-ranked scoring = go scoring.outcome where
 -- the scores came, or a fault did
 pub Inquires-ranked : (scoring : Inquiry (List ScoredRow) IndexFault) (entries : List ScoredRow) (old new : ScorerState) → Inquires Memory scoring (Ok entries) old new → Inquires Memory (ranked scoring) (ranking_of (Ok entries)) old new
 Inquires-ranked scoring entries old new inquires =
-    let ends = Ends-ok Memory scoring entries old new inquires in
+    let ends = InquiryEnds-ok Memory scoring entries old new inquires in
     record { comes = inl (inl (record { made = ends.made; gives = ap ranking_of ends.gives })); keeps = inquires.keeps }
 
 pub Inquires-unranked : (scoring : Inquiry (List ScoredRow) IndexFault) (fault : IndexFault) (old new : ScorerState) → Inquires Memory scoring (Err fault) old new → Inquires Memory (ranked scoring) (Err fault) old new

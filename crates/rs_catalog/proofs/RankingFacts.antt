@@ -8,11 +8,11 @@ use Rattle.std.proofs.lemmas.Option.{unwrap_or-slice_get}
 use Rattle.rs_value.specs.declared.value.Value.{Value}
 use Rattle.rs_table.specs.Appended.{appended}
 use Rattle.rs_order.proofs.EachFacts.{each-push, each-weaker}
-use Rattle.rs_expr.specs.Scores.{is_score, score_of}
+use Rattle.rs_expr.specs.Scores.{is_score, as_score}
 use Rattle.rs_rank.specs.Stable.{put_all, put_behind, stable}
 use Rattle.rs_rank.proofs.StableFacts.{AllByRecursion-put_behind, AllByRecursion-stable, length-stable}
 use Rattle.rs_rank.specs.declared.scored_row.ScoredRow.{ScoredRow}
-use Rattle.rs_catalog.specs.Indexes.{InOrder, IsEntry, IsFirstBad, IsRanking, Precedes, RowsDiffer, asked_rows, ranking_of, row_at, scored_from}
+use Rattle.rs_catalog.specs.Indexes.{EntriesInOrder, IsIndexEntry, IsFirstBad, IsRanking, EntryPrecedes, RowsDiffer, asked_rows, ranking_of, row_at, scored_from}
 use Rattle.rs_catalog.specs.declared.index.IndexFault.{IndexFault}
 use Rattle.rs_catalog.specs.declared.index.IndexFault.TheVariants.{BadScore}
 use Rattle.rs_catalog.proofs.ScoreFacts.{entry_of, scored_from-bad, scored_from-score}
@@ -22,29 +22,29 @@ abbrev score : ScoredRow → ℕ
 score entry = entry.score
 
 -- an entry comes before one of a later row that has no greater score
-Precedes-later : (first entry : ScoredRow) → entry.score ≤ first.score → first.row < entry.row → Precedes first entry
-Precedes-later first entry below before = elim (cases_lt entry.score first.score) [
+EntryPrecedes-later : (first entry : ScoredRow) → entry.score ≤ first.score → first.row < entry.row → EntryPrecedes first entry
+EntryPrecedes-later first entry below before = elim (cases_lt entry.score first.score) [
   | inl less ↦ inl less
   | inr most ↦ inr ((let same : first.score ≡ entry.score = omega arith in same), before)
 ]
 
 -- an entry that comes before another has no less a score
-score-Precedes : (a b : ScoredRow) → Precedes a b → b.score ≤ a.score
-score-Precedes a b (inl less) = omega arith
-score-Precedes a b (inr same) = omega (arith, same.0)
+score-EntryPrecedes : (a b : ScoredRow) → EntryPrecedes a b → b.score ≤ a.score
+score-EntryPrecedes a b (inl less) = omega arith
+score-EntryPrecedes a b (inr same) = omega (arith, same.0)
 
 -- an entry of a later row is put behind all of at least its score
-InOrder-put_behind : (entry : ScoredRow) (entries : List ScoredRow) → AllByRecursion (λ e. e.row < entry.row) entries → InOrder entries → InOrder (put_behind score entry entries)
-InOrder-put_behind entry [] before ordered = (tt, tt)
-InOrder-put_behind entry (first ∷ rest) before ordered =
-    (elim (nat_le entry.score first.score) as (λ b. nat_le entry.score first.score ≡ b → InOrder (cond b (first ∷ put_behind score entry rest) (entry ∷ first ∷ rest))) [
+EntriesInOrder-put_behind : (entry : ScoredRow) (entries : List ScoredRow) → AllByRecursion (λ e. e.row < entry.row) entries → EntriesInOrder entries → EntriesInOrder (put_behind score entry entries)
+EntriesInOrder-put_behind entry [] before ordered = (tt, tt)
+EntriesInOrder-put_behind entry (first ∷ rest) before ordered =
+    (elim (nat_le entry.score first.score) as (λ b. nat_le entry.score first.score ≡ b → EntriesInOrder (cond b (first ∷ put_behind score entry rest) (entry ∷ first ∷ rest))) [
       | true ↦ λ e. (
-        AllByRecursion-put_behind score (Precedes first) entry rest (Precedes-later first entry (leb-true entry.score first.score e) before.0) ordered.0,
-        InOrder-put_behind entry rest before.1 ordered.1,
+        AllByRecursion-put_behind score (EntryPrecedes first) entry rest (EntryPrecedes-later first entry (leb-true entry.score first.score e) before.0) ordered.0,
+        EntriesInOrder-put_behind entry rest before.1 ordered.1,
       )
       | false ↦ λ e.
           let above : first.score < entry.score = leb-false entry.score first.score e in
-          ((inl above, each-weaker (Precedes first) (Precedes entry) (λ b after. inl (omega (arith, score-Precedes first b after))) rest ordered.0), ordered)
+          ((inl above, each-weaker (EntryPrecedes first) (EntryPrecedes entry) (λ b after. inl (omega (arith, score-EntryPrecedes first b after))) rest ordered.0), ordered)
     ]) refl
 
 -- an entry of a row that is none of theirs
@@ -65,17 +65,17 @@ Numbered row [] = Unit {0}
 Numbered row (entry ∷ rest) = (entry.row ≡ row) × Numbered (row + 1) rest
 
 -- entries of later rows are put in, one after another
-put_all-ordered : (entries ordered : List ScoredRow) (row : ℕ) → Numbered row entries → AllByRecursion (λ e. e.row < row) ordered → InOrder ordered → RowsDiffer ordered
-    → InOrder (put_all score ordered entries) × RowsDiffer (put_all score ordered entries)
+put_all-ordered : (entries ordered : List ScoredRow) (row : ℕ) → Numbered row entries → AllByRecursion (λ e. e.row < row) ordered → EntriesInOrder ordered → RowsDiffer ordered
+    → EntriesInOrder (put_all score ordered entries) × RowsDiffer (put_all score ordered entries)
 put_all-ordered [] ordered row numbered before is differ = (is, differ)
 put_all-ordered (entry ∷ rest) ordered row numbered before is differ =
     let earlier = subst (λ r. AllByRecursion (λ e. e.row < r) ordered) (sym numbered.0) before in
     put_all-ordered rest (put_behind score entry ordered) (row + 1) numbered.1
     (AllByRecursion-put_behind score (λ e. e.row < row + 1) entry ordered (omega (arith, numbered.0)) (each-weaker (λ e. e.row < row) (λ e. e.row < row + 1) (λ e less. omega arith) ordered before))
-    (InOrder-put_behind entry ordered earlier is) (RowsDiffer-put_behind entry ordered earlier differ)
+    (EntriesInOrder-put_behind entry ordered earlier is) (RowsDiffer-put_behind entry ordered earlier differ)
 
 -- a number that is a score
-score_of-score : (max : ℕ) (got : ℤ) → is_score max got ≡ true → (score_of got ≤ max) × (pos (score_of got) ≡ got)
+score_of-score : (max : ℕ) (got : ℤ) → is_score max got ≡ true → (as_score got ≤ max) × (pos (as_score got) ≡ got)
 score_of-score max (pos n) e = (leb-true n max e, refl)
 score_of-score max (negsuc n) e = cc
 
@@ -102,7 +102,7 @@ row_at-behind done values rest =
 module _ (answer : List Value → ℤ) (max : ℕ) where
   -- an entry of these rows, with its row's own score
   pub record IsMade (rows : List (List Value)) (entry : ScoredRow) : Type 0 where
-    pub is_entry : IsEntry (length rows) max entry
+    pub is_entry : IsIndexEntry (length rows) max entry
     pub own : pos entry.score ≡ answer (row_at rows entry.row)
 
   -- entries of rows behind others
@@ -172,7 +172,7 @@ module _ (answer : List Value → ℤ) (max : ℕ) where
       let ordered = put_all-ordered entries [] 1 made.numbered tt tt tt in
       record {
         all = length-stable score entries ∙ made.all;
-        each = AllByRecursion-stable score (IsEntry (length rows) max) entries (each-weaker (IsMade rows) (IsEntry (length rows) max) (λ entry is. is.is_entry) entries made.each);
+        each = AllByRecursion-stable score (IsIndexEntry (length rows) max) entries (each-weaker (IsMade rows) (IsIndexEntry (length rows) max) (λ entry is. is.is_entry) entries made.each);
         differ = ordered.1;
         ordered = ordered.0;
       }

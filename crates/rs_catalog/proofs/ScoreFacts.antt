@@ -1,12 +1,13 @@
 -- The rows of a table with their scores, up to the first row that has none.
-use Rattle.std.proofs.Common.{ℕ, ℤ, ◌≡◌, ◌∙◌, ◌+◌, ◌++◌, Bool, true, false, List, [], ◌∷◌, length, take, refl, sym, ap, append_assoc, length-append, if◌then◌else◌}
-use Rattle.std.specs.Prelude.{Result, Ok, Err}
-use Rattle.std.proofs.lemmas.List.{take_at}
+use Rattle.std.proofs.Common.{ℕ, ℤ, ◌≡◌, ◌∙◌, ◌+◌, ◌-◌, ◌<◌, ◌≤◌, ◌++◌, Bool, true, false, List, [], ◌∷◌, length, take, drop, get_or, refl, sym, ap, arith, append_assoc, append-nil, length-append, if◌then◌else◌}
+use Rattle.std.specs.Prelude.{Some, None, option_map, ok_or, Result, Ok, Err}
+use Rattle.std.proofs.lemmas.List.{take_at, drop_more, drop_all}
+use Rattle.std.proofs.lemmas.Option.{unwrap_or-slice_get}
 use Rattle.rs_value.specs.declared.value.Value.{Value}
 use Rattle.rs_table.specs.Appended.{appended}
-use Rattle.rs_expr.specs.Scores.{is_score, score_of}
+use Rattle.rs_expr.specs.Scores.{is_score, as_score}
 use Rattle.rs_rank.specs.declared.scored_row.ScoredRow.{ScoredRow}
-use Rattle.rs_catalog.specs.Indexes.{asked_rows, scored_from}
+use Rattle.rs_catalog.specs.Indexes.{asked_rows, row_at, scored_from}
 use Rattle.rs_catalog.specs.Making.{score_for}
 use Rattle.rs_catalog.specs.declared.index.IndexFault.{IndexFault}
 use Rattle.rs_catalog.specs.declared.index.IndexFault.TheVariants.{BadScore}
@@ -20,10 +21,14 @@ appended-appended : {A E : Type 0} (first second : List A) (rest : Result (List 
 appended-appended first second (Ok all) = ap Ok (sym (append_assoc first second all))
 appended-appended first second (Err fault) = refl
 
+-- a row with this score
+abbrev row_with : ℕ → ℕ → ScoredRow
+row_with row score = record { score = score; row = row }
+
 module _ (answer : List Value → ℤ) (max : ℕ) where
   -- a row with its score
   abbrev pub entry_of : ℕ → List Value → ScoredRow
-  entry_of row values = record { score = score_of (answer values); row = row }
+  entry_of row values = record { score = as_score (answer values); row = row }
 
   -- the first row has a score
   pub scored_from-score : (row : ℕ) (values : List Value) (rest : List (List Value)) → is_score max (answer values) ≡ true
@@ -42,14 +47,14 @@ module _ (answer : List Value → ℤ) (max : ℕ) where
   -- what a row with a number that is a score gives
   pub score_for-ok : (row : ℕ) (values : List Value) (entry : ScoredRow) → score_for max row (answer values) ≡ Ok entry → (is_score max (answer values) ≡ true) × (entry ≡ entry_of row values)
   score_for-ok row values entry = go (is_score max (answer values)) refl where
-    go : (b : Bool) → is_score max (answer values) ≡ b → (if b then Ok (entry_of row values) else Err (BadScore row (answer values) max)) ≡ Ok entry
+    go : (b : Bool) → is_score max (answer values) ≡ b → ok_or (option_map (λ score. row_with row score) (if b then Some (as_score (answer values)) else None)) (BadScore row (answer values) max) ≡ Ok entry
         → (is_score max (answer values) ≡ true) × (entry ≡ entry_of row values)
     go true score e = (score, cc)
     go false score e = cc
 
   pub score_for-err : (row : ℕ) (values : List Value) (fault : IndexFault) → score_for max row (answer values) ≡ Err fault → (is_score max (answer values) ≡ false) × (fault ≡ BadScore row (answer values) max)
   score_for-err row values fault = go (is_score max (answer values)) refl where
-    go : (b : Bool) → is_score max (answer values) ≡ b → (if b then Ok (entry_of row values) else Err (BadScore row (answer values) max)) ≡ Err fault
+    go : (b : Bool) → is_score max (answer values) ≡ b → ok_or (option_map (λ score. row_with row score) (if b then Some (as_score (answer values)) else None)) (BadScore row (answer values) max) ≡ Err fault
         → (is_score max (answer values) ≡ false) × (fault ≡ BadScore row (answer values) max)
     go true score e = cc
     go false score e = (score, cc)
@@ -90,3 +95,42 @@ module _ (answer : List Value → ℤ) (max : ℕ) where
               ∙ take_at (done ++ values ∷ []) rest (i + 1) (length-append done (values ∷ []) ∙ ap (λ n. n + 1) size);
           next = λ first others e. ([], cc);
         }
+
+module _ (answer : List Value → ℤ) (max : ℕ) (rows : List (List Value)) where
+  -- the row at a place, and those behind it
+  pub drop-row : (i : ℕ) → i < length rows → drop i rows ≡ row_at rows (i + 1) ∷ drop (i + 1) rows
+  drop-row i within =
+      drop_more rows i [] within
+      ∙ ap (λ row. row ∷ drop (i + 1) rows) (let same : i ≡ i + 1 - 1 = omega arith in ap (λ n. get_or rows n []) same ∙ sym (unwrap_or-slice_get rows (i + 1 - 1) []))
+
+  -- the first rows have these scores, and the others decide
+  abbrev pub Rest : ℕ → List ScoredRow → Type 0
+  Rest i entries = appended entries (scored_from answer max (i + 1) (drop i rows)) ≡ scored_from answer max 1 rows
+
+  pub rest-none : Rest 0 []
+  rest-none = appended-nil (scored_from answer max 1 rows)
+
+  -- the next row has a score
+  pub rest-next : (i : ℕ) (entries : List ScoredRow) (entry : ScoredRow) → i < length rows → Rest i entries
+      → score_for max (i + 1) (answer (row_at rows (i + 1))) ≡ Ok entry → Rest (i + 1) (entries ++ entry ∷ [])
+  rest-next i entries entry within rest score =
+      let is = score_for-ok answer max (i + 1) (row_at rows (i + 1)) entry score in
+      ap (λ e. appended (entries ++ e ∷ []) (scored_from answer max (i + 1 + 1) (drop (i + 1) rows))) is.1
+      ∙ sym (scored-next answer max i entries (row_at rows (i + 1)) (drop (i + 1) rows) is.0)
+      ∙ ap (λ left. appended entries (scored_from answer max (i + 1) left)) (sym (drop-row i within))
+      ∙ rest
+
+  -- the next row has none: its fault is that of all
+  pub rest-bad : (i : ℕ) (entries : List ScoredRow) (fault : IndexFault) → i < length rows → Rest i entries
+      → score_for max (i + 1) (answer (row_at rows (i + 1))) ≡ Err fault → scored_from answer max 1 rows ≡ Err fault
+  rest-bad i entries fault within rest score =
+      let is = score_for-err answer max (i + 1) (row_at rows (i + 1)) fault score in
+      sym (ap (appended entries) (sym (scored_from-bad answer max (i + 1) (row_at rows (i + 1)) (drop (i + 1) rows) is.0))
+      ∙ ap (λ left. appended entries (scored_from answer max (i + 1) left)) (sym (drop-row i within))
+      ∙ rest)
+      ∙ ap Err (sym is.1)
+
+  -- all rows have scores
+  pub rest-all : (i : ℕ) (entries : List ScoredRow) → length rows ≤ i → Rest i entries → scored_from answer max 1 rows ≡ Ok entries
+  rest-all i entries all rest =
+      sym (ap Ok (sym (append-nil entries)) ∙ ap (λ left. appended entries (scored_from answer max (i + 1) left)) (sym (drop_all i rows all)) ∙ rest)

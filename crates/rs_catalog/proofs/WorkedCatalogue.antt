@@ -5,7 +5,7 @@ use Rattle.rs_value.specs.declared.kind.Kind.TheVariants as kind
 use Rattle.rs_table.specs.Relation.{Relation}
 use Rattle.rs_expr.specs.Formulas.{Argument}
 use Rattle.rs_expr.specs.Predicates.{PredicateDef}
-use Rattle.rs_catalog.specs.Catalogue.{Catalogue, empty, names_of, number_of, room_for, with_index, with_predicate, with_table}
+use Rattle.rs_catalog.specs.Catalogue.{Catalogue, empty, names_of, number_named, room_for, with_index, with_predicate, with_table}
 use Rattle.rs_catalog.specs.Indexes.{index_of, ranking_at}
 use Rattle.rs_catalog.specs.declared.index.BoundArg.TheVariants.{Column, Int, Text}
 use Rattle.rs_catalog.specs.declared.index.IndexDef.{IndexDef}
@@ -27,22 +27,22 @@ tables_in_order : names_of Table session ≡ codes "houses" ∷ codes "Houses" �
 tables_in_order = refl
 
 -- names are found as they are written, and from 0
-first : number_of Table (codes "houses") session ≡ Some 0
+first : number_named Table (codes "houses") session ≡ Some 0
 first = refl
 
-second : number_of Table (codes "Houses") session ≡ Some 1
+second : number_named Table (codes "Houses") session ≡ Some 1
 second = refl
 
-another_case : number_of Table (codes "HOUSES") session ≡ None
+another_case : number_named Table (codes "HOUSES") session ≡ None
 another_case = refl
 
-a_beginning : number_of Table (codes "house") session ≡ None
+a_beginning : number_named Table (codes "house") session ≡ None
 a_beginning = refl
 
-a_predicate : number_of Predicate (codes "near") session ≡ Some 0
+a_predicate : number_named Predicate (codes "near") session ≡ Some 0
 a_predicate = refl
 
-not_a_predicate : number_of Predicate (codes "houses") session ≡ None
+not_a_predicate : number_named Predicate (codes "houses") session ≡ None
 not_a_predicate = refl
 
 -- a name may be in each list once

@@ -41,12 +41,12 @@ most_of Predicate = 64
 most_of Index = 64
 
 -- the number of a name in a list of names, counted from 0
-abbrev pub number_in : List ℕ → List (List ℕ) → Option ℕ
-number_in name names = position (λ other. bytes_eq other name) names
+abbrev pub place_of_name : List ℕ → List (List ℕ) → Option ℕ
+place_of_name name names = position (λ other. bytes_eq other name) names
 
 -- the number of what has this name
-abbrev pub number_of : What → List ℕ → Catalogue → Option ℕ
-number_of what name catalogue = number_in name (names_of what catalogue)
+abbrev pub number_named : What → List ℕ → Catalogue → Option ℕ
+number_named what name catalogue = place_of_name name (names_of what catalogue)
 
 -- whether a list of names has this one
 abbrev pub has_name : List ℕ → List (List ℕ) → Bool

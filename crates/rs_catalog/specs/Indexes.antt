@@ -12,7 +12,7 @@ use Rattle.rs_table.specs.Column.{Column}
 use Rattle.rs_rank.specs.Stable.{stable}
 use Rattle.rs_expr.specs.Formulas.{Constant}
 use Rattle.rs_expr.specs.Predicates.{PredicateDef}
-use Rattle.rs_expr.specs.Scores.{is_score, score_of}
+use Rattle.rs_expr.specs.Scores.{is_score, as_score}
 use Rattle.rs_expr.specs.Scoring.{Answering, call_of}
 use Rattle.rs_expr.specs.InOrder.{Inquiry, Request}
 use Rattle.rs_expr.specs.Uses.{is_kind}
@@ -63,7 +63,7 @@ row_at rows row = unwrap_or (slice_get rows (row - 1)) []
 abbrev pub scored_from : (List Value → ℤ) → ℕ → ℕ → List (List Value) → Result (List ScoredRow) IndexFault
 scored_from answer max row [] = Ok []
 scored_from answer max row (values ∷ rest) =
-    if is_score max (answer values) then behind (record { score = score_of (answer values); row = row }) (scored_from answer max (row + 1) rest)
+    if is_score max (answer values) then behind (record { score = as_score (answer values); row = row }) (scored_from answer max (row + 1) rest)
     else Err (BadScore row (answer values) max) where
       behind : ScoredRow → Result (List ScoredRow) IndexFault → Result (List ScoredRow) IndexFault
       behind entry (Ok entries) = Ok (entry ∷ entries)
@@ -80,14 +80,14 @@ asked_rows (Err (BadScore row got max)) rows = take row rows
 asked_rows _ rows = rows
 
 -- the request for a row: its call, which ends all where it fails
-abbrev pub request_for : PredicateDef → List BoundArg → List Value → Request IndexFault
-request_for predicate args row = record { call = call_of predicate (args_in args row); failed = Probe }
+abbrev pub row_request : PredicateDef → List BoundArg → List Value → Request IndexFault
+row_request predicate args row = record { call = call_of predicate (args_in args row); failed = Probe }
 
 -- making an index: the calls, one a row, in the order of the rows, and its rows by score, or the first bad score
 abbrev pub making_of : Answering → PredicateDef → List BoundArg → List (List Value) → Inquiry (List ScoredRow) IndexFault
 making_of answer predicate args rows =
     let scored = scored_from (λ row. answer predicate (args_in args row)) predicate.max 1 rows in
-    record { requests = map (request_for predicate args) (asked_rows scored rows); outcome = ranking_of scored }
+    record { requests = map (row_request predicate args) (asked_rows scored rows); outcome = ranking_of scored }
 
 -- the rows and the predicate of an index
 abbrev pub rows_for : Catalogue → IndexDef → List (List Value)
@@ -106,13 +106,13 @@ abbrev pub ranking_at : Catalogue → ℕ → List ScoredRow
 ranking_at catalogue number = unwrap_or (option_map (λ i. i.ranking) (slice_get catalogue.indexes number)) []
 
 -- an entry comes before another one: its score is greater, or they are equal and its row is an earlier one
-abbrev pub Precedes : ScoredRow → ScoredRow → Type 0
-Precedes a b = (b.score < a.score) ⊎ ((a.score ≡ b.score) × (a.row < b.row))
+abbrev pub EntryPrecedes : ScoredRow → ScoredRow → Type 0
+EntryPrecedes a b = (b.score < a.score) ⊎ ((a.score ≡ b.score) × (a.row < b.row))
 
 -- each entry comes before all behind it
-abbrev pub InOrder : List ScoredRow → Type 0
-InOrder [] = Unit {0}
-InOrder (a ∷ rest) = AllByRecursion (Precedes a) rest × InOrder rest
+abbrev pub EntriesInOrder : List ScoredRow → Type 0
+EntriesInOrder [] = Unit {0}
+EntriesInOrder (a ∷ rest) = AllByRecursion (EntryPrecedes a) rest × EntriesInOrder rest
 
 -- no row stands twice
 abbrev pub RowsDiffer : List ScoredRow → Type 0
@@ -120,7 +120,7 @@ RowsDiffer [] = Unit {0}
 RowsDiffer (a ∷ rest) = AllByRecursion (λ b. a.row ≡ b.row → ⊥) rest × RowsDiffer rest
 
 -- an entry has a row of the table, and a score
-pub record IsEntry (rows max : ℕ) (entry : ScoredRow) : Type 0 where
+pub record IsIndexEntry (rows max : ℕ) (entry : ScoredRow) : Type 0 where
   pub some : 1 ≤ entry.row
   pub within : entry.row ≤ rows
   pub scored : entry.score ≤ max
@@ -128,9 +128,9 @@ pub record IsEntry (rows max : ℕ) (entry : ScoredRow) : Type 0 where
 -- a ranking of a table of so many rows has each row once, by score, the greatest first, then by number, and no score above the greatest
 pub record IsRanking (rows max : ℕ) (ranking : List ScoredRow) : Type 0 where
   pub all : length ranking ≡ rows
-  pub each : AllByRecursion (IsEntry rows max) ranking
+  pub each : AllByRecursion (IsIndexEntry rows max) ranking
   pub differ : RowsDiffer ranking
-  pub ordered : InOrder ranking
+  pub ordered : EntriesInOrder ranking
 
 -- the fault names the first row whose number is no score, and that number; all rows before it have scores
 pub record IsFirstBad (answer : List Value → ℤ) (max : ℕ) (rows : List (List Value)) (fault : IndexFault) : Type 0 where

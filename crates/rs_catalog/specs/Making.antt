@@ -1,14 +1,14 @@
 -- What a call did that makes a rank index.
-use Rattle.std.specs.Prelude.{ℕ, ℤ, ◌≡◌, List, [], ◌∷◌, map, Result, Ok, Err, if◌then◌else◌}
+use Rattle.std.specs.Prelude.{ℕ, ℤ, ◌≡◌, List, [], ◌∷◌, map, ok_or, option_map, Result, Ok, Err}
 use Rattle.std.specs.declared.alloc.Global.{Global}
 use Rattle.std.specs.declared.vec.Vec.{Vec}
 use Rattle.rs_value.specs.declared.value.Value.{Value}
 use Rattle.rs_expr.specs.Predicates.{PredicateDef}
-use Rattle.rs_expr.specs.Scores.{is_score, score_of}
+use Rattle.rs_expr.specs.Scores.{score_within}
 use Rattle.rs_expr.specs.Scoring.{Answering, ScorerState}
 use Rattle.rs_expr.specs.InOrder.{Inquires, Inquiry}
 use Rattle.rs_catalog.specs.Catalogue.{Catalogue, with_index}
-use Rattle.rs_catalog.specs.Indexes.{args_in, asked_rows, request_for, scored_from}
+use Rattle.rs_catalog.specs.Indexes.{args_in, asked_rows, row_request, scored_from}
 use Rattle.rs_catalog.specs.declared.index.BoundArg.{BoundArg}
 use Rattle.rs_catalog.specs.declared.index.IndexDef.{IndexDef}
 use Rattle.rs_rank.specs.declared.scored_row.ScoredRow.{ScoredRow}
@@ -16,31 +16,31 @@ use Rattle.rs_catalog.specs.declared.index.IndexFault.{IndexFault}
 use Rattle.rs_catalog.specs.declared.index.IndexFault.TheVariants.{BadScore, Memory}
 
 -- the rows of an answer, as contracts see them
-abbrev pub items_of : Result (Vec ScoredRow Global) IndexFault → Result (List ScoredRow) IndexFault
-items_of (Ok ranking) = Ok ranking.items
-items_of (Err fault) = Err fault
+abbrev pub as_ranking : Result (Vec ScoredRow Global) IndexFault → Result (List ScoredRow) IndexFault
+as_ranking (Ok ranking) = Ok ranking.items
+as_ranking (Err fault) = Err fault
 
 -- the same calls, with the scores in the order of the rows
 abbrev pub scoring_of : Answering → PredicateDef → List BoundArg → List (List Value) → Inquiry (List ScoredRow) IndexFault
 scoring_of answer predicate args rows =
     let scored = scored_from (λ row. answer predicate (args_in args row)) predicate.max 1 rows in
-    record { requests = map (request_for predicate args) (asked_rows scored rows); outcome = scored }
+    record { requests = map (row_request predicate args) (asked_rows scored rows); outcome = scored }
 
 -- a row with the number that it got, where that is a score
 abbrev pub score_for : ℕ → ℕ → ℤ → Result ScoredRow IndexFault
-score_for max row got = if is_score max got then Ok (record { score = score_of got; row = row }) else Err (BadScore row got max)
+score_for max row got = ok_or (option_map (λ score. record { score = score; row = row }) (score_within max got)) (BadScore row got max)
 
 -- the call for one row, and the row with its score
 abbrev pub scoring_row : Answering → PredicateDef → List BoundArg → ℕ → List Value → Inquiry ScoredRow IndexFault
 scoring_row answer predicate args row values = record {
-  requests = request_for predicate args values ∷ [];
+  requests = row_request predicate args values ∷ [];
   outcome = score_for predicate.max row (answer predicate (args_in args values));
 }
 
 -- what is answered of such a result
-abbrev pub answer_of : Result (List ScoredRow) IndexFault → Result (Unit {0}) IndexFault
-answer_of (Ok ranking) = Ok tt
-answer_of (Err fault) = Err fault
+abbrev pub without_ranking : Result (List ScoredRow) IndexFault → Result (Unit {0}) IndexFault
+without_ranking (Ok ranking) = Ok tt
+without_ranking (Err fault) = Err fault
 
 -- the catalogue behind such a result: the index joins it, or it is as before
 abbrev pub catalogue_after : IndexDef → Result (List ScoredRow) IndexFault → Catalogue → Catalogue
@@ -51,5 +51,5 @@ catalogue_after def (Err fault) catalogue = catalogue
 pub record MakesIndex (making : Inquiry (List ScoredRow) IndexFault) (def : IndexDef) (old new : Catalogue) (result : Result (Unit {0}) IndexFault) (before after : ScorerState) : Type 0 where
   pub ranking : Result (List ScoredRow) IndexFault
   pub inquires : Inquires Memory making ranking before after
-  pub answers : result ≡ answer_of ranking
+  pub answers : result ≡ without_ranking ranking
   pub joins : new ≡ catalogue_after def ranking old

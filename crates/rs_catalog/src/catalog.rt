@@ -1,7 +1,7 @@
 ghost use Rattle.std.specs.Prelude.{◌≡◌, ℕ, ◌<◌, ◌≤◌, ◌-◌, ◌∷◌, [], ◌++◌, List, Ok, false, OnErr, OnOk, length, slice_get, Some, IfSome, option_map};
 ghost use Rattle.indexmap.specs.IndexMap.{index_map_len, keys};
-ghost use Rattle.rs_catalog.specs.Catalogue.{empty, has_name, most_of, names_of, number_in, number_of, room_for, room_in, with_predicate, with_table};
-ghost use Rattle.rs_catalog.specs.Indexes.{IsEntry, IsIndex, IsRanking, index_of, making, predicate_for, ranking_at, rows_for};
+ghost use Rattle.rs_catalog.specs.Catalogue.{empty, has_name, most_of, names_of, place_of_name, number_named, room_for, room_in, with_predicate, with_table};
+ghost use Rattle.rs_catalog.specs.Indexes.{IsIndexEntry, IsIndex, IsRanking, index_of, making, predicate_for, ranking_at, rows_for};
 ghost use Rattle.rs_catalog.specs.Making.{MakesIndex};
 ghost use Rattle.rs_catalog.specs.declared.room.What.{What as Lists};
 ghost use Rattle.rs_catalog.specs.declared.room.What.TheVariants as what;
@@ -82,7 +82,7 @@ impl Catalog {
 
     /// The number of the one of this name in a list, counted from 0. It takes no memory.
     pub fn find(&self, what: What, name: &Text) -> Option<u8>
-        ensures value { result ≡ number_of what name.now self.now }
+        ensures value { result ≡ number_named what name.now self.now }
         ensures within { IfSome result (λ number. number < length (names_of what self.now)) }
     {
         match what {
@@ -126,14 +126,8 @@ impl Catalog {
     {
         let table = self.table(def.table);
         let predicate = self.predicate(def.predicate);
-        let ranking = match rank_rows(alloc, table, predicate, def.args.items(), scorer) {
-            Ok(ranking) => ranking,
-            Err(fault) => return Err(fault),
-        };
-        let name = match def.name.copy() {
-            Ok(name) => name,
-            Err(Memory) => return Err(IndexFault::Memory),
-        };
+        let ranking = rank_rows(alloc, table, predicate, def.args.items(), scorer)?;
+        let name = def.name.copy()?;
         match put_last(&mut self.indexes, name, RankIndex { def, ranking }) {
             Ok(()) => Ok(()),
             Err(Memory) => Err(IndexFault::Memory),
@@ -181,7 +175,7 @@ impl Catalog {
     pub fn names_differ(&self)
         ensures few { (what : Lists) → length (names_of what self.now) ≤ most_of what }
         ensures found { (what : Lists) (number : ℕ) (name : List ℕ) → slice_get (names_of what self.now) number ≡ Some name
-            → number_of what name self.now ≡ Some number }
+            → number_named what name self.now ≡ Some number }
         ensures differ { (what : Lists) (first second : ℕ) (name : List ℕ) → slice_get (names_of what self.now) first ≡ Some name
             → slice_get (names_of what self.now) second ≡ Some name → first ≡ second }
     {
@@ -209,7 +203,7 @@ impl Catalog {
         requires place_in { place ≤ length (ranking_at self.now index) }
         ensures entry { slice_get (ranking_at self.now index) (place - 1) ≡ Some (record { score = result.0; row = result.1 }) }
         ensures fits { (def : IndexDef) → option_map (λ i. i.def) (slice_get self.now.indexes index) ≡ Some def
-            → IsEntry (length (rows_for self.now def)) (predicate_for self.now def).max (record { score = result.0; row = result.1 }) }
+            → IsIndexEntry (length (rows_for self.now def)) (predicate_for self.now def).max (record { score = result.0; row = result.1 }) }
     {
         let entry = self.indexes[index as usize].ranking[place as usize - 1];
         (entry.score, entry.row)
@@ -233,7 +227,7 @@ fn room_in<V>(list: &IndexMap<Text, V>, most: usize, name: &Text) -> Result<(), 
 /// The number of a name in a list.
 fn number_in<V>(list: &IndexMap<Text, V>, name: &Text) -> Option<u8>
     requires { index_map_len list.now ≤ 64 }
-    ensures value { result ≡ number_in name.now (keys list.now) }
+    ensures value { result ≡ place_of_name name.now (keys list.now) }
     ensures within { IfSome result (λ number. number < index_map_len list.now) }
 {
     let number = list.get_index_of(name)?;

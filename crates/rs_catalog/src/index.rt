@@ -1,7 +1,8 @@
 ghost use Rattle.std.specs.Prelude.{◌≡◌};
 ghost use Rattle.rs_catalog.specs.Indexes.{is_for, same_arg, same_args};
 
-use rs_value::{List, Text};
+use rs_value::{List, Memory, Text};
+use std::alloc::AllocFailed;
 
 /// An argument of a predicate, bound to the columns of a query. Columns count from 0.
 #[derive(Debug, Drop, PartialEq, Eq)]
@@ -69,4 +70,26 @@ pub enum IndexFault {
     /// A call of the scorer failed.
     Probe,
     Memory,
+}
+
+impl From<Memory> for IndexFault {
+    ghost use Rattle.std.specs.Prelude.{◌≡◌};
+    ghost use Rattle.rs_catalog.specs.declared.index.IndexFault.TheVariants.{Memory};
+
+    ghost from_gives = { λ _ fault. fault ≡ Memory };
+
+    fn from(_: Memory) -> IndexFault {
+        IndexFault::Memory
+    }
+}
+
+impl<T: Drop> From<AllocFailed<T>> for IndexFault {
+    ghost use Rattle.std.specs.Prelude.{◌≡◌};
+    ghost use Rattle.rs_catalog.specs.declared.index.IndexFault.TheVariants.{Memory};
+
+    ghost from_gives = { λ _ fault. fault ≡ Memory };
+
+    fn from(_: AllocFailed<T>) -> IndexFault {
+        IndexFault::Memory
+    }
 }

@@ -10,4 +10,5 @@ mod room;
 pub use catalog::Catalog;
 pub use index::{BoundArg, IndexDef, IndexFault};
 pub use laws::rankings_are_in_order;
+pub use make::score_for;
 pub use room::{RoomFault, What};

@@ -3,10 +3,10 @@ ghost use Rattle.rs_value.specs.Value.{all_fit, fits};
 ghost use Rattle.rs_value.specs.declared.kind.Kind.{Kind as ValueKind};
 ghost use Rattle.rs_expr.specs.InOrder.{Inquires};
 ghost use Rattle.rs_catalog.specs.Indexes.{IsRanking, arg_fits, arg_value, args_fit, args_in, making_of, row_at};
-ghost use Rattle.rs_catalog.specs.Making.{items_of, score_for, scoring_of, scoring_row};
+ghost use Rattle.rs_catalog.specs.Making.{as_ranking, score_for, scoring_of, scoring_row};
 
 use crate::index::{BoundArg, IndexFault};
-use rs_expr::{Predicate, Scorer, ScorerFault};
+use rs_expr::{Predicate, Scorer, ScorerFault, score_within};
 use rs_rank::{ScoredRow, sort_stably};
 use rs_table::Table;
 use rs_value::{Memory, Value};
@@ -23,17 +23,12 @@ pub fn rank_rows<S: Scorer>(
 ) -> Result<Vec<ScoredRow>, IndexFault>
     requires { args_fit table.now.schema predicate.now.params args.now ≡ true }
     ensures ranks { Inquires IndexFault.Memory (making_of (S.state scorer.old).answer predicate.now args.now table.now.rows)
-        (items_of result) (S.state scorer.old) (S.state scorer.new) }
+        (as_ranking result) (S.state scorer.old) (S.state scorer.new) }
     ensures ranking { IfOk result (λ ranking. IsRanking (length table.now.rows) predicate.now.max ranking.items) }
 {
-    let mut entries = match score_rows(alloc, table, predicate, args, scorer) {
-        Ok(entries) => entries,
-        Err(fault) => return Err(fault),
-    };
-    match sort_stably(&mut entries) {
-        Ok(()) => Ok(entries),
-        Err(Memory) => Err(IndexFault::Memory),
-    }
+    let mut entries = score_rows(alloc, table, predicate, args, scorer)?;
+    sort_stably(&mut entries)?;
+    Ok(entries)
 }
 
 /// The rows of a table in their order, each with its score.
@@ -46,18 +41,12 @@ fn score_rows<S: Scorer>(
 ) -> Result<Vec<ScoredRow>, IndexFault>
     requires { args_fit table.now.schema predicate.now.params args.now ≡ true }
     ensures { Inquires IndexFault.Memory (scoring_of (S.state scorer.old).answer predicate.now args.now table.now.rows)
-        (items_of result) (S.state scorer.old) (S.state scorer.new) }
+        (as_ranking result) (S.state scorer.old) (S.state scorer.new) }
 {
     let mut entries = Vec::new(alloc);
     for index in 0..table.len() {
-        match score_row(alloc, table, index + 1, predicate, args, scorer) {
-            Ok(entry) => {
-                if entries.push(entry).is_err() {
-                    return Err(IndexFault::Memory);
-                }
-            }
-            Err(fault) => return Err(fault),
-        }
+        let entry = score_row(alloc, table, index + 1, predicate, args, scorer)?;
+        entries.push(entry)?;
     }
     Ok(entries)
 }
@@ -77,10 +66,7 @@ fn score_row<S: Scorer>(
     ensures { Inquires IndexFault.Memory (scoring_row (S.state scorer.old).answer predicate.now args.now row (row_at table.now.rows row))
         result (S.state scorer.old) (S.state scorer.new) }
 {
-    let values = match arguments_of(alloc, table, row, args) {
-        Ok(values) => values,
-        Err(Memory) => return Err(IndexFault::Memory),
-    };
+    let values = arguments_of(alloc, table, row, args)?;
     match scorer.score(predicate, &values) {
         Ok(got) => score_for(predicate.max(), row, got),
         Err(ScorerFault::Failed) => Err(IndexFault::Probe),
@@ -88,17 +74,14 @@ fn score_row<S: Scorer>(
     }
 }
 
-/// A row with the number that it got, where that is a score.
-fn score_for(max: u32, row: u32, got: i128) -> Result<ScoredRow, IndexFault>
+/// A row with the number that it got as its score, where that is one.
+pub fn score_for(max: u32, row: u32, got: i128) -> Result<ScoredRow, IndexFault>
     ensures { result ≡ score_for max row got }
 {
-    if got < 0 || got > max as i128 {
-        return Err(IndexFault::BadScore { row, got, max });
+    match score_within(got, max) {
+        Some(score) => Ok(ScoredRow { score, row }),
+        None => Err(IndexFault::BadScore { row, got, max }),
     }
-    Ok(ScoredRow {
-        score: got as u32,
-        row,
-    })
 }
 
 /// The values that the arguments have for a row.

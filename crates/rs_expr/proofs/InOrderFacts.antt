@@ -3,7 +3,7 @@ use Rattle.std.proofs.Common.{◌≡◌, ◌∙◌, ◌++◌, List, [], ◌∷�
 use Rattle.std.specs.Prelude.{ℤ, Result, Ok, Err, IsOk}
 use Rattle.rs_value.proofs.OutsideFacts.{Faulted-from, Faulted-one}
 use Rattle.rs_expr.specs.Scoring.{KeepsScorer, Made, ScorerState}
-use Rattle.rs_expr.specs.InOrder.{Ends, Inquires, Inquiry, Request, and_then, calls_of}
+use Rattle.rs_expr.specs.InOrder.{InquiryEnds, Inquires, Inquiry, Request, and_then, calls_of}
 use Rattle.rs_expr.specs.declared.scorer.ScorerFault.TheVariants.{Failed, Memory}
 use Rattle.rs_expr.proofs.ScoringFacts.{KeepsScorer-one, KeepsScorer-refl, KeepsScorer-then, Made-append, Made-failed, Made-none, Made-ok, Made-stopped, Scored}
 
@@ -73,8 +73,8 @@ pub Inquires-uncalled : {A F : Type 0} (memory : F) (request : Request F) (outco
 Inquires-uncalled memory request outcome scorer = Inquires-unasked memory (one request outcome) scorer (λ e. cc)
 
 -- an inquiry that gave what it is to give made all calls
-pub Ends-ok : {A F : Type 0} (memory : F) (inquiry : Inquiry A F) (a : A) (old new : ScorerState) → Inquires memory inquiry (Ok a) old new → Ends inquiry (Ok a) old new
-Ends-ok memory inquiry a old new inquires = elim inquires.comes [
+pub InquiryEnds-ok : {A F : Type 0} (memory : F) (inquiry : Inquiry A F) (a : A) (old new : ScorerState) → Inquires memory inquiry (Ok a) old new → InquiryEnds inquiry (Ok a) old new
+InquiryEnds-ok memory inquiry a old new inquires = elim inquires.comes [
   | inl (inl ends) ↦ ends
   | inl (inr fails) ↦ absurd (let e = fails.gives in cc)
   | inr stops ↦ absurd (let e = stops.gives in cc)
@@ -83,7 +83,7 @@ Ends-ok memory inquiry a old new inquires = elim inquires.comes [
 -- want of memory for the result, after all calls were made and none was bad
 pub Inquires-unheld : {A F : Type 0} (memory : F) (inquiry : Inquiry A F) (a : A) (old new : ScorerState) → Inquires memory inquiry (Ok a) old new → Inquires memory inquiry (Err memory) old new
 Inquires-unheld memory inquiry a old new inquires =
-    let ends = Ends-ok memory inquiry a old new inquires in
+    let ends = InquiryEnds-ok memory inquiry a old new inquires in
     record {
       comes = inr (record {
         done = inquiry.requests;
@@ -178,7 +178,7 @@ Begins-and_then {A} {B} {F} first next good = go first.outcome good where
 pub Inquires-then : {A B F : Type 0} (memory : F) (first : Inquiry A F) (next : A → Inquiry B F) (a : A) (result : Result B F) (old middle new : ScorerState)
     → Inquires memory first (Ok a) old middle → Inquires memory (next a) result middle new → Inquires memory (and_then first next) result old new
 Inquires-then memory first next a result old middle new one two =
-    let ends = Ends-ok memory first a old middle one in
+    let ends = InquiryEnds-ok memory first a old middle one in
     subst (λ outcome. Inquires memory (and_then (record { requests = first.requests; outcome = outcome }) next) result old new) ends.gives
     (Inquires-behind memory first.requests (next a) result old middle new ends.made one.keeps two)
 

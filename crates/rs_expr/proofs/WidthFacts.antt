@@ -11,7 +11,7 @@ use Rattle.rs_value.specs.declared.kind.Kind.TheVariants as kind
 use Rattle.rs_value.specs.declared.value.Value.{Value}
 use Rattle.rs_value.specs.declared.value.Value.TheVariants as value
 use Rattle.rs_expr.specs.Formulas.{Formula, Argument, Constant, Negated, Sum, Difference, Product, Quotient, Magnitude, Least, Greatest, Case}
-use Rattle.rs_expr.specs.Meaning.{number_of, value_of, holds}
+use Rattle.rs_expr.specs.Meaning.{argument_number, value_of, holds}
 use Rattle.rs_expr.specs.Uses.{has_argument, is_of, uses}
 use Rattle.rs_expr.specs.Widths.{is_narrow, most_width, of_two, width_of, within}
 
@@ -75,7 +75,7 @@ two-within {combine} {a} {b} x y z left right both width e =
     let parts : OfTwo combine a b width = of_two-some combine a b width e in
     rw parts.whole.same (both parts.left parts.right (left parts.left parts.left_is) (right parts.right parts.right_is))
 
-argument-within : (o : Option Value) → is_of kind.Int o ≡ true → StaysIn (Some greatest_int) (nat_abs (number_of o))
+argument-within : (o : Option Value) → is_of kind.Int o ≡ true → StaysIn (Some greatest_int) (nat_abs (argument_number o))
 argument-within (Some (value.Int n)) u width e = let same : width ≡ greatest_int = cc in omega (arith, leb-true (nat_abs n) greatest_int u)
 argument-within (Some (value.Text t)) u width e = absurd (cc)
 argument-within None u width e = absurd (cc)

@@ -2,7 +2,7 @@
 use Rattle.std.proofs.Common.{ℕ, pos, ◌≡◌, ◌+◌, ◌++◌, List, [], ◌∷◌, false, refl, inl, inr, arith}
 use Rattle.std.specs.Prelude.{Some, Ok, Err, IsOk, codes}
 use Rattle.rs_expr.specs.Scoring.{KeepsScorer, ScorerState}
-use Rattle.rs_expr.specs.InOrder.{Inquires, Inquiry, Request, Stops, and_then, calls_of}
+use Rattle.rs_expr.specs.InOrder.{Inquires, Inquiry, Request, InquiryStops, and_then, calls_of}
 use Rattle.rs_expr.specs.declared.scorer.Call.{Call}
 
 -- requests whose faults are numbers, and 0 is want of memory
@@ -59,7 +59,7 @@ second_unmade = record {
 }
 
 -- where all calls were made and one answer was bad, there is no want of memory
-not_for_a_bad_one : Stops 0 bad (Err 0) (called [] 0 0) (called (near.call ∷ far.call ∷ []) 2 0) → ⊥
+not_for_a_bad_one : InquiryStops 0 bad (Err 0) (called [] 0 0) (called (near.call ∷ far.call ∷ []) 2 0) → ⊥
 not_for_a_bad_one stops = go stops.done stops.rest stops.split stops.good stops.made.told where
   go : (done rest : List (Request ℕ)) → near ∷ far ∷ [] ≡ done ++ rest → (rest ≡ [] → IsOk bad.outcome) → Some (near.call ∷ far.call ∷ []) ≡ Some ([] ++ calls_of done) → ⊥
   go [] rest split good told = cc

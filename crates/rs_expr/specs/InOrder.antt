@@ -20,12 +20,12 @@ abbrev pub calls_of : {F : Type 0} → List (Request F) → List Call
 calls_of requests = map (λ request. request.call) requests
 
 -- all calls were made, and the result is the outcome
-pub record Ends {A F : Type 0} (inquiry : Inquiry A F) (result : Result A F) (old new : ScorerState) : Type 0 where
+pub record InquiryEnds {A F : Type 0} (inquiry : Inquiry A F) (result : Result A F) (old new : ScorerState) : Type 0 where
   pub made : Made (calls_of inquiry.requests) old new
   pub gives : result ≡ inquiry.outcome
 
 -- the last call that was made failed
-pub record Fails {A F : Type 0} (inquiry : Inquiry A F) (result : Result A F) (old new : ScorerState) : Type 0 where
+pub record InquiryFails {A F : Type 0} (inquiry : Inquiry A F) (result : Result A F) (old new : ScorerState) : Type 0 where
   pub done : List (Request F)
   pub last : Request F
   pub rest : List (Request F)
@@ -35,7 +35,7 @@ pub record Fails {A F : Type 0} (inquiry : Inquiry A F) (result : Result A F) (o
   pub gives : result ≡ Err last.failed
 
 -- there was no memory: for the next call, or, where all were made and no answer was bad, for what comes of them
-pub record Stops {A F : Type 0} (memory : F) (inquiry : Inquiry A F) (result : Result A F) (old new : ScorerState) : Type 0 where
+pub record InquiryStops {A F : Type 0} (memory : F) (inquiry : Inquiry A F) (result : Result A F) (old new : ScorerState) : Type 0 where
   pub done : List (Request F)
   pub rest : List (Request F)
   pub split : inquiry.requests ≡ done ++ rest
@@ -45,7 +45,7 @@ pub record Stops {A F : Type 0} (memory : F) (inquiry : Inquiry A F) (result : R
 
 -- what a call did that makes an inquiry, where this fault is want of memory
 pub record Inquires {A F : Type 0} (memory : F) (inquiry : Inquiry A F) (result : Result A F) (old new : ScorerState) : Type 0 where
-  pub comes : (Ends inquiry result old new ⊎ Fails inquiry result old new) ⊎ Stops memory inquiry result old new
+  pub comes : (InquiryEnds inquiry result old new ⊎ InquiryFails inquiry result old new) ⊎ InquiryStops memory inquiry result old new
   pub keeps : KeepsScorer old new
 
 -- an inquiry, and then the one that its outcome leads to

@@ -11,25 +11,25 @@ use Rattle.rs_expr.specs.declared.expr.TextSide.{TextSide}
 use Rattle.rs_expr.specs.declared.expr.TextSide.TheVariants as side
 
 -- the number of an argument, and the text of one; 0 and the empty text where there is none
-abbrev pub number_of : Option Value → ℤ
-number_of (Some (value.Int n)) = n
-number_of (Some (value.Text t)) = pos 0
-number_of None = pos 0
+abbrev pub argument_number : Option Value → ℤ
+argument_number (Some (value.Int n)) = n
+argument_number (Some (value.Text t)) = pos 0
+argument_number None = pos 0
 
-abbrev pub text_of : Option Value → List ℕ
-text_of (Some (value.Int n)) = []
-text_of (Some (value.Text t)) = t
-text_of None = []
+abbrev pub argument_text : Option Value → List ℕ
+argument_text (Some (value.Int n)) = []
+argument_text (Some (value.Text t)) = t
+argument_text None = []
 
 -- the text of a side of a comparison
 abbrev pub side_of : TextSide → List Value → List ℕ
-side_of (side.Arg i) args = text_of (slice_get args i)
+side_of (side.Arg i) args = argument_text (slice_get args i)
 side_of (side.Text t) args = t
 
 abbrev mutual
   -- the value of a formula; division truncates towards zero, and CASE gives the result of the first condition that holds
   pub value_of : Formula → List Value → ℤ
-  value_of (Argument i) args = number_of (slice_get args i)
+  value_of (Argument i) args = argument_number (slice_get args i)
   value_of (Constant n) args = n
   value_of (Negated f) args = neg_ℤ (value_of f args)
   value_of (Sum f g) args = value_of f args +ℤ value_of g args

@@ -53,12 +53,12 @@ abbrev pub is_call_planned : MemScorerState → Bool
 is_call_planned state = list_any (λ call. call == length state.calls + 1) state.failing
 
 -- the score of a predicate for these arguments: the one that is written, or else the formula's value
-abbrev pub score_of : MemScorerState → PredicateDef → List Value → ℤ
-score_of state predicate args = unwrap_or (written_for (call_of predicate args) state.written) (value_of predicate.formula args)
+abbrev pub answered_score : MemScorerState → PredicateDef → List Value → ℤ
+answered_score state predicate args = unwrap_or (written_for (call_of predicate args) state.written) (value_of predicate.formula args)
 
 -- what a call answers, where there is memory
 abbrev pub score_answer : PredicateDef → List Value → MemScorerState → Result ℤ ScorerFault
-score_answer predicate args state = if is_call_planned state then Err Failed else Ok (score_of state predicate args)
+score_answer predicate args state = if is_call_planned state then Err Failed else Ok (answered_score state predicate args)
 
 -- the count of faults after a call with this answer
 abbrev pub faults_after : Result ℤ ScorerFault → ℕ → ℕ
@@ -77,7 +77,7 @@ after_score call result state = record state {
 -- what contracts see of a scorer in memory: it tells its calls, and is steady where no call is to fail
 abbrev pub scorer_state : MemScorerState → ScorerState
 scorer_state state = record {
-  answer = score_of state;
+  answer = answered_score state;
   calls = state.count;
   outside = record { told = Some state.calls; faults = state.faults; steady = length state.failing == 0 };
 }

@@ -2,7 +2,7 @@ ghost use Rattle.std.specs.Prelude.{◌≡◌, ◌≤◌, true, is_some, nat_abs
 ghost use Rattle.rs_value.specs.Number.{greatest_int};
 ghost use Rattle.rs_value.specs.declared.kind.Kind.TheVariants as kind;
 ghost use Rattle.rs_expr.specs.Formulas.{condition_of, formula_of};
-ghost use Rattle.rs_expr.specs.Meaning.{holds, number_of, side_of, text_of, value_of};
+ghost use Rattle.rs_expr.specs.Meaning.{holds, argument_number, side_of, argument_text, value_of};
 ghost use Rattle.rs_expr.specs.Uses.{condition_uses, has_argument, side_uses, uses};
 ghost use Rattle.rs_expr.specs.Widths.{is_narrow, width_of};
 
@@ -74,7 +74,7 @@ impl TextSide {
 /// The number of the argument at a place.
 fn number_at(args: &[Value], place: u16) -> i128
     requires { has_argument args.now kind.Int place ≡ true }
-    ensures value { result ≡ number_of (slice_get args.now place) }
+    ensures value { result ≡ argument_number (slice_get args.now place) }
     ensures within { nat_abs result ≤ greatest_int }
 {
     match &args[place as usize] {
@@ -86,7 +86,7 @@ fn number_at(args: &[Value], place: u16) -> i128
 /// The bytes of the argument at a place.
 fn text_at(args: &[Value], place: u16) -> &[u8]
     requires { has_argument args.now kind.Text place ≡ true }
-    ensures { result.now ≡ text_of (slice_get args.now place) }
+    ensures { result.now ≡ argument_text (slice_get args.now place) }
 {
     match &args[place as usize] {
         Value::Int(_) => &[],

@@ -7,6 +7,7 @@ mod formula_scorer;
 mod laws;
 mod mem_scorer;
 mod predicate;
+mod score;
 mod scorer;
 mod width;
 
@@ -16,4 +17,5 @@ pub use laws::values_stay_within_widths;
 pub use mem_scorer::MemScorer;
 pub use predicate::Predicate;
 pub use rs_value::Rel;
+pub use score::score_within;
 pub use scorer::{Call, Scorer, ScorerFault};

@@ -3,7 +3,7 @@ ghost use Rattle.rs_value.specs.Answer.{Gives};
 ghost use Rattle.rs_value.specs.Faults.{raised};
 ghost use Rattle.rs_value.specs.Outside.{Counts};
 ghost use Rattle.rs_value.specs.Value.{all_fit};
-ghost use Rattle.rs_expr.specs.MemScorer.{after_fail_at, after_score, after_set, is_call_planned, is_same_call, no_scores, score_answer, score_of, scorer_state, written_for};
+ghost use Rattle.rs_expr.specs.MemScorer.{after_fail_at, after_score, after_set, is_call_planned, is_same_call, no_scores, score_answer, answered_score, scorer_state, written_for};
 ghost use Rattle.rs_expr.specs.Scoring.{Answers, call_of, calls_after, count_after};
 
 use crate::predicate::Predicate;
@@ -169,8 +169,8 @@ impl Scorer for MemScorer {
 
     fn score(&mut self, predicate: &Predicate, args: &[Value]) -> Result<i128, ScorerFault>
         requires { all_fit predicate.now.params args.now ≡ true }
-        ensures answers { Answers (score_of self.old predicate.now args.now) result }
-        ensures same { score_of self.new ≡ score_of self.old }
+        ensures answers { Answers (answered_score self.old predicate.now args.now) result }
+        ensures same { answered_score self.new ≡ answered_score self.old }
         ensures told { (scorer_state self.new).outside.told
             ≡ option_map (calls_after (call_of predicate.now args.now) result) (scorer_state self.old).outside.told }
         ensures calls { self.new.count ≡ count_after result self.old.count }

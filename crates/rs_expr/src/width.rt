@@ -3,12 +3,13 @@ ghost use Rattle.rs_expr.specs.Formulas.{condition_of, formula_of};
 ghost use Rattle.rs_expr.specs.Widths.{is_narrow, most_width, of_two, width_of, within};
 
 use crate::expr::{Cond, Expr};
+use rs_value::GREATEST_INT;
 
 /// The greatest magnitude of a formula and of each of its parts.
 const MOST_WIDTH: u128 = (1 << 127) - 1;
 
 /// The greatest magnitude of an argument, that of a number in a table or a script.
-const ARGUMENT_WIDTH: u128 = 4_000_000_000_000_000_000;
+const ARGUMENT_WIDTH: u128 = GREATEST_INT as u128;
 
 impl Expr {
     /// The greatest magnitude that the formula can have, for arguments in range; `None` where it or a part passes

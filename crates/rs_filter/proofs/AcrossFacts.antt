@@ -8,8 +8,8 @@ use Rattle.rs_rank.proofs.MaskFacts.{bit_or-first, bit_or-others}
 use Rattle.rs_catalog.specs.Catalogue.{Catalogue}
 use Rattle.rs_query.specs.declared.block.Block.{Block}
 use Rattle.rs_query.specs.Conjuncts.{ConjunctDef}
-use Rattle.rs_query.specs.Meaning.{AreInside, all_hold, is_inside, within}
-use Rattle.rs_filter.specs.Matching.{across, holds_across, is_across}
+use Rattle.rs_query.specs.Meaning.{AreInside, all_hold, is_inside, conjuncts_within}
+use Rattle.rs_filter.specs.Matching.{conjuncts_across, holds_across, is_across}
 
 -- what is inside the one of two masks is inside both together
 wider-left : (entries m n : ℕ) → bit_and entries m ≡ entries → bit_and entries (bit_or m n) ≡ entries
@@ -84,19 +84,19 @@ module _ (left right : ℕ) where
     go false e f = inside-right c.entries left right f
 
   -- what is inside one side is inside both together
-  pub part-below : (conjuncts : List ConjunctDef) → bit_or (within left conjuncts) (within right conjuncts) ≤ within (bit_or left right) conjuncts
+  pub part-below : (conjuncts : List ConjunctDef) → bit_or (conjuncts_within left conjuncts) (conjuncts_within right conjuncts) ≤ conjuncts_within (bit_or left right) conjuncts
   part-below [] = omega arith
   part-below (c ∷ rest) =
-      subst (λ n. n ≤ within (bit_or left right) (c ∷ rest)) (sym (or-bits (is_inside c.entries left) (is_inside c.entries right) (within left rest) (within right rest)))
-      (part-bits (is_inside c.entries (bit_or left right)) (cond (is_inside c.entries left) true (is_inside c.entries right)) (within (bit_or left right) rest)
-      (bit_or (within left rest) (within right rest)) (part-of c) (part-below rest))
+      subst (λ n. n ≤ conjuncts_within (bit_or left right) (c ∷ rest)) (sym (or-bits (is_inside c.entries left) (is_inside c.entries right) (conjuncts_within left rest) (conjuncts_within right rest)))
+      (part-bits (is_inside c.entries (bit_or left right)) (cond (is_inside c.entries left) true (is_inside c.entries right)) (conjuncts_within (bit_or left right) rest)
+      (bit_or (conjuncts_within left rest) (conjuncts_within right rest)) (part-of c) (part-below rest))
 
-  across-cons : (c : ConjunctDef) (rest : List ConjunctDef) → across left right (c ∷ rest) ≡ cond (is_across left right c) 1 0 + 2 * across left right rest
-  across-cons c rest =
-      ap (λ n. within (bit_or left right) (c ∷ rest) - n) (or-bits (is_inside c.entries left) (is_inside c.entries right) (within left rest) (within right rest))
-      ∙ minus-bits (is_inside c.entries (bit_or left right)) (cond (is_inside c.entries left) true (is_inside c.entries right)) (within (bit_or left right) rest)
-      (bit_or (within left rest) (within right rest)) (part-of c) (part-below rest)
-      ∙ ap (λ b. cond b 1 0 + 2 * across left right rest) (across-bit c)
+  conjuncts_across-cons : (c : ConjunctDef) (rest : List ConjunctDef) → conjuncts_across left right (c ∷ rest) ≡ cond (is_across left right c) 1 0 + 2 * conjuncts_across left right rest
+  conjuncts_across-cons c rest =
+      ap (λ n. conjuncts_within (bit_or left right) (c ∷ rest) - n) (or-bits (is_inside c.entries left) (is_inside c.entries right) (conjuncts_within left rest) (conjuncts_within right rest))
+      ∙ minus-bits (is_inside c.entries (bit_or left right)) (cond (is_inside c.entries left) true (is_inside c.entries right)) (conjuncts_within (bit_or left right) rest)
+      (bit_or (conjuncts_within left rest) (conjuncts_within right rest)) (part-of c) (part-below rest)
+      ∙ ap (λ b. cond b 1 0 + 2 * conjuncts_across left right rest) (across-bit c)
 
   first-bit : (b : Bool) (n : ℕ) → (cond b 1 0 + 2 * n) % 2 ≡ cond b 1 0
   first-bit true n = omega arith
@@ -106,29 +106,29 @@ module _ (left right : ℕ) where
   other-bits true n = omega arith
   other-bits false n = omega arith
 
-  across-first : (c : ConjunctDef) (rest : List ConjunctDef) → across left right (c ∷ rest) % 2 ≡ cond (is_across left right c) 1 0
-  across-first c rest = ap (λ n. n % 2) (across-cons c rest) ∙ first-bit (is_across left right c) (across left right rest)
+  conjuncts_across-first : (c : ConjunctDef) (rest : List ConjunctDef) → conjuncts_across left right (c ∷ rest) % 2 ≡ cond (is_across left right c) 1 0
+  conjuncts_across-first c rest = ap (λ n. n % 2) (conjuncts_across-cons c rest) ∙ first-bit (is_across left right c) (conjuncts_across left right rest)
 
-  across-others : (c : ConjunctDef) (rest : List ConjunctDef) → across left right (c ∷ rest) / 2 ≡ across left right rest
-  across-others c rest = ap (λ n. n / 2) (across-cons c rest) ∙ other-bits (is_across left right c) (across left right rest)
+  conjuncts_across-others : (c : ConjunctDef) (rest : List ConjunctDef) → conjuncts_across left right (c ∷ rest) / 2 ≡ conjuncts_across left right rest
+  conjuncts_across-others c rest = ap (λ n. n / 2) (conjuncts_across-cons c rest) ∙ other-bits (is_across left right c) (conjuncts_across left right rest)
 
   -- all conjuncts in the mask hold where each that speaks of both sides does
   pub all_hold-across : (catalogue : Catalogue) (block : Block) (rows : List ℕ) (conjuncts : List ConjunctDef)
-      → all_hold catalogue block (across left right conjuncts) rows conjuncts ≡ list_all (holds_across catalogue block left right rows) conjuncts
+      → all_hold catalogue block (conjuncts_across left right conjuncts) rows conjuncts ≡ list_all (holds_across catalogue block left right rows) conjuncts
   all_hold-across catalogue block rows [] = refl
   all_hold-across catalogue block rows (c ∷ rest) =
-      rw (across-first c rest, across-others c rest, one (is_across left right c), all_hold-across catalogue block rows rest) refl
+      rw (conjuncts_across-first c rest, conjuncts_across-others c rest, one (is_across left right c), all_hold-across catalogue block rows rest) refl
     where
       one : (b : Bool) → eqb (cond b 1 0) 1 ≡ b
       one true = refl
       one false = refl
 
   -- and they speak of entries of both together
-  pub AreInside-across : (conjuncts : List ConjunctDef) → AreInside (across left right conjuncts) (bit_or left right) conjuncts
+  pub AreInside-across : (conjuncts : List ConjunctDef) → AreInside (conjuncts_across left right conjuncts) (bit_or left right) conjuncts
   AreInside-across [] = tt
   AreInside-across (c ∷ rest) = (
-    λ bit. speaks (is_across left right c) refl (sym (across-first c rest) ∙ bit),
-    subst (λ n. AreInside n (bit_or left right) rest) (sym (across-others c rest)) (AreInside-across rest),
+    λ bit. speaks (is_across left right c) refl (sym (conjuncts_across-first c rest) ∙ bit),
+    subst (λ n. AreInside n (bit_or left right) rest) (sym (conjuncts_across-others c rest)) (AreInside-across rest),
   )
     where
       both : (a b : Bool) → (a && b) ≡ true → a ≡ true

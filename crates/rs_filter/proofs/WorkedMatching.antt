@@ -3,7 +3,7 @@ use Rattle.std.proofs.Common.{◌≡◌, ℕ, true, false, [], ◌∷◌, None, 
 use Rattle.rs_value.specs.declared.rel.Rel.TheVariants.{Eq}
 use Rattle.rs_expr.specs.Formulas.{Constant, Numbers}
 use Rattle.rs_query.specs.Conjuncts.{ConjunctDef}
-use Rattle.rs_filter.specs.Matching.{across, is_across, is_choice}
+use Rattle.rs_filter.specs.Matching.{conjuncts_across, is_across, is_choice}
 
 -- a conjunct of the entries in a mask
 abbrev of : ℕ → ConjunctDef
@@ -34,7 +34,7 @@ of_another : is_across 1 6 (of 9) ≡ false
 of_another = refl
 
 -- the first conjunct has the lowest bit
-their_mask : across 1 6 (of 3 ∷ of 1 ∷ of 0 ∷ of 7 ∷ of 9 ∷ of 6 ∷ of 5 ∷ []) ≡ 73
+their_mask : conjuncts_across 1 6 (of 3 ∷ of 1 ∷ of 0 ∷ of 7 ∷ of 9 ∷ of 6 ∷ of 5 ∷ []) ≡ 73
 their_mask = refl
 
 -- rows 2 and 5 of entries 1 and 3, of tables of 2, 4 and 5 rows

@@ -6,7 +6,7 @@ use Rattle.rs_rank.specs.Ids.{merge_rows}
 use Rattle.rs_catalog.specs.Catalogue.{Catalogue}
 use Rattle.rs_query.specs.declared.block.Block.{Block}
 use Rattle.rs_query.specs.Conjuncts.{ConjunctDef}
-use Rattle.rs_query.specs.Meaning.{conjunct_holds, is_inside, within}
+use Rattle.rs_query.specs.Meaning.{conjunct_holds, is_inside, conjuncts_within}
 use Rattle.rs_query.specs.Tables.{sizes_of}
 use Rattle.rs_query.specs.WellFormed.{IsBlock}
 
@@ -56,14 +56,14 @@ abbrev pub new_matching : Catalogue → Block → ℕ → ℕ → Matching
 new_matching catalogue block left right = record { catalogue = catalogue; block = block; left = left; right = right; calls = 0 }
 
 -- the mask of the conjuncts that speak of both sides: those of both together, without those of one side
-abbrev pub across : ℕ → ℕ → List ConjunctDef → ℕ
-across left right conjuncts = within (bit_or left right) conjuncts - bit_or (within left conjuncts) (within right conjuncts)
+abbrev pub conjuncts_across : ℕ → ℕ → List ConjunctDef → ℕ
+conjuncts_across left right conjuncts = conjuncts_within (bit_or left right) conjuncts - bit_or (conjuncts_within left conjuncts) (conjuncts_within right conjuncts)
 
 -- what holds of each: the block is well formed, and the sizes and the conjuncts that are kept are those of the block
 pub record IsMatching (catalogue : Catalogue) (block : Block) (left right : ℕ) (sizes : List ℕ) (conjuncts : ℕ) : Type 0 where
   pub block_formed : IsBlock catalogue block
   pub sizes_are : sizes ≡ sizes_of catalogue block
-  pub conjuncts_are : conjuncts ≡ across left right block.conjuncts
+  pub conjuncts_are : conjuncts ≡ conjuncts_across left right block.conjuncts
 
 -- a view gives each entry a number of rows, at most those of its table
 abbrev pub IsView : List ℕ → List ℕ → Type 0

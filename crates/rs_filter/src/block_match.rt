@@ -1,6 +1,6 @@
 ghost use Rattle.std.specs.Prelude.{◌≡◌, ◌≤◌, length};
 ghost use Rattle.rs_query.specs.WellFormed.{IsBlock};
-ghost use Rattle.rs_filter.specs.Matching.{across, joins, new_matching};
+ghost use Rattle.rs_filter.specs.Matching.{conjuncts_across, joins, new_matching};
 
 use crate::choice::{is_choice, sizes_of};
 use rs_catalog::Catalog;
@@ -99,7 +99,7 @@ impl<'a> Matcher for BlockMatch<'a> {
 /// The mask of the conjuncts that speak of entries of both sides.
 fn across(block: &Block, left: u8, right: u8) -> u32
     requires { length block.now.conjuncts ≤ 32 }
-    ensures { result ≡ across left right block.now.conjuncts }
+    ensures { result ≡ conjuncts_across left right block.now.conjuncts }
 {
     // What is inside one side is inside both together.
     block.within(union(left, right)) - (block.within(left) | block.within(right))

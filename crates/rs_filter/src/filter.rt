@@ -1,7 +1,7 @@
 ghost use Rattle.std.specs.Prelude.{◌≡◌, IfOk, true};
 ghost use Rattle.rs_query.specs.Meaning.{AreInside, all_hold, is_inside, outputs_of};
 ghost use Rattle.rs_query.specs.Tables.{HasRows};
-ghost use Rattle.rs_query.specs.WellFormed.{IsBlock, entries_of};
+ghost use Rattle.rs_query.specs.WellFormed.{IsBlock, entries_mask};
 
 use rs_catalog::Catalog;
 use rs_query::Block;
@@ -34,7 +34,7 @@ pub fn project(
     row: &RankRow,
 ) -> Result<Vec<Value>, Memory>
     requires block { IsBlock catalog.now block.now }
-    requires inside { is_inside (entries_of block.now.items) row.now.ids.mask ≡ true }
+    requires inside { is_inside (entries_mask block.now.items) row.now.ids.mask ≡ true }
     requires rows { HasRows catalog.now block.now row.now.ids.mask row.now.ids.rows }
     ensures { IfOk result (λ values. values.items ≡ outputs_of catalog.now block.now row.now.ids.rows) }
 {

@@ -2,11 +2,11 @@
 use Rattle.std.specs.Prelude.{◌≡◌, ◌==◌, ◌&&◌, ◌||◌, Bool, true, false, not, ◌⊎◌, List, [], ◌∷◌, ◌++◌, if◌then◌else◌}
 use Rattle.std.proofs.Common.{inl, inr, refl, sym, append_assoc, eq-eqb}
 use Rattle.std.proofs.lemmas.Bool.{eqb-true}
-use Rattle.rs_grammar.specs.Kinds.{code, accepts}
+use Rattle.rs_grammar.specs.Kinds.{token_kind_number, accepts}
 use Rattle.rs_grammar.specs.Grammar.{Rule, Part, One, Empty, Seq, Either, Many, Use, rule, Tree, Leaf, Nothing, Pair, This, That, More, Node, yield, Fits, Viable}
 use Rattle.rs_grammar.specs.Grammar as grammar
 use Rattle.rs_grammar.specs.Reading.{starts_of, follow, nullable, starts, next_is}
-use Rattle.rs_grammar.specs.declared.kind.Kind.{Kind}
+use Rattle.rs_grammar.specs.declared.kind.TokenKind.{TokenKind}
 use Rattle.rs_grammar.specs.declared.lexeme.Lexeme.{Lexeme}
 use Rattle.rs_grammar.proofs.Predict.{and-left, and-right, disjoint, within, Clear, Clear-rule, starts-rule, nullable-rule}
 
@@ -37,35 +37,35 @@ append-some [] ys l ls e = inl (refl, e)
 append-some (x ∷ xs) ys l ls e = inr (xs, cc)
 
 -- the kinds of two lists
-pub accepts-append : (xs ys : List Kind) (k : Kind) → accepts (xs ++ ys) k ≡ (accepts xs k || accepts ys k)
+pub accepts-append : (xs ys : List TokenKind) (k : TokenKind) → accepts (xs ++ ys) k ≡ (accepts xs k || accepts ys k)
 accepts-append [] ys k = refl
-accepts-append (x ∷ xs) ys k = go (code x == code k) (accepts-append xs ys k)
+accepts-append (x ∷ xs) ys k = go (token_kind_number x == token_kind_number k) (accepts-append xs ys k)
   where
     go : (b : Bool) → accepts (xs ++ ys) k ≡ (accepts xs k || accepts ys k) → (b || accepts (xs ++ ys) k) ≡ ((b || accepts xs k) || accepts ys k)
     go true e = refl
     go false e = e
 
-pub accepts-left : (xs ys : List Kind) (k : Kind) → accepts xs k ≡ true → accepts (xs ++ ys) k ≡ true
+pub accepts-left : (xs ys : List TokenKind) (k : TokenKind) → accepts xs k ≡ true → accepts (xs ++ ys) k ≡ true
 accepts-left xs ys k e = rw accepts-append (or-left (accepts xs k) (accepts ys k) e)
 
-pub accepts-right : (xs ys : List Kind) (k : Kind) → accepts ys k ≡ true → accepts (xs ++ ys) k ≡ true
+pub accepts-right : (xs ys : List TokenKind) (k : TokenKind) → accepts ys k ≡ true → accepts (xs ++ ys) k ≡ true
 accepts-right xs ys k e = rw accepts-append (or-right (accepts xs k) (accepts ys k) e)
 
-pub accepts-cases : (xs ys : List Kind) (k : Kind) → accepts (xs ++ ys) k ≡ true → (accepts xs k ≡ true) ⊎ (accepts ys k ≡ true)
+pub accepts-cases : (xs ys : List TokenKind) (k : TokenKind) → accepts (xs ++ ys) k ≡ true → (accepts xs k ≡ true) ⊎ (accepts ys k ≡ true)
 accepts-cases xs ys k e = or-cases (accepts xs k) (accepts ys k) (rw accepts-append at e)
 
 -- kinds of one number are in the same lists
-accepts-code : (xs : List Kind) (j k : Kind) → code j ≡ code k → accepts xs j ≡ accepts xs k
+accepts-code : (xs : List TokenKind) (j k : TokenKind) → token_kind_number j ≡ token_kind_number k → accepts xs j ≡ accepts xs k
 accepts-code [] j k e = refl
 accepts-code (x ∷ xs) j k e = rw (e, accepts-code xs j k e) refl
 
 -- a kind isn't in two lists that have none in common
-pub disjoint-not : (xs ys : List Kind) (k : Kind) → disjoint xs ys ≡ true → accepts xs k ≡ true → accepts ys k ≡ true → ⊥
+pub disjoint-not : (xs ys : List TokenKind) (k : TokenKind) → disjoint xs ys ≡ true → accepts xs k ≡ true → accepts ys k ≡ true → ⊥
 disjoint-not [] ys k apart x y = cc
 disjoint-not (first ∷ others) ys k apart x y =
-    elim (or-cases (code first == code k) (accepts others k) x) [
+    elim (or-cases (token_kind_number first == token_kind_number k) (accepts others k) x) [
       | inl here ↦
-          let same : accepts ys first ≡ accepts ys k = accepts-code ys first k (eqb-true (code first) (code k) here) in
+          let same : accepts ys first ≡ accepts ys k = accepts-code ys first k (eqb-true (token_kind_number first) (token_kind_number k) here) in
           let out : not (accepts ys first) ≡ true = and-left (not (accepts ys first)) (disjoint others ys) apart in
           let other : not true ≡ true = rw (same, y) at out in
           cc
@@ -73,32 +73,32 @@ disjoint-not (first ∷ others) ys k apart x y =
     ]
 
 -- a kind of the first list is in the second one
-pub within-accepts : (xs ys : List Kind) (k : Kind) → within xs ys ≡ true → accepts xs k ≡ true → accepts ys k ≡ true
+pub within-accepts : (xs ys : List TokenKind) (k : TokenKind) → within xs ys ≡ true → accepts xs k ≡ true → accepts ys k ≡ true
 within-accepts [] ys k inside x = cc
 within-accepts (first ∷ others) ys k inside x =
-    elim (or-cases (code first == code k) (accepts others k) x) [
+    elim (or-cases (token_kind_number first == token_kind_number k) (accepts others k) x) [
       | inl here ↦
-          let same : accepts ys first ≡ accepts ys k = accepts-code ys first k (eqb-true (code first) (code k) here) in
+          let same : accepts ys first ≡ accepts ys k = accepts-code ys first k (eqb-true (token_kind_number first) (token_kind_number k) here) in
           let found : accepts ys first ≡ true = and-left (accepts ys first) (within others ys) inside in
           cc
       | inr there ↦ within-accepts others ys k (and-right (accepts ys first) (within others ys) inside) there
     ]
 
 -- lists of kinds are compared kind by kind
-within-each : (xs ys : List Kind) → ((k : Kind) → accepts xs k ≡ true → accepts ys k ≡ true) → within xs ys ≡ true
+within-each : (xs ys : List TokenKind) → ((k : TokenKind) → accepts xs k ≡ true → accepts ys k ≡ true) → within xs ys ≡ true
 within-each [] ys each = refl
 within-each (x ∷ xs) ys each =
-    and-both (accepts ys x) (within xs ys) (each x (or-left (code x == code x) (accepts xs x) (eq-eqb (code x) (code x) refl)))
-    (within-each xs ys (λ k h. each k (or-right (code x == code k) (accepts xs k) h)))
+    and-both (accepts ys x) (within xs ys) (each x (or-left (token_kind_number x == token_kind_number x) (accepts xs x) (eq-eqb (token_kind_number x) (token_kind_number x) refl)))
+    (within-each xs ys (λ k h. each k (or-right (token_kind_number x == token_kind_number k) (accepts xs k) h)))
 
-within-append : (zs xs ys : List Kind) → within xs ys ≡ true → within (zs ++ xs) (zs ++ ys) ≡ true
+within-append : (zs xs ys : List TokenKind) → within xs ys ≡ true → within (zs ++ xs) (zs ++ ys) ≡ true
 within-append zs xs ys inside =
     within-each (zs ++ xs) (zs ++ ys) (λ k h. elim (accepts-cases zs xs k h) [
       | inl one ↦ accepts-left zs ys k one
       | inr other ↦ accepts-right zs ys k (within-accepts xs ys k inside other)
     ])
 
-within-if : (b : Bool) (xs ys : List Kind) → within xs ys ≡ true → within (if b then xs else []) (if b then ys else []) ≡ true
+within-if : (b : Bool) (xs ys : List TokenKind) → within xs ys ≡ true → within (if b then xs else []) (if b then ys else []) ≡ true
 within-if true xs ys inside = inside
 within-if false xs ys inside = refl
 
@@ -107,7 +107,7 @@ not-mono true b more e = rw (more refl) at e
 not-mono false b more e = refl
 
 -- what has no kind in common with a list has none with fewer kinds, and none with two such lists
-disjoint-within : (zs xs ys : List Kind) → within xs ys ≡ true → disjoint zs ys ≡ true → disjoint zs xs ≡ true
+disjoint-within : (zs xs ys : List TokenKind) → within xs ys ≡ true → disjoint zs ys ≡ true → disjoint zs xs ≡ true
 disjoint-within [] xs ys inside apart = refl
 disjoint-within (z ∷ zs) xs ys inside apart =
     and-both (not (accepts xs z)) (disjoint zs xs)
@@ -118,7 +118,7 @@ not-or : (a b : Bool) → not a ≡ true → not b ≡ true → not (a || b) ≡
 not-or true b e f = cc
 not-or false b e f = f
 
-disjoint-append : (zs xs ys : List Kind) → disjoint zs xs ≡ true → disjoint zs ys ≡ true → disjoint zs (xs ++ ys) ≡ true
+disjoint-append : (zs xs ys : List TokenKind) → disjoint zs xs ≡ true → disjoint zs ys ≡ true → disjoint zs (xs ++ ys) ≡ true
 disjoint-append [] xs ys e f = refl
 disjoint-append (z ∷ zs) xs ys e f =
     and-both (not (accepts (xs ++ ys) z)) (disjoint zs (xs ++ ys))
@@ -140,14 +140,14 @@ Fits-nullable (Use r) (Node t) h e = let yes : nullable (rule r) ≡ true = Fits
 Fits-nullable _ _ h e = absurd h
 
 -- the kinds behind a part that can spell nothing
-starts-behind : (p q : Part) (k : Kind) → nullable p ≡ true → accepts (starts q) k ≡ true → accepts (starts (Seq p q)) k ≡ true
+starts-behind : (p q : Part) (k : TokenKind) → nullable p ≡ true → accepts (starts q) k ≡ true → accepts (starts (Seq p q)) k ≡ true
 starts-behind p q k e h = accepts-right (starts p) (if nullable p then starts q else []) k (rw e h)
 
-starts-front : (p q : Part) (k : Kind) → accepts (starts p) k ≡ true → accepts (starts (Seq p q)) k ≡ true
+starts-front : (p q : Part) (k : TokenKind) → accepts (starts p) k ≡ true → accepts (starts (Seq p q)) k ≡ true
 starts-front p q k h = accepts-left (starts p) (if nullable p then starts q else []) k h
 
 -- the kinds of a sequence whose first part spells a token
-starts-first : (p q : Part) (k : Kind) → nullable p ≡ false → accepts (starts (Seq p q)) k ≡ true → accepts (starts p) k ≡ true
+starts-first : (p q : Part) (k : TokenKind) → nullable p ≡ false → accepts (starts (Seq p q)) k ≡ true → accepts (starts p) k ≡ true
 starts-first p q k e h =
     elim (accepts-cases (starts p) (if nullable p then starts q else []) k h) [
       | inl one ↦ one
@@ -155,7 +155,7 @@ starts-first p q k e h =
     ]
 
 -- a repetition begins as its part does
-starts-again : (p : Part) (k : Kind) → accepts (starts (Seq p (Many p))) k ≡ true → accepts (starts p) k ≡ true
+starts-again : (p : Part) (k : TokenKind) → accepts (starts (Seq p (Many p))) k ≡ true → accepts (starts p) k ≡ true
 starts-again p k h =
     elim (accepts-cases (starts p) (if nullable p then starts p else []) k h) [
       | inl one ↦ one
@@ -202,7 +202,7 @@ Viable-starts p l ls ts e (grammar.Viable.again a _ h) = starts-again a l.kind (
 Viable-starts p l ls ts e (grammar.Viable.by_rule r _ h) = within-accepts (starts (rule r)) (starts_of r) l.kind (starts-rule r) (Viable-starts (rule r) l ls ts e h)
 
 -- a part that is clear before some kinds is clear before fewer
-pub Clear-within : (p : Part) (xs ys : List Kind) → within xs ys ≡ true → Clear p ys → Clear p xs
+pub Clear-within : (p : Part) (xs ys : List TokenKind) → within xs ys ≡ true → Clear p ys → Clear p xs
 Clear-within (One kinds) xs ys inside clear = tt
 Clear-within Empty xs ys inside clear = tt
 Clear-within (Seq p q) xs ys inside clear = (
@@ -226,7 +226,7 @@ pub Clear-use : (r : Rule) (S : Part) → Clear (Use r) (starts S) → Clear (ru
 Clear-use r S clear = Clear-within (rule r) (starts S) (follow r) clear (Clear-rule r)
 
 -- there is no token, or the first one is of these kinds
-abbrev pub Begins : List Kind → List Lexeme → Type 0
+abbrev pub Begins : List TokenKind → List Lexeme → Type 0
 Begins kinds [] = Unit {0}
 Begins kinds (l ∷ ls) = accepts kinds l.kind ≡ true
 
@@ -242,7 +242,7 @@ Viable-begins p [] h = tt
 Viable-begins p (l ∷ ls) h = Viable-starts p l ls (l ∷ ls) refl h
 
 -- the next token isn't of both of two lists that have no kind in common
-pub Begins-not : (xs ys : List Kind) (ts : List Lexeme) → disjoint xs ys ≡ true → Begins ys ts → next_is xs ts ≡ true → ⊥
+pub Begins-not : (xs ys : List TokenKind) (ts : List Lexeme) → disjoint xs ys ≡ true → Begins ys ts → next_is xs ts ≡ true → ⊥
 Begins-not xs ys [] apart begins next = cc
 Begins-not xs ys (l ∷ ls) apart begins next = disjoint-not xs ys l.kind apart next begins
 
@@ -286,7 +286,7 @@ pub record Behind (S : Part) (x : Tree) : Type 0 where
   pub spells : yield tail ≡ yield x
 
 -- a tree of a sequence whose first tree is one token
-pub record Token (kinds : List Kind) (S : Part) (x : Tree) : Type 0 where
+pub record Token (kinds : List TokenKind) (S : Part) (x : Tree) : Type 0 where
   pub token : Lexeme
   pub tail : Tree
   pub is : x ≡ Pair (Leaf token) tail
@@ -295,7 +295,7 @@ pub record Token (kinds : List Kind) (S : Part) (x : Tree) : Type 0 where
   pub spells : yield x ≡ token ∷ yield tail
 
 -- Trees of a sequence, by its first part. Where there is a choice, the next token makes it.
-pub Fits-one : (kinds : List Kind) (S : Part) (x : Tree) → Fits (Seq (One kinds) S) x → Token kinds S x
+pub Fits-one : (kinds : List TokenKind) (S : Part) (x : Tree) → Fits (Seq (One kinds) S) x → Token kinds S x
 Fits-one kinds S (Pair (Leaf l) s) h = record { token = l; tail = s; is = refl; accepted = h.0; fits = h.1; spells = refl }
 Fits-one kinds S (Pair _ s) h = absurd h.0
 Fits-one kinds S _ h = absurd h
@@ -401,7 +401,7 @@ pub Viable-behind : (p q : Part) (ts : List Lexeme) (t : Tree) (us : List Lexeme
 Viable-behind p q ts t us fits h e = rw e (grammar.Viable.rest p q t us fits h)
 
 -- Beginnings of a sequence, by its first part: `ts` is the beginning, and `zs` the tokens behind it that the reader sees too.
-pub Viable-one : (kinds : List Kind) (S : Part) (l : Lexeme) (us : List Lexeme) → Viable (Seq (One kinds) S) (l ∷ us)
+pub Viable-one : (kinds : List TokenKind) (S : Part) (l : Lexeme) (us : List Lexeme) → Viable (Seq (One kinds) S) (l ∷ us)
     → (accepts kinds l.kind ≡ true) × Viable S us
 Viable-one kinds S l us h =
     (starts-first (One kinds) S l.kind refl (Viable-starts (Seq (One kinds) S) l us (l ∷ us) refl h), go (Viable-cases (Seq (One kinds) S) (l ∷ us) h))

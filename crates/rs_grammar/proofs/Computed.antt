@@ -12,7 +12,7 @@ use Rattle.rs_grammar.specs.Kinds.{accepts}
 use Rattle.rs_grammar.specs.Grammar.{Rule, Part, One, Empty, Seq, Either, Many, Use, rule, Tree, Leaf, Nothing, Pair, This, That, More, Node}
 use Rattle.rs_grammar.specs.Reading.{State, left_behind, is_too_deep, next_is, opens, Takes, Read, Cause, Expected, TooDeep, Fails}
 use Rattle.rs_grammar.specs.Reading as reading
-use Rattle.rs_grammar.specs.declared.kind.Kind.{Kind}
+use Rattle.rs_grammar.specs.declared.kind.TokenKind.{TokenKind}
 use Rattle.rs_grammar.specs.declared.lexeme.Lexeme.{Lexeme}
 
 -- the tokens behind a front; `next` tells those behind the bytes that it has
@@ -88,7 +88,7 @@ abbrev behind : Lexeme → List Lexeme → State → State
 behind l ls b = record { rest = ls; left = left_behind l.kind b.left; last = l.at.end }
 
 -- a token of one of these kinds
-abbrev taken : List Kind → State → List Lexeme → Outcome
+abbrev taken : List TokenKind → State → List Lexeme → Outcome
 taken kinds b [] = Stuck Expected b
 taken kinds b (l ∷ ls) =
     chosen (accepts kinds l.kind) (λ _. chosen (is_too_deep l.kind b.left) (λ _. Stuck TooDeep b) (λ _. Got (Leaf l) (behind l ls b))) (λ _. Stuck Expected b)
@@ -113,7 +113,7 @@ chosen-holds : (e : Bool) (f g : Unit {0} → Outcome) (P : Outcome → Type 0) 
 chosen-holds true f g P h k = h refl
 chosen-holds false f g P h k = k refl
 
-taken-says : (kinds : List Kind) (b : State) (rest : List Lexeme) → b.rest ≡ rest → Says (One kinds) b (taken kinds b rest)
+taken-says : (kinds : List TokenKind) (b : State) (rest : List Lexeme) → b.rest ≡ rest → Says (One kinds) b (taken kinds b rest)
 taken-says kinds b [] e = reading.Fails.other kinds b (ap (next_is kinds) e)
 taken-says kinds b (l ∷ ls) e =
     chosen-holds (accepts kinds l.kind) _ _ (Says (One kinds) b)

@@ -7,7 +7,7 @@ use Rattle.rs_grammar.specs.Grammar.{Part, One, Empty, Seq, Either, Many, Use, r
 use Rattle.rs_grammar.specs.Grammar as grammar
 use Rattle.rs_grammar.specs.Reading.{State, starts, nullable, next_is, left_behind, is_too_deep, Read, Fails, Cause, Expected, TooDeep}
 use Rattle.rs_grammar.specs.Reading as reading
-use Rattle.rs_grammar.specs.declared.kind.Kind.{Kind}
+use Rattle.rs_grammar.specs.declared.kind.TokenKind.{TokenKind}
 use Rattle.rs_grammar.specs.declared.lexeme.Lexeme.{Lexeme}
 use Rattle.rs_grammar.proofs.Predict.{Clear, nullable-rule}
 use Rattle.rs_grammar.proofs.Beginnings.{Clear-use, Fits-one, Fits-empty, Fits-seq, Fits-use, Fits-this, Fits-that, Fits-more, Fits-stop, Viable-one, Viable-empty, Viable-seq, Viable-use, Viable-this, Viable-that, Viable-more, Viable-stop}
@@ -243,7 +243,7 @@ Fails-front p c b a (reading.Fails.later q t _ _ x _ o k h) =
 Fails-front p c b a (reading.Fails.by_rule r _ _ _ h) = Front-around (rule r) p b a (grammar.Viable.by_rule r) (Fails-front (rule r) c b a h)
 
 -- equal lists have the same next token
-next-same : (kinds : List Kind) (xs ys : List Lexeme) (b : Bool) → xs ≡ ys → next_is kinds ys ≡ b → next_is kinds xs ≡ b
+next-same : (kinds : List TokenKind) (xs ys : List Lexeme) (b : Bool) → xs ≡ ys → next_is kinds ys ≡ b → next_is kinds xs ≡ b
 next-same kinds xs ys b e next = rw e next
 
 -- the same with the cause in a variable
@@ -416,7 +416,7 @@ front-nothing : (p : Part) (xs ys : List Lexeme) → [] ≡ xs ++ ys → Viable 
 front-nothing p [] ys e = grammar.Viable.none p
 front-nothing p (x ∷ xs) ys e = cc
 
-front-token : (kinds : List Kind) (l : Lexeme) → accepts kinds l.kind ≡ true → (xs ys : List Lexeme) → l ∷ [] ≡ xs ++ ys → Viable (One kinds) xs
+front-token : (kinds : List TokenKind) (l : Lexeme) → accepts kinds l.kind ≡ true → (xs ys : List Lexeme) → l ∷ [] ≡ xs ++ ys → Viable (One kinds) xs
 front-token kinds l accepted [] ys e = grammar.Viable.none (One kinds)
 front-token kinds l accepted (x ∷ []) ys e =
     let same : l ≡ x = cc in

@@ -22,11 +22,11 @@ use Rattle.rs_lex.specs.declared.token.Token.{Token}
 use Rattle.rs_lex.proofs.SpellingFacts.{front_of-found, front_of-gap}
 use Rattle.rs_lex.proofs.FrontFacts.{number_front-wide}
 use Rattle.rs_grammar.specs.Kinds.{accepts, names}
-use Rattle.rs_grammar.specs.Lexemes.{IsToken, IsFront, piece, between, undoubled, kind_of, text_of}
+use Rattle.rs_grammar.specs.Lexemes.{IsTokenOf, IsFront, piece, between, undoubled, token_kind, token_text}
 
 -- the tokens that the bytes from a place on spell stand in the script
-tokens_from : (script : List ℕ) (at : ℕ) (bytes : List ℕ) (tokens : List Token) → at ≤ length script → bytes ≡ drop at script → Spells at bytes tokens → All (IsToken script) tokens
-tokens_from script at bytes tokens within is (nothing _ _ e) = All-nil (IsToken script)
+tokens_from : (script : List ℕ) (at : ℕ) (bytes : List ℕ) (tokens : List Token) → at ≤ length script → bytes ≡ drop at script → Spells at bytes tokens → All (IsTokenOf script) tokens
+tokens_from script at bytes tokens within is (nothing _ _ e) = All-nil (IsTokenOf script)
 tokens_from script at bytes tokens within is (spelling.Spells.passes _ n _ _ e h) =
     let size = front_of-gap bytes n e in
     let left : length bytes ≡ length script - at = ap length is ∙ length-drop at script in
@@ -35,7 +35,7 @@ tokens_from script at bytes tokens within is (spelling.Spells.takes _ n sort _ r
     let size = front_of-found bytes sort n e in
     let left : length bytes ≡ length script - at = ap length is ∙ length-drop at script in
     let some : at + n - at ≡ n = omega arith in
-    All-cons (IsToken script) (token_at at sort n) rest
+    All-cons (IsTokenOf script) (token_at at sort n) rest
     (record { ordered = omega arith; within = omega (arith, size.1, left); found = rw (some, ← is) e })
     (tokens_from script (at + n) (drop n bytes) rest (omega (arith, size.1, left)) (ap (drop n) is ∙ drop-drop n at script) h)
 
@@ -48,10 +48,10 @@ pub IsFront-whole : (script : List ℕ) (tokens : List Token) → Spells 0 scrip
 IsFront-whole script tokens h = record { more = []; spelled = rw append-nil h }
 
 -- each of the first tokens of a script stands in it
-pub IsToken-each : (script : List ℕ) (tokens : List Token) → IsFront script tokens → All (IsToken script) tokens
-IsToken-each script tokens h =
-    let all : All (IsToken script) (tokens ++ h.more) = tokens_from script 0 script (tokens ++ h.more) (omega arith) refl h.spelled in
-    All-same (IsToken script) tokens (take (length tokens) (tokens ++ h.more)) (sym (take-append_seam tokens h.more)) (All-take (IsToken script) (length tokens) (tokens ++ h.more) all)
+pub IsTokenOf-each : (script : List ℕ) (tokens : List Token) → IsFront script tokens → All (IsTokenOf script) tokens
+IsTokenOf-each script tokens h =
+    let all : All (IsTokenOf script) (tokens ++ h.more) = tokens_from script 0 script (tokens ++ h.more) (omega arith) refl h.spelled in
+    All-same (IsTokenOf script) tokens (take (length tokens) (tokens ++ h.more)) (sym (take-append_seam tokens h.more)) (All-take (IsTokenOf script) (length tokens) (tokens ++ h.more) all)
 
 -- UTF-8 without one byte of ASCII
 without_one : (xs ys : List ℕ) (byte : ℕ) → byte < 128 → IsUtf8 (xs ++ (byte ∷ ys)) → IsUtf8 (xs ++ ys)
@@ -238,7 +238,7 @@ front_of-says (byte ∷ rest) =
     (λ _. symbol_front-says byte rest))))))
 
 -- the bytes of a token are as its sort says
-token_holds : (script : List ℕ) (token : Token) → IsToken script token → Holds token.sort (token.at.end - token.at.start) (drop token.at.start script)
+token_holds : (script : List ℕ) (token : Token) → IsTokenOf script token → Holds token.sort (token.at.end - token.at.start) (drop token.at.start script)
 token_holds script token h = rw h.found at (front_of-says (drop token.at.start script))
 
 -- the bytes between the ends of the first ones
@@ -265,22 +265,22 @@ between_utf8 script at n utf8 within h =
     rw (between-take n (drop at script) h.some h.within, drop-drop 1 at script, ← count) inner
 
 -- so is the text of such bytes
-text_utf8 : (sort : Sort) (script : List ℕ) (at n : ℕ) → IsUtf8 script → at ≤ length script → Holds sort n (drop at script) → IsUtf8 (text_of sort (take n (drop at script)))
+text_utf8 : (sort : Sort) (script : List ℕ) (at n : ℕ) → IsUtf8 script → at ≤ length script → Holds sort n (drop at script) → IsUtf8 (token_text sort (take n (drop at script)))
 text_utf8 Word script at n utf8 within h =
-    cond_both (accepts names (kind_of Word (take n (drop at script)))) (take n (drop at script)) [] IsUtf8 (λ _. IsUtf8-from_ascii (take n (drop at script)) h) (λ _. IsUtf8-nil)
+    cond_both (accepts names (token_kind Word (take n (drop at script)))) (take n (drop at script)) [] IsUtf8 (λ _. IsUtf8-from_ascii (take n (drop at script)) h) (λ _. IsUtf8-nil)
 text_utf8 Quoted script at n utf8 within h = undoubled_behind quote [] (between (take n (drop at script))) (omega arith) (between_utf8 script at n utf8 within h)
 text_utf8 Number script at n utf8 within h = IsUtf8-nil
 text_utf8 Literal script at n utf8 within h = undoubled_behind apostrophe [] (between (take n (drop at script))) (omega arith) (between_utf8 script at n utf8 within h)
 text_utf8 Symbol script at n utf8 within h = IsUtf8-nil
 
 -- the text of a token is UTF-8 where the script is
-pub IsToken-text : (script : List ℕ) (token : Token) → IsUtf8 script → IsToken script token → IsUtf8 (text_of token.sort (piece script token.at))
-IsToken-text script token utf8 h =
+pub IsTokenOf-text : (script : List ℕ) (token : Token) → IsUtf8 script → IsTokenOf script token → IsUtf8 (token_text token.sort (piece script token.at))
+IsTokenOf-text script token utf8 h =
     text_utf8 token.sort script token.at.start (token.at.end - token.at.start) utf8 (omega (arith, h.ordered, h.within)) (token_holds script token h)
 
 -- the digits of a number have a value
-pub IsToken-number : (script : List ℕ) (token : Token) → IsToken script token → token.sort ≡ Number
+pub IsTokenOf-number : (script : List ℕ) (token : Token) → IsTokenOf script token → token.sort ≡ Number
     → decimal_value greatest_int (piece script token.at) ≡ Some (number_of (piece script token.at))
-IsToken-number script token h is =
+IsTokenOf-number script token h is =
     let holds = token_holds script token h in
     rw is at holds

@@ -5,20 +5,20 @@ use Rattle.rs_grammar.specs.Grammar.{Rule, Part, One, Empty, Seq, Either, Many, 
 use Rattle.rs_grammar.specs.Grammar.{statements, statement, create, create_table, create_predicate, create_rank_index, declare, fetch, close, explain, columns, column, select, set_operator, block, items, entries, entry, terms, term, args, arg, colref, expr, conj, neg, comp, sum, prod, sign, base, plain, absolute, extreme, brackets, case, when}
 use Rattle.std.proofs.Common.{refl}
 use Rattle.rs_grammar.specs.Reading.{starts_of, follow, nullable, starts}
-use Rattle.rs_grammar.specs.declared.kind.Kind.{Kind}
+use Rattle.rs_grammar.specs.declared.kind.TokenKind.{TokenKind}
 
 -- no kind is in both lists
-abbrev pub disjoint : List Kind → List Kind → Bool
+abbrev pub disjoint : List TokenKind → List TokenKind → Bool
 disjoint [] ys = true
 disjoint (x ∷ xs) ys = not (accepts ys x) && disjoint xs ys
 
 -- each kind of the first list is in the second one
-abbrev pub within : List Kind → List Kind → Bool
+abbrev pub within : List TokenKind → List TokenKind → Bool
 within [] ys = true
 within (x ∷ xs) ys = accepts ys x && within xs ys
 
 -- behind a part stands nothing, or a token of these kinds: then each choice in it is made by the next token
-abbrev pub Clear : Part → List Kind → Type 0
+abbrev pub Clear : Part → List TokenKind → Type 0
 Clear (One kinds) behind = Unit {0}
 Clear Empty behind = Unit {0}
 Clear (Seq p q) behind = Clear p (starts q ++ (if nullable q then behind else [])) × Clear q behind
@@ -38,7 +38,7 @@ and-right true b e = e
 and-right false b e = cc
 
 -- whether a part is clear
-abbrev is_clear : Part → List Kind → Bool
+abbrev is_clear : Part → List TokenKind → Bool
 is_clear (One kinds) behind = true
 is_clear Empty behind = true
 is_clear (Seq p q) behind = is_clear p (starts q ++ (if nullable q then behind else [])) && is_clear q behind
@@ -51,7 +51,7 @@ not-true : (b : Bool) → not b ≡ true → b ≡ false
 not-true true e = cc
 not-true false e = refl
 
-Clear-test : (p : Part) (behind : List Kind) → is_clear p behind ≡ true → Clear p behind
+Clear-test : (p : Part) (behind : List TokenKind) → is_clear p behind ≡ true → Clear p behind
 Clear-test (One kinds) behind e = tt
 Clear-test Empty behind e = tt
 Clear-test (Seq p q) behind e =

@@ -6,30 +6,30 @@ use Rattle.std.proofs.lemmas.Bool.{eqb-true, cases_lt, cases_order}
 use Rattle.rs_grammar.specs.Grammar.{Part, Empty, Tree, Pair, Nothing, yield, Fits, Viable, script}
 use Rattle.rs_grammar.specs.Grammar as grammar
 use Rattle.rs_grammar.specs.Reading.{State, starts, left_behind, is_too_deep, Read, Fails, Cause, Expected, TooDeep}
-use Rattle.rs_grammar.specs.Places.{most_deep, most_statements, is_semicolon, is_counted, tally_from, tally, ended, is_foreign, IsScript, IsUnexpected, IsTooDeep, IsTooMany, IsWithinStatements, Problem, Unexpected, Foreigner, TooMany, Stands, order_of, IsRefused}
+use Rattle.rs_grammar.specs.Places.{most_deep, most_statements, is_semicolon, is_counted, tally_from, tally, statements_ended, is_foreign, IsScript, IsUnexpected, IsTooDeep, IsTooMany, IsWithinStatements, Problem, Unexpected, Foreigner, TooMany, ProblemStands, order_of, IsRefused}
 use Rattle.rs_grammar.specs.Places as places
 use Rattle.rs_grammar.specs.declared.lexeme.Lexeme.{Lexeme}
 use Rattle.rs_grammar.proofs.Predict.{Clear}
 use Rattle.rs_grammar.proofs.Derivation.{left_after, IsShallow, Rest, Front, Deep, Read-fits, Read-split, Read-left, Read-only, Read-viable, Fails-front, Fails-none, Fails-next, Fails-deep, Viable-front, Fits-viable}
 
 -- two problems of one order at one place are one
-Stands-one : (ls : List Lexeme) (at : ℕ) (p q : Problem) → Stands ls p at → Stands ls q at → order_of p ≡ order_of q → p ≡ q
-Stands-one ls at Unexpected Unexpected x y e = refl
-Stands-one ls at Unexpected Foreigner x y e = let no : is_foreign (drop at ls) ≡ false = x.1 in let yes : is_foreign (drop at ls) ≡ true = y.1 in cc
-Stands-one ls at Unexpected places.TooDeep x y e = absurd (omega (arith, e))
-Stands-one ls at Unexpected TooMany x y e = absurd (omega (arith, e))
-Stands-one ls at Foreigner Unexpected x y e = let no : is_foreign (drop at ls) ≡ false = y.1 in let yes : is_foreign (drop at ls) ≡ true = x.1 in cc
-Stands-one ls at Foreigner Foreigner x y e = refl
-Stands-one ls at Foreigner places.TooDeep x y e = absurd (omega (arith, e))
-Stands-one ls at Foreigner TooMany x y e = absurd (omega (arith, e))
-Stands-one ls at places.TooDeep Unexpected x y e = absurd (omega (arith, e))
-Stands-one ls at places.TooDeep Foreigner x y e = absurd (omega (arith, e))
-Stands-one ls at places.TooDeep places.TooDeep x y e = refl
-Stands-one ls at places.TooDeep TooMany x y e = absurd (omega (arith, e))
-Stands-one ls at TooMany Unexpected x y e = absurd (omega (arith, e))
-Stands-one ls at TooMany Foreigner x y e = absurd (omega (arith, e))
-Stands-one ls at TooMany places.TooDeep x y e = absurd (omega (arith, e))
-Stands-one ls at TooMany TooMany x y e = refl
+ProblemStands-one : (ls : List Lexeme) (at : ℕ) (p q : Problem) → ProblemStands ls p at → ProblemStands ls q at → order_of p ≡ order_of q → p ≡ q
+ProblemStands-one ls at Unexpected Unexpected x y e = refl
+ProblemStands-one ls at Unexpected Foreigner x y e = let no : is_foreign (drop at ls) ≡ false = x.1 in let yes : is_foreign (drop at ls) ≡ true = y.1 in cc
+ProblemStands-one ls at Unexpected places.TooDeep x y e = absurd (omega (arith, e))
+ProblemStands-one ls at Unexpected TooMany x y e = absurd (omega (arith, e))
+ProblemStands-one ls at Foreigner Unexpected x y e = let no : is_foreign (drop at ls) ≡ false = y.1 in let yes : is_foreign (drop at ls) ≡ true = x.1 in cc
+ProblemStands-one ls at Foreigner Foreigner x y e = refl
+ProblemStands-one ls at Foreigner places.TooDeep x y e = absurd (omega (arith, e))
+ProblemStands-one ls at Foreigner TooMany x y e = absurd (omega (arith, e))
+ProblemStands-one ls at places.TooDeep Unexpected x y e = absurd (omega (arith, e))
+ProblemStands-one ls at places.TooDeep Foreigner x y e = absurd (omega (arith, e))
+ProblemStands-one ls at places.TooDeep places.TooDeep x y e = refl
+ProblemStands-one ls at places.TooDeep TooMany x y e = absurd (omega (arith, e))
+ProblemStands-one ls at TooMany Unexpected x y e = absurd (omega (arith, e))
+ProblemStands-one ls at TooMany Foreigner x y e = absurd (omega (arith, e))
+ProblemStands-one ls at TooMany places.TooDeep x y e = absurd (omega (arith, e))
+ProblemStands-one ls at TooMany TooMany x y e = refl
 
 -- tokens are refused with one problem at one place at most
 pub IsRefused-one : (ls : List Lexeme) (p q : Problem) (i j : ℕ) → IsRefused ls p i → IsRefused ls q j → (p ≡ q) × (i ≡ j)
@@ -41,7 +41,7 @@ IsRefused-one ls p q i j x y = go (x.least q j y.stands) (y.least p i x.stands)
     go (inr h) (inl k) = absurd (omega (arith, h.0))
     go (inr h) (inr k) =
         let same : i ≡ j = h.0 in
-        (Stands-one ls j p q (rw same at x.stands) y.stands (omega (arith, h.1, k.1)), same)
+        (ProblemStands-one ls j p q (rw same at x.stands) y.stands (omega (arith, h.1, k.1)), same)
 
 -- a token that isn't one too many leaves as many as the others take
 left_behind-tally : (s c : Bool) (n left : ℕ) → left + n ≡ most_deep → (c && (left == 0)) ≡ false
@@ -188,7 +188,7 @@ Within-front ls front rest at split h = go (Token-within front at h)
         }
 
 -- no problem stands at a token of such a front
-pub Sound-none : (ls front rest : List Lexeme) → Sound ls front rest → (problem : Problem) (at : ℕ) → at < length front → Stands ls problem at → ⊥
+pub Sound-none : (ls front rest : List Lexeme) → Sound ls front rest → (problem : Problem) (at : ℕ) → at < length front → ProblemStands ls problem at → ⊥
 Sound-none ls front rest s problem at h stands = go (Within-front ls front rest at s.split h) problem stands
   where
     short : length front ≤ length ls
@@ -199,7 +199,7 @@ Sound-none ls front rest s problem at h stands = go (Within-front ls front rest 
         let viable : Viable script (w.before ++ w.token ∷ [] ++ w.behind) = rw (append_assoc w.before (w.token ∷ []) w.behind, ← w.is) s.viable in
         x.here (omega (arith, short)) (rw w.next (Viable-front script (w.before ++ w.token ∷ []) w.behind viable))
 
-    go : Within ls front rest at → (problem : Problem) → Stands ls problem at → ⊥
+    go : Within ls front rest at → (problem : Problem) → ProblemStands ls problem at → ⊥
     go w Unexpected x = unexpected w x.0
     go w Foreigner x = unexpected w x.0
     go w places.TooDeep x =
@@ -207,15 +207,15 @@ Sound-none ls front rest s problem at h stands = go (Within-front ls front rest 
         let token : w.token ≡ x.token = cc in
         IsShallow-full w.before w.token w.behind (rw w.is at s.shallow) (rw token x.counts) (rw w.upto at x.full)
     go w TooMany x =
-        let full : ended (take at front) ≡ most_statements = rw (w.same, ← w.upto) x.full in
+        let full : statements_ended (take at front) ≡ most_statements = rw (w.same, ← w.upto) x.full in
         omega (arith, s.few at h, full)
 
 -- a problem behind such a front is the first one where no other at that place comes before it
-pub Sound-refused : (ls front rest : List Lexeme) → Sound ls front rest → (problem : Problem) → Stands ls problem (length front)
-    → ((other : Problem) → Stands ls other (length front) → order_of problem ≤ order_of other) → IsRefused ls problem (length front)
+pub Sound-refused : (ls front rest : List Lexeme) → Sound ls front rest → (problem : Problem) → ProblemStands ls problem (length front)
+    → ((other : Problem) → ProblemStands ls other (length front) → order_of problem ≤ order_of other) → IsRefused ls problem (length front)
 Sound-refused ls front rest s problem stands first = record { stands = stands; least = λ other place x. go other place x (cases_order (length front) place) }
   where
-    go : (other : Problem) (place : ℕ) → Stands ls other place → ((length front ≡ place) ⊎ ((length front < place) ⊎ (place < length front)))
+    go : (other : Problem) (place : ℕ) → ProblemStands ls other place → ((length front ≡ place) ⊎ ((length front < place) ⊎ (place < length front)))
         → (length front < place) ⊎ ((length front ≡ place) × (order_of problem ≤ order_of other))
     go other place x (inl e) = inr (e, first other (rw e x))
     go other place x (inr (inl lt)) = inl lt
@@ -225,15 +225,15 @@ Sound-refused ls front rest s problem stands first = record { stands = stands; l
 abbrev pub unexpected : List Lexeme → Problem
 unexpected rest = if is_foreign rest then Foreigner else Unexpected
 
-Stands-unexpected : (ls : List Lexeme) (at : ℕ) → IsUnexpected ls at → Stands ls (unexpected (drop at ls)) at
-Stands-unexpected ls at x = go (is_foreign (drop at ls)) refl
+ProblemStands-unexpected : (ls : List Lexeme) (at : ℕ) → IsUnexpected ls at → ProblemStands ls (unexpected (drop at ls)) at
+ProblemStands-unexpected ls at x = go (is_foreign (drop at ls)) refl
   where
-    go : (foreign : Bool) → is_foreign (drop at ls) ≡ foreign → Stands ls (if foreign then Foreigner else Unexpected) at
+    go : (foreign : Bool) → is_foreign (drop at ls) ≡ foreign → ProblemStands ls (if foreign then Foreigner else Unexpected) at
     go true e = (x, e)
     go false e = (x, e)
 
 -- nothing else comes before it where too many statements don't stand there
-unexpected-first : (ls : List Lexeme) (at : ℕ) (foreign : Bool) → (IsTooMany ls at → ⊥) → (other : Problem) → Stands ls other at
+unexpected-first : (ls : List Lexeme) (at : ℕ) (foreign : Bool) → (IsTooMany ls at → ⊥) → (other : Problem) → ProblemStands ls other at
     → order_of (if foreign then Foreigner else Unexpected) ≤ order_of other
 unexpected-first ls at true few Unexpected x = omega arith
 unexpected-first ls at true few Foreigner x = omega arith
@@ -245,11 +245,11 @@ unexpected-first ls at false few places.TooDeep x = omega arith
 unexpected-first ls at false few TooMany x = absurd (few x)
 
 -- a token that doesn't go on with a beginning
-pub unexpected-next : (ls front : List Lexeme) (l : Lexeme) (rest : List Lexeme) → Sound ls front (l ∷ rest) → ended front < most_statements
+pub unexpected-next : (ls front : List Lexeme) (l : Lexeme) (rest : List Lexeme) → Sound ls front (l ∷ rest) → statements_ended front < most_statements
     → (Viable script (front ++ l ∷ []) → ⊥) → IsRefused ls (unexpected (l ∷ rest)) (length front)
 unexpected-next ls front l rest s few stops =
     let from : drop (length front) ls ≡ l ∷ rest = rw s.split (drop-append_seam front (l ∷ rest)) in
-    Sound-refused ls front (l ∷ rest) s (unexpected (l ∷ rest)) (rw from at (Stands-unexpected ls (length front) is))
+    Sound-refused ls front (l ∷ rest) s (unexpected (l ∷ rest)) (rw from at (ProblemStands-unexpected ls (length front) is))
     (unexpected-first ls (length front) (is_foreign (l ∷ rest)) many)
   where
     upto : take (length front) ls ≡ front
@@ -265,7 +265,7 @@ unexpected-next ls front l rest s few stops =
     is = record { within = omega (arith, more); before = rw upto s.viable; here = λ _ h. stops (rw next at h); whole = λ e _. omega (arith, e, more) }
 
     many : IsTooMany ls (length front) → ⊥
-    many x = let full : ended front ≡ most_statements = rw upto at x.full in omega (arith, few, full)
+    many x = let full : statements_ended front ≡ most_statements = rw upto at x.full in omega (arith, few, full)
 
 -- tokens that begin a script and are none
 pub unexpected-end : (ls : List Lexeme) → Sound ls ls [] → (IsScript ls → ⊥) → IsRefused ls Unexpected (length ls)
@@ -278,7 +278,7 @@ unexpected-end ls s other = Sound-refused ls ls [] s Unexpected (is, rw none ref
     is = record { within = omega arith; before = rw take-length s.viable; here = λ h _. omega (arith, h); whole = λ _ h. other h }
 
 -- a token that is one too many
-pub too_deep-next : (ls front : List Lexeme) (l : Lexeme) (rest : List Lexeme) → Sound ls front (l ∷ rest) → ended front < most_statements
+pub too_deep-next : (ls front : List Lexeme) (l : Lexeme) (rest : List Lexeme) → Sound ls front (l ∷ rest) → statements_ended front < most_statements
     → Viable script (front ++ l ∷ []) → is_too_deep l.kind (left_after most_deep front) ≡ true → IsRefused ls places.TooDeep (length front)
 too_deep-next ls front l rest s few viable deep = Sound-refused ls front (l ∷ rest) s places.TooDeep is first
   where
@@ -297,15 +297,15 @@ too_deep-next ls front l rest s few viable deep = Sound-refused ls front (l ∷ 
     is : IsTooDeep ls (length front)
     is = record { token = l; behind = rest; here = rw s.split (drop-append_seam front (l ∷ rest)); counts = full.1; full = rw upto full.0; viable = rw next viable }
 
-    first : (other : Problem) → Stands ls other (length front) → order_of places.TooDeep ≤ order_of other
+    first : (other : Problem) → ProblemStands ls other (length front) → order_of places.TooDeep ≤ order_of other
     first Unexpected x = absurd (x.0.here more (rw next viable))
     first Foreigner x = absurd (x.0.here more (rw next viable))
     first places.TooDeep x = omega arith
-    first TooMany x = let many : ended front ≡ most_statements = rw upto at x.full in absurd (omega (arith, few, many))
+    first TooMany x = let many : statements_ended front ≡ most_statements = rw upto at x.full in absurd (omega (arith, few, many))
 
 -- a token behind the last statement that may stand
 pub too_many-next : (ls front : List Lexeme) (last l : Lexeme) (rest : List Lexeme) → Sound ls (front ++ last ∷ []) (l ∷ rest) → is_semicolon last ≡ true
-    → ended (front ++ last ∷ []) ≡ most_statements → IsRefused ls TooMany (length (front ++ last ∷ []))
+    → statements_ended (front ++ last ∷ []) ≡ most_statements → IsRefused ls TooMany (length (front ++ last ∷ []))
 too_many-next ls front last l rest s ends full = Sound-refused ls (front ++ last ∷ []) (l ∷ rest) s TooMany is (λ other x. omega arith)
   where
     upto : take (length (front ++ last ∷ [])) ls ≡ front ++ last ∷ []
@@ -359,7 +359,7 @@ Begins-sound ls kept more b s front rest split viable shallow = record {
     long i h = rw here (omega (arith, length-append front rest))
 
 -- fewer than the most statements end in front of a token that the reader was given
-Begins-few : (ls kept more : List Lexeme) (b : State) → Begins ls kept more b → (front : List Lexeme) (l : Lexeme) (rest : List Lexeme) → b.rest ≡ front ++ l ∷ rest → ended front < most_statements
+Begins-few : (ls kept more : List Lexeme) (b : State) → Begins ls kept more b → (front : List Lexeme) (l : Lexeme) (rest : List Lexeme) → b.rest ≡ front ++ l ∷ rest → statements_ended front < most_statements
 Begins-few ls kept more b s front l rest split = rw (here, take-append_seam front (l ∷ rest)) at (s.few (length front) long)
   where
     here : kept ≡ front ++ l ∷ rest
@@ -374,7 +374,7 @@ pub record IsCut (kept more : List Lexeme) : Type 0 where
   pub last : Lexeme
   pub is : kept ≡ front ++ last ∷ []
   pub ends : is_semicolon last ≡ true
-  pub full : ended kept ≡ most_statements
+  pub full : statements_ended kept ≡ most_statements
   pub token : Lexeme
   pub behind : List Lexeme
   pub more_is : more ≡ token ∷ behind
@@ -500,7 +500,7 @@ Read-shallow ls kept more b t a s h here whole =
 
 -- no problem stands anywhere
 abbrev pub HasNoProblem : List Lexeme → Type 0
-HasNoProblem ls = (problem : Problem) (at : ℕ) → Stands ls problem at → ⊥
+HasNoProblem ls = (problem : Problem) (at : ℕ) → ProblemStands ls problem at → ⊥
 
 -- no problem stands in a script that is within the limits
 pub script-none : (ls : List Lexeme) → IsScript ls → IsShallow most_deep ls → IsWithinStatements ls → HasNoProblem ls
@@ -509,7 +509,7 @@ script-none ls (t, fits, spells) shallow few problem at stands = go (cases_lt at
     sound : Sound ls ls []
     sound = record { split = sym (append-nil ls); viable = rw spells at (Fits-viable script t fits); shallow = shallow; few = few }
 
-    behind : length ls ≤ at → (other : Problem) → Stands ls other at → ⊥
+    behind : length ls ≤ at → (other : Problem) → ProblemStands ls other at → ⊥
     behind le Unexpected x = x.0.whole (omega (arith, le, x.0.within)) (t, fits, spells)
     behind le Foreigner x = x.0.whole (omega (arith, le, x.0.within)) (t, fits, spells)
     behind le places.TooDeep x = let none : [] ≡ x.token ∷ x.behind = sym (drop_all at ls le) ∙ x.here in cc

@@ -3,16 +3,16 @@ use Rattle.std.proofs.Common.{ℕ, ◌≡◌, List, [], ◌∷◌, map, refl}
 use Rattle.std.specs.Prelude.{pos, codes}
 use Rattle.rs_lex.specs.Spelling.{token_at}
 use Rattle.rs_lex.specs.declared.token.Sort.TheVariants as sort
-use Rattle.rs_grammar.specs.Lexemes.{words, symbols, kind_of, undoubled, lexeme_of}
-use Rattle.rs_grammar.specs.declared.kind.Kind.{Kind}
-use Rattle.rs_grammar.specs.declared.kind.Kind.TheVariants.{Foreign, Select, From, Order, By, Rank, Integer, Analyze, Name, Number, Literal, OpenBracket, CloseBracket, Semicolon, Star, NotEqual, Less, LessEqual, Greater}
+use Rattle.rs_grammar.specs.Lexemes.{words, symbols, token_kind, undoubled, lexeme_of}
+use Rattle.rs_grammar.specs.declared.kind.TokenKind.{TokenKind}
+use Rattle.rs_grammar.specs.declared.kind.TokenKind.TheVariants.{Foreign, Select, From, Order, By, Rank, Integer, Analyze, Name, Number, Literal, OpenBracket, CloseBracket, Semicolon, Star, NotEqual, Less, LessEqual, Greater}
 use Rattle.rs_grammar.specs.declared.lexeme.Lexeme.{Lexeme}
 
 -- a token that says nothing, and a name
-abbrev mark : Kind → ℕ → ℕ → Lexeme
+abbrev mark : TokenKind → ℕ → ℕ → Lexeme
 mark kind start end = record { kind = kind; text = []; number = pos 0; at = record { start = start; end = end } }
 
-abbrev name : Kind → List ℕ → ℕ → ℕ → Lexeme
+abbrev name : TokenKind → List ℕ → ℕ → ℕ → Lexeme
 name kind text start end = record { kind = kind; text = text; number = pos 0; at = record { start = start; end = end } }
 
 -- a query: what is reserved says nothing, what the profile leaves out is foreign
@@ -36,7 +36,7 @@ unfolding words
 keyword = refl
 
 -- a word that only begins or ends with a reserved one is a name
-longer_words : map (kind_of sort.Word) (codes "selected" ∷ codes "_select" ∷ codes "selec" ∷ codes "r_nk" ∷ []) ≡ Name ∷ Name ∷ Name ∷ Name ∷ []
+longer_words : map (token_kind sort.Word) (codes "selected" ∷ codes "_select" ∷ codes "selec" ∷ codes "r_nk" ∷ []) ≡ Name ∷ Name ∷ Name ∷ Name ∷ []
 unfolding words
 longer_words = refl
 
@@ -69,7 +69,7 @@ long_text : undoubled 39 (codes "The quick brown fox doesn''t jump over the lazy
 long_text = refl
 
 -- comparisons
-comparisons : map (kind_of sort.Symbol) (codes "<>" ∷ codes "!=" ∷ codes "<" ∷ codes "<=" ∷ codes ">" ∷ []) ≡ NotEqual ∷ NotEqual ∷ Less ∷ LessEqual ∷ Greater ∷ []
+comparisons : map (token_kind sort.Symbol) (codes "<>" ∷ codes "!=" ∷ codes "<" ∷ codes "<=" ∷ codes ">" ∷ []) ≡ NotEqual ∷ NotEqual ∷ Less ∷ LessEqual ∷ Greater ∷ []
 unfolding symbols
 comparisons = refl
 

@@ -1,8 +1,8 @@
 -- The grammar as data, the trees of derivation, and the beginnings of what it spells.
 use Rattle.std.specs.Prelude.{ℕ, ◌≡◌, true, List, [], ◌∷◌, ◌++◌}
 use Rattle.rs_grammar.specs.Kinds.{accepts, names, plain_names, comparisons}
-use Rattle.rs_grammar.specs.declared.kind.Kind.{Kind}
-use Rattle.rs_grammar.specs.declared.kind.Kind.TheVariants.{All, And, As, By, Case, Close, Create, Declare, Desc, Distinct, Else, End, Except, Explain, Fetch, For, From, Intersect, Limit, Not, On, Or, Order, Select, Then, Union, When, Where, Table, Predicate, Rank, Index, Int, Integer, Text, Max, Min, Abs, Cost, Cursor, Analyze, Number, Literal, OpenBracket, CloseBracket, Comma, Semicolon, Dot, Plus, Minus, Star, Slash}
+use Rattle.rs_grammar.specs.declared.kind.TokenKind.{TokenKind}
+use Rattle.rs_grammar.specs.declared.kind.TokenKind.TheVariants.{All, And, As, By, Case, Close, Create, Declare, Desc, Distinct, Else, End, Except, Explain, Fetch, For, From, Intersect, Limit, Not, On, Or, Order, Select, Then, Union, When, Where, Table, Predicate, Rank, Index, Int, Integer, Text, Max, Min, Abs, Cost, Cursor, Analyze, Number, Literal, OpenBracket, CloseBracket, Comma, Semicolon, Dot, Plus, Minus, Star, Slash}
 use Rattle.rs_grammar.specs.declared.lexeme.Lexeme.{Lexeme}
 
 -- the rules
@@ -11,7 +11,7 @@ pub data Rule : Type 0 where
 
 -- a part of a rule: one token of one of these kinds, nothing, one part and another behind it, one of two, any number of one, or a rule
 pub data Part : Type 0 where
-  One : List Kind → Part
+  One : List TokenKind → Part
   Empty : Part
   Seq : Part → Part → Part
   Either : Part → Part → Part
@@ -26,7 +26,7 @@ infixr 10 ◌∣◌
 abbrev pub ◌∣◌ : Part → Part → Part
 p ∣ q = Either p q
 
-abbrev pub word : Kind → Part
+abbrev pub word : TokenKind → Part
 word kind = One (kind ∷ [])
 
 abbrev pub name : Part
@@ -164,7 +164,7 @@ pub data Viable : Part → List Lexeme → Type 0 where
   -- nothing begins each part
   none : (p : Part) → Viable p []
   -- one token that a terminal spells
-  token : (kinds : List Kind) (l : Lexeme) → accepts kinds l.kind ≡ true → Viable (One kinds) (l ∷ [])
+  token : (kinds : List TokenKind) (l : Lexeme) → accepts kinds l.kind ≡ true → Viable (One kinds) (l ∷ [])
   -- of a sequence, they begin the first part, or the first part spells some of them and the rest begins the others
   first : (p q : Part) (ts : List Lexeme) → Viable p ts → Viable (Seq p q) ts
   rest : (p q : Part) (t : Tree) (ts : List Lexeme) → Fits p t → Viable q ts → Viable (Seq p q) (yield t ++ ts)

@@ -1,88 +1,88 @@
 -- The kinds of tokens, as numbers, and sets of them.
 use Rattle.std.specs.Prelude.{ℕ, ◌==◌, ◌||◌, Bool, false, List, [], ◌∷◌}
-use Rattle.rs_grammar.specs.declared.kind.Kind.{Kind}
-use Rattle.rs_grammar.specs.declared.kind.Kind.TheVariants.{All, And, As, By, Case, Close, Create, Declare, Desc, Distinct, Else, End, Except, Explain, Fetch, For, From, Intersect, Limit, Not, On, Or, Order, Select, Then, Union, When, Where, Foreign, Table, Predicate, Rank, Index, Int, Integer, Text, Max, Min, Abs, Cost, Cursor, Analyze, Name, Number, Literal, OpenBracket, CloseBracket, Comma, Semicolon, Dot, Plus, Minus, Star, Slash, Equal, NotEqual, Less, LessEqual, Greater, GreaterEqual}
+use Rattle.rs_grammar.specs.declared.kind.TokenKind.{TokenKind}
+use Rattle.rs_grammar.specs.declared.kind.TokenKind.TheVariants.{All, And, As, By, Case, Close, Create, Declare, Desc, Distinct, Else, End, Except, Explain, Fetch, For, From, Intersect, Limit, Not, On, Or, Order, Select, Then, Union, When, Where, Foreign, Table, Predicate, Rank, Index, Int, Integer, Text, Max, Min, Abs, Cost, Cursor, Analyze, Name, Number, Literal, OpenBracket, CloseBracket, Comma, Semicolon, Dot, Plus, Minus, Star, Slash, Equal, NotEqual, Less, LessEqual, Greater, GreaterEqual}
 
 -- the number of a kind
-abbrev pub code : Kind → ℕ
-code All = 0
-code And = 1
-code As = 2
-code By = 3
-code Case = 4
-code Close = 5
-code Create = 6
-code Declare = 7
-code Desc = 8
-code Distinct = 9
-code Else = 10
-code End = 11
-code Except = 12
-code Explain = 13
-code Fetch = 14
-code For = 15
-code From = 16
-code Intersect = 17
-code Limit = 18
-code Not = 19
-code On = 20
-code Or = 21
-code Order = 22
-code Select = 23
-code Then = 24
-code Union = 25
-code When = 26
-code Where = 27
-code Foreign = 28
-code Table = 29
-code Predicate = 30
-code Rank = 31
-code Index = 32
-code Int = 33
-code Integer = 34
-code Text = 35
-code Max = 36
-code Min = 37
-code Abs = 38
-code Cost = 39
-code Cursor = 40
-code Analyze = 41
-code Name = 42
-code Number = 43
-code Literal = 44
-code OpenBracket = 45
-code CloseBracket = 46
-code Comma = 47
-code Semicolon = 48
-code Dot = 49
-code Plus = 50
-code Minus = 51
-code Star = 52
-code Slash = 53
-code Equal = 54
-code NotEqual = 55
-code Less = 56
-code LessEqual = 57
-code Greater = 58
-code GreaterEqual = 59
+abbrev pub token_kind_number : TokenKind → ℕ
+token_kind_number All = 0
+token_kind_number And = 1
+token_kind_number As = 2
+token_kind_number By = 3
+token_kind_number Case = 4
+token_kind_number Close = 5
+token_kind_number Create = 6
+token_kind_number Declare = 7
+token_kind_number Desc = 8
+token_kind_number Distinct = 9
+token_kind_number Else = 10
+token_kind_number End = 11
+token_kind_number Except = 12
+token_kind_number Explain = 13
+token_kind_number Fetch = 14
+token_kind_number For = 15
+token_kind_number From = 16
+token_kind_number Intersect = 17
+token_kind_number Limit = 18
+token_kind_number Not = 19
+token_kind_number On = 20
+token_kind_number Or = 21
+token_kind_number Order = 22
+token_kind_number Select = 23
+token_kind_number Then = 24
+token_kind_number Union = 25
+token_kind_number When = 26
+token_kind_number Where = 27
+token_kind_number Foreign = 28
+token_kind_number Table = 29
+token_kind_number Predicate = 30
+token_kind_number Rank = 31
+token_kind_number Index = 32
+token_kind_number Int = 33
+token_kind_number Integer = 34
+token_kind_number Text = 35
+token_kind_number Max = 36
+token_kind_number Min = 37
+token_kind_number Abs = 38
+token_kind_number Cost = 39
+token_kind_number Cursor = 40
+token_kind_number Analyze = 41
+token_kind_number Name = 42
+token_kind_number Number = 43
+token_kind_number Literal = 44
+token_kind_number OpenBracket = 45
+token_kind_number CloseBracket = 46
+token_kind_number Comma = 47
+token_kind_number Semicolon = 48
+token_kind_number Dot = 49
+token_kind_number Plus = 50
+token_kind_number Minus = 51
+token_kind_number Star = 52
+token_kind_number Slash = 53
+token_kind_number Equal = 54
+token_kind_number NotEqual = 55
+token_kind_number Less = 56
+token_kind_number LessEqual = 57
+token_kind_number Greater = 58
+token_kind_number GreaterEqual = 59
 
 -- whether one of these kinds is that one
-abbrev pub accepts : List Kind → Kind → Bool
+abbrev pub accepts : List TokenKind → TokenKind → Bool
 accepts [] kind = false
-accepts (first ∷ rest) kind = (code first == code kind) || accepts rest kind
+accepts (first ∷ rest) kind = (token_kind_number first == token_kind_number kind) || accepts rest kind
 
 -- a keyword where the grammar doesn't ask for it is a name, as in `rank` of a table that is called so
-abbrev pub plain_names : List Kind
+abbrev pub plain_names : List TokenKind
 plain_names = Table ∷ Predicate ∷ Rank ∷ Index ∷ Int ∷ Integer ∷ Text ∷ Cost ∷ Cursor ∷ Analyze ∷ Name ∷ []
 
 -- the keywords that are functions where `(` follows
-abbrev pub names : List Kind
+abbrev pub names : List TokenKind
 names = Abs ∷ Min ∷ Max ∷ plain_names
 
 -- comparisons; `!=` is read as `<>`
-abbrev pub comparisons : List Kind
+abbrev pub comparisons : List TokenKind
 comparisons = Equal ∷ NotEqual ∷ Less ∷ LessEqual ∷ Greater ∷ GreaterEqual ∷ []
 
 -- the tokens that count towards the depth of a statement
-abbrev pub counted : List Kind
-counted = OpenBracket ∷ Plus ∷ Minus ∷ Star ∷ Slash ∷ And ∷ Or ∷ Not ∷ When ∷ []
+abbrev pub counted_kinds : List TokenKind
+counted_kinds = OpenBracket ∷ Plus ∷ Minus ∷ Star ∷ Slash ∷ And ∷ Or ∷ Not ∷ When ∷ []

@@ -11,8 +11,8 @@ use Rattle.rs_lex.specs.declared.token.Sort.TheVariants.{Word, Quoted, Number, L
 use Rattle.rs_lex.specs.declared.token.Span.{Span}
 use Rattle.rs_lex.specs.declared.token.Token.{Token}
 use Rattle.rs_grammar.specs.Kinds.{accepts, names}
-use Rattle.rs_grammar.specs.declared.kind.Kind.{Kind}
-use Rattle.rs_grammar.specs.declared.kind.Kind.TheVariants as kind
+use Rattle.rs_grammar.specs.declared.kind.TokenKind.{TokenKind}
+use Rattle.rs_grammar.specs.declared.kind.TokenKind.TheVariants as kind
 use Rattle.rs_grammar.specs.declared.lexeme.Lexeme.{Lexeme}
 
 -- the piece of a script from one place up to another
@@ -20,7 +20,7 @@ abbrev pub piece : List ℕ → Span → List ℕ
 piece script at = take (at.end - at.start) (drop at.start script)
 
 -- the words that mean something: the reserved ones, those that this profile leaves out, and the keywords
-unfoldable pub words : List (List ℕ × Kind)
+unfoldable pub words : List (List ℕ × TokenKind)
 words =
     (codes "ALL", kind.All) ∷ (codes "AND", kind.And) ∷ (codes "AS", kind.As) ∷ (codes "BY", kind.By) ∷ (codes "CASE", kind.Case)
     ∷ (codes "CLOSE", kind.Close) ∷ (codes "CREATE", kind.Create) ∷ (codes "DECLARE", kind.Declare) ∷ (codes "DESC", kind.Desc)
@@ -41,7 +41,7 @@ words =
     ∷ (codes "ANALYZE", kind.Analyze) ∷ []
 
 -- the symbols; `!=` is read as `<>`
-unfoldable pub symbols : List (List ℕ × Kind)
+unfoldable pub symbols : List (List ℕ × TokenKind)
 symbols =
     (codes "(", kind.OpenBracket) ∷ (codes ")", kind.CloseBracket) ∷ (codes ",", kind.Comma) ∷ (codes ";", kind.Semicolon)
     ∷ (codes ".", kind.Dot) ∷ (codes "+", kind.Plus) ∷ (codes "-", kind.Minus) ∷ (codes "*", kind.Star) ∷ (codes "/", kind.Slash)
@@ -49,17 +49,17 @@ symbols =
     ∷ (codes "<=", kind.LessEqual) ∷ (codes ">", kind.Greater) ∷ (codes ">=", kind.GreaterEqual) ∷ []
 
 -- the kind of a word in a table, where A to Z are the same as a to z; a word that isn't there is a name
-abbrev pub kind_in : List (List ℕ × Kind) → List ℕ → Kind
+abbrev pub kind_in : List (List ℕ × TokenKind) → List ℕ → TokenKind
 kind_in [] word = kind.Name
 kind_in (entry ∷ rest) word = if str_eq_ignore_ascii_case entry.0 word then entry.1 else kind_in rest word
 
 -- the kind of a token
-abbrev pub kind_of : Sort → List ℕ → Kind
-kind_of Word bytes = kind_in words bytes
-kind_of Quoted bytes = kind.Name
-kind_of Number bytes = kind.Number
-kind_of Literal bytes = kind.Literal
-kind_of Symbol bytes = kind_in symbols bytes
+abbrev pub token_kind : Sort → List ℕ → TokenKind
+token_kind Word bytes = kind_in words bytes
+token_kind Quoted bytes = kind.Name
+token_kind Number bytes = kind.Number
+token_kind Literal bytes = kind.Literal
+token_kind Symbol bytes = kind_in symbols bytes
 
 -- the bytes between the marks at both ends
 abbrev pub between : List ℕ → List ℕ
@@ -73,12 +73,12 @@ undoubled mark (byte ∷ next ∷ rest) =
     if (byte == mark) && (next == mark) then byte ∷ undoubled mark rest else byte ∷ undoubled mark (next ∷ rest)
 
 -- what a name or a text says
-abbrev pub text_of : Sort → List ℕ → List ℕ
-text_of Word bytes = if accepts names (kind_of Word bytes) then bytes else []
-text_of Quoted bytes = undoubled quote (between bytes)
-text_of Number bytes = []
-text_of Literal bytes = undoubled apostrophe (between bytes)
-text_of Symbol bytes = []
+abbrev pub token_text : Sort → List ℕ → List ℕ
+token_text Word bytes = if accepts names (token_kind Word bytes) then bytes else []
+token_text Quoted bytes = undoubled quote (between bytes)
+token_text Number bytes = []
+token_text Literal bytes = undoubled apostrophe (between bytes)
+token_text Symbol bytes = []
 
 -- the value of a number
 abbrev pub value_of : Sort → List ℕ → ℤ
@@ -92,10 +92,10 @@ value_of Symbol bytes = pos 0
 abbrev pub lexeme_of : List ℕ → Token → Lexeme
 lexeme_of script token =
     let bytes = piece script token.at in
-    record { kind = kind_of token.sort bytes; text = text_of token.sort bytes; number = value_of token.sort bytes; at = token.at }
+    record { kind = token_kind token.sort bytes; text = token_text token.sort bytes; number = value_of token.sort bytes; at = token.at }
 
 -- a token stands in a script: it is what the bytes from its start on begin with
-pub record IsToken (script : List ℕ) (token : Token) : Type 0 where
+pub record IsTokenOf (script : List ℕ) (token : Token) : Type 0 where
   pub ordered : token.at.start ≤ token.at.end
   pub within : token.at.end ≤ length script
   pub found : front_of (drop token.at.start script) ≡ Found token.sort (token.at.end - token.at.start)

@@ -1,8 +1,8 @@
 -- The places at which tokens are no script.
 use Rattle.std.specs.Prelude.{ℕ, ◌≡◌, ◌+◌, ◌<◌, ◌≤◌, ◌⊎◌, Bool, true, false, List, [], ◌∷◌, ◌++◌, length, take, drop, if◌then◌else◌}
-use Rattle.rs_grammar.specs.Kinds.{accepts, counted}
+use Rattle.rs_grammar.specs.Kinds.{accepts, counted_kinds}
 use Rattle.rs_grammar.specs.Grammar.{Tree, yield, Fits, Viable, script}
-use Rattle.rs_grammar.specs.declared.kind.Kind.TheVariants.{Foreign, Semicolon}
+use Rattle.rs_grammar.specs.declared.kind.TokenKind.TheVariants.{Foreign, Semicolon}
 use Rattle.rs_grammar.specs.declared.lexeme.Lexeme.{Lexeme}
 
 -- the most tokens of a statement that count towards its depth
@@ -17,7 +17,7 @@ abbrev pub is_semicolon : Lexeme → Bool
 is_semicolon l = accepts (Semicolon ∷ []) l.kind
 
 abbrev pub is_counted : Lexeme → Bool
-is_counted l = accepts counted l.kind
+is_counted l = accepts counted_kinds l.kind
 
 -- how many tokens that count towards the depth stand behind the last `;`, where so many stand in front of the first token
 abbrev pub tally_from : ℕ → List Lexeme → ℕ
@@ -28,13 +28,13 @@ abbrev pub tally : List Lexeme → ℕ
 tally ls = tally_from 0 ls
 
 -- how many statements `;` ends
-abbrev pub ended : List Lexeme → ℕ
-ended [] = 0
-ended (l ∷ ls) = (if is_semicolon l then 1 else 0) + ended ls
+abbrev pub statements_ended : List Lexeme → ℕ
+statements_ended [] = 0
+statements_ended (l ∷ ls) = (if is_semicolon l then 1 else 0) + statements_ended ls
 
 -- in front of the last token fewer statements end than a script may have
 abbrev pub IsWithinStatements : List Lexeme → Type 0
-IsWithinStatements ls = (i : ℕ) → i < length ls → ended (take i ls) < most_statements
+IsWithinStatements ls = (i : ℕ) → i < length ls → statements_ended (take i ls) < most_statements
 
 -- whether the first token is a word out of the profile
 abbrev pub is_foreign : List Lexeme → Bool
@@ -68,18 +68,18 @@ pub record IsTooMany (ls : List Lexeme) (at : ℕ) : Type 0 where
   pub last : Lexeme
   pub before : take at ls ≡ front ++ last ∷ []
   pub ends : is_semicolon last ≡ true
-  pub full : ended (take at ls) ≡ most_statements
+  pub full : statements_ended (take at ls) ≡ most_statements
   pub viable : Viable script (take at ls)
 
 -- what is wrong at a place
 pub data Problem : Type 0 where
   Unexpected Foreigner TooDeep TooMany : Problem
 
-abbrev pub Stands : List Lexeme → Problem → ℕ → Type 0
-Stands ls Unexpected at = IsUnexpected ls at × (is_foreign (drop at ls) ≡ false)
-Stands ls Foreigner at = IsUnexpected ls at × (is_foreign (drop at ls) ≡ true)
-Stands ls TooDeep at = IsTooDeep ls at
-Stands ls TooMany at = IsTooMany ls at
+abbrev pub ProblemStands : List Lexeme → Problem → ℕ → Type 0
+ProblemStands ls Unexpected at = IsUnexpected ls at × (is_foreign (drop at ls) ≡ false)
+ProblemStands ls Foreigner at = IsUnexpected ls at × (is_foreign (drop at ls) ≡ true)
+ProblemStands ls TooDeep at = IsTooDeep ls at
+ProblemStands ls TooMany at = IsTooMany ls at
 
 -- which of two problems at one place is told
 abbrev pub order_of : Problem → ℕ
@@ -90,5 +90,5 @@ order_of TooDeep = 2
 
 -- the first problem: it stands at the smallest place at which one does, and of those at that place it comes first
 pub record IsRefused (ls : List Lexeme) (problem : Problem) (at : ℕ) : Type 0 where
-  pub stands : Stands ls problem at
-  pub least : (other : Problem) (place : ℕ) → Stands ls other place → (at < place) ⊎ ((at ≡ place) × (order_of problem ≤ order_of other))
+  pub stands : ProblemStands ls problem at
+  pub least : (other : Problem) (place : ℕ) → ProblemStands ls other place → (at < place) ⊎ ((at ≡ place) × (order_of problem ≤ order_of other))

@@ -1,16 +1,16 @@
 -- How a part is read, one token at a time: the first alternative wins that the next token begins. It tells the same as the
 -- derivations of the grammar, and what the reader has done where it can't go on. No public clause speaks of it.
 use Rattle.std.specs.Prelude.{ℕ, ◌≡◌, ◌-◌, ◌==◌, ◌&&◌, ◌||◌, Bool, true, false, List, [], ◌∷◌, ◌++◌, if◌then◌else◌}
-use Rattle.rs_grammar.specs.Kinds.{accepts, counted, names, plain_names}
+use Rattle.rs_grammar.specs.Kinds.{accepts, counted_kinds, names, plain_names}
 use Rattle.rs_grammar.specs.Places.{most_deep}
 use Rattle.rs_grammar.specs.Grammar.{Rule, Part, One, Empty, Seq, Either, Many, Use, rule, Tree, Leaf, Nothing, Pair, This, That, More, Node}
 use Rattle.rs_grammar.specs.Grammar.{statements, statement, create, create_table, create_predicate, create_rank_index, declare, fetch, close, explain, columns, column, select, set_operator, block, items, entries, entry, terms, term, args, arg, colref, expr, conj, neg, comp, sum, prod, sign, base, plain, absolute, extreme, brackets, case, when}
-use Rattle.rs_grammar.specs.declared.kind.Kind.{Kind}
-use Rattle.rs_grammar.specs.declared.kind.Kind.TheVariants.{And, Case, Close, Create, Declare, Desc, Else, End, Except, Explain, Fetch, From, Intersect, Limit, Not, Or, Order, Select, Then, Union, When, Where, Table, Predicate, Rank, Max, Min, Abs, Number, Literal, OpenBracket, CloseBracket, Comma, Semicolon, Plus, Minus, Star, Slash, Equal, NotEqual, Less, LessEqual, Greater, GreaterEqual}
+use Rattle.rs_grammar.specs.declared.kind.TokenKind.{TokenKind}
+use Rattle.rs_grammar.specs.declared.kind.TokenKind.TheVariants.{And, Case, Close, Create, Declare, Desc, Else, End, Except, Explain, Fetch, From, Intersect, Limit, Not, Or, Order, Select, Then, Union, When, Where, Table, Predicate, Rank, Max, Min, Abs, Number, Literal, OpenBracket, CloseBracket, Comma, Semicolon, Plus, Minus, Star, Slash, Equal, NotEqual, Less, LessEqual, Greater, GreaterEqual}
 use Rattle.rs_grammar.specs.declared.lexeme.Lexeme.{Lexeme}
 
 -- the kinds that a rule can begin with
-abbrev pub starts_of : Rule → List Kind
+abbrev pub starts_of : Rule → List TokenKind
 starts_of statements = Close ∷ Create ∷ Declare ∷ Explain ∷ Fetch ∷ Select ∷ []
 starts_of statement = Close ∷ Create ∷ Declare ∷ Explain ∷ Fetch ∷ Select ∷ []
 starts_of create = Create ∷ []
@@ -50,7 +50,7 @@ starts_of case = Case ∷ []
 starts_of when = When ∷ []
 
 -- the kinds that can stand behind a rule
-abbrev pub follow : Rule → List Kind
+abbrev pub follow : Rule → List TokenKind
 follow statements = []
 follow statement = Semicolon ∷ []
 follow create = Semicolon ∷ []
@@ -99,7 +99,7 @@ nullable (Many p) = true
 nullable (Use r) = false
 
 -- the kinds that a part can begin with
-abbrev pub starts : Part → List Kind
+abbrev pub starts : Part → List TokenKind
 starts (One kinds) = kinds
 starts Empty = []
 starts (Seq p q) = starts p ++ (if nullable p then starts q else [])
@@ -115,12 +115,12 @@ pub record State : Type 0 where
   pub last : ℕ
 
 -- how many such tokens are left behind a token
-abbrev pub left_behind : Kind → ℕ → ℕ
-left_behind kind left = if accepts (Semicolon ∷ []) kind then most_deep else if accepts counted kind then left - 1 else left
+abbrev pub left_behind : TokenKind → ℕ → ℕ
+left_behind kind left = if accepts (Semicolon ∷ []) kind then most_deep else if accepts counted_kinds kind then left - 1 else left
 
 -- whether a token is one too many
-abbrev pub is_too_deep : Kind → ℕ → Bool
-is_too_deep kind left = accepts counted kind && (left == 0)
+abbrev pub is_too_deep : TokenKind → ℕ → Bool
+is_too_deep kind left = accepts counted_kinds kind && (left == 0)
 
 -- a reader takes the token in front of it
 pub record Takes (l : Lexeme) (b a : State) : Type 0 where
@@ -129,7 +129,7 @@ pub record Takes (l : Lexeme) (b a : State) : Type 0 where
   pub last : a.last ≡ l.at.end
 
 -- whether the next token is of one of these kinds
-abbrev pub next_is : List Kind → List Lexeme → Bool
+abbrev pub next_is : List TokenKind → List Lexeme → Bool
 next_is kinds [] = false
 next_is kinds (l ∷ ls) = accepts kinds l.kind
 
@@ -139,7 +139,7 @@ opens p b = next_is (starts p) b.rest
 
 -- a reader reads a part
 pub data Read : Part → State → Tree → State → Type 0 where
-  token : (kinds : List Kind) (l : Lexeme) (b a : State) → Takes l b a → accepts kinds l.kind ≡ true → is_too_deep l.kind b.left ≡ false → Read (One kinds) b (Leaf l) a
+  token : (kinds : List TokenKind) (l : Lexeme) (b a : State) → Takes l b a → accepts kinds l.kind ≡ true → is_too_deep l.kind b.left ≡ false → Read (One kinds) b (Leaf l) a
   empty : (b : State) → Read Empty b Nothing b
   both : (p q : Part) (t u : Tree) (b x a : State) → Read p b t x → Read q x u a → Read (Seq p q) b (Pair t u) a
   this : (p q : Part) (t : Tree) (b a : State) → opens p b ≡ true → Read p b t a → Read (Either p q) b (This t) a
@@ -153,8 +153,8 @@ pub data Cause : Type 0 where
   Expected TooDeep : Cause
 
 pub data Fails : Part → State → Cause → State → Type 0 where
-  other : (kinds : List Kind) (b : State) → next_is kinds b.rest ≡ false → Fails (One kinds) b Expected b
-  deep : (kinds : List Kind) (l : Lexeme) (ls : List Lexeme) (b : State) → b.rest ≡ l ∷ ls → accepts kinds l.kind ≡ true → is_too_deep l.kind b.left ≡ true → Fails (One kinds) b TooDeep b
+  other : (kinds : List TokenKind) (b : State) → next_is kinds b.rest ≡ false → Fails (One kinds) b Expected b
+  deep : (kinds : List TokenKind) (l : Lexeme) (ls : List Lexeme) (b : State) → b.rest ≡ l ∷ ls → accepts kinds l.kind ≡ true → is_too_deep l.kind b.left ≡ true → Fails (One kinds) b TooDeep b
   first : (p q : Part) (c : Cause) (b a : State) → Fails p b c a → Fails (Seq p q) b c a
   second : (p q : Part) (t : Tree) (c : Cause) (b x a : State) → Read p b t x → Fails q x c a → Fails (Seq p q) b c a
   this : (p q : Part) (c : Cause) (b a : State) → opens p b ≡ true → Fails p b c a → Fails (Either p q) b c a

@@ -1,6 +1,6 @@
 /// What a token is to the grammar.
 #[derive(Clone, Copy, Debug)]
-pub enum Kind {
+pub enum TokenKind {
     All,
     And,
     As,
@@ -63,26 +63,26 @@ pub enum Kind {
     GreaterEqual,
 }
 
-impl Kind {
+impl TokenKind {
     ghost use Rattle.std.specs.Prelude.{◌≡◌, [], ◌∷◌};
-    ghost use Rattle.rs_grammar.specs.Kinds.{accepts, code, counted, names, plain_names};
+    ghost use Rattle.rs_grammar.specs.Kinds.{accepts, token_kind_number, counted_kinds, names, plain_names};
 
     /// The place of the kind among all kinds.
     fn code(self) -> u8
-        ensures { result ≡ code self }
+        ensures { result ≡ token_kind_number self }
     {
         self as u8
     }
 
     /// Whether both are one kind.
-    pub fn is(self, other: Kind) -> bool
+    pub fn is(self, other: TokenKind) -> bool
         ensures { result ≡ accepts (other ∷ []) self }
     {
         self.code() == other.code()
     }
 
     /// Whether it is one of these kinds.
-    pub fn is_any(self, kinds: &[Kind]) -> bool
+    pub fn is_any(self, kinds: &[TokenKind]) -> bool
         ensures { result ≡ accepts kinds.now self }
     {
         for kind in kinds {
@@ -99,20 +99,20 @@ impl Kind {
     {
         matches!(
             self,
-            Kind::Table
-                | Kind::Predicate
-                | Kind::Rank
-                | Kind::Index
-                | Kind::Int
-                | Kind::Integer
-                | Kind::Text
-                | Kind::Max
-                | Kind::Min
-                | Kind::Abs
-                | Kind::Cost
-                | Kind::Cursor
-                | Kind::Analyze
-                | Kind::Name
+            TokenKind::Table
+                | TokenKind::Predicate
+                | TokenKind::Rank
+                | TokenKind::Index
+                | TokenKind::Int
+                | TokenKind::Integer
+                | TokenKind::Text
+                | TokenKind::Max
+                | TokenKind::Min
+                | TokenKind::Abs
+                | TokenKind::Cost
+                | TokenKind::Cursor
+                | TokenKind::Analyze
+                | TokenKind::Name
         )
     }
 
@@ -122,35 +122,35 @@ impl Kind {
     {
         matches!(
             self,
-            Kind::Table
-                | Kind::Predicate
-                | Kind::Rank
-                | Kind::Index
-                | Kind::Int
-                | Kind::Integer
-                | Kind::Text
-                | Kind::Cost
-                | Kind::Cursor
-                | Kind::Analyze
-                | Kind::Name
+            TokenKind::Table
+                | TokenKind::Predicate
+                | TokenKind::Rank
+                | TokenKind::Index
+                | TokenKind::Int
+                | TokenKind::Integer
+                | TokenKind::Text
+                | TokenKind::Cost
+                | TokenKind::Cursor
+                | TokenKind::Analyze
+                | TokenKind::Name
         )
     }
 
     /// Whether the token counts towards the depth of a statement.
     pub fn is_counted(self) -> bool
-        ensures { result ≡ accepts counted self }
+        ensures { result ≡ accepts counted_kinds self }
     {
         matches!(
             self,
-            Kind::OpenBracket
-                | Kind::Plus
-                | Kind::Minus
-                | Kind::Star
-                | Kind::Slash
-                | Kind::And
-                | Kind::Or
-                | Kind::Not
-                | Kind::When
+            TokenKind::OpenBracket
+                | TokenKind::Plus
+                | TokenKind::Minus
+                | TokenKind::Star
+                | TokenKind::Slash
+                | TokenKind::And
+                | TokenKind::Or
+                | TokenKind::Not
+                | TokenKind::When
         )
     }
 }

@@ -1,9 +1,9 @@
 ghost use Rattle.std.specs.Prelude.{◌≡◌, IfOk, IsUtf8, Some, map};
 ghost use Rattle.rs_value.specs.Number.{decimal_value, greatest_int, number_of};
 ghost use Rattle.rs_lex.specs.declared.token.Sort.{Sort};
-ghost use Rattle.rs_grammar.specs.Lexemes.{IsFront, IsToken, between, kind_of, lexeme_of, text_of, undoubled, value_of};
+ghost use Rattle.rs_grammar.specs.Lexemes.{IsFront, IsTokenOf, between, token_kind, lexeme_of, token_text, undoubled, value_of};
 
-use crate::kind::Kind;
+use crate::kind::TokenKind;
 use rs_lex::{Sort, Span, Token};
 use rs_value::{GREATEST_INT, Memory, Text, TextFault, decimal_of};
 use std::alloc::Global;
@@ -11,7 +11,7 @@ use std::alloc::Global;
 /// A token as the grammar sees it.
 #[derive(Debug, Drop)]
 pub struct Lexeme {
-    pub kind: Kind,
+    pub kind: TokenKind,
     /// What a name or a text says; empty for each other token.
     pub text: Text,
     /// The value of a number; 0 for each other token.
@@ -20,15 +20,15 @@ pub struct Lexeme {
 }
 
 /// The kind of a token of this sort.
-fn kind_of(sort: Sort, bytes: &[u8]) -> Kind
-    ensures { result ≡ kind_of sort bytes.now }
+fn kind_of(sort: Sort, bytes: &[u8]) -> TokenKind
+    ensures { result ≡ token_kind sort bytes.now }
 {
     match sort {
-        Sort::Word => Kind::of_word(bytes),
-        Sort::Quoted => Kind::Name,
-        Sort::Number => Kind::Number,
-        Sort::Literal => Kind::Literal,
-        Sort::Symbol => Kind::of_symbol(bytes),
+        Sort::Word => TokenKind::of_word(bytes),
+        Sort::Quoted => TokenKind::Name,
+        Sort::Number => TokenKind::Number,
+        Sort::Literal => TokenKind::Literal,
+        Sort::Symbol => TokenKind::of_symbol(bytes),
     }
 }
 
@@ -71,10 +71,10 @@ fn undoubled(alloc: Global, mark: u8, mut bytes: &[u8]) -> Result<Text, Memory>
 }
 
 /// What a name or a text says, of a token of this sort and kind.
-fn text_of(alloc: Global, sort: Sort, kind: Kind, bytes: &[u8]) -> Result<Text, Memory>
-    requires kind { kind ≡ kind_of sort bytes.now }
-    requires utf8 { IsUtf8 (text_of sort bytes.now) }
-    ensures { IfOk result (λ text. text ≡ text_of sort bytes.now) }
+fn text_of(alloc: Global, sort: Sort, kind: TokenKind, bytes: &[u8]) -> Result<Text, Memory>
+    requires kind { kind ≡ token_kind sort bytes.now }
+    requires utf8 { IsUtf8 (token_text sort bytes.now) }
+    ensures { IfOk result (λ text. text ≡ token_text sort bytes.now) }
 {
     match sort {
         Sort::Word if kind.is_name() => copied(alloc, bytes),
@@ -101,7 +101,7 @@ fn value_of(sort: Sort, bytes: &[u8]) -> i64
 /// What a token of the script is to the grammar.
 fn lexeme_of(alloc: Global, script: &[u8], token: Token) -> Result<Lexeme, Memory>
     requires utf8 { IsUtf8 script.now }
-    requires token { IsToken script.now token }
+    requires token { IsTokenOf script.now token }
     ensures { IfOk result (λ lexeme. lexeme ≡ lexeme_of script.now token) }
 {
     let bytes = &script[token.at.start as usize..token.at.end as usize];

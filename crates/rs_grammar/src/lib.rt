@@ -5,5 +5,5 @@ mod kind;
 mod lexeme;
 mod word;
 
-pub use kind::Kind;
+pub use kind::TokenKind;
 pub use lexeme::{Lexeme, lexemes};

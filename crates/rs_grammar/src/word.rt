@@ -2,91 +2,91 @@ ghost use Rattle.std.specs.Prelude.{◌≡◌, map};
 ghost use Rattle.std.specs.Str.{str_eq_ignore_ascii_case};
 ghost use Rattle.rs_grammar.specs.Lexemes.{kind_in, words, symbols};
 
-use crate::kind::Kind;
+use crate::kind::TokenKind;
 
 /// The words that mean something, in capitals.
-const WORDS: [(&[u8], Kind); 62] = [
-    (b"ALL", Kind::All),
-    (b"AND", Kind::And),
-    (b"AS", Kind::As),
-    (b"BY", Kind::By),
-    (b"CASE", Kind::Case),
-    (b"CLOSE", Kind::Close),
-    (b"CREATE", Kind::Create),
-    (b"DECLARE", Kind::Declare),
-    (b"DESC", Kind::Desc),
-    (b"DISTINCT", Kind::Distinct),
-    (b"ELSE", Kind::Else),
-    (b"END", Kind::End),
-    (b"EXCEPT", Kind::Except),
-    (b"EXPLAIN", Kind::Explain),
-    (b"FETCH", Kind::Fetch),
-    (b"FOR", Kind::For),
-    (b"FROM", Kind::From),
-    (b"INTERSECT", Kind::Intersect),
-    (b"LIMIT", Kind::Limit),
-    (b"NOT", Kind::Not),
-    (b"ON", Kind::On),
-    (b"OR", Kind::Or),
-    (b"ORDER", Kind::Order),
-    (b"SELECT", Kind::Select),
-    (b"THEN", Kind::Then),
-    (b"UNION", Kind::Union),
-    (b"WHEN", Kind::When),
-    (b"WHERE", Kind::Where),
-    (b"ASC", Kind::Foreign),
-    (b"BETWEEN", Kind::Foreign),
-    (b"DELETE", Kind::Foreign),
-    (b"DROP", Kind::Foreign),
-    (b"EXISTS", Kind::Foreign),
-    (b"FULL", Kind::Foreign),
-    (b"GROUP", Kind::Foreign),
-    (b"HAVING", Kind::Foreign),
-    (b"IN", Kind::Foreign),
-    (b"INNER", Kind::Foreign),
-    (b"INSERT", Kind::Foreign),
-    (b"IS", Kind::Foreign),
-    (b"JOIN", Kind::Foreign),
-    (b"LEFT", Kind::Foreign),
-    (b"LIKE", Kind::Foreign),
-    (b"NULL", Kind::Foreign),
-    (b"OFFSET", Kind::Foreign),
-    (b"OUTER", Kind::Foreign),
-    (b"RIGHT", Kind::Foreign),
-    (b"UPDATE", Kind::Foreign),
-    (b"WITH", Kind::Foreign),
-    (b"TABLE", Kind::Table),
-    (b"PREDICATE", Kind::Predicate),
-    (b"RANK", Kind::Rank),
-    (b"INDEX", Kind::Index),
-    (b"INT", Kind::Int),
-    (b"INTEGER", Kind::Integer),
-    (b"TEXT", Kind::Text),
-    (b"MAX", Kind::Max),
-    (b"MIN", Kind::Min),
-    (b"ABS", Kind::Abs),
-    (b"COST", Kind::Cost),
-    (b"CURSOR", Kind::Cursor),
-    (b"ANALYZE", Kind::Analyze),
+const WORDS: [(&[u8], TokenKind); 62] = [
+    (b"ALL", TokenKind::All),
+    (b"AND", TokenKind::And),
+    (b"AS", TokenKind::As),
+    (b"BY", TokenKind::By),
+    (b"CASE", TokenKind::Case),
+    (b"CLOSE", TokenKind::Close),
+    (b"CREATE", TokenKind::Create),
+    (b"DECLARE", TokenKind::Declare),
+    (b"DESC", TokenKind::Desc),
+    (b"DISTINCT", TokenKind::Distinct),
+    (b"ELSE", TokenKind::Else),
+    (b"END", TokenKind::End),
+    (b"EXCEPT", TokenKind::Except),
+    (b"EXPLAIN", TokenKind::Explain),
+    (b"FETCH", TokenKind::Fetch),
+    (b"FOR", TokenKind::For),
+    (b"FROM", TokenKind::From),
+    (b"INTERSECT", TokenKind::Intersect),
+    (b"LIMIT", TokenKind::Limit),
+    (b"NOT", TokenKind::Not),
+    (b"ON", TokenKind::On),
+    (b"OR", TokenKind::Or),
+    (b"ORDER", TokenKind::Order),
+    (b"SELECT", TokenKind::Select),
+    (b"THEN", TokenKind::Then),
+    (b"UNION", TokenKind::Union),
+    (b"WHEN", TokenKind::When),
+    (b"WHERE", TokenKind::Where),
+    (b"ASC", TokenKind::Foreign),
+    (b"BETWEEN", TokenKind::Foreign),
+    (b"DELETE", TokenKind::Foreign),
+    (b"DROP", TokenKind::Foreign),
+    (b"EXISTS", TokenKind::Foreign),
+    (b"FULL", TokenKind::Foreign),
+    (b"GROUP", TokenKind::Foreign),
+    (b"HAVING", TokenKind::Foreign),
+    (b"IN", TokenKind::Foreign),
+    (b"INNER", TokenKind::Foreign),
+    (b"INSERT", TokenKind::Foreign),
+    (b"IS", TokenKind::Foreign),
+    (b"JOIN", TokenKind::Foreign),
+    (b"LEFT", TokenKind::Foreign),
+    (b"LIKE", TokenKind::Foreign),
+    (b"NULL", TokenKind::Foreign),
+    (b"OFFSET", TokenKind::Foreign),
+    (b"OUTER", TokenKind::Foreign),
+    (b"RIGHT", TokenKind::Foreign),
+    (b"UPDATE", TokenKind::Foreign),
+    (b"WITH", TokenKind::Foreign),
+    (b"TABLE", TokenKind::Table),
+    (b"PREDICATE", TokenKind::Predicate),
+    (b"RANK", TokenKind::Rank),
+    (b"INDEX", TokenKind::Index),
+    (b"INT", TokenKind::Int),
+    (b"INTEGER", TokenKind::Integer),
+    (b"TEXT", TokenKind::Text),
+    (b"MAX", TokenKind::Max),
+    (b"MIN", TokenKind::Min),
+    (b"ABS", TokenKind::Abs),
+    (b"COST", TokenKind::Cost),
+    (b"CURSOR", TokenKind::Cursor),
+    (b"ANALYZE", TokenKind::Analyze),
 ];
 
-const SYMBOLS: [(&[u8], Kind); 16] = [
-    (b"(", Kind::OpenBracket),
-    (b")", Kind::CloseBracket),
-    (b",", Kind::Comma),
-    (b";", Kind::Semicolon),
-    (b".", Kind::Dot),
-    (b"+", Kind::Plus),
-    (b"-", Kind::Minus),
-    (b"*", Kind::Star),
-    (b"/", Kind::Slash),
-    (b"=", Kind::Equal),
-    (b"<>", Kind::NotEqual),
-    (b"!=", Kind::NotEqual),
-    (b"<", Kind::Less),
-    (b"<=", Kind::LessEqual),
-    (b">", Kind::Greater),
-    (b">=", Kind::GreaterEqual),
+const SYMBOLS: [(&[u8], TokenKind); 16] = [
+    (b"(", TokenKind::OpenBracket),
+    (b")", TokenKind::CloseBracket),
+    (b",", TokenKind::Comma),
+    (b";", TokenKind::Semicolon),
+    (b".", TokenKind::Dot),
+    (b"+", TokenKind::Plus),
+    (b"-", TokenKind::Minus),
+    (b"*", TokenKind::Star),
+    (b"/", TokenKind::Slash),
+    (b"=", TokenKind::Equal),
+    (b"<>", TokenKind::NotEqual),
+    (b"!=", TokenKind::NotEqual),
+    (b"<", TokenKind::Less),
+    (b"<=", TokenKind::LessEqual),
+    (b">", TokenKind::Greater),
+    (b">=", TokenKind::GreaterEqual),
 ];
 
 /// Whether two words are the same where A to Z are the same as a to z.
@@ -97,7 +97,7 @@ fn is_same(known: &[u8], word: &[u8]) -> bool
 }
 
 /// The kind of a word in a table, where A to Z are the same as a to z. A word that isn't there is a name.
-fn kind_in(mut table: &[(&[u8], Kind)], word: &[u8]) -> Kind
+fn kind_in(mut table: &[(&[u8], TokenKind)], word: &[u8]) -> TokenKind
     ensures { result ≡ kind_in (map (λ entry. (entry.0.now, entry.1)) table.entry.now) word.now }
 {
     while let [entry, rest @ ..] = table {
@@ -106,19 +106,19 @@ fn kind_in(mut table: &[(&[u8], Kind)], word: &[u8]) -> Kind
         }
         table = rest;
     }
-    Kind::Name
+    TokenKind::Name
 }
 
-impl Kind {
+impl TokenKind {
     /// The kind of a word, in capitals or not.
-    pub fn of_word(word: &[u8]) -> Kind
+    pub fn of_word(word: &[u8]) -> TokenKind
         ensures { result ≡ kind_in words word.now }
     {
         kind_in(&WORDS, word)
     }
 
     /// The kind of a symbol.
-    pub fn of_symbol(symbol: &[u8]) -> Kind
+    pub fn of_symbol(symbol: &[u8]) -> TokenKind
         ensures { result ≡ kind_in symbols symbol.now }
     {
         kind_in(&SYMBOLS, symbol)

@@ -7,7 +7,7 @@ use Rattle.rs_value.specs.Number.{number_of, are_digits, greatest_int}
 use Rattle.rs_lex.specs.Bytes.{is_letter, is_digit, is_word_byte, is_blank, begins, quote, apostrophe}
 use Rattle.rs_lex.specs.Faults.{IsOpen, IsWide, HasLetterBehind, BeginsOther, BeginsNoToken, IsFault}
 use Rattle.rs_lex.specs.Front.{front_of, run_length, closed_length, number_front, literal_front, quoted_front, symbol_front, begins_comment, is_pair, is_symbol}
-use Rattle.rs_lex.specs.Spelling.{Refuses, too_many, bad, open_text, too_wide, IsMore}
+use Rattle.rs_lex.specs.Spelling.{RefusesBytes, too_many, bad, open_text, too_wide, IsMore}
 use Rattle.rs_lex.specs.Spelling as spelling
 use Rattle.rs_lex.specs.Tokens.{IsComment, IsGap, IsToken, doubled}
 use Rattle.rs_lex.specs.declared.token.Sort.{Sort}
@@ -422,10 +422,10 @@ IsGap-front n bytes (inl h) = blanks_at bytes n h.some h.within h.blanks h.whole
 IsGap-front n bytes (inr h) = comment_at n bytes h
 
 -- the place and the fault that a script is refused with are what they are said to be
-pub IsFault-refused : (script : List ℕ) (count at : ℕ) (bytes : List ℕ) (fault : LexFault) → drop at script ≡ bytes → Refuses count at bytes fault → IsFault script fault
-IsFault-refused script count at bytes fault is (spelling.Refuses.passes _ _ n _ _ e h) =
+pub IsFault-refused : (script : List ℕ) (count at : ℕ) (bytes : List ℕ) (fault : LexFault) → drop at script ≡ bytes → RefusesBytes count at bytes fault → IsFault script fault
+IsFault-refused script count at bytes fault is (spelling.RefusesBytes.passes _ _ n _ _ e h) =
     IsFault-refused script count (at + n) (drop n bytes) fault (behind at n script ∙ ap (drop n) is) h
-IsFault-refused script count at bytes fault is (spelling.Refuses.takes _ _ n sort _ _ few e h) =
+IsFault-refused script count at bytes fault is (spelling.RefusesBytes.takes _ _ n sort _ _ few e h) =
     IsFault-refused script (count + 1) (at + n) (drop n bytes) fault (behind at n script ∙ ap (drop n) is) h
 IsFault-refused script count at bytes fault is (too_many _ _ more) = subst BeginsOther (sym is) (BeginsOther-more bytes more)
 IsFault-refused script count at bytes fault is (bad _ _ n _ few e) =

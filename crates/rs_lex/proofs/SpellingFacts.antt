@@ -7,7 +7,7 @@ use Rattle.std.proofs.lemmas.Bool.{eqb-true, leb-true, leb-false}
 use Rattle.rs_value.specs.Number.{number_of, greatest_int}
 use Rattle.rs_lex.specs.Bytes.{is_letter, is_digit, is_word_byte, is_blank, begins, quote, apostrophe}
 use Rattle.rs_lex.specs.Front.{front_of, run_length, closed_length, number_front, literal_front, quoted_front, symbol_front, begins_comment, is_pair, is_symbol}
-use Rattle.rs_lex.specs.Spelling.{Spells, nothing, Refuses, too_many, bad, open_text, too_wide, most_tokens, token_at, IsMore, InOrder, IsNext, reach, token_or_fault}
+use Rattle.rs_lex.specs.Spelling.{Spells, nothing, RefusesBytes, too_many, bad, open_text, too_wide, most_tokens, token_at, IsMore, TokensInOrder, IsNext, reach, token_or_fault}
 use Rattle.rs_lex.specs.Spelling as spelling
 use Rattle.rs_lex.specs.declared.token.Sort.{Sort}
 use Rattle.rs_lex.specs.declared.token.Sort.TheVariants.{Word, Quoted, Number, Symbol}
@@ -171,47 +171,47 @@ pub IsMore-gap : (front : Front) (n : ℕ) → front ≡ Gap n → IsMore front 
 IsMore-gap front n is more = rw is at more
 
 -- bytes are refused with one fault at most
-pub Refuses-unique : (count at : ℕ) (bytes : List ℕ) (x y : LexFault) → Refuses count at bytes x → Refuses count at bytes y → x ≡ y
-Refuses-unique count at bytes x y (spelling.Refuses.passes _ _ n _ _ e h) (spelling.Refuses.passes _ _ m _ _ f k) =
+pub RefusesBytes-unique : (count at : ℕ) (bytes : List ℕ) (x y : LexFault) → RefusesBytes count at bytes x → RefusesBytes count at bytes y → x ≡ y
+RefusesBytes-unique count at bytes x y (spelling.RefusesBytes.passes _ _ n _ _ e h) (spelling.RefusesBytes.passes _ _ m _ _ f k) =
     let same : n ≡ m = cc in
-    Refuses-unique count (at + n) (drop n bytes) x y h (rw same k)
-Refuses-unique count at bytes x y (spelling.Refuses.passes _ _ n _ _ e h) (spelling.Refuses.takes _ _ m sort _ _ lt f k) = cc
-Refuses-unique count at bytes x y (spelling.Refuses.passes _ _ n _ _ e h) (too_many _ _ more) = absurd (IsMore-gap (front_of bytes) n e more)
-Refuses-unique count at bytes x y (spelling.Refuses.passes _ _ n _ _ e h) (bad _ _ m _ lt f) = cc
-Refuses-unique count at bytes x y (spelling.Refuses.passes _ _ n _ _ e h) (open_text _ _ _ lt f) = cc
-Refuses-unique count at bytes x y (spelling.Refuses.passes _ _ n _ _ e h) (too_wide _ _ _ lt f) = cc
-Refuses-unique count at bytes x y (spelling.Refuses.takes _ _ n sort _ _ lt e h) (spelling.Refuses.passes _ _ m _ _ f k) = cc
-Refuses-unique count at bytes x y (spelling.Refuses.takes _ _ n sort _ _ lt e h) (spelling.Refuses.takes _ _ m other _ _ lt2 f k) =
+    RefusesBytes-unique count (at + n) (drop n bytes) x y h (rw same k)
+RefusesBytes-unique count at bytes x y (spelling.RefusesBytes.passes _ _ n _ _ e h) (spelling.RefusesBytes.takes _ _ m sort _ _ lt f k) = cc
+RefusesBytes-unique count at bytes x y (spelling.RefusesBytes.passes _ _ n _ _ e h) (too_many _ _ more) = absurd (IsMore-gap (front_of bytes) n e more)
+RefusesBytes-unique count at bytes x y (spelling.RefusesBytes.passes _ _ n _ _ e h) (bad _ _ m _ lt f) = cc
+RefusesBytes-unique count at bytes x y (spelling.RefusesBytes.passes _ _ n _ _ e h) (open_text _ _ _ lt f) = cc
+RefusesBytes-unique count at bytes x y (spelling.RefusesBytes.passes _ _ n _ _ e h) (too_wide _ _ _ lt f) = cc
+RefusesBytes-unique count at bytes x y (spelling.RefusesBytes.takes _ _ n sort _ _ lt e h) (spelling.RefusesBytes.passes _ _ m _ _ f k) = cc
+RefusesBytes-unique count at bytes x y (spelling.RefusesBytes.takes _ _ n sort _ _ lt e h) (spelling.RefusesBytes.takes _ _ m other _ _ lt2 f k) =
     let same : n ≡ m = cc in
-    Refuses-unique (count + 1) (at + n) (drop n bytes) x y h (rw same k)
-Refuses-unique count at bytes x y (spelling.Refuses.takes _ _ n sort _ _ lt e h) (too_many _ _ more) = absurd (omega (arith, lt))
-Refuses-unique count at bytes x y (spelling.Refuses.takes _ _ n sort _ _ lt e h) (bad _ _ m _ lt2 f) = cc
-Refuses-unique count at bytes x y (spelling.Refuses.takes _ _ n sort _ _ lt e h) (open_text _ _ _ lt2 f) = cc
-Refuses-unique count at bytes x y (spelling.Refuses.takes _ _ n sort _ _ lt e h) (too_wide _ _ _ lt2 f) = cc
-Refuses-unique count at bytes x y (too_many _ _ more) (spelling.Refuses.passes _ _ m _ _ f k) = absurd (IsMore-gap (front_of bytes) m f more)
-Refuses-unique count at bytes x y (too_many _ _ more) (spelling.Refuses.takes _ _ m other _ _ lt2 f k) = absurd (omega (arith, lt2))
-Refuses-unique count at bytes x y (too_many _ _ more) (too_many _ _ more2) = refl
-Refuses-unique count at bytes x y (too_many _ _ more) (bad _ _ m _ lt2 f) = absurd (omega (arith, lt2))
-Refuses-unique count at bytes x y (too_many _ _ more) (open_text _ _ _ lt2 f) = absurd (omega (arith, lt2))
-Refuses-unique count at bytes x y (too_many _ _ more) (too_wide _ _ _ lt2 f) = absurd (omega (arith, lt2))
-Refuses-unique count at bytes x y (bad _ _ n _ lt e) (spelling.Refuses.passes _ _ m _ _ f k) = cc
-Refuses-unique count at bytes x y (bad _ _ n _ lt e) (spelling.Refuses.takes _ _ m other _ _ lt2 f k) = cc
-Refuses-unique count at bytes x y (bad _ _ n _ lt e) (too_many _ _ more) = absurd (omega (arith, lt))
-Refuses-unique count at bytes x y (bad _ _ n _ lt e) (bad _ _ m _ lt2 f) = let same : n ≡ m = cc in rw same refl
-Refuses-unique count at bytes x y (bad _ _ n _ lt e) (open_text _ _ _ lt2 f) = cc
-Refuses-unique count at bytes x y (bad _ _ n _ lt e) (too_wide _ _ _ lt2 f) = cc
-Refuses-unique count at bytes x y (open_text _ _ _ lt e) (spelling.Refuses.passes _ _ m _ _ f k) = cc
-Refuses-unique count at bytes x y (open_text _ _ _ lt e) (spelling.Refuses.takes _ _ m other _ _ lt2 f k) = cc
-Refuses-unique count at bytes x y (open_text _ _ _ lt e) (too_many _ _ more) = absurd (omega (arith, lt))
-Refuses-unique count at bytes x y (open_text _ _ _ lt e) (bad _ _ m _ lt2 f) = cc
-Refuses-unique count at bytes x y (open_text _ _ _ lt e) (open_text _ _ _ lt2 f) = refl
-Refuses-unique count at bytes x y (open_text _ _ _ lt e) (too_wide _ _ _ lt2 f) = cc
-Refuses-unique count at bytes x y (too_wide _ _ _ lt e) (spelling.Refuses.passes _ _ m _ _ f k) = cc
-Refuses-unique count at bytes x y (too_wide _ _ _ lt e) (spelling.Refuses.takes _ _ m other _ _ lt2 f k) = cc
-Refuses-unique count at bytes x y (too_wide _ _ _ lt e) (too_many _ _ more) = absurd (omega (arith, lt))
-Refuses-unique count at bytes x y (too_wide _ _ _ lt e) (bad _ _ m _ lt2 f) = cc
-Refuses-unique count at bytes x y (too_wide _ _ _ lt e) (open_text _ _ _ lt2 f) = cc
-Refuses-unique count at bytes x y (too_wide _ _ _ lt e) (too_wide _ _ _ lt2 f) = refl
+    RefusesBytes-unique (count + 1) (at + n) (drop n bytes) x y h (rw same k)
+RefusesBytes-unique count at bytes x y (spelling.RefusesBytes.takes _ _ n sort _ _ lt e h) (too_many _ _ more) = absurd (omega (arith, lt))
+RefusesBytes-unique count at bytes x y (spelling.RefusesBytes.takes _ _ n sort _ _ lt e h) (bad _ _ m _ lt2 f) = cc
+RefusesBytes-unique count at bytes x y (spelling.RefusesBytes.takes _ _ n sort _ _ lt e h) (open_text _ _ _ lt2 f) = cc
+RefusesBytes-unique count at bytes x y (spelling.RefusesBytes.takes _ _ n sort _ _ lt e h) (too_wide _ _ _ lt2 f) = cc
+RefusesBytes-unique count at bytes x y (too_many _ _ more) (spelling.RefusesBytes.passes _ _ m _ _ f k) = absurd (IsMore-gap (front_of bytes) m f more)
+RefusesBytes-unique count at bytes x y (too_many _ _ more) (spelling.RefusesBytes.takes _ _ m other _ _ lt2 f k) = absurd (omega (arith, lt2))
+RefusesBytes-unique count at bytes x y (too_many _ _ more) (too_many _ _ more2) = refl
+RefusesBytes-unique count at bytes x y (too_many _ _ more) (bad _ _ m _ lt2 f) = absurd (omega (arith, lt2))
+RefusesBytes-unique count at bytes x y (too_many _ _ more) (open_text _ _ _ lt2 f) = absurd (omega (arith, lt2))
+RefusesBytes-unique count at bytes x y (too_many _ _ more) (too_wide _ _ _ lt2 f) = absurd (omega (arith, lt2))
+RefusesBytes-unique count at bytes x y (bad _ _ n _ lt e) (spelling.RefusesBytes.passes _ _ m _ _ f k) = cc
+RefusesBytes-unique count at bytes x y (bad _ _ n _ lt e) (spelling.RefusesBytes.takes _ _ m other _ _ lt2 f k) = cc
+RefusesBytes-unique count at bytes x y (bad _ _ n _ lt e) (too_many _ _ more) = absurd (omega (arith, lt))
+RefusesBytes-unique count at bytes x y (bad _ _ n _ lt e) (bad _ _ m _ lt2 f) = let same : n ≡ m = cc in rw same refl
+RefusesBytes-unique count at bytes x y (bad _ _ n _ lt e) (open_text _ _ _ lt2 f) = cc
+RefusesBytes-unique count at bytes x y (bad _ _ n _ lt e) (too_wide _ _ _ lt2 f) = cc
+RefusesBytes-unique count at bytes x y (open_text _ _ _ lt e) (spelling.RefusesBytes.passes _ _ m _ _ f k) = cc
+RefusesBytes-unique count at bytes x y (open_text _ _ _ lt e) (spelling.RefusesBytes.takes _ _ m other _ _ lt2 f k) = cc
+RefusesBytes-unique count at bytes x y (open_text _ _ _ lt e) (too_many _ _ more) = absurd (omega (arith, lt))
+RefusesBytes-unique count at bytes x y (open_text _ _ _ lt e) (bad _ _ m _ lt2 f) = cc
+RefusesBytes-unique count at bytes x y (open_text _ _ _ lt e) (open_text _ _ _ lt2 f) = refl
+RefusesBytes-unique count at bytes x y (open_text _ _ _ lt e) (too_wide _ _ _ lt2 f) = cc
+RefusesBytes-unique count at bytes x y (too_wide _ _ _ lt e) (spelling.RefusesBytes.passes _ _ m _ _ f k) = cc
+RefusesBytes-unique count at bytes x y (too_wide _ _ _ lt e) (spelling.RefusesBytes.takes _ _ m other _ _ lt2 f k) = cc
+RefusesBytes-unique count at bytes x y (too_wide _ _ _ lt e) (too_many _ _ more) = absurd (omega (arith, lt))
+RefusesBytes-unique count at bytes x y (too_wide _ _ _ lt e) (bad _ _ m _ lt2 f) = cc
+RefusesBytes-unique count at bytes x y (too_wide _ _ _ lt e) (open_text _ _ _ lt2 f) = cc
+RefusesBytes-unique count at bytes x y (too_wide _ _ _ lt e) (too_wide _ _ _ lt2 f) = refl
 
 -- the end is not more
 IsMore-end : (front : Front) → front ≡ End → IsMore front → ⊥
@@ -219,23 +219,23 @@ IsMore-end front is more = rw is at more
 
 -- bytes that spell few enough tokens aren't refused
 pub Spells-not_refused : (count at : ℕ) (bytes : List ℕ) (tokens : List Token) (fault : LexFault) → count + length tokens ≤ most_tokens
-    → Spells at bytes tokens → Refuses count at bytes fault → ⊥
-Spells-not_refused count at bytes tokens fault few (nothing _ _ e) (spelling.Refuses.passes _ _ m _ _ f k) = cc
-Spells-not_refused count at bytes tokens fault few (nothing _ _ e) (spelling.Refuses.takes _ _ m other _ _ lt2 f k) = cc
+    → Spells at bytes tokens → RefusesBytes count at bytes fault → ⊥
+Spells-not_refused count at bytes tokens fault few (nothing _ _ e) (spelling.RefusesBytes.passes _ _ m _ _ f k) = cc
+Spells-not_refused count at bytes tokens fault few (nothing _ _ e) (spelling.RefusesBytes.takes _ _ m other _ _ lt2 f k) = cc
 Spells-not_refused count at bytes tokens fault few (nothing _ _ e) (too_many _ _ more) = IsMore-end (front_of bytes) e more
 Spells-not_refused count at bytes tokens fault few (nothing _ _ e) (bad _ _ m _ lt2 f) = cc
 Spells-not_refused count at bytes tokens fault few (nothing _ _ e) (open_text _ _ _ lt2 f) = cc
 Spells-not_refused count at bytes tokens fault few (nothing _ _ e) (too_wide _ _ _ lt2 f) = cc
-Spells-not_refused count at bytes tokens fault few (spelling.Spells.passes _ n _ _ e h) (spelling.Refuses.passes _ _ m _ _ f k) =
+Spells-not_refused count at bytes tokens fault few (spelling.Spells.passes _ n _ _ e h) (spelling.RefusesBytes.passes _ _ m _ _ f k) =
     let same : n ≡ m = cc in
     Spells-not_refused count (at + n) (drop n bytes) tokens fault few h (rw same k)
-Spells-not_refused count at bytes tokens fault few (spelling.Spells.passes _ n _ _ e h) (spelling.Refuses.takes _ _ m other _ _ lt2 f k) = cc
+Spells-not_refused count at bytes tokens fault few (spelling.Spells.passes _ n _ _ e h) (spelling.RefusesBytes.takes _ _ m other _ _ lt2 f k) = cc
 Spells-not_refused count at bytes tokens fault few (spelling.Spells.passes _ n _ _ e h) (too_many _ _ more) = IsMore-gap (front_of bytes) n e more
 Spells-not_refused count at bytes tokens fault few (spelling.Spells.passes _ n _ _ e h) (bad _ _ m _ lt2 f) = cc
 Spells-not_refused count at bytes tokens fault few (spelling.Spells.passes _ n _ _ e h) (open_text _ _ _ lt2 f) = cc
 Spells-not_refused count at bytes tokens fault few (spelling.Spells.passes _ n _ _ e h) (too_wide _ _ _ lt2 f) = cc
-Spells-not_refused count at bytes tokens fault few (spelling.Spells.takes _ n sort _ rest e h) (spelling.Refuses.passes _ _ m _ _ f k) = cc
-Spells-not_refused count at bytes tokens fault few (spelling.Spells.takes _ n sort _ rest e h) (spelling.Refuses.takes _ _ m other _ _ lt2 f k) =
+Spells-not_refused count at bytes tokens fault few (spelling.Spells.takes _ n sort _ rest e h) (spelling.RefusesBytes.passes _ _ m _ _ f k) = cc
+Spells-not_refused count at bytes tokens fault few (spelling.Spells.takes _ n sort _ rest e h) (spelling.RefusesBytes.takes _ _ m other _ _ lt2 f k) =
     let same : n ≡ m = cc in
     Spells-not_refused (count + 1) (at + n) (drop n bytes) rest fault (omega (arith, few)) h (rw same k)
 Spells-not_refused count at bytes tokens fault few (spelling.Spells.takes _ n sort _ rest e h) (too_many _ _ more) = omega (arith, few)
@@ -274,7 +274,7 @@ reach-within at script front le is =
 -- what holds of a place in a script is what holds of another one in front of it
 pub record Reaches (count from at : ℕ) (script : List ℕ) : Type 0 where
   pub spelled : (tokens : List Token) → Spells at (drop at script) tokens → Spells from (drop from script) tokens
-  pub refused : (fault : LexFault) → Refuses count at (drop at script) fault → Refuses count from (drop from script) fault
+  pub refused : (fault : LexFault) → RefusesBytes count at (drop at script) fault → RefusesBytes count from (drop from script) fault
 
 -- the bytes behind a front
 pub behind : (at n : ℕ) (script : List ℕ) → drop (at + n) script ≡ drop n (drop at script)
@@ -284,7 +284,7 @@ behind at n script = sym (drop-drop n at script)
 pub Reaches-gap : (count from at n : ℕ) (script : List ℕ) → Gap n ≡ front_of (drop at script) → Reaches count from at script → Reaches count from (at + n) script
 Reaches-gap count from at n script is h = record {
   spelled = λ tokens k. h.spelled tokens (spelling.Spells.passes at n (drop at script) tokens (sym is) (rw behind at k));
-  refused = λ fault k. h.refused fault (spelling.Refuses.passes count at n (drop at script) fault (sym is) (rw behind at k));
+  refused = λ fault k. h.refused fault (spelling.RefusesBytes.passes count at n (drop at script) fault (sym is) (rw behind at k));
 }
 
 -- nothing is spelled at the end
@@ -315,7 +315,7 @@ IsNext-token count from at script (Found sort n) token before within is gives h 
             within = omega (arith, size.1, length-drop at script);
             few = room;
             spelled = λ tokens k. h.spelled (token_at at sort n ∷ tokens) (spelling.Spells.takes at n sort (drop at script) tokens (sym is) (rw behind at k));
-            refused = λ fault k. h.refused fault (spelling.Refuses.takes count at n sort (drop at script) fault room (sym is) (rw behind at k));
+            refused = λ fault k. h.refused fault (spelling.RefusesBytes.takes count at n sort (drop at script) fault room (sym is) (rw behind at k));
           })
     ]
 IsNext-token count from at script (Bad n) token before within is gives h = cc
@@ -323,8 +323,8 @@ IsNext-token count from at script Open token before within is gives h = cc
 IsNext-token count from at script Wide token before within is gives h = cc
 
 -- what one fault of two is: the script has too many tokens, or it has room for one more
-refused_by : (count at : ℕ) (bytes : List ℕ) (x fault : LexFault) → count ≤ most_tokens → IsMore (front_of bytes) → (count < most_tokens → Refuses count at bytes x)
-    → (if nat_le most_tokens count then TooManyTokens at else x) ≡ fault → Refuses count at bytes fault
+refused_by : (count at : ℕ) (bytes : List ℕ) (x fault : LexFault) → count ≤ most_tokens → IsMore (front_of bytes) → (count < most_tokens → RefusesBytes count at bytes x)
+    → (if nat_le most_tokens count then TooManyTokens at else x) ≡ fault → RefusesBytes count at bytes fault
 refused_by count at bytes x fault few more other e =
     elim (chosen (nat_le most_tokens count) (TooManyTokens at) x fault e) [
       | inl many ↦
@@ -334,11 +334,11 @@ refused_by count at bytes x fault few more other e =
     ]
 
 -- a fault that a front gives refuses the bytes
-pub Refuses-fault : (count from at : ℕ) (script : List ℕ) (front : Front) (fault : LexFault) → count ≤ most_tokens → front ≡ front_of (drop at script)
-    → Some (Err fault) ≡ token_or_fault count at front → Reaches count from at script → Refuses count from (drop from script) fault
-Refuses-fault count from at script End fault few is gives h = cc
-Refuses-fault count from at script (Gap n) fault few is gives h = cc
-Refuses-fault count from at script (Found sort n) fault few is gives h =
+pub RefusesBytes-fault : (count from at : ℕ) (script : List ℕ) (front : Front) (fault : LexFault) → count ≤ most_tokens → front ≡ front_of (drop at script)
+    → Some (Err fault) ≡ token_or_fault count at front → Reaches count from at script → RefusesBytes count from (drop from script) fault
+RefusesBytes-fault count from at script End fault few is gives h = cc
+RefusesBytes-fault count from at script (Gap n) fault few is gives h = cc
+RefusesBytes-fault count from at script (Found sort n) fault few is gives h =
     let choice : (if nat_le most_tokens count then Err (TooManyTokens at) else Ok (token_at at sort n)) ≡ Err fault = cc in
     elim (chosen (nat_le most_tokens count) (Err (TooManyTokens at)) (Ok (token_at at sort n)) (Err fault) choice) [
       | inl many ↦
@@ -348,26 +348,26 @@ Refuses-fault count from at script (Found sort n) fault few is gives h =
           h.refused fault (rw (← same, full) (too_many at (drop at script) (rw (← is) tt)))
       | inr one ↦ let e = one.1 in cc
     ]
-Refuses-fault count from at script (Bad n) fault few is gives h =
+RefusesBytes-fault count from at script (Bad n) fault few is gives h =
     h.refused fault (refused_by count at (drop at script) (BadByte (at + n)) fault few (rw (← is) tt) (λ room. bad count at n (drop at script) room (sym is)) cc)
-Refuses-fault count from at script Open fault few is gives h =
+RefusesBytes-fault count from at script Open fault few is gives h =
     h.refused fault (refused_by count at (drop at script) (OpenText at) fault few (rw (← is) tt) (λ room. open_text count at (drop at script) room (sym is)) cc)
-Refuses-fault count from at script Wide fault few is gives h =
+RefusesBytes-fault count from at script Wide fault few is gives h =
     h.refused fault (refused_by count at (drop at script) (NumberTooWide at) fault few (rw (← is) tt) (λ room. too_wide count at (drop at script) room (sym is)) cc)
 
 -- tokens in order from a place on are in order from any place in front of it
-InOrder-earlier : (from at : ℕ) (tokens : List Token) (to : ℕ) → from ≤ at → InOrder at tokens to → InOrder from tokens to
-InOrder-earlier from at [] to before h = omega (arith, h)
-InOrder-earlier from at (token ∷ rest) to before h = (omega (arith, h.0), h.1, h.2)
+TokensInOrder-earlier : (from at : ℕ) (tokens : List Token) (to : ℕ) → from ≤ at → TokensInOrder at tokens to → TokensInOrder from tokens to
+TokensInOrder-earlier from at [] to before h = omega (arith, h)
+TokensInOrder-earlier from at (token ∷ rest) to before h = (omega (arith, h.0), h.1, h.2)
 
 -- the tokens that bytes spell are in order, and lie within them
-pub InOrder-spelled : (at : ℕ) (bytes : List ℕ) (tokens : List Token) → Spells at bytes tokens → InOrder at tokens (at + length bytes)
-InOrder-spelled at bytes tokens (nothing _ _ e) = omega arith
-InOrder-spelled at bytes tokens (spelling.Spells.passes _ n _ _ e h) =
+pub TokensInOrder-spelled : (at : ℕ) (bytes : List ℕ) (tokens : List Token) → Spells at bytes tokens → TokensInOrder at tokens (at + length bytes)
+TokensInOrder-spelled at bytes tokens (nothing _ _ e) = omega arith
+TokensInOrder-spelled at bytes tokens (spelling.Spells.passes _ n _ _ e h) =
     let size = front_of-gap bytes n e in
     let same : at + n + length (drop n bytes) ≡ at + length bytes = omega (arith, length-drop n bytes, size.1) in
-    InOrder-earlier at (at + n) tokens (at + length bytes) (omega arith) (rw same at (InOrder-spelled (at + n) (drop n bytes) tokens h))
-InOrder-spelled at bytes tokens (spelling.Spells.takes _ n sort _ rest e h) =
+    TokensInOrder-earlier at (at + n) tokens (at + length bytes) (omega arith) (rw same at (TokensInOrder-spelled (at + n) (drop n bytes) tokens h))
+TokensInOrder-spelled at bytes tokens (spelling.Spells.takes _ n sort _ rest e h) =
     let size = front_of-found bytes sort n e in
     let same : at + n + length (drop n bytes) ≡ at + length bytes = omega (arith, length-drop n bytes, size.1) in
-    (omega arith, omega (arith, size.0), rw same at (InOrder-spelled (at + n) (drop n bytes) rest h))
+    (omega arith, omega (arith, size.0), rw same at (TokensInOrder-spelled (at + n) (drop n bytes) rest h))

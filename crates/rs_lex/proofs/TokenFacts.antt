@@ -9,22 +9,22 @@ use Rattle.std.proofs.lemmas.Bool.{eqb-true, eqb-false, leb-true, lt-leb, ne_eqb
 use Rattle.rs_value.specs.Number.{number_of, are_digits, greatest_int}
 use Rattle.rs_lex.specs.Bytes.{is_letter, is_digit, is_word_byte, is_blank, begins, quote, apostrophe}
 use Rattle.rs_lex.specs.Front.{front_of, run_length, closed_length, number_front, literal_front, quoted_front, symbol_front, begins_comment, is_pair, is_symbol}
-use Rattle.rs_lex.specs.Spelling.{Spells, nothing, token_at, InOrder}
+use Rattle.rs_lex.specs.Spelling.{Spells, nothing, token_at, TokensInOrder}
 use Rattle.rs_lex.specs.Spelling as spelling
 use Rattle.rs_lex.specs.Tokens.{IsToken, is_word, symbols, doubled, between, from_token, token_length}
 use Rattle.rs_lex.specs.declared.token.Sort.{Sort}
 use Rattle.rs_lex.specs.declared.token.Sort.TheVariants.{Word, Quoted, Number, Literal, Symbol}
 use Rattle.rs_lex.specs.declared.token.Token.{Token}
 use Rattle.rs_lex.specs.declared.front.Front.TheVariants.{Gap, Found, Bad, Wide}
-use Rattle.rs_lex.proofs.SpellingFacts.{chosen, closed_length-within, InOrder-spelled}
+use Rattle.rs_lex.proofs.SpellingFacts.{chosen, closed_length-within, TokensInOrder-spelled}
 use Rattle.rs_lex.proofs.FrontFacts.{closed_length-other, closed_length-doubled}
 
 -- tokens in order from a place on begin there or behind it
-InOrder-starts : (from : ℕ) (tokens : List Token) (to : ℕ) → InOrder from tokens to → All (λ token. from ≤ token.at.start) tokens
-InOrder-starts from [] to h k d lt = absurd (omega (arith, lt))
-InOrder-starts from (token ∷ rest) to h zero d lt = h.0
-InOrder-starts from (token ∷ rest) to h (suc k) d lt =
-    let later = InOrder-starts token.at.end rest to h.2 k d (omega (arith, lt)) in
+TokensInOrder-starts : (from : ℕ) (tokens : List Token) (to : ℕ) → TokensInOrder from tokens to → All (λ token. from ≤ token.at.start) tokens
+TokensInOrder-starts from [] to h k d lt = absurd (omega (arith, lt))
+TokensInOrder-starts from (token ∷ rest) to h zero d lt = h.0
+TokensInOrder-starts from (token ∷ rest) to h (suc k) d lt =
+    let later = TokensInOrder-starts token.at.end rest to h.2 k d (omega (arith, lt)) in
     omega (arith, later, h.0, h.1)
 
 -- what remains from a token on, told from a place further on
@@ -38,13 +38,13 @@ pub each_token : (P : Sort → ℕ → List ℕ → Type 0) → ((rest : List �
     → (at : ℕ) (bytes : List ℕ) (tokens : List Token) → Spells at bytes tokens → All (λ token. P token.sort (token_length token) (from_token at bytes token)) tokens
 each_token P found at bytes tokens (nothing _ _ e) = λ k d lt. absurd (omega (arith, lt))
 each_token P found at bytes tokens (spelling.Spells.passes _ n _ _ e h) =
-    go (InOrder-starts (at + n) tokens (at + n + length (drop n bytes)) (InOrder-spelled (at + n) (drop n bytes) tokens h)) (each_token P found (at + n) (drop n bytes) tokens h)
+    go (TokensInOrder-starts (at + n) tokens (at + n + length (drop n bytes)) (TokensInOrder-spelled (at + n) (drop n bytes) tokens h)) (each_token P found (at + n) (drop n bytes) tokens h)
   where
     go : All (λ token. at + n ≤ token.at.start) tokens → All (λ token. P token.sort (token_length token) (from_token (at + n) (drop n bytes) token)) tokens
         → All (λ token. P token.sort (token_length token) (from_token at bytes token)) tokens
     go before behind = λ k d lt. rw (from_token-further at n bytes (get_or tokens k d) (before k d lt)) at (behind k d lt)
 each_token P found at bytes tokens (spelling.Spells.takes _ n sort _ rest e h) =
-    go (InOrder-starts (at + n) rest (at + n + length (drop n bytes)) (InOrder-spelled (at + n) (drop n bytes) rest h)) (each_token P found (at + n) (drop n bytes) rest h)
+    go (TokensInOrder-starts (at + n) rest (at + n + length (drop n bytes)) (TokensInOrder-spelled (at + n) (drop n bytes) rest h)) (each_token P found (at + n) (drop n bytes) rest h)
   where
     go : All (λ token. at + n ≤ token.at.start) rest → All (λ token. P token.sort (token_length token) (from_token (at + n) (drop n bytes) token)) rest
         → All (λ token. P token.sort (token_length token) (from_token at bytes token)) (token_at at sort n ∷ rest)

@@ -2,7 +2,7 @@
 use Rattle.std.proofs.Common.{[], ◌∷◌, refl, lit<}
 use Rattle.std.specs.Prelude.{codes}
 use Rattle.rs_lex.specs.Front.{front_of}
-use Rattle.rs_lex.specs.Spelling.{Spells, nothing, Refuses, too_many, bad, open_text, too_wide, token_at}
+use Rattle.rs_lex.specs.Spelling.{Spells, nothing, RefusesBytes, too_many, bad, open_text, too_wide, token_at}
 use Rattle.rs_lex.specs.Spelling as spelling
 use Rattle.rs_lex.specs.declared.token.Sort.TheVariants.{Word, Quoted, Number, Symbol}
 use Rattle.rs_lex.specs.declared.fault.LexFault.TheVariants.{BadByte, OpenText, NumberTooWide, TooManyTokens}
@@ -28,25 +28,25 @@ mixed =
     (nothing 15 [] refl)))))))
 
 -- a letter behind a number, counted from the script's first byte
-letter_behind_a_number : Refuses 0 0 (codes " 12a") (BadByte 3)
+letter_behind_a_number : RefusesBytes 0 0 (codes " 12a") (BadByte 3)
 unfolding front_of
-letter_behind_a_number = spelling.Refuses.passes 0 0 1 (codes " 12a") (BadByte 3) refl (bad 0 1 2 (codes "12a") (lit< tt) refl)
+letter_behind_a_number = spelling.RefusesBytes.passes 0 0 1 (codes " 12a") (BadByte 3) refl (bad 0 1 2 (codes "12a") (lit< tt) refl)
 
 -- a text that is never closed, behind a word
-text_never_closed : Refuses 0 0 (codes "SELECT 'a") (OpenText 7)
+text_never_closed : RefusesBytes 0 0 (codes "SELECT 'a") (OpenText 7)
 unfolding front_of
 text_never_closed =
-    spelling.Refuses.takes 0 0 6 Word (codes "SELECT 'a") (OpenText 7) (lit< tt) refl
-    (spelling.Refuses.passes 1 6 1 (codes " 'a") (OpenText 7) refl (open_text 1 7 (codes "'a") (lit< tt) refl))
+    spelling.RefusesBytes.takes 0 0 6 Word (codes "SELECT 'a") (OpenText 7) (lit< tt) refl
+    (spelling.RefusesBytes.passes 1 6 1 (codes " 'a") (OpenText 7) refl (open_text 1 7 (codes "'a") (lit< tt) refl))
 
 -- a number that is too great, also in front of a letter
-number_too_great : Refuses 0 0 (codes "5000000000000000000a") (NumberTooWide 0)
+number_too_great : RefusesBytes 0 0 (codes "5000000000000000000a") (NumberTooWide 0)
 unfolding front_of
 number_too_great = too_wide 0 0 (codes "5000000000000000000a") (lit< tt) refl
 
 -- one token too many, at its first byte, even where it would be refused
-one_too_many : Refuses 99999 7 (codes "; $") (TooManyTokens 9)
+one_too_many : RefusesBytes 99999 7 (codes "; $") (TooManyTokens 9)
 unfolding front_of
 one_too_many =
-    spelling.Refuses.takes 99999 7 1 Symbol (codes "; $") (TooManyTokens 9) (lit< tt) refl
-    (spelling.Refuses.passes 100000 8 1 (codes " $") (TooManyTokens 9) refl (too_many 9 (codes "$") tt))
+    spelling.RefusesBytes.takes 99999 7 1 Symbol (codes "; $") (TooManyTokens 9) (lit< tt) refl
+    (spelling.RefusesBytes.passes 100000 8 1 (codes " $") (TooManyTokens 9) refl (too_many 9 (codes "$") tt))

@@ -34,19 +34,19 @@ IsMore Open = Unit {0}
 IsMore Wide = Unit {0}
 
 -- behind so many tokens, the bytes of a script from a place on are refused with this fault
-pub data Refuses : ℕ → ℕ → List ℕ → LexFault → Type 0 where
-  passes : (count at n : ℕ) (bytes : List ℕ) (fault : LexFault) → front_of bytes ≡ Gap n → Refuses count (at + n) (drop n bytes) fault → Refuses count at bytes fault
+pub data RefusesBytes : ℕ → ℕ → List ℕ → LexFault → Type 0 where
+  passes : (count at n : ℕ) (bytes : List ℕ) (fault : LexFault) → front_of bytes ≡ Gap n → RefusesBytes count (at + n) (drop n bytes) fault → RefusesBytes count at bytes fault
   takes : (count at n : ℕ) (sort : Sort) (bytes : List ℕ) (fault : LexFault) → count < most_tokens → front_of bytes ≡ Found sort n
-      → Refuses (count + 1) (at + n) (drop n bytes) fault → Refuses count at bytes fault
-  too_many : (at : ℕ) (bytes : List ℕ) → IsMore (front_of bytes) → Refuses most_tokens at bytes (TooManyTokens at)
-  bad : (count at n : ℕ) (bytes : List ℕ) → count < most_tokens → front_of bytes ≡ Bad n → Refuses count at bytes (BadByte (at + n))
-  open_text : (count at : ℕ) (bytes : List ℕ) → count < most_tokens → front_of bytes ≡ Open → Refuses count at bytes (OpenText at)
-  too_wide : (count at : ℕ) (bytes : List ℕ) → count < most_tokens → front_of bytes ≡ Wide → Refuses count at bytes (NumberTooWide at)
+      → RefusesBytes (count + 1) (at + n) (drop n bytes) fault → RefusesBytes count at bytes fault
+  too_many : (at : ℕ) (bytes : List ℕ) → IsMore (front_of bytes) → RefusesBytes most_tokens at bytes (TooManyTokens at)
+  bad : (count at n : ℕ) (bytes : List ℕ) → count < most_tokens → front_of bytes ≡ Bad n → RefusesBytes count at bytes (BadByte (at + n))
+  open_text : (count at : ℕ) (bytes : List ℕ) → count < most_tokens → front_of bytes ≡ Open → RefusesBytes count at bytes (OpenText at)
+  too_wide : (count at : ℕ) (bytes : List ℕ) → count < most_tokens → front_of bytes ≡ Wide → RefusesBytes count at bytes (NumberTooWide at)
 
 -- from one place up to another, tokens stand one behind the other: none is empty, and no two share a byte
-abbrev pub InOrder : ℕ → List Token → ℕ → Type 0
-InOrder from [] to = from ≤ to
-InOrder from (token ∷ rest) to = (from ≤ token.at.start) × (token.at.start < token.at.end) × InOrder token.at.end rest to
+abbrev pub TokensInOrder : ℕ → List Token → ℕ → Type 0
+TokensInOrder from [] to = from ≤ to
+TokensInOrder from (token ∷ rest) to = (from ≤ token.at.start) × (token.at.start < token.at.end) × TokensInOrder token.at.end rest to
 
 -- how far a front reaches
 abbrev pub reach : Front → ℕ
@@ -73,4 +73,4 @@ pub record IsNext (count at : ℕ) (script : List ℕ) (token : Token) : Type 0 
   pub within : token.at.end ≤ length script
   pub few : count < most_tokens
   pub spelled : (tokens : List Token) → Spells token.at.end (drop token.at.end script) tokens → Spells at (drop at script) (token ∷ tokens)
-  pub refused : (fault : LexFault) → Refuses (count + 1) token.at.end (drop token.at.end script) fault → Refuses count at (drop at script) fault
+  pub refused : (fault : LexFault) → RefusesBytes (count + 1) token.at.end (drop token.at.end script) fault → RefusesBytes count at (drop at script) fault

@@ -4,7 +4,7 @@
 ghost use Rattle.std.specs.Prelude.{◌≡◌, ◌<◌, ◌≤◌, ◌+◌, ◌∷◌, ℕ, All, List, drop, length, take};
 ghost use Rattle.rs_lex.specs.Bytes.{quote};
 ghost use Rattle.rs_lex.specs.Faults.{BeginsNoToken, BeginsOther, HasLetterBehind, IsFault, IsOpen, IsWide};
-ghost use Rattle.rs_lex.specs.Spelling.{Refuses, Spells, most_tokens, token_at};
+ghost use Rattle.rs_lex.specs.Spelling.{RefusesBytes, Spells, most_tokens, token_at};
 ghost use Rattle.rs_lex.specs.Tokens.{EndsAt, IsGap, IsToken, from_token, token_length};
 ghost use Rattle.rs_lex.specs.declared.fault.LexFault.{LexFault};
 ghost use Rattle.rs_lex.specs.declared.token.Sort.{Sort};
@@ -41,7 +41,7 @@ pub fn gaps_are_passed()
     ensures spelled { (at n : ℕ) (bytes : List ℕ) (tokens : List Token) → IsGap n bytes
         → Spells (at + n) (drop n bytes) tokens → Spells at bytes tokens }
     ensures refused { (count at n : ℕ) (bytes : List ℕ) (fault : LexFault) → IsGap n bytes
-        → Refuses count (at + n) (drop n bytes) fault → Refuses count at bytes fault }
+        → RefusesBytes count (at + n) (drop n bytes) fault → RefusesBytes count at bytes fault }
 {}
 
 /// The bytes of a script spell one list of tokens at most.
@@ -53,30 +53,30 @@ pub fn one_list_of_tokens()
 /// A script that spells few enough tokens isn't refused.
 pub fn spelled_is_not_refused()
     ensures { (at : ℕ) (bytes : List ℕ) (tokens : List Token) (fault : LexFault) → length tokens ≤ most_tokens
-        → Spells at bytes tokens → Refuses 0 at bytes fault → ⊥ }
+        → Spells at bytes tokens → RefusesBytes 0 at bytes fault → ⊥ }
 {}
 
 /// A script is refused only at a place where what the fault says stands, as `IsFault` says it of the script's bytes.
 pub fn refusals_are_faults()
-    ensures { (script : List ℕ) (fault : LexFault) → Refuses 0 0 script fault → IsFault script fault }
+    ensures { (script : List ℕ) (fault : LexFault) → RefusesBytes 0 0 script fault → IsFault script fault }
 {}
 
 /// At a place behind so many tokens, fewer than a script may have, a script is refused with what stands there; and where
 /// a token stands there and ends, with what is told behind it. Behind as many as it may have, it has too many.
 pub fn faults_are_refused()
     ensures no_token { (count at : ℕ) (bytes : List ℕ) → count < most_tokens → BeginsNoToken bytes
-        → Refuses count at bytes (LexFault.BadByte at) }
+        → RefusesBytes count at bytes (LexFault.BadByte at) }
     ensures empty_name { (count at : ℕ) (after : List ℕ) → count < most_tokens → ((more : List ℕ) → after ≡ quote ∷ more → ⊥)
-        → Refuses count at (quote ∷ quote ∷ after) (LexFault.BadByte at) }
+        → RefusesBytes count at (quote ∷ quote ∷ after) (LexFault.BadByte at) }
     ensures letter { (count at n : ℕ) (bytes : List ℕ) → count < most_tokens → HasLetterBehind n bytes
-        → Refuses count at bytes (LexFault.BadByte (at + n)) }
+        → RefusesBytes count at bytes (LexFault.BadByte (at + n)) }
     ensures never_closed { (count at : ℕ) (bytes : List ℕ) → count < most_tokens → IsOpen bytes
-        → Refuses count at bytes (LexFault.OpenText at) }
+        → RefusesBytes count at bytes (LexFault.OpenText at) }
     ensures too_great { (count at : ℕ) (bytes : List ℕ) → count < most_tokens → IsWide bytes
-        → Refuses count at bytes (LexFault.NumberTooWide at) }
+        → RefusesBytes count at bytes (LexFault.NumberTooWide at) }
     ensures too_many { (at : ℕ) (bytes : List ℕ) → BeginsOther bytes
-        → Refuses most_tokens at bytes (LexFault.TooManyTokens at) }
+        → RefusesBytes most_tokens at bytes (LexFault.TooManyTokens at) }
     ensures behind { (count at n : ℕ) (sort : Sort) (bytes : List ℕ) (fault : LexFault) → count < most_tokens → n ≤ length bytes
-        → IsToken sort (take n bytes) → EndsAt sort n bytes → Refuses (count + 1) (at + n) (drop n bytes) fault
-        → Refuses count at bytes fault }
+        → IsToken sort (take n bytes) → EndsAt sort n bytes → RefusesBytes (count + 1) (at + n) (drop n bytes) fault
+        → RefusesBytes count at bytes fault }
 {}

@@ -1,5 +1,5 @@
 ghost use Rattle.std.specs.Prelude.{◌≡◌, ◌≤◌, ◌+◌, ◌⊎◌, List, [], Err, Some, drop, length, IfErr, IfOk, MatchOption, MatchResult};
-ghost use Rattle.rs_lex.specs.Spelling.{InOrder, IsMore, IsNext, Refuses, Spells, most_tokens, reach, token_or_fault};
+ghost use Rattle.rs_lex.specs.Spelling.{TokensInOrder, IsMore, IsNext, RefusesBytes, Spells, most_tokens, reach, token_or_fault};
 ghost use Rattle.rs_lex.specs.declared.fault.LexFault.{LexFault};
 ghost use Rattle.rs_lex.specs.declared.token.Token.{Token};
 
@@ -24,10 +24,10 @@ pub fn tokens(alloc: Global, script: &Text) -> Result<Vec<Token>, LexFault>
     requires { length script.now ≤ 1048576 }
     ensures spells { IfOk result (λ tokens. Spells 0 script.now tokens.items) }
     ensures few { IfOk result (λ tokens. length tokens.items ≤ most_tokens) }
-    ensures ordered { IfOk result (λ tokens. InOrder 0 tokens.items (length script.now)) }
-    ensures refused { IfErr result (λ fault. (fault ≡ LexFault.Memory) ⊎ Refuses 0 0 script.now fault) }
+    ensures ordered { IfOk result (λ tokens. TokensInOrder 0 tokens.items (length script.now)) }
+    ensures refused { IfErr result (λ fault. (fault ≡ LexFault.Memory) ⊎ RefusesBytes 0 0 script.now fault) }
     ensures only { (tokens : List Token) → Spells 0 script.now tokens → length tokens ≤ most_tokens → MatchResult result (λ made. made.items ≡ tokens) (λ fault. fault ≡ LexFault.Memory) }
-    ensures exact { (fault : LexFault) → Refuses 0 0 script.now fault → (result ≡ Err fault) ⊎ (result ≡ Err LexFault.Memory) }
+    ensures exact { (fault : LexFault) → RefusesBytes 0 0 script.now fault → (result ≡ Err fault) ⊎ (result ≡ Err LexFault.Memory) }
 {
     let bytes = script.bytes();
     let mut made = Vec::new(alloc);
@@ -47,7 +47,7 @@ fn next_token(bytes: &[u8], mut at: usize, count: usize) -> Result<Option<Token>
     requires within { at ≤ length bytes.now }
     requires few { count ≤ most_tokens }
     ensures next { IfOk result (λ next. MatchOption next (Spells at (drop at bytes.now) []) (λ token. IsNext count at bytes.now token)) }
-    ensures refused { IfErr result (λ fault. Refuses count at (drop at bytes.now) fault) }
+    ensures refused { IfErr result (λ fault. RefusesBytes count at (drop at bytes.now) fault) }
 {
     loop {
         match front_at(&bytes[at..]) {

@@ -12,7 +12,7 @@ use Rattle.std.specs.Option.{option_map}
 use Rattle.std.specs.Ordering.{is_lt, is_gt, nat_cmp, ordering_then}
 use Rattle.std.specs.declared.cmp.Ordering.{Ordering}
 use Rattle.std.specs.declared.cmp.Ordering.TheVariants.{Greater}
-use Rattle.rs_order.specs.Asks.{asks_for, tau}
+use Rattle.rs_order.specs.Asks.{asks_for, bar_after}
 use Rattle.rs_order.specs.Climbing.{Differs, HasDistinctKeys, In}
 use Rattle.rs_order.specs.Sorting.{put, put_each, sorted}
 use Rattle.rs_order.proofs.ClimbingFacts.{AllByRecursion-In, AllByRecursion-from_In}
@@ -93,12 +93,12 @@ pub asks_of-upto : (e : Evaluation) (rows : List RankRow) (n : ℕ) → asks_of 
 asks_of-upto e rows zero = refl
 asks_of-upto e rows (suc n) =
     ap (λ bar. asks_for key_cmp (old_key e) rows bar)
-    (ap (λ ys. tau (new_key e) ys n) (answers-map e rows) ∙ tau-map (new_key e) (with_worth e) (sorted key_cmp (row_key e) rows) n)
+    (ap (λ ys. bar_after (new_key e) ys n) (answers-map e rows) ∙ bar_after-map (new_key e) (with_worth e) (sorted key_cmp (row_key e) rows) n)
   where
-    tau-map : {X Y K : Type 0} (key : Y → K) (f : X → Y) (xs : List X) (n : ℕ) → tau key (map f xs) n ≡ tau (λ x. key (f x)) xs n
-    tau-map key f [] n = refl
-    tau-map key f (x ∷ xs) zero = refl
-    tau-map key f (x ∷ xs) (suc n) = tau-map key f xs n
+    bar_after-map : {X Y K : Type 0} (key : Y → K) (f : X → Y) (xs : List X) (n : ℕ) → bar_after key (map f xs) n ≡ bar_after (λ x. key (f x)) xs n
+    bar_after-map key f [] n = refl
+    bar_after-map key f (x ∷ xs) zero = refl
+    bar_after-map key f (x ∷ xs) (suc n) = bar_after-map key f xs n
 
 -- more answers take more asks
 pub asks-grow : (e : Evaluation) (rows : List RankRow) → IsInput e rows → (m n : ℕ) → m ≤ n → asks_of e rows m ≤ asks_of e rows n

@@ -2,7 +2,7 @@
 use Rattle.std.specs.Prelude.{ℕ, zero, suc, ◌≡◌, ◌≤◌, ◌+◌, ◌-◌, ◌*◌, false, nat_lt, List, length, map, take, drop, bit_or, slice_index}
 use Rattle.std.specs.List.{AllByRecursion}
 use Rattle.std.specs.Option.{option_map}
-use Rattle.rs_order.specs.Asks.{asks_for, tau}
+use Rattle.rs_order.specs.Asks.{asks_for, bar_after}
 use Rattle.rs_order.specs.Climbing.{Climbs}
 use Rattle.rs_order.specs.Last.{last_of}
 use Rattle.rs_order.specs.Sorting.{sorted}
@@ -50,7 +50,7 @@ pub record IsInput (e : Evaluation) (rows : List RankRow) : Type 0 where
 -- how often the input is asked for so many answers: one more time than it has rows before the key of the last one
 abbrev pub asks_of : Evaluation → List RankRow → ℕ → ℕ
 asks_of e rows zero = 0
-asks_of e rows (suc n) = asks_for key_cmp (old_key e) rows (tau (new_key e) (answers e rows) n)
+asks_of e rows (suc n) = asks_for key_cmp (old_key e) rows (bar_after (new_key e) (answers e rows) n)
 
 -- what the operator keeps after so many asks of its input and so many answers. The ask behind the last row tells it that
 -- no more comes

@@ -6,7 +6,7 @@ use Rattle.std.specs.Ordering.{is_lt, is_gt}
 use Rattle.std.specs.declared.cmp.Ordering.TheVariants.{Less, Equal, Greater}
 use Rattle.std.specs.declared.cmp.Ordering.{Ordering}
 use Rattle.rs_order.specs.Climbing.{Precedes, Climbs}
-use Rattle.rs_order.specs.Asks.{tau, comes_before_bar, IsNoFurther, those_before, asks_for}
+use Rattle.rs_order.specs.Asks.{bar_after, comes_before_bar, IsNoFurther, those_before, asks_for}
 
 -- what comes behind a key that doesn't come before a bar doesn't either
 comes_before_bar-behind : {K : Type 0} (cmp : K → K → Ordering) → IsTotalOrder cmp → (bar : Option K) (a b : K) → comes_before_bar cmp bar a ≡ false → cmp a b ≡ Less → comes_before_bar cmp bar b ≡ false
@@ -102,15 +102,15 @@ asks_for-more cmp o key xs bar further h =
     omega arith
 
 -- the keys of answers behind an item lie further on than its own
-tau-behind : {X K : Type 0} (cmp : K → K → Ordering) (key : X → K) (x : X) (xs : List X) (n : ℕ) → AllByRecursion (Precedes cmp key x) xs → IsNoFurther cmp (Some (key x)) (tau key xs n)
-tau-behind cmp key x [] n all = tt
-tau-behind cmp key x (y ∷ ys) zero all = ap is_gt all.0
-tau-behind cmp key x (y ∷ ys) (suc n) all = tau-behind cmp key x ys n all.1
+bar_after-behind : {X K : Type 0} (cmp : K → K → Ordering) (key : X → K) (x : X) (xs : List X) (n : ℕ) → AllByRecursion (Precedes cmp key x) xs → IsNoFurther cmp (Some (key x)) (bar_after key xs n)
+bar_after-behind cmp key x [] n all = tt
+bar_after-behind cmp key x (y ∷ ys) zero all = ap is_gt all.0
+bar_after-behind cmp key x (y ∷ ys) (suc n) all = bar_after-behind cmp key x ys n all.1
 
 -- a later answer's key lies further on
-pub tau-later : {X K : Type 0} (cmp : K → K → Ordering) → IsTotalOrder cmp → (key : X → K) (xs : List X) (m n : ℕ) → Climbs cmp key xs → m ≤ n → IsNoFurther cmp (tau key xs m) (tau key xs n)
-tau-later cmp o key [] m n climbs le = tt
-tau-later cmp o key (x ∷ xs) zero zero climbs le = ap is_gt (tied_itself o (key x))
-tau-later cmp o key (x ∷ xs) zero (suc n) climbs le = tau-behind cmp key x xs n climbs.0
-tau-later cmp o key (x ∷ xs) (suc m) zero climbs le = absurd (omega arith)
-tau-later cmp o key (x ∷ xs) (suc m) (suc n) climbs le = tau-later cmp o key xs m n climbs.1 (omega arith)
+pub bar_after-later : {X K : Type 0} (cmp : K → K → Ordering) → IsTotalOrder cmp → (key : X → K) (xs : List X) (m n : ℕ) → Climbs cmp key xs → m ≤ n → IsNoFurther cmp (bar_after key xs m) (bar_after key xs n)
+bar_after-later cmp o key [] m n climbs le = tt
+bar_after-later cmp o key (x ∷ xs) zero zero climbs le = ap is_gt (tied_itself o (key x))
+bar_after-later cmp o key (x ∷ xs) zero (suc n) climbs le = bar_after-behind cmp key x xs n climbs.0
+bar_after-later cmp o key (x ∷ xs) (suc m) zero climbs le = absurd (omega arith)
+bar_after-later cmp o key (x ∷ xs) (suc m) (suc n) climbs le = bar_after-later cmp o key xs m n climbs.1 (omega arith)

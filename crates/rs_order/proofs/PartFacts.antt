@@ -8,7 +8,7 @@ use Rattle.std.specs.Option.{option_map}
 use Rattle.std.specs.Ordering.{is_lt, is_gt, ordering_reverse}
 use Rattle.std.specs.declared.cmp.Ordering.{Ordering}
 use Rattle.std.specs.declared.cmp.Ordering.TheVariants.{Less, Equal, Greater}
-use Rattle.rs_order.specs.Asks.{tau}
+use Rattle.rs_order.specs.Asks.{bar_after}
 use Rattle.rs_order.specs.Climbing.{Climbs, Differs, HasDistinctKeys, In, IsBeyond, Precedes}
 use Rattle.rs_order.specs.Last.{last_from, last_of}
 use Rattle.rs_order.specs.Sorting.{put, put_each, sorted}
@@ -85,10 +85,10 @@ Climbs-at cmp key (x ∷ xs) zero (suc j) d climbs before within = each-get_or (
 Climbs-at cmp key (x ∷ xs) (suc i) (suc j) d climbs before within = Climbs-at cmp key xs i j d climbs.1 (omega arith) (omega arith)
 
 -- the key of the last answer is that of the item at its place
-pub tau-slice_get : {X K : Type 0} (key : X → K) (xs : List X) (n : ℕ) → tau key xs n ≡ option_map key (slice_get xs n)
-tau-slice_get key [] n = refl
-tau-slice_get key (x ∷ xs) zero = refl
-tau-slice_get key (x ∷ xs) (suc n) = tau-slice_get key xs n
+pub bar_after-slice_get : {X K : Type 0} (key : X → K) (xs : List X) (n : ℕ) → bar_after key xs n ≡ option_map key (slice_get xs n)
+bar_after-slice_get key [] n = refl
+bar_after-slice_get key (x ∷ xs) zero = refl
+bar_after-slice_get key (x ∷ xs) (suc n) = bar_after-slice_get key xs n
 
 -- lists with the same first n + 1 items have the same at place n
 pub slice_get-shared : {X : Type 0} (n : ℕ) (xs ys : List X) → take (suc n) xs ≡ take (suc n) ys → slice_get xs n ≡ slice_get ys n

@@ -10,13 +10,13 @@ use Rattle.std.specs.Option.{option_map}
 use Rattle.std.specs.Ordering.{is_lt, is_gt, ordering_reverse}
 use Rattle.std.specs.declared.cmp.Ordering.{Ordering}
 use Rattle.std.specs.declared.cmp.Ordering.TheVariants.{Less, Equal, Greater}
-use Rattle.rs_order.specs.Asks.{asks_for, comes_before_bar, tau, those_before}
+use Rattle.rs_order.specs.Asks.{asks_for, comes_before_bar, bar_after, those_before}
 use Rattle.rs_order.specs.Climbing.{Climbs, HasDistinctKeys, In, IsBeyond, Precedes}
 use Rattle.rs_order.specs.Sorting.{put, sorted}
-use Rattle.rs_order.proofs.AsksFacts.{asks_for-more, get_or-asked, get_or-before, tau-later}
+use Rattle.rs_order.proofs.AsksFacts.{asks_for-more, get_or-asked, get_or-before, bar_after-later}
 use Rattle.rs_order.proofs.ClimbingFacts.{AllByRecursion-In, Climbs-shared}
 use Rattle.rs_order.proofs.SortingFacts.{Climbs-sorted, In-sorted, In-sorted-back}
-use Rattle.rs_order.proofs.PartFacts.{Climbs-begin, Climbs-behind, Climbs-not_behind, HasDistinctKeys-take, In-at, In-drop, In-parts, In-take, IsBeyond-drop, IsBeyond-shared, cmp-Less-behind, cmp-behind-Less, drop-put, slice_get-shared, sorted-snoc, take-snoc, tau-slice_get}
+use Rattle.rs_order.proofs.PartFacts.{Climbs-begin, Climbs-behind, Climbs-not_behind, HasDistinctKeys-take, In-at, In-drop, In-parts, In-take, IsBeyond-drop, IsBeyond-shared, cmp-Less-behind, cmp-behind-Less, drop-put, slice_get-shared, sorted-snoc, take-snoc, bar_after-slice_get}
 
 -- such a list
 pub record Reorder {X K : Type 0} (cmp : K → K → Ordering) (old new : X → K) (xs : List X) : Type 0 where
@@ -28,7 +28,7 @@ pub record Reorder {X K : Type 0} (cmp : K → K → Ordering) (old new : X → 
 -- how many asks so many answers take
 abbrev pub asks_upto : {X K : Type 0} → (K → K → Ordering) → (X → K) → (X → K) → List X → ℕ → ℕ
 asks_upto cmp old new xs zero = 0
-asks_upto cmp old new xs (suc n) = asks_for cmp old xs (tau new (sorted cmp new xs) n)
+asks_upto cmp old new xs (suc n) = asks_for cmp old xs (bar_after new (sorted cmp new xs) n)
 
 -- the one comes after the other where the other comes before it
 is_gt-turned : {K : Type 0} (cmp : K → K → Ordering) → IsTotalOrder cmp → (a b : K) → is_gt (cmp a b) ≡ is_lt (cmp b a)
@@ -61,12 +61,12 @@ asks_for-most cmp key xs bar = let most = length-those_before cmp key bar xs in 
 
 pub asks_upto-most : {X K : Type 0} (cmp : K → K → Ordering) (old new : X → K) (xs : List X) (n : ℕ) → asks_upto cmp old new xs n ≤ suc (length xs)
 asks_upto-most cmp old new xs zero = omega arith
-asks_upto-most cmp old new xs (suc n) = asks_for-most cmp old xs (tau new (sorted cmp new xs) n)
+asks_upto-most cmp old new xs (suc n) = asks_for-most cmp old xs (bar_after new (sorted cmp new xs) n)
 
 -- answers that there are not take all asks
 pub asks_upto-none : {X K : Type 0} (cmp : K → K → Ordering) (old new : X → K) (xs : List X) (n : ℕ) → slice_get (sorted cmp new xs) n ≡ None → asks_upto cmp old new xs (suc n) ≡ suc (length xs)
 asks_upto-none cmp old new xs n e =
-    ap (λ bar. asks_for cmp old xs bar) (tau-slice_get new (sorted cmp new xs) n ∙ ap (option_map new) e) ∙ asks_for-None cmp old xs
+    ap (λ bar. asks_for cmp old xs bar) (bar_after-slice_get new (sorted cmp new xs) n ∙ ap (option_map new) e) ∙ asks_for-None cmp old xs
 
 -- what was not asked for a bar comes behind it
 behind_bar : {X K : Type 0} (cmp : K → K → Ordering) → IsTotalOrder cmp → (old : X → K) (bar : K) (xs : List X) (j : ℕ) (z : X) → Climbs cmp old xs → asks_for cmp old xs (Some bar) ≤ j → In z (drop j xs) → cmp bar (old z) ≡ Less
@@ -112,7 +112,7 @@ module _ {X K : Type 0} (cmp : K → K → Ordering) (old new : X → K) (xs : L
 
   -- asks for n + 1 answers, of which the last one is x
   asks-some : (n : ℕ) (x : X) → slice_get whole n ≡ Some x → asks_upto cmp old new xs (suc n) ≡ asks_for cmp old xs (Some (new x))
-  asks-some n x e = ap (λ bar. asks_for cmp old xs bar) (tau-slice_get new whole n ∙ ap (option_map new) e)
+  asks-some n x e = ap (λ bar. asks_for cmp old xs bar) (bar_after-slice_get new whole n ∙ ap (option_map new) e)
 
   -- or of which there is none
   asks-none : (n : ℕ) → slice_get whole n ≡ None → asks_upto cmp old new xs (suc n) ≡ suc (length xs)
@@ -123,7 +123,7 @@ module _ {X K : Type 0} (cmp : K → K → Ordering) (old new : X → K) (xs : L
   asks_upto-more zero n le = omega arith
   asks_upto-more (suc m) zero le = absurd (omega arith)
   asks_upto-more (suc m) (suc n) le =
-      asks_for-more cmp r.total old xs (tau new whole m) (tau new whole n) (tau-later cmp r.total new whole m n whole-climbs (omega arith))
+      asks_for-more cmp r.total old xs (bar_after new whole m) (bar_after new whole n) (bar_after-later cmp r.total new whole m n whole-climbs (omega arith))
 
   -- what was not asked for an answer comes behind it
   behind_answer : (n j : ℕ) (x z : X) → slice_get whole n ≡ Some x → asks_upto cmp old new xs (suc n) ≤ j → In z (drop j xs) → Precedes cmp new x z

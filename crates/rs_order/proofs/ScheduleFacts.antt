@@ -9,7 +9,7 @@ use Rattle.rs_order.proofs.AsksFacts.{get_or-asked}
 use Rattle.rs_order.specs.Asks.{asks_for, comes_before_bar, those_before}
 use Rattle.rs_order.specs.Climbing.{Climbs}
 use Rattle.rs_order.specs.Merging.{merged, woven}
-use Rattle.rs_order.specs.Schedule.{JoinSide, Left, Right, Turn, asked_before, is_of, numbers_from, numbers_of, schedule, turns_from}
+use Rattle.rs_order.specs.Schedule.{JoinSide, Left, Right, Turn, asked_before, is_of_side, numbers_from, ask_numbers, schedule, turns_from}
 
 -- what is made of a list item by item, where the items of the second list add nothing
 module _ {X K A : Type 0} (cmp : K → K → Ordering) (key : X → K) (make : List X → A) (add : X → A → A) (step : (x : X) (xs : List X) → make (x ∷ xs) ≡ add x (make xs)) where
@@ -44,28 +44,28 @@ module _ {X K A : Type 0} (cmp : K → K → Ordering) (key : X → K) (make : L
 -- the numbers of a side's asks among turns up to a bar
 module _ {K : Type 0} (cmp : K → K → Ordering) (bar : Option K) where
   abbrev numbers_before : JoinSide → List (Turn K) → List ℕ
-  numbers_before side turns = numbers_of side (asked_before cmp bar turns)
+  numbers_before side turns = ask_numbers side (asked_before cmp bar turns)
 
   abbrev add_number : JoinSide → Turn K → List ℕ → List ℕ
-  add_number side turn numbers = cond (comes_before_bar cmp bar turn.key) (cond (is_of side turn.ask) (turn.ask.number ∷ numbers) numbers) numbers
+  add_number side turn numbers = cond (comes_before_bar cmp bar turn.key) (cond (is_of_side side turn.ask) (turn.ask.number ∷ numbers) numbers) numbers
 
   numbers_before-step : (side : JoinSide) (turn : Turn K) (turns : List (Turn K)) → numbers_before side (turn ∷ turns) ≡ add_number side turn (numbers_before side turns)
   numbers_before-step side turn turns =
       elim (comes_before_bar cmp bar turn.key) as (λ b.
-      numbers_of side (map (λ turn. turn.ask) (cond b (turn ∷ filter (λ turn. comes_before_bar cmp bar turn.key) turns) (filter (λ turn. comes_before_bar cmp bar turn.key) turns)))
-      ≡ cond b (cond (is_of side turn.ask) (turn.ask.number ∷ numbers_before side turns) (numbers_before side turns)) (numbers_before side turns)) [
-        | true ↦ elim (is_of side turn.ask) as (λ b.
-            map (λ ask. ask.number) (cond b (turn.ask ∷ filter (is_of side) (map (λ turn. turn.ask) (filter (λ turn. comes_before_bar cmp bar turn.key) turns))) (filter (is_of side) (map (λ turn. turn.ask) (filter (λ turn. comes_before_bar cmp bar turn.key) turns))))
+      ask_numbers side (map (λ turn. turn.ask) (cond b (turn ∷ filter (λ turn. comes_before_bar cmp bar turn.key) turns) (filter (λ turn. comes_before_bar cmp bar turn.key) turns)))
+      ≡ cond b (cond (is_of_side side turn.ask) (turn.ask.number ∷ numbers_before side turns) (numbers_before side turns)) (numbers_before side turns)) [
+        | true ↦ elim (is_of_side side turn.ask) as (λ b.
+            map (λ ask. ask.number) (cond b (turn.ask ∷ filter (is_of_side side) (map (λ turn. turn.ask) (filter (λ turn. comes_before_bar cmp bar turn.key) turns))) (filter (is_of_side side) (map (λ turn. turn.ask) (filter (λ turn. comes_before_bar cmp bar turn.key) turns))))
             ≡ cond b (turn.ask.number ∷ numbers_before side turns) (numbers_before side turns)) [ true ↦ refl | false ↦ refl ]
         | false ↦ refl
       ]
 
   -- the other side's turns add nothing
-  other_adds_nothing : (side other : JoinSide) (n : ℕ) (keys : List K) → ((number : ℕ) → is_of side (record { side = other; number = number }) ≡ false) → AllByRecursion (λ turn. (numbers : List ℕ) → add_number side turn numbers ≡ numbers) (turns_from other n keys)
+  other_adds_nothing : (side other : JoinSide) (n : ℕ) (keys : List K) → ((number : ℕ) → is_of_side side (record { side = other; number = number }) ≡ false) → AllByRecursion (λ turn. (numbers : List ℕ) → add_number side turn numbers ≡ numbers) (turns_from other n keys)
   other_adds_nothing side other n [] differs = tt
   other_adds_nothing side other n (key ∷ keys) differs = (
     λ numbers.
-        elim (comes_before_bar cmp bar key) as (λ b. cond b (cond (is_of side (record { side = other; number = n })) (n ∷ numbers) numbers) numbers ≡ numbers) [
+        elim (comes_before_bar cmp bar key) as (λ b. cond b (cond (is_of_side side (record { side = other; number = n })) (n ∷ numbers) numbers) numbers ≡ numbers) [
           | true ↦ ap (λ b. cond b (n ∷ numbers) numbers) (differs n)
           | false ↦ refl
         ],
@@ -73,14 +73,14 @@ module _ {K : Type 0} (cmp : K → K → Ordering) (bar : Option K) where
   )
 
   -- a side's own turns come up to the bar, one after another
-  own_numbers : IsTotalOrder cmp → (side : JoinSide) (n : ℕ) (keys : List K) → ((number : ℕ) → is_of side (record { side = side; number = number }) ≡ true) → Climbs cmp (λ key. key) keys → numbers_before side (turns_from side n keys) ≡ numbers_from n (length (those_before cmp (λ key. key) bar keys))
+  own_numbers : IsTotalOrder cmp → (side : JoinSide) (n : ℕ) (keys : List K) → ((number : ℕ) → is_of_side side (record { side = side; number = number }) ≡ true) → Climbs cmp (λ key. key) keys → numbers_before side (turns_from side n keys) ≡ numbers_from n (length (those_before cmp (λ key. key) bar keys))
   own_numbers o side n [] same climbs = refl
   own_numbers o side n (key ∷ keys) same climbs =
       let others = own_numbers o side (suc n) keys same climbs.1 in
       numbers_before-step side (record { ask = record { side = side; number = n }; key = key }) (turns_from side (suc n) keys)
       ∙ ap (λ numbers. add_number side (record { ask = record { side = side; number = n }; key = key }) numbers) others
       ∙ (elim (comes_before_bar cmp bar key) as (λ b. comes_before_bar cmp bar key ≡ b →
-      cond b (cond (is_of side (record { side = side; number = n })) (n ∷ numbers_from (suc n) (length (those_before cmp (λ key. key) bar keys))) (numbers_from (suc n) (length (those_before cmp (λ key. key) bar keys)))) (numbers_from (suc n) (length (those_before cmp (λ key. key) bar keys)))
+      cond b (cond (is_of_side side (record { side = side; number = n })) (n ∷ numbers_from (suc n) (length (those_before cmp (λ key. key) bar keys))) (numbers_from (suc n) (length (those_before cmp (λ key. key) bar keys)))) (numbers_from (suc n) (length (those_before cmp (λ key. key) bar keys)))
       ≡ numbers_from n (length (cond b (key ∷ those_before cmp (λ key. key) bar keys) (those_before cmp (λ key. key) bar keys)))) [
         | true ↦ λ e. ap (λ b. cond b (n ∷ numbers_from (suc n) (length (those_before cmp (λ key. key) bar keys))) (numbers_from (suc n) (length (those_before cmp (λ key. key) bar keys)))) (same n)
         | false ↦ λ e. let none = none_behind o key keys climbs e in rw none refl
@@ -94,7 +94,7 @@ module _ {K : Type 0} (cmp : K → K → Ordering) (bar : Option K) where
           ]
 
 -- the left side's asks
-pub left_scheduled : {K : Type 0} (cmp : K → K → Ordering) → IsTotalOrder cmp → (lefts rights : List K) (bar : Option K) → Climbs cmp (λ key. key) lefts → numbers_of Left (schedule cmp lefts rights bar) ≡ numbers_from 1 (asks_for cmp (λ key. key) lefts bar)
+pub left_scheduled : {K : Type 0} (cmp : K → K → Ordering) → IsTotalOrder cmp → (lefts rights : List K) (bar : Option K) → Climbs cmp (λ key. key) lefts → ask_numbers Left (schedule cmp lefts rights bar) ≡ numbers_from 1 (asks_for cmp (λ key. key) lefts bar)
 left_scheduled cmp o lefts rights bar climbs =
     ap (λ numbers. 1 ∷ numbers)
     (merged_left cmp (λ turn. turn.key) (numbers_before cmp bar Left) (add_number cmp bar Left) (numbers_before-step cmp bar Left)
@@ -103,7 +103,7 @@ left_scheduled cmp o lefts rights bar climbs =
     ∙ own_numbers cmp bar o Left 2 lefts (λ number. refl) climbs)
 
 -- the right side's asks
-pub right_scheduled : {K : Type 0} (cmp : K → K → Ordering) → IsTotalOrder cmp → (lefts rights : List K) (bar : Option K) → Climbs cmp (λ key. key) rights → numbers_of Right (schedule cmp lefts rights bar) ≡ numbers_from 1 (asks_for cmp (λ key. key) rights bar)
+pub right_scheduled : {K : Type 0} (cmp : K → K → Ordering) → IsTotalOrder cmp → (lefts rights : List K) (bar : Option K) → Climbs cmp (λ key. key) rights → ask_numbers Right (schedule cmp lefts rights bar) ≡ numbers_from 1 (asks_for cmp (λ key. key) rights bar)
 right_scheduled cmp o lefts rights bar climbs =
     ap (λ numbers. 1 ∷ numbers)
     (merged_right cmp (λ turn. turn.key) (numbers_before cmp bar Right) (add_number cmp bar Right) (numbers_before-step cmp bar Right)

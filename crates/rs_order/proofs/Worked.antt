@@ -1,7 +1,7 @@
 -- The definitions at short lists of numbers.
 use Rattle.std.proofs.Common.{◌≡◌, ℕ, ◌/◌, [], ◌∷◌, Some, None, refl}
 use Rattle.std.specs.Ordering.{nat_cmp}
-use Rattle.rs_order.specs.Asks.{tau, asks_for}
+use Rattle.rs_order.specs.Asks.{bar_after, asks_for}
 use Rattle.rs_order.specs.Merging.{merged}
 use Rattle.rs_order.specs.Sorting.{sorted}
 
@@ -27,8 +27,8 @@ asks_for-all : asks_for nat_cmp (λ n. n) (2 ∷ 4 ∷ 7 ∷ []) None ≡ 4
 asks_for-all = refl
 
 -- the last of three answers, and of four where there are three
-tau-third : tau (λ (n : ℕ). n) (2 ∷ 4 ∷ 7 ∷ []) 2 ≡ Some 7
-tau-third = refl
+bar_after-third : bar_after (λ (n : ℕ). n) (2 ∷ 4 ∷ 7 ∷ []) 2 ≡ Some 7
+bar_after-third = refl
 
-tau-fourth : tau (λ (n : ℕ). n) (2 ∷ 4 ∷ 7 ∷ []) 3 ≡ None
-tau-fourth = refl
+bar_after-fourth : bar_after (λ (n : ℕ). n) (2 ∷ 4 ∷ 7 ∷ []) 3 ≡ None
+bar_after-fourth = refl

@@ -4,11 +4,11 @@ use Rattle.std.specs.List.{filter}
 use Rattle.std.specs.Ordering.{is_lt, is_gt}
 use Rattle.std.specs.declared.cmp.Ordering.{Ordering}
 
--- the key of the last of n + 1 answers; where there are no so many, it lies beyond all keys: None
-abbrev pub tau : {X K : Type 0} → (X → K) → List X → ℕ → Option K
-tau key [] n = None
-tau key (x ∷ xs) zero = Some (key x)
-tau key (x ∷ xs) (suc n) = tau key xs n
+-- the bar that lies behind the first n answers: the key of the next one; where there is none, it lies beyond all keys: None
+abbrev pub bar_after : {X K : Type 0} → (X → K) → List X → ℕ → Option K
+bar_after key [] n = None
+bar_after key (x ∷ xs) zero = Some (key x)
+bar_after key (x ∷ xs) (suc n) = bar_after key xs n
 
 -- a key comes strictly before a bar
 abbrev pub comes_before_bar : {K : Type 0} → (K → K → Ordering) → Option K → K → Bool

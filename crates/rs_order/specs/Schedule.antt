@@ -38,13 +38,13 @@ schedule cmp lefts rights bar =
     record { side = Left; number = 1 } ∷ record { side = Right; number = 1 } ∷ asked_before cmp bar (turns_of cmp lefts rights)
 
 -- whether an ask is one of this side
-abbrev pub is_of : JoinSide → SideAsk → Bool
-is_of Left ask = elim ask.side as (λ _. Bool) [ Left ↦ true | Right ↦ false ]
-is_of Right ask = elim ask.side as (λ _. Bool) [ Left ↦ false | Right ↦ true ]
+abbrev pub is_of_side : JoinSide → SideAsk → Bool
+is_of_side Left ask = elim ask.side as (λ _. Bool) [ Left ↦ true | Right ↦ false ]
+is_of_side Right ask = elim ask.side as (λ _. Bool) [ Left ↦ false | Right ↦ true ]
 
 -- the numbers of the asks of one side
-abbrev pub numbers_of : JoinSide → List SideAsk → List ℕ
-numbers_of side asks = map (λ ask. ask.number) (filter (is_of side) asks)
+abbrev pub ask_numbers : JoinSide → List SideAsk → List ℕ
+ask_numbers side asks = map (λ ask. ask.number) (filter (is_of_side side) asks)
 
 -- so many numbers from n on
 abbrev pub numbers_from : ℕ → ℕ → List ℕ

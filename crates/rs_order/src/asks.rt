@@ -1,7 +1,7 @@
 //! Laws of the asks for a bar. The functions compute nothing; each is called for its contract.
 
 ghost use Rattle.std.specs.Prelude.{◌≡◌, ◌<◌, ◌≤◌, ◌↔◌, IsTrue, ℕ, suc, List, Option, length, slice_index_or, take};
-ghost use Rattle.rs_order.specs.Asks.{IsNoFurther, asks_for, comes_before_bar, tau, those_before};
+ghost use Rattle.rs_order.specs.Asks.{IsNoFurther, asks_for, comes_before_bar, bar_after, those_before};
 ghost use Rattle.rs_order.specs.Climbing.{Ascends, Climbs};
 
 /// In a list whose keys rise, the items that come before a bar are its first ones.
@@ -34,5 +34,5 @@ pub fn asks_grow<X, K: Ord>()
 /// In a list whose keys rise, a later answer's key lies further on.
 pub fn bars_rise<X, K: Ord>()
     ensures { (key : X → K) (xs : List X) (m n : ℕ) → Climbs K.cmp key xs → m ≤ n
-        → IsNoFurther K.cmp (tau key xs m) (tau key xs n) }
+        → IsNoFurther K.cmp (bar_after key xs m) (bar_after key xs n) }
 {}

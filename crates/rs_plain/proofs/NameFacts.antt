@@ -9,7 +9,7 @@ use Rattle.rs_order.specs.Climbing.{In}
 use Rattle.rs_order.proofs.EachFacts.{each-append, each-behind, each-map, each-weaker}
 use Rattle.rs_order.proofs.ItemFacts.{In-left, In-right}
 use Rattle.rs_rank.specs.declared.answer.Answer.{Answer}
-use Rattle.rs_expr.specs.InOrder.{Ends, Fails, Inquires, Request, Stops}
+use Rattle.rs_expr.specs.InOrder.{InquiryEnds, InquiryFails, Inquires, Request, InquiryStops}
 use Rattle.rs_expr.specs.Scoring.{Answering, ScorerState}
 use Rattle.rs_catalog.specs.Catalogue.{Catalogue}
 use Rattle.rs_query.specs.Combinations.{combinations}
@@ -20,11 +20,12 @@ use Rattle.rs_query.specs.declared.block.Block.{Block}
 use Rattle.rs_query.specs.declared.query.Query.{Query}
 use Rattle.rs_query.specs.declared.query.Query.TheVariants.{One, Set}
 use Rattle.rs_query.specs.declared.term.Term.{Term}
-use Rattle.rs_plain.specs.Plain.{Question, bad_score, block_questions, evaluating, first_of, is_bad, outcome_for, question_of, questions_of, request_for, row_questions, through_first}
+use Rattle.rs_query.specs.Questions.{Question, asking, bad_score, first_of, is_bad, outcome_for, question_of, request_for, through_first}
+use Rattle.rs_plain.specs.Plain.{block_questions, plain_faults, questions_of, row_questions}
 use Rattle.rs_plain.specs.Results.{IsCalled, NamesCalled, terms_of}
 use Rattle.rs_plain.specs.declared.fault.PlainFault.{PlainFault}
 use Rattle.rs_plain.specs.declared.fault.PlainFault.TheVariants.{Memory}
-use Rattle.rs_plain.proofs.ListFacts.{each-first, each-through}
+use Rattle.rs_query.proofs.ThroughFacts.{each-first, each-through}
 
 -- what holds of each item that a list gives holds of those of all together
 each-flat_map : {X Y : Type 0} (P : Y → Type 0) (f : X → List Y) (xs : List X) → ((x : X) → AllByRecursion P (f x)) → AllByRecursion P (flat_map f xs)
@@ -63,22 +64,22 @@ module _ (catalogue : Catalogue) (query : Query) where
 
   -- a bad answer
   ended-named : {A : Type 0} (answer : Answering) (questions : List Question) (value : A) (fault : PlainFault) (found : Option Question) → AllByRecursion AsksIt questions
-      → first_of (is_bad answer catalogue) questions ≡ found → Err fault ≡ outcome_for answer catalogue found value → NamesCalled catalogue query fault
+      → first_of (is_bad answer catalogue) questions ≡ found → Err fault ≡ outcome_for plain_faults answer catalogue found value → NamesCalled catalogue query fault
   ended-named answer questions value fault None each first e = absurd (cc)
   ended-named answer questions value fault (Some q) each first e =
-      let same : fault ≡ bad_score answer catalogue q = cc in
+      let same : fault ≡ bad_score plain_faults answer catalogue q = cc in
       subst (NamesCalled catalogue query) (sym same) (each-first (is_bad answer catalogue) AsksIt questions q each first)
 
   -- any fault
   comes-named : {A : Type 0} (answer : Answering) (questions : List Question) (value : A) (fault : PlainFault) (old new : ScorerState) → AllByRecursion AsksIt questions
-      → (Ends (evaluating answer catalogue questions value) (Err fault) old new ⊎ Fails (evaluating answer catalogue questions value) (Err fault) old new)
-      ⊎ Stops Memory (evaluating answer catalogue questions value) (Err fault) old new
+      → (InquiryEnds (asking plain_faults answer catalogue questions value) (Err fault) old new ⊎ InquiryFails (asking plain_faults answer catalogue questions value) (Err fault) old new)
+      ⊎ InquiryStops Memory (asking plain_faults answer catalogue questions value) (Err fault) old new
       → NamesCalled catalogue query fault
   comes-named answer questions value fault old new each (inl (inl ends)) =
       ended-named answer questions value fault (first_of (is_bad answer catalogue) questions) each refl ends.gives
   comes-named answer questions value fault old new each (inl (inr fails)) =
       let is : fault ≡ fails.last.failed = (let e = fails.gives in cc) in
-      let requests = each-map Tells (request_for catalogue) (through_first (is_bad answer catalogue) questions) (each-through (is_bad answer catalogue) AsksIt questions each) in
+      let requests = each-map Tells (request_for plain_faults catalogue) (through_first (is_bad answer catalogue) questions) (each-through (is_bad answer catalogue) AsksIt questions each) in
       subst (NamesCalled catalogue query) (sym is)
       (each-behind Tells fails.done (fails.last ∷ fails.rest) (subst (AllByRecursion Tells) fails.split requests)).0
   comes-named answer questions value fault old new each (inr stops) =
@@ -94,7 +95,7 @@ query-called catalogue (Set op left right limit) view formed =
     (questions-called catalogue (Set op left right limit) 2 right view.second formed.0.right_block (λ term i. In-right term left.terms right.terms i))
 
 pub named-err : {A : Type 0} (catalogue : Catalogue) (query : Query) (view : View) (value : A) (result : Result (Vec Answer Global) PlainFault) (fault : PlainFault) (old new : ScorerState)
-    → IsQuery catalogue query → Inquires Memory (evaluating old.answer catalogue (questions_of catalogue query view) value) (Err fault) old new
+    → IsQuery catalogue query → Inquires Memory (asking plain_faults old.answer catalogue (questions_of catalogue query view) value) (Err fault) old new
     → result ≡ Err fault → IfErr result (NamesCalled catalogue query)
 named-err catalogue query view value result fault old new formed inquired is =
     subst (λ r. IfErr r (NamesCalled catalogue query)) (sym is)

@@ -1,16 +1,27 @@
 -- The rows of a block, one after another.
 use Rattle.std.proofs.Common.{ℕ, ◌≡◌, ◌∙◌, ◌+◌, ◌*◌, ◌<◌, ◌≤◌, ◌++◌, List, [], ◌∷◌, zero, suc, length, map, take, drop, get_or, refl, sym, ap, subst, append-nil, arith}
-use Rattle.std.specs.Prelude.{Some, slice_get}
+use Rattle.std.specs.Prelude.{Result, Err}
 use Rattle.std.specs.List.{AllByRecursion, flat_map}
+use Rattle.std.specs.Result.{IsErr, IsErrAnd}
+use Rattle.std.specs.declared.alloc.Global.{Global}
+use Rattle.std.specs.declared.vec.Vec.{Vec}
 use Rattle.std.proofs.lemmas.List.{map-append, take-append-drop, take_more, drop_all, drop_more}
 use Rattle.std.proofs.lemmas.Grind.{flat_map-append}
 use Rattle.std.proofs.Math.Nat.{mul-le-mul}
 use Rattle.rs_order.proofs.EachFacts.{each-get_or}
+use Rattle.rs_rank.specs.declared.answer.Answer.{Answer}
 use Rattle.rs_expr.specs.Scoring.{Answering}
 use Rattle.rs_catalog.specs.Catalogue.{Catalogue}
 use Rattle.rs_query.specs.Answers.{score_of, worth_of}
 use Rattle.rs_query.specs.declared.block.Block.{Block}
 use Rattle.rs_query.specs.declared.term.Term.{Term}
+use Rattle.rs_value.proofs.ResultFacts.{given-err}
+use Rattle.rs_plain.specs.Results.{as_list}
+use Rattle.rs_plain.specs.declared.fault.PlainFault.{PlainFault}
+
+-- what a `?` gives, as contracts see it
+pub given-items : (result : Result (Vec Answer Global) PlainFault) (fault : PlainFault) → IsErr result × IsErrAnd result (λ f. f ≡ fault) → as_list result ≡ Err fault
+given-items result fault is = ap as_list (given-err result fault is)
 
 -- an item at a place, and what stands before and behind it
 pub split-at : {A : Type 0} (xs : List A) (i : ℕ) (x : A) → i < length xs → x ≡ get_or xs i x → xs ≡ take i xs ++ x ∷ drop (i + 1) xs
@@ -18,11 +29,6 @@ split-at xs i x within is = sym (take-append-drop i xs) ∙ ap (λ rest. take i 
 
 pub take-at : {A : Type 0} (xs : List A) (i : ℕ) (x : A) → i < length xs → x ≡ get_or xs i x → take (i + 1) xs ≡ take i xs ++ x ∷ []
 take-at xs i x within is = take_more xs i x within ∙ ap (λ y. take i xs ++ y ∷ []) (sym is)
-
-pub slice_get-at : {A : Type 0} (xs : List A) (i : ℕ) (x : A) → i < length xs → x ≡ get_or xs i x → slice_get xs i ≡ Some x
-slice_get-at [] i x within is = absurd (omega arith)
-slice_get-at (y ∷ xs) zero x within is = ap Some (sym is)
-slice_get-at (y ∷ xs) (suc i) x within is = slice_get-at xs i x (omega arith) is
 
 pub each-at : {A : Type 0} (P : A → Type 0) (xs : List A) (i : ℕ) (x : A) → AllByRecursion P xs → i < length xs → x ≡ get_or xs i x → P x
 each-at P xs i x all within is = subst P (sym is) (each-get_or P xs i x all within)

@@ -16,8 +16,8 @@ use Rattle.rs_expr.specs.Scoring.{Answering}
 use Rattle.rs_expr.specs.declared.scorer.Call.{Call}
 use Rattle.rs_catalog.specs.Catalogue.{Catalogue, NamedTable}
 use Rattle.rs_catalog.specs.declared.index.BoundArg.TheVariants as arg
-use Rattle.rs_syntax.specs.declared.select.SetOp.{SetOp}
-use Rattle.rs_syntax.specs.declared.select.SetOp.TheVariants.{UnionAll, Union, Intersect, Except}
+use Rattle.rs_value.specs.declared.set_op.SetOp.{SetOp}
+use Rattle.rs_value.specs.declared.set_op.SetOp.TheVariants.{UnionAll, Union, Intersect, Except}
 use Rattle.rs_query.specs.Views.{View, all_rows}
 use Rattle.rs_query.specs.declared.block.Block.{Block}
 use Rattle.rs_query.specs.declared.query.Query.{Query}

@@ -11,9 +11,9 @@ use Rattle.rs_plain.specs.declared.fault.PlainFault.{PlainFault}
 use Rattle.rs_plain.specs.declared.fault.PlainFault.TheVariants.{BadScore, Probe, Memory}
 
 -- a result as contracts see it
-abbrev pub items_of : {A : Type 0} → Result (Vec A Global) PlainFault → Result (List A) PlainFault
-items_of (Ok rows) = Ok rows.items
-items_of (Err fault) = Err fault
+abbrev pub as_list : {A : Type 0} → Result (Vec A Global) PlainFault → Result (List A) PlainFault
+as_list (Ok rows) = Ok rows.items
+as_list (Err fault) = Err fault
 
 -- the terms of a query, block after block
 abbrev pub terms_of : Query → List Term

@@ -1,7 +1,7 @@
 ghost use Rattle.std.specs.Prelude.{◌≡◌, IfErr};
 ghost use Rattle.rs_expr.specs.InOrder.{Inquires};
 ghost use Rattle.rs_plain.specs.Plain.{evaluation_of};
-ghost use Rattle.rs_plain.specs.Results.{NamesCalled, items_of};
+ghost use Rattle.rs_plain.specs.Results.{NamesCalled, as_list};
 ghost use Rattle.rs_query.specs.Answers.{cut, limit_of};
 ghost use Rattle.rs_query.specs.Views.{all_rows};
 ghost use Rattle.rs_query.specs.WellFormed.{IsQuery};
@@ -17,7 +17,7 @@ use std::alloc::Global;
 /// The answer of a query: everything joined, filtered, scored and stably sorted, cut to LIMIT. The scorer is called for
 /// every combination in lexicographic order, block after block, and for each combination for the terms in order, up to
 /// the first fault.
-pub fn plain<S: Scorer>(
+pub fn answer_plainly<S: Scorer>(
     alloc: Global,
     catalog: &Catalog,
     query: &Query,
@@ -27,7 +27,7 @@ pub fn plain<S: Scorer>(
     // The query sees all rows that its tables have now.
     ensures evaluates { Inquires PlainFault.Memory
         (evaluation_of (S.state scorer.old).answer catalog.now query.now (all_rows catalog.now query.now))
-        (items_of result) (S.state scorer.old) (S.state scorer.new) }
+        (as_list result) (S.state scorer.old) (S.state scorer.new) }
 
     // A bad or failed call is one of a term of the query.
     ensures names { IfErr result (NamesCalled catalog.now query.now) }

@@ -8,7 +8,7 @@ ghost use Rattle.rs_catalog.specs.Catalogue.{Catalogue};
 ghost use Rattle.rs_query.specs.Answers.{answer_of, rows_of};
 ghost use Rattle.rs_query.specs.Views.{View};
 ghost use Rattle.rs_query.specs.declared.query.Query.{Query};
-ghost use Rattle.rs_plain.specs.Ordering.{key_of};
+ghost use Rattle.rs_plain.specs.Ordering.{key_of_answer};
 
 /// Before they are put into order, the rows of a query stand in the strict order of their ids: those of the left block
 /// first, and in a block by the row numbers of the FROM entries.
@@ -21,5 +21,5 @@ pub fn rows_climb()
 /// decide. So no row stands twice, and the ids and the scores alone determine the order.
 pub fn answers_climb()
     ensures { (answer : Answering) (catalogue : Catalogue) (query : Query) (view : View)
-        → Climbs key_cmp key_of (answer_of answer catalogue query view) }
+        → Climbs key_cmp key_of_answer (answer_of answer catalogue query view) }
 {}

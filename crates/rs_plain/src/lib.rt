@@ -9,6 +9,6 @@ mod outputs;
 mod rows;
 mod sets;
 
-pub use answer::plain;
+pub use answer::answer_plainly;
 pub use fault::PlainFault;
 pub use laws::{answers_climb, rows_climb};

@@ -1,13 +1,14 @@
 ghost use Rattle.std.specs.Prelude.{◌≡◌, map};
 ghost use Rattle.std.specs.List.{AllByRecursion, flat_map};
 ghost use Rattle.rs_expr.specs.InOrder.{Inquires};
-ghost use Rattle.rs_query.specs.Answers.{base_of, row_of, rows_of, score_of};
+ghost use Rattle.rs_query.specs.Answers.{base_of, answer_row, rows_of, score_of};
 ghost use Rattle.rs_query.specs.Combinations.{all_combinations};
+ghost use Rattle.rs_query.specs.Questions.{asking};
 ghost use Rattle.rs_query.specs.Tables.{HasRows, all_entries, sizes_of};
 ghost use Rattle.rs_query.specs.Views.{all_rows};
 ghost use Rattle.rs_query.specs.WellFormed.{IsBlock, IsQuery};
-ghost use Rattle.rs_plain.specs.Plain.{block_questions, evaluating, questions_of, row_questions};
-ghost use Rattle.rs_plain.specs.Results.{items_of};
+ghost use Rattle.rs_plain.specs.Plain.{block_questions, plain_faults, questions_of, row_questions};
+ghost use Rattle.rs_plain.specs.Results.{as_list};
 
 use crate::ask::ask_term;
 use crate::fault::PlainFault;
@@ -28,9 +29,9 @@ pub(crate) fn query_rows<S: Scorer>(
 ) -> Result<Vec<Answer>, PlainFault>
     requires { IsQuery catalog.now query.now }
     ensures { Inquires PlainFault.Memory
-        (evaluating (S.state scorer.old).answer catalog.now (questions_of catalog.now query.now (all_rows catalog.now query.now))
+        (asking plain_faults (S.state scorer.old).answer catalog.now (questions_of catalog.now query.now (all_rows catalog.now query.now))
         (rows_of (S.state scorer.old).answer catalog.now query.now (all_rows catalog.now query.now)))
-        (items_of result) (S.state scorer.old) (S.state scorer.new) }
+        (as_list result) (S.state scorer.old) (S.state scorer.new) }
 {
     match query {
         Query::One(block, _) => base_rows(alloc, catalog, block, 1, scorer),
@@ -52,9 +53,9 @@ fn base_rows<S: Scorer>(
 ) -> Result<Vec<Answer>, PlainFault>
     requires { IsBlock catalog.now block.now }
     ensures { Inquires PlainFault.Memory
-        (evaluating (S.state scorer.old).answer catalog.now (block_questions catalog.now number block.now (sizes_of catalog.now block.now))
+        (asking plain_faults (S.state scorer.old).answer catalog.now (block_questions catalog.now number block.now (sizes_of catalog.now block.now))
         (base_of (S.state scorer.old).answer catalog.now number block.now (sizes_of catalog.now block.now)))
-        (items_of result) (S.state scorer.old) (S.state scorer.new) }
+        (as_list result) (S.state scorer.old) (S.state scorer.new) }
 {
     let rows = block_rows(alloc, catalog, block, number, scorer)?;
     if block.distinct {
@@ -73,9 +74,9 @@ fn block_rows<S: Scorer>(
 ) -> Result<Vec<Answer>, PlainFault>
     requires { IsBlock catalog.now block.now }
     ensures { Inquires PlainFault.Memory
-        (evaluating (S.state scorer.old).answer catalog.now (block_questions catalog.now number block.now (sizes_of catalog.now block.now))
-        (map (row_of (S.state scorer.old).answer catalog.now block.now number) (all_combinations catalog.now block.now)))
-        (items_of result) (S.state scorer.old) (S.state scorer.new) }
+        (asking plain_faults (S.state scorer.old).answer catalog.now (block_questions catalog.now number block.now (sizes_of catalog.now block.now))
+        (map (answer_row (S.state scorer.old).answer catalog.now block.now number) (all_combinations catalog.now block.now)))
+        (as_list result) (S.state scorer.old) (S.state scorer.new) }
 {
     let combinations = block.combinations(alloc, catalog)?;
     scored_rows(alloc, catalog, block, number, &combinations, scorer)
@@ -93,9 +94,9 @@ fn scored_rows<S: Scorer>(
     requires block { IsBlock catalog.now block.now }
     requires rows { AllByRecursion (HasRows catalog.now block.now (all_entries block.now)) combinations.now }
     ensures { Inquires PlainFault.Memory
-        (evaluating (S.state scorer.old).answer catalog.now (flat_map (row_questions number block.now) combinations.now)
-        (map (row_of (S.state scorer.old).answer catalog.now block.now number) combinations.now))
-        (items_of result) (S.state scorer.old) (S.state scorer.new) }
+        (asking plain_faults (S.state scorer.old).answer catalog.now (flat_map (row_questions number block.now) combinations.now)
+        (map (answer_row (S.state scorer.old).answer catalog.now block.now number) combinations.now))
+        (as_list result) (S.state scorer.old) (S.state scorer.new) }
 {
     let mut answers = Vec::new(alloc);
     for rows in combinations {
@@ -122,8 +123,8 @@ fn row_for<S: Scorer>(
     requires all { ids.now.mask ≡ all_entries block.now }
     requires rows { HasRows catalog.now block.now (all_entries block.now) ids.now.rows }
     ensures { Inquires PlainFault.Memory
-        (evaluating (S.state scorer.old).answer catalog.now (row_questions ids.now.block block.now ids.now.rows)
-        (row_of (S.state scorer.old).answer catalog.now block.now ids.now.block ids.now.rows))
+        (asking plain_faults (S.state scorer.old).answer catalog.now (row_questions ids.now.block block.now ids.now.rows)
+        (answer_row (S.state scorer.old).answer catalog.now block.now ids.now.block ids.now.rows))
         result (S.state scorer.old) (S.state scorer.new) }
 {
     let score = score_for(alloc, catalog, block, ids, scorer)?;
@@ -147,7 +148,7 @@ fn score_for<S: Scorer>(
     requires all { ids.now.mask ≡ all_entries block.now }
     requires rows { HasRows catalog.now block.now (all_entries block.now) ids.now.rows }
     ensures { Inquires PlainFault.Memory
-        (evaluating (S.state scorer.old).answer catalog.now (row_questions ids.now.block block.now ids.now.rows)
+        (asking plain_faults (S.state scorer.old).answer catalog.now (row_questions ids.now.block block.now ids.now.rows)
         (score_of (S.state scorer.old).answer catalog.now block.now ids.now.rows block.now.terms))
         result (S.state scorer.old) (S.state scorer.new) }
 {

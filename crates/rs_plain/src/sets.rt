@@ -6,8 +6,7 @@ ghost use Rattle.rs_plain.specs.Lists.{has_list};
 
 use crate::outputs::Outputs;
 use rs_rank::Answer;
-use rs_syntax::SetOp;
-use rs_value::Memory;
+use rs_value::{Memory, SetOp};
 use std::alloc::Global;
 
 /// The rows that a set operator makes of those of two blocks. Rows are compared by their output values alone.

@@ -3,7 +3,7 @@ use Rattle.std.proofs.Common.{◌≡◌, ℕ, List, [], ◌∷◌, ◌++◌, ref
 use Rattle.std.specs.Ordering.{nat_cmp, ordering_then}
 use Rattle.std.specs.declared.cmp.Ordering.{Ordering}
 use Rattle.std.specs.declared.cmp.Ordering.TheVariants.{Less, Equal, Greater}
-use Rattle.rs_plan.specs.Trees.{Distinct, HashJoin, NestedJoin, Rank, RankScan, SeqScan, SetOperator, Tree, code, code_cmp, entries, terms}
+use Rattle.rs_plan.specs.Trees.{Distinct, HashJoin, NestedJoin, Rank, RankScan, SeqScan, SetOperator, PlanTree, code, code_cmp, entries, terms}
 
 pub then-then : (a b c : Ordering) → ordering_then (ordering_then a b) c ≡ ordering_then a (ordering_then b c)
 then-then Less b c = refl
@@ -30,7 +30,7 @@ IsSplit-append a b c d first second = λ xs ys.
     ∙ ap (λ o. ordering_then o (code_cmp xs ys)) (sym (first c d))
 
 -- no code goes on where another one ends
-pub code-split : (a b : Tree) (xs ys : List ℕ) → code_cmp (code a ++ xs) (code b ++ ys) ≡ ordering_then (code_cmp (code a) (code b)) (code_cmp xs ys)
+pub code-split : (a b : PlanTree) (xs ys : List ℕ) → code_cmp (code a ++ xs) (code b ++ ys) ≡ ordering_then (code_cmp (code a) (code b)) (code_cmp xs ys)
 code-split (SeqScan e) (SeqScan f) = IsSplit-more 1 1 (e ∷ []) (f ∷ []) (IsSplit-more e f [] [] IsSplit-none)
 code-split (SeqScan e) other = λ xs ys. refl
 code-split (RankScan e t i) (RankScan f u j) =
@@ -59,10 +59,10 @@ code-split (SetOperator l r) (SetOperator m s) =
 code-split (SetOperator l r) other = λ xs ys. refl
 
 -- the codes of two pairs of sides, and those of two joins behind their kinds
-pub sides-cmp : (l r m s : Tree) → ordering_then (code_cmp (code l) (code m)) (code_cmp (code r) (code s)) ≡ code_cmp (code l ++ code r) (code m ++ code s)
+pub sides-cmp : (l r m s : PlanTree) → ordering_then (code_cmp (code l) (code m)) (code_cmp (code r) (code s)) ≡ code_cmp (code l ++ code r) (code m ++ code s)
 sides-cmp l r m s = sym (code-split l m (code r) (code s))
 
-pub joins-cmp : (l r m s : Tree)
+pub joins-cmp : (l r m s : PlanTree)
     → ordering_then (ordering_then (nat_cmp (entries l) (entries m)) (nat_cmp (terms l) (terms m))) (ordering_then (code_cmp (code l) (code m)) (code_cmp (code r) (code s)))
     ≡ code_cmp (entries l ∷ terms l ∷ code l ++ code r) (entries m ∷ terms m ∷ code m ++ code s)
 joins-cmp l r m s =

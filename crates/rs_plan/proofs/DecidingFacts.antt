@@ -20,8 +20,8 @@ use Rattle.rs_query.specs.declared.term.Term.{Term}
 use Rattle.rs_plan.specs.Deciding.{are_joined, has_no_distinct, is_complete, is_distinct, is_found, is_hashed, is_part, is_plan, is_rank, is_rank_of, is_rank_scan, is_scan_of, is_set_plan, joins_sides}
 use Rattle.rs_plan.specs.Numbers.{HasNumbers, IsUpTo}
 use Rattle.rs_query.specs.Answers.{all_terms}
-use Rattle.rs_plan.specs.Plans.{AreJoined, HasNoDistinct, IsComplete, IsDistinct, IsEntry, IsHashed, IsPart, IsPlan, IsRank, IsRankScan, IsSetPlan, IsTermOf, JoinsSides}
-use Rattle.rs_plan.specs.Trees.{Distinct, HashJoin, NestedJoin, Rank, RankScan, SeqScan, SetOperator, Tree, entries, terms}
+use Rattle.rs_plan.specs.Plans.{AreJoined, HasNoDistinct, IsComplete, IsDistinct, IsEntryNumber, IsHashed, IsPart, IsPlan, IsRank, IsRankScan, IsSetPlan, IsTermOf, JoinsSides}
+use Rattle.rs_plan.specs.Trees.{Distinct, HashJoin, NestedJoin, Rank, RankScan, SeqScan, SetOperator, PlanTree, entries, terms}
 
 -- a number beyond the eight of a mask isn't in it
 pub past-mask : (mask place : ℕ) → mask < 2 ^ 8 → 8 ≤ place → (mask / 2 ^ place % 2 == 1) ≡ false
@@ -88,7 +88,7 @@ rank_scan-decided catalogue block entry number index some_entry some_number =
     go None f is_term is_from =
         (λ e. absurd (true≢false (sym e)), λ scan. absurd (none-some scan.term (sym is_term ∙ scan.is_term.there)))
 
-rank-decided : (block : Block) (number : ℕ) (child : Tree) → 1 ≤ number
+rank-decided : (block : Block) (number : ℕ) (child : PlanTree) → 1 ≤ number
     → Decides (is_rank block number (entries child) (terms child)) (IsRank block number child)
 rank-decided block number child some = go (slice_get block.terms (number - 1)) refl
   where
@@ -151,7 +151,7 @@ hashed-decided block left right =
     (λ hashed. record { place = hashed.place; conjunct = hashed.conjunct; is = hashed.there; joins = record { columns = hashed.columns; is = hashed.equality; across = hashed.across } })
     (one_joins-decided left right block.conjuncts)
 
-whole-decided : (tree : Tree) → Decides (has_no_distinct tree) (HasNoDistinct tree)
+whole-decided : (tree : PlanTree) → Decides (has_no_distinct tree) (HasNoDistinct tree)
 whole-decided (SeqScan entry) = always
 whole-decided (RankScan entry term index) = always
 whole-decided (Rank term child) = whole-decided child
@@ -160,7 +160,7 @@ whole-decided (NestedJoin left right) = Decides-and (has_no_distinct left) (has_
 whole-decided (Distinct child) = never
 whole-decided (SetOperator left right) = Decides-and (has_no_distinct left) (has_no_distinct right) (whole-decided left) (whole-decided right)
 
-joined-decided : (left right : Tree) → Decides (are_joined left right) (AreJoined left right)
+joined-decided : (left right : PlanTree) → Decides (are_joined left right) (AreJoined left right)
 joined-decided left right =
     Decides-like (are_joined left right)
     (λ all. record { apart = all.0; left_whole = all.1.0; right_whole = all.1.1 })
@@ -169,7 +169,7 @@ joined-decided left right =
     (Decides-eqb (bit_and (entries left) (entries right)) 0)
     (Decides-and (has_no_distinct left) (has_no_distinct right) (whole-decided left) (whole-decided right)))
 
-distinct-decided : (block : Block) (child : Tree) → Decides (is_distinct block child) (IsDistinct block child)
+distinct-decided : (block : Block) (child : PlanTree) → Decides (is_distinct block child) (IsDistinct block child)
 distinct-decided block child =
     Decides-like (is_distinct block child)
     (λ all. record { wanted = all.0; all = all.1.0; first = all.1.1 })
@@ -177,7 +177,7 @@ distinct-decided block child =
     (Decides-and block.distinct ((entries child == all_entries block) && has_no_distinct child) (itself block.distinct)
     (Decides-and (entries child == all_entries block) (has_no_distinct child) (Decides-eqb (entries child) (all_entries block)) (whole-decided child)))
 
-part-decided : (catalogue : Catalogue) (block : Block) (tree : Tree) → HasNumbers tree → Decides (is_part catalogue block tree) (IsPart catalogue block tree)
+part-decided : (catalogue : Catalogue) (block : Block) (tree : PlanTree) → HasNumbers tree → Decides (is_part catalogue block tree) (IsPart catalogue block tree)
 part-decided catalogue block (SeqScan entry) n =
     (λ e. record { some = n.some; most = leb-true entry (length block.from) e }, λ is. le-leb entry (length block.from) is.most)
 part-decided catalogue block (RankScan entry term index) n = rank_scan-decided catalogue block entry term index n.0.some n.1.some
@@ -205,7 +205,7 @@ part-decided catalogue block (Distinct child) n =
     Decides-and (is_part catalogue block child) (is_distinct block child) (part-decided catalogue block child n) (distinct-decided block child)
 part-decided catalogue block (SetOperator left right) n = never
 
-complete-decided : (catalogue : Catalogue) (block : Block) (tree : Tree) → HasNumbers tree → Decides (is_complete catalogue block tree) (IsComplete catalogue block tree)
+complete-decided : (catalogue : Catalogue) (block : Block) (tree : PlanTree) → HasNumbers tree → Decides (is_complete catalogue block tree) (IsComplete catalogue block tree)
 complete-decided catalogue block tree n =
     Decides-like (is_complete catalogue block tree)
     (λ all. record { part = all.0; all = all.1.0; drops = all.1.1 })
@@ -215,7 +215,7 @@ complete-decided catalogue block tree n =
     (Decides-and (entries tree == all_entries block) (not block.distinct || not (has_no_distinct tree))
     (Decides-eqb (entries tree) (all_entries block)) (demanded block.distinct (has_no_distinct tree) (whole-decided tree))))
 
-set_plan-decided : (catalogue : Catalogue) (left right : Block) (tree : Tree) → HasNumbers tree
+set_plan-decided : (catalogue : Catalogue) (left right : Block) (tree : PlanTree) → HasNumbers tree
     → Decides (is_set_plan catalogue left right tree) (IsSetPlan catalogue left right tree)
 set_plan-decided catalogue left right (SeqScan entry) n = never
 set_plan-decided catalogue left right (RankScan entry term index) n = never
@@ -233,7 +233,7 @@ set_plan-decided catalogue left right (SetOperator l r) n =
     (complete-decided catalogue left l n.0)
     (Decides-and (is_complete catalogue right r) (terms l == terms r) (complete-decided catalogue right r n.1) (Decides-eqb (terms l) (terms r))))
 
-pub plan-decided : (catalogue : Catalogue) (query : Query) (tree : Tree) → HasNumbers tree → Decides (is_plan catalogue query tree) (IsPlan catalogue query tree)
+pub plan-decided : (catalogue : Catalogue) (query : Query) (tree : PlanTree) → HasNumbers tree → Decides (is_plan catalogue query tree) (IsPlan catalogue query tree)
 plan-decided catalogue (One block limit) tree n =
     Decides-and (is_complete catalogue block tree) (terms tree == all_terms block)
     (complete-decided catalogue block tree n) (Decides-eqb (terms tree) (all_terms block))
@@ -245,10 +245,10 @@ plan-decided catalogue (Set op left right limit) tree n =
 term-number : (block : Block) (number : ℕ) (term : Term) → length block.terms ≤ 8 → IsTermOf block number term → IsUpTo 8 number
 term-number block number term most is = record { some = is.some; within = there block.terms number 8 term most is.some is.there }
 
-entry-number : (block : Block) (entry : ℕ) → length block.from ≤ 6 → IsEntry block entry → IsUpTo 6 entry
+entry-number : (block : Block) (entry : ℕ) → length block.from ≤ 6 → IsEntryNumber block entry → IsUpTo 6 entry
 entry-number block entry most is = let below = is.most in record { some = is.some; within = omega arith }
 
-part-numbers : (catalogue : Catalogue) (block : Block) (tree : Tree) → length block.from ≤ 6 → length block.terms ≤ 8 → IsPart catalogue block tree → HasNumbers tree
+pub part-numbers : (catalogue : Catalogue) (block : Block) (tree : PlanTree) → length block.from ≤ 6 → length block.terms ≤ 8 → IsPart catalogue block tree → HasNumbers tree
 part-numbers catalogue block (SeqScan entry) from terms is = entry-number block entry from is
 part-numbers catalogue block (RankScan entry term index) from terms is =
     (entry-number block entry from is.is_entry, term-number block term is.term terms is.is_term)
@@ -261,7 +261,7 @@ part-numbers catalogue block (NestedJoin left right) from terms is =
 part-numbers catalogue block (Distinct child) from terms is = part-numbers catalogue block child from terms is.0
 part-numbers catalogue block (SetOperator left right) from terms is = absurd is
 
-set_plan-numbers : (catalogue : Catalogue) (left right : Block) (tree : Tree)
+set_plan-numbers : (catalogue : Catalogue) (left right : Block) (tree : PlanTree)
     → length left.from ≤ 6 → length left.terms ≤ 8 → length right.from ≤ 6 → length right.terms ≤ 8
     → IsSetPlan catalogue left right tree → HasNumbers tree
 set_plan-numbers catalogue left right (Rank term child) lf lt rf rt is =
@@ -274,7 +274,7 @@ set_plan-numbers catalogue left right (HashJoin l r) lf lt rf rt is = absurd is
 set_plan-numbers catalogue left right (NestedJoin l r) lf lt rf rt is = absurd is
 set_plan-numbers catalogue left right (Distinct child) lf lt rf rt is = absurd is
 
-pub plan-numbers : (catalogue : Catalogue) (query : Query) (tree : Tree) → IsQuery catalogue query → IsPlan catalogue query tree → HasNumbers tree
+pub plan-numbers : (catalogue : Catalogue) (query : Query) (tree : PlanTree) → IsQuery catalogue query → IsPlan catalogue query tree → HasNumbers tree
 plan-numbers catalogue (One block limit) tree q is = part-numbers catalogue block tree q.0.most_entries q.0.most_terms is.0.part
 plan-numbers catalogue (Set op left right limit) tree q is =
     set_plan-numbers catalogue left right tree q.0.left_block.most_entries q.0.left_block.most_terms q.0.right_block.most_entries q.0.right_block.most_terms is.0

@@ -13,7 +13,7 @@ use Rattle.rs_query.specs.declared.query.Query.{Query}
 use Rattle.rs_query.specs.declared.query.Query.TheVariants.{One, Set}
 use Rattle.rs_query.specs.declared.term.Term.{Term}
 use Rattle.rs_plan.specs.Plans.{IsPart, IsPlan, IsRankScan, IsSetPlan}
-use Rattle.rs_plan.specs.Trees.{Distinct, HashJoin, NestedJoin, Rank, RankScan, SeqScan, SetOperator, Tree, code, code_cmp, entries, terms}
+use Rattle.rs_plan.specs.Trees.{Distinct, HashJoin, NestedJoin, Rank, RankScan, SeqScan, SetOperator, PlanTree, code, code_cmp, entries, terms}
 use Rattle.rs_plan.proofs.CodeFacts.{sides-cmp}
 
 -- two comparisons in turn tie where both do
@@ -26,10 +26,10 @@ code_cmp-itself : (xs : List ℕ) → code_cmp xs xs ≡ Equal
 code_cmp-itself [] = refl
 code_cmp-itself (x ∷ xs) = ap (λ o. ordering_then o (code_cmp xs xs)) (sym (nat_cmp_is x x Equal refl)) ∙ code_cmp-itself xs
 
-sides-tied : (l r m s : Tree) → code_cmp (code l ++ code r) (code m ++ code s) ≡ Equal → (code_cmp (code l) (code m) ≡ Equal) × (code_cmp (code r) (code s) ≡ Equal)
+sides-tied : (l r m s : PlanTree) → code_cmp (code l ++ code r) (code m ++ code s) ≡ Equal → (code_cmp (code l) (code m) ≡ Equal) × (code_cmp (code r) (code s) ≡ Equal)
 sides-tied l r m s e = then-tied (code_cmp (code l) (code m)) (code_cmp (code r) (code s)) (sides-cmp l r m s ∙ e)
 
-joins-tied : (l r m s : Tree)
+joins-tied : (l r m s : PlanTree)
     → code_cmp (entries l ∷ terms l ∷ code l ++ code r) (entries m ∷ terms m ∷ code m ++ code s) ≡ Equal
     → (code_cmp (code l) (code m) ≡ Equal) × (code_cmp (code r) (code s) ≡ Equal)
 joins-tied l r m s e =
@@ -48,7 +48,7 @@ scan-index catalogue block e t i f u j first second same_entry same_number =
     subst₂ (λ (x : Term) (y : ℕ × List ℕ). index_of y.0 x.predicate x.args e catalogue ≡ Some i) same_term same_from first.first in
     same_Some i j (sym found ∙ other.first)
 
-part-unique : (catalogue : Catalogue) (block : Block) (a b : Tree) → IsPart catalogue block a → IsPart catalogue block b → code_cmp (code a) (code b) ≡ Equal → a ≡ b
+part-unique : (catalogue : Catalogue) (block : Block) (a b : PlanTree) → IsPart catalogue block a → IsPart catalogue block b → code_cmp (code a) (code b) ≡ Equal → a ≡ b
 part-unique catalogue block (SeqScan e) (SeqScan f) is_a is_b tie = ap SeqScan (exact_unsigned e f (then-tied (nat_cmp e f) Equal tie).0)
 part-unique catalogue block (SeqScan e) other is_a is_b tie = absurd (true≢false (sym (ap is_eq tie)))
 part-unique catalogue block (RankScan e t i) (RankScan f u j) is_a is_b tie =
@@ -80,7 +80,7 @@ part-unique catalogue block (Distinct a) (Distinct b) is_a is_b tie = ap Distinc
 part-unique catalogue block (Distinct a) other is_a is_b tie = absurd (true≢false (sym (ap is_eq tie)))
 part-unique catalogue block (SetOperator l r) b is_a is_b tie = absurd is_a
 
-set_plan-unique : (catalogue : Catalogue) (left right : Block) (a b : Tree) → IsSetPlan catalogue left right a → IsSetPlan catalogue left right b
+set_plan-unique : (catalogue : Catalogue) (left right : Block) (a b : PlanTree) → IsSetPlan catalogue left right a → IsSetPlan catalogue left right b
     → code_cmp (code a) (code b) ≡ Equal → a ≡ b
 set_plan-unique catalogue left right (Rank t a) (Rank u b) is_a is_b tie =
     let ties = then-tied (nat_cmp t u) (code_cmp (code a) (code b)) tie in
@@ -101,10 +101,10 @@ set_plan-unique catalogue left right (NestedJoin l r) other is_a is_b tie = absu
 set_plan-unique catalogue left right (Distinct a) other is_a is_b tie = absurd is_a
 
 -- plans whose codes the order doesn't tell apart are the same, and so are plans of one code
-pub plan-tied : (catalogue : Catalogue) (query : Query) (a b : Tree) → IsPlan catalogue query a → IsPlan catalogue query b
+pub plan-tied : (catalogue : Catalogue) (query : Query) (a b : PlanTree) → IsPlan catalogue query a → IsPlan catalogue query b
     → code_cmp (code a) (code b) ≡ Equal → a ≡ b
 plan-tied catalogue (One block limit) a b is_a is_b tie = part-unique catalogue block a b is_a.0.part is_b.0.part tie
 plan-tied catalogue (Set op left right limit) a b is_a is_b tie = set_plan-unique catalogue left right a b is_a.0 is_b.0 tie
 
-pub plan-unique : (catalogue : Catalogue) (query : Query) (a b : Tree) → IsPlan catalogue query a → IsPlan catalogue query b → code a ≡ code b → a ≡ b
+pub plan-unique : (catalogue : Catalogue) (query : Query) (a b : PlanTree) → IsPlan catalogue query a → IsPlan catalogue query b → code a ≡ code b → a ≡ b
 plan-unique catalogue query a b is_a is_b same = plan-tied catalogue query a b is_a is_b (ap (code_cmp (code a)) (sym same) ∙ code_cmp-itself (code a))

@@ -1,6 +1,8 @@
 pub mod CodeFacts
 pub mod DecidingFacts
+mod FixedFacts
 pub mod LawFacts
+pub mod WorkedCounts
 pub mod WorkedJoins
 pub mod WorkedPlans
 pub mod WorkedRanks

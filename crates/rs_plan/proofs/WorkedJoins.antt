@@ -9,13 +9,17 @@ use Rattle.rs_order.specs.Schedule.{Left, Right, SideAsk}
 use Rattle.rs_rank.specs.declared.row.RankRow.{RankRow}
 use Rattle.rs_expr.specs.Formulas.{Argument, Numbers}
 use Rattle.rs_expr.specs.Meaning.{value_of}
+use Rattle.rs_expr.specs.declared.scorer.Call.{Call}
 use Rattle.rs_catalog.specs.Catalogue.{Catalogue, NamedTable}
 use Rattle.rs_catalog.specs.declared.index.BoundArg.TheVariants as arg
 use Rattle.rs_query.specs.declared.query.Query.TheVariants.{One}
 use Rattle.rs_query.specs.declared.term.Term.{Term}
 use Rattle.rs_plan.specs.Asks.{child_asks}
+use Rattle.rs_plan.specs.Calls.{calls_of_plan}
+use Rattle.rs_plan.specs.Counts.{counts_of_plan}
 use Rattle.rs_plan.specs.Lists.{World, list_of_plan}
-use Rattle.rs_plan.specs.Trees.{HashJoin, NestedJoin, Rank, SeqScan, Tree}
+use Rattle.rs_plan.specs.Trees.{HashJoin, NestedJoin, Rank, SeqScan, PlanTree}
+use Rattle.rs_plan.specs.declared.counts.Counts.{Counts}
 
 abbrev int : ℕ → Value
 int n = value.Int (pos n)
@@ -62,7 +66,7 @@ abbrev right : ℕ → SideAsk
 right n = record { side = Right; number = n }
 
 -- the second table stands on the left
-abbrev turned : Tree
+abbrev turned : PlanTree
 turned = HashJoin (Rank 2 (SeqScan 2)) (Rank 1 (SeqScan 1))
 
 -- equal scores: the row numbers in FROM order decide
@@ -74,8 +78,25 @@ asks_turned : map (child_asks ones 1 turned) (0 ∷ 1 ∷ 2 ∷ []) ≡
     [] ∷ (left 1 ∷ right 1 ∷ []) ∷ (left 1 ∷ right 1 ∷ left 2 ∷ right 2 ∷ []) ∷ []
 asks_turned = refl
 
+-- each rank operator meets the end of its scan at its first row, whose bound is 20 before the call and 11 behind it: so all calls
+-- of a side come with its first ask
+abbrev p_of_one : Call
+p_of_one = record { predicate = codes "p"; args = int 1 ∷ [] }
+
+calls_turned : calls_of_plan ones turned 1 ≡ p_of_one ∷ p_of_one ∷ p_of_one ∷ p_of_one ∷ []
+calls_turned = refl
+
+abbrev node : ℕ → ℕ → ℕ → ℕ → Counts
+node asked gave calls drawn = record { asked = asked; gave = gave; calls = calls; drawn = drawn }
+
+-- the join, the left side with its scan, and the right side with its own
+counts_turned : map (counts_of_plan ones turned) (1 ∷ 2 ∷ [])
+    ≡ (node 1 1 0 0 ∷ node 1 1 2 0 ∷ node 3 2 0 2 ∷ node 1 1 2 0 ∷ node 3 2 0 2 ∷ [])
+    ∷ (node 2 2 0 0 ∷ node 2 2 2 0 ∷ node 3 2 0 2 ∷ node 2 2 2 0 ∷ node 3 2 0 2 ∷ []) ∷ []
+counts_turned = refl
+
 -- a join by trying each pair has the same list and asks the same
-abbrev nested : Tree
+abbrev nested : PlanTree
 nested = NestedJoin (Rank 2 (SeqScan 2)) (Rank 1 (SeqScan 1))
 
 list_nested : list_of_plan ones nested ≡ list_of_plan ones turned
@@ -96,3 +117,7 @@ asks_left_empty = refl
 
 asks_right_empty : child_asks right_empty 1 (NestedJoin (SeqScan 1) (SeqScan 2)) 1 ≡ left 1 ∷ right 1 ∷ []
 asks_right_empty = refl
+
+-- a side that is never asked counts nothing
+counts_left_empty : counts_of_plan left_empty (NestedJoin (SeqScan 1) (SeqScan 2)) 1 ≡ node 1 0 0 0 ∷ node 1 0 0 0 ∷ node 0 0 0 0 ∷ []
+counts_left_empty = refl

@@ -8,13 +8,13 @@ use Rattle.rs_expr.specs.Formulas.{Argument, Numbers}
 use Rattle.rs_expr.specs.Predicates.{PredicateDef}
 use Rattle.rs_catalog.specs.Catalogue.{Catalogue, RankIndex}
 use Rattle.rs_catalog.specs.declared.index.BoundArg.TheVariants as arg
-use Rattle.rs_syntax.specs.declared.select.SetOp.TheVariants.{Union}
+use Rattle.rs_value.specs.declared.set_op.SetOp.TheVariants.{Union}
 use Rattle.rs_query.specs.declared.block.Block.{Block}
 use Rattle.rs_query.specs.declared.query.Query.{Query}
 use Rattle.rs_query.specs.declared.query.Query.TheVariants.{One, Set}
 use Rattle.rs_query.specs.declared.term.Term.{Term}
 use Rattle.rs_plan.specs.Deciding.{is_plan}
-use Rattle.rs_plan.specs.Trees.{Distinct, HashJoin, NestedJoin, Rank, RankScan, SeqScan, SetOperator, Tree}
+use Rattle.rs_plan.specs.Trees.{Distinct, HashJoin, NestedJoin, Rank, RankScan, SeqScan, SetOperator, PlanTree}
 
 abbrev predicate : List ℕ → PredicateDef
 predicate name = record { name = name; params = kind.Int ∷ []; max = 10; cost = 1; formula = Argument 0 }
@@ -52,11 +52,11 @@ joined distinct = One (record {
 }) None
 
 -- the tests of some trees, one by one
-abbrev are_plans : Query → List Tree → List Bool
+abbrev are_plans : Query → List PlanTree → List Bool
 are_plans query [] = []
 are_plans query (tree ∷ trees) = is_plan catalogue query tree ∷ are_plans query trees
 
-abbrev scans : Tree
+abbrev scans : PlanTree
 scans = HashJoin (SeqScan 1) (SeqScan 2)
 
 -- terms are evaluated above the join, below it, or by scans of indexes

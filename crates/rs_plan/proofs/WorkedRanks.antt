@@ -15,7 +15,7 @@ use Rattle.rs_query.specs.declared.query.Query.TheVariants.{One}
 use Rattle.rs_query.specs.declared.term.Term.{Term}
 use Rattle.rs_plan.specs.Calls.{calls_of_plan, part_of_plan}
 use Rattle.rs_plan.specs.Lists.{World, list_of_plan}
-use Rattle.rs_plan.specs.Trees.{Rank, RankScan, SeqScan, Tree}
+use Rattle.rs_plan.specs.Trees.{Rank, RankScan, SeqScan, PlanTree}
 
 abbrev int : ℕ → Value
 int n = value.Int (pos n)
@@ -59,11 +59,11 @@ abbrev q_of : ℕ → Call
 q_of n = record { predicate = codes "q"; args = int n ∷ [] }
 
 -- q over a scan in the order of p
-abbrev indexed : Tree
+abbrev indexed : PlanTree
 indexed = Rank 2 (RankScan 1 1 0)
 
 -- p over q over a scan in the order of the file
-abbrev twice : Tree
+abbrev twice : PlanTree
 twice = Rank 1 (Rank 2 (SeqScan 1))
 
 -- both give the rows by their scores

@@ -10,13 +10,15 @@ use Rattle.rs_expr.specs.Formulas.{Argument, Quotient}
 use Rattle.rs_expr.specs.Meaning.{value_of}
 use Rattle.rs_catalog.specs.Catalogue.{NamedTable}
 use Rattle.rs_catalog.specs.declared.index.BoundArg.TheVariants as arg
-use Rattle.rs_syntax.specs.declared.select.SetOp.{SetOp}
-use Rattle.rs_syntax.specs.declared.select.SetOp.TheVariants.{Except, Intersect, Union}
+use Rattle.rs_value.specs.declared.set_op.SetOp.{SetOp}
+use Rattle.rs_value.specs.declared.set_op.SetOp.TheVariants.{Except, Intersect, Union}
 use Rattle.rs_query.specs.declared.block.Block.{Block}
 use Rattle.rs_query.specs.declared.query.Query.TheVariants.{Set}
 use Rattle.rs_plan.specs.Asks.{child_asks}
+use Rattle.rs_plan.specs.Counts.{counts_of_plan}
 use Rattle.rs_plan.specs.Lists.{World, list_of_plan}
-use Rattle.rs_plan.specs.Trees.{Rank, SeqScan, SetOperator, Tree}
+use Rattle.rs_plan.specs.Trees.{Rank, SeqScan, SetOperator, PlanTree}
+use Rattle.rs_plan.specs.declared.counts.Counts.{Counts}
 
 abbrev rows_of : List ℕ → List (List Value)
 rows_of numbers = map (λ n. value.Int (pos n) ∷ []) numbers
@@ -51,7 +53,7 @@ abbrev both : SetOp → World
 both op = world op (3 ∷ 1 ∷ 3 ∷ 4 ∷ []) (4 ∷ 2 ∷ 5 ∷ 5 ∷ []) (4 ∷ 0 ∷ 0 ∷ 0 ∷ 0 ∷ 0 ∷ []) (4 ∷ 0 ∷ 0 ∷ 0 ∷ 0 ∷ 0 ∷ [])
 
 -- each side is scored below the operator
-abbrev plan : Tree
+abbrev plan : PlanTree
 plan = SetOperator (Rank 1 (SeqScan 1)) (Rank 1 (SeqScan 1))
 
 abbrev row : ℕ → ℕ → ℕ → RankRow
@@ -86,6 +88,13 @@ asks_intersect = refl
 asks_intersect_end : child_asks (both Intersect) 1 plan 2 ≡
     left 1 ∷ rights (1 ∷ 2 ∷ 3 ∷ 4 ∷ []) ++ left 2 ∷ right 5 ∷ left 3 ∷ left 4 ∷ left 5 ∷ []
 asks_intersect_end = refl
+
+-- each side makes a call for each of its four rows with its first ask: its answers are at most 2, and its bounds 10 before the calls
+abbrev node : ℕ → ℕ → ℕ → ℕ → Counts
+node asked gave calls drawn = record { asked = asked; gave = gave; calls = calls; drawn = drawn }
+
+counts_except : counts_of_plan (both Except) plan 1 ≡ node 1 1 0 0 ∷ node 2 2 4 0 ∷ node 5 4 0 4 ∷ node 5 4 4 0 ∷ node 5 4 0 4 ∷ []
+counts_except = refl
 
 -- 2 and 3 on the left, and 2 on the right: a duplicate is dropped only once its key comes first
 abbrev small : World

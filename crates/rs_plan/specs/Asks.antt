@@ -2,26 +2,26 @@
 -- how it finds that out: all is said over the finished lists.
 use Rattle.std.specs.Prelude.{ℕ, zero, suc, ◌-◌, max, nat_le, List, [], ◌∷◌, ◌++◌, length, map, Option}
 use Rattle.std.specs.List.{filter}
-use Rattle.rs_order.specs.Asks.{asks_for, tau}
+use Rattle.rs_order.specs.Asks.{asks_for, bar_after}
 use Rattle.rs_order.specs.Schedule.{JoinSide, Left, Right, SideAsk, numbers_from, schedule}
 use Rattle.rs_rank.specs.Keys.{key_cmp}
 use Rattle.rs_rank.specs.Merging.{merge_key}
 use Rattle.rs_rank.specs.Turns.{join_schedule}
 use Rattle.rs_rank.specs.declared.key.Key.{Key}
-use Rattle.rs_syntax.specs.declared.select.SetOp.{SetOp}
-use Rattle.rs_syntax.specs.declared.select.SetOp.TheVariants.{Except, Intersect, Union, UnionAll}
+use Rattle.rs_value.specs.declared.set_op.SetOp.{SetOp}
+use Rattle.rs_value.specs.declared.set_op.SetOp.TheVariants.{Except, Intersect, Union, UnionAll}
 use Rattle.rs_query.specs.declared.query.Query.{Query}
 use Rattle.rs_query.specs.declared.query.Query.TheVariants.{One, Set}
 use Rattle.rs_plan.specs.Lists.{World, key_under, list_of, weights_in}
-use Rattle.rs_plan.specs.Trees.{Distinct, HashJoin, NestedJoin, Rank, RankScan, SeqScan, SetOperator, Tree, terms}
+use Rattle.rs_plan.specs.Trees.{Distinct, HashJoin, NestedJoin, Rank, RankScan, SeqScan, SetOperator, PlanTree, terms}
 
 -- the keys of a node's list
-abbrev pub keys_of : World → ℕ → Tree → List Key
+abbrev pub keys_of : World → ℕ → PlanTree → List Key
 keys_of w number tree = map (key_under w (terms tree)) (list_of w number tree)
 
 -- the key of answer n + 1 of a node; it lies beyond all keys where there are not so many
-abbrev pub bar_of : World → ℕ → Tree → ℕ → Option Key
-bar_of w number tree n = tau (λ key. key) (keys_of w number tree) n
+abbrev pub bar_of : World → ℕ → PlanTree → ℕ → Option Key
+bar_of w number tree n = bar_after (λ key. key) (keys_of w number tree) n
 
 -- so many asks of a side, from this number on
 abbrev pub asks_from : JoinSide → ℕ → ℕ → List SideAsk
@@ -58,7 +58,7 @@ query_schedule (One block limit) lefts rights bar = []
 query_schedule (Set op left right limit) lefts rights bar = set_schedule op lefts rights bar
 
 -- the asks of a node's children up to a bar, in order; an only child is the left one
-abbrev pub asks_upto : World → ℕ → Tree → Option Key → List SideAsk
+abbrev pub asks_upto : World → ℕ → PlanTree → Option Key → List SideAsk
 asks_upto w number (SeqScan entry) bar = []
 asks_upto w number (RankScan entry term index) bar = []
 asks_upto w number (Rank term child) bar = asks_alone (keys_of w number child) bar
@@ -70,6 +70,6 @@ asks_upto w number (NestedJoin left right) bar =
 asks_upto w number (SetOperator left right) bar = query_schedule w.query (keys_of w 1 left) (keys_of w 2 right) bar
 
 -- the asks of a node's children once it was asked so often itself
-abbrev pub child_asks : World → ℕ → Tree → ℕ → List SideAsk
+abbrev pub child_asks : World → ℕ → PlanTree → ℕ → List SideAsk
 child_asks w number tree zero = []
 child_asks w number tree (suc n) = asks_upto w number tree (bar_of w number tree n)

@@ -13,7 +13,7 @@ use Rattle.rs_query.specs.declared.query.Query.{Query}
 use Rattle.rs_query.specs.declared.query.Query.TheVariants.{One, Set}
 use Rattle.rs_query.specs.declared.term.Term.{Term}
 use Rattle.rs_query.specs.Answers.{all_terms}
-use Rattle.rs_plan.specs.Trees.{Distinct, HashJoin, NestedJoin, Rank, RankScan, SeqScan, SetOperator, Tree, entries, terms}
+use Rattle.rs_plan.specs.Trees.{Distinct, HashJoin, NestedJoin, Rank, RankScan, SeqScan, SetOperator, PlanTree, entries, terms}
 
 -- an index was found, and it is this one
 abbrev pub is_found : Option ℕ → ℕ → Bool
@@ -52,7 +52,7 @@ abbrev pub is_hashed : Block → ℕ → ℕ → Bool
 is_hashed block left right = list_any (λ (conjunct : ConjunctDef). joins_sides left right conjunct.equality) block.conjuncts
 
 -- no duplicates are dropped in the tree
-abbrev pub has_no_distinct : Tree → Bool
+abbrev pub has_no_distinct : PlanTree → Bool
 has_no_distinct (SeqScan entry) = true
 has_no_distinct (RankScan entry term index) = true
 has_no_distinct (Rank term child) = has_no_distinct child
@@ -62,15 +62,15 @@ has_no_distinct (Distinct child) = false
 has_no_distinct (SetOperator left right) = has_no_distinct left && has_no_distinct right
 
 -- two sides of a join share no entry, and drop no duplicates
-abbrev pub are_joined : Tree → Tree → Bool
+abbrev pub are_joined : PlanTree → PlanTree → Bool
 are_joined left right = (bit_and (entries left) (entries right) == 0) && (has_no_distinct left && has_no_distinct right)
 
 -- duplicates are dropped once, of rows of all entries, where the block says so
-abbrev pub is_distinct : Block → Tree → Bool
+abbrev pub is_distinct : Block → PlanTree → Bool
 is_distinct block child = block.distinct && ((entries child == all_entries block) && has_no_distinct child)
 
 -- a tree is a part of a plan of a block
-abbrev pub is_part : Catalogue → Block → Tree → Bool
+abbrev pub is_part : Catalogue → Block → PlanTree → Bool
 is_part catalogue block (SeqScan entry) = nat_le entry (length block.from)
 is_part catalogue block (RankScan entry term index) = is_rank_scan catalogue block entry term index
 is_part catalogue block (Rank term child) = is_part catalogue block child && is_rank block term (entries child) (terms child)
@@ -81,12 +81,12 @@ is_part catalogue block (Distinct child) = is_part catalogue block child && is_d
 is_part catalogue block (SetOperator left right) = false
 
 -- a plan of a block: of all its entries, and with duplicates dropped where the block says so
-abbrev pub is_complete : Catalogue → Block → Tree → Bool
+abbrev pub is_complete : Catalogue → Block → PlanTree → Bool
 is_complete catalogue block tree =
     is_part catalogue block tree && ((entries tree == all_entries block) && (not block.distinct || not (has_no_distinct tree)))
 
 -- the set operator of two plans, one of each block, and above it operators for the terms that they leave out
-abbrev pub is_set_plan : Catalogue → Block → Block → Tree → Bool
+abbrev pub is_set_plan : Catalogue → Block → Block → PlanTree → Bool
 is_set_plan catalogue left right (SeqScan entry) = false
 is_set_plan catalogue left right (RankScan entry term index) = false
 is_set_plan catalogue left right (Rank term child) = is_set_plan catalogue left right child && is_rank left term (entries child) (terms child)
@@ -96,6 +96,6 @@ is_set_plan catalogue left right (Distinct child) = false
 is_set_plan catalogue left right (SetOperator l r) = is_complete catalogue left l && (is_complete catalogue right r && (terms l == terms r))
 
 -- a plan of a query: all its terms are evaluated
-abbrev pub is_plan : Catalogue → Query → Tree → Bool
+abbrev pub is_plan : Catalogue → Query → PlanTree → Bool
 is_plan catalogue (One block limit) tree = is_complete catalogue block tree && (terms tree == all_terms block)
 is_plan catalogue (Set op left right limit) tree = is_set_plan catalogue left right tree && (terms tree == all_terms left)

@@ -18,7 +18,7 @@ use Rattle.rs_query.specs.Views.{View}
 use Rattle.rs_query.specs.declared.block.Block.{Block}
 use Rattle.rs_query.specs.declared.query.Query.{Query}
 use Rattle.rs_query.specs.declared.query.Query.TheVariants.{One, Set}
-use Rattle.rs_plan.specs.Trees.{Distinct, HashJoin, NestedJoin, Rank, RankScan, SeqScan, SetOperator, Tree, entries, terms}
+use Rattle.rs_plan.specs.Trees.{Distinct, HashJoin, NestedJoin, Rank, RankScan, SeqScan, SetOperator, PlanTree, entries, terms}
 
 -- what the rows of a query are made of: the catalogue, what the scorer answers, the query, and how many rows of its tables it sees
 pub record World : Type 0 where
@@ -32,35 +32,35 @@ abbrev pub block_in : Query → ℕ → Block
 block_in (One block limit) number = block
 block_in (Set op left right limit) number = if number == 1 then left else right
 
-abbrev pub block_of : World → ℕ → Block
-block_of w number = block_in w.query number
+abbrev pub numbered_block : World → ℕ → Block
+numbered_block w number = block_in w.query number
 
 abbrev pub sizes_in : World → ℕ → List ℕ
 sizes_in w number = if number == 1 then w.view.first else w.view.second
 
 -- the weights of the terms, which are those of both blocks
 abbrev pub weights_in : World → Weights
-weights_in w = weights_of (block_of w 1)
+weights_in w = weights_of (numbered_block w 1)
 
 -- the ids of the combinations of some entries of a block
 abbrev pub ids_of : World → ℕ → ℕ → List Ids
 ids_of w number mask =
-    map (λ rows. record { block = number; mask = mask; rows = rows }) (combinations w.catalogue (block_of w number) (sizes_in w number) mask)
+    map (λ rows. record { block = number; mask = mask; rows = rows }) (combinations w.catalogue (numbered_block w number) (sizes_in w number) mask)
 
 -- the ids of the rows of a node of a plan of a block, in no order that matters: all combinations of its entries; from where
 -- duplicates are dropped those of the block; from the set operator on those of the query
-abbrev pub sources : World → ℕ → Tree → List Ids
+abbrev pub sources : World → ℕ → PlanTree → List Ids
 sources w number (SeqScan entry) = ids_of w number (mask_of entry)
 sources w number (RankScan entry term index) = ids_of w number (mask_of entry)
 sources w number (Rank term child) = sources w number child
 sources w number (HashJoin left right) = ids_of w number (bit_or (entries left) (entries right))
 sources w number (NestedJoin left right) = ids_of w number (bit_or (entries left) (entries right))
-sources w number (Distinct child) = map (λ (row : Answer). row.ids) (base_of w.answer w.catalogue number (block_of w number) (sizes_in w number))
+sources w number (Distinct child) = map (λ (row : Answer). row.ids) (base_of w.answer w.catalogue number (numbered_block w number) (sizes_in w number))
 sources w number (SetOperator left right) = map (λ (row : Answer). row.ids) (rows_of w.answer w.catalogue w.query w.view)
 
 -- the worths of the terms for some ids
 abbrev pub worths : World → Ids → List ℕ
-worths w ids = worths_of w.answer w.catalogue (block_of w ids.block) ids.rows
+worths w ids = worths_of w.answer w.catalogue (numbered_block w ids.block) ids.rows
 
 -- a row of these ids, with the sum of the terms in a mask
 abbrev pub row_under : World → ℕ → Ids → RankRow
@@ -71,9 +71,9 @@ abbrev pub key_under : World → ℕ → RankRow → Key
 key_under w mask row = key_of (weights_in w) mask row
 
 -- the list of a node: its rows in the order of their keys
-abbrev pub list_of : World → ℕ → Tree → List RankRow
+abbrev pub list_of : World → ℕ → PlanTree → List RankRow
 list_of w number tree = sorted key_cmp (key_under w (terms tree)) (map (row_under w (terms tree)) (sources w number tree))
 
 -- the list of a plan
-abbrev pub list_of_plan : World → Tree → List RankRow
+abbrev pub list_of_plan : World → PlanTree → List RankRow
 list_of_plan w tree = list_of w 1 tree

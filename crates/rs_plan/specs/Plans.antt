@@ -11,10 +11,10 @@ use Rattle.rs_query.specs.declared.block.Block.{Block}
 use Rattle.rs_query.specs.declared.query.Query.{Query}
 use Rattle.rs_query.specs.declared.query.Query.TheVariants.{One, Set}
 use Rattle.rs_query.specs.declared.term.Term.{Term}
-use Rattle.rs_plan.specs.Trees.{Distinct, HashJoin, NestedJoin, Rank, RankScan, SeqScan, SetOperator, Tree, entries, terms}
+use Rattle.rs_plan.specs.Trees.{Distinct, HashJoin, NestedJoin, Rank, RankScan, SeqScan, SetOperator, PlanTree, entries, terms}
 
 -- the number of a FROM entry of a block
-pub record IsEntry (block : Block) (entry : ℕ) : Type 0 where
+pub record IsEntryNumber (block : Block) (entry : ℕ) : Type 0 where
   pub some : 1 ≤ entry
   pub most : entry ≤ length block.from
 
@@ -25,7 +25,7 @@ pub record IsTermOf (block : Block) (number : ℕ) (term : Term) : Type 0 where
 
 -- the entry's table has a rank index for the term, this one the first, and the term speaks of no other entry
 pub record IsRankScan (catalogue : Catalogue) (block : Block) (entry number index : ℕ) : Type 0 where
-  pub is_entry : IsEntry block entry
+  pub is_entry : IsEntryNumber block entry
   pub term : Term
   pub is_term : IsTermOf block number term
   pub alone : term.entries ≡ mask_of entry
@@ -35,7 +35,7 @@ pub record IsRankScan (catalogue : Catalogue) (block : Block) (entry number inde
   pub first : index_of table term.predicate term.args entry catalogue ≡ Some index
 
 -- the term isn't evaluated below, and all its entries are there
-pub record IsRank (block : Block) (number : ℕ) (child : Tree) : Type 0 where
+pub record IsRank (block : Block) (number : ℕ) (child : PlanTree) : Type 0 where
   pub term : Term
   pub is_term : IsTermOf block number term
   pub absent : has_number (terms child) number ≡ false
@@ -56,7 +56,7 @@ pub record IsHashed (block : Block) (left right : ℕ) : Type 0 where
   pub across : JoinsSides left right columns
 
 -- no duplicates are dropped in the tree
-abbrev pub HasNoDistinct : Tree → Type 0
+abbrev pub HasNoDistinct : PlanTree → Type 0
 HasNoDistinct (SeqScan entry) = Unit {0}
 HasNoDistinct (RankScan entry term index) = Unit {0}
 HasNoDistinct (Rank term child) = HasNoDistinct child
@@ -66,20 +66,20 @@ HasNoDistinct (Distinct child) = ⊥
 HasNoDistinct (SetOperator left right) = HasNoDistinct left × HasNoDistinct right
 
 -- two sides of a join share no entry, and drop no duplicates
-pub record AreJoined (left right : Tree) : Type 0 where
+pub record AreJoined (left right : PlanTree) : Type 0 where
   pub apart : AreDisjoint (entries left) (entries right)
   pub left_whole : HasNoDistinct left
   pub right_whole : HasNoDistinct right
 
 -- duplicates are dropped once, of rows of all entries, where the block says so
-pub record IsDistinct (block : Block) (child : Tree) : Type 0 where
+pub record IsDistinct (block : Block) (child : PlanTree) : Type 0 where
   pub wanted : block.distinct ≡ true
   pub all : entries child ≡ all_entries block
   pub first : HasNoDistinct child
 
 -- a tree is a part of a plan of a block
-abbrev pub IsPart : Catalogue → Block → Tree → Type 0
-IsPart catalogue block (SeqScan entry) = IsEntry block entry
+abbrev pub IsPart : Catalogue → Block → PlanTree → Type 0
+IsPart catalogue block (SeqScan entry) = IsEntryNumber block entry
 IsPart catalogue block (RankScan entry term index) = IsRankScan catalogue block entry term index
 IsPart catalogue block (Rank term child) = IsPart catalogue block child × IsRank block term child
 IsPart catalogue block (HashJoin left right) =
@@ -89,18 +89,18 @@ IsPart catalogue block (Distinct child) = IsPart catalogue block child × IsDist
 IsPart catalogue block (SetOperator left right) = ⊥
 
 -- a plan of a block: of all its entries, and with duplicates dropped where the block says so
-pub record IsComplete (catalogue : Catalogue) (block : Block) (tree : Tree) : Type 0 where
+pub record IsComplete (catalogue : Catalogue) (block : Block) (tree : PlanTree) : Type 0 where
   pub part : IsPart catalogue block tree
   pub all : entries tree ≡ all_entries block
   pub drops : block.distinct ≡ true → ¬ HasNoDistinct tree
 
 -- the set operator of two plans, one of each block, that evaluate the same terms; and above it operators for the others
-abbrev pub IsSetPlan : Catalogue → Block → Block → Tree → Type 0
+abbrev pub IsSetPlan : Catalogue → Block → Block → PlanTree → Type 0
 IsSetPlan catalogue left right (SetOperator l r) = IsComplete catalogue left l × IsComplete catalogue right r × (terms l ≡ terms r)
 IsSetPlan catalogue left right (Rank term child) = IsSetPlan catalogue left right child × IsRank left term child
 IsSetPlan catalogue left right _ = ⊥
 
 -- a plan of a query: all its terms are evaluated
-abbrev pub IsPlan : Catalogue → Query → Tree → Type 0
+abbrev pub IsPlan : Catalogue → Query → PlanTree → Type 0
 IsPlan catalogue (One block limit) tree = IsComplete catalogue block tree × (terms tree ≡ all_terms block)
 IsPlan catalogue (Set op left right limit) tree = IsSetPlan catalogue left right tree × (terms tree ≡ all_terms left)

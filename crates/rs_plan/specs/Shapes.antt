@@ -1,9 +1,9 @@
 -- The tree that a plan is, without where its parts lie in memory.
 use Rattle.rs_plan.specs.declared.plan.Plan.{Plan}
 use Rattle.rs_plan.specs.declared.plan.Plan.TheVariants as plan
-use Rattle.rs_plan.specs.Trees.{Distinct, HashJoin, NestedJoin, Rank, RankScan, SeqScan, SetOperator, Tree}
+use Rattle.rs_plan.specs.Trees.{Distinct, HashJoin, NestedJoin, Rank, RankScan, SeqScan, SetOperator, PlanTree}
 
-abbrev pub tree_of : Plan → Tree
+abbrev pub tree_of : Plan → PlanTree
 tree_of (plan.SeqScan entry) = SeqScan entry
 tree_of (plan.RankScan entry term index) = RankScan entry term index
 tree_of (plan.Rank' term p child) = Rank term (tree_of child)

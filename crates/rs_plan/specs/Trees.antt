@@ -7,17 +7,17 @@ use Rattle.rs_rank.specs.Masks.{mask_of}
 
 -- a scan of a FROM entry; a scan of one by a rank index, in the order of a term; an operator that evaluates one term more;
 -- joins; an operator that drops duplicates; the set operator of a query. Entries and terms count from 1, indexes from 0
-pub data Tree : Type 0 where
-  SeqScan : ℕ → Tree
-  RankScan : ℕ → ℕ → ℕ → Tree
-  Rank : ℕ → Tree → Tree
-  HashJoin : Tree → Tree → Tree
-  NestedJoin : Tree → Tree → Tree
-  Distinct : Tree → Tree
-  SetOperator : Tree → Tree → Tree
+pub data PlanTree : Type 0 where
+  SeqScan : ℕ → PlanTree
+  RankScan : ℕ → ℕ → ℕ → PlanTree
+  Rank : ℕ → PlanTree → PlanTree
+  HashJoin : PlanTree → PlanTree → PlanTree
+  NestedJoin : PlanTree → PlanTree → PlanTree
+  Distinct : PlanTree → PlanTree
+  SetOperator : PlanTree → PlanTree → PlanTree
 
 -- the mask of its entries; of a set operator those of its left side
-abbrev pub entries : Tree → ℕ
+abbrev pub entries : PlanTree → ℕ
 entries (SeqScan entry) = mask_of entry
 entries (RankScan entry term index) = mask_of entry
 entries (Rank term child) = entries child
@@ -27,7 +27,7 @@ entries (Distinct child) = entries child
 entries (SetOperator left right) = entries left
 
 -- the mask of the terms that it evaluates
-abbrev pub terms : Tree → ℕ
+abbrev pub terms : PlanTree → ℕ
 terms (SeqScan entry) = 0
 terms (RankScan entry term index) = mask_of term
 terms (Rank term child) = bit_or (terms child) (mask_of term)
@@ -37,7 +37,7 @@ terms (Distinct child) = terms child
 terms (SetOperator left right) = terms left
 
 -- its code: numbers that tell different plans of a query apart, and by which plans of one cost are ordered
-abbrev pub code : Tree → List ℕ
+abbrev pub code : PlanTree → List ℕ
 code (SeqScan entry) = 1 ∷ entry ∷ []
 code (RankScan entry term index) = 2 ∷ entry ∷ term ∷ []
 code (Rank term child) = 3 ∷ term ∷ code child

@@ -8,13 +8,13 @@ ghost use Rattle.rs_query.specs.declared.query.Query.{Query};
 ghost use Rattle.rs_query.specs.WellFormed.{IsQuery};
 ghost use Rattle.rs_plan.specs.Numbers.{HasNumbers};
 ghost use Rattle.rs_plan.specs.Plans.{IsPlan};
-ghost use Rattle.rs_plan.specs.Trees.{Tree, code, code_cmp};
+ghost use Rattle.rs_plan.specs.Trees.{PlanTree, code, code_cmp};
 
 /// Different plans of a query have different codes, and no comparison of codes takes them for equal.
 pub fn different_plans_have_different_codes()
-    ensures codes { (catalogue : Catalogue) (query : Query) (a b : Tree) → IsPlan catalogue query a → IsPlan catalogue query b
+    ensures codes { (catalogue : Catalogue) (query : Query) (a b : PlanTree) → IsPlan catalogue query a → IsPlan catalogue query b
         → code a ≡ code b → a ≡ b }
-    ensures order { (catalogue : Catalogue) (query : Query) (a b : Tree) → IsPlan catalogue query a → IsPlan catalogue query b
+    ensures order { (catalogue : Catalogue) (query : Query) (a b : PlanTree) → IsPlan catalogue query a → IsPlan catalogue query b
         → code_cmp (code a) (code b) ≡ Equal → a ≡ b }
 {}
 
@@ -26,6 +26,6 @@ pub fn code_order_is_total()
 
 /// The numbers that stand in a plan of a query are those of entries and terms.
 pub fn plans_have_numbers()
-    ensures { (catalogue : Catalogue) (query : Query) (tree : Tree) → IsQuery catalogue query → IsPlan catalogue query tree
+    ensures { (catalogue : Catalogue) (query : Query) (tree : PlanTree) → IsQuery catalogue query → IsPlan catalogue query tree
         → HasNumbers tree }
 {}

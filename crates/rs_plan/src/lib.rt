@@ -1,15 +1,19 @@
 //! Plans of queries: which trees are plans, what they range over and evaluate, and the order of their codes. The list of rows
-//! that each node gives, how often and in which order it asks its children, and which calls of the scorer that makes, are
-//! defined in `specs/` and computed on worked cases in `proofs/`; no code stands on these yet.
+//! that each node gives, how often and in which order it asks its children, which questions to the scorer come with that, and
+//! what each node counts, are defined in `specs/` and computed on worked cases in `proofs/`.
 #![tactic(auto)]
 
 mod code;
+mod counts;
+mod fixed;
 mod laws;
 mod numbers;
 mod plan;
 mod signature;
 mod valid;
 
+pub use counts::Counts;
+pub use fixed::fixed_plan;
 pub use laws::{code_order_is_total, different_plans_have_different_codes, plans_have_numbers};
 pub use plan::Plan;
 pub use signature::Signature;

@@ -18,9 +18,9 @@ use Rattle.rs_expr.specs.Uses.{condition_uses, has_argument, is_kind}
 use Rattle.rs_catalog.specs.Catalogue.{Catalogue, NamedTable}
 use Rattle.rs_query.proofs.ListFacts.{take-slice_get}
 use Rattle.rs_query.specs.declared.block.Block.{Block}
-use Rattle.rs_query.specs.Meaning.{cell_of}
-use Rattle.rs_query.specs.Tables.{HasRows, row_number, size_of, table_of}
-use Rattle.rs_query.specs.WellFormed.{has_kind, kind_of}
+use Rattle.rs_query.specs.Meaning.{column_value}
+use Rattle.rs_query.specs.Tables.{HasRows, row_number, size_of, entry_table}
+use Rattle.rs_query.specs.WellFormed.{has_kind, column_kind}
 
 -- what a function made of an option
 mapped : {A B : Type 0} (f : A → B) (o : Option A) (b : B) → option_map f o ≡ Some b → (a : A) × (o ≡ Some a) × (f a ≡ b)
@@ -29,18 +29,18 @@ mapped f None b e = cc
 
 module _ (catalogue : Catalogue) (block : Block) where
   -- the table of an entry
-  pub table_of-entry : (entry : ℕ) (from : ℕ × List ℕ) (table : Relation) → slice_get block.from (entry - 1) ≡ Some from
-      → option_map (λ (t : NamedTable). t.table) (slice_get catalogue.tables from.0) ≡ Some table → table_of catalogue block entry ≡ Some table
-  table_of-entry entry from table at is =
+  pub entry_table-entry : (entry : ℕ) (from : ℕ × List ℕ) (table : Relation) → slice_get block.from (entry - 1) ≡ Some from
+      → option_map (λ (t : NamedTable). t.table) (slice_get catalogue.tables from.0) ≡ Some table → entry_table catalogue block entry ≡ Some table
+  entry_table-entry entry from table at is =
       ap (option_and_then (λ (f : ℕ × List ℕ). option_map (λ (t : NamedTable). t.table) (slice_get catalogue.tables f.0))) at ∙ is
 
   -- what is known of a column, where the table of its entry is known
   pub record IsOf (column : ℕ × ℕ) (table : Relation) : Type 0 where
     pub size : size_of catalogue block column.0 ≡ length table.rows
-    pub cell : (rows : List ℕ) → cell_of catalogue block rows column ≡ unwrap_or (cell_at table (row_number rows column.0) column.1) (value.Int (pos 0))
-    pub typed : (kind : Kind) → kind_of catalogue block column ≡ Some kind → (c : Column) × (slice_get table.schema column.1 ≡ Some c) × (c.1 ≡ kind)
+    pub cell : (rows : List ℕ) → column_value catalogue block rows column ≡ unwrap_or (cell_at table (row_number rows column.0) column.1) (value.Int (pos 0))
+    pub typed : (kind : Kind) → column_kind catalogue block column ≡ Some kind → (c : Column) × (slice_get table.schema column.1 ≡ Some c) × (c.1 ≡ kind)
 
-  pub IsOf-table : (column : ℕ × ℕ) (table : Relation) → table_of catalogue block column.0 ≡ Some table → IsOf column table
+  pub IsOf-table : (column : ℕ × ℕ) (table : Relation) → entry_table catalogue block column.0 ≡ Some table → IsOf column table
   IsOf-table column table e = record {
     size = ap (λ (o : Option Relation). unwrap_or (option_map (λ (t : Relation). length t.rows) o) 0) e;
     cell = λ rows. ap (λ (o : Option Relation). unwrap_or (option_and_then (λ (t : Relation). cell_at t (row_number rows column.0) column.1) o) (value.Int (pos 0))) e;
@@ -49,7 +49,7 @@ module _ (catalogue : Catalogue) (block : Block) where
   }
 
   -- such a column is one of the table
-  pub column-within : (column : ℕ × ℕ) (table : Relation) (kind : Kind) → IsOf column table → kind_of catalogue block column ≡ Some kind → column.1 < length table.schema
+  pub column-within : (column : ℕ × ℕ) (table : Relation) (kind : Kind) → IsOf column table → column_kind catalogue block column ≡ Some kind → column.1 < length table.schema
   column-within column table kind is e =
       let there = is.typed kind e in
       slice_get_within table.schema column.1 there.0 there.1
@@ -65,9 +65,9 @@ module _ (catalogue : Catalogue) (block : Block) where
       (omega arith, omega arith)
 
   -- the value that the table has there is the cell
-  pub cell_of-value : (rows : List ℕ) (column : ℕ × ℕ) (table : Relation) (v : Value) → IsOf column table
-      → cell_at table (get_or rows (column.0 - 1) 0) column.1 ≡ Some v → v ≡ cell_of catalogue block rows column
-  cell_of-value rows column table v is e =
+  pub column_value-value : (rows : List ℕ) (column : ℕ × ℕ) (table : Relation) (v : Value) → IsOf column table
+      → cell_at table (get_or rows (column.0 - 1) 0) column.1 ≡ Some v → v ≡ column_value catalogue block rows column
+  column_value-value rows column table v is e =
       let same : row_number rows column.0 ≡ get_or rows (column.0 - 1) 0 = unwrap_or-slice_get rows (column.0 - 1) 0 in
       sym (is.cell rows ∙ ap (λ n. unwrap_or (cell_at table n column.1) (value.Int (pos 0))) same ∙ ap (λ (o : Option Value). unwrap_or o (value.Int (pos 0))) e)
 
@@ -89,9 +89,9 @@ module _ (catalogue : Catalogue) (block : Block) where
 
   -- one more value of the kind of its column
   HaveKinds-push : (columns : List (ℕ × ℕ)) (values : List Value) (column : ℕ × ℕ) (value : Value) → length columns ≡ length values
-      → HaveKinds columns values → ((kind : Kind) → kind_of catalogue block column ≡ Some kind → fits kind value ≡ true)
+      → HaveKinds columns values → ((kind : Kind) → column_kind catalogue block column ≡ Some kind → fits kind value ≡ true)
       → HaveKinds (columns ++ column ∷ []) (values ++ value ∷ [])
-  HaveKinds-push [] [] column value same have here kind zero is = here kind (kind_there kind (kind_of catalogue block column) is)
+  HaveKinds-push [] [] column value same have here kind zero is = here kind (kind_there kind (column_kind catalogue block column) is)
   HaveKinds-push [] [] column value same have here kind (suc i) is = absurd (no_kind kind is)
   HaveKinds-push [] (v ∷ values) column value same have here kind i is = absurd (omega arith)
   HaveKinds-push (c ∷ columns) [] column value same have here kind i is = absurd (omega arith)
@@ -101,10 +101,10 @@ module _ (catalogue : Catalogue) (block : Block) where
 
   -- the same of the first columns of a list
   pub HaveKinds-more : (rows : List ℕ) (columns : List (ℕ × ℕ)) (values made : List Value) (i : ℕ) (column : ℕ × ℕ) (v : Value) → slice_get columns i ≡ Some column
-      → values ≡ map (cell_of catalogue block rows) (take i columns) → made ≡ values ++ v ∷ [] → HaveKinds (take i columns) values
-      → ((kind : Kind) → kind_of catalogue block column ≡ Some kind → fits kind v ≡ true) → HaveKinds (take (i + 1) columns) made
+      → values ≡ map (column_value catalogue block rows) (take i columns) → made ≡ values ++ v ∷ [] → HaveKinds (take i columns) values
+      → ((kind : Kind) → column_kind catalogue block column ≡ Some kind → fits kind v ≡ true) → HaveKinds (take (i + 1) columns) made
   HaveKinds-more rows columns values made i column v at so_far is have here =
-      let count : length values ≡ length (take i columns) = ap length so_far ∙ length-map (take i columns) (cell_of catalogue block rows) in
+      let count : length values ≡ length (take i columns) = ap length so_far ∙ length-map (take i columns) (column_value catalogue block rows) in
       rw (take-slice_get columns i column at, is) (HaveKinds-push (take i columns) values column v (sym count) have here)
 
   -- a condition on columns may be put to values of their kinds

@@ -19,7 +19,7 @@ use Rattle.rs_query.specs.declared.term.Term.{Term}
 use Rattle.rs_query.specs.Conjuncts.{ConjunctDef}
 use Rattle.rs_query.specs.Meaning.{is_inside}
 use Rattle.rs_query.specs.Tables.{all_entries}
-use Rattle.rs_query.specs.WellFormed.{AreArgs, IsBlock, IsColumn, IsConjunct, IsTerm, columns_of, entries_of}
+use Rattle.rs_query.specs.WellFormed.{AreArgs, IsBlock, IsColumn, IsConjunct, IsTerm, argument_columns, entries_mask}
 
 -- two sets are inside one where their union is
 union_left : (a b mask : ℕ) → bit_and (bit_or a b) mask ≡ bit_or a b → bit_and a mask ≡ a
@@ -75,59 +75,59 @@ entry-inside number count some within =
     (and_mask (mask_of number) count ∙ mod-eq_of_lt (pow_below (number - 1) count (omega arith)))
 
 -- the entry of a column is inside a mask that the entries of all columns are inside
-pub column-inside : (columns : List (ℕ × ℕ)) (i : ℕ) (column : ℕ × ℕ) (mask : ℕ) → is_inside (entries_of columns) mask ≡ true
+pub column-inside : (columns : List (ℕ × ℕ)) (i : ℕ) (column : ℕ × ℕ) (mask : ℕ) → is_inside (entries_mask columns) mask ≡ true
     → slice_get columns i ≡ Some column → is_inside (mask_of column.0) mask ≡ true
 column-inside [] i column mask inside at = cc
 column-inside (first ∷ columns) zero column mask inside at =
     let same : first ≡ column = cc in
-    subst (λ (c : ℕ × ℕ). is_inside (mask_of c.0) mask ≡ true) same (is_inside-left (mask_of first.0) (entries_of columns) mask inside)
+    subst (λ (c : ℕ × ℕ). is_inside (mask_of c.0) mask ≡ true) same (is_inside-left (mask_of first.0) (entries_mask columns) mask inside)
 column-inside (first ∷ columns) (suc i) column mask inside at =
-    column-inside columns i column mask (is_inside-right (mask_of first.0) (entries_of columns) mask inside) at
+    column-inside columns i column mask (is_inside-right (mask_of first.0) (entries_mask columns) mask inside) at
 
 -- the entries of the column in an argument, likewise
-pub arg-inside : (args : List BoundArg) (i : ℕ) (a : BoundArg) (mask : ℕ) → is_inside (entries_of (columns_of args)) mask ≡ true
-    → slice_get args i ≡ Some a → is_inside (entries_of (columns_of (a ∷ []))) mask ≡ true
+pub arg-inside : (args : List BoundArg) (i : ℕ) (a : BoundArg) (mask : ℕ) → is_inside (entries_mask (argument_columns args)) mask ≡ true
+    → slice_get args i ≡ Some a → is_inside (entries_mask (argument_columns (a ∷ []))) mask ≡ true
 arg-inside [] i a mask inside at = cc
 arg-inside (arg.Column entry column ∷ args) zero a mask inside at =
     let same : arg.Column entry column ≡ a = cc in
-    subst (λ (b : BoundArg). is_inside (entries_of (columns_of (b ∷ []))) mask ≡ true) same
-    (rw (or_zero_r (mask_of entry)) (is_inside-left (mask_of entry) (entries_of (columns_of args)) mask inside))
+    subst (λ (b : BoundArg). is_inside (entries_mask (argument_columns (b ∷ []))) mask ≡ true) same
+    (rw (or_zero_r (mask_of entry)) (is_inside-left (mask_of entry) (entries_mask (argument_columns args)) mask inside))
 arg-inside (arg.Int n ∷ args) zero a mask inside at =
     let same : arg.Int n ≡ a = cc in
-    subst (λ (b : BoundArg). is_inside (entries_of (columns_of (b ∷ []))) mask ≡ true) same refl
+    subst (λ (b : BoundArg). is_inside (entries_mask (argument_columns (b ∷ []))) mask ≡ true) same refl
 arg-inside (arg.Text t ∷ args) zero a mask inside at =
     let same : arg.Text t ≡ a = cc in
-    subst (λ (b : BoundArg). is_inside (entries_of (columns_of (b ∷ []))) mask ≡ true) same refl
+    subst (λ (b : BoundArg). is_inside (entries_mask (argument_columns (b ∷ []))) mask ≡ true) same refl
 arg-inside (arg.Column entry column ∷ args) (suc i) a mask inside at =
-    arg-inside args i a mask (is_inside-right (mask_of entry) (entries_of (columns_of args)) mask inside) at
+    arg-inside args i a mask (is_inside-right (mask_of entry) (entries_mask (argument_columns args)) mask inside) at
 arg-inside (arg.Int n ∷ args) (suc i) a mask inside at = arg-inside args i a mask inside at
 arg-inside (arg.Text t ∷ args) (suc i) a mask inside at = arg-inside args i a mask inside at
 
 module _ (catalogue : Catalogue) (block : Block) where
   -- the entries of columns of a block are inside all its entries
-  pub entries_of-inside : (columns : List (ℕ × ℕ)) → AllByRecursion (IsColumn catalogue block) columns → is_inside (entries_of columns) (all_entries block) ≡ true
-  entries_of-inside [] all = refl
-  entries_of-inside (column ∷ columns) all =
-      is_inside-union (mask_of column.0) (entries_of columns) (all_entries block)
-      (entry-inside column.0 (length block.from) all.0.0 all.0.1) (entries_of-inside columns all.1)
+  pub entries_mask-inside : (columns : List (ℕ × ℕ)) → AllByRecursion (IsColumn catalogue block) columns → is_inside (entries_mask columns) (all_entries block) ≡ true
+  entries_mask-inside [] all = refl
+  entries_mask-inside (column ∷ columns) all =
+      is_inside-union (mask_of column.0) (entries_mask columns) (all_entries block)
+      (entry-inside column.0 (length block.from) all.0.0 all.0.1) (entries_mask-inside columns all.1)
 
   -- the columns among arguments are columns of the block
-  pub columns_of-args : (kinds : List Kind) (args : List BoundArg) → AreArgs catalogue block kinds args → AllByRecursion (IsColumn catalogue block) (columns_of args)
-  columns_of-args [] [] are = tt
-  columns_of-args [] (a ∷ args) are = absurd are
-  columns_of-args (kind ∷ kinds) [] are = absurd are
-  columns_of-args (kind ∷ kinds) (arg.Column entry column ∷ args) are = (are.0.0, columns_of-args kinds args are.1)
-  columns_of-args (kind ∷ kinds) (arg.Int n ∷ args) are = columns_of-args kinds args are.1
-  columns_of-args (kind ∷ kinds) (arg.Text t ∷ args) are = columns_of-args kinds args are.1
+  pub argument_columns-args : (kinds : List Kind) (args : List BoundArg) → AreArgs catalogue block kinds args → AllByRecursion (IsColumn catalogue block) (argument_columns args)
+  argument_columns-args [] [] are = tt
+  argument_columns-args [] (a ∷ args) are = absurd are
+  argument_columns-args (kind ∷ kinds) [] are = absurd are
+  argument_columns-args (kind ∷ kinds) (arg.Column entry column ∷ args) are = (are.0.0, argument_columns-args kinds args are.1)
+  argument_columns-args (kind ∷ kinds) (arg.Int n ∷ args) are = argument_columns-args kinds args are.1
+  argument_columns-args (kind ∷ kinds) (arg.Text t ∷ args) are = argument_columns-args kinds args are.1
 
   term-inside : (term : Term) → IsTerm catalogue block term → is_inside term.entries (all_entries block) ≡ true
   term-inside term is =
       subst (λ entries. is_inside entries (all_entries block) ≡ true) (sym is.entries)
-      (entries_of-inside (columns_of term.args) (columns_of-args is.predicate.params term.args is.args))
+      (entries_mask-inside (argument_columns term.args) (argument_columns-args is.predicate.params term.args is.args))
 
   conjunct-inside : (conjunct : ConjunctDef) → IsConjunct catalogue block conjunct → is_inside conjunct.entries (all_entries block) ≡ true
   conjunct-inside conjunct is =
-      subst (λ entries. is_inside entries (all_entries block) ≡ true) (sym is.entries) (entries_of-inside conjunct.columns is.columns)
+      subst (λ entries. is_inside entries (all_entries block) ≡ true) (sym is.entries) (entries_mask-inside conjunct.columns is.columns)
 
   -- the entries of each term are inside all entries
   pub terms-inside : IsBlock catalogue block → AllByRecursion (λ (t : Term). is_inside t.entries (all_entries block) ≡ true) block.terms
@@ -140,5 +140,5 @@ module _ (catalogue : Catalogue) (block : Block) where
       each-weaker (IsConjunct catalogue block) (λ (c : ConjunctDef). is_inside c.entries (all_entries block) ≡ true) conjunct-inside block.conjuncts is.conjuncts
 
   -- and those of the output columns
-  pub items-inside : IsBlock catalogue block → is_inside (entries_of block.items) (all_entries block) ≡ true
-  items-inside is = entries_of-inside block.items is.items
+  pub items-inside : IsBlock catalogue block → is_inside (entries_mask block.items) (all_entries block) ≡ true
+  items-inside is = entries_mask-inside block.items is.items

@@ -15,7 +15,7 @@ use Rattle.rs_query.specs.declared.block.Block.{Block}
 use Rattle.rs_query.specs.Choices.{AgreeOn, IsChoice, IsRowNumber}
 use Rattle.rs_query.specs.Combinations.{all_combinations, choices, holds_inside, numbers_to, satisfies}
 use Rattle.rs_query.specs.Conjuncts.{ConjunctDef}
-use Rattle.rs_query.specs.Extending.{IsPrefix, combinations_from, extensions}
+use Rattle.rs_query.specs.Extending.{IsPartialCombination, combinations_from, extensions}
 use Rattle.rs_query.specs.Meaning.{conjunct_holds, is_inside}
 use Rattle.rs_query.specs.Tables.{HasRows, all_entries, row_number, size_of, sizes_of}
 use Rattle.rs_query.specs.WellFormed.{IsBlock, IsConjunct}
@@ -188,7 +188,7 @@ with_row catalogue block n rows row = combinations_from catalogue block (n + 1) 
 
 module _ (catalogue : Catalogue) (block : Block) (is : IsBlock catalogue block) where
   -- where a condition fails there is no combination
-  pub combinations_from-none : (n : ℕ) (rows : List ℕ) → IsPrefix catalogue block n rows → satisfies catalogue block (2 ^ n - 1) rows ≡ false → combinations_from catalogue block n rows ≡ []
+  pub combinations_from-none : (n : ℕ) (rows : List ℕ) → IsPartialCombination catalogue block n rows → satisfies catalogue block (2 ^ n - 1) rows ≡ false → combinations_from catalogue block n rows ≡ []
   unfolding combinations_from
   combinations_from-none n rows prefix fails =
       filter-none (satisfies catalogue block (all_entries block)) (extensions n (all_entries block) rows (sizes_of catalogue block))
@@ -197,7 +197,7 @@ module _ (catalogue : Catalogue) (block : Block) (is : IsBlock catalogue block) 
       (λ e inside. inside-more n (length block.from) e prefix.most inside) is.conjuncts fails)
 
   -- where all conditions hold of rows of all entries, these are one
-  pub combinations_from-whole : (n : ℕ) (rows : List ℕ) → IsPrefix catalogue block n rows → n ≡ length block.from → satisfies catalogue block (2 ^ n - 1) rows ≡ true → combinations_from catalogue block n rows ≡ rows ∷ []
+  pub combinations_from-whole : (n : ℕ) (rows : List ℕ) → IsPartialCombination catalogue block n rows → n ≡ length block.from → satisfies catalogue block (2 ^ n - 1) rows ≡ true → combinations_from catalogue block n rows ≡ rows ∷ []
   unfolding combinations_from
   combinations_from-whole n rows prefix whole holds =
       subst (λ m. filter (satisfies catalogue block (2 ^ m - 1)) (extensions n (2 ^ m - 1) rows (sizes_of catalogue block)) ≡ rows ∷ []) whole
@@ -205,7 +205,7 @@ module _ (catalogue : Catalogue) (block : Block) (is : IsBlock catalogue block) 
       ∙ ap (λ b. cond b (rows ∷ []) []) holds)
 
   -- else those of each row of the next entry
-  pub combinations_from-next : (n : ℕ) (rows : List ℕ) → IsPrefix catalogue block n rows → n < length block.from
+  pub combinations_from-next : (n : ℕ) (rows : List ℕ) → IsPartialCombination catalogue block n rows → n < length block.from
       → combinations_from catalogue block n rows ≡ flat_map (λ row. combinations_from catalogue block (suc n) (set rows n row)) (numbers_to (size_of catalogue block (suc n)))
   unfolding combinations_from
   combinations_from-next n rows prefix within =
@@ -216,21 +216,21 @@ module _ (catalogue : Catalogue) (block : Block) (is : IsBlock catalogue block) 
       ∙ ap (λ m. flat_map (λ row. combinations_from catalogue block (suc n) (set rows n row)) (numbers_to m)) (get_or-sizes_of catalogue block n few)
 
   -- a row of the next entry
-  pub IsPrefix-next : (n : ℕ) (rows : List ℕ) (row : ℕ) → IsPrefix catalogue block n rows → n < length block.from → 1 ≤ row → row ≤ size_of catalogue block (suc n) → IsPrefix catalogue block (suc n) (set rows n row)
-  IsPrefix-next n rows row prefix within some most =
+  pub IsPartialCombination-next : (n : ℕ) (rows : List ℕ) (row : ℕ) → IsPartialCombination catalogue block n rows → n < length block.from → 1 ≤ row → row ≤ size_of catalogue block (suc n) → IsPartialCombination catalogue block (suc n) (set rows n row)
+  IsPartialCombination-next n rows row prefix within some most =
       let few : n < 6 = omega (arith, is.most_entries) in
       record {
         most = omega arith;
         choice = IsChoice-next n (sizes_of catalogue block) rows row prefix.choice few some (subst (λ m. row ≤ m) (sym (get_or-sizes_of catalogue block n few)) most);
       }
 
-  pub IsPrefix-longer : (n row size : ℕ) (rows longer : List ℕ) → IsPrefix catalogue block n rows → n < length block.from → size ≡ size_of catalogue block (n + 1) → row < size
-      → longer ≡ set rows n (row + 1) → IsPrefix catalogue block (n + 1) longer
-  IsPrefix-longer n row size rows longer prefix within is_size less is_longer =
+  pub IsPartialCombination-longer : (n row size : ℕ) (rows longer : List ℕ) → IsPartialCombination catalogue block n rows → n < length block.from → size ≡ size_of catalogue block (n + 1) → row < size
+      → longer ≡ set rows n (row + 1) → IsPartialCombination catalogue block (n + 1) longer
+  IsPartialCombination-longer n row size rows longer prefix within is_size less is_longer =
       let most : row + 1 ≤ size_of catalogue block (n + 1) = omega arith in
-      subst (λ m. IsPrefix catalogue block m longer) (sym (add-one n))
-      (subst (IsPrefix catalogue block (suc n)) (sym is_longer)
-      (IsPrefix-next n rows (row + 1) prefix within (omega arith) (subst (λ m. row + 1 ≤ size_of catalogue block m) (add-one n) most)))
+      subst (λ m. IsPartialCombination catalogue block m longer) (sym (add-one n))
+      (subst (IsPartialCombination catalogue block (suc n)) (sym is_longer)
+      (IsPartialCombination-next n rows (row + 1) prefix within (omega arith) (subst (λ m. row + 1 ≤ size_of catalogue block m) (add-one n) most)))
 
   -- what is found so far, and the combinations of one more row of the next entry
   pub combinations_from-row : (n row : ℕ) (rows longer : List ℕ) (old found more : List (List ℕ)) → found ≡ old ++ flat_map (with_row catalogue block n rows) (numbers_to row) → longer ≡ set rows n (row + 1)
@@ -242,7 +242,7 @@ module _ (catalogue : Catalogue) (block : Block) (is : IsBlock catalogue block) 
       ∙ subst (λ m. old ++ flat_map (with_row catalogue block n rows) (numbers_to row ++ m ∷ []) ≡ old ++ flat_map (with_row catalogue block n rows) (numbers_to m)) (sym (add-one row)) refl
 
   -- of all its rows
-  pub combinations_from-rows : (n size : ℕ) (rows : List ℕ) (old found : List (List ℕ)) → IsPrefix catalogue block n rows → n < length block.from → size ≡ size_of catalogue block (n + 1)
+  pub combinations_from-rows : (n size : ℕ) (rows : List ℕ) (old found : List (List ℕ)) → IsPartialCombination catalogue block n rows → n < length block.from → size ≡ size_of catalogue block (n + 1)
       → found ≡ old ++ flat_map (with_row catalogue block n rows) (numbers_to size) → found ≡ old ++ combinations_from catalogue block n rows
   combinations_from-rows n size rows old found prefix within is_size so_far =
       so_far
@@ -251,12 +251,12 @@ module _ (catalogue : Catalogue) (block : Block) (is : IsBlock catalogue block) 
       ∙ ap (λ lists. old ++ lists) (sym (combinations_from-next n rows prefix within))
 
   -- the rows that are chosen so far
-  pub HasRows-prefix : (n : ℕ) (rows : List ℕ) → IsPrefix catalogue block n rows → HasRows catalogue block (2 ^ n - 1) rows
+  pub HasRows-prefix : (n : ℕ) (rows : List ℕ) → IsPartialCombination catalogue block n rows → HasRows catalogue block (2 ^ n - 1) rows
   HasRows-prefix n rows prefix = HasRows-choice catalogue block (2 ^ n - 1) rows is.most_entries prefix.choice
 
 -- none is chosen at first
-pub IsPrefix-none : (catalogue : Catalogue) (block : Block) → IsPrefix catalogue block 0 (0 ∷ 0 ∷ 0 ∷ 0 ∷ 0 ∷ 0 ∷ [])
-IsPrefix-none catalogue block = record { most = omega arith; choice = (refl, (refl, (refl, (refl, (refl, (refl, tt)))))) }
+pub IsPartialCombination-none : (catalogue : Catalogue) (block : Block) → IsPartialCombination catalogue block 0 (0 ∷ 0 ∷ 0 ∷ 0 ∷ 0 ∷ 0 ∷ [])
+IsPartialCombination-none catalogue block = record { most = omega arith; choice = (refl, (refl, (refl, (refl, (refl, (refl, tt)))))) }
 
 pub combinations_from-all : (catalogue : Catalogue) (block : Block) (rows : List ℕ) → combinations_from catalogue block 0 rows ≡ all_combinations catalogue block
 unfolding combinations_from extensions

@@ -1,4 +1,5 @@
 pub mod ArgFacts
+pub mod AskFacts
 pub mod CellFacts
 pub mod ChoiceFacts
 pub mod EntryFacts
@@ -6,7 +7,10 @@ pub mod ExtendFacts
 pub mod HoldFacts
 pub mod ListFacts
 pub mod LocalFacts
+pub mod QuestionFacts
+pub mod RiseFacts
 pub mod ScoreFacts
+pub mod ThroughFacts
 pub mod WeightFacts
 pub mod WithinFacts
 pub mod WorkedCombinations

@@ -9,7 +9,7 @@ use Rattle.rs_catalog.specs.Catalogue.{Catalogue}
 use Rattle.rs_query.specs.declared.block.Block.{Block}
 use Rattle.rs_query.specs.Combinations.{holds_inside, satisfies}
 use Rattle.rs_query.specs.Conjuncts.{ConjunctDef}
-use Rattle.rs_query.specs.Meaning.{AreInside, all_hold, is_inside, within}
+use Rattle.rs_query.specs.Meaning.{AreInside, all_hold, is_inside, conjuncts_within}
 
 -- the first bit of a mask, and the others
 first_bit : (b : Bool) (n : ℕ) → eqb ((cond b 1 0 + 2 * n) % 2) 1 ≡ b
@@ -21,21 +21,21 @@ other_bits true n = omega arith
 other_bits false n = omega arith
 
 module _ (catalogue : Catalogue) (block : Block) (mask : ℕ) (rows : List ℕ) where
-  all_within : (conjuncts : List ConjunctDef) → all_hold catalogue block (within mask conjuncts) rows conjuncts ≡ list_all (holds_inside catalogue block mask rows) conjuncts
+  all_within : (conjuncts : List ConjunctDef) → all_hold catalogue block (conjuncts_within mask conjuncts) rows conjuncts ≡ list_all (holds_inside catalogue block mask rows) conjuncts
   all_within [] = refl
   all_within (conjunct ∷ rest) =
-      rw (first_bit (is_inside conjunct.entries mask) (within mask rest), other_bits (is_inside conjunct.entries mask) (within mask rest), all_within rest) refl
+      rw (first_bit (is_inside conjunct.entries mask) (conjuncts_within mask rest), other_bits (is_inside conjunct.entries mask) (conjuncts_within mask rest), all_within rest) refl
 
   -- all conjuncts within a mask of entries hold where each of them does
-  pub all_hold-within : all_hold catalogue block (within mask block.conjuncts) rows block.conjuncts ≡ satisfies catalogue block mask rows
+  pub all_hold-within : all_hold catalogue block (conjuncts_within mask block.conjuncts) rows block.conjuncts ≡ satisfies catalogue block mask rows
   all_hold-within = all_within block.conjuncts
 
 -- the entries of each conjunct within a mask of entries are in it
-pub AreInside-within : (mask : ℕ) (conjuncts : List ConjunctDef) → AreInside (within mask conjuncts) mask conjuncts
+pub AreInside-within : (mask : ℕ) (conjuncts : List ConjunctDef) → AreInside (conjuncts_within mask conjuncts) mask conjuncts
 AreInside-within mask [] = tt
 AreInside-within mask (conjunct ∷ rest) = (
-  λ is. sym (first_bit (is_inside conjunct.entries mask) (within mask rest)) ∙ ap (λ n. eqb n 1) is,
-  rw (other_bits (is_inside conjunct.entries mask) (within mask rest)) (AreInside-within mask rest),
+  λ is. sym (first_bit (is_inside conjunct.entries mask) (conjuncts_within mask rest)) ∙ ap (λ n. eqb n 1) is,
+  rw (other_bits (is_inside conjunct.entries mask) (conjuncts_within mask rest)) (AreInside-within mask rest),
 )
 
 one_or_none : (b : Bool) → cond b 1 0 < 2
@@ -43,11 +43,11 @@ one_or_none true = omega arith
 one_or_none false = omega arith
 
 -- a mask has no bit past the last conjunct
-pub within-below : (mask : ℕ) (conjuncts : List ConjunctDef) → within mask conjuncts < 2 ^ length conjuncts
-within-below mask [] = omega arith
-within-below mask (conjunct ∷ rest) =
+pub conjuncts_within-below : (mask : ℕ) (conjuncts : List ConjunctDef) → conjuncts_within mask conjuncts < 2 ^ length conjuncts
+conjuncts_within-below mask [] = omega arith
+conjuncts_within-below mask (conjunct ∷ rest) =
     let first = one_or_none (is_inside conjunct.entries mask) in
-    let others = within-below mask rest in
+    let others = conjuncts_within-below mask rest in
     let power = pow-suc 2 (length rest) in
     omega arith
 
@@ -57,41 +57,41 @@ doubled bit rest power =
     add-mul bit (2 * rest) power ∙ ap (λ n. bit * power + n) (mul_assoc 2 rest power ∙ mul_comm 2 (rest * power) ∙ mul_assoc rest power 2)
 
 -- the conjuncts from a place on: the one at the place, and those behind it
-pub within-step : (mask : ℕ) (conjuncts : List ConjunctDef) (place : ℕ) (conjunct : ConjunctDef) → place < length conjuncts → conjunct ≡ get_or conjuncts place conjunct
-    → within mask (drop place conjuncts) * 2 ^ place ≡ cond (is_inside conjunct.entries mask) 1 0 * 2 ^ place + within mask (drop (place + 1) conjuncts) * 2 ^ (place + 1)
-within-step mask conjuncts place conjunct inside is =
-    ap (λ all. within mask all * 2 ^ place) (drop_more conjuncts place conjunct inside ∙ ap (λ c. c ∷ drop (place + 1) conjuncts) (sym is))
-    ∙ doubled (cond (is_inside conjunct.entries mask) 1 0) (within mask (drop (place + 1) conjuncts)) (2 ^ place)
-    ∙ ap (λ n. cond (is_inside conjunct.entries mask) 1 0 * 2 ^ place + within mask (drop (place + 1) conjuncts) * n) (sym (pow_more 2 place))
+pub conjuncts_within-step : (mask : ℕ) (conjuncts : List ConjunctDef) (place : ℕ) (conjunct : ConjunctDef) → place < length conjuncts → conjunct ≡ get_or conjuncts place conjunct
+    → conjuncts_within mask (drop place conjuncts) * 2 ^ place ≡ cond (is_inside conjunct.entries mask) 1 0 * 2 ^ place + conjuncts_within mask (drop (place + 1) conjuncts) * 2 ^ (place + 1)
+conjuncts_within-step mask conjuncts place conjunct inside is =
+    ap (λ all. conjuncts_within mask all * 2 ^ place) (drop_more conjuncts place conjunct inside ∙ ap (λ c. c ∷ drop (place + 1) conjuncts) (sym is))
+    ∙ doubled (cond (is_inside conjunct.entries mask) 1 0) (conjuncts_within mask (drop (place + 1) conjuncts)) (2 ^ place)
+    ∙ ap (λ n. cond (is_inside conjunct.entries mask) 1 0 * 2 ^ place + conjuncts_within mask (drop (place + 1) conjuncts) * n) (sym (pow_more 2 place))
 
 -- a conjunct that is inside joins the mask, and one that isn't leaves it
 module _ (entries mask place : ℕ) (conjuncts : List ConjunctDef) (conjunct : ConjunctDef) (few : length conjuncts ≤ 32) (here : place < length conjuncts)
-    (is : conjunct ≡ get_or conjuncts place conjunct) (so_far : mask + within entries (drop place conjuncts) * 2 ^ place ≡ within entries conjuncts) where
-  pub within-joined : is_inside conjunct.entries entries ≡ true
-      → mask + 1 * 2 ^ place % 2 ^ 32 + within entries (drop (place + 1) conjuncts) * 2 ^ (place + 1) ≡ within entries conjuncts
-  within-joined inside =
-      let step = within-step entries conjuncts place conjunct here is in
+    (is : conjunct ≡ get_or conjuncts place conjunct) (so_far : mask + conjuncts_within entries (drop place conjuncts) * 2 ^ place ≡ conjuncts_within entries conjuncts) where
+  pub conjuncts_within-joined : is_inside conjunct.entries entries ≡ true
+      → mask + 1 * 2 ^ place % 2 ^ 32 + conjuncts_within entries (drop (place + 1) conjuncts) * 2 ^ (place + 1) ≡ conjuncts_within entries conjuncts
+  conjuncts_within-joined inside =
+      let step = conjuncts_within-step entries conjuncts place conjunct here is in
       let bit = ap (λ b. cond b 1 0 * 2 ^ place) inside in
       let shifted = one_shl place 32 (omega arith) in
       omega arith
 
-  pub within-left : is_inside conjunct.entries entries ≡ false → mask + within entries (drop (place + 1) conjuncts) * 2 ^ (place + 1) ≡ within entries conjuncts
-  within-left outside =
-      let step = within-step entries conjuncts place conjunct here is in
+  pub conjuncts_within-left : is_inside conjunct.entries entries ≡ false → mask + conjuncts_within entries (drop (place + 1) conjuncts) * 2 ^ (place + 1) ≡ conjuncts_within entries conjuncts
+  conjuncts_within-left outside =
+      let step = conjuncts_within-step entries conjuncts place conjunct here is in
       let bit = ap (λ b. cond b 1 0 * 2 ^ place) outside in
       omega arith
 
-  pub within-fits : is_inside conjunct.entries entries ≡ true → mask + 1 * 2 ^ place % 2 ^ 32 < 2 ^ 32
-  within-fits inside =
-      let joined = within-joined inside in
-      let below = within-below entries conjuncts in
+  pub conjuncts_within-fits : is_inside conjunct.entries entries ≡ true → mask + 1 * 2 ^ place % 2 ^ 32 < 2 ^ 32
+  conjuncts_within-fits inside =
+      let joined = conjuncts_within-joined inside in
+      let below = conjuncts_within-below entries conjuncts in
       let most = pow-le-pow_right {n = 2} (let some : 0 < 2 = omega arith in some) few in
       omega arith
 
 -- behind the last conjunct the mask is whole
 pub AreInside-all : (entries mask place : ℕ) (conjuncts : List ConjunctDef) → length conjuncts ≤ place
-    → mask + within entries (drop place conjuncts) * 2 ^ place ≡ within entries conjuncts → AreInside mask entries conjuncts
+    → mask + conjuncts_within entries (drop place conjuncts) * 2 ^ place ≡ conjuncts_within entries conjuncts → AreInside mask entries conjuncts
 AreInside-all entries mask place conjuncts all so_far =
-    let none = ap (λ cs. mask + within entries cs * 2 ^ place) (drop_all place conjuncts all) in
-    let same : within entries conjuncts ≡ mask = omega arith in
+    let none = ap (λ cs. mask + conjuncts_within entries cs * 2 ^ place) (drop_all place conjuncts all) in
+    let same : conjuncts_within entries conjuncts ≡ mask = omega arith in
     subst (λ n. AreInside n entries conjuncts) same (AreInside-within entries conjuncts)

@@ -12,14 +12,14 @@ use Rattle.rs_expr.specs.Formulas.{Constant}
 use Rattle.rs_expr.specs.Predicates.{PredicateDef}
 use Rattle.rs_expr.specs.Scoring.{Answering}
 use Rattle.rs_catalog.specs.Catalogue.{Catalogue}
-use Rattle.rs_syntax.specs.declared.select.SetOp.{SetOp}
-use Rattle.rs_syntax.specs.declared.select.SetOp.TheVariants.{UnionAll, Union, Intersect, Except}
+use Rattle.rs_value.specs.declared.set_op.SetOp.{SetOp}
+use Rattle.rs_value.specs.declared.set_op.SetOp.TheVariants.{UnionAll, Union, Intersect, Except}
 use Rattle.rs_query.specs.declared.block.Block.{Block}
 use Rattle.rs_query.specs.declared.term.Term.{Term}
 use Rattle.rs_query.specs.declared.query.Query.{Query}
 use Rattle.rs_query.specs.declared.query.Query.TheVariants.{One, Set}
 use Rattle.rs_query.specs.Combinations.{combinations}
-use Rattle.rs_query.specs.Meaning.{args_of, outputs_of}
+use Rattle.rs_query.specs.Meaning.{argument_values, outputs_of}
 use Rattle.rs_query.specs.Tables.{all_entries}
 use Rattle.rs_query.specs.Views.{View}
 
@@ -34,12 +34,12 @@ clamped max (pos n) = min n max
 clamped max (negsuc n) = 0
 
 -- what the scorer answers to a term for these rows
-abbrev pub number_of : Answering → Catalogue → Block → List ℕ → Term → ℤ
-number_of answer catalogue block rows term = answer (predicate_at catalogue term.predicate) (args_of catalogue block rows term)
+abbrev pub scorer_answer : Answering → Catalogue → Block → List ℕ → Term → ℤ
+scorer_answer answer catalogue block rows term = answer (predicate_at catalogue term.predicate) (argument_values catalogue block rows term)
 
 -- the worth of a term: that number, put into 0..MAX of its predicate
 abbrev pub worth_of : Answering → Catalogue → Block → List ℕ → Term → ℕ
-worth_of answer catalogue block rows term = clamped (predicate_at catalogue term.predicate).max (number_of answer catalogue block rows term)
+worth_of answer catalogue block rows term = clamped (predicate_at catalogue term.predicate).max (scorer_answer answer catalogue block rows term)
 
 -- the score: the sum of weight times worth over the terms
 abbrev pub score_of : Answering → Catalogue → Block → List ℕ → List Term → ℕ
@@ -47,8 +47,8 @@ score_of answer catalogue block rows [] = 0
 score_of answer catalogue block rows (term ∷ terms) = term.weight * worth_of answer catalogue block rows term + score_of answer catalogue block rows terms
 
 -- a combination of all entries of a block of this number as a row of the answer
-abbrev pub row_of : Answering → Catalogue → Block → ℕ → List ℕ → Answer
-row_of answer catalogue block number rows = record {
+abbrev pub answer_row : Answering → Catalogue → Block → ℕ → List ℕ → Answer
+answer_row answer catalogue block number rows = record {
   ids = record { block = number; mask = all_entries block; rows = rows };
   score = score_of answer catalogue block rows block.terms;
   values = outputs_of catalogue block rows;
@@ -89,7 +89,7 @@ distinct_if false rows = rows
 -- output values
 abbrev pub base_of : Answering → Catalogue → ℕ → Block → List ℕ → List Answer
 base_of answer catalogue number block sizes =
-    distinct_if block.distinct (map (row_of answer catalogue block number) (combinations catalogue block sizes (all_entries block)))
+    distinct_if block.distinct (map (answer_row answer catalogue block number) (combinations catalogue block sizes (all_entries block)))
 
 -- the rows that a set operator makes of those of two blocks
 abbrev pub set_base : SetOp → List Answer → List Answer → List Answer

@@ -20,6 +20,6 @@ combinations_from catalogue block chosen rows =
     filter (satisfies catalogue block (all_entries block)) (extensions chosen (all_entries block) rows (sizes_of catalogue block))
 
 -- rows are chosen for the first entries, so many
-pub record IsPrefix (catalogue : Catalogue) (block : Block) (chosen : ℕ) (rows : List ℕ) : Type 0 where
+pub record IsPartialCombination (catalogue : Catalogue) (block : Block) (chosen : ℕ) (rows : List ℕ) : Type 0 where
   pub most : chosen ≤ length block.from
   pub choice : IsChoice (2 ^ chosen - 1) (sizes_of catalogue block) rows

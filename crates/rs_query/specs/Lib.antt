@@ -1,9 +1,11 @@
 pub mod Answers
+pub mod Asking
 pub mod Choices
 pub mod Combinations
 pub mod Conjuncts
 pub mod Extending
 pub mod Meaning
+pub mod Questions
 pub mod Stored
 pub mod Tables
 pub mod Views

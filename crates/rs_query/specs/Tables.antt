@@ -7,13 +7,13 @@ use Rattle.rs_rank.specs.Masks.{has_number}
 use Rattle.rs_query.specs.declared.block.Block.{Block}
 
 -- the table of a FROM entry
-abbrev pub table_of : Catalogue → Block → ℕ → Option Relation
-table_of catalogue block entry =
+abbrev pub entry_table : Catalogue → Block → ℕ → Option Relation
+entry_table catalogue block entry =
     option_and_then (λ (from : ℕ × List ℕ). option_map (λ t. t.table) (slice_get catalogue.tables from.0)) (slice_get block.from (entry - 1))
 
 -- the number of its rows; 0 where there is no such entry
 abbrev pub size_of : Catalogue → Block → ℕ → ℕ
-size_of catalogue block entry = unwrap_or (option_map (λ (table : Relation). length table.rows) (table_of catalogue block entry)) 0
+size_of catalogue block entry = unwrap_or (option_map (λ (table : Relation). length table.rows) (entry_table catalogue block entry)) 0
 
 -- the numbers of rows of six entries
 abbrev pub sizes_of : Catalogue → Block → List ℕ
@@ -35,4 +35,4 @@ HasRows catalogue block mask rows =
 
 -- the column of an entry, counted from 0
 abbrev pub column_of : Catalogue → Block → ℕ × ℕ → Option Column
-column_of catalogue block column = option_and_then (λ (table : Relation). slice_get table.schema column.1) (table_of catalogue block column.0)
+column_of catalogue block column = option_and_then (λ (table : Relation). slice_get table.schema column.1) (entry_table catalogue block column.0)

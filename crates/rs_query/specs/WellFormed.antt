@@ -23,23 +23,23 @@ use Rattle.rs_query.specs.Conjuncts.{ConjunctDef}
 use Rattle.rs_query.specs.Tables.{column_of}
 
 -- the kind of a column, where the block has it
-abbrev pub kind_of : Catalogue → Block → ℕ × ℕ → Option Kind
-kind_of catalogue block column = option_map (λ (c : Column). c.1) (column_of catalogue block column)
+abbrev pub column_kind : Catalogue → Block → ℕ × ℕ → Option Kind
+column_kind catalogue block column = option_map (λ (c : Column). c.1) (column_of catalogue block column)
 
 -- a column of an entry of the block
 abbrev pub IsColumn : Catalogue → Block → ℕ × ℕ → Type 0
-IsColumn catalogue block column = (1 ≤ column.0) × (column.0 ≤ length block.from) × ((kind : Kind) × (kind_of catalogue block column ≡ Some kind))
+IsColumn catalogue block column = (1 ≤ column.0) × (column.0 ≤ length block.from) × ((kind : Kind) × (column_kind catalogue block column ≡ Some kind))
 
 -- the mask of the entries of some columns
-abbrev pub entries_of : List (ℕ × ℕ) → ℕ
-entries_of [] = 0
-entries_of (column ∷ columns) = bit_or (mask_of column.0) (entries_of columns)
+abbrev pub entries_mask : List (ℕ × ℕ) → ℕ
+entries_mask [] = 0
+entries_mask (column ∷ columns) = bit_or (mask_of column.0) (entries_mask columns)
 
 -- the column of this number, counted from 0, has this kind
 abbrev pub has_kind : Catalogue → Block → List (ℕ × ℕ) → Kind → ℕ → Bool
 has_kind catalogue block columns kind i = is_kind kind (has (slice_get columns i)) where
   has : Option (ℕ × ℕ) → Option Kind
-  has (Some column) = kind_of catalogue block column
+  has (Some column) = column_kind catalogue block column
   has None = None
 
 -- two columns are the same
@@ -77,21 +77,21 @@ equality_of condition columns = of (equated condition) where
 pub record IsConjunct (catalogue : Catalogue) (block : Block) (conjunct : ConjunctDef) : Type 0 where
   pub columns : AllByRecursion (IsColumn catalogue block) conjunct.columns
   pub distinct : AreDistinct conjunct.columns
-  pub entries : conjunct.entries ≡ entries_of conjunct.columns
+  pub entries : conjunct.entries ≡ entries_mask conjunct.columns
   pub uses : condition_uses (has_kind catalogue block conjunct.columns) conjunct.condition ≡ true
   pub narrow : is_narrow conjunct.condition ≡ true
   pub equality : conjunct.equality ≡ equality_of conjunct.condition conjunct.columns
 
 -- the columns among some arguments
-abbrev pub columns_of : List BoundArg → List (ℕ × ℕ)
-columns_of [] = []
-columns_of (arg.Column entry column ∷ args) = (entry, column) ∷ columns_of args
-columns_of (arg.Int n ∷ args) = columns_of args
-columns_of (arg.Text t ∷ args) = columns_of args
+abbrev pub argument_columns : List BoundArg → List (ℕ × ℕ)
+argument_columns [] = []
+argument_columns (arg.Column entry column ∷ args) = (entry, column) ∷ argument_columns args
+argument_columns (arg.Int n ∷ args) = argument_columns args
+argument_columns (arg.Text t ∷ args) = argument_columns args
 
 -- an argument is one for a parameter of this kind: a column of the block of that kind, or a number in range, or a text
 abbrev pub IsArg : Catalogue → Block → Kind → BoundArg → Type 0
-IsArg catalogue block kind (arg.Column entry column) = IsColumn catalogue block (entry, column) × (kind_of catalogue block (entry, column) ≡ Some kind)
+IsArg catalogue block kind (arg.Column entry column) = IsColumn catalogue block (entry, column) × (column_kind catalogue block (entry, column) ≡ Some kind)
 IsArg catalogue block kind.Int (arg.Int n) = nat_abs n ≤ greatest_int
 IsArg catalogue block kind.Text (arg.Int n) = ⊥
 IsArg catalogue block kind.Text (arg.Text t) = Unit {0}
@@ -109,21 +109,21 @@ pub record IsTerm (catalogue : Catalogue) (block : Block) (term : Term) : Type 0
   pub predicate : PredicateDef
   pub has_predicate : slice_get catalogue.predicates term.predicate ≡ Some predicate
   pub args : AreArgs catalogue block predicate.params term.args
-  pub some_column : 1 ≤ length (columns_of term.args)
-  pub entries : term.entries ≡ entries_of (columns_of term.args)
+  pub some_column : 1 ≤ length (argument_columns term.args)
+  pub entries : term.entries ≡ entries_mask (argument_columns term.args)
   pub some_weight : 1 ≤ term.weight
   pub most_weight : term.weight ≤ 1000000
   pub max : term.max ≡ predicate.max
 
 -- a FROM entry is a table of the catalogue
-abbrev pub IsEntry : Catalogue → ℕ × List ℕ → Type 0
-IsEntry catalogue from = from.0 < length catalogue.tables
+abbrev pub IsFromEntry : Catalogue → ℕ × List ℕ → Type 0
+IsFromEntry catalogue from = from.0 < length catalogue.tables
 
 -- what holds of each block
 pub record IsBlock (catalogue : Catalogue) (block : Block) : Type 0 where
   pub some_entries : 1 ≤ length block.from
   pub most_entries : length block.from ≤ 6
-  pub entries : AllByRecursion (IsEntry catalogue) block.from
+  pub entries : AllByRecursion (IsFromEntry catalogue) block.from
   pub most_conjuncts : length block.conjuncts ≤ 32
   pub conjuncts : AllByRecursion (IsConjunct catalogue block) block.conjuncts
   pub most_items : length block.items ≤ 384
@@ -136,7 +136,7 @@ abbrev pub IsOutput : Block → ℕ × ℕ → Type 0
 IsOutput block column = list_any (same_column column) block.items ≡ true
 
 abbrev pub HasOutputs : Block → Term → Type 0
-HasOutputs block term = AllByRecursion (IsOutput block) (columns_of term.args)
+HasOutputs block term = AllByRecursion (IsOutput block) (argument_columns term.args)
 
 -- two arguments of a set query: equal constants, or columns that stand at one same place of the output columns
 abbrev pub AreSameArg : Block → Block → BoundArg → BoundArg → Type 0
@@ -168,13 +168,13 @@ abbrev pub IsLimit : Option ℕ → Type 0
 IsLimit limit = IfSome limit (λ (n : ℕ). n ≤ 1000000)
 
 -- what holds of two blocks of a set query: their output columns agree in number and kind, and their terms agree
-pub record AreSides (catalogue : Catalogue) (left right : Block) : Type 0 where
+pub record AreSetSides (catalogue : Catalogue) (left right : Block) : Type 0 where
   pub left_block : IsBlock catalogue left
   pub right_block : IsBlock catalogue right
-  pub kinds : map (kind_of catalogue left) left.items ≡ map (kind_of catalogue right) right.items
+  pub kinds : map (column_kind catalogue left) left.items ≡ map (column_kind catalogue right) right.items
   pub terms : AreSameTerms left right left.terms right.terms
 
 -- what holds of each query
 abbrev pub IsQuery : Catalogue → Query → Type 0
 IsQuery catalogue (One block limit) = IsBlock catalogue block × (block.distinct ≡ true → AllByRecursion (HasOutputs block) block.terms) × IsLimit limit
-IsQuery catalogue (Set op left right limit) = AreSides catalogue left right × IsLimit limit
+IsQuery catalogue (Set op left right limit) = AreSetSides catalogue left right × IsLimit limit

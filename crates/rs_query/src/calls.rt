@@ -4,9 +4,9 @@ ghost use Rattle.std.specs.Prelude.{◌≡◌, ◌≤◌, ◌-◌, ◌∷◌, []
 ghost use Rattle.std.specs.List.{AllByRecursion};
 ghost use Rattle.rs_expr.specs.Predicates.{PredicateDef};
 ghost use Rattle.rs_expr.specs.Uses.{has_argument};
-ghost use Rattle.rs_query.specs.Meaning.{AreInside, all_hold, arg_of, args_of, cell_of, conjunct_holds, is_inside, outputs_of};
-ghost use Rattle.rs_query.specs.Tables.{HasRows, table_of};
-ghost use Rattle.rs_query.specs.WellFormed.{AreArgs, IsArg, IsBlock, IsColumn, IsConjunct, columns_of, entries_of, has_kind, kind_of};
+ghost use Rattle.rs_query.specs.Meaning.{AreInside, all_hold, argument_value, argument_values, column_value, conjunct_holds, is_inside, outputs_of};
+ghost use Rattle.rs_query.specs.Tables.{HasRows, entry_table};
+ghost use Rattle.rs_query.specs.WellFormed.{AreArgs, IsArg, IsBlock, IsColumn, IsConjunct, argument_columns, entries_mask, has_kind, column_kind};
 ghost use Rattle.rs_query.specs.declared.term.Term.{Term as BoundTerm};
 ghost use Rattle.rs_rank.specs.Masks.{mask_of};
 ghost use Rattle.rs_value.specs.Value.{all_fit, fits};
@@ -59,7 +59,7 @@ impl Block {
         requires inside { (t : BoundTerm) → slice_get self.now.terms (term - 1) ≡ Some t → is_inside t.entries ids.now.mask ≡ true }
         requires rows { HasRows catalog.now self.now ids.now.mask ids.now.rows }
         ensures value { (t : BoundTerm) → slice_get self.now.terms (term - 1) ≡ Some t
-            → IfOk result (λ args. args.items ≡ args_of catalog.now self.now ids.now.rows t) }
+            → IfOk result (λ args. args.items ≡ argument_values catalog.now self.now ids.now.rows t) }
         ensures fit { (t : BoundTerm) (p : PredicateDef) → slice_get self.now.terms (term - 1) ≡ Some t
             → slice_get catalog.now.predicates t.predicate ≡ Some p
             → IfOk result (λ args. all_fit p.params args.items ≡ true) }
@@ -71,7 +71,7 @@ impl Block {
     /// The values of the output columns for these rows.
     pub fn outputs(&self, alloc: Global, catalog: &Catalog, ids: &Ids) -> Result<Vec<Value>, Memory>
         requires block { IsBlock catalog.now self.now }
-        requires inside { is_inside (entries_of self.now.items) ids.now.mask ≡ true }
+        requires inside { is_inside (entries_mask self.now.items) ids.now.mask ≡ true }
         requires rows { HasRows catalog.now self.now ids.now.mask ids.now.rows }
         ensures { IfOk result (λ values. values.items ≡ outputs_of catalog.now self.now ids.now.rows) }
     {
@@ -106,9 +106,9 @@ impl Block {
     ) -> Result<Vec<Value>, Memory>
         requires block { IsBlock catalog.now self.now }
         requires columns { AllByRecursion (IsColumn catalog.now self.now) columns.now }
-        requires inside { is_inside (entries_of columns.now) ids.now.mask ≡ true }
+        requires inside { is_inside (entries_mask columns.now) ids.now.mask ≡ true }
         requires rows { HasRows catalog.now self.now ids.now.mask ids.now.rows }
-        ensures value { IfOk result (λ values. values.items ≡ map (cell_of catalog.now self.now ids.now.rows) columns.now) }
+        ensures value { IfOk result (λ values. values.items ≡ map (column_value catalog.now self.now ids.now.rows) columns.now) }
         ensures fit { IfOk result (λ values. (kind : ValueKind) (i : ℕ) → has_kind catalog.now self.now columns.now kind i ≡ true
             → has_argument values.items kind i ≡ true) }
     {
@@ -129,9 +129,9 @@ impl Block {
     ) -> Result<Vec<Value>, Memory>
         requires block { IsBlock catalog.now self.now }
         requires args { (kinds : List ValueKind) × AreArgs catalog.now self.now kinds args.now }
-        requires inside { is_inside (entries_of (columns_of args.now)) ids.now.mask ≡ true }
+        requires inside { is_inside (entries_mask (argument_columns args.now)) ids.now.mask ≡ true }
         requires rows { HasRows catalog.now self.now ids.now.mask ids.now.rows }
-        ensures value { IfOk result (λ values. values.items ≡ map (arg_of catalog.now self.now ids.now.rows) args.now) }
+        ensures value { IfOk result (λ values. values.items ≡ map (argument_value catalog.now self.now ids.now.rows) args.now) }
         ensures fit { (kinds : List ValueKind) → AreArgs catalog.now self.now kinds args.now
             → IfOk result (λ values. all_fit kinds values.items ≡ true) }
     {
@@ -146,9 +146,9 @@ impl Block {
     fn arg_of(&self, catalog: &Catalog, arg: &BoundArg, ids: &Ids) -> Result<Value, Memory>
         requires block { IsBlock catalog.now self.now }
         requires arg { (kind : ValueKind) × IsArg catalog.now self.now kind arg.now }
-        requires inside { is_inside (entries_of (columns_of (arg.now ∷ []))) ids.now.mask ≡ true }
+        requires inside { is_inside (entries_mask (argument_columns (arg.now ∷ []))) ids.now.mask ≡ true }
         requires rows { HasRows catalog.now self.now ids.now.mask ids.now.rows }
-        ensures value { IfOk result (λ value. value ≡ arg_of catalog.now self.now ids.now.rows arg.now) }
+        ensures value { IfOk result (λ value. value ≡ argument_value catalog.now self.now ids.now.rows arg.now) }
         ensures fit { (kind : ValueKind) → IsArg catalog.now self.now kind arg.now → IfOk result (λ value. fits kind value ≡ true) }
     {
         match arg {
@@ -164,8 +164,8 @@ impl Block {
         requires column { IsColumn catalog.now self.now column }
         requires inside { is_inside (mask_of column.0) ids.now.mask ≡ true }
         requires rows { HasRows catalog.now self.now ids.now.mask ids.now.rows }
-        ensures value { IfOk result (λ value. value ≡ cell_of catalog.now self.now ids.now.rows column) }
-        ensures fit { (kind : ValueKind) → kind_of catalog.now self.now column ≡ Some kind → IfOk result (λ value. fits kind value ≡ true) }
+        ensures value { IfOk result (λ value. value ≡ column_value catalog.now self.now ids.now.rows column) }
+        ensures fit { (kind : ValueKind) → column_kind catalog.now self.now column ≡ Some kind → IfOk result (λ value. fits kind value ≡ true) }
     {
         let row = ids.rows[column.0 as usize - 1];
         self.table(catalog, column.0).value(row, column.1)
@@ -176,7 +176,7 @@ impl Block {
         requires block { IsBlock catalog.now self.now }
         requires least { 1 ≤ entry }
         requires most { entry ≤ length self.now.from }
-        ensures { table_of catalog.now self.now entry ≡ Some result.now }
+        ensures { entry_table catalog.now self.now entry ≡ Some result.now }
     {
         catalog.table(self.from.items()[entry as usize - 1].0)
     }

@@ -1,7 +1,7 @@
 ghost use Rattle.std.specs.Prelude.{◌≡◌, ◌<◌, ◌≤◌, ◌+◌, ◌-◌, ◌^◌, ◌++◌, IfOk, OnOk, length, slice_set};
 ghost use Rattle.std.specs.List.{AllByRecursion};
 ghost use Rattle.rs_query.specs.Combinations.{all_combinations, satisfies};
-ghost use Rattle.rs_query.specs.Extending.{IsPrefix, combinations_from};
+ghost use Rattle.rs_query.specs.Extending.{IsPartialCombination, combinations_from};
 ghost use Rattle.rs_query.specs.Tables.{HasRows, all_entries, size_of};
 ghost use Rattle.rs_query.specs.WellFormed.{IsBlock};
 
@@ -35,7 +35,7 @@ impl Block {
         found: &mut Vec<[u32; 6]>,
     ) -> Result<(), Memory>
         requires block { IsBlock catalog.now self.now }
-        requires prefix { IsPrefix catalog.now self.now chosen rows }
+        requires prefix { IsPartialCombination catalog.now self.now chosen rows }
         ensures { OnOk result (found.new.items ≡ found.old.items ++ combinations_from catalog.now self.now chosen rows) }
     {
         if !self.prefix_holds(alloc, catalog, chosen, rows)? {
@@ -61,7 +61,7 @@ impl Block {
         rows: [u32; 6],
     ) -> Result<bool, Memory>
         requires block { IsBlock catalog.now self.now }
-        requires prefix { IsPrefix catalog.now self.now chosen rows }
+        requires prefix { IsPartialCombination catalog.now self.now chosen rows }
         ensures { IfOk result (λ holds. holds ≡ satisfies catalog.now self.now (2 ^ chosen - 1) rows) }
     {
         let mask = first_entries(chosen);

@@ -6,7 +6,7 @@ ghost use Rattle.rs_catalog.specs.Catalogue.{Catalogue};
 ghost use Rattle.rs_query.specs.declared.block.Block.{Block as BoundBlock};
 ghost use Rattle.rs_query.specs.Meaning.{is_inside};
 ghost use Rattle.rs_query.specs.Tables.{all_entries};
-ghost use Rattle.rs_query.specs.WellFormed.{IsBlock, entries_of};
+ghost use Rattle.rs_query.specs.WellFormed.{IsBlock, entries_mask};
 
 /// The entries of each term, of each conjunct and of the output columns are among the entries of the block.
 pub fn parts_are_inside()
@@ -15,5 +15,5 @@ pub fn parts_are_inside()
     ensures conjuncts { (catalogue : Catalogue) (block : BoundBlock) → IsBlock catalogue block
         → AllByRecursion (λ c. is_inside c.entries (all_entries block) ≡ true) block.conjuncts }
     ensures items { (catalogue : Catalogue) (block : BoundBlock) → IsBlock catalogue block
-        → is_inside (entries_of block.items) (all_entries block) ≡ true }
+        → is_inside (entries_mask block.items) (all_entries block) ≡ true }
 {}

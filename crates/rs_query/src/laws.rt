@@ -17,12 +17,12 @@ ghost use Rattle.rs_rank.specs.declared.scored_row.ScoredRow.{ScoredRow};
 ghost use Rattle.rs_rank.specs.declared.weights.Weights.{Weights};
 ghost use Rattle.rs_catalog.specs.Catalogue.{Catalogue};
 ghost use Rattle.rs_expr.specs.Scoring.{Answering};
-ghost use Rattle.rs_query.specs.Answers.{all_terms, number_of, score_of, weights_of, worth_of, worths_of};
+ghost use Rattle.rs_query.specs.Answers.{all_terms, scorer_answer, score_of, weights_of, worth_of, worths_of};
 ghost use Rattle.rs_query.specs.Choices.{AgreeOn, IsChoice};
 ghost use Rattle.rs_query.specs.Combinations.{combinations, satisfies};
 ghost use Rattle.rs_query.specs.Conjuncts.{ConjunctDef};
-ghost use Rattle.rs_query.specs.Meaning.{args_of, cell_of, conjunct_holds, is_inside, outputs_of};
-ghost use Rattle.rs_query.specs.WellFormed.{AreSides, IsBlock, entries_of};
+ghost use Rattle.rs_query.specs.Meaning.{argument_values, column_value, conjunct_holds, is_inside, outputs_of};
+ghost use Rattle.rs_query.specs.WellFormed.{AreSetSides, IsBlock, entries_mask};
 ghost use Rattle.rs_query.specs.declared.block.Block.{Block as Bound};
 ghost use Rattle.rs_query.specs.declared.term.Term.{Term as BoundTerm};
 
@@ -49,18 +49,18 @@ pub fn parts_are_local()
         → conjunct_holds catalogue block xs conjunct ≡ conjunct_holds catalogue block ys conjunct }
     ensures args { (catalogue : Catalogue) (block : Bound) (mask : ℕ) (xs ys : List ℕ) (term : BoundTerm)
         → IsBlock catalogue block → AgreeOn mask xs ys → In term block.terms → is_inside term.entries mask ≡ true
-        → args_of catalogue block xs term ≡ args_of catalogue block ys term }
+        → argument_values catalogue block xs term ≡ argument_values catalogue block ys term }
     ensures number { (answer : Answering) (catalogue : Catalogue) (block : Bound) (mask : ℕ) (xs ys : List ℕ) (term : BoundTerm)
         → IsBlock catalogue block → AgreeOn mask xs ys → In term block.terms → is_inside term.entries mask ≡ true
-        → number_of answer catalogue block xs term ≡ number_of answer catalogue block ys term }
+        → scorer_answer answer catalogue block xs term ≡ scorer_answer answer catalogue block ys term }
     ensures worth { (answer : Answering) (catalogue : Catalogue) (block : Bound) (mask : ℕ) (xs ys : List ℕ) (term : BoundTerm)
         → IsBlock catalogue block → AgreeOn mask xs ys → In term block.terms → is_inside term.entries mask ≡ true
         → worth_of answer catalogue block xs term ≡ worth_of answer catalogue block ys term }
     ensures output { (catalogue : Catalogue) (block : Bound) (mask : ℕ) (xs ys : List ℕ) (column : ℕ × ℕ)
         → IsBlock catalogue block → AgreeOn mask xs ys → In column block.items → has_number mask column.0 ≡ true
-        → cell_of catalogue block xs column ≡ cell_of catalogue block ys column }
+        → column_value catalogue block xs column ≡ column_value catalogue block ys column }
     ensures outputs { (catalogue : Catalogue) (block : Bound) (mask : ℕ) (xs ys : List ℕ)
-        → IsBlock catalogue block → AgreeOn mask xs ys → is_inside (entries_of block.items) mask ≡ true
+        → IsBlock catalogue block → AgreeOn mask xs ys → is_inside (entries_mask block.items) mask ≡ true
         → outputs_of catalogue block xs ≡ outputs_of catalogue block ys }
 {}
 
@@ -70,7 +70,7 @@ pub fn scores_are_evaluated()
     ensures score { (answer : Answering) (catalogue : Catalogue) (block : Bound) (rows : List ℕ) → length block.terms ≤ 8
         → evaluated (weights_of block) (all_terms block) (worths_of answer catalogue block rows)
         ≡ score_of answer catalogue block rows block.terms }
-    ensures sides { (catalogue : Catalogue) (left right : Bound) → AreSides catalogue left right
+    ensures sides { (catalogue : Catalogue) (left right : Bound) → AreSetSides catalogue left right
         → weights_of left ≡ weights_of right }
 {}
 

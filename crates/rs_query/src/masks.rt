@@ -1,7 +1,7 @@
 //! Masks of the FROM entries and of the conjuncts of a block.
 
 ghost use Rattle.std.specs.Prelude.{◌≡◌, ◌≤◌, length};
-ghost use Rattle.rs_query.specs.Meaning.{AreInside, is_inside, within};
+ghost use Rattle.rs_query.specs.Meaning.{AreInside, is_inside, conjuncts_within};
 ghost use Rattle.rs_query.specs.Tables.{all_entries};
 
 use crate::block::Block;
@@ -20,7 +20,7 @@ impl Block {
     /// memory.
     pub fn within(&self, entries: u8) -> u32
         requires { length self.now.conjuncts ≤ 32 }
-        ensures value { result ≡ within entries self.now.conjuncts }
+        ensures value { result ≡ conjuncts_within entries self.now.conjuncts }
         ensures inside { AreInside result entries self.now.conjuncts }
     {
         let mut mask = 0;

@@ -1,5 +1,5 @@
 use crate::block::Block;
-use rs_syntax::SetOp;
+use rs_value::SetOp;
 
 /// A bound query, with its LIMIT where there is one.
 #[derive(Debug, Drop)]

@@ -5,7 +5,7 @@ use Rattle.std.proofs.lemmas.Bool.Decides.{nat_tests}
 use Rattle.std.proofs.lemmas.List.{take_all, take_more, take_more_set}
 use Rattle.std.proofs.lemmas.Nat.{or_lt}
 use Rattle.rs_rank.specs.declared.ids.Ids.{Ids}
-use Rattle.rs_rank.specs.Ids.{AreSides, IsIds, IsWithin, merge_ids, merge_rows, rows_inside}
+use Rattle.rs_rank.specs.Ids.{AreSidesOfRow, IsIds, IsZeroOutside, merge_ids, merge_rows, rows_inside}
 use Rattle.rs_rank.proofs.MaskFacts.{bit_and-first, bit_and-others, bit_or-first, bit_or-others}
 
 -- one entry of both sides
@@ -40,27 +40,27 @@ merged_all i lefts rights rows p q e so_far =
     sym (take_all i rows p) ∙ so_far ∙ take_all i (merge_rows lefts rights) (omega arith)
 
 -- what lies outside the union is 0 where each side is 0 outside its own mask
-pub IsWithin-merge_rows : (m n : ℕ) (lefts rights : List ℕ) → IsWithin m lefts → IsWithin n rights → IsWithin (bit_or m n) (merge_rows lefts rights)
-IsWithin-merge_rows m n [] rights p q = tt
-IsWithin-merge_rows m n (left ∷ lefts) [] p q = tt
-IsWithin-merge_rows m n (left ∷ lefts) (right ∷ rights) p q = (
+pub IsZeroOutside-merge_rows : (m n : ℕ) (lefts rights : List ℕ) → IsZeroOutside m lefts → IsZeroOutside n rights → IsZeroOutside (bit_or m n) (merge_rows lefts rights)
+IsZeroOutside-merge_rows m n [] rights p q = tt
+IsZeroOutside-merge_rows m n (left ∷ lefts) [] p q = tt
+IsZeroOutside-merge_rows m n (left ∷ lefts) (right ∷ rights) p q = (
   λ outside.
       let bit = bit_or-first m n in
       let l : left ≡ 0 = p.0 (omega arith) in
       let r : right ≡ 0 = q.0 (omega arith) in
       rw (l, r) refl,
-  rw (bit_or-others m n) (IsWithin-merge_rows (m / 2) (n / 2) lefts rights p.1 q.1),
+  rw (bit_or-others m n) (IsZeroOutside-merge_rows (m / 2) (n / 2) lefts rights p.1 q.1),
 )
 
 -- the ids of both sides are whole
-pub IsIds-merge_ids : (left right : Ids) → AreSides left right → IsIds (merge_ids left right)
+pub IsIds-merge_ids : (left right : Ids) → AreSidesOfRow left right → IsIds (merge_ids left right)
 IsIds-merge_ids left right sides =
     let lefts = sides.left_ids.sized in
     let rights = sides.right_ids.sized in
     record {
       sized = length-merge_rows left.rows right.rows (omega arith) ∙ lefts;
       entries = or_lt 6 left.mask right.mask sides.left_ids.entries sides.right_ids.entries;
-      within = IsWithin-merge_rows left.mask right.mask left.rows right.rows sides.left_ids.within sides.right_ids.within;
+      within = IsZeroOutside-merge_rows left.mask right.mask left.rows right.rows sides.left_ids.within sides.right_ids.within;
     }
 
 -- at each entry one of both sides has no row
@@ -70,7 +70,7 @@ AreApart (left ∷ lefts) [] = Unit {0}
 AreApart (left ∷ lefts) (right ∷ rights) = ((left ≡ 0) ⊎ (right ≡ 0)) × AreApart lefts rights
 
 -- sides of disjoint masks are apart
-pub AreApart-masks : (m n : ℕ) (lefts rights : List ℕ) → bit_and m n ≡ 0 → IsWithin m lefts → IsWithin n rights → AreApart lefts rights
+pub AreApart-masks : (m n : ℕ) (lefts rights : List ℕ) → bit_and m n ≡ 0 → IsZeroOutside m lefts → IsZeroOutside n rights → AreApart lefts rights
 AreApart-masks m n [] rights e p q = tt
 AreApart-masks m n (left ∷ lefts) [] e p q = tt
 AreApart-masks m n (left ∷ lefts) (right ∷ rights) e p q = (
@@ -81,7 +81,7 @@ AreApart-masks m n (left ∷ lefts) (right ∷ rights) e p q = (
   AreApart-masks (m / 2) (n / 2) lefts rights (let others = bit_and-others m n in omega arith) p.1 q.1,
 )
 
-pub AreApart-sides : (left right : Ids) → AreSides left right → AreApart left.rows right.rows
+pub AreApart-sides : (left right : Ids) → AreSidesOfRow left right → AreApart left.rows right.rows
 AreApart-sides left right sides =
     AreApart-masks left.mask right.mask left.rows right.rows sides.entries sides.left_ids.within sides.right_ids.within
 
@@ -100,7 +100,7 @@ right_number inside left right none apart = elim (cases_lt 0 inside) [
 ]
 
 -- the entries of the left side, of merged row numbers
-rows_inside-left : (m n : ℕ) (lefts rights : List ℕ) → length lefts ≡ length rights → bit_and m n ≡ 0 → IsWithin m lefts → IsWithin n rights → rows_inside m (merge_rows lefts rights) ≡ lefts
+rows_inside-left : (m n : ℕ) (lefts rights : List ℕ) → length lefts ≡ length rights → bit_and m n ≡ 0 → IsZeroOutside m lefts → IsZeroOutside n rights → rows_inside m (merge_rows lefts rights) ≡ lefts
 rows_inside-left m n [] rights size e p q = refl
 rows_inside-left m n (left ∷ lefts) [] size e p q = absurd (omega (arith, size))
 rows_inside-left m n (left ∷ lefts) (right ∷ rights) size e p q =
@@ -109,7 +109,7 @@ rows_inside-left m n (left ∷ lefts) (right ∷ rights) size e p q =
     rw (one, others) refl
 
 -- and those of the right side
-rows_inside-right : (m n : ℕ) (lefts rights : List ℕ) → length lefts ≡ length rights → bit_and m n ≡ 0 → IsWithin m lefts → IsWithin n rights → rows_inside n (merge_rows lefts rights) ≡ rights
+rows_inside-right : (m n : ℕ) (lefts rights : List ℕ) → length lefts ≡ length rights → bit_and m n ≡ 0 → IsZeroOutside m lefts → IsZeroOutside n rights → rows_inside n (merge_rows lefts rights) ≡ rights
 rows_inside-right m n [] [] size e p q = refl
 rows_inside-right m n [] (right ∷ rights) size e p q = absurd (omega (arith, size))
 rows_inside-right m n (left ∷ lefts) [] size e p q = absurd (omega (arith, size))
@@ -119,11 +119,11 @@ rows_inside-right m n (left ∷ lefts) (right ∷ rights) size e p q =
     rw (one, others) refl
 
 -- the row numbers of merged ids at the entries of a side are that side's
-pub merge_ids-left : (left right : Ids) → AreSides left right → rows_inside left.mask (merge_ids left right).rows ≡ left.rows
+pub merge_ids-left : (left right : Ids) → AreSidesOfRow left right → rows_inside left.mask (merge_ids left right).rows ≡ left.rows
 merge_ids-left left right sides =
     rows_inside-left left.mask right.mask left.rows right.rows (sides.left_ids.sized ∙ sym sides.right_ids.sized) sides.entries sides.left_ids.within sides.right_ids.within
 
-pub merge_ids-right : (left right : Ids) → AreSides left right → rows_inside right.mask (merge_ids left right).rows ≡ right.rows
+pub merge_ids-right : (left right : Ids) → AreSidesOfRow left right → rows_inside right.mask (merge_ids left right).rows ≡ right.rows
 merge_ids-right left right sides =
     rows_inside-right left.mask right.mask left.rows right.rows (sides.left_ids.sized ∙ sym sides.right_ids.sized) sides.entries sides.left_ids.within sides.right_ids.within
 
@@ -139,14 +139,14 @@ same_ids : (a b : Ids) → a.block ≡ b.block → a.mask ≡ b.mask → a.rows 
 same_ids a b block mask rows = same_parts a.block b.block a.mask b.mask a.rows b.rows block mask rows
 
 -- merged ids of the same entries are equal only where both sides' are
-pub equal_left : (left right other_left other_right : Ids) → AreSides left right → AreSides other_left other_right → left.mask ≡ other_left.mask
+pub equal_left : (left right other_left other_right : Ids) → AreSidesOfRow left right → AreSidesOfRow other_left other_right → left.mask ≡ other_left.mask
     → merge_ids left right ≡ merge_ids other_left other_right → left ≡ other_left
 equal_left left right other_left other_right sides other_sides mask same =
     same_ids left other_left (ap (λ (ids : Ids). ids.block) same) mask
     (sym (merge_ids-left left right sides) ∙ ap (λ (ids : Ids). rows_inside left.mask ids.rows) same ∙ ap (λ m. rows_inside m (merge_ids other_left other_right).rows) mask
     ∙ merge_ids-left other_left other_right other_sides)
 
-pub equal_right : (left right other_left other_right : Ids) → AreSides left right → AreSides other_left other_right → right.mask ≡ other_right.mask
+pub equal_right : (left right other_left other_right : Ids) → AreSidesOfRow left right → AreSidesOfRow other_left other_right → right.mask ≡ other_right.mask
     → merge_ids left right ≡ merge_ids other_left other_right → right ≡ other_right
 equal_right left right other_left other_right sides other_sides mask same =
     same_ids right other_right (sym sides.block ∙ ap (λ (ids : Ids). ids.block) same ∙ other_sides.block) mask

@@ -4,20 +4,24 @@ use Rattle.rs_rank.specs.declared.ids.Ids.{Ids}
 use Rattle.rs_rank.specs.Masks.{AreDisjoint}
 
 -- the row numbers are 0 at all entries outside the mask
-abbrev pub IsWithin : ℕ → List ℕ → Type 0
-IsWithin mask [] = Unit {0}
-IsWithin mask (row ∷ rows) = (mask % 2 ≡ 0 → row ≡ 0) × IsWithin (mask / 2) rows
+abbrev pub IsZeroOutside : ℕ → List ℕ → Type 0
+IsZeroOutside mask [] = Unit {0}
+IsZeroOutside mask (row ∷ rows) = (mask % 2 ≡ 0 → row ≡ 0) × IsZeroOutside (mask / 2) rows
 
 -- the ids are those of entries among six
 pub record IsIds (ids : Ids) : Type 0 where
   pub sized : length ids.rows ≡ 6
   pub entries : ids.mask < 2 ^ 6
-  pub within : IsWithin ids.mask ids.rows
+  pub within : IsZeroOutside ids.mask ids.rows
 
 -- the row numbers of the entries in a mask, and 0 at the others
 abbrev pub rows_inside : ℕ → List ℕ → List ℕ
 rows_inside mask [] = []
 rows_inside mask (row ∷ rows) = (if mask % 2 == 0 then 0 else row) ∷ rows_inside (mask / 2) rows
+
+-- ids of the entries in a mask alone
+abbrev pub ids_inside : ℕ → ℕ → List ℕ → Ids
+ids_inside block entries rows = record { block = block; mask = entries; rows = rows_inside entries rows }
 
 -- ids of another block, or with other row numbers
 abbrev pub AreOtherIds : Ids → Ids → Type 0
@@ -38,7 +42,7 @@ merge_ids left right = record {
 }
 
 -- two sides of one row: they are of the same block and have no entry in common
-pub record AreSides (left right : Ids) : Type 0 where
+pub record AreSidesOfRow (left right : Ids) : Type 0 where
   pub left_ids : IsIds left
   pub right_ids : IsIds right
   pub block : left.block ≡ right.block

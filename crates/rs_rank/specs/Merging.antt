@@ -2,7 +2,7 @@
 use Rattle.std.specs.Prelude.{ℕ, ◌+◌, ◌-◌, bit_or}
 use Rattle.rs_rank.specs.declared.key.Key.{Key}
 use Rattle.rs_rank.specs.declared.weights.Weights.{Weights}
-use Rattle.rs_rank.specs.Ids.{AreSides, merge_ids}
+use Rattle.rs_rank.specs.Ids.{AreSidesOfRow, merge_ids}
 use Rattle.rs_rank.specs.Masks.{AreDisjoint}
 use Rattle.rs_rank.specs.Weights.{IsBound, IsWeights, rest}
 
@@ -16,7 +16,7 @@ merge_key weights left_terms right_terms left right = record {
 -- two keys are of sides of one row, and no term is evaluated on both sides
 pub record CanMerge (weights : Weights) (left_terms right_terms : ℕ) (left right : Key) : Type 0 where
   pub limits : IsWeights weights
-  pub sides : AreSides left.ids right.ids
+  pub sides : AreSidesOfRow left.ids right.ids
   pub terms : AreDisjoint left_terms right_terms
   pub left_bound : IsBound weights left_terms left.bound
   pub right_bound : IsBound weights right_terms right.bound

@@ -4,7 +4,7 @@ use Rattle.std.specs.List.{AllByRecursion}
 use Rattle.rs_rank.specs.declared.key.Key.{Key}
 use Rattle.rs_rank.specs.declared.row.RankRow.{RankRow}
 use Rattle.rs_rank.specs.declared.weights.Weights.{Weights}
-use Rattle.rs_rank.specs.Ids.{AreOtherIds, AreSides, merge_ids}
+use Rattle.rs_rank.specs.Ids.{AreOtherIds, AreSidesOfRow, merge_ids}
 use Rattle.rs_rank.specs.Weights.{most_evaluated, rest, score_limit}
 
 -- the key of a row of which the terms in a mask are evaluated
@@ -26,6 +26,6 @@ merge_row left right = record { ids = merge_ids left.ids right.ids; sum = left.s
 
 -- two rows are sides of one row, and have sums within the limit
 pub record CanMergeRows (left right : RankRow) : Type 0 where
-  pub sides : AreSides left.ids right.ids
+  pub sides : AreSidesOfRow left.ids right.ids
   pub left_sum : left.sum ≤ score_limit
   pub right_sum : right.sum ≤ score_limit

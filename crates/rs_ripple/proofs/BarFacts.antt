@@ -9,10 +9,10 @@ use Rattle.std.specs.Option.{option_map}
 use Rattle.std.specs.Ordering.{is_lt, is_gt, ordering_reverse}
 use Rattle.std.specs.declared.cmp.Ordering.{Ordering}
 use Rattle.std.specs.declared.cmp.Ordering.TheVariants.{Less, Equal, Greater}
-use Rattle.rs_order.specs.Asks.{comes_before_bar, tau}
+use Rattle.rs_order.specs.Asks.{comes_before_bar, bar_after}
 use Rattle.rs_order.specs.Climbing.{Climbs, In}
 use Rattle.rs_order.proofs.ClimbingFacts.{Climbs-same, Climbs-shared}
-use Rattle.rs_order.proofs.PartFacts.{Climbs-begin, Climbs-not_behind, In-take, IsBeyond-drop, cmp-behind-Less, slice_get-shared, tau-slice_get}
+use Rattle.rs_order.proofs.PartFacts.{Climbs-begin, Climbs-not_behind, In-take, IsBeyond-drop, cmp-behind-Less, slice_get-shared, bar_after-slice_get}
 
 -- a key lies behind a bar
 abbrev pub IsPast : {K : Type 0} → (K → K → Ordering) → Option K → K → Type 0
@@ -57,11 +57,11 @@ module _ {X K : Type 0} (cmp : K → K → Ordering) (key : X → K) (part whole
       (λ z h. elim (s.missing z h) [ inl k ↦ k | inr none ↦ absurd none ])
 
   -- a bar that doesn't come before the key of an item of the whole settles it, and all before it
-  pub settled-Some : (b : K) → IsSettledBy cmp key (Some b) part whole → (n : ℕ) → comes_before_bar cmp (tau key whole n) b ≡ false → take (suc n) part ≡ take (suc n) whole
+  pub settled-Some : (b : K) → IsSettledBy cmp key (Some b) part whole → (n : ℕ) → comes_before_bar cmp (bar_after key whole n) b ≡ false → take (suc n) part ≡ take (suc n) whole
   settled-Some b s n e =
       elim (slice_get_cases whole n).1 [
         | inl some ↦
-            let last : tau key whole n ≡ Some (key some.0) = tau-slice_get key whole n ∙ ap (option_map key) some.2 in
+            let last : bar_after key whole n ≡ Some (key some.0) = bar_after-slice_get key whole n ∙ ap (option_map key) some.2 in
             let later : is_gt (cmp (key some.0) b) ≡ false = is_gt-turned cmp s.total (key some.0) b ∙ sym (ap (λ bar. comes_before_bar cmp bar b) last) ∙ e in
             Climbs-begin cmp s.total key (suc n) part whole s.part_climbs s.whole_climbs s.within
             (λ z h. elim (s.missing z (In-take (suc n) whole z h)) [
@@ -69,7 +69,7 @@ module _ {X K : Type 0} (cmp : K → K → Ordering) (key : X → K) (part whole
               | inr past ↦ absurd (Climbs-not_behind cmp s.total key n whole some.0 z s.whole_climbs some.2 h (cmp-behind-Less cmp s.total (key some.0) b (key z) later past))
             ])
         | inr none ↦
-            let last : tau key whole n ≡ None = tau-slice_get key whole n ∙ ap (option_map key) none.1 in
+            let last : bar_after key whole n ≡ None = bar_after-slice_get key whole n ∙ ap (option_map key) none.1 in
             absurd (true≢false (sym (ap (λ bar. comes_before_bar cmp bar b) last) ∙ e))
       ]
 
@@ -85,31 +85,31 @@ module _ {X K : Type 0} (cmp : K → K → Ordering) (key : X → K) (part whole
       ])
 
   -- so the bar comes before the key of an item of the whole exactly where the part doesn't reach it
-  pub tau-reached : (b : K) → IsSettledBy cmp key (Some b) part whole → (n : ℕ) → comes_before_bar cmp (tau key whole n) b ≡ not (reached_at cmp key (Some b) (slice_get part n))
-  tau-reached b s n = go (slice_get part n) refl
+  pub bar_after-reached : (b : K) → IsSettledBy cmp key (Some b) part whole → (n : ℕ) → comes_before_bar cmp (bar_after key whole n) b ≡ not (reached_at cmp key (Some b) (slice_get part n))
+  bar_after-reached b s n = go (slice_get part n) refl
     where
-      tau-is : (o : Option X) → slice_get whole n ≡ o → tau key whole n ≡ option_map key o
-      tau-is o e = tau-slice_get key whole n ∙ ap (option_map key) e
+      bar_after-is : (o : Option X) → slice_get whole n ≡ o → bar_after key whole n ≡ option_map key o
+      bar_after-is o e = bar_after-slice_get key whole n ∙ ap (option_map key) e
 
-      here : (o : Option X) → slice_get part n ≡ o → comes_before_bar cmp (tau key whole n) b ≡ false → comes_before_bar cmp (option_map key o) b ≡ false
+      here : (o : Option X) → slice_get part n ≡ o → comes_before_bar cmp (bar_after key whole n) b ≡ false → comes_before_bar cmp (option_map key o) b ≡ false
       here o e f =
           let shared = slice_get-shared n part whole (settled-Some b s n f) in
-          sym (ap (λ bar. comes_before_bar cmp bar b) (tau-is o (sym shared ∙ e))) ∙ f
+          sym (ap (λ bar. comes_before_bar cmp bar b) (bar_after-is o (sym shared ∙ e))) ∙ f
 
-      go : (o : Option X) → slice_get part n ≡ o → comes_before_bar cmp (tau key whole n) b ≡ not (reached_at cmp key (Some b) o)
+      go : (o : Option X) → slice_get part n ≡ o → comes_before_bar cmp (bar_after key whole n) b ≡ not (reached_at cmp key (Some b) o)
       go None e =
-          (elim (comes_before_bar cmp (tau key whole n) b) as (λ c. comes_before_bar cmp (tau key whole n) b ≡ c → c ≡ true) [
+          (elim (comes_before_bar cmp (bar_after key whole n) b) as (λ c. comes_before_bar cmp (bar_after key whole n) b ≡ c → c ≡ true) [
             | true ↦ λ f. refl
             | false ↦ λ f. sym (here None e f)
           ]) refl
       go (Some p) e =
-          (elim (is_gt (cmp (key p) b)) as (λ c. is_gt (cmp (key p) b) ≡ c → comes_before_bar cmp (tau key whole n) b ≡ not (not c)) [
+          (elim (is_gt (cmp (key p) b)) as (λ c. is_gt (cmp (key p) b) ≡ c → comes_before_bar cmp (bar_after key whole n) b ≡ not (not c)) [
             | true ↦ λ f.
-                (elim (comes_before_bar cmp (tau key whole n) b) as (λ c. comes_before_bar cmp (tau key whole n) b ≡ c → c ≡ true) [
+                (elim (comes_before_bar cmp (bar_after key whole n) b) as (λ c. comes_before_bar cmp (bar_after key whole n) b ≡ c → c ≡ true) [
                   | true ↦ λ g. refl
                   | false ↦ λ g. sym (here (Some p) e g) ∙ sym (is_gt-turned cmp s.total (key p) b) ∙ f
                 ]) refl
             | false ↦ λ f.
                 let shared = slice_get-shared n part whole (settled-reached (Some b) s n p e (ap not f)) in
-                ap (λ bar. comes_before_bar cmp bar b) (tau-is (Some p) (sym shared ∙ e)) ∙ sym (is_gt-turned cmp s.total (key p) b) ∙ f
+                ap (λ bar. comes_before_bar cmp bar b) (bar_after-is (Some p) (sym shared ∙ e)) ∙ sym (is_gt-turned cmp s.total (key p) b) ∙ f
           ]) refl

@@ -4,7 +4,7 @@ use Rattle.std.specs.Cmp.{IsTotalOrder, tied_itself}
 use Rattle.std.specs.List.{slice_get}
 use Rattle.std.specs.declared.cmp.Ordering.{Ordering}
 use Rattle.std.specs.declared.cmp.Ordering.TheVariants.{Less}
-use Rattle.rs_order.specs.Asks.{tau}
+use Rattle.rs_order.specs.Asks.{bar_after}
 use Rattle.rs_order.specs.Climbing.{Climbs, Differs, HasDistinctKeys, In, IsBeyond, Precedes}
 use Rattle.rs_order.specs.Sorting.{put, put_each, sorted}
 use Rattle.rs_order.proofs.ClimbingFacts.{AllByRecursion-In, Climbs-same, cmp-not_itself}
@@ -44,7 +44,7 @@ IsBeyond-not_in cmp o key (suc n) (x ∷ xs) z beyond h =
     ]
 
 -- the last of the first items comes before what is beyond them
-pub IsBeyond-last : {X K : Type 0} (cmp : K → K → Ordering) (key : X → K) (n : ℕ) (xs : List X) (z : X) (k : K) → IsBeyond cmp key (suc n) xs z → tau key xs n ≡ Some k → cmp k (key z) ≡ Less
+pub IsBeyond-last : {X K : Type 0} (cmp : K → K → Ordering) (key : X → K) (n : ℕ) (xs : List X) (z : X) (k : K) → IsBeyond cmp key (suc n) xs z → bar_after key xs n ≡ Some k → cmp k (key z) ≡ Less
 IsBeyond-last cmp key n [] z k beyond e = absurd beyond
 IsBeyond-last cmp key zero (x ∷ xs) z k beyond e = let same : key x ≡ k = cc in subst (λ l. cmp l (key z) ≡ Less) same beyond.0
 IsBeyond-last cmp key (suc n) (x ∷ xs) z k beyond e = IsBeyond-last cmp key n xs z k beyond.1 e

@@ -6,11 +6,11 @@ use Rattle.std.proofs.lemmas.Option.{slice_get-map, slice_get_within}
 use Rattle.std.specs.List.{filter, slice_get}
 use Rattle.std.specs.Option.{option_map}
 use Rattle.std.specs.declared.cmp.Ordering.TheVariants.{Equal}
-use Rattle.rs_order.specs.Schedule.{JoinSide, Left, Right, SideAsk, is_of, numbers_from, numbers_of}
+use Rattle.rs_order.specs.Schedule.{JoinSide, Left, Right, SideAsk, is_of_side, numbers_from, ask_numbers}
 use Rattle.rs_order.specs.Sorting.{put_each}
 use Rattle.rs_order.proofs.ClimbingFacts.{AllByRecursion-In, AllByRecursion-from_In}
 use Rattle.rs_order.proofs.EachFacts.{each-map}
-use Rattle.rs_order.proofs.PartFacts.{In-drop, In-slice_get, slice_get-drop, slice_get-shared, tau-slice_get}
+use Rattle.rs_order.proofs.PartFacts.{In-drop, In-slice_get, slice_get-drop, slice_get-shared, bar_after-slice_get}
 use Rattle.rs_rank.specs.declared.ask.JoinAsk.TheVariants.{NeedLeft, NeedRight, Ready}
 use Rattle.rs_rank.specs.declared.key.Key.{Key}
 use Rattle.rs_rank.specs.declared.row.RankRow.{RankRow}
@@ -19,7 +19,7 @@ use Rattle.rs_rank.specs.Rows.{merge_row}
 use Rattle.rs_rank.specs.Turns.{left_asks, right_asks}
 use Rattle.rs_rank.proofs.OrderFacts.{key_cmp-total}
 use Rattle.rs_rank.proofs.TurnFacts.{left_numbers, right_numbers}
-use Rattle.rs_order.specs.Asks.{tau}
+use Rattle.rs_order.specs.Asks.{bar_after}
 use Rattle.rs_ripple.specs.Pairs.{pairs_against, pairs_with}
 use Rattle.rs_ripple.specs.Ripple.{CanDrawLeft, CanDrawRight, IsBehindDrawn, IsOfBlock, IsKeyOf, Ripple, ask_of, drawn_with, first_key, first_row, left_drawn, left_ended, left_for, new_ripple, right_drawn, right_ended, taken_for}
 use Rattle.rs_ripple.specs.Stands.{AreFoundOf, AreSidesOf, BeginsWith, CanFindEach, IsRowOf, Join, Stands, answer_key, answers, asked, drawn_of, found_each, merged_key, schedule_of, side_key, side_keys, state_after, taken_after}
@@ -27,7 +27,7 @@ use Rattle.rs_ripple.proofs.GrowFacts.{drop-grown, put_each-map}
 use Rattle.rs_ripple.proofs.NextFacts.{ltb-false}
 use Rattle.rs_ripple.proofs.ScheduleFacts.{BeginsWith-append, BeginsWith-itself, BeginsWith-more, asked-left, asked-right, schedule_of-more, settled-made}
 use Rattle.rs_ripple.proofs.StandFacts.{Tells, left-climbs, right-climbs, stands-tells}
-use Rattle.rs_ripple.proofs.StepFacts.{Fits, behind-drawn, block-drawn, can_find_each, drawn-more, fits, found_each-kept, grows-left, grows-right, kept-same, key_of_pair, pair_of, part-back, row-key}
+use Rattle.rs_ripple.proofs.StepFacts.{IsFindable, behind-drawn, block-drawn, can_find_each, drawn-more, fits, found_each-held, grows-left, grows-right, kept-same, key_of_pair, pair_of, part-back, row-key}
 
 -- nothing is asked for yet
 pub new-stands : (j : Join) (lefts rights : List RankRow) → AreSidesOf j lefts rights → Stands j lefts rights [] 0 (new_ripple j.weights j.left j.right)
@@ -147,7 +147,7 @@ module _ (j : Join) (lefts rights : List RankRow) (made : List SideAsk) (count :
       subst (λ r. CanFindEach more (left_drawn (side_key j j.left row) r)) (sym s.state)
       (can_find_each j (Some (drawn_with (drawn_of (take i (side_keys j j.left lefts))) (side_key j j.left row))) (ltb (length (side_keys j j.left lefts)) i)
       (drawn_of (take k (side_keys j j.right rights))) (ltb (length (side_keys j j.right rights)) k) (taken_after j lefts rights count) more (map (pair_of j) (drop count (part i k)))
-      (λ z h. subst (λ d. Fits j d (drawn_of (take k (side_keys j j.right rights))) (taken_after j lefts rights count) z) (sym (left-key row next))
+      (λ z h. subst (λ d. IsFindable j d (drawn_of (take k (side_keys j j.right rights))) (taken_after j lefts rights count) z) (sym (left-key row next))
       (fits j lefts rights s.input (suc i) k count more (part i k) (part (suc i) k) g (settled-now ∙ sym (settled-left need)) (settled-left need) z h (part-back j lefts rights s.input (suc i) k z (g.comes z h))))
       g.distinct
       (λ z h. each-map (λ pair. key_cmp pair.0 (answer_key j z) ≡ Equal → ⊥) (pair_of j) (drop count (part i k))
@@ -158,8 +158,7 @@ module _ (j : Join) (lefts rights : List RankRow) (made : List SideAsk) (count :
       let g = grows-left j lefts rights s.input i k row more next found in
       left-asked need (found_each more (left_drawn (side_key j j.left row) ripple))
       (ap (λ r. found_each more (left_drawn (side_key j j.left row) r)) s.state
-      ∙ found_each-kept j (Some (drawn_with (drawn_of (take i (side_keys j j.left lefts))) (side_key j j.left row))) (ltb (length (side_keys j j.left lefts)) i)
-      (drawn_of (take k (side_keys j j.right rights))) (ltb (length (side_keys j j.right rights)) k) (taken_after j lefts rights count) more (map (pair_of j) (drop count (part i k)))
+      ∙ found_each-held more (left_drawn (side_key j j.left row) (state_after j lefts rights i k count))
       ∙ kept-same j
       (Some (drawn_with (drawn_of (take i (side_keys j j.left lefts))) (side_key j j.left row))) (drawn_of (take (suc i) (side_keys j j.left lefts)))
       (ltb (length (side_keys j j.left lefts)) i) (ltb (length (side_keys j j.left lefts)) (suc i))
@@ -193,7 +192,7 @@ module _ (j : Join) (lefts rights : List RankRow) (made : List SideAsk) (count :
       subst (λ r. CanFindEach more (right_drawn (side_key j j.right row) r)) (sym s.state)
       (can_find_each j (drawn_of (take i (side_keys j j.left lefts))) (ltb (length (side_keys j j.left lefts)) i)
       (Some (drawn_with (drawn_of (take k (side_keys j j.right rights))) (side_key j j.right row))) (ltb (length (side_keys j j.right rights)) k) (taken_after j lefts rights count) more (map (pair_of j) (drop count (part i k)))
-      (λ z h. subst (λ d. Fits j (drawn_of (take i (side_keys j j.left lefts))) d (taken_after j lefts rights count) z) (sym (right-key row next))
+      (λ z h. subst (λ d. IsFindable j (drawn_of (take i (side_keys j j.left lefts))) d (taken_after j lefts rights count) z) (sym (right-key row next))
       (fits j lefts rights s.input i (suc k) count more (part i k) (part i (suc k)) g (settled-now ∙ sym (settled-right need)) (settled-right need) z h (part-back j lefts rights s.input i (suc k) z (g.comes z h))))
       g.distinct
       (λ z h. each-map (λ pair. key_cmp pair.0 (answer_key j z) ≡ Equal → ⊥) (pair_of j) (drop count (part i k))
@@ -204,8 +203,7 @@ module _ (j : Join) (lefts rights : List RankRow) (made : List SideAsk) (count :
       let g = grows-right j lefts rights s.input i k row more next found in
       right-asked need (found_each more (right_drawn (side_key j j.right row) ripple))
       (ap (λ r. found_each more (right_drawn (side_key j j.right row) r)) s.state
-      ∙ found_each-kept j (drawn_of (take i (side_keys j j.left lefts))) (ltb (length (side_keys j j.left lefts)) i)
-      (Some (drawn_with (drawn_of (take k (side_keys j j.right rights))) (side_key j j.right row))) (ltb (length (side_keys j j.right rights)) k) (taken_after j lefts rights count) more (map (pair_of j) (drop count (part i k)))
+      ∙ found_each-held more (right_drawn (side_key j j.right row) (state_after j lefts rights i k count))
       ∙ kept-same j
       (drawn_of (take i (side_keys j j.left lefts))) (drawn_of (take i (side_keys j j.left lefts)))
       (ltb (length (side_keys j j.left lefts)) i) (ltb (length (side_keys j j.left lefts)) i)
@@ -287,10 +285,10 @@ module _ (j : Join) (lefts rights : List RankRow) (made : List SideAsk) (count :
             ∙ kept-same j
             (drawn_of (take i (side_keys j j.left lefts))) (drawn_of (take i (side_keys j j.left lefts))) (ltb (length (side_keys j j.left lefts)) i) (ltb (length (side_keys j j.left lefts)) i)
             (drawn_of (take k (side_keys j j.right rights))) (drawn_of (take k (side_keys j j.right rights))) (ltb (length (side_keys j j.right rights)) k) (ltb (length (side_keys j j.right rights)) k)
-            (first_key (map (pair_of j) (drop count (part i k)))) (tau (answer_key j) whole count)
+            (first_key (map (pair_of j) (drop count (part i k)))) (bar_after (answer_key j) whole count)
             (drop 1 (map (pair_of j) (drop count (part i k)))) (map (pair_of j) (drop (suc count) (part i k)))
             refl refl refl refl
-            (key-of (drop count (part i k)) ∙ ap (option_map (answer_key j)) (sym (slice_get-drop count (part i k)) ∙ slice_get-shared count (part i k) whole (ready-settled ready)) ∙ sym (tau-slice_get (answer_key j) whole count))
+            (key-of (drop count (part i k)) ∙ ap (option_map (answer_key j)) (sym (slice_get-drop count (part i k)) ∙ slice_get-shared count (part i k) whole (ready-settled ready)) ∙ sym (bar_after-slice_get (answer_key j) whole count))
             (drop-map (pair_of j) 1 (drop count (part i k)) ∙ ap (map (pair_of j)) (drop-drop 1 count (part i k) ∙ ap (λ n. drop n (part i k)) one_more));
         least = subst (λ m. BeginsWith m (schedule_of j lefts rights (suc count))) (sym tells.0) (BeginsWith-itself (schedule_of j lefts rights (suc count)));
         most = subst (λ m. BeginsWith (schedule_of j lefts rights (suc (suc count))) m) (sym tells.0) (schedule_of-more j lefts rights s.input (suc count));
@@ -306,15 +304,15 @@ length-numbers : (n count : ℕ) → length (numbers_from n count) ≡ count
 length-numbers n zero = refl
 length-numbers n (suc count) = ap suc (length-numbers (suc n) count)
 
-asked-numbers : (side : JoinSide) (asks : List SideAsk) (n : ℕ) → numbers_of side asks ≡ numbers_from 1 n → asked side asks ≡ n
-asked-numbers side asks n e = sym (length-map (filter (is_of side) asks) (λ (ask : SideAsk). ask.number)) ∙ ap length e ∙ length-numbers 1 n
+asked-numbers : (side : JoinSide) (asks : List SideAsk) (n : ℕ) → ask_numbers side asks ≡ numbers_from 1 n → asked side asks ≡ n
+asked-numbers side asks n e = sym (length-map (filter (is_of_side side) asks) (λ (ask : SideAsk). ask.number)) ∙ ap length e ∙ length-numbers 1 n
 
-pub left-exact : (j : Join) (lefts rights : List RankRow) (n : ℕ) → AreSidesOf j lefts rights → asked Left (schedule_of j lefts rights (suc n)) ≡ left_asks key_cmp (merged_key j) (side_keys j j.left lefts) (side_keys j j.right rights) (tau (answer_key j) (answers j lefts rights) n)
+pub left-exact : (j : Join) (lefts rights : List RankRow) (n : ℕ) → AreSidesOf j lefts rights → asked Left (schedule_of j lefts rights (suc n)) ≡ left_asks key_cmp (merged_key j) (side_keys j j.left lefts) (side_keys j j.right rights) (bar_after (answer_key j) (answers j lefts rights) n)
 left-exact j lefts rights n input =
-    asked-numbers Left (schedule_of j lefts rights (suc n)) (left_asks key_cmp (merged_key j) (side_keys j j.left lefts) (side_keys j j.right rights) (tau (answer_key j) (answers j lefts rights) n))
-    (left_numbers key_cmp key_cmp-total (merged_key j) (side_keys j j.left lefts) (side_keys j j.right rights) (tau (answer_key j) (answers j lefts rights) n) (left-climbs j lefts rights input))
+    asked-numbers Left (schedule_of j lefts rights (suc n)) (left_asks key_cmp (merged_key j) (side_keys j j.left lefts) (side_keys j j.right rights) (bar_after (answer_key j) (answers j lefts rights) n))
+    (left_numbers key_cmp key_cmp-total (merged_key j) (side_keys j j.left lefts) (side_keys j j.right rights) (bar_after (answer_key j) (answers j lefts rights) n) (left-climbs j lefts rights input))
 
-pub right-exact : (j : Join) (lefts rights : List RankRow) (n : ℕ) → AreSidesOf j lefts rights → asked Right (schedule_of j lefts rights (suc n)) ≡ right_asks key_cmp (merged_key j) (side_keys j j.left lefts) (side_keys j j.right rights) (tau (answer_key j) (answers j lefts rights) n)
+pub right-exact : (j : Join) (lefts rights : List RankRow) (n : ℕ) → AreSidesOf j lefts rights → asked Right (schedule_of j lefts rights (suc n)) ≡ right_asks key_cmp (merged_key j) (side_keys j j.left lefts) (side_keys j j.right rights) (bar_after (answer_key j) (answers j lefts rights) n)
 right-exact j lefts rights n input =
-    asked-numbers Right (schedule_of j lefts rights (suc n)) (right_asks key_cmp (merged_key j) (side_keys j j.left lefts) (side_keys j j.right rights) (tau (answer_key j) (answers j lefts rights) n))
-    (right_numbers key_cmp key_cmp-total (merged_key j) (side_keys j j.left lefts) (side_keys j j.right rights) (tau (answer_key j) (answers j lefts rights) n) (right-climbs j lefts rights input))
+    asked-numbers Right (schedule_of j lefts rights (suc n)) (right_asks key_cmp (merged_key j) (side_keys j j.left lefts) (side_keys j j.right rights) (bar_after (answer_key j) (answers j lefts rights) n))
+    (right_numbers key_cmp key_cmp-total (merged_key j) (side_keys j j.left lefts) (side_keys j j.right rights) (bar_after (answer_key j) (answers j lefts rights) n) (right-climbs j lefts rights input))

@@ -1,11 +1,17 @@
 pub mod BarFacts
+pub mod FeedLeftFacts
+pub mod FeedRightFacts
 pub mod GrowFacts
+pub mod JoinedFacts
 pub mod LawFacts
+pub mod MoreFacts
 pub mod NextFacts
 pub mod PairFacts
+pub mod RestFacts
 pub mod ScheduleFacts
 pub mod SideFacts
 pub mod StandFacts
 pub mod StepFacts
 pub mod TurnFacts
 pub mod Worked
+pub mod WorkedJoined

@@ -3,11 +3,11 @@ use Rattle.std.proofs.Common.{◌≡◌, ℕ, zero, suc, ◌≤◌, List, [], �
 use Rattle.std.proofs.lemmas.List.{length-map, take-map, take_all}
 use Rattle.std.proofs.lemmas.List.Elements.{filter-append}
 use Rattle.std.specs.List.{filter, slice_get}
-use Rattle.rs_order.specs.Asks.{tau, those_before}
-use Rattle.rs_order.specs.Schedule.{Left, Right, SideAsk, Turn, is_of, turns_of}
+use Rattle.rs_order.specs.Asks.{bar_after, those_before}
+use Rattle.rs_order.specs.Schedule.{Left, Right, SideAsk, Turn, is_of_side, turns_of}
 use Rattle.rs_order.specs.Sorting.{sorted}
 use Rattle.rs_order.proofs.AscendingFacts.{Ascends-Climbs, schedule-begin}
-use Rattle.rs_order.proofs.AsksFacts.{tau-later}
+use Rattle.rs_order.proofs.AsksFacts.{bar_after-later}
 use Rattle.rs_order.proofs.PartFacts.{take-snoc}
 use Rattle.rs_rank.specs.declared.key.Key.{Key}
 use Rattle.rs_rank.specs.declared.row.RankRow.{RankRow}
@@ -53,14 +53,14 @@ length-BeginsWith (m ∷ made) (f ∷ front) begins =
 -- one ask more of the left side is none of the right one
 pub asked-left : (made : List SideAsk) (n : ℕ) → (asked Left (made ++ record { side = Left; number = n } ∷ []) ≡ suc (asked Left made)) × (asked Right (made ++ record { side = Left; number = n } ∷ []) ≡ asked Right made)
 asked-left made n = (
-  ap length (filter-append (is_of Left) made (record { side = Left; number = n } ∷ [])) ∙ length-snoc (filter (is_of Left) made) (record { side = Left; number = n }),
-  ap length (filter-append (is_of Right) made (record { side = Left; number = n } ∷ []) ∙ append-nil (filter (is_of Right) made)),
+  ap length (filter-append (is_of_side Left) made (record { side = Left; number = n } ∷ [])) ∙ length-snoc (filter (is_of_side Left) made) (record { side = Left; number = n }),
+  ap length (filter-append (is_of_side Right) made (record { side = Left; number = n } ∷ []) ∙ append-nil (filter (is_of_side Right) made)),
 )
 
 pub asked-right : (made : List SideAsk) (n : ℕ) → (asked Left (made ++ record { side = Right; number = n } ∷ []) ≡ asked Left made) × (asked Right (made ++ record { side = Right; number = n } ∷ []) ≡ suc (asked Right made))
 asked-right made n = (
-  ap length (filter-append (is_of Left) made (record { side = Right; number = n } ∷ []) ∙ append-nil (filter (is_of Left) made)),
-  ap length (filter-append (is_of Right) made (record { side = Right; number = n } ∷ [])) ∙ length-snoc (filter (is_of Right) made) (record { side = Right; number = n }),
+  ap length (filter-append (is_of_side Left) made (record { side = Right; number = n } ∷ []) ∙ append-nil (filter (is_of_side Left) made)),
+  ap length (filter-append (is_of_side Right) made (record { side = Right; number = n } ∷ [])) ∙ length-snoc (filter (is_of_side Right) made) (record { side = Right; number = n }),
 )
 
 -- more answers go on with the asks
@@ -70,10 +70,10 @@ schedule_of-more j [] rights input (suc n) = refl
 schedule_of-more j (x ∷ xs) rights input (suc n) =
     schedule-begin key_cmp key_cmp-total
     (left_keys (merged_key j) (side_keys j j.left (x ∷ xs)) (side_keys j j.right rights)) (right_keys (merged_key j) (side_keys j j.left (x ∷ xs)) (side_keys j j.right rights))
-    (tau (answer_key j) (answers j (x ∷ xs) rights) n) (tau (answer_key j) (answers j (x ∷ xs) rights) (suc n))
+    (bar_after (answer_key j) (answers j (x ∷ xs) rights) n) (bar_after (answer_key j) (answers j (x ∷ xs) rights) (suc n))
     (Ascends-Climbs key_cmp (λ key. key) (left_keys (merged_key j) (side_keys j j.left (x ∷ xs)) (side_keys j j.right rights)) (left-climbs j (x ∷ xs) rights input))
     (Ascends-Climbs key_cmp (λ key. key) (right_keys (merged_key j) (side_keys j j.left (x ∷ xs)) (side_keys j j.right rights)) (right-climbs j (x ∷ xs) rights input))
-    (tau-later key_cmp key_cmp-total (answer_key j) (answers j (x ∷ xs) rights) n (suc n)
+    (bar_after-later key_cmp key_cmp-total (answer_key j) (answers j (x ∷ xs) rights) n (suc n)
     (ordered-climbs key_cmp j.matches merge_row (answer_key j) (x ∷ xs) rights (sides-grid j (x ∷ xs) rights input)) (omega arith))
 
 take-none : (n : ℕ) (rows : List RankRow) → rows ≡ [] → take n rows ≡ []
@@ -97,8 +97,8 @@ settled-made j (x ∷ xs) (y ∷ ys) input [] (suc n) least most = cc
 settled-made j (x ∷ xs) (y ∷ ys) input (a ∷ []) (suc n) least most = cc
 settled-made j (x ∷ xs) (y ∷ ys) input (a ∷ b ∷ others) (suc n) least most =
     let turns_all : List (Turn Key) = turns_of key_cmp (left_keys (merged_key j) (side_keys j j.left (x ∷ xs)) (side_keys j j.right (y ∷ ys))) (right_keys (merged_key j) (side_keys j j.left (x ∷ xs)) (side_keys j j.right (y ∷ ys))) in
-    let those : List (Turn Key) = those_before key_cmp (λ turn. turn.key) (tau (answer_key j) (answers j (x ∷ xs) (y ∷ ys)) (suc n)) turns_all in
-    let given : List (Turn Key) = those_before key_cmp (λ turn. turn.key) (tau (answer_key j) (answers j (x ∷ xs) (y ∷ ys)) n) turns_all in
+    let those : List (Turn Key) = those_before key_cmp (λ turn. turn.key) (bar_after (answer_key j) (answers j (x ∷ xs) (y ∷ ys)) (suc n)) turns_all in
+    let given : List (Turn Key) = those_before key_cmp (λ turn. turn.key) (bar_after (answer_key j) (answers j (x ∷ xs) (y ∷ ys)) n) turns_all in
     let first : a ≡ record { side = Left; number = 1 } = cc in
     let second : b ≡ record { side = Right; number = 1 } = cc in
     let behind : others ≡ take (length others) (asks_in those) = cc in
@@ -110,5 +110,5 @@ settled-made j (x ∷ xs) (y ∷ ys) input (a ∷ b ∷ others) (suc n) least mo
     subst (λ made. take (suc n) (answers j (take (asked Left made) (x ∷ xs)) (take (asked Right made) (y ∷ ys))) ≡ take (suc n) (answers j (x ∷ xs) (y ∷ ys)))
     (sym (ap₂ (λ u v. u ∷ v ∷ others) first second ∙ ap first_asks front))
     (settled-turns j x xs y ys input n (take (length others) those) (drop (length others) those ++ drop (length those) turns_all)
-    (before-front key_cmp key_cmp-total (tau (answer_key j) (answers j (x ∷ xs) (y ∷ ys)) (suc n)) turns_all (length others) (ascends j x xs y ys input))
+    (before-front key_cmp key_cmp-total (bar_after (answer_key j) (answers j (x ∷ xs) (y ∷ ys)) (suc n)) turns_all (length others) (ascends j x xs y ys input))
     (omega arith))

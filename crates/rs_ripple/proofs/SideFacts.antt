@@ -1,6 +1,6 @@
 -- The rows of two sides: the keys of their merges rise along each side, and merges of different left rows have different
 -- keys.
-use Rattle.std.proofs.Common.{cond, ◌≡◌, ℕ, zero, suc, ◌+◌, ◌-◌, ◌/◌, ◌%◌, List, [], ◌∷◌, length, bit_and, bit_or, refl, sym, ◌∙◌, ap, ap₂, subst, inl, inr, arith}
+use Rattle.std.proofs.Common.{cond, ◌≡◌, ℕ, zero, suc, ◌≤◌, ◌+◌, ◌-◌, ◌/◌, ◌%◌, List, [], ◌∷◌, length, bit_and, bit_or, refl, sym, ◌∙◌, ap, ap₂, subst, inl, inr, arith}
 use Rattle.std.proofs.lemmas.Bool.{cases_lt}
 use Rattle.std.proofs.Math.Dec.{eqb-suc-zero}
 use Rattle.std.specs.Cmp.{tied_itself}
@@ -9,17 +9,17 @@ use Rattle.std.specs.declared.cmp.Ordering.{Ordering}
 use Rattle.rs_order.specs.Climbing.{Climbs, In, Precedes}
 use Rattle.rs_order.proofs.ClimbingFacts.{AllByRecursion-In, AllByRecursion-from_In}
 use Rattle.rs_rank.specs.declared.row.RankRow.{RankRow}
-use Rattle.rs_rank.specs.Ids.{AreOtherIds, IsWithin, merge_ids, merge_rows}
+use Rattle.rs_rank.specs.Ids.{AreOtherIds, IsZeroOutside, merge_ids, merge_rows}
 use Rattle.rs_rank.specs.Keys.{key_cmp}
 use Rattle.rs_rank.specs.Merging.{CanMerge}
-use Rattle.rs_rank.specs.Rows.{HaveOtherIds, merge_row}
+use Rattle.rs_rank.specs.Rows.{HasSum, HaveOtherIds, merge_row}
 use Rattle.rs_rank.specs.Weights.{rest}
 use Rattle.rs_rank.proofs.IdsFacts.{merge_number}
 use Rattle.rs_rank.proofs.MaskFacts.{bit_and-first, bit_and-others}
 use Rattle.rs_rank.proofs.OrderFacts.{IsBefore-merge_key, IsTied-parts, key_cmp-total}
-use Rattle.rs_rank.proofs.WeightFacts.{IsBound-sum}
+use Rattle.rs_rank.proofs.WeightFacts.{IsBound-sum, sum_inside-union}
 use Rattle.rs_ripple.specs.Stands.{AreSidesOf, IsRowOf, Join, answer_key, merged_key, side_key}
-use Rattle.rs_ripple.proofs.PairFacts.{Grid}
+use Rattle.rs_ripple.proofs.PairFacts.{Grid, IsPair}
 
 -- the key of the merge of two rows is the merge of their keys
 pub merged_key-rows : (j : Join) (left right : RankRow) → merged_key j (side_key j j.left left) (side_key j j.right right) ≡ answer_key j (merge_row left right)
@@ -33,7 +33,7 @@ merge_number-none : (left right : ℕ) → right ≡ 0 → merge_number left rig
 merge_number-none zero right e = e
 merge_number-none (suc left) right e = ap (λ b. cond b right (suc left)) (eqb-suc-zero left)
 
-merge_rows-left : (m n : ℕ) (a b c d : List ℕ) → bit_and m n ≡ 0 → IsWithin m a → IsWithin m c → IsWithin n b → IsWithin n d → length a ≡ length b → length a ≡ length c → length a ≡ length d → merge_rows a b ≡ merge_rows c d → a ≡ c
+merge_rows-left : (m n : ℕ) (a b c d : List ℕ) → bit_and m n ≡ 0 → IsZeroOutside m a → IsZeroOutside m c → IsZeroOutside n b → IsZeroOutside n d → length a ≡ length b → length a ≡ length c → length a ≡ length d → merge_rows a b ≡ merge_rows c d → a ≡ c
 merge_rows-left m n [] b [] d apart p q r s e f g same = refl
 merge_rows-left m n [] b (z ∷ c) d apart p q r s e f g same = absurd (omega arith)
 merge_rows-left m n (x ∷ a) b [] d apart p q r s e f g same = absurd (omega arith)
@@ -102,6 +102,22 @@ module _ (j : Join) (lefts rights : List RankRow) (input : AreSidesOf j lefts ri
         right_bound = IsBound-sum j.weights j.right.terms y.sum right.sum;
       }
 
+  -- a pair of their rows has the entries of both sides, and a sum that the terms of both can give
+  pub pair-entries : (z : RankRow) → IsPair j.matches merge_row lefts rights z → z.ids.mask ≡ bit_or j.left.mask j.right.mask
+  pair-entries z p = ap (λ (w : RankRow). w.ids.mask) p.made ∙ ap₂ bit_or (left_row p.left p.in_left).entries (right_row p.right p.in_right).entries
+
+  pub pair-sum : (z : RankRow) → IsPair j.matches merge_row lefts rights z → HasSum j.weights (bit_or j.left.terms j.right.terms) z
+  pair-sum z p =
+      let left = left_row p.left p.in_left in
+      let right = right_row p.right p.in_right in
+      let left_sum = left.sum in
+      let right_sum = right.sum in
+      let union = sum_inside-union j.left.terms j.right.terms j.weights.weight j.weights.max input.sides.terms in
+      subst (HasSum j.weights (bit_or j.left.terms j.right.terms)) (sym p.made) (within left_sum right_sum union)
+    where
+      within : {a b m n u : ℕ} → a ≤ m → b ≤ n → u ≡ m + n → a + b ≤ u
+      within le less e = omega arith
+
   pub sides-grid : Grid key_cmp merge_row (answer_key j) lefts rights
   sides-grid = record {
     total = key_cmp-total;
@@ -125,9 +141,9 @@ module _ (j : Join) (lefts rights : List RankRow) (input : AreSidesOf j lefts ri
         let rv = right_row v d in
         HaveOtherIds-same lefts x w input.left_rows.others a b (lx.block ∙ sym lw.block)
         (merge_rows-left j.left.mask j.right.mask x.ids.rows y.ids.rows w.ids.rows v.ids.rows input.sides.entries
-        (subst (λ m. IsWithin m x.ids.rows) lx.entries lx.ids.within)
-        (subst (λ m. IsWithin m w.ids.rows) lw.entries lw.ids.within)
-        (subst (λ m. IsWithin m y.ids.rows) ry.entries ry.ids.within)
-        (subst (λ m. IsWithin m v.ids.rows) rv.entries rv.ids.within)
+        (subst (λ m. IsZeroOutside m x.ids.rows) lx.entries lx.ids.within)
+        (subst (λ m. IsZeroOutside m w.ids.rows) lw.entries lw.ids.within)
+        (subst (λ m. IsZeroOutside m y.ids.rows) ry.entries ry.ids.within)
+        (subst (λ m. IsZeroOutside m v.ids.rows) rv.entries rv.ids.within)
         (lx.ids.sized ∙ sym ry.ids.sized) (lx.ids.sized ∙ sym lw.ids.sized) (lx.ids.sized ∙ sym rv.ids.sized) parts.2);
   }

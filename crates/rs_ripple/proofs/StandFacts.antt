@@ -6,7 +6,7 @@ use Rattle.std.proofs.lemmas.Option.{slice_get-map, slice_get_cases, slice_get_w
 use Rattle.std.specs.List.{slice_get}
 use Rattle.std.specs.Option.{option_map}
 use Rattle.std.specs.declared.cmp.Ordering.{Ordering}
-use Rattle.rs_order.specs.Asks.{comes_before_bar, tau, those_before}
+use Rattle.rs_order.specs.Asks.{comes_before_bar, bar_after, those_before}
 use Rattle.rs_order.specs.Climbing.{Ascends, Climbs, In, Precedes}
 use Rattle.rs_order.specs.Sorting.{sorted}
 use Rattle.rs_order.specs.Schedule.{Left, Right, SideAsk, Turn, turns_of}
@@ -24,7 +24,7 @@ use Rattle.rs_rank.proofs.OrderFacts.{key_cmp-total}
 use Rattle.rs_ripple.specs.Pairs.{pairs}
 use Rattle.rs_ripple.specs.Ripple.{Ripple, ask_between, ask_of, first_side}
 use Rattle.rs_ripple.specs.Stands.{AreSidesOf, BeginsWith, Join, Stands, answer_key, answers, asked, merged_key, schedule_of, side_key, side_keys, state_after}
-use Rattle.rs_ripple.proofs.BarFacts.{IsPast, IsSettledBy, reached_at, settled-None, settled-Some, settled-reached, tau-reached}
+use Rattle.rs_ripple.proofs.BarFacts.{IsPast, IsSettledBy, reached_at, settled-None, settled-Some, settled-reached, bar_after-reached}
 use Rattle.rs_ripple.proofs.NextFacts.{IsNext, ask_between-is, first_bar, ltb-false, next_turn, past-first, threshold-is}
 use Rattle.rs_ripple.proofs.PairFacts.{Climbs-map, Grid-take, IsPair-parts, IsPair-within, In-ordered, In-ordered-back, left-past, ordered-climbs, right-past}
 use Rattle.rs_ripple.proofs.SideFacts.{merged_key-rows, sides-grid}
@@ -163,7 +163,7 @@ module _ (j : Join) (x : RankRow) (xs : List RankRow) (y : RankRow) (ys : List R
 
   -- the key of an answer, and the turns that come before it
   abbrev last_key : ℕ → Option Key
-  last_key count = tau (answer_key j) whole count
+  last_key count = bar_after (answer_key j) whole count
 
   abbrev those : ℕ → List (Turn Key) → List (Turn Key)
   those count ts = those_before key_cmp (λ turn. turn.key) (last_key count) ts
@@ -197,7 +197,7 @@ module _ (j : Join) (x : RankRow) (xs : List RankRow) (y : RankRow) (ys : List R
   turn-reached m n count front back made e sched ask bar s k rest is_bar is_back r =
       let settled = subst (λ b. IsSettledBy key_cmp (answer_key j) b (part (suc m) (suc n)) whole) is_bar s in
       let reached = ap (λ b. reached_at key_cmp (answer_key j) b (slice_get (part (suc m) (suc n)) count)) (sym is_bar) ∙ r in
-      let behind : comes_before_bar key_cmp (last_key count) k ≡ false = tau-reached key_cmp (answer_key j) (part (suc m) (suc n)) whole k settled count ∙ ap not reached in
+      let behind : comes_before_bar key_cmp (last_key count) k ≡ false = bar_after-reached key_cmp (answer_key j) (part (suc m) (suc n)) whole k settled count ∙ ap not reached in
       let none : those count back ≡ [] =
       ap (those count) is_back
       ∙ before-none key_cmp key_cmp-total (last_key count) (record { ask = ask; key = k }) rest (subst (Ascends key_cmp (λ (turn : Turn Key). turn.key)) is_back (back-ascends front back e)) behind in
@@ -210,7 +210,7 @@ module _ (j : Join) (x : RankRow) (xs : List RankRow) (y : RankRow) (ys : List R
   turn-asked m n count front back made e sched ask bar s k rest is_bar is_back r =
       let settled = subst (λ b. IsSettledBy key_cmp (answer_key j) b (part (suc m) (suc n)) whole) is_bar s in
       let reached = ap (λ b. reached_at key_cmp (answer_key j) b (slice_get (part (suc m) (suc n)) count)) (sym is_bar) ∙ r in
-      let before : comes_before_bar key_cmp (last_key count) k ≡ true = tau-reached key_cmp (answer_key j) (part (suc m) (suc n)) whole k settled count ∙ ap not reached in
+      let before : comes_before_bar key_cmp (last_key count) k ≡ true = bar_after-reached key_cmp (answer_key j) (part (suc m) (suc n)) whole k settled count ∙ ap not reached in
       let some : those count back ≡ record { ask = ask; key = k } ∷ those count rest =
       ap (those count) is_back ∙ ap (λ b. cond b (record { ask = ask; key = k } ∷ those count rest) (those count rest)) before in
       ap (λ asks. slice_get asks (length made)) (sched ∙ ap (λ ts. made ++ asks_in ts) some) ∙ slice_get-append made (asks_in (those count rest)) ask
@@ -338,7 +338,7 @@ tells-state j (x ∷ xs) [] input (a ∷ b ∷ []) count begins within =
     (refl, omega arith)
 tells-state j (x ∷ xs) (y ∷ ys) input (a ∷ b ∷ others) count begins within =
     let turns_all : List (Turn Key) = turns_of key_cmp (left_keys (merged_key j) (side_keys j j.left (x ∷ xs)) (side_keys j j.right (y ∷ ys))) (right_keys (merged_key j) (side_keys j j.left (x ∷ xs)) (side_keys j j.right (y ∷ ys))) in
-    let bar : Option Key = tau (answer_key j) (answers j (x ∷ xs) (y ∷ ys)) count in
+    let bar : Option Key = bar_after (answer_key j) (answers j (x ∷ xs) (y ∷ ys)) count in
     let those : List (Turn Key) = those_before key_cmp (λ turn. turn.key) bar turns_all in
     let first : a ≡ record { side = Left; number = 1 } = cc in
     let second : b ≡ record { side = Right; number = 1 } = cc in

@@ -10,20 +10,20 @@ use Rattle.rs_rank.specs.declared.weights.Weights.{Weights}
 use Rattle.rs_ripple.specs.Stands.{Join, answers, schedule_of, state_after}
 use Rattle.rs_ripple.specs.Ripple.{Ripple, ask_of, found, left_drawn, left_ended, left_for, new_ripple, right_drawn, right_ended, taken_for}
 
-abbrev two : Weights
+abbrev pub two : Weights
 two = record { weight = 1 ∷ 1 ∷ 0 ∷ 0 ∷ 0 ∷ 0 ∷ 0 ∷ 0 ∷ []; max = 10 ∷ 10 ∷ 0 ∷ 0 ∷ 0 ∷ 0 ∷ 0 ∷ 0 ∷ [] }
 
 -- row number n of each side with its worth, to which the other term adds 10 at most
-abbrev left : ℕ → ℕ → Key
+abbrev pub left : ℕ → ℕ → Key
 left number worth = record { bound = worth + 10; ids = record { block = 1; mask = 1; rows = number ∷ 0 ∷ 0 ∷ 0 ∷ 0 ∷ 0 ∷ [] } }
 
-abbrev right : ℕ → ℕ → Key
+abbrev pub right : ℕ → ℕ → Key
 right number worth = record { bound = worth + 10; ids = record { block = 1; mask = 2; rows = 0 ∷ number ∷ 0 ∷ 0 ∷ 0 ∷ 0 ∷ [] } }
 
-abbrev pair : ℕ → ℕ → ℕ → RankRow
+abbrev pub pair : ℕ → ℕ → ℕ → RankRow
 pair l r sum = record { ids = record { block = 1; mask = 3; rows = l ∷ r ∷ 0 ∷ 0 ∷ 0 ∷ 0 ∷ [] }; sum = sum }
 
-abbrev pair_key : ℕ → ℕ → ℕ → Key
+abbrev pub pair_key : ℕ → ℕ → ℕ → Key
 pair_key l r bound = record { bound = bound; ids = record { block = 1; mask = 3; rows = l ∷ r ∷ 0 ∷ 0 ∷ 0 ∷ 0 ∷ [] } }
 
 abbrev start : Ripple
@@ -131,7 +131,7 @@ nothing_is_given : taken_for (ask_of two_left) two_left ≡ None
 nothing_is_given = refl
 
 -- the same rows as lists: where the core stands after each of the asks and answers above
-abbrev sides : Join
+abbrev pub sides : Join
 sides = record {
   weights = two;
   block = 1;
@@ -140,10 +140,10 @@ sides = record {
   matches = λ l r. not (l.sum == 10) && r.sum == 9;
 }
 
-abbrev lefts : List RankRow
+abbrev pub lefts : List RankRow
 lefts = record { ids = (left 1 10).ids; sum = 10 } ∷ record { ids = (left 2 8).ids; sum = 8 } ∷ record { ids = (left 3 8).ids; sum = 8 } ∷ []
 
-abbrev rights : List RankRow
+abbrev pub rights : List RankRow
 rights = record { ids = (right 1 9).ids; sum = 9 } ∷ record { ids = (right 2 7).ids; sum = 7 } ∷ record { ids = (right 3 6).ids; sum = 6 } ∷ []
 
 abbrev l : ℕ → SideAsk

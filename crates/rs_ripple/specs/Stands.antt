@@ -2,10 +2,10 @@
 -- it gives.
 use Rattle.std.specs.Prelude.{ℕ, zero, suc, ◌≡◌, ◌≤◌, Bool, false, nat_lt, List, [], ◌∷◌, length, map, take, drop, Option, Some, None, bit_or}
 use Rattle.std.specs.List.{AllByRecursion, filter}
-use Rattle.rs_order.specs.Asks.{tau}
+use Rattle.rs_order.specs.Asks.{bar_after}
 use Rattle.rs_order.specs.Climbing.{Climbs, SameItems}
 use Rattle.rs_order.specs.Last.{last_from}
-use Rattle.rs_order.specs.Schedule.{JoinSide, Left, Right, SideAsk, is_of}
+use Rattle.rs_order.specs.Schedule.{JoinSide, Left, Right, SideAsk, is_of_side}
 use Rattle.rs_order.specs.Sorting.{sorted}
 use Rattle.rs_rank.specs.declared.key.Key.{Key}
 use Rattle.rs_rank.specs.declared.row.RankRow.{RankRow}
@@ -72,7 +72,7 @@ abbrev pub schedule_of : Join → List RankRow → List RankRow → ℕ → List
 schedule_of j lefts rights zero = []
 schedule_of j lefts rights (suc n) =
     join_schedule key_cmp (merged_key j) (side_keys j j.left lefts) (side_keys j j.right rights)
-    (tau (answer_key j) (answers j lefts rights) n)
+    (bar_after (answer_key j) (answers j lefts rights) n)
 
 -- a list begins with another one
 abbrev pub BeginsWith : {X : Type 0} → List X → List X → Type 0
@@ -80,7 +80,7 @@ BeginsWith xs front = front ≡ take (length front) xs
 
 -- how often a side was asked
 abbrev pub asked : JoinSide → List SideAsk → ℕ
-asked side made = length (filter (is_of side) made)
+asked side made = length (filter (is_of_side side) made)
 
 -- the first and the last of keys
 abbrev pub drawn_of : List Key → Option Drawn
@@ -94,7 +94,7 @@ input_after side keys asks = record { side = side; drawn = drawn_of (take asks k
 -- the key of the last of so many answers
 abbrev pub taken_after : Join → List RankRow → List RankRow → ℕ → Option Key
 taken_after j lefts rights zero = None
-taken_after j lefts rights (suc n) = tau (answer_key j) (answers j lefts rights) n
+taken_after j lefts rights (suc n) = bar_after (answer_key j) (answers j lefts rights) n
 
 -- what the core keeps after so many asks of each side and so many answers
 abbrev pub state_after : Join → List RankRow → List RankRow → ℕ → ℕ → ℕ → Ripple

@@ -3,7 +3,7 @@
 
 ghost use Rattle.std.specs.Prelude.{◌≡◌, ◌<◌, ◌↔◌, ℕ, suc, List, [], ◌∷◌, ◌++◌, length, take, Some, None};
 ghost use Rattle.std.specs.List.{slice_get};
-ghost use Rattle.rs_order.specs.Asks.{tau};
+ghost use Rattle.rs_order.specs.Asks.{bar_after};
 ghost use Rattle.rs_order.specs.Climbing.{Climbs};
 ghost use Rattle.rs_order.specs.Schedule.{Left, Right, SideAsk};
 ghost use Rattle.rs_rank.specs.declared.ask.JoinAsk.TheVariants.{NeedLeft, NeedRight, Ready, End};
@@ -104,11 +104,11 @@ pub fn schedule_has_the_asks()
     ensures left { (j : Join) (lefts rights : List RankRow) (n : ℕ) → AreSidesOf j lefts rights
         → asked Left (schedule_of j lefts rights (suc n))
         ≡ left_asks key_cmp (merged_key j) (side_keys j j.left lefts) (side_keys j j.right rights)
-        (tau (answer_key j) (answers j lefts rights) n) }
+        (bar_after (answer_key j) (answers j lefts rights) n) }
     ensures right { (j : Join) (lefts rights : List RankRow) (n : ℕ) → AreSidesOf j lefts rights
         → asked Right (schedule_of j lefts rights (suc n))
         ≡ right_asks key_cmp (merged_key j) (side_keys j j.left lefts) (side_keys j j.right rights)
-        (tau (answer_key j) (answers j lefts rights) n) }
+        (bar_after (answer_key j) (answers j lefts rights) n) }
 {}
 
 /// Where it is ready, the answers of the rows drawn so far begin with those of both whole sides, the next one included.

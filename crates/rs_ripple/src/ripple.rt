@@ -1,11 +1,13 @@
-ghost use Rattle.std.specs.Prelude.{◌≡◌, false, true, OnOk, OnErr, Some};
+ghost use Rattle.std.specs.Prelude.{◌≡◌, false, true, if◌then◌else◌, OnOk, OnErr, Some};
 ghost use Rattle.rs_rank.specs.declared.ask.JoinAsk.TheVariants.{NeedLeft, NeedRight};
 ghost use Rattle.rs_rank.specs.Merging.{CanMerge};
+ghost use Rattle.rs_rank.specs.Rows.{CanMergeRows, HasSum, key_of, merge_row};
 ghost use Rattle.rs_ripple.specs.Ripple.{CanDrawLeft, CanDrawRight, CanEnd, CanFind, CanJoin, ask_of, first_side, found, is_reached, left_drawn, left_ended, left_for, left_threshold, new_ripple, pair_key, right_drawn, right_ended, right_threshold, taken_for};
+ghost use Rattle.rs_value.specs.Faults.{raised};
 
 use crate::side::{Drawn, Input, Side};
 use rs_queue::Queue;
-use rs_rank::{JoinAsk, Key, RankRow, Weights, union};
+use rs_rank::{JoinAsk, Key, Matcher, RankRow, Weights, union};
 use rs_value::Memory;
 use std::alloc::Global;
 use std::marker::Model;
@@ -138,6 +140,22 @@ impl RippleCore {
         )
     }
 
+    /// The key of a left row, by the terms of its side.
+    pub fn left_key(&self, row: &RankRow) -> Key
+        requires { HasSum self.now.weights self.now.left.side.terms row.now }
+        ensures { result ≡ key_of self.now.weights self.now.left.side.terms row.now }
+    {
+        row.key(&self.weights, self.left.side.terms)
+    }
+
+    /// The key of a right row, by the terms of its side.
+    pub fn right_key(&self, row: &RankRow) -> Key
+        requires { HasSum self.now.weights self.now.right.side.terms row.now }
+        ensures { result ≡ key_of self.now.weights self.now.right.side.terms row.now }
+    {
+        row.key(&self.weights, self.right.side.terms)
+    }
+
     /// Takes the key of the left side's next row.
     pub fn left_drawn(&mut self, key: Key)
         requires { CanDrawLeft key self.old }
@@ -183,10 +201,42 @@ impl RippleCore {
         match self.held.push(key, row) {
             Ok(()) => Ok(()),
             Err(_) => {
-                self.spent = true;
+                self.give_up();
                 Err(Memory)
             }
         }
+    }
+
+    /// Takes the pair of a left row and a right row, if they match.
+    pub fn try_pair<M: Matcher>(
+        &mut self,
+        left: &RankRow,
+        right: &RankRow,
+        matcher: &mut M,
+    ) -> Result<(), Memory>
+        requires alive { self.old.spent ≡ false }
+        requires rows { CanMergeRows left.now right.now }
+        requires pair { M.truth matcher.old left.now right.now ≡ true → CanFind (merge_row left.now right.now) self.old }
+        ensures ok { OnOk result (self.new ≡ (if M.truth matcher.old left.now right.now then found (merge_row left.now right.now) self.old else self.old)) }
+        ensures err { OnErr result (self.new ≡ record self.old { spent = true }) }
+        ensures truth { M.truth matcher.new ≡ M.truth matcher.old }
+        ensures calls { M.calls matcher.new ≡ raised (M.calls matcher.old) }
+    {
+        match matcher.matches(left, right) {
+            Ok(true) => self.found(left.merge(right)),
+            Ok(false) => Ok(()),
+            Err(Memory) => {
+                self.give_up();
+                Err(Memory)
+            }
+        }
+    }
+
+    /// Memory ran out elsewhere, while pairs were still to be told: no further call is allowed.
+    pub fn give_up(&mut self)
+        ensures { self.new ≡ record self.old { spent = true } }
+    {
+        self.spent = true;
     }
 
     /// Takes the first held pair, if the join is ready.

@@ -7,8 +7,8 @@ use Rattle.rs_expr.specs.InOrder.{Inquires}
 use Rattle.rs_expr.specs.Predicates.{PredicateDef}
 use Rattle.rs_expr.specs.Scoring.{Answering, ScorerState}
 use Rattle.rs_catalog.specs.Catalogue.{Catalogue}
-use Rattle.rs_catalog.specs.Indexes.{making, predicate_for, request_for}
-use Rattle.rs_catalog.specs.Making.{MakesIndex, answer_of, catalogue_after}
+use Rattle.rs_catalog.specs.Indexes.{making, predicate_for, row_request}
+use Rattle.rs_catalog.specs.Making.{MakesIndex, without_ranking, catalogue_after}
 use Rattle.rs_catalog.specs.declared.index.BoundArg.{BoundArg}
 use Rattle.rs_catalog.specs.declared.index.IndexDef.{IndexDef}
 use Rattle.rs_catalog.specs.declared.index.IndexFault.{IndexFault}
@@ -16,23 +16,24 @@ use Rattle.rs_catalog.specs.declared.index.IndexFault.TheVariants as index
 use Rattle.rs_run.specs.declared.fault.Fault.{Fault}
 use Rattle.rs_run.specs.Parts.Steps.{Ran, Stepped, run_of}
 use Rattle.rs_run.specs.Run.{calls_in}
-use Rattle.rs_run.specs.Statements.{index_fault, index_outcome, index_step}
+use Rattle.rs_run.specs.Faults.{index_fault}
+use Rattle.rs_run.specs.Statements.{index_outcome, index_step}
 use Rattle.rs_run.specs.World.{World}
 use Rattle.rs_run.proofs.InquirySteps.{Probes, Ran-unasked, asked-ok}
 use Rattle.rs_run.proofs.RanFacts.{Ran-all}
 use Rattle.rs_run.proofs.SteppedFacts.{events-run_of, step_of}
 
 -- what a ranking was where the call answered so
-ranked-ok : (ranking : Result (List ScoredRow) IndexFault) → Ok tt ≡ answer_of ranking → (entries : List ScoredRow) × (ranking ≡ Ok entries)
+ranked-ok : (ranking : Result (List ScoredRow) IndexFault) → Ok tt ≡ without_ranking ranking → (entries : List ScoredRow) × (ranking ≡ Ok entries)
 ranked-ok (Ok entries) e = (entries, refl)
 ranked-ok (Err why) e = absurd cc
 
-ranked-err : (ranking : Result (List ScoredRow) IndexFault) (why : IndexFault) → Err why ≡ answer_of ranking → ranking ≡ Err why
+ranked-err : (ranking : Result (List ScoredRow) IndexFault) (why : IndexFault) → Err why ≡ without_ranking ranking → ranking ≡ Err why
 ranked-err (Ok entries) why e = absurd cc
 ranked-err (Err other) why e = let same : other ≡ why = cc in ap Err same
 
 -- each call is of the index's predicate
-Probes-index : (predicate : PredicateDef) (args : List BoundArg) (rows : List (List Value)) → Probes (index_fault predicate.name) (map (request_for predicate args) rows)
+Probes-index : (predicate : PredicateDef) (args : List BoundArg) (rows : List (List Value)) → Probes (index_fault predicate.name) (map (row_request predicate args) rows)
 Probes-index predicate args [] = tt
 Probes-index predicate args (row ∷ rest) = (refl, Probes-index predicate args rest)
 

@@ -2,7 +2,7 @@
 use Rattle.std.proofs.Common.{◌≡◌, ◌∙◌, ◌++◌, List, [], ◌∷◌, map, Some, refl, sym, ap, subst, inl, inr, append_assoc}
 use Rattle.std.specs.Prelude.{Ok, Err, ◌⊎◌}
 use Rattle.std.specs.List.{AllByRecursion}
-use Rattle.rs_expr.specs.InOrder.{Ends, Fails, Inquires, Inquiry, Request, Stops, calls_of}
+use Rattle.rs_expr.specs.InOrder.{InquiryEnds, InquiryFails, Inquires, Inquiry, Request, InquiryStops, calls_of}
 use Rattle.rs_expr.specs.Scoring.{ScorerState}
 use Rattle.rs_run.specs.declared.fault.Fault.{Fault}
 use Rattle.rs_run.specs.declared.fault.Fault.TheVariants.{Memory, Probe}
@@ -36,7 +36,7 @@ pub record IsAsked {A F : Type 0} (inquiry : Inquiry A F) (a : A) (old new : Wor
 pub asked-ok : {A F : Type 0} (memory : F) (inquiry : Inquiry A F) (a : A) (world : World) (scorer : ScorerState) → Inquires memory inquiry (Ok a) world.scorer scorer
     → IsAsked inquiry a world (record world { scorer = scorer })
 asked-ok {A} {F} memory inquiry a world scorer asked = go asked.comes where
-  go : (Ends inquiry (Ok a) world.scorer scorer ⊎ Fails inquiry (Ok a) world.scorer scorer) ⊎ Stops memory inquiry (Ok a) world.scorer scorer
+  go : (InquiryEnds inquiry (Ok a) world.scorer scorer ⊎ InquiryFails inquiry (Ok a) world.scorer scorer) ⊎ InquiryStops memory inquiry (Ok a) world.scorer scorer
       → IsAsked inquiry a world (record world { scorer = scorer })
   go (inl (inl ends)) = record { has = HasDone-scorer world scorer (calls_of inquiry.requests) ends.made asked.keeps; given = sym ends.gives }
   go (inl (inr fails)) = absurd (let e = fails.gives in cc)
@@ -53,7 +53,7 @@ module _ {A F : Type 0} (tells : F → Fault) (memory : F) (inquiry : Inquiry A 
 
   pub Ran-unasked : Inquires memory inquiry (Err why) world.scorer scorer → Ran run (Err told) world (record world { scorer = scorer })
   Ran-unasked asked = go asked.comes where
-    go : (Ends inquiry (Err why) world.scorer scorer ⊎ Fails inquiry (Err why) world.scorer scorer) ⊎ Stops memory inquiry (Err why) world.scorer scorer
+    go : (InquiryEnds inquiry (Err why) world.scorer scorer ⊎ InquiryFails inquiry (Err why) world.scorer scorer) ⊎ InquiryStops memory inquiry (Err why) world.scorer scorer
         → Ran run (Err told) world (record world { scorer = scorer })
     go (inl (inl ends)) = subst (λ run. Ran run (Err told) world (record world { scorer = scorer })) (sym (is (sym ends.gives)))
         (Ran-all (record { events = calls_in inquiry; fault = Some (tells why) }) (Err told) world (record world { scorer = scorer })

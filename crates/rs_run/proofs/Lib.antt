@@ -5,6 +5,7 @@ pub mod FetchFacts
 pub mod RunFacts
 pub mod LineFacts
 pub mod RowFacts
+pub mod PrintFacts
 pub mod SteppedFacts
 pub mod StepFacts
 pub mod InquirySteps

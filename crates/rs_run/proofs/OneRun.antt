@@ -1,7 +1,7 @@
 -- Words have one run at most, where a name has one file at most.
 use Rattle.std.proofs.Common.{ℕ, ◌≡◌, ◌∙◌, List, [], ◌∷◌, sym, ap, subst, arith}
 use Rattle.std.specs.Prelude.{suc, Option, Some, Result, Ok, Err}
-use Rattle.rs_lex.proofs.SpellingFacts.{Spells-unique, Refuses-unique, Spells-not_refused}
+use Rattle.rs_lex.proofs.SpellingFacts.{Spells-unique, RefusesBytes-unique, Spells-not_refused}
 use Rattle.rs_lex.specs.Spelling as lex
 use Rattle.rs_lex.specs.declared.fault.LexFault.{LexFault}
 use Rattle.rs_lex.specs.declared.token.Token.{Token}
@@ -31,7 +31,7 @@ use Rattle.rs_run.specs.Statements.{Does, DoesTable, Evaluating, Plainly, Statem
 HasTokens-one : (script : List ℕ) (a b : List Token) → HasTokens script a → HasTokens script b → a ≡ b
 HasTokens-one script a b x y = Spells-unique 0 script a b x.spells y.spells
 
-HasTokens-not_refused : (script : List ℕ) (tokens : List Token) (fault : LexFault) → HasTokens script tokens → lex.Refuses 0 0 script fault → ⊥
+HasTokens-not_refused : (script : List ℕ) (tokens : List Token) (fault : LexFault) → HasTokens script tokens → lex.RefusesBytes 0 0 script fault → ⊥
 HasTokens-not_refused script tokens fault x refuses = Spells-not_refused 0 0 script tokens fault (omega (arith, x.few)) x.spells refuses
 
 -- and one list of statements at most, with which it isn't refused by the parser
@@ -85,7 +85,7 @@ Statements-one finds one answer evaluating commands a b p q =
 
 -- a text has one run at most
 TextRuns-one : (statements : List Command → Run → Type 0) → OneRun statements → (script : List ℕ) (a b : Run) → TextRuns statements script a → TextRuns statements script b → a ≡ b
-TextRuns-one statements one script _ _ (unlexed x p) (unlexed y q) = ap (λ fault. fails (Script (Lex fault))) (Refuses-unique 0 0 script x y p q)
+TextRuns-one statements one script _ _ (unlexed x p) (unlexed y q) = ap (λ fault. fails (Script (Lex fault))) (RefusesBytes-unique 0 0 script x y p q)
 TextRuns-one statements one script _ _ (unlexed x p) (unparsed tokens y lexed q) = absurd (HasTokens-not_refused script tokens x lexed p)
 TextRuns-one statements one script _ _ (unlexed x p) (runs commands run made is) = absurd (HasTokens-not_refused script made.tokens x made.lexed p)
 TextRuns-one statements one script _ _ (unparsed tokens x lexed p) (unlexed y q) = absurd (HasTokens-not_refused script tokens y lexed q)

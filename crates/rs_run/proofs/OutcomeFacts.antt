@@ -8,7 +8,7 @@ use Rattle.rs_run.specs.declared.fault.Fault.TheVariants.{Memory, Usage, Write, 
 use Rattle.rs_run.specs.declared.status.Status.{Status}
 use Rattle.rs_run.specs.declared.status.Status.TheVariants as status
 use Rattle.rs_run.specs.Faults.{status_of}
-use Rattle.rs_run.specs.Halts.{CallFailed, Did, Done, Ended, FetchFailed, Halt, HaltsAt, NoMemory, PutFailed, fault_of, last_of}
+use Rattle.rs_run.specs.Halts.{CallFailed, Did, Done, Ended, FetchFailed, Halt, HaltsAt, NoMemory, PutFailed, fault_of, halt_events}
 use Rattle.rs_run.specs.Outcome.{EndsOrNoMemory, ForRun, HasCause, Outcome, Reports}
 use Rattle.rs_run.specs.Parts.Steps.{Answers, Runs}
 use Rattle.rs_run.specs.Run.{Event, Run, fails, finds_in}
@@ -142,7 +142,7 @@ module _ (words : List (List ℕ)) (run : Run) (s : Status) (old new : World)
 -- where no fetch, no call of the scorer and no put failed, a run ends as its definition says, or there was no memory
 outcome-ends : (run : Run) (s : Status) (old new : World) → NoneFailed old new → Outcome run s old new → EndsOrNoMemory run s old new
 outcome-ends run s old new none o = of_halt o.halt o.reports o.did.halts o.did.all where
-  of_halt : (halt : Halt) → Reports (fault_of run halt) s old.err new.err → HaltsAt halt o.did.rest old new → Done (o.did.done ++ last_of halt) old new → EndsOrNoMemory run s old new
+  of_halt : (halt : Halt) → Reports (fault_of run halt) s old.err new.err → HaltsAt halt o.did.rest old new → Done (o.did.done ++ halt_events halt) old new → EndsOrNoMemory run s old new
   of_halt Ended reports halts all = elim (status-reports run.fault s old.err new.err reports) [
     | inl e ↦ inl (record { status_is = e; all = subst (λ events. Done events old new) (sym (o.did.split ∙ ap (λ rest. o.did.done ++ rest) halts)) all })
     | inr e ↦ inr e

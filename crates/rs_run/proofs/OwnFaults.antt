@@ -7,14 +7,15 @@ use Rattle.rs_value.specs.declared.text.TextFault.TheVariants as text
 use Rattle.rs_value.specs.declared.value.Value.{Value}
 use Rattle.rs_outside.specs.declared.files.FetchFault.TheVariants.{TooLong}
 use Rattle.rs_table.specs.Column.{Column, place_of}
-use Rattle.rs_table.specs.Reading.{◌>>=◌, table_of}
+use Rattle.rs_value.specs.Results.{◌>>=◌}
+use Rattle.rs_table.specs.Reading.{table_of}
 use Rattle.rs_table.specs.declared.fault.TableFault.{TableFault}
 use Rattle.rs_rank.specs.declared.scored_row.ScoredRow.{ScoredRow}
 use Rattle.rs_expr.specs.Scores.{is_score}
 use Rattle.rs_syntax.specs.Syntax.{Command, CreateTable, CreatePredicate, CreateRankIndex, Explain, ExplainAnalyze}
 use Rattle.rs_syntax.specs.Syntax as syntax
 use Rattle.rs_syntax.specs.declared.name.Name.{Name}
-use Rattle.rs_catalog.specs.Catalogue.{Catalogue, empty, room_for, with_predicate, with_table}
+use Rattle.rs_catalog.specs.Catalogue.{Catalogue, empty, room_for, with_index, with_predicate, with_table}
 use Rattle.rs_catalog.specs.Indexes as indexes
 use Rattle.rs_catalog.specs.declared.index.IndexDef.{IndexDef}
 use Rattle.rs_catalog.specs.declared.index.IndexFault.{IndexFault}
@@ -28,7 +29,8 @@ use Rattle.rs_bind.specs.Predicates.{predicate_of}
 use Rattle.rs_bind.specs.Queries.{bound_query}
 use Rattle.rs_query.specs.declared.query.Query.{Query}
 use Rattle.rs_query.specs.Views.{View, all_rows}
-use Rattle.rs_plain.specs.Plain.{Question, evaluation_of, first_of, is_bad, questions_of}
+use Rattle.rs_query.specs.Questions.{Question, first_of, is_bad}
+use Rattle.rs_plain.specs.Plain.{evaluation_of, questions_of}
 use Rattle.rs_plain.specs.declared.fault.PlainFault.{PlainFault}
 use Rattle.rs_plain.specs.declared.fault.PlainFault.TheVariants as plain
 use Rattle.rs_rank.specs.declared.answer.Answer.{Answer}
@@ -38,14 +40,15 @@ use Rattle.rs_run.specs.declared.fault.Fault.{Fault}
 use Rattle.rs_run.specs.declared.fault.Fault.TheVariants.{Memory, Usage, Write, Read, Table, BadScore, Probe, Script}
 use Rattle.rs_run.specs.Words.{Form, NoForm, Plain, Top, TopWords, form_of}
 use Rattle.rs_run.specs.Content.{content_of}
-use Rattle.rs_run.specs.Top.{or_table_fault, table_limit, named_table, top_table, top_lines, ranked_lines, scored_from, number_at}
+use Rattle.rs_run.specs.Top.{best_rows, named_table, number_at, or_table_fault, ranked_lines, scored_rows, table_limit, top_lines, top_table}
 use Rattle.rs_run.specs.Plain.{ScriptRuns, TextRuns, unlexed, unparsed, runs, unread, read, or_text_fault, script_limit, source_of, without_mark}
 use Rattle.rs_expr.specs.Scoring.{Answering}
 use Rattle.rs_run.specs.Run.{Event, Finds, Run, fetch_then}
 use Rattle.rs_run.specs.Running.{IsRun, IsRunOf, IsCut}
 use Rattle.rs_run.specs.Sequence.{RunOf, RunsOn, Step}
-use Rattle.rs_run.specs.Faults.{only}
-use Rattle.rs_run.specs.Statements.{Does, DoesTable, Evaluating, Plainly, StatementsRun, explain_outcome, index_outcome, index_step, or_bind_fault, or_room_fault, query_outcome, query_step, refused_or, table_step, with_room}
+use Rattle.rs_run.specs.Faults.{or_index_fault}
+use Rattle.rs_run.specs.Lines.{rank_lines}
+use Rattle.rs_run.specs.Statements.{Does, DoesTable, Evaluating, Plainly, StatementsRun, explain_outcome, index_step, or_bind_fault, or_room_fault, query_outcome, query_step, refused_or, table_step, with_room}
 
 -- the faults of `top` and of `plain`
 IsOwn : Fault → Type 0
@@ -93,24 +96,6 @@ Own-source : (name : List ℕ) (there : Option (List ℕ)) → Own (source_of na
 Own-source name there = Own-then (content_of script_limit name there) (λ bytes. or_text_fault (text_of (without_mark bytes)))
     (Own-content script_limit name there) (λ bytes. Own-text (text_of (without_mark bytes)))
 
--- `top`
-Own-scored : (column : List ℕ) (max place row : ℕ) (rows : List (List Value)) → Own (scored_from column max place row rows)
-unfolding Own IsOwn
-Own-scored column max place row [] = tt
-Own-scored column max place row (values ∷ rest) =
-    elim (is_score max (number_at place values)) as (λ b. Own (if b then (scored_from column max place (row + 1) rest >>= (λ rows. Ok (values ∷ rows))) else Err (BadScore column (only row) (number_at place values) max))) [
-      | true ↦ Own-then _ _ (Own-scored column max place (row + 1) rest) (λ rows. tt)
-      | false ↦ tt
-    ]
-
-Own-top : (top : TopWords) (there : Option (List ℕ)) → Own (top_lines top there)
-unfolding Own IsOwn
-Own-top top there =
-    Own-then (top_table top.file top.column there) (ranked_lines top)
-    (Own-then (content_of table_limit top.file there) (λ bytes. or_table_fault top.file (named_table top.column bytes))
-    (Own-content table_limit top.file there) (λ bytes. Own-table top.file (named_table top.column bytes)))
-    (λ table. Own-then _ _ (Own-scored top.column top.max (unwrap_or (place_of top.column table.schema) 0) 1 table.rows) (λ rows. tt))
-
 -- what a statement binds
 Own-bind : {A : Type 0} (r : Result A BindFault) → Own (or_bind_fault r)
 unfolding Own IsOwn
@@ -150,17 +135,32 @@ OwnRanking-stable : (scored : Result (List ScoredRow) IndexFault) → OwnRanking
 OwnRanking-stable (Ok entries) own = tt
 OwnRanking-stable (Err fault) own = own
 
-Own-index : (catalogue : Catalogue) (def : IndexDef) (ranking : Result (List ScoredRow) IndexFault) → OwnRanking ranking → Own (index_outcome catalogue def ranking)
+Own-ranking : (predicate : List ℕ) (ranking : Result (List ScoredRow) IndexFault) → OwnRanking ranking → Own (or_index_fault predicate ranking)
 unfolding Own IsOwn
-Own-index catalogue def (Ok ranking) own = tt
-Own-index catalogue def (Err (index.BadScore row got max)) own = tt
-Own-index catalogue def (Err index.Probe) own = own
-Own-index catalogue def (Err index.Memory) own = tt
+Own-ranking predicate (Ok ranking) own = tt
+Own-ranking predicate (Err (index.BadScore row got max)) own = tt
+Own-ranking predicate (Err index.Probe) own = own
+Own-ranking predicate (Err index.Memory) own = tt
+
+-- `top`
+Own-top : (top : TopWords) (there : Option (List ℕ)) → Own (top_lines top there)
+unfolding Own IsOwn
+Own-top top there =
+    Own-then (top_table top.file top.column there) (ranked_lines top)
+    (Own-then (content_of table_limit top.file there) (λ bytes. or_table_fault top.file (named_table top.column bytes))
+    (Own-content table_limit top.file there) (λ bytes. Own-table top.file (named_table top.column bytes)))
+    (λ table. Own-then (best_rows top.column top.max top.count table) (λ rows. Ok (rank_lines 1 rows))
+    (Own-then (or_index_fault top.column (scored_rows top.column top.max table)) _
+    (Own-ranking top.column (scored_rows top.column top.max table) (OwnRanking-scored (number_at (unwrap_or (place_of top.column table.schema) 0)) top.max 1 table.rows)) (λ scored. tt))
+    (λ rows. tt))
 
 Own-index_step : (answer : Answering) (catalogue : Catalogue) (def : IndexDef) → Own (index_step answer catalogue def).outcome
+unfolding Own
 Own-index_step answer catalogue def =
-    Own-index catalogue def (indexes.making answer catalogue def).outcome
-    (OwnRanking-stable _ (OwnRanking-scored (λ row. answer (indexes.predicate_for catalogue def) (indexes.args_in def.args row)) (indexes.predicate_for catalogue def).max 1 (indexes.rows_for catalogue def)))
+    Own-then (or_index_fault (indexes.predicate_for catalogue def).name (indexes.making answer catalogue def).outcome) (λ ranking. Ok (with_index def ranking catalogue))
+    (Own-ranking (indexes.predicate_for catalogue def).name (indexes.making answer catalogue def).outcome
+    (OwnRanking-stable _ (OwnRanking-scored (λ row. answer (indexes.predicate_for catalogue def) (indexes.args_in def.args row)) (indexes.predicate_for catalogue def).max 1 (indexes.rows_for catalogue def))))
+    (λ ranking. tt)
 
 -- a query ends with its rows or with a bad score
 abbrev OwnAnswer : Result (List Answer) PlainFault → Type 0

@@ -1,29 +1,29 @@
 -- What the step of a query did, from what the evaluation and the puts did.
-use Rattle.std.proofs.Common.{ℕ, zero, suc, ◌≡◌, ◌∙◌, ◌+◌, ◌<◌, ◌++◌, List, [], ◌∷◌, length, take, drop, get_or, map, Some, refl, sym, ap, subst, inl, inr, arith, append_assoc, append-nil}
+use Rattle.std.proofs.Common.{ℕ, ◌≡◌, ◌∙◌, ◌++◌, List, [], ◌∷◌, map, Some, refl, sym, ap, subst, inl, inr, append-nil}
 use Rattle.std.specs.Prelude.{Result, Ok, Err, IfOk, slice_get, ◌⊎◌}
-use Rattle.std.proofs.lemmas.List.{take_more, take-take, length-take, drop_at}
 use Rattle.rs_value.specs.Answer.{Gives}
-use Rattle.rs_lines.specs.Row.{line_of}
 use Rattle.rs_rank.specs.declared.answer.Answer.{Answer}
 use Rattle.rs_expr.specs.InOrder.{Inquires, Inquiry}
 use Rattle.rs_expr.specs.Predicates.{PredicateDef}
 use Rattle.rs_expr.specs.Scoring.{ScorerState}
 use Rattle.rs_syntax.specs.Syntax as syntax
-use Rattle.rs_table.specs.Reading.{◌>>=◌}
+use Rattle.rs_value.specs.Results.{◌>>=◌}
 use Rattle.rs_catalog.specs.Catalogue.{Catalogue}
 use Rattle.rs_bind.specs.Queries.{bound_query}
 use Rattle.rs_bind.specs.declared.fault.BindFault.{BindFault}
 use Rattle.rs_bind.specs.declared.fault.BindFault.TheVariants as bind
 use Rattle.rs_query.specs.Answers.{predicate_at}
 use Rattle.rs_query.specs.declared.query.Query.{Query}
-use Rattle.rs_plain.specs.Plain.{Question, request_for}
+use Rattle.rs_query.specs.Questions.{Question, request_for}
+use Rattle.rs_plain.specs.Plain.{plain_faults}
 use Rattle.rs_plain.specs.declared.fault.PlainFault.{PlainFault}
 use Rattle.rs_plain.specs.declared.fault.PlainFault.TheVariants as plain
 use Rattle.rs_run.specs.declared.fault.Fault.{Fault}
 use Rattle.rs_run.specs.declared.fault.Fault.TheVariants.{Memory}
+use Rattle.rs_run.specs.Lines.{rank_lines}
 use Rattle.rs_run.specs.Parts.Steps.{Ran, Stepped, lines_run, run_of}
 use Rattle.rs_run.specs.Run.{Put, calls_in}
-use Rattle.rs_run.specs.Statements.{answer_lines, bind_fault, evaluation_step, explain_outcome, or_bind_fault, query_fault, query_outcome, rank_lines}
+use Rattle.rs_run.specs.Statements.{answer_lines, bind_fault, evaluation_step, explain_outcome, or_bind_fault, query_fault, query_outcome}
 use Rattle.rs_run.specs.World.{World}
 use Rattle.rs_run.proofs.InquirySteps.{IsAsked, Probes, Ran-unasked, asked-ok}
 use Rattle.rs_run.proofs.RanFacts.{Ran-behind}
@@ -31,7 +31,7 @@ use Rattle.rs_run.proofs.StepFacts.{bound-ok}
 use Rattle.rs_run.proofs.SteppedFacts.{events-run_of, step_of}
 
 -- each call is of the predicate that is told where it fails
-pub Probes-query : (catalogue : Catalogue) (questions : List Question) → Probes (query_fault catalogue) (map (request_for catalogue) questions)
+pub Probes-query : (catalogue : Catalogue) (questions : List Question) → Probes (query_fault catalogue) (map (request_for plain_faults catalogue) questions)
 Probes-query catalogue [] = tt
 Probes-query catalogue (question ∷ rest) = (refl, Probes-query catalogue rest)
 
@@ -92,33 +92,3 @@ unexplained catalogue query why fault gives told = elim (Gives-unbound _ why fau
 pub name-at : (catalogue : Catalogue) (number : ℕ) (predicate : PredicateDef) (name : List ℕ) → slice_get catalogue.predicates number ≡ Some predicate → name ≡ predicate.name
     → name ≡ (predicate_at catalogue number).name
 name-at catalogue number predicate name e n = n ∙ (rw e refl)
-
--- the lines of rows are those of the first and those of the rest
-pub rank_lines-split : (rank i : ℕ) (rows : List Answer) → rank_lines rank rows ≡ rank_lines rank (take i rows) ++ rank_lines (rank + i) (drop i rows)
-rank_lines-split rank zero rows = ap (λ r. rank_lines r rows) (let same : rank ≡ rank + 0 = omega arith in same)
-rank_lines-split rank (suc i) [] = refl
-rank_lines-split rank (suc i) (row ∷ rest) =
-    ap (λ lines. line_of rank row.score row.values ∷ lines) (rank_lines-split (rank + 1) i rest
-    ∙ ap (λ n. rank_lines (rank + 1) (take i rest) ++ rank_lines n (drop i rest)) (let same : rank + 1 + i ≡ rank + suc i = omega arith in same))
-
--- one more line
-pub rank_lines-more : (i : ℕ) (rows : List Answer) (other : Answer) → i < length rows
-    → rank_lines 1 (take (i + 1) rows) ≡ rank_lines 1 (take i rows) ++ line_of (i + 1) (get_or rows i other).score (get_or rows i other).values ∷ []
-rank_lines-more i rows other within =
-    let row : Answer = get_or rows i other in
-    let first : take i (take (i + 1) rows) ≡ take i rows = take-take i (i + 1) rows (omega arith) in
-    let size : length (take i rows) ≡ i = omega (arith, length-take i rows, within) in
-    let last : drop i (take (i + 1) rows) ≡ row ∷ [] = ap (drop i) (take_more rows i other within) ∙ drop_at (take i rows) (row ∷ []) i size in
-    rank_lines-split 1 i (take (i + 1) rows)
-    ∙ ap (λ made. rank_lines 1 made ++ rank_lines (1 + i) (drop i (take (i + 1) rows))) first
-    ∙ ap (λ left. rank_lines 1 (take i rows) ++ rank_lines (1 + i) left) last
-    ∙ ap (λ n. rank_lines 1 (take i rows) ++ line_of n row.score row.values ∷ []) (let same : 1 + i ≡ i + 1 = omega arith in same)
-
--- the first lines, the next one and the rest
-pub rank_lines-next : (i : ℕ) (rows : List Answer) (other : Answer) → i < length rows
-    → rank_lines 1 rows ≡ rank_lines 1 (take i rows)
-    ++ (line_of (i + 1) (get_or rows i other).score (get_or rows i other).values ∷ [] ++ rank_lines (1 + (i + 1)) (drop (i + 1) rows))
-rank_lines-next i rows other within =
-    rank_lines-split 1 (i + 1) rows
-    ∙ ap (λ lines. lines ++ rank_lines (1 + (i + 1)) (drop (i + 1) rows)) (rank_lines-more i rows other within)
-    ∙ append_assoc (rank_lines 1 (take i rows)) (line_of (i + 1) (get_or rows i other).score (get_or rows i other).values ∷ []) (rank_lines (1 + (i + 1)) (drop (i + 1) rows))

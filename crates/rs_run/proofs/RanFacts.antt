@@ -11,7 +11,7 @@ use Rattle.rs_expr.specs.declared.scorer.Call.{Call}
 use Rattle.rs_expr.proofs.ScoringFacts.{KeepsScorer-refl, KeepsScorer-then, Made-append, Made-none}
 use Rattle.rs_run.specs.declared.fault.Fault.{Fault}
 use Rattle.rs_run.specs.declared.fault.Fault.TheVariants.{Memory, Probe, Read, Write}
-use Rattle.rs_run.specs.Halts.{CallFailed, Done, Ended, FetchFailed, Halt, HaltsAt, NoMemory, PutFailed, fault_of, fetched_more, last_of}
+use Rattle.rs_run.specs.Halts.{CallFailed, Done, Ended, FetchFailed, Halt, HaltsAt, NoMemory, PutFailed, fault_of, fetched_more, halt_events}
 use Rattle.rs_run.specs.Parts.Steps.{Answers, HasDone, Ran, lines_run}
 use Rattle.rs_run.specs.Run.{Event, Fetch, Put, Run, Score, behind, calls, fetches, puts}
 use Rattle.rs_run.specs.World.{KeepsWorld, World}
@@ -227,8 +227,8 @@ Ran-behind made run result old middle new has ran = record {
     rest = ran.did.rest;
     split = ap (λ rest. made ++ rest) ran.did.split ∙ sym (append_assoc made ran.did.done ran.did.rest);
     halts = HaltsAt-later ran.halt ran.did.rest old middle new has.keeps ran.did.halts;
-    all = subst (λ events. Done events old new) (sym (append_assoc made ran.did.done (last_of ran.halt)))
-        (Done-append made (ran.did.done ++ last_of ran.halt) old middle new has.all ran.did.all);
+    all = subst (λ events. Done events old new) (sym (append_assoc made ran.did.done (halt_events ran.halt)))
+        (Done-append made (ran.did.done ++ halt_events ran.halt) old middle new has.all ran.did.all);
   };
   answers = subst (λ fault. Answers fault result) (sym (fault-behind made run ran.halt)) ran.answers;
   keeps = KeepsWorld-then old middle new has.keeps ran.keeps;
@@ -249,7 +249,7 @@ unfaulted (Some fault) answers = absurd (some-ok fault answers)
 
 pub Ran-done : (run : Run) (old new : World) → Ran run (Ok tt) old new → RanWell run old new
 Ran-done run old new ran = go ran.halt ran.answers ran.did.halts ran.did.all where
-  go : (halt : Halt) → Answers (fault_of run halt) (Ok tt) → HaltsAt halt ran.did.rest old new → Done (ran.did.done ++ last_of halt) old new → RanWell run old new
+  go : (halt : Halt) → Answers (fault_of run halt) (Ok tt) → HaltsAt halt ran.did.rest old new → Done (ran.did.done ++ halt_events halt) old new → RanWell run old new
   go Ended answers halts all = record {
     has = record {
       all = subst (λ events. Done events old new) (sym (ran.did.split ∙ ap (λ rest. ran.did.done ++ rest) halts)) all;

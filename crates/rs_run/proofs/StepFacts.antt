@@ -5,7 +5,8 @@ use Rattle.rs_value.specs.Answer.{Gives}
 use Rattle.rs_value.specs.Outside.{Outside}
 use Rattle.rs_outside.specs.Files.{FilesTold, file_named}
 use Rattle.rs_table.specs.Column.{Column}
-use Rattle.rs_table.specs.Reading.{◌>>=◌, table_of}
+use Rattle.rs_value.specs.Results.{◌>>=◌}
+use Rattle.rs_table.specs.Reading.{table_of}
 use Rattle.rs_table.specs.Relation.{Relation}
 use Rattle.rs_expr.specs.Scoring.{Answering}
 use Rattle.rs_catalog.specs.Catalogue.{Catalogue, with_table}

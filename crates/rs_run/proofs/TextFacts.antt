@@ -30,7 +30,7 @@ use Rattle.rs_run.proofs.RanFacts.{HasDone-none, Ran-all, Ran-behind}
 use Rattle.rs_run.proofs.StatementFacts.{Does-finds, finds-after}
 
 -- the lexer refuses the text
-unlexed-runs : (statements : List Command → Run → Type 0) (script : List ℕ) (why : LexFault) → (why ≡ lex.Memory) ⊎ spelling.Refuses 0 0 script why
+unlexed-runs : (statements : List Command → Run → Type 0) (script : List ℕ) (why : LexFault) → (why ≡ lex.Memory) ⊎ spelling.RefusesBytes 0 0 script why
     → TextRuns statements script (fails (lex_fault why)) ⊎ (lex_fault why ≡ Memory)
 unlexed-runs statements script lex.Memory refused = inr refl
 unlexed-runs statements script (lex.BadByte at) refused = elim refused [ inl e ↦ absurd cc | inr r ↦ inl (unlexed _ r) ]
@@ -60,7 +60,7 @@ Text-fails statements script fault world is = record {
 }
 
 pub Text-unlexed : (statements : List Command → Run → Type 0) (script : List ℕ) (why : LexFault) (result : Result (Unit {0}) Fault) (world : World)
-    → IsErr result × IsErrAnd result (λ fault. fault ≡ lex_fault why) → (why ≡ lex.Memory) ⊎ spelling.Refuses 0 0 script why
+    → IsErr result × IsErrAnd result (λ fault. fault ≡ lex_fault why) → (why ≡ lex.Memory) ⊎ spelling.RefusesBytes 0 0 script why
     → Runs (IsText statements script) result world world
 Text-unlexed statements script why (Ok done) world err refused = absurd err.1
 Text-unlexed statements script why (Err fault) world err refused =

@@ -1,5 +1,5 @@
 -- What ends a run early: its status, and its line on standard error.
-use Rattle.std.specs.Prelude.{ℕ, ◌==◌, not, List, [], ◌∷◌, ◌++◌, Option, Some, None, codes}
+use Rattle.std.specs.Prelude.{ℕ, ◌==◌, not, List, [], ◌∷◌, ◌++◌, Option, Some, None, Result, Ok, Err, codes}
 use Rattle.std.specs.List.{filter}
 use Rattle.std.specs.Fmt.{decimal, signed_decimal}
 use Rattle.rs_outside.specs.declared.files.FetchFault.{FetchFault}
@@ -10,6 +10,8 @@ use Rattle.rs_lex.specs.declared.fault.LexFault.{LexFault}
 use Rattle.rs_lex.specs.declared.fault.LexFault.TheVariants as lex
 use Rattle.rs_syntax.specs.declared.fault.SyntaxFault.{SyntaxFault}
 use Rattle.rs_syntax.specs.declared.fault.SyntaxFault.TheVariants as syntax
+use Rattle.rs_catalog.specs.declared.index.IndexFault.{IndexFault}
+use Rattle.rs_catalog.specs.declared.index.IndexFault.TheVariants as index
 use Rattle.rs_catalog.specs.declared.room.RoomFault.{RoomFault}
 use Rattle.rs_catalog.specs.declared.room.RoomFault.TheVariants as room
 use Rattle.rs_bind.specs.declared.fault.Why.{Why}
@@ -47,6 +49,20 @@ parse_fault (syntax.Expected at) = fault.Script (script.Parse (syntax.Expected a
 parse_fault (syntax.TooDeep at) = fault.Script (script.Parse (syntax.TooDeep at))
 parse_fault (syntax.TooManyStatements at) = fault.Script (script.Parse (syntax.TooManyStatements at))
 parse_fault (syntax.NotInProfile at) = fault.Script (script.Parse (syntax.NotInProfile at))
+
+-- the row numbers of six entries, of which only the first one has a row
+abbrev pub only : ℕ → List ℕ
+only row = row ∷ 0 ∷ 0 ∷ 0 ∷ 0 ∷ 0 ∷ []
+
+-- the fault of a run in which the rows of a table aren't ranked, by this predicate or by the numbers in this column
+abbrev pub index_fault : List ℕ → IndexFault → Fault
+index_fault predicate (index.BadScore row got max) = fault.BadScore predicate (only row) got max
+index_fault predicate index.Probe = fault.Probe predicate
+index_fault predicate index.Memory = fault.Memory
+
+abbrev pub or_index_fault : {A : Type 0} → List ℕ → Result A IndexFault → Result A Fault
+or_index_fault predicate (Ok a) = Ok a
+or_index_fault predicate (Err why) = Err (index_fault predicate why)
 
 -- why a file was not read
 abbrev pub fetch_text : FetchFault → List ℕ
@@ -112,10 +128,6 @@ script_text (script.Parse why) = codes "parse " ++ parse_text why
 script_text (script.Bind why at) = codes "bind " ++ why_text why ++ codes " at " ++ decimal at
 script_text (script.Room why at) = codes "catalogue " ++ room_text why ++ codes " at " ++ decimal at
 script_text (script.NotBuilt statement) = codes "not built statement " ++ decimal statement
-
--- the row numbers of six entries, of which only the first one has a row
-abbrev pub only : ℕ → List ℕ
-only row = row ∷ 0 ∷ 0 ∷ 0 ∷ 0 ∷ 0 ∷ []
 
 -- the row numbers without the zeros, which stand for no row
 abbrev pub numbers_of : List ℕ → List ℕ

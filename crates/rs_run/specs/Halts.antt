@@ -30,12 +30,12 @@ pub data Halt : Type 0 where
   CallFailed : Call → Halt
 
 -- what the halt itself did: a put that failed put its part, and a fetch or a call that failed was one
-abbrev pub last_of : Halt → List Event
-last_of Ended = []
-last_of NoMemory = []
-last_of (PutFailed part) = Put part ∷ []
-last_of (FetchFailed name) = Fetch name ∷ []
-last_of (CallFailed call) = Score call ∷ []
+abbrev pub halt_events : Halt → List Event
+halt_events Ended = []
+halt_events NoMemory = []
+halt_events (PutFailed part) = Put part ∷ []
+halt_events (FetchFailed name) = Fetch name ∷ []
+halt_events (CallFailed call) = Score call ∷ []
 
 -- the fault of a run that halts so
 abbrev pub fault_of : Run → Halt → Option Fault
@@ -60,4 +60,4 @@ pub record Did (run : Run) (halt : Halt) (old new : World) : Type 0 where
   pub rest : List Event
   pub split : run.events ≡ done ++ rest
   pub halts : HaltsAt halt rest old new
-  pub all : Done (done ++ last_of halt) old new
+  pub all : Done (done ++ halt_events halt) old new

@@ -49,9 +49,9 @@ HasCause run answer old new =
     ⊎ (((answer ≡ status.Read) × Faulted old.files new.files) ⊎ ((answer ≡ status.Probe) × Faulted old.scorer.outside new.scorer.outside)))
 
 -- the run ended as its definition says, after all its events, or there was no memory
-pub record Ends (run : Run) (status : Status) (old new : World) : Type 0 where
+pub record RunEnds (run : Run) (status : Status) (old new : World) : Type 0 where
   pub status_is : status ≡ status_of run.fault
   pub all : Done run.events old new
 
 abbrev pub EndsOrNoMemory : Run → Status → World → World → Type 0
-EndsOrNoMemory run status old new = Ends run status old new ⊎ (status ≡ status_of (Some Memory))
+EndsOrNoMemory run status old new = RunEnds run status old new ⊎ (status ≡ status_of (Some Memory))

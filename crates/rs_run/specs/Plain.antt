@@ -4,7 +4,7 @@ use Rattle.std.specs.Str.{bytes_eq}
 use Rattle.rs_value.specs.Text.{text_of}
 use Rattle.rs_value.specs.declared.text.TextFault.{TextFault}
 use Rattle.rs_value.specs.declared.text.TextFault.TheVariants as text
-use Rattle.rs_table.specs.Reading.{◌>>=◌}
+use Rattle.rs_value.specs.Results.{◌>>=◌}
 use Rattle.rs_lex.specs.Spelling as lex
 use Rattle.rs_lex.specs.declared.fault.LexFault.{LexFault}
 use Rattle.rs_lex.specs.declared.token.Token.{Token}
@@ -54,7 +54,7 @@ pub record HasStatements (script : List ℕ) (commands : List Command) : Type 0 
 
 -- what the text of a script does: the lexer comes first, then the parser, and then the statements, which have these runs
 pub data TextRuns (statements : List Command → Run → Type 0) (script : List ℕ) : Run → Type 0 where
-  unlexed : (fault : LexFault) → lex.Refuses 0 0 script fault → TextRuns statements script (fails (Script (Lex fault)))
+  unlexed : (fault : LexFault) → lex.RefusesBytes 0 0 script fault → TextRuns statements script (fails (Script (Lex fault)))
   unparsed : (tokens : List Token) (fault : SyntaxFault) → HasTokens script tokens → Refuses script tokens fault → TextRuns statements script (fails (Script (Parse fault)))
   runs : (commands : List Command) (run : Run) → HasStatements script commands → statements commands run → TextRuns statements script run
 

@@ -1,20 +1,19 @@
 -- The statements of a script, one after another: what each does, and the catalogue that it leaves.
-use Rattle.std.specs.Prelude.{ℕ, ◌≡◌, ◌+◌, List, [], ◌∷◌, ◌++◌, map, Option, Result, Ok, Err}
+use Rattle.std.specs.Prelude.{ℕ, ◌≡◌, List, [], ◌∷◌, ◌++◌, map, Option, Result, Ok, Err}
 use Rattle.rs_rank.specs.declared.answer.Answer.{Answer}
 use Rattle.rs_rank.specs.declared.scored_row.ScoredRow.{ScoredRow}
-use Rattle.rs_lines.specs.Row.{line_of}
 use Rattle.rs_syntax.specs.declared.name.Name.{Name}
 use Rattle.rs_syntax.specs.Syntax.{Command, CreateTable, CreatePredicate, CreateRankIndex, Explain, ExplainAnalyze}
 use Rattle.rs_syntax.specs.Syntax as syntax
 use Rattle.rs_table.specs.Column.{Column}
-use Rattle.rs_table.specs.Reading.{◌>>=◌, table_of}
+use Rattle.rs_value.specs.Results.{◌>>=◌}
+use Rattle.rs_table.specs.Reading.{table_of}
 use Rattle.rs_expr.specs.InOrder.{Inquiry}
 use Rattle.rs_expr.specs.Scoring.{Answering}
 use Rattle.rs_catalog.specs.Catalogue.{Catalogue, empty, room_for, with_index, with_predicate, with_table}
 use Rattle.rs_catalog.specs.Indexes.{making, predicate_for}
 use Rattle.rs_catalog.specs.declared.index.IndexDef.{IndexDef}
 use Rattle.rs_catalog.specs.declared.index.IndexFault.{IndexFault}
-use Rattle.rs_catalog.specs.declared.index.IndexFault.TheVariants as index
 use Rattle.rs_catalog.specs.declared.room.RoomFault.{RoomFault}
 use Rattle.rs_catalog.specs.declared.room.What.{What}
 use Rattle.rs_catalog.specs.declared.room.What.TheVariants as what
@@ -34,7 +33,8 @@ use Rattle.rs_run.specs.declared.fault.Fault.{Fault}
 use Rattle.rs_run.specs.declared.fault.Fault.TheVariants.{BadScore, Memory, Probe, Script}
 use Rattle.rs_run.specs.declared.script_fault.ScriptFault.TheVariants.{Bind, Room, NotBuilt}
 use Rattle.rs_run.specs.Content.{content_of}
-use Rattle.rs_run.specs.Faults.{only}
+use Rattle.rs_run.specs.Lines.{rank_lines}
+use Rattle.rs_run.specs.Faults.{or_index_fault}
 use Rattle.rs_run.specs.Run.{Fetch, Finds, Put, Run, calls_in}
 use Rattle.rs_run.specs.Sequence.{RunOf, Step, still}
 use Rattle.rs_run.specs.Top.{or_table_fault, table_limit}
@@ -70,16 +70,9 @@ table_step catalogue name file columns there = record {
     Ok (with_table name.text table catalogue));
 }
 
--- the fault of a run in which an index of this predicate isn't made
-abbrev pub index_fault : List ℕ → IndexFault → Fault
-index_fault predicate (index.BadScore row got max) = BadScore predicate (only row) got max
-index_fault predicate index.Probe = Probe predicate
-index_fault predicate index.Memory = Memory
-
 -- the index joins, with its rows by score; a bad score of a row ends the run
 abbrev pub index_outcome : Catalogue → IndexDef → Result (List ScoredRow) IndexFault → Result Catalogue Fault
-index_outcome catalogue def (Ok ranking) = Ok (with_index def ranking catalogue)
-index_outcome catalogue def (Err why) = Err (index_fault (predicate_for catalogue def).name why)
+index_outcome catalogue def ranking = or_index_fault (predicate_for catalogue def).name ranking >>= λ ranking. Ok (with_index def ranking catalogue)
 
 abbrev pub index_step : Answering → Catalogue → IndexDef → Step Catalogue
 index_step answer catalogue def =
@@ -90,11 +83,6 @@ index_step answer catalogue def =
 abbrev pub predicate_outcome : Catalogue → Name → Command → Result Catalogue Fault
 predicate_outcome catalogue name command =
     with_room catalogue what.Predicate name (predicate_of command) >>= λ predicate. Ok (with_predicate predicate catalogue)
-
--- the lines of the rows of an answer, from this rank on
-abbrev pub rank_lines : ℕ → List Answer → List (List ℕ)
-rank_lines rank [] = []
-rank_lines rank (row ∷ rest) = line_of rank row.score row.values ∷ rank_lines (rank + 1) rest
 
 -- the lines of an answer, the first one at rank 1; where a fault came, there is none
 abbrev pub answer_lines : Result (List Answer) PlainFault → List (List ℕ)

@@ -1,19 +1,23 @@
 -- The word `top`: the first rows of a table by the number in a column.
-use Rattle.std.specs.Prelude.{ℕ, ℤ, pos, ◌+◌, List, [], ◌∷◌, take, Option, unwrap_or, option_map, slice_get, Result, Ok, Err, if◌then◌else◌}
+use Rattle.std.specs.Prelude.{ℕ, ℤ, pos, List, map, take, Option, unwrap_or, option_map, slice_get, Result, Ok, Err}
 use Rattle.rs_value.specs.declared.value.Value.{Value}
 use Rattle.rs_value.specs.declared.value.Value.TheVariants.{Int, Text}
 use Rattle.rs_table.specs.declared.fault.TableFault.{TableFault}
 use Rattle.rs_table.specs.Column.{place_of}
 use Rattle.rs_table.specs.Relation.{Relation}
-use Rattle.rs_table.specs.Reading.{◌>>=◌, header_of, table_of}
+use Rattle.rs_value.specs.Results.{◌>>=◌}
+use Rattle.rs_table.specs.Reading.{header_of, table_of}
 use Rattle.rs_rank.specs.Stable.{stable}
-use Rattle.rs_expr.specs.Scores.{is_score, score_of}
-use Rattle.rs_lines.specs.Row.{line_of}
+use Rattle.rs_rank.specs.declared.answer.Answer.{Answer}
+use Rattle.rs_rank.specs.declared.scored_row.ScoredRow.{ScoredRow}
+use Rattle.rs_catalog.specs.Indexes.{row_at, scored_from}
+use Rattle.rs_catalog.specs.declared.index.IndexFault.{IndexFault}
 use Rattle.rs_run.specs.declared.fault.Fault.{Fault}
-use Rattle.rs_run.specs.declared.fault.Fault.TheVariants.{Table, BadScore}
-use Rattle.rs_run.specs.Faults.{only}
+use Rattle.rs_run.specs.declared.fault.Fault.TheVariants.{Table}
+use Rattle.rs_run.specs.Faults.{only, or_index_fault}
 use Rattle.rs_run.specs.Words.{TopWords}
 use Rattle.rs_run.specs.Content.{content_of}
+use Rattle.rs_run.specs.Lines.{rank_lines}
 
 -- the most bytes of a table's file
 abbrev pub table_limit : ℕ
@@ -33,35 +37,29 @@ number_in (Text t) = pos 0
 abbrev pub number_at : ℕ → List Value → ℤ
 number_at place values = unwrap_or (option_map number_in (slice_get values place)) (pos 0)
 
--- the score of a row by the number at a place
-abbrev pub score_at : ℕ → List Value → ℕ
-score_at place values = score_of (number_at place values)
+-- the rows of a table, each with the number in a column as its score, or the first row whose number is no score
+abbrev pub scored_rows : List ℕ → ℕ → Relation → Result (List ScoredRow) IndexFault
+scored_rows column max table = scored_from (number_at (unwrap_or (place_of column table.schema) 0)) max 1 table.rows
 
--- the rows, from the row of this number on, or the first whose number is no score
-abbrev pub scored_from : List ℕ → ℕ → ℕ → ℕ → List (List Value) → Result (List (List Value)) Fault
-scored_from column max place row [] = Ok []
-scored_from column max place row (values ∷ rest) =
-    if is_score max (number_at place values) then (do
-      rows ← scored_from column max place (row + 1) rest
-      Ok (values ∷ rows))
-    else Err (BadScore column (only row) (number_at place values) max)
-
--- the lines of rows, from this rank on
-abbrev pub lines_from : ℕ → ℕ → List (List Value) → List (List ℕ)
-lines_from rank place [] = []
-lines_from rank place (values ∷ rest) = line_of rank (score_at place values) values ∷ lines_from (rank + 1) place rest
+-- a row of a table with its score, as an answer of a query over that table alone
+abbrev pub row_answer : Relation → ScoredRow → Answer
+row_answer table scored = record {
+  ids = record { block = 1; mask = 1; rows = only scored.row };
+  score = scored.score;
+  values = row_at table.rows scored.row;
+}
 
 -- the first rows by score, greatest first, a tie to the earlier row
-abbrev pub best_rows : ℕ → ℕ → List (List Value) → List (List Value)
-best_rows count place rows = take count (stable (score_at place) rows)
+abbrev pub best_rows : List ℕ → ℕ → ℕ → Relation → Result (List Answer) Fault
+best_rows column max count table = do
+  scored ← or_index_fault column (scored_rows column max table)
+  Ok (map (row_answer table) (take count (stable (λ row. row.score) scored)))
 
--- the lines of a table's first rows by the number in a column, or the first row whose number is no score
+-- the lines of a table's first rows, or the first row whose number is no score
 abbrev pub ranked_lines : TopWords → Relation → Result (List (List ℕ)) Fault
-ranked_lines top table =
-    let place = unwrap_or (place_of top.column table.schema) 0 in
-    (do
-      rows ← scored_from top.column top.max place 1 table.rows
-      Ok (lines_from 1 place (best_rows top.count place rows)))
+ranked_lines top table = do
+  rows ← best_rows top.column top.max top.count table
+  Ok (rank_lines 1 rows)
 
 -- the table of a file's bytes, by its own header, in which this column is of numbers
 abbrev pub named_table : List ℕ → List ℕ → Result Relation TableFault

@@ -8,7 +8,7 @@ ghost use Rattle.rs_run.specs.Words.{NoForm, form_of};
 ghost use Rattle.rs_run.specs.World.{KeepsWorld, NoneFailed, World, world};
 
 use crate::fault::Fault;
-use crate::plain::plain;
+use crate::plain::run_script;
 use crate::report::report;
 use crate::status::Status;
 use crate::top::top;
@@ -86,7 +86,7 @@ fn answer<F: Files, S: Scorer, O: Sink>(
             files,
             out,
         ),
-        Some(Command::Plain(script)) => plain(alloc, script, files, scorer, out),
+        Some(Command::Plain(script)) => run_script(alloc, script, files, scorer, out),
         None => Err(Fault::Usage),
     }
 }

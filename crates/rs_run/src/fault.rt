@@ -1,10 +1,11 @@
 ghost use Rattle.std.specs.Prelude.{◌≡◌, Some, IfOk};
 ghost use Rattle.std.specs.String.{string_bytes};
-ghost use Rattle.rs_run.specs.Faults.{fault_line, fetch_text, numbers_of, only, spaced, status_of, table_text};
+ghost use Rattle.rs_run.specs.Faults.{fault_line, fetch_text, index_fault, numbers_of, only, spaced, status_of, table_text};
 
 use crate::script_fault::ScriptFault;
 use crate::status::Status;
 use rs_bind::BindFault;
+use rs_catalog::IndexFault;
 use rs_lex::LexFault;
 use rs_outside::FetchFault;
 use rs_syntax::SyntaxFault;
@@ -207,6 +208,22 @@ pub fn only_row(row: u32) -> [u32; 6]
     ensures { result ≡ only row }
 {
     [row, 0, 0, 0, 0, 0]
+}
+
+/// The fault of a run in which the rows of a table aren't ranked, by this predicate or by the numbers in this column.
+pub fn index_fault(predicate: Text, why: IndexFault) -> Fault
+    ensures { result ≡ index_fault predicate why }
+{
+    match why {
+        IndexFault::BadScore { row, got, max } => Fault::BadScore {
+            predicate,
+            rows: only_row(row),
+            got,
+            max,
+        },
+        IndexFault::Probe => Fault::Probe { predicate },
+        IndexFault::Memory => Fault::Memory,
+    }
 }
 
 /// The line of a script that ends early.

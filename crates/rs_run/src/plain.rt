@@ -25,7 +25,7 @@ use std::alloc::Global;
 const BYTE_ORDER_MARK: &[u8] = b"\xEF\xBB\xBF";
 
 /// Does what a script says, statement by statement, up to the first fault.
-pub fn plain<F: Files, S: Scorer, O: Sink>(
+pub fn run_script<F: Files, S: Scorer, O: Sink>(
     alloc: Global,
     name: &Text,
     files: &mut F,
@@ -37,10 +37,7 @@ pub fn plain<F: Files, S: Scorer, O: Sink>(
         (record beside { files = F.state files.old; scorer = S.state scorer.old; out = O.state out.old })
         (record beside { files = F.state files.new; scorer = S.state scorer.new; out = O.state out.new }) }
 {
-    let script = match fetch_script(alloc, name, files) {
-        Ok(script) => script,
-        Err(fault) => return Err(fault),
-    };
+    let script = fetch_script(alloc, name, files)?;
     run_text(alloc, &script, files, scorer, out)
 }
 
@@ -49,10 +46,7 @@ fn fetch_script<F: Files>(alloc: Global, name: &Text, files: &mut F) -> Result<T
     ensures fetches { FetchesFile name.now result (IsSource name.now) (F.state files.old) (F.state files.new) }
     ensures small { IfOk result (λ script. length script ≤ 1048576) }
 {
-    let bytes = match fetch_file(alloc, name, MOST_BYTES, files) {
-        Ok(bytes) => bytes,
-        Err(fault) => return Err(fault),
-    };
+    let bytes = fetch_file(alloc, name, MOST_BYTES, files)?;
     script_of(alloc, &bytes)
 }
 

@@ -1,12 +1,28 @@
 ghost use Rattle.std.specs.Prelude.{[], ◌∷◌};
+ghost use Rattle.rs_run.specs.Lines.{rank_lines};
 ghost use Rattle.rs_run.specs.Parts.Steps.{Ran, lines_run};
 ghost use Rattle.rs_run.specs.World.{World};
 
 use crate::fault::Fault;
+use rs_lines::row_line;
 use rs_outside::{Sink, SinkFault};
+use rs_rank::Answer;
+use std::alloc::Global;
+
+/// Puts the lines of rows, ranked from 1, each in one put before the next row is looked at.
+pub fn put_rows<O: Sink>(alloc: Global, rows: &[Answer], out: &mut O) -> Result<(), Fault>
+    ensures { (beside : World) → Ran (lines_run (rank_lines 1 rows.now)) result
+        (record beside { out = O.state out.old }) (record beside { out = O.state out.new }) }
+{
+    for (index, row) in rows.iter().enumerate() {
+        let line = row_line(alloc, index as u128 + 1, row.score, row.values.items())?;
+        put_line(&line, out)?;
+    }
+    Ok(())
+}
 
 /// Puts a line on standard output.
-pub fn put_line<O: Sink>(line: &[u8], out: &mut O) -> Result<(), Fault>
+fn put_line<O: Sink>(line: &[u8], out: &mut O) -> Result<(), Fault>
     ensures { (beside : World) → Ran (lines_run (line.now ∷ [])) result (record beside { out = O.state out.old }) (record beside { out = O.state out.new }) }
 {
     match out.put(line) {

@@ -1,24 +1,21 @@
-ghost use Rattle.std.specs.Prelude.{◌≡◌, ◌⊎◌, ◌<◌, IfErr, IfOk, IfSome, length};
+ghost use Rattle.std.specs.Prelude.{◌≡◌, ◌⊎◌, ◌<◌, IfSome, length};
 ghost use Rattle.rs_syntax.specs.Syntax.{query_of};
-ghost use Rattle.rs_lines.specs.Row.{line_of};
 ghost use Rattle.rs_query.specs.Answers.{predicate_at};
 ghost use Rattle.rs_plain.specs.Results.{NamesCalled};
 ghost use Rattle.rs_query.specs.declared.query.Query.{Query};
 ghost use Rattle.rs_bind.specs.Queries.{bound_query};
 ghost use Rattle.rs_syntax.specs.Written.{IsWrittenQuery};
-ghost use Rattle.rs_run.specs.Parts.Steps.{Leaves, Ran, Stepped, lines_run};
-ghost use Rattle.rs_run.specs.Statements.{Plainly, explain_outcome, or_bind_fault, query_fault, query_step, rank_lines, refused_or};
+ghost use Rattle.rs_run.specs.Parts.Steps.{Leaves, Stepped};
+ghost use Rattle.rs_run.specs.Statements.{Plainly, explain_outcome, or_bind_fault, query_fault, query_step, refused_or};
 ghost use Rattle.rs_run.specs.World.{World};
 
 use crate::fault::Fault;
-use crate::put::put_line;
+use crate::put::put_rows;
 use rs_bind::bind;
 use rs_catalog::Catalog;
 use rs_expr::Scorer;
-use rs_lines::row_line;
 use rs_outside::Sink;
-use rs_plain::{PlainFault, plain};
-use rs_rank::Answer;
+use rs_plain::{PlainFault, answer_plainly};
 use rs_syntax::Select;
 use rs_value::Text;
 use std::alloc::Global;
@@ -37,15 +34,12 @@ pub fn run_query<S: Scorer, O: Sink>(
         catalog.now result
         (record beside { scorer = S.state scorer.old; out = O.state out.old }) (record beside { scorer = S.state scorer.new; out = O.state out.new }) }
 {
-    let query = match bind(alloc, catalog, select) {
-        Ok(query) => query,
-        Err(why) => return Err(Fault::from(why)),
-    };
-    let rows = match plain(alloc, catalog, &query, scorer) {
+    let query = bind(alloc, catalog, select)?;
+    let rows = match answer_plainly(alloc, catalog, &query, scorer) {
         Ok(rows) => rows,
         Err(why) => return Err(query_fault(catalog, why)),
     };
-    put_answers(alloc, &rows, out)
+    put_rows(alloc, &rows, out)
 }
 
 /// Binds the query of an EXPLAIN. Nothing is told of it, and no scorer is called.
@@ -53,10 +47,8 @@ pub fn explain_query(alloc: Global, select: &Select, catalog: &Catalog) -> Resul
     requires written { IsWrittenQuery (query_of select.now) }
     ensures { Leaves (explain_outcome catalog.now (query_of select.now)) catalog.now result }
 {
-    match bind(alloc, catalog, select) {
-        Ok(_) => Ok(()),
-        Err(why) => Err(Fault::from(why)),
-    }
+    bind(alloc, catalog, select)?;
+    Ok(())
 }
 
 /// The fault of a query that has no answer, with the name of the predicate.
@@ -96,30 +88,4 @@ fn predicate_name(catalog: &Catalog, number: u8) -> Option<Text>
     ensures { IfSome result (λ name. name ≡ (predicate_at catalog.now number).name) }
 {
     catalog.predicate(number).name().copy().ok()
-}
-
-/// Puts the lines of the rows of an answer, ranked from 1, each in one put before the next row is looked at.
-fn put_answers<O: Sink>(alloc: Global, rows: &[Answer], out: &mut O) -> Result<(), Fault>
-    ensures { (beside : World) → Ran (lines_run (rank_lines 1 rows.now)) result
-        (record beside { out = O.state out.old }) (record beside { out = O.state out.new }) }
-{
-    for (index, row) in rows.iter().enumerate() {
-        let line = match answer_line(alloc, index + 1, row) {
-            Ok(line) => line,
-            Err(fault) => return Err(fault),
-        };
-        match put_line(&line, out) {
-            Ok(()) => {}
-            Err(fault) => return Err(fault),
-        }
-    }
-    Ok(())
-}
-
-/// The printed line of a row.
-fn answer_line(alloc: Global, rank: usize, row: &Answer) -> Result<Vec<u8>, Fault>
-    ensures ok { IfOk result (λ line. line.items ≡ line_of rank row.now.score row.now.values) }
-    ensures err { IfErr result (λ fault. fault ≡ Fault.Memory) }
-{
-    Ok(row_line(alloc, rank as u128, row.score, row.values.items())?)
 }

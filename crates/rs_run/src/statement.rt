@@ -10,15 +10,15 @@ ghost use Rattle.rs_catalog.specs.Indexes.{IsIndex};
 ghost use Rattle.rs_catalog.specs.declared.room.What.TheVariants as what;
 ghost use Rattle.rs_run.specs.Parts.Steps.{FetchesFile, IsIndexNamed, IsPredicateNamed, IsReadTable, Leaves, Runs, Stepped};
 ghost use Rattle.rs_run.specs.Run.{finds_in};
-ghost use Rattle.rs_run.specs.Statements.{Does, DoesTable, Plainly, StatementsRun, index_fault, index_step, or_room_fault, predicate_outcome, refused_or, with_room};
+ghost use Rattle.rs_run.specs.Statements.{Does, DoesTable, Plainly, StatementsRun, index_step, or_room_fault, predicate_outcome, refused_or, with_room};
 ghost use Rattle.rs_run.specs.World.{World};
 
-use crate::fault::{Fault, only_row};
+use crate::fault::{Fault, index_fault};
 use crate::fetch::{fetch_file, table_fault};
 use crate::query::{explain_query, run_query};
 use crate::script_fault::ScriptFault;
 use rs_bind::{bind_index, bind_predicate, bind_table};
-use rs_catalog::{Catalog, IndexDef, IndexFault, What};
+use rs_catalog::{Catalog, IndexDef, What};
 use rs_expr::{Predicate, Scorer};
 use rs_outside::{Files, Sink};
 use rs_syntax::{Name, Statement};
@@ -41,7 +41,7 @@ pub fn run_statements<F: Files, S: Scorer, O: Sink>(
 {
     let mut catalog = Catalog::new(alloc);
     for (index, statement) in statements.iter().enumerate() {
-        match run_statement(
+        run_statement(
             alloc,
             index + 1,
             statement,
@@ -49,10 +49,7 @@ pub fn run_statements<F: Files, S: Scorer, O: Sink>(
             files,
             scorer,
             out,
-        ) {
-            Ok(()) => {}
-            Err(fault) => return Err(fault),
-        }
+        )?;
     }
     Ok(())
 }
@@ -116,14 +113,9 @@ fn table_schema(
     ensures gives { Gives Fault.Memory (with_room catalog.now what.Table name.now (columns_of columns.now)) result }
     ensures room { IfOk result (λ _. room_for what.Table name.now.text catalog.now ≡ Ok tt) }
 {
-    let schema = match bind_table(alloc, columns) {
-        Ok(schema) => schema,
-        Err(why) => return Err(Fault::from(why)),
-    };
-    match room(catalog, What::Table, name) {
-        Ok(()) => Ok(schema),
-        Err(fault) => Err(fault),
-    }
+    let schema = bind_table(alloc, columns)?;
+    room(catalog, What::Table, name)?;
+    Ok(schema)
 }
 
 /// The table in a file.
@@ -135,10 +127,7 @@ fn read_table<F: Files>(
 ) -> Result<Table, Fault>
     ensures { FetchesFile file.now result (IsReadTable file.now schema) (F.state files.old) (F.state files.new) }
 {
-    let bytes = match fetch_file(alloc, file, TABLE_LIMIT, files) {
-        Ok(bytes) => bytes,
-        Err(fault) => return Err(fault),
-    };
+    let bytes = fetch_file(alloc, file, TABLE_LIMIT, files)?;
     match Table::read(alloc, schema, &bytes) {
         Ok(table) => Ok(table),
         Err(why) => Err(table_fault(file, why)),
@@ -159,21 +148,11 @@ fn create_table<F: Files>(
         (DoesTable (finds_in (F.state files.old).told) catalog.old name.now file.now (with_room catalog.old what.Table name.now (columns_of columns.now)))
         catalog.new result (record beside { files = F.state files.old }) (record beside { files = F.state files.new }) }
 {
-    let schema = match table_schema(alloc, name, columns, catalog) {
-        Ok(schema) => schema,
-        Err(fault) => return Err(fault),
-    };
-    let table = match read_table(alloc, file, schema, files) {
-        Ok(table) => table,
-        Err(fault) => return Err(fault),
-    };
-    let Ok(name) = name.text.copy() else {
-        return Err(Fault::Memory);
-    };
-    match catalog.add_table(name, table) {
-        Ok(()) => Ok(()),
-        Err(_) => Err(Fault::Memory),
-    }
+    let schema = table_schema(alloc, name, columns, catalog)?;
+    let table = read_table(alloc, file, schema, files)?;
+    let name = name.text.copy()?;
+    catalog.add_table(name, table)?;
+    Ok(())
 }
 
 /// The predicate of a statement for whose name the catalogue has room.
@@ -188,14 +167,9 @@ fn roomy_predicate(
     ensures gives { Gives Fault.Memory (with_room catalog.now what.Predicate name.now (predicate_of (command_of statement.now))) result }
     ensures room { IfOk result (λ predicate. room_for what.Predicate predicate.name catalog.now ≡ Ok tt) }
 {
-    let predicate = match bind_predicate(alloc, statement) {
-        Ok(predicate) => predicate,
-        Err(why) => return Err(Fault::from(why)),
-    };
-    match room(catalog, What::Predicate, name) {
-        Ok(()) => Ok(predicate),
-        Err(fault) => Err(fault),
-    }
+    let predicate = bind_predicate(alloc, statement)?;
+    room(catalog, What::Predicate, name)?;
+    Ok(predicate)
 }
 
 /// Makes a predicate. Names and types count first, then whether there is room for the name.
@@ -209,14 +183,9 @@ fn create_predicate(
     requires written { IsWritten (command_of statement.now) }
     ensures { Leaves (predicate_outcome catalog.old name.now (command_of statement.now)) catalog.new result }
 {
-    let predicate = match roomy_predicate(alloc, name, statement, catalog) {
-        Ok(predicate) => predicate,
-        Err(fault) => return Err(fault),
-    };
-    match catalog.add_predicate(predicate) {
-        Ok(()) => Ok(()),
-        Err(_) => Err(Fault::Memory),
-    }
+    let predicate = roomy_predicate(alloc, name, statement, catalog)?;
+    catalog.add_predicate(predicate)?;
+    Ok(())
 }
 
 /// What the rank index of a statement is of, where the catalogue has room for its name.
@@ -232,14 +201,9 @@ fn roomy_index(
     ensures room { IfOk result (λ def. room_for what.Index def.name catalog.now ≡ Ok tt) }
     ensures fits { IfOk result (λ def. IsIndex catalog.now def) }
 {
-    let def = match bind_index(alloc, catalog, statement) {
-        Ok(def) => def,
-        Err(why) => return Err(Fault::from(why)),
-    };
-    match room(catalog, What::Index, name) {
-        Ok(()) => Ok(def),
-        Err(fault) => Err(fault),
-    }
+    let def = bind_index(alloc, catalog, statement)?;
+    room(catalog, What::Index, name)?;
+    Ok(def)
 }
 
 /// Makes a rank index. Names and types count first, then whether there is room for the name, and then the scores.
@@ -257,32 +221,10 @@ fn create_index<S: Scorer>(
         (with_room catalog.old what.Index name.now (index_def_of catalog.old (command_of statement.now))))
         catalog.new result (record beside { scorer = S.state scorer.old }) (record beside { scorer = S.state scorer.new }) }
 {
-    let def = match roomy_index(alloc, name, statement, catalog) {
-        Ok(def) => def,
-        Err(fault) => return Err(fault),
-    };
-    let predicate = match catalog.predicate(def.predicate).name().copy() {
-        Ok(predicate) => predicate,
-        Err(_) => return Err(Fault::Memory),
-    };
+    let def = roomy_index(alloc, name, statement, catalog)?;
+    let predicate = catalog.predicate(def.predicate).name().copy()?;
     match catalog.add_index(alloc, def, scorer) {
         Ok(()) => Ok(()),
         Err(why) => Err(index_fault(predicate, why)),
-    }
-}
-
-/// The fault of a rank index of this predicate that wasn't made.
-fn index_fault(predicate: Text, why: IndexFault) -> Fault
-    ensures { result ≡ index_fault predicate why }
-{
-    match why {
-        IndexFault::BadScore { row, got, max } => Fault::BadScore {
-            predicate,
-            rows: only_row(row),
-            got,
-            max,
-        },
-        IndexFault::Probe => Fault::Probe { predicate },
-        IndexFault::Memory => Fault::Memory,
     }
 }

@@ -18,8 +18,8 @@ use Rattle.rs_rank.specs.Masks.{mask_of}
 use Rattle.rs_rank.specs.Rows.{HasSum, HaveOtherIds, key_of}
 use Rattle.rs_rank.specs.Weights.{IsWeights, most_evaluated, sum_inside}
 use Rattle.rs_rank.proofs.WeightFacts.{sum_inside-one}
-use Rattle.rs_catalog.specs.Indexes.{InOrder, IsEntry, IsRanking, Precedes, RowsDiffer}
-use Rattle.rs_scan.specs.Scans.{IsEntryNumber, entries_in, index_rows, row_of, scored}
+use Rattle.rs_catalog.specs.Indexes.{EntriesInOrder, IsIndexEntry, IsRanking, EntryPrecedes, RowsDiffer}
+use Rattle.rs_scan.specs.Scans.{IsEntryNumber, entries_in, index_rows, entry_row, scored}
 use Rattle.rs_scan.proofs.ScanFacts.{greater-sum, ids-of_one, other-ids, same-sum}
 
 -- whether an entry is in a view
@@ -35,14 +35,14 @@ entries_in-all rows (e ∷ ranking) all =
 
 pub entries_in-ranking : (size max : ℕ) (ranking : List ScoredRow) → IsRanking size max ranking → entries_in size ranking ≡ ranking
 entries_in-ranking size max ranking is =
-    entries_in-all size ranking (each-weaker (IsEntry size max) (λ (e : ScoredRow). e.row ≤ size) (λ e entry. entry.within) ranking is.each)
+    entries_in-all size ranking (each-weaker (IsIndexEntry size max) (λ (e : ScoredRow). e.row ≤ size) (λ e entry. entry.within) ranking is.each)
 
 -- entries of a view stand as those of the index
-InOrder-view : (rows : ℕ) (ranking : List ScoredRow) → InOrder ranking → InOrder (entries_in rows ranking)
-InOrder-view rows [] ordered = tt
-InOrder-view rows (e ∷ ranking) ordered = go (is_in rows e) (InOrder-view rows ranking ordered.1) where
-  go : (b : Bool) → InOrder (entries_in rows ranking) → InOrder (cond b (e ∷ entries_in rows ranking) (entries_in rows ranking))
-  go true rest = (each-filter (Precedes e) (is_in rows) ranking ordered.0, rest)
+EntriesInOrder-view : (rows : ℕ) (ranking : List ScoredRow) → EntriesInOrder ranking → EntriesInOrder (entries_in rows ranking)
+EntriesInOrder-view rows [] ordered = tt
+EntriesInOrder-view rows (e ∷ ranking) ordered = go (is_in rows e) (EntriesInOrder-view rows ranking ordered.1) where
+  go : (b : Bool) → EntriesInOrder (entries_in rows ranking) → EntriesInOrder (cond b (e ∷ entries_in rows ranking) (entries_in rows ranking))
+  go true rest = (each-filter (EntryPrecedes e) (is_in rows) ranking ordered.0, rest)
   go false rest = rest
 
 RowsDiffer-view : (rows : ℕ) (ranking : List ScoredRow) → RowsDiffer ranking → RowsDiffer (entries_in rows ranking)
@@ -54,28 +54,28 @@ RowsDiffer-view rows (e ∷ ranking) differ = go (is_in rows e) (RowsDiffer-view
 
 module _ (block entry weight : ℕ) (is_entry : IsEntryNumber entry) where
   -- an entry that comes before another one gives a row that comes before its row
-  precedes-scored : (weights : Weights) (terms : ℕ) → 1 ≤ weight → (a b : ScoredRow) → Precedes a b
+  precedes-scored : (weights : Weights) (terms : ℕ) → 1 ≤ weight → (a b : ScoredRow) → EntryPrecedes a b
       → key_cmp (key_of weights terms (scored block entry weight a)) (key_of weights terms (scored block entry weight b)) ≡ Less
   precedes-scored weights terms some a b before =
       elim before [
         | inl less ↦ greater-sum block entry is_entry weights terms a.row b.row (weight * a.score) (weight * b.score) (mul-lt-mul_of_pos_left less some)
-        | inr both ↦ subst (λ score. key_cmp (key_of weights terms (row_of block entry a.row (weight * a.score))) (key_of weights terms (row_of block entry b.row (weight * score))) ≡ Less) both.0
+        | inr both ↦ subst (λ score. key_cmp (key_of weights terms (entry_row block entry a.row (weight * a.score))) (key_of weights terms (entry_row block entry b.row (weight * score))) ≡ Less) both.0
             (same-sum block entry is_entry weights terms a.row b.row (weight * a.score) both.1)
       ]
 
-  climbs-scored : (weights : Weights) (terms : ℕ) → 1 ≤ weight → (entries : List ScoredRow) → InOrder entries
+  climbs-scored : (weights : Weights) (terms : ℕ) → 1 ≤ weight → (entries : List ScoredRow) → EntriesInOrder entries
       → Climbs key_cmp (key_of weights terms) (map (scored block entry weight) entries)
   climbs-scored weights terms some [] ordered = tt
   climbs-scored weights terms some (a ∷ entries) ordered = (
     each-map (λ row. key_cmp (key_of weights terms (scored block entry weight a)) (key_of weights terms row) ≡ Less) (scored block entry weight) entries
-        (each-weaker (Precedes a) (λ b. key_cmp (key_of weights terms (scored block entry weight a)) (key_of weights terms (scored block entry weight b)) ≡ Less)
+        (each-weaker (EntryPrecedes a) (λ b. key_cmp (key_of weights terms (scored block entry weight a)) (key_of weights terms (scored block entry weight b)) ≡ Less)
         (precedes-scored weights terms some a) entries ordered.0),
     climbs-scored weights terms some entries ordered.1,
   )
 
   pub index-climbs : (weights : Weights) (terms rows size max : ℕ) (ranking : List ScoredRow) → IsRanking size max ranking → 1 ≤ weight
       → Climbs key_cmp (key_of weights terms) (index_rows block entry weight rows ranking)
-  index-climbs weights terms rows size max ranking is some = climbs-scored weights terms some (entries_in rows ranking) (InOrder-view rows ranking is.ordered)
+  index-climbs weights terms rows size max ranking is some = climbs-scored weights terms some (entries_in rows ranking) (EntriesInOrder-view rows ranking is.ordered)
 
   -- ids of the entry
   pub index-ids : (rows : ℕ) (ranking : List ScoredRow) → AllByRecursion (λ row. IsIds row.ids) (index_rows block entry weight rows ranking)
@@ -128,7 +128,7 @@ pub index-sums : (weights : Weights) (block entry weight rows term size max : �
 index-sums weights block entry weight rows term size max ranking limits least most is same low =
     each-map (HasSum weights (mask_of term)) (scored block entry weight) (entries_in rows ranking)
     (each-filter (λ e. HasSum weights (mask_of term) (scored block entry weight e)) (is_in rows) ranking
-    (each-weaker (IsEntry size max) (λ e. HasSum weights (mask_of term) (scored block entry weight e))
+    (each-weaker (IsIndexEntry size max) (λ e. HasSum weights (mask_of term) (scored block entry weight e))
     (λ e is_entry.
     let whole = most-of_one weights term limits least most in
     let scored_low = is_entry.scored in

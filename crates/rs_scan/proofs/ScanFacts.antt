@@ -15,14 +15,14 @@ use Rattle.rs_rank.specs.declared.weights.Weights.{Weights}
 use Rattle.rs_rank.specs.Ids.{AreOtherIds, IsIds}
 use Rattle.rs_rank.specs.Keys.{ids_cmp, key_cmp}
 use Rattle.rs_rank.specs.Rows.{HasSum, HaveOtherIds, key_of}
-use Rattle.rs_scan.specs.Scans.{IsEntryNumber, row_of, rows_from}
+use Rattle.rs_scan.specs.Scans.{IsEntryNumber, entry_row, rows_from}
 
 -- no row yet
 abbrev zeros : List ℕ
 zeros = 0 ∷ 0 ∷ 0 ∷ 0 ∷ 0 ∷ 0 ∷ []
 
 -- the rows at the places of a table
-pub slice_get-rows_from : (block entry first count i : ℕ) → i < count → slice_get (rows_from block entry first count) i ≡ Some (row_of block entry (first + i) 0)
+pub slice_get-rows_from : (block entry first count i : ℕ) → i < count → slice_get (rows_from block entry first count) i ≡ Some (entry_row block entry (first + i) 0)
 slice_get-rows_from block entry first zero i within = absurd (omega arith)
 slice_get-rows_from block entry first (suc count) zero within = let e : first + 0 ≡ first = omega arith in rw e refl
 slice_get-rows_from block entry first (suc count) (suc i) within =
@@ -61,13 +61,13 @@ module _ (block entry : ℕ) (is_entry : IsEntryNumber entry) where
   place-within = let least = is_entry.least in let most = is_entry.most in omega arith
 
   -- rows of one entry with other numbers have other ids
-  pub other-ids : (a b sum other_sum : ℕ) → (a ≡ b → ⊥) → AreOtherIds (row_of block entry a sum).ids (row_of block entry b other_sum).ids
+  pub other-ids : (a b sum other_sum : ℕ) → (a ≡ b → ⊥) → AreOtherIds (entry_row block entry a sum).ids (entry_row block entry b other_sum).ids
   other-ids a b sum other_sum apart = λ same rows. apart (set-same zeros (entry - 1) a b place-within rows)
 
   -- the ids are those of the one entry
-  pub ids-of_one : (number sum : ℕ) → IsIds (row_of block entry number sum).ids
+  pub ids-of_one : (number sum : ℕ) → IsIds (entry_row block entry number sum).ids
   ids-of_one number sum = go entry is_entry.least is_entry.most where
-    go : (e : ℕ) → 1 ≤ e → e ≤ 6 → IsIds (row_of block e number sum).ids
+    go : (e : ℕ) → 1 ≤ e → e ≤ 6 → IsIds (entry_row block e number sum).ids
     go zero least most = absurd (omega arith)
     go (suc zero) least most = record { sized = refl; entries = omega arith; within = (λ even. cc, (λ even. refl, (λ even. refl, (λ even. refl, (λ even. refl, (λ even. refl, tt)))))) }
     go (suc (suc zero)) least most = record { sized = refl; entries = omega arith; within = (λ even. refl, (λ even. cc, (λ even. refl, (λ even. refl, (λ even. refl, (λ even. refl, tt)))))) }
@@ -78,24 +78,24 @@ module _ (block entry : ℕ) (is_entry : IsEntryNumber entry) where
     go (suc (suc (suc (suc (suc (suc (suc e))))))) least most = absurd (omega arith)
 
   -- rows of equal sums are ordered by their numbers
-  pub same-sum : (weights : Weights) (terms a b sum : ℕ) → a < b → key_cmp (key_of weights terms (row_of block entry a sum)) (key_of weights terms (row_of block entry b sum)) ≡ Less
+  pub same-sum : (weights : Weights) (terms a b sum : ℕ) → a < b → key_cmp (key_of weights terms (entry_row block entry a sum)) (key_of weights terms (entry_row block entry b sum)) ≡ Less
   same-sum weights terms a b sum less =
-      let key : ℕ → Key = λ n. key_of weights terms (row_of block entry n sum) in
+      let key : ℕ → Key = λ n. key_of weights terms (entry_row block entry n sum) in
       ap (λ o. ordering_then o (ids_cmp (key a).ids (key b).ids)) (number-itself (key a).bound)
       ∙ ap (λ o. ordering_then o (slice_cmp nat_cmp (key a).ids.rows (key b).ids.rows)) (number-itself block)
       ∙ set-ordered zeros (entry - 1) a b place-within
       ∙ sym (nat_cmp_is a b Less less)
 
   -- and the greater sum comes first
-  pub greater-sum : (weights : Weights) (terms a b sum other : ℕ) → other < sum → key_cmp (key_of weights terms (row_of block entry a sum)) (key_of weights terms (row_of block entry b other)) ≡ Less
+  pub greater-sum : (weights : Weights) (terms a b sum other : ℕ) → other < sum → key_cmp (key_of weights terms (entry_row block entry a sum)) (key_of weights terms (entry_row block entry b other)) ≡ Less
   greater-sum weights terms a b sum other less =
-      let left : Key = key_of weights terms (row_of block entry a sum) in
-      let right : Key = key_of weights terms (row_of block entry b other) in
+      let left : Key = key_of weights terms (entry_row block entry a sum) in
+      let right : Key = key_of weights terms (entry_row block entry b other) in
       ap (λ o. ordering_then o (ids_cmp left.ids right.ids)) (sym (nat_cmp_is right.bound left.bound Less (omega arith)))
 
   -- the rows of a table
   table-behind : (weights : Weights) (number first count : ℕ) → number < first
-      → AllByRecursion (ComesBefore key_cmp (key_of weights 0) (row_of block entry number 0)) (rows_from block entry first count)
+      → AllByRecursion (ComesBefore key_cmp (key_of weights 0) (entry_row block entry number 0)) (rows_from block entry first count)
   table-behind weights number first zero less = tt
   table-behind weights number first (suc count) less = (same-sum weights 0 number first 0 less, table-behind weights number (suc first) count (omega arith))
 
@@ -107,7 +107,7 @@ module _ (block entry : ℕ) (is_entry : IsEntryNumber entry) where
   table-ids first zero = tt
   table-ids first (suc count) = (ids-of_one first 0, table-ids (suc first) count)
 
-  table-apart : (number first count : ℕ) → number < first → AllByRecursion (λ other. AreOtherIds (row_of block entry number 0).ids other.ids) (rows_from block entry first count)
+  table-apart : (number first count : ℕ) → number < first → AllByRecursion (λ other. AreOtherIds (entry_row block entry number 0).ids other.ids) (rows_from block entry first count)
   table-apart number first zero less = tt
   table-apart number first (suc count) less =
       (other-ids number first 0 0 (λ e. omega arith), table-apart number (suc first) count (omega arith))

@@ -9,8 +9,8 @@ use Rattle.rs_catalog.specs.Indexes.{ranking_at, rows_for}
 use Rattle.rs_catalog.specs.declared.index.IndexDef.{IndexDef}
 
 -- the row of one FROM entry of a block: its number stands at the entry, and 0 at all others
-abbrev pub row_of : ℕ → ℕ → ℕ → ℕ → RankRow
-row_of block entry number sum = record {
+abbrev pub entry_row : ℕ → ℕ → ℕ → ℕ → RankRow
+entry_row block entry number sum = record {
   ids = record { block = block; mask = mask_of entry; rows = slice_set (0 ∷ 0 ∷ 0 ∷ 0 ∷ 0 ∷ 0 ∷ []) (entry - 1) number };
   sum = sum;
 }
@@ -18,7 +18,7 @@ row_of block entry number sum = record {
 -- so many rows of a table, from one on
 abbrev pub rows_from : ℕ → ℕ → ℕ → ℕ → List RankRow
 rows_from block entry first zero = []
-rows_from block entry first (suc count) = row_of block entry first 0 ∷ rows_from block entry (suc first) count
+rows_from block entry first (suc count) = entry_row block entry first 0 ∷ rows_from block entry (suc first) count
 
 -- the rows of a table in a view: in the order of the table
 abbrev pub table_rows : ℕ → ℕ → ℕ → List RankRow
@@ -30,7 +30,7 @@ entries_in rows ranking = filter (λ e. nat_le e.row rows) ranking
 
 -- the row of an entry of an index: its sum is weight times score
 abbrev pub scored : ℕ → ℕ → ℕ → ScoredRow → RankRow
-scored block entry weight e = row_of block entry e.row (weight * e.score)
+scored block entry weight e = entry_row block entry e.row (weight * e.score)
 
 -- the rows of an index in a view: in the order of the index
 abbrev pub index_rows : ℕ → ℕ → ℕ → ℕ → List ScoredRow → List RankRow

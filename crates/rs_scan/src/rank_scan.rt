@@ -1,4 +1,4 @@
-ghost use Rattle.std.specs.Prelude.{◌≡◌, ◌≤◌, ◌<◌, ◌+◌, ◌*◌, ◌↔◌, None, length, min, slice_get};
+ghost use Rattle.std.specs.Prelude.{◌≡◌, ◌≤◌, ◌<◌, ◌+◌, ◌-◌, ◌*◌, ◌↔◌, IfSome, None, length, min, slice_get, slice_index};
 ghost use Rattle.rs_scan.specs.Scans.{IsOfAllRows, new_index_scan, rows_of_index};
 
 use crate::row::row_of;
@@ -53,12 +53,15 @@ impl RankScan {
         }
     }
 
-    /// The next row of the view. Today the view has to be all rows of the index's table. It takes no memory.
+    /// The next row of the view, with the number of a row of the table. Today the view has to be all rows of the index's
+    /// table. It takes no memory.
     pub fn next(&mut self, catalog: &Catalog) -> Option<RankRow>
         requires index { self.old.index < length catalog.now.indexes }
         requires view { IsOfAllRows catalog.now self.old }
         ensures row { result ≡ slice_get (rows_of_index catalog.now self.old) self.old.drawn }
+        ensures number { IfSome result (λ row. 1 ≤ slice_index row.ids.rows (self.old.entry - 1)) }
         ensures end { (result ≡ None) ↔ (self.old.drawn ≡ self.old.rows) }
+        ensures most { self.old.drawn ≤ self.old.rows }
         ensures after { self.new ≡ record self.old { drawn = min (self.old.drawn + 1) self.old.rows } }
     {
         // Its ranking has each row of the table once, so no entry lies outside the view.

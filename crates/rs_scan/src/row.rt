@@ -1,5 +1,5 @@
 ghost use Rattle.std.specs.Prelude.{◌≡◌, ◌≤◌};
-ghost use Rattle.rs_scan.specs.Scans.{row_of};
+ghost use Rattle.rs_scan.specs.Scans.{entry_row};
 
 use rs_rank::{Ids, RankRow, mask_of};
 
@@ -7,7 +7,7 @@ use rs_rank::{Ids, RankRow, mask_of};
 pub(crate) fn row_of(block: u8, entry: u8, number: u32, sum: u64) -> RankRow
     requires least { 1 ≤ entry }
     requires most { entry ≤ 6 }
-    ensures { result ≡ row_of block entry number sum }
+    ensures { result ≡ entry_row block entry number sum }
 {
     let mut rows = [0; 6];
     rows[entry as usize - 1] = number;

@@ -1,19 +1,24 @@
 -- A chain of operators that group to the left is read operand by operand: what was read so far, and what the rest of the chain makes of it.
-use Rattle.std.proofs.Common.{ℕ, ◌≡◌, ◌∙◌, true, false, [], ◌∷◌, refl, sym, ap}
+use Rattle.std.proofs.Common.{ℕ, ◌≡◌, ◌∙◌, ◌<◌, ◌≤◌, true, false, [], ◌∷◌, refl, sym, ap}
 use Rattle.rs_grammar.specs.Grammar.{Part, One, Seq, Many, Use, ◌⨟◌, word, expr, conj, neg, sum, prod, sign, Tree, Leaf, Nothing, Pair, This, That, More, Node, start_of}
-use Rattle.rs_grammar.specs.Reading.{State, Read, opens}
-use Rattle.rs_grammar.specs.declared.kind.Kind.TheVariants as kinds
+use Rattle.rs_grammar.specs.Reading.{State, Read, next_is, opens}
+use Rattle.rs_grammar.specs.declared.kind.TokenKind.TheVariants as kinds
 use Rattle.rs_grammar.specs.declared.lexeme.Lexeme.{Lexeme}
 use Rattle.rs_lex.specs.declared.token.Span.{Span}
 use Rattle.rs_syntax.specs.Cases.{whens_of, cases_in}
 use Rattle.rs_syntax.specs.Expressions.{adding_of, multiplying_of, rel_of, extreme_of, column_in, expr_of, ors, conj_of, ands, neg_of, comp_of, sum_of, sums, prod_of, prods, sign_of, base_of, absolute_of, extreme_in, brackets_of, case_of, cases, condition_of, result_of}
+use Rattle.rs_syntax.specs.Levels.{operators, rule_at, operand_rule, chain_of, operand_of, operator_of, joined}
 use Rattle.rs_syntax.specs.Reads.{Found, Halts}
-use Rattle.rs_syntax.specs.Syntax.{Expression, Int, Text, Column, Neg, Arith, Abs, Case, Compare, And, Or, Not}
-use Rattle.rs_syntax.specs.Trees.{starts_at, ends_at, span, name_of, place_of, qualified}
+use Rattle.rs_syntax.specs.Syntax as syntax
+use Rattle.rs_syntax.specs.Syntax.{Expression, Int, Text, Column, Neg, Arith, Abs, Case, Compare, Not}
+use Rattle.rs_syntax.specs.Trees.{starts_at, ends_at, span, span_of, kind_at, leaf_name, leaf_span, qualified}
 use Rattle.rs_syntax.specs.declared.node.Op.{Op}
 use Rattle.rs_syntax.specs.declared.parser.Fault.{Fault}
-use Rattle.rs_syntax.proofs.Spans.{read-starts, read-ends}
-use Rattle.rs_syntax.proofs.Steps.{read-both, read-stop, read-more, read-rule, found, halts-then, halts-item, halts-later, halts-rule}
+use Rattle.rs_syntax.specs.declared.parser.operators.Level.{Level}
+use Rattle.rs_syntax.specs.declared.parser.operators.Level.TheVariants.{Or, And, Sum, Product}
+use Rattle.rs_syntax.specs.declared.parser.operators.Operator.{Operator}
+use Rattle.rs_syntax.proofs.Spans.{read-starts, read-ends, counted-left, quiet-left}
+use Rattle.rs_syntax.proofs.Steps.{read-both, read-stop, read-more, read-rule, found, halts-first, halts-then, halts-item, halts-later, halts-rule}
 
 -- a chain that begins at b stands at x with this expression
 pub record Chaining (p item : Part) (whole : Tree → Expression) (go : Expression → Tree → Expression) (b x : State) (left : Expression) : Type 0 where
@@ -52,7 +57,7 @@ pub expr_of-chain : (t m : Tree) → expr_of (Node (Pair t m)) ≡ ors (starts_a
 unfolding expr_of
 expr_of-chain t m = refl
 
-pub ors-more : (from : ℕ) (left : Expression) (w r u : Tree) → ors from left (More (Pair w r) u) ≡ ors from (Or left (conj_of r) (span from (ends_at r))) u
+pub ors-more : (from : ℕ) (left : Expression) (w r u : Tree) → ors from left (More (Pair w r) u) ≡ ors from (syntax.Or left (conj_of r) (span from (ends_at r))) u
 unfolding ors
 ors-more from left w r u = refl
 
@@ -64,7 +69,7 @@ pub conj_of-chain : (t m : Tree) → conj_of (Node (Pair t m)) ≡ ands (starts_
 unfolding conj_of
 conj_of-chain t m = refl
 
-pub ands-more : (from : ℕ) (left : Expression) (w r u : Tree) → ands from left (More (Pair w r) u) ≡ ands from (And left (neg_of r) (span from (ends_at r))) u
+pub ands-more : (from : ℕ) (left : Expression) (w r u : Tree) → ands from left (More (Pair w r) u) ≡ ands from (syntax.And left (neg_of r) (span from (ends_at r))) u
 unfolding ands
 ands-more from left w r u = refl
 
@@ -152,15 +157,15 @@ pub absolute_of-this : (w bracket t close : Tree) → absolute_of (Node (Pair w 
 unfolding absolute_of
 absolute_of-this w bracket t close = refl
 
-pub absolute_of-that : (first rest : Tree) → absolute_of (Node (Pair first (That rest))) ≡ Column (qualified (name_of first) rest)
+pub absolute_of-that : (first rest : Tree) → absolute_of (Node (Pair first (That rest))) ≡ Column (qualified (leaf_name first) rest)
 unfolding absolute_of
 absolute_of-that first rest = refl
 
-pub extreme_in-this : (w bracket t comma u close : Tree) → extreme_in (Node (Pair w (This (Pair bracket (Pair t (Pair comma (Pair u close))))))) ≡ extreme_of w (expr_of t) (expr_of u) (Pair w close)
+pub extreme_in-this : (w bracket t comma u close : Tree) → extreme_in (Node (Pair w (This (Pair bracket (Pair t (Pair comma (Pair u close))))))) ≡ extreme_of (kind_at w) (expr_of t) (expr_of u) (span_of (Pair w close))
 unfolding extreme_in
 extreme_in-this w bracket t comma u close = refl
 
-pub extreme_in-that : (first rest : Tree) → extreme_in (Node (Pair first (That rest))) ≡ Column (qualified (name_of first) rest)
+pub extreme_in-that : (first rest : Tree) → extreme_in (Node (Pair first (That rest))) ≡ Column (qualified (leaf_name first) rest)
 unfolding extreme_in
 extreme_in-that first rest = refl
 
@@ -205,7 +210,7 @@ pub expr-start : (from : ℕ) {b x : State} {left : Expression} → from ≡ sta
 expr-start from e h = Chaining-start h (λ u. expr_of-chain h.tree u ∙ ap (λ n. ors n (conj_of h.tree) u) (read-starts h.read refl ∙ sym e))
 
 pub expr-more : (from : ℕ) {b x y z : State} {left right next : Expression} {at place : Span} → Ors from b x left → opens (word kinds.Or ⨟ Use conj) x ≡ true
-    → Found (word kinds.Or) place_of x y place → Found (Use conj) conj_of y z right → at ≡ span from z.last → next ≡ Or left right at → Ors from b z next
+    → Found (word kinds.Or) leaf_span x y place → Found (Use conj) conj_of y z right → at ≡ span from z.last → next ≡ syntax.Or left right at → Ors from b z next
 expr-more from {left = left} {right = right} {next = next} {at = at} h o k r e is =
     let second = r.means in
     let ends = read-ends r.read refl in
@@ -225,7 +230,7 @@ pub conj-start : (from : ℕ) {b x : State} {left : Expression} → from ≡ sta
 conj-start from e h = Chaining-start h (λ u. conj_of-chain h.tree u ∙ ap (λ n. ands n (neg_of h.tree) u) (read-starts h.read refl ∙ sym e))
 
 pub conj-more : (from : ℕ) {b x y z : State} {left right next : Expression} {at place : Span} → Ands from b x left → opens (word kinds.And ⨟ Use neg) x ≡ true
-    → Found (word kinds.And) place_of x y place → Found (Use neg) neg_of y z right → at ≡ span from z.last → next ≡ And left right at → Ands from b z next
+    → Found (word kinds.And) leaf_span x y place → Found (Use neg) neg_of y z right → at ≡ span from z.last → next ≡ syntax.And left right at → Ands from b z next
 conj-more from {left = left} {right = right} {next = next} {at = at} h o k r e is =
     let second = r.means in
     let ends = read-ends r.read refl in
@@ -278,3 +283,61 @@ prod-end from {left = left} h o = let whole = Chaining-end h o (prods-end from l
 
 pub prod-halts : (from : ℕ) {b x a : State} {left : Expression} {fault : Fault} → Prods from b x left → opens (One (kinds.Star ∷ kinds.Slash ∷ []) ⨟ Use sign) x ≡ true → Halts (One (kinds.Star ∷ kinds.Slash ∷ []) ⨟ Use sign) x fault a → Halts (Use prod) b fault a
 prod-halts from h o k = halts-rule (Chaining-halts h o k)
+
+-- the four as one, by their level
+abbrev pub chained : Level → ℕ → Expression → Tree → Expression
+chained Or from left u = ors from left u
+chained And from left u = ands from left u
+chained Sum from left u = sums from left u
+chained Product from left u = prods from left u
+
+pub record Chained (level : Level) (from : ℕ) (b x : State) (left : Expression) : Type 0 where
+  pub chaining : Chaining (Use (operand_rule level)) (One (operators level) ⨟ Use (operand_rule level)) (λ t. chain_of level (Node t)) (chained level from) b x left
+
+pub chain-start : (level : Level) (from : ℕ) {b x : State} {left : Expression} → from ≡ start_of b.rest → Found (Use (operand_rule level)) (operand_of level) b x left → Chained level from b x left
+chain-start Or from e h = record { chaining = expr-start from e h }
+chain-start And from e h = record { chaining = conj-start from e h }
+chain-start Sum from e h = record { chaining = sum-start from e h }
+chain-start Product from e h = record { chaining = prod-start from e h }
+
+pub chain-more : (level : Level) (from : ℕ) {b x y z : State} {left right next : Expression} {op : Operator} {at : Span} → Chained level from b x left
+    → next_is (operators level) x.rest ≡ true → Found (One (operators level)) (operator_of level) x y op → Found (Use (operand_rule level)) (operand_of level) y z right
+    → at ≡ span from z.last → next ≡ joined op left right at → Chained level from b z next
+chain-more Or from {left = left} {right = right} {at = at} h o k r e is = record { chaining = expr-more from h.chaining o (found k.read refl) r e (is ∙ sym (ap (λ p. joined p left right at) k.means)) }
+chain-more And from {left = left} {right = right} {at = at} h o k r e is = record { chaining = conj-more from h.chaining o (found k.read refl) r e (is ∙ sym (ap (λ p. joined p left right at) k.means)) }
+chain-more Sum from {left = left} {right = right} {at = at} h o k r e is = record { chaining = sum-more from h.chaining o (found k.read refl) r e (is ∙ sym (ap (λ p. joined p left right at) k.means)) }
+chain-more Product from {left = left} {right = right} {at = at} h o k r e is = record { chaining = prod-more from h.chaining o (found k.read refl) r e (is ∙ sym (ap (λ p. joined p left right at) k.means)) }
+
+pub chain-end : (level : Level) (from : ℕ) {b x : State} {left : Expression} → Chained level from b x left → next_is (operators level) x.rest ≡ false
+    → Found (Use (rule_at level)) (chain_of level) b x left
+chain-end Or from h o = expr-end from h.chaining o
+chain-end And from h o = conj-end from h.chaining o
+chain-end Sum from h o = sum-end from h.chaining o
+chain-end Product from h o = prod-end from h.chaining o
+
+pub chain-halts : (level : Level) (from : ℕ) {b x a : State} {left : Expression} {fault : Fault} → Chained level from b x left → next_is (operators level) x.rest ≡ true
+    → Halts (One (operators level) ⨟ Use (operand_rule level)) x fault a → Halts (Use (rule_at level)) b fault a
+chain-halts Or from h o k = expr-halts from h.chaining o k
+chain-halts And from h o k = conj-halts from h.chaining o k
+chain-halts Sum from h o k = sum-halts from h.chaining o k
+chain-halts Product from h o k = prod-halts from h.chaining o k
+
+-- the first operand isn't read
+pub chain-halts-first : (level : Level) {b a : State} {fault : Fault} → Halts (Use (operand_rule level)) b fault a → Halts (Use (rule_at level)) b fault a
+chain-halts-first Or k = halts-rule (halts-first k)
+chain-halts-first And k = halts-rule (halts-first k)
+chain-halts-first Sum k = halts-rule (halts-first k)
+chain-halts-first Product k = halts-rule (halts-first k)
+
+-- fewer tokens that count are left behind an operator, and no more behind an operand
+pub operator-less : (level : Level) {b x : State} {op : Operator} → Found (One (operators level)) (operator_of level) b x op → x.left < b.left
+operator-less Or h = counted-left h.read refl refl
+operator-less And h = counted-left h.read refl refl
+operator-less Sum h = counted-left h.read refl refl
+operator-less Product h = counted-left h.read refl refl
+
+pub operand-less : (level : Level) {b x : State} {left : Expression} → Found (Use (operand_rule level)) (operand_of level) b x left → x.left ≤ b.left
+operand-less Or h = quiet-left h.read refl
+operand-less And h = quiet-left h.read refl
+operand-less Sum h = quiet-left h.read refl
+operand-less Product h = quiet-left h.read refl

@@ -5,6 +5,7 @@ pub mod Chains
 pub mod Lists
 pub mod Results
 pub mod Blocks
+pub mod Operands
 pub mod Cycle
 pub mod Scripting
 pub mod Cutting

@@ -11,9 +11,9 @@ use Rattle.rs_value.specs.Number.{number_of, greatest_int, decimal_value, are_di
 use Rattle.rs_lex.specs.declared.token.Token.{Token}
 use Rattle.rs_lex.specs.declared.token.Sort.{Sort}
 use Rattle.rs_lex.specs.declared.token.Sort.TheVariants.{Word, Quoted, Number, Literal, Symbol}
-use Rattle.rs_grammar.specs.Lexemes.{IsFront, IsToken, lexeme_of, value_of, piece}
+use Rattle.rs_grammar.specs.Lexemes.{IsFront, IsTokenOf, lexeme_of, value_of, piece}
 use Rattle.rs_grammar.specs.declared.lexeme.Lexeme.{Lexeme}
-use Rattle.rs_grammar.proofs.LexemeFacts.{IsToken-each, IsToken-number}
+use Rattle.rs_grammar.proofs.LexemeFacts.{IsTokenOf-each, IsTokenOf-number}
 use Rattle.rs_syntax.specs.Numbers.{IsNumber, AreNumbers}
 
 pub AreNumbers-append : (xs ys : List Lexeme) → AreNumbers xs → AreNumbers ys → AreNumbers (xs ++ ys)
@@ -39,18 +39,18 @@ decimal_value-small : (most : ℕ) (digits : List ℕ) (n : ℕ) → decimal_val
 decimal_value-small most digits n e = leb-true (number_of digits) most (guarded (are_digits digits) (nat_le (number_of digits) most) (number_of digits) n e)
 
 -- the value of a token's number is one
-IsNumber-value : (script : List ℕ) (token : Token) (sort : Sort) → sort ≡ token.sort → IsToken script token → IsNumber (value_of sort (piece script token.at))
+IsNumber-value : (script : List ℕ) (token : Token) (sort : Sort) → sort ≡ token.sort → IsTokenOf script token → IsNumber (value_of sort (piece script token.at))
 IsNumber-value script token Word e h = (omega (arith, ints), omega (arith, ints))
 IsNumber-value script token Quoted e h = (omega (arith, ints), omega (arith, ints))
 IsNumber-value script token Number e h =
-    let small : number_of (piece script token.at) ≤ greatest_int = decimal_value-small greatest_int (piece script token.at) (number_of (piece script token.at)) (IsToken-number script token h (sym e)) in
+    let small : number_of (piece script token.at) ≤ greatest_int = decimal_value-small greatest_int (piece script token.at) (number_of (piece script token.at)) (IsTokenOf-number script token h (sym e)) in
     (omega (arith, ints), omega (arith, ints, small))
 IsNumber-value script token Literal e h = (omega (arith, ints), omega (arith, ints))
 IsNumber-value script token Symbol e h = (omega (arith, ints), omega (arith, ints))
 
-AreNumbers-each : (script : List ℕ) (tokens : List Token) → All (IsToken script) tokens → AreNumbers (map (lexeme_of script) tokens)
+AreNumbers-each : (script : List ℕ) (tokens : List Token) → All (IsTokenOf script) tokens → AreNumbers (map (lexeme_of script) tokens)
 AreNumbers-each script [] h = tt
-AreNumbers-each script (t ∷ ts) h = (IsNumber-value script t t.sort refl (All-head (IsToken script) t ts h), AreNumbers-each script ts (All-tail (IsToken script) t ts h))
+AreNumbers-each script (t ∷ ts) h = (IsNumber-value script t t.sort refl (All-head (IsTokenOf script) t ts h), AreNumbers-each script ts (All-tail (IsTokenOf script) t ts h))
 
 pub AreNumbers-lexemes : (script : List ℕ) (tokens : List Token) → IsFront script tokens → AreNumbers (map (lexeme_of script) tokens)
-AreNumbers-lexemes script tokens h = AreNumbers-each script tokens (IsToken-each script tokens h)
+AreNumbers-lexemes script tokens h = AreNumbers-each script tokens (IsTokenOf-each script tokens h)

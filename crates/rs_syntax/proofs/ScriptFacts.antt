@@ -9,7 +9,7 @@ use Rattle.rs_grammar.specs.Lexemes.{lexeme_of}
 use Rattle.rs_grammar.specs.Places.{Unexpected, TooDeep, TooMany, IsRefused, IsWithinStatements, most_deep}
 use Rattle.rs_grammar.specs.Reading as reading
 use Rattle.rs_grammar.specs.Reading.{State, Read}
-use Rattle.rs_grammar.specs.declared.kind.Kind.TheVariants as kinds
+use Rattle.rs_grammar.specs.declared.kind.TokenKind.TheVariants as kinds
 use Rattle.rs_grammar.specs.declared.lexeme.Lexeme.{Lexeme}
 use Rattle.rs_grammar.proofs.Derivation.{Front, Deep, Fails-front, Fails-deep, Read-split}
 use Rattle.rs_grammar.proofs.OneTree.{script-one}

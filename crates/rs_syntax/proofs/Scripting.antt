@@ -4,7 +4,7 @@ use Rattle.std.proofs.lemmas.List.{append-nil, map-append}
 use Rattle.rs_grammar.specs.Grammar.{Rule, Part, Seq, Either, Use, rule, word, script, statement, Tree, Nothing, Pair, This, That, Node, yield}
 use Rattle.rs_grammar.specs.Reading as reading
 use Rattle.rs_grammar.specs.Reading.{State, Read, next_is, opens}
-use Rattle.rs_grammar.specs.declared.kind.Kind.TheVariants.{Semicolon}
+use Rattle.rs_grammar.specs.declared.kind.TokenKind.TheVariants.{Semicolon}
 use Rattle.rs_grammar.proofs.Derivation.{Read-split}
 use Rattle.rs_syntax.specs.Reads.{Found, Halts, Reads}
 use Rattle.rs_syntax.specs.Statements.{script_of, statement_of, statements_of}

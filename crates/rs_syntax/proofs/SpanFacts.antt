@@ -2,20 +2,20 @@
 use Rattle.std.proofs.Common.{ℕ, ◌≡◌, ◌+◌, ◌<◌, ◌≤◌, Bool, true, false, List, [], ◌∷◌, ◌++◌, length, map, Option, Some, None, refl, arith, if◌then◌else◌}
 use Rattle.rs_lex.specs.declared.token.Span.{Span}
 use Rattle.rs_lex.specs.declared.token.Token.{Token}
-use Rattle.rs_lex.specs.Spelling.{InOrder, Spells}
-use Rattle.rs_lex.proofs.SpellingFacts.{InOrder-spelled}
+use Rattle.rs_lex.specs.Spelling.{TokensInOrder, Spells}
+use Rattle.rs_lex.proofs.SpellingFacts.{TokensInOrder-spelled}
 use Rattle.rs_grammar.specs.Kinds.{names, plain_names}
 use Rattle.rs_grammar.specs.Grammar.{Part, One, Many, Use, ◌⨟◌, word, name, optional, Tree, Leaf, Nothing, Pair, This, That, More, Node, yield, start_of, end_after, Fits}
 use Rattle.rs_grammar.specs.Grammar as grammar
 use Rattle.rs_grammar.specs.Reading.{nullable}
-use Rattle.rs_grammar.specs.declared.kind.Kind.{Kind}
-use Rattle.rs_grammar.specs.declared.kind.Kind.TheVariants as kind
+use Rattle.rs_grammar.specs.declared.kind.TokenKind.{TokenKind}
+use Rattle.rs_grammar.specs.declared.kind.TokenKind.TheVariants as kind
 use Rattle.rs_grammar.specs.declared.lexeme.Lexeme.{Lexeme}
 use Rattle.rs_grammar.proofs.Beginnings.{Fits-nullable}
 use Rattle.rs_syntax.specs.declared.name.Name.{Name}
 use Rattle.rs_syntax.specs.declared.name.ColRef.{ColRef}
 use Rattle.rs_syntax.specs.Syntax.{Expression, Int, Text, Column, Neg, Arith, Abs, Least, Greatest, Case, Compare, And, Or, Not, Command, Explain, ExplainAnalyze}
-use Rattle.rs_syntax.specs.Trees.{starts_at, ends_at, span, leaf, part, last, if_there, is_there, items_of, listed, is_kind, name_of, qualified, colref_of}
+use Rattle.rs_syntax.specs.Trees.{starts_at, ends_at, span, leaf, part, last, if_there, is_there, items_of, listed, is_of_kind, kind_at, leaf_name, qualified, colref_of, span_of}
 use Rattle.rs_syntax.specs.Expressions.{expr_of, ors, conj_of, ands, neg_of, comp_of, sum_of, sums, prod_of, prods, sign_of, base_of, absolute_of, extreme_in, extreme_of, brackets_of, case_of, cases, condition_of, result_of, adding_of, multiplying_of}
 use Rattle.rs_syntax.specs.Statements.{column_of, columns_of, arg_of, args_of, weight_of, term_of, terms_of, alias_of, entry_of, entries_of, select_items_of, filter_of, block_of, right_of, limit_of, select_of, create_table_of, create_predicate_of, create_rank_index_of, create_of, declare_of, fetch_of, close_of, explain_of, statement_of, statements_of, script_of}
 use Rattle.rs_syntax.specs.Scripts.{Parses, lexemes_of}
@@ -127,7 +127,7 @@ Lies-wider : (from from2 to to2 : ℕ) (at : Span) → from ≤ from2 → to2 �
 Lies-wider from from2 to to2 at le ge i = (omega (arith, i.0), i.1, omega (arith, i.2))
 
 -- a name, and another token
-leaf-in : (kinds : List Kind) (t : Tree) (from to : ℕ) → Fits (One kinds) t → TreeIn t from to → Lies from to (leaf t).at
+leaf-in : (kinds : List TokenKind) (t : Tree) (from to : ℕ) → Fits (One kinds) t → TreeIn t from to → Lies from to (leaf t).at
 leaf-in kinds (Leaf l) from to h o = o
 leaf-in kinds _ from to h o = absurd h
 
@@ -155,9 +155,9 @@ qualified-in (That t) first from middle to h i o = (from, omega arith, Lies-wide
 qualified-in _ first from middle to h i o = absurd h
 
 -- a name and what may stand behind it
-dotted-in : (kinds : List Kind) (t : Tree) (from to : ℕ) → Fits (One kinds ⨟ optional (word kind.Dot ⨟ name)) t → TreeIn t from to
-    → ColumnIn (qualified (name_of (part 0 t)) (last 1 t)) from to
-dotted-in kinds (Pair first rest) from to h o = qualified-in rest (name_of first) from o.0 to h.1 (leaf-in kinds first from o.0 h.0 o.1) o.2
+dotted-in : (kinds : List TokenKind) (t : Tree) (from to : ℕ) → Fits (One kinds ⨟ optional (word kind.Dot ⨟ name)) t → TreeIn t from to
+    → ColumnIn (qualified (leaf_name (part 0 t)) (last 1 t)) from to
+dotted-in kinds (Pair first rest) from to h o = qualified-in rest (leaf_name first) from o.0 to h.1 (leaf-in kinds first from o.0 h.0 o.1) o.2
 dotted-in kinds _ from to h o = absurd h
 
 -- an expression that lies between two places lies between wider ones, and isn't empty
@@ -195,11 +195,11 @@ ExpressionIn-lt (Or left right at) from to i = Lies-lt at from to i.0
 ExpressionIn-lt (Not part at) from to i = Lies-lt at from to i.0
 
 -- the word MIN or MAX gives one of two nodes with the same parts
-extreme_of-in : (kinds others : List Kind) (w close : Tree) (first second : Expression) (from to : ℕ) → Fits (One kinds) w → Fits (One others) close
+extreme_of-in : (kinds others : List TokenKind) (w close : Tree) (first second : Expression) (from to : ℕ) → Fits (One kinds) w → Fits (One others) close
     → Whole (span (starts_at w) (ends_at close)) (ExpressionIn first before ExpressionIn second) from to
-    → ExpressionIn (extreme_of w first second (Pair w close)) from to
+    → ExpressionIn (extreme_of (kind_at w) first second (span_of (Pair w close))) from to
 unfolding starts_at ends_at
-extreme_of-in kinds others (Leaf l) (Leaf c) first second from to h k i = go (is_kind kind.Min (Leaf l))
+extreme_of-in kinds others (Leaf l) (Leaf c) first second from to h k i = go (is_of_kind kind.Min (Leaf l))
   where
     go : (b : Bool) → ExpressionIn (if b then Least first second (span l.at.start c.at.end) else Greatest first second (span l.at.start c.at.end)) from to
     go true = i
@@ -352,7 +352,7 @@ mutual
         (omega arith, omega arith, omega arith),
         expr-in t h.1.1.0 (starts_at w) (ends_at close) (TreeIn-wider t (starts_at w) o.2.0 (ends_at close) o.2.2.0 (omega arith) (omega arith) o.2.2.1),
       )
-  absolute-in (Node (Pair first (That rest))) h from to o = qualified-in rest (name_of first) from o.0 to h.1 (leaf-in (kind.Abs ∷ []) first from o.0 h.0 o.1) o.2
+  absolute-in (Node (Pair first (That rest))) h from to o = qualified-in rest (leaf_name first) from o.0 to h.1 (leaf-in (kind.Abs ∷ []) first from o.0 h.0 o.1) o.2
   absolute-in (Node (Pair w (This (Pair bracket t)))) h from to o = absurd h.1.1
   absolute-in (Node (Pair w t)) h from to o = absurd h.1
   absolute-in _ h from to o = absurd h
@@ -376,7 +376,7 @@ mutual
           expr-in u h.1.1.1.1.0 o2.0 (ends_at close) (TreeIn-wider u o2.0 o3.0 (ends_at close) o4.0 (omega arith) (omega arith) o4.1),
         ),
       )
-  extreme-in (Node (Pair first (That rest))) h from to o = qualified-in rest (name_of first) from o.0 to h.1 (leaf-in (kind.Min ∷ kind.Max ∷ []) first from o.0 h.0 o.1) o.2
+  extreme-in (Node (Pair first (That rest))) h from to o = qualified-in rest (leaf_name first) from o.0 to h.1 (leaf-in (kind.Min ∷ kind.Max ∷ []) first from o.0 h.0 o.1) o.2
   extreme-in (Node (Pair w (This (Pair bracket (Pair t (Pair comma u)))))) h from to o = absurd h.1.1.1.1
   extreme-in (Node (Pair w (This (Pair bracket (Pair t u))))) h from to o = absurd h.1.1.1
   extreme-in (Node (Pair w (This (Pair bracket t)))) h from to o = absurd h.1.1
@@ -464,7 +464,7 @@ listed-in p mark f Stands each (Pair first rest) from to h o = (o.0, each first 
 listed-in p mark f Stands each _ from to h o = absurd h
 
 -- the second one of two tokens
-second-in : (first : Part) (kinds : List Kind) (t : Tree) (from to : ℕ) → Fits (first ⨟ One kinds) t → TreeIn t from to → Lies from to (leaf (last 1 t)).at
+second-in : (first : Part) (kinds : List TokenKind) (t : Tree) (from to : ℕ) → Fits (first ⨟ One kinds) t → TreeIn t from to → Lies from to (leaf (last 1 t)).at
 second-in first kinds (Pair w l) from to h o = leaf-in kinds l from to h.1 (TreeIn-skip w l from to o)
 second-in first kinds _ from to h o = absurd h
 
@@ -770,12 +770,12 @@ script-in (That t) from to h o = TreeIn-le t from to o
 script-in _ from to h o = absurd h
 
 -- a lexeme stands where its token does
-lexemes_of-ordered : (text : List ℕ) (tokens : List Token) (from to : ℕ) → InOrder from tokens to → Ordered from to (lexemes_of text tokens)
+lexemes_of-ordered : (text : List ℕ) (tokens : List Token) (from to : ℕ) → TokensInOrder from tokens to → Ordered from to (lexemes_of text tokens)
 lexemes_of-ordered text [] from to o = o
 lexemes_of-ordered text (token ∷ rest) from to o = (o.0, o.1, lexemes_of-ordered text rest token.at.end to o.2)
 
 -- the statements that tokens in order parse to are in order
-pub Parses-in_order : (text : List ℕ) (tokens : List Token) (commands : List Command) → InOrder 0 tokens (length text) → Parses text tokens commands
+pub Parses-in_order : (text : List ℕ) (tokens : List Token) (commands : List Command) → TokensInOrder 0 tokens (length text) → Parses text tokens commands
     → SpansInOrder 0 (length text) commands
 Parses-in_order text tokens commands o parses =
     let ordered : Ordered 0 (length text) (yield parses.tree) = rw parses.spells (lexemes_of-ordered text tokens 0 (length text) o) in
@@ -787,4 +787,4 @@ pub Parses-spans : (text : List ℕ) (tokens : List Token) (commands : List Comm
     → SpansInOrder 0 (length text) commands
 Parses-spans text tokens commands spelled parses =
     let same : 0 + length text ≡ length text = omega arith in
-    Parses-in_order text tokens commands (rw same at (InOrder-spelled 0 text tokens spelled)) parses
+    Parses-in_order text tokens commands (rw same at (TokensInOrder-spelled 0 text tokens spelled)) parses

@@ -4,11 +4,11 @@ use Rattle.std.specs.Prelude.{Bool, List, [], ◌∷◌, ◌++◌, ◌&&◌}
 use Rattle.std.proofs.lemmas.Bool.{eqb-false}
 use Rattle.rs_grammar.specs.Grammar.{Rule, Part, One, Empty, Seq, Either, Many, Use, rule, Tree, yield, start_of, end_after}
 use Rattle.rs_grammar.specs.Grammar.{statements, statement}
-use Rattle.rs_grammar.specs.Kinds.{accepts, counted}
+use Rattle.rs_grammar.specs.Kinds.{accepts, counted_kinds}
 use Rattle.rs_grammar.specs.Reading as reading
 use Rattle.rs_grammar.specs.Reading.{State, Read, nullable, left_behind, is_too_deep}
-use Rattle.rs_grammar.specs.declared.kind.Kind.{Kind}
-use Rattle.rs_grammar.specs.declared.kind.Kind.TheVariants.{Semicolon}
+use Rattle.rs_grammar.specs.declared.kind.TokenKind.{TokenKind}
+use Rattle.rs_grammar.specs.declared.kind.TokenKind.TheVariants.{Semicolon}
 use Rattle.rs_grammar.specs.declared.lexeme.Lexeme.{Lexeme}
 use Rattle.rs_grammar.proofs.Predict.{within, disjoint, and-left, and-right}
 use Rattle.rs_grammar.proofs.Beginnings.{within-accepts, disjoint-not}
@@ -33,37 +33,37 @@ pub read-ends : {p : Part} {t : Tree} {b a : State} → Read p b t a → nullabl
 unfolding ends_at
 read-ends {p = p} {t = t} {b = b} {a = a} r e = end_after-some 0 b.last (yield t) (Read-some p b t a r e) ∙ sym (Read-last p b t a r)
 
--- no token of such kinds is `;`
-not-semicolon : (kinds : List Kind) (kind : Kind) → disjoint kinds (Semicolon ∷ []) ≡ true → accepts kinds kind ≡ true → accepts (Semicolon ∷ []) kind ≡ false
-not-semicolon kinds kind d accepted = go (accepts (Semicolon ∷ []) kind) refl
+-- a token of some kinds is of none of others
+pub not-others : (kinds others : List TokenKind) (kind : TokenKind) → disjoint kinds others ≡ true → accepts kinds kind ≡ true → accepts others kind ≡ false
+not-others kinds others kind d accepted = go (accepts others kind) refl
   where
-    go : (is : Bool) → accepts (Semicolon ∷ []) kind ≡ is → is ≡ false
-    go true e = absurd (disjoint-not kinds (Semicolon ∷ []) kind d accepted e)
+    go : (is : Bool) → accepts others kind ≡ is → is ≡ false
+    go true e = absurd (disjoint-not kinds others kind d accepted e)
     go false e = refl
 
 -- what is left behind such a token
-left_behind-counted : (kind : Kind) (left : ℕ) → accepts (Semicolon ∷ []) kind ≡ false → accepts counted kind ≡ true → is_too_deep kind left ≡ false → left_behind kind left < left
+left_behind-counted : (kind : TokenKind) (left : ℕ) → accepts (Semicolon ∷ []) kind ≡ false → accepts counted_kinds kind ≡ true → is_too_deep kind left ≡ false → left_behind kind left < left
 left_behind-counted kind left other counts shallow =
     let some : (left == 0) ≡ false = rw counts at shallow in
     let positive = eqb-false left 0 some in
     rw (other, counts) (omega arith)
 
-left_behind-le : (kind : Kind) (left : ℕ) → accepts (Semicolon ∷ []) kind ≡ false → left_behind kind left ≤ left
-left_behind-le kind left other = rw other (go (accepts counted kind) refl)
+left_behind-le : (kind : TokenKind) (left : ℕ) → accepts (Semicolon ∷ []) kind ≡ false → left_behind kind left ≤ left
+left_behind-le kind left other = rw other (go (accepts counted_kinds kind) refl)
   where
-    go : (counts : Bool) → accepts counted kind ≡ counts → (if counts then left - 1 else left) ≤ left
+    go : (counts : Bool) → accepts counted_kinds kind ≡ counts → (if counts then left - 1 else left) ≤ left
     go true e = omega arith
     go false e = omega arith
 
 -- a token that counts leaves fewer of them, unless it is `;`
-pub counted-left : {kinds : List Kind} {t : Tree} {b a : State} → Read (One kinds) b t a → within kinds counted ≡ true → disjoint kinds (Semicolon ∷ []) ≡ true → a.left < b.left
+pub counted-left : {kinds : List TokenKind} {t : Tree} {b a : State} → Read (One kinds) b t a → within kinds counted_kinds ≡ true → disjoint kinds (Semicolon ∷ []) ≡ true → a.left < b.left
 counted-left {kinds = kinds} {t = t} {b = b} {a = a} (reading.Read.token _ l _ _ takes accepted shallow) c d =
-    rw takes.left (left_behind-counted l.kind b.left (not-semicolon kinds l.kind d accepted) (within-accepts kinds counted l.kind c accepted) shallow)
+    rw takes.left (left_behind-counted l.kind b.left (not-others kinds (Semicolon ∷ []) l.kind d accepted) (within-accepts kinds counted_kinds l.kind c accepted) shallow)
 
 -- any other token leaves as many
-pub token-left : {kinds : List Kind} {t : Tree} {b a : State} → Read (One kinds) b t a → disjoint kinds (Semicolon ∷ []) ≡ true → a.left ≤ b.left
+pub token-left : {kinds : List TokenKind} {t : Tree} {b a : State} → Read (One kinds) b t a → disjoint kinds (Semicolon ∷ []) ≡ true → a.left ≤ b.left
 token-left {kinds = kinds} {t = t} {b = b} {a = a} (reading.Read.token _ l _ _ takes accepted shallow) d =
-    rw takes.left (left_behind-le l.kind b.left (not-semicolon kinds l.kind d accepted))
+    rw takes.left (left_behind-le l.kind b.left (not-others kinds (Semicolon ∷ []) l.kind d accepted))
 
 -- rules without `;`
 abbrev pub is_quiet_rule : Rule → Bool

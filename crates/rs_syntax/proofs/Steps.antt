@@ -2,7 +2,7 @@
 use Rattle.std.proofs.Common.{◌≡◌, true, false, Result, Err}
 use Rattle.rs_grammar.specs.Grammar.{Rule, Part, Empty, Seq, Either, Many, Use, rule, Tree, Nothing, Pair, This, That, More, Node}
 use Rattle.rs_grammar.specs.Reading as reading
-use Rattle.rs_grammar.specs.Reading.{State, Read, Fails, opens}
+use Rattle.rs_grammar.specs.Reading.{State, Read, Cause, Fails, opens}
 use Rattle.rs_syntax.specs.Reads.{Found, Halts, Reads}
 use Rattle.rs_syntax.specs.declared.parser.Fault.{Fault}
 use Rattle.rs_syntax.specs.declared.parser.Fault.TheVariants.{Expected, TooDeep, Memory}
@@ -82,3 +82,13 @@ halts-memory = record { fails = tt }
 -- a fault goes on unchanged
 pub goes_on : {A V : Type 0} {p : Part} (meaning : Tree → A) (view : V → A) {b a : State} {f : Fault} {result : Result V Fault} → result ≡ Err f → Halts p b f a → Reads p meaning view b a result
 goes_on meaning view e h = rw e h
+
+-- a node wasn't made for want of memory
+pub halts-made : {p : Part} {b a : State} {fault : Fault} → fault ≡ Memory → Halts p b fault a
+halts-made e = rw e halts-memory
+
+-- another part fails wherever this one does
+pub halts-as : {p q : Part} {b a : State} {f : Fault} → ((c : Cause) → Fails p b c a → Fails q b c a) → Halts p b f a → Halts q b f a
+halts-as {f = Expected} go h = record { fails = go reading.Expected h.fails }
+halts-as {f = TooDeep} go h = record { fails = go reading.TooDeep h.fails }
+halts-as {f = Memory} go h = record { fails = tt }

@@ -7,7 +7,7 @@ use Rattle.std.proofs.lemmas.Option.{get_or_from_slice_get, slice_get_within}
 use Rattle.rs_grammar.specs.Grammar.{One, Leaf}
 use Rattle.rs_grammar.specs.Reading as reading
 use Rattle.rs_grammar.specs.Reading.{State, Read, Fails, next_is, is_too_deep, left_behind}
-use Rattle.rs_grammar.specs.declared.kind.Kind.{Kind}
+use Rattle.rs_grammar.specs.declared.kind.TokenKind.{TokenKind}
 use Rattle.rs_grammar.specs.declared.lexeme.Lexeme.{Lexeme}
 use Rattle.rs_syntax.specs.Numbers.{IsNumber, AreNumbers}
 use Rattle.rs_syntax.specs.Reads.{Found, Halts}
@@ -27,11 +27,11 @@ LastOf-get xs l e =
     LastOf-push xs (take (length xs - 1) xs) l (sym (ap (λ n. take n xs) all ∙ take-length xs) ∙ front ∙ ap (λ x. take (length xs - 1) xs ++ x ∷ []) item)
 
 -- no token may stand there
-pub Fails-other : (kinds : List Kind) (b : State) (accepted : Bool) → accepted ≡ next_is kinds b.rest → accepted ≡ false → Halts (One kinds) b Expected b
+pub Fails-other : (kinds : List TokenKind) (b : State) (accepted : Bool) → accepted ≡ next_is kinds b.rest → accepted ≡ false → Halts (One kinds) b Expected b
 Fails-other kinds b accepted e refused = record { fails = reading.Fails.other kinds b (sym e ∙ refused) }
 
 -- the token is one too many
-Fails-deep : (kinds : List Kind) (b : State) (l : Lexeme) (ls : List Lexeme) → b.rest ≡ l ∷ ls → true ≡ next_is kinds b.rest → is_too_deep l.kind b.left ≡ true → Halts (One kinds) b TooDeep b
+Fails-deep : (kinds : List TokenKind) (b : State) (l : Lexeme) (ls : List Lexeme) → b.rest ≡ l ∷ ls → true ≡ next_is kinds b.rest → is_too_deep l.kind b.left ≡ true → Halts (One kinds) b TooDeep b
 Fails-deep kinds b l ls e accepted deep = record { fails = reading.Fails.deep kinds l ls b e (sym (accepted ∙ ap (next_is kinds) e)) deep }
 
 -- the last of a list is its last item
@@ -42,7 +42,7 @@ last_one xs front next l got pushed =
     cc
 
 -- the token is taken
-Found-token : (kinds : List Kind) (b a : State) (l : Lexeme) → b.rest ≡ l ∷ a.rest → true ≡ next_is kinds b.rest → is_too_deep l.kind b.left ≡ false
+Found-token : (kinds : List TokenKind) (b a : State) (l : Lexeme) → b.rest ≡ l ∷ a.rest → true ≡ next_is kinds b.rest → is_too_deep l.kind b.left ≡ false
     → a.left ≡ left_behind l.kind b.left → a.last ≡ l.at.end → Found (One kinds) leaf b a l
 Found-token kinds b a l e accepted shallow left last = record {
   tree = Leaf l;
@@ -51,13 +51,13 @@ Found-token kinds b a l e accepted shallow left last = record {
 }
 
 -- the token that stands last in reverse is one too many
-pub Fails-deep_last : (kinds : List Kind) (b : State) (xs : List Lexeme) (left : ℕ) (l : Lexeme) → Some l ≡ slice_get xs (length xs - 1) → reverse xs ≡ b.rest → left ≡ b.left
+pub Fails-deep_last : (kinds : List TokenKind) (b : State) (xs : List Lexeme) (left : ℕ) (l : Lexeme) → Some l ≡ slice_get xs (length xs - 1) → reverse xs ≡ b.rest → left ≡ b.left
     → true ≡ next_is kinds b.rest → is_too_deep l.kind left ≡ true → Halts (One kinds) b TooDeep b
 Fails-deep_last kinds b xs left l got is same accepted deep =
     Fails-deep kinds b l (reverse (take (length xs - 1) xs)) (sym is ∙ LastOf-get xs l got) accepted (rw (← same) deep)
 
 -- the token that stands last in reverse is taken
-pub Found-last : (kinds : List Kind) (b : State) (xs front : List Lexeme) (left now : ℕ) (next l : Lexeme) → Some next ≡ slice_get xs (length xs - 1) → xs ≡ front ++ l ∷ []
+pub Found-last : (kinds : List TokenKind) (b : State) (xs front : List Lexeme) (left now : ℕ) (next l : Lexeme) → Some next ≡ slice_get xs (length xs - 1) → xs ≡ front ++ l ∷ []
     → reverse xs ≡ b.rest → left ≡ b.left → true ≡ next_is kinds b.rest → is_too_deep next.kind left ≡ false → now ≡ left_behind next.kind left
     → Found (One kinds) leaf b (record { rest = reverse front; left = now; last = l.at.end }) l
 Found-last kinds b xs front left now next l got pushed is same accepted shallow spent =

@@ -10,7 +10,7 @@ use Rattle.rs_lex.specs.declared.token.Sort.TheVariants as sort
 use Rattle.rs_lex.specs.declared.token.Token.{Token}
 use Rattle.rs_grammar.specs.Grammar.{Tree, That, Nothing, Viable, script}
 use Rattle.rs_grammar.specs.Lexemes.{words, symbols, lexeme_of}
-use Rattle.rs_grammar.specs.Places.{most_deep, most_statements, IsScript, is_semicolon, ended, IsWithinStatements}
+use Rattle.rs_grammar.specs.Places.{most_deep, most_statements, IsScript, is_semicolon, statements_ended, IsWithinStatements}
 use Rattle.rs_grammar.specs.Reading.{State, Read, Fails, Cause, Expected}
 use Rattle.rs_grammar.specs.Reading as reading
 use Rattle.rs_grammar.specs.declared.lexeme.Lexeme.{Lexeme}
@@ -37,12 +37,12 @@ at_most_one : (b : Bool) → (if b then 1 else 0) ≤ 1
 at_most_one true = omega arith
 at_most_one false = omega arith
 
-ended-length : (ls : List Lexeme) → ended ls ≤ length ls
-ended-length [] = omega arith
-ended-length (l ∷ ls) = omega (arith, at_most_one (is_semicolon l), ended-length ls)
+statements_ended-length : (ls : List Lexeme) → statements_ended ls ≤ length ls
+statements_ended-length [] = omega arith
+statements_ended-length (l ∷ ls) = omega (arith, at_most_one (is_semicolon l), statements_ended-length ls)
 
 few-statements : (ls : List Lexeme) → length ls ≤ most_statements → IsWithinStatements ls
-few-statements ls few i h = omega (arith, ended-length (take i ls), length-take-le i ls (omega arith))
+few-statements ls few i h = omega (arith, statements_ended-length (take i ls), length-take-le i ls (omega arith))
 
 -- the parser is given all tokens of a short script
 given : (text : List ℕ) (tokens : List Token) → length tokens ≤ most_statements → Given text tokens (length tokens)

@@ -1,8 +1,8 @@
 -- Where the parser ends, and what it tells.
 use Rattle.std.specs.Prelude.{ℕ, ◌≡◌, Bool, true, List, [], ◌∷◌, ◌++◌, if◌then◌else◌}
 use Rattle.rs_grammar.specs.Kinds.{accepts}
-use Rattle.rs_grammar.specs.Places.{is_semicolon, ended, most_statements}
-use Rattle.rs_grammar.specs.declared.kind.Kind.TheVariants.{Foreign}
+use Rattle.rs_grammar.specs.Places.{is_semicolon, statements_ended, most_statements}
+use Rattle.rs_grammar.specs.declared.kind.TokenKind.TheVariants.{Foreign}
 use Rattle.rs_grammar.specs.declared.lexeme.Lexeme.{Lexeme}
 use Rattle.rs_lex.specs.declared.token.Token.{Token}
 use Rattle.rs_syntax.specs.declared.fault.SyntaxFault.{SyntaxFault}
@@ -14,7 +14,7 @@ pub record EndsLast (kept : List Lexeme) : Type 0 where
   pub last : Lexeme
   pub is : kept ≡ front ++ last ∷ []
   pub ends : is_semicolon last ≡ true
-  pub full : ended kept ≡ most_statements
+  pub full : statements_ended kept ≡ most_statements
 
 -- what is told where the parser can't go on at its next token, or behind the tokens that it was given
 abbrev pub refusal_of : List Lexeme → List Token → ℕ → Bool → SyntaxFault

@@ -1,39 +1,42 @@
 -- The expression that a tree of derivation stands for, rule by rule. Repeated operators group to the left, and the span of a node
 -- runs from its first token to its last one.
-use Rattle.std.specs.Prelude.{ℕ, [], if◌then◌else◌}
+use Rattle.std.specs.Prelude.{ℕ, [], ◌∷◌, if◌then◌else◌}
 use Rattle.rs_value.specs.declared.rel.Rel.{Rel}
 use Rattle.rs_value.specs.declared.rel.Rel.TheVariants.{Eq, Ne, Lt, Le, Gt, Ge}
+use Rattle.rs_lex.specs.declared.token.Span.{Span}
 use Rattle.rs_grammar.specs.Grammar.{Tree, Leaf, Pair, This, That, More, Node}
-use Rattle.rs_grammar.specs.declared.kind.Kind.TheVariants.{Plus, Star, Equal, NotEqual, Less, LessEqual, Greater, Min}
+use Rattle.rs_grammar.specs.Kinds.{accepts}
+use Rattle.rs_grammar.specs.declared.kind.TokenKind.{TokenKind}
+use Rattle.rs_grammar.specs.declared.kind.TokenKind.TheVariants.{Plus, Star, Equal, NotEqual, Less, LessEqual, Greater, Min}
 use Rattle.rs_syntax.specs.declared.name.ColRef.{ColRef}
 use Rattle.rs_syntax.specs.declared.node.Op.{Op}
 use Rattle.rs_syntax.specs.declared.node.Op.TheVariants.{Add, Sub, Mul, Div}
 use Rattle.rs_syntax.specs.Syntax.{Expression, Int, Text, Column, Neg, Arith, Abs, Least, Case, Compare, And, Or, Not}
 use Rattle.rs_syntax.specs.Syntax as syntax
-use Rattle.rs_syntax.specs.Trees.{starts_at, ends_at, span, span_of, is_kind, name_of, qualified, of_rule, last_of_rule}
+use Rattle.rs_syntax.specs.Trees.{starts_at, ends_at, span, span_of, is_of_kind, kind_at, leaf_name, qualified, of_rule, last_of_rule}
 
 abbrev pub adding_of : Tree → Op
-adding_of t = if is_kind Plus t then Add else Sub
+adding_of t = if is_of_kind Plus t then Add else Sub
 
 abbrev pub multiplying_of : Tree → Op
-multiplying_of t = if is_kind Star t then Mul else Div
+multiplying_of t = if is_of_kind Star t then Mul else Div
 
 abbrev pub rel_of : Tree → Rel
 rel_of t =
-    if is_kind Equal t then Eq else if is_kind NotEqual t then Ne else if is_kind Less t then Lt else if is_kind LessEqual t then Le
-    else if is_kind Greater t then Gt else Ge
+    if is_of_kind Equal t then Eq else if is_of_kind NotEqual t then Ne else if is_of_kind Less t then Lt else if is_of_kind LessEqual t then Le
+    else if is_of_kind Greater t then Gt else Ge
 
 -- what no rule gives
 abbrev pub no_expression : Expression
 no_expression = Text [] (span 0 0)
 
 -- MIN gives the lesser one of two, MAX the greater one
-abbrev pub extreme_of : Tree → Expression → Expression → Tree → Expression
-extreme_of word first second whole = if is_kind Min word then Least first second (span_of whole) else syntax.Greatest first second (span_of whole)
+abbrev pub extreme_of : TokenKind → Expression → Expression → Span → Expression
+extreme_of word first second at = if accepts (Min ∷ []) word then Least first second at else syntax.Greatest first second at
 
 -- plain: name [ "." name ]
 abbrev pub column_in : Tree → ColRef
-column_in t = qualified (name_of (of_rule 0 t)) (last_of_rule 1 t)
+column_in t = qualified (leaf_name (of_rule 0 t)) (last_of_rule 1 t)
 
 unfoldable mutual
   -- expr: conj { OR conj }
@@ -104,13 +107,13 @@ unfoldable mutual
   -- absolute: ABS "(" expr ")", or the column abs
   pub absolute_of : Tree → Expression
   absolute_of (Node (Pair word (This (Pair bracket (Pair t close))))) = Abs (expr_of t) (span (starts_at word) (ends_at close))
-  absolute_of (Node (Pair first (That rest))) = Column (qualified (name_of first) rest)
+  absolute_of (Node (Pair first (That rest))) = Column (qualified (leaf_name first) rest)
   absolute_of _ = no_expression
 
   -- extreme: ( MIN | MAX ) "(" expr "," expr ")", or the column min or max
   pub extreme_in : Tree → Expression
-  extreme_in (Node (Pair word (This (Pair bracket (Pair t (Pair comma (Pair u close))))))) = extreme_of word (expr_of t) (expr_of u) (Pair word close)
-  extreme_in (Node (Pair first (That rest))) = Column (qualified (name_of first) rest)
+  extreme_in (Node (Pair word (This (Pair bracket (Pair t (Pair comma (Pair u close))))))) = extreme_of (kind_at word) (expr_of t) (expr_of u) (span_of (Pair word close))
+  extreme_in (Node (Pair first (That rest))) = Column (qualified (leaf_name first) rest)
   extreme_in _ = no_expression
 
   -- brackets: "(" expr ")", which leave no trace

@@ -1,6 +1,8 @@
 pub mod Syntax
 pub mod Trees
 pub mod Expressions
+pub mod Operands
+pub mod Levels
 pub mod Statements
 pub mod Numbers
 pub mod Reads

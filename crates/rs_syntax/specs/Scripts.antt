@@ -2,7 +2,7 @@
 use Rattle.std.specs.Prelude.{ℕ, ◌≡◌, List, [], ◌∷◌, length, drop, map}
 use Rattle.rs_grammar.specs.Grammar.{Tree, Fits, yield, script}
 use Rattle.rs_grammar.specs.Lexemes.{lexeme_of}
-use Rattle.rs_grammar.specs.Places.{Problem, Unexpected, Foreigner, TooDeep, TooMany, Stands, IsRefused}
+use Rattle.rs_grammar.specs.Places.{Problem, Unexpected, Foreigner, TooDeep, TooMany, ProblemStands, IsRefused}
 use Rattle.rs_grammar.specs.declared.lexeme.Lexeme.{Lexeme}
 use Rattle.rs_lex.specs.declared.token.Token.{Token}
 use Rattle.rs_syntax.specs.Statements.{script_of}
@@ -23,7 +23,7 @@ pub record Parses (text : List ℕ) (tokens : List Token) (commands : List Comma
 
 -- nothing is wrong with the tokens of a script: each limit is kept, and the grammar is
 abbrev pub IsSound : List ℕ → List Token → Type 0
-IsSound text tokens = (problem : Problem) (at : ℕ) → Stands (lexemes_of text tokens) problem at → ⊥
+IsSound text tokens = (problem : Problem) (at : ℕ) → ProblemStands (lexemes_of text tokens) problem at → ⊥
 
 -- the byte at which a token starts; behind the last one, the length of the script
 abbrev pub byte_in : List ℕ → List Lexeme → ℕ

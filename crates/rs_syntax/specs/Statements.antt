@@ -1,7 +1,7 @@
 -- The statements that a tree of derivation stands for, rule by rule.
 use Rattle.std.specs.Prelude.{ℤ, pos, neg_ℤ, List, [], ◌∷◌, Option, if◌then◌else◌}
 use Rattle.rs_grammar.specs.Grammar.{Tree, Pair, This, That, Node}
-use Rattle.rs_grammar.specs.declared.kind.Kind.TheVariants as kinds
+use Rattle.rs_grammar.specs.declared.kind.TokenKind.TheVariants as kinds
 use Rattle.rs_lex.specs.declared.token.Span.{Span}
 use Rattle.rs_value.specs.declared.kind.Kind.{Kind}
 use Rattle.rs_value.specs.declared.kind.Kind.TheVariants as value
@@ -11,19 +11,19 @@ use Rattle.rs_syntax.specs.declared.name.Arg.TheVariants.{Column, Int, Text}
 use Rattle.rs_syntax.specs.declared.select.TermSyn.{TermSyn}
 use Rattle.rs_syntax.specs.declared.select.Items.{Items}
 use Rattle.rs_syntax.specs.declared.select.Items.TheVariants as items
-use Rattle.rs_syntax.specs.declared.select.SetOp.{SetOp}
-use Rattle.rs_syntax.specs.declared.select.SetOp.TheVariants.{UnionAll, Union, Intersect, Except}
+use Rattle.rs_value.specs.declared.set_op.SetOp.{SetOp}
+use Rattle.rs_value.specs.declared.set_op.SetOp.TheVariants.{UnionAll, Union, Intersect, Except}
 use Rattle.rs_syntax.specs.Syntax.{Expression, Block, Query, Command, CreateTable, CreatePredicate, CreateRankIndex, Ask, Declare, Fetch, Close, Explain, ExplainAnalyze}
-use Rattle.rs_syntax.specs.Trees.{starts_at, ends_at, span, span_of, leaf, part, last, inside, of_rule, last_of_rule, if_there, is_there, listed, is_kind, name_of, number_of, weight_in, colref_of}
+use Rattle.rs_syntax.specs.Trees.{starts_at, ends_at, span, span_of, leaf, part, last, inside, of_rule, last_of_rule, if_there, is_there, listed, is_of_kind, leaf_name, leaf_number, weight_in, colref_of}
 use Rattle.rs_syntax.specs.Expressions.{expr_of}
 
 -- INT | INTEGER | TEXT
 abbrev pub data_type_of : Tree → Kind
-data_type_of t = if is_kind kinds.Text t then value.Text else value.Int
+data_type_of t = if is_of_kind kinds.Text t then value.Text else value.Int
 
 -- column: name ( INT | INTEGER | TEXT )
 abbrev pub column_of : Tree → Name × Kind
-column_of t = (name_of (of_rule 0 t), data_type_of (last_of_rule 1 t))
+column_of t = (leaf_name (of_rule 0 t), data_type_of (last_of_rule 1 t))
 
 -- columns: column { "," column }
 abbrev pub columns_of : Tree → List (Name × Kind)
@@ -60,7 +60,7 @@ weight_of _ name = (pos 1, (leaf name).at)
 abbrev pub term_of : Tree → TermSyn
 term_of t = record {
   weight = weight_of (of_rule 0 t) (of_rule 1 t);
-  predicate = name_of (of_rule 1 t);
+  predicate = leaf_name (of_rule 1 t);
   args = args_of (of_rule 3 t);
   at = span_of t;
 }
@@ -71,11 +71,11 @@ terms_of t = listed term_of (inside t)
 
 -- [ AS ] name, of which the name is the alias
 abbrev pub alias_of : Tree → Name
-alias_of t = name_of (last 1 t)
+alias_of t = leaf_name (last 1 t)
 
 -- entry: name [ [ AS ] name ]
 abbrev pub entry_of : Tree → Name × Option Name
-entry_of t = (name_of (of_rule 0 t), if_there alias_of (last_of_rule 1 t))
+entry_of t = (leaf_name (of_rule 0 t), if_there alias_of (last_of_rule 1 t))
 
 -- entries: entry { "," entry }
 abbrev pub entries_of : Tree → List (Name × Option Name)
@@ -117,7 +117,7 @@ right_of t = (set_operator_of (part 0 t), block_of (last 1 t))
 
 -- LIMIT number
 abbrev pub limit_of : Tree → ℤ × Span
-limit_of t = number_of (last 1 t)
+limit_of t = leaf_number (last 1 t)
 
 -- select: block [ set_operator block ] ORDER BY terms [ DESC ] [ LIMIT number ]
 abbrev pub select_of : Tree → Query
@@ -130,17 +130,17 @@ select_of t = record {
 
 -- create_table: TABLE name "(" columns ")" FROM literal
 abbrev pub create_table_of : Tree → Command
-create_table_of t = CreateTable (name_of (of_rule 1 t)) (columns_of (of_rule 3 t)) (leaf (last_of_rule 6 t)).text
+create_table_of t = CreateTable (leaf_name (of_rule 1 t)) (columns_of (of_rule 3 t)) (leaf (last_of_rule 6 t)).text
 
 -- create_predicate: PREDICATE name "(" columns ")" MAX number [ COST number ] AS expr
 abbrev pub create_predicate_of : Tree → Command
 create_predicate_of t =
-    CreatePredicate (name_of (of_rule 1 t)) (columns_of (of_rule 3 t)) (number_of (of_rule 6 t)) (if_there limit_of (of_rule 7 t)) (expr_of (last_of_rule 9 t))
+    CreatePredicate (leaf_name (of_rule 1 t)) (columns_of (of_rule 3 t)) (leaf_number (of_rule 6 t)) (if_there limit_of (of_rule 7 t)) (expr_of (last_of_rule 9 t))
 
 -- create_rank_index: RANK INDEX name ON name "(" name "(" args ")" ")"
 abbrev pub create_rank_index_of : Tree → Command
 create_rank_index_of t =
-    CreateRankIndex (name_of (of_rule 2 t)) (name_of (of_rule 4 t)) (name_of (of_rule 6 t)) (args_of (of_rule 8 t))
+    CreateRankIndex (leaf_name (of_rule 2 t)) (leaf_name (of_rule 4 t)) (leaf_name (of_rule 6 t)) (args_of (of_rule 8 t))
     (span (starts_at (of_rule 6 t)) (ends_at (of_rule 9 t)))
 
 -- create: CREATE ( create_table | create_predicate | create_rank_index )
@@ -155,15 +155,15 @@ create_of t = create_in (last_of_rule 1 t)
 
 -- declare: DECLARE name CURSOR FOR select
 abbrev pub declare_of : Tree → Command
-declare_of t = Declare (name_of (of_rule 1 t)) (select_of (last_of_rule 4 t))
+declare_of t = Declare (leaf_name (of_rule 1 t)) (select_of (last_of_rule 4 t))
 
 -- fetch: FETCH number FROM name
 abbrev pub fetch_of : Tree → Command
-fetch_of t = Fetch (number_of (of_rule 1 t)) (name_of (last_of_rule 3 t))
+fetch_of t = Fetch (leaf_number (of_rule 1 t)) (leaf_name (last_of_rule 3 t))
 
 -- close: CLOSE name
 abbrev pub close_of : Tree → Command
-close_of t = Close (name_of (last_of_rule 1 t))
+close_of t = Close (leaf_name (last_of_rule 1 t))
 
 -- explain: EXPLAIN [ ANALYZE ] select
 abbrev pub explain_of : Tree → Command

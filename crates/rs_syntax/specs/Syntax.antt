@@ -11,7 +11,7 @@ use Rattle.rs_syntax.specs.declared.node.Node.{Node}
 use Rattle.rs_syntax.specs.declared.node.Node.TheVariants as node
 use Rattle.rs_syntax.specs.declared.select.TermSyn.{TermSyn}
 use Rattle.rs_syntax.specs.declared.select.Items.{Items}
-use Rattle.rs_syntax.specs.declared.select.SetOp.{SetOp}
+use Rattle.rs_value.specs.declared.set_op.SetOp.{SetOp}
 use Rattle.rs_syntax.specs.declared.select.BlockSyn.{BlockSyn}
 use Rattle.rs_syntax.specs.declared.select.Select.{Select}
 use Rattle.rs_syntax.specs.declared.statement.Statement.{Statement}

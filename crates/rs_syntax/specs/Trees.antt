@@ -2,8 +2,8 @@
 use Rattle.std.specs.Prelude.{ℕ, zero, suc, ℤ, pos, Bool, true, false, List, [], ◌∷◌, map, Option, Some, None}
 use Rattle.rs_grammar.specs.Kinds.{accepts}
 use Rattle.rs_grammar.specs.Grammar.{Tree, Leaf, Pair, This, More, Node, yield, start_of, end_after}
-use Rattle.rs_grammar.specs.declared.kind.Kind.{Kind}
-use Rattle.rs_grammar.specs.declared.kind.Kind.TheVariants.{Foreign}
+use Rattle.rs_grammar.specs.declared.kind.TokenKind.{TokenKind}
+use Rattle.rs_grammar.specs.declared.kind.TokenKind.TheVariants.{Foreign}
 use Rattle.rs_grammar.specs.declared.lexeme.Lexeme.{Lexeme}
 use Rattle.rs_lex.specs.declared.token.Span.{Span}
 use Rattle.rs_syntax.specs.declared.name.Name.{Name}
@@ -72,33 +72,33 @@ items_of _ = []
 abbrev pub listed : {A : Type 0} → (Tree → A) → Tree → List A
 listed f t = f (part 0 t) ∷ map (λ u. f (last 1 u)) (items_of (last 1 t))
 
-abbrev pub is_kind : Kind → Tree → Bool
-is_kind kind t = accepts (kind ∷ []) (leaf t).kind
+abbrev pub is_of_kind : TokenKind → Tree → Bool
+is_of_kind kind t = accepts (kind ∷ []) (leaf t).kind
 
-abbrev pub name_of : Tree → Name
-name_of t = record { text = (leaf t).text; at = (leaf t).at }
+abbrev pub leaf_name : Tree → Name
+leaf_name t = record { text = (leaf t).text; at = (leaf t).at }
 
-abbrev pub place_of : Tree → Span
-place_of t = (leaf t).at
+abbrev pub leaf_span : Tree → Span
+leaf_span t = (leaf t).at
 
-abbrev pub text_of : Tree → List ℕ × Span
-text_of t = ((leaf t).text, (leaf t).at)
+abbrev pub leaf_text : Tree → List ℕ × Span
+leaf_text t = ((leaf t).text, (leaf t).at)
 
-abbrev pub number_of : Tree → ℤ × Span
-number_of t = ((leaf t).number, (leaf t).at)
+abbrev pub leaf_number : Tree → ℤ × Span
+leaf_number t = ((leaf t).number, (leaf t).at)
 
 -- number "*"
 abbrev pub weight_in : Tree → ℤ × Span
-weight_in t = number_of (part 0 t)
+weight_in t = leaf_number (part 0 t)
 
-abbrev pub kind_at : Tree → Kind
+abbrev pub kind_at : Tree → TokenKind
 kind_at t = (leaf t).kind
 
 -- a name and what may stand behind it: [ "." name ]
 abbrev pub qualified : Name → Tree → ColRef
-qualified first (This t) = record { alias = Some first; column = name_of (last 1 t) }
+qualified first (This t) = record { alias = Some first; column = leaf_name (last 1 t) }
 qualified first _ = record { alias = None; column = first }
 
 -- colref: name [ "." name ]
 abbrev pub colref_of : Tree → ColRef
-colref_of t = qualified (name_of (of_rule 0 t)) (last_of_rule 1 t)
+colref_of t = qualified (leaf_name (of_rule 0 t)) (last_of_rule 1 t)

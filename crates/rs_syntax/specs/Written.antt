@@ -5,7 +5,7 @@ use Rattle.rs_value.specs.Number.{greatest_int}
 use Rattle.rs_syntax.specs.Syntax.{Block, Query, Command, CreateTable, CreatePredicate, CreateRankIndex, Ask, Declare, Fetch, Close, Explain, ExplainAnalyze}
 use Rattle.rs_syntax.specs.declared.name.Arg.{Arg}
 use Rattle.rs_syntax.specs.declared.name.Arg.TheVariants.{Column, Int, Text}
-use Rattle.rs_syntax.specs.declared.select.SetOp.{SetOp}
+use Rattle.rs_value.specs.declared.set_op.SetOp.{SetOp}
 use Rattle.rs_syntax.specs.declared.select.TermSyn.{TermSyn}
 
 -- an argument that is a number is in range

@@ -13,5 +13,5 @@ pub use fault::SyntaxFault;
 pub use name::{Arg, ColRef, Name};
 pub use node::{Node, Op};
 pub use script::{one_list_of_statements, one_refusal, parse};
-pub use select::{BlockSyn, Items, Select, SetOp, TermSyn};
+pub use select::{BlockSyn, Items, Select, TermSyn};
 pub use statement::Statement;

@@ -3,7 +3,7 @@ use rs_lex::Span;
 use rs_value::{Rel, Text};
 
 /// An operator of arithmetic.
-#[derive(Clone, Copy, Debug, PartialEq, Eq)]
+#[derive(Clone, Copy, Debug)]
 pub enum Op {
     Add,
     Sub,
@@ -13,7 +13,7 @@ pub enum Op {
 
 /// An expression, each part with its place: from its first token to its last. Brackets round a whole node aren't
 /// part of that node.
-#[derive(Debug, Drop, PartialEq, Eq)]
+#[derive(Debug, Drop)]
 pub enum Node {
     Int(i64, Span),
     Text(Text, Span),

@@ -19,6 +19,7 @@ mod cases;
 mod expressions;
 mod names;
 mod nodes;
+mod operators;
 mod order;
 mod statements;
 mod terms;

@@ -12,7 +12,7 @@ ghost use Rattle.rs_syntax.specs.declared.fault.SyntaxFault.{SyntaxFault};
 use crate::fault::SyntaxFault;
 use crate::parser::{Fault, Parser};
 use crate::statement::Statement;
-use rs_grammar::{Kind, Lexeme, lexemes};
+use rs_grammar::{Lexeme, TokenKind, lexemes};
 use rs_lex::Token;
 use rs_value::Text;
 use std::alloc::Global;
@@ -68,7 +68,7 @@ fn statements_end(lexemes: &[Lexeme]) -> usize
 {
     let mut ended = 0;
     for (index, lexeme) in lexemes.iter().enumerate() {
-        if lexeme.kind.is(Kind::Semicolon) {
+        if lexeme.kind.is(TokenKind::Semicolon) {
             ended += 1;
             if ended == MOST_STATEMENTS {
                 return index + 1;
@@ -95,7 +95,7 @@ fn refusal(parser: &Parser, more: &[Token], script: &Text, is_too_deep: bool) ->
     let at = lexeme.at.start;
     if is_too_deep {
         SyntaxFault::TooDeep { at }
-    } else if lexeme.kind.is(Kind::Foreign) {
+    } else if lexeme.kind.is(TokenKind::Foreign) {
         SyntaxFault::NotInProfile { at }
     } else {
         SyntaxFault::Expected { at }

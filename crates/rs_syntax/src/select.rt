@@ -1,7 +1,7 @@
 use crate::name::{Arg, ColRef, Name};
 use crate::node::Node;
 use rs_lex::Span;
-use rs_value::List;
+use rs_value::{List, SetOp};
 
 /// A term of ORDER BY: a predicate of arguments, times a weight.
 #[derive(Debug, Drop)]
@@ -30,15 +30,6 @@ pub struct BlockSyn {
     /// Tables with their aliases, where one is written.
     pub from: List<(Name, Option<Name>)>,
     pub filter: Option<Node>,
-}
-
-/// How two blocks are put together.
-#[derive(Clone, Copy, Debug, PartialEq, Eq)]
-pub enum SetOp {
-    UnionAll,
-    Union,
-    Intersect,
-    Except,
 }
 
 /// A query.

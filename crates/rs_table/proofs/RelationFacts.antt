@@ -16,7 +16,8 @@ use Rattle.rs_table.specs.declared.fault.TableFault.TheVariants.{NotUtf8, NotInt
 use Rattle.rs_table.specs.Column.{Column}
 use Rattle.rs_table.specs.Relation.{Relation, IsTable, cell_at, row_fits, most_rows}
 use Rattle.rs_value.specs.Value.{fits}
-use Rattle.rs_table.specs.Reading.{◌>>=◌, cell_of, cells_of, row_of, rows_from}
+use Rattle.rs_value.specs.Results.{◌>>=◌}
+use Rattle.rs_table.specs.Reading.{cell_of, cells_of, row_of, rows_from}
 use Rattle.rs_table.proofs.NumberFacts.{int_value-within}
 
 -- a value that was read fits the column's kind

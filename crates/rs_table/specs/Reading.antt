@@ -3,6 +3,7 @@ use Rattle.std.specs.Prelude.{ℕ, ℤ, ◌+◌, ◌==◌, nat_lt, List, [], ◌
 use Rattle.std.specs.List.{list_any}
 use Rattle.std.specs.Str.{bytes_eq, is_utf8}
 use Rattle.rs_value.specs.Number.{int_value}
+use Rattle.rs_value.specs.Results.{◌>>=◌}
 use Rattle.rs_value.specs.declared.kind.Kind.{Kind}
 use Rattle.rs_value.specs.declared.kind.Kind.TheVariants as kind
 use Rattle.rs_value.specs.declared.value.Value.{Value}
@@ -12,12 +13,6 @@ use Rattle.rs_table.specs.declared.fault.TableFault.TheVariants.{NoHeader, Heade
 use Rattle.rs_table.specs.Records.{records_of}
 use Rattle.rs_table.specs.Column.{Column, columns_with}
 use Rattle.rs_table.specs.Relation.{Relation, most_rows}
-
--- goes on with what was read, or stops at the fault
-infixl 10 ◌>>=◌
-abbrev pub ◌>>=◌ : {A B E : Type 0} → Result A E → (A → Result B E) → Result B E
-Ok a >>= next = next a
-Err fault >>= next = Err fault
 
 -- the value that a field has in a column of this kind
 abbrev pub cell_of : Kind → ℕ → ℕ → List ℕ → Result Value TableFault
@@ -60,9 +55,9 @@ difference_from number (column ∷ columns) (name ∷ names) =
     if bytes_eq name column.0 then difference_from (number + 1) columns names else Some number
 
 -- the rows of a file's records, the first of which is the header
-abbrev pub rows_of : List Column → List (List (List ℕ)) → Result (List (List Value)) TableFault
-rows_of schema [] = Err NoHeader
-rows_of schema (header ∷ rest) = under (difference_from 1 schema header) where
+abbrev pub rows_of_records : List Column → List (List (List ℕ)) → Result (List (List Value)) TableFault
+rows_of_records schema [] = Err NoHeader
+rows_of_records schema (header ∷ rest) = under (difference_from 1 schema header) where
   under : Option ℕ → Result (List (List Value)) TableFault
   under (Some column) = Err (HeaderDiffers column)
   under None = rows_from schema 1 rest
@@ -70,7 +65,7 @@ rows_of schema (header ∷ rest) = under (difference_from 1 schema header) where
 -- the table of a file
 abbrev pub table_of : List Column → List ℕ → Result Relation TableFault
 table_of schema bytes = do
-  rows ← rows_of schema (records_of bytes)
+  rows ← rows_of_records schema (records_of bytes)
   Ok (record { schema = schema; rows = rows })
 
 -- the first field, from this number on, that isn't UTF-8

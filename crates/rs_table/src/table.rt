@@ -7,7 +7,7 @@ ghost use Rattle.rs_table.specs.Relation.{cell_at, most_rows, row_fits};
 ghost use Rattle.rs_value.specs.Value.{fits};
 ghost use Rattle.std.specs.List.{AllByRecursion};
 ghost use Rattle.rs_table.specs.Appended.{appended};
-ghost use Rattle.rs_table.specs.Reading.{cells_of, difference_from, row_of, rows_from, rows_of, table_of};
+ghost use Rattle.rs_table.specs.Reading.{cells_of, difference_from, row_of, rows_from, rows_of_records, table_of};
 
 use crate::cell::{field_at, read_cell};
 use crate::fault::TableFault;
@@ -106,7 +106,7 @@ fn read_header(
     record_: &mut ByteRecord,
 ) -> Result<(), TableFault>
     requires { length columns.now ≤ 64 }
-    ensures { MatchResult result (λ _. rows_of columns.now records.old ≡ rows_from columns.now 1 records.new) (λ fault. (fault ≡ TableFault.Memory) ⊎ (rows_of columns.now records.old ≡ Err fault)) }
+    ensures { MatchResult result (λ _. rows_of_records columns.now records.old ≡ rows_from columns.now 1 records.new) (λ fault. (fault ≡ TableFault.Memory) ⊎ (rows_of_records columns.now records.old ≡ Err fault)) }
 {
     match records.read(record_) {
         Ok(true) => match difference(columns, record_) {

@@ -1,5 +1,6 @@
 pub mod Equal
 pub mod OutsideFacts
+pub mod ResultFacts
 pub mod NumberFacts
 pub mod OnLiterals
 pub mod TextFacts

@@ -1,4 +1,5 @@
 pub mod Answer
+pub mod Results
 pub mod Faults
 pub mod Outside
 pub mod Text

@@ -6,6 +6,7 @@ mod list;
 mod memory;
 mod number;
 mod rel;
+mod set_op;
 mod text;
 mod value;
 
@@ -14,5 +15,6 @@ pub use list::List;
 pub use memory::Memory;
 pub use number::{GREATEST_INT, decimal_of, int_of};
 pub use rel::Rel;
+pub use set_op::SetOp;
 pub use text::{Text, TextFault};
 pub use value::Value;

@@ -96,6 +96,17 @@ impl Text {
     }
 }
 
+/// The text of the same characters. It takes no memory.
+impl From<String> for Text {
+    ghost use Rattle.std.specs.Prelude.{◌≡◌, string_bytes};
+
+    ghost from_gives = { λ chars text. text ≡ string_bytes chars };
+
+    fn from(chars: String) -> Text {
+        Text { chars }
+    }
+}
+
 /// Two texts are equal where their bytes are: no two spellings of a character are made one.
 impl PartialEq for Text {
     ghost eq = { pointwise ◌==◌ };

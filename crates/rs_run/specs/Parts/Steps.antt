@@ -1,16 +1,12 @@
 -- What the parts of `top` and `plain` do.
-use Rattle.std.specs.Prelude.{ℕ, ◌≡◌, ◌⊎◌, ◌≤◌, ◌-◌, ◌+◌, List, [], ◌∷◌, length, map, Option, Some, None, IfOk, MatchResult, unwrap_or, option_map, slice_get, Result, Ok, Err}
-use Rattle.std.specs.List.{AllByRecursion}
+use Rattle.std.specs.Prelude.{ℕ, ◌≡◌, ◌⊎◌, ◌≤◌, List, [], ◌∷◌, length, map, Option, Some, None, IfOk, MatchResult, option_map, Result, Ok, Err}
 use Rattle.rs_value.specs.Outside.{Faulted, Keeps, Outside}
-use Rattle.rs_value.specs.declared.value.Value.{Value}
 use Rattle.rs_outside.specs.Files.{FilesTold}
 use Rattle.rs_outside.specs.declared.files.FetchFault.TheVariants.{Failed}
 use Rattle.rs_table.specs.Column.{Column}
-use Rattle.rs_table.specs.Reading.{◌>>=◌, table_of}
+use Rattle.rs_value.specs.Results.{◌>>=◌}
+use Rattle.rs_table.specs.Reading.{table_of}
 use Rattle.rs_table.specs.Relation.{Relation}
-use Rattle.rs_rank.specs.Stable.{stable}
-use Rattle.rs_rank.specs.declared.scored_row.ScoredRow.{ScoredRow}
-use Rattle.rs_lines.specs.Row.{line_of}
 use Rattle.rs_syntax.specs.Syntax.{Command, CreatePredicate, CreateRankIndex}
 use Rattle.rs_syntax.specs.declared.name.Name.{Name}
 use Rattle.rs_run.specs.declared.fault.Fault.{Fault}
@@ -20,7 +16,7 @@ use Rattle.rs_run.specs.Halts.{Did, Done, Halt, fault_of, fetched_more}
 use Rattle.rs_run.specs.Plain.{source_of}
 use Rattle.rs_run.specs.Run.{Event, Put, Run, finds_in}
 use Rattle.rs_run.specs.Sequence.{Step}
-use Rattle.rs_run.specs.Top.{or_table_fault, table_limit, top_table, score_at, scored_from}
+use Rattle.rs_run.specs.Top.{or_table_fault, table_limit, top_table}
 use Rattle.rs_run.specs.World.{KeepsWorld, World}
 
 -- the answer of a call whose fault this is, if there is one; there may be no memory for what a fault tells
@@ -112,27 +108,7 @@ abbrev pub IsIndexNamed : Name → Command → Type 0
 IsIndexNamed name (CreateRankIndex own table predicate args at) = name ≡ own
 IsIndexNamed name _ = ⊥
 
--- the values of a row of this number
-abbrev pub row_in : Relation → ℕ → List Value
-row_in table row = unwrap_or (slice_get table.rows (row - 1)) []
-
 -- a row of this number is in the table
 pub record IsRow (table : Relation) (row : ℕ) : Type 0 where
   pub some : 1 ≤ row
   pub within : row ≤ length table.rows
-
--- a row of this number is in the table, and this is its score by the number at a place
-pub record IsRanked (table : Relation) (place score row : ℕ) : Type 0 where
-  pub is_row : IsRow table row
-  pub scored : score ≡ score_at place (row_in table row)
-
--- the lines of rows with their scores, from this rank on
-abbrev pub lines_of : Relation → ℕ → List ScoredRow → List (List ℕ)
-lines_of table rank [] = []
-lines_of table rank (r ∷ rest) = line_of rank r.score (row_in table r.row) ∷ lines_of table (rank + 1) rest
-
--- the rows of a table with their scores, in the stable order
-pub record Ranks (table : Relation) (column : List ℕ) (max place : ℕ) (ranked : List ScoredRow) : Type 0 where
-  pub scored : scored_from column max place 1 table.rows ≡ Ok table.rows
-  pub ordered : map (λ r. row_in table r.row) ranked ≡ stable (score_at place) table.rows
-  pub each : AllByRecursion (λ r. IsRanked table place r.score r.row) ranked

@@ -1,8 +1,8 @@
 //! Queries: blocks, what puts two of them together, and the order of their rows.
 ghost use Rattle.std.specs.Prelude.{option_map};
 ghost use Rattle.rs_grammar.specs.Grammar.{Many, Use, block, colref, entries, entry, expr, items, name as name_part, optional, select, set_operator, word, ◌⨟◌};
-ghost use Rattle.rs_grammar.specs.declared.kind.Kind.TheVariants.{As, Comma, Number, Where};
-ghost use Rattle.rs_grammar.specs.declared.kind.Kind.{Kind};
+ghost use Rattle.rs_grammar.specs.declared.kind.TokenKind.TheVariants.{As, Comma, Number, Where};
+ghost use Rattle.rs_grammar.specs.declared.kind.TokenKind.{TokenKind};
 ghost use Rattle.rs_syntax.specs.Reads.{Reads};
 ghost use Rattle.rs_syntax.specs.Statements.{alias_of, block_of, entries_of, entry_of, filter_of, limit_of, right_of, select_items_of, select_of, set_operator_of};
 ghost use Rattle.rs_syntax.specs.Syntax as syntax;
@@ -12,10 +12,10 @@ ghost use Rattle.rs_syntax.specs.Trees.{colref_of, if_there, listed};
 use crate::name::{ColRef, Name};
 use crate::node::Node;
 use crate::parser::{Fault, Parser};
-use crate::select::{BlockSyn, Items, Select, SetOp};
-use rs_grammar::Kind;
+use crate::select::{BlockSyn, Items, Select};
+use rs_grammar::TokenKind;
 use rs_lex::Span;
-use rs_value::List;
+use rs_value::{List, SetOp};
 use std::alloc::Global;
 
 impl Parser {
@@ -38,7 +38,7 @@ impl Parser {
     fn right(&mut self, alloc: Global) -> Result<Option<(SetOp, BlockSyn)>, Fault>
         ensures { Reads (optional (Use set_operator ⨟ Use block)) (if_there right_of) (λ r. option_map syntax.right_of r) self.old self.new result }
     {
-        if !self.at_any(&[Kind::Except, Kind::Intersect, Kind::Union]) {
+        if !self.at_any(&[TokenKind::Except, TokenKind::Intersect, TokenKind::Union]) {
             return Ok(None);
         }
         let operator = self.set_operator()?;
@@ -50,25 +50,25 @@ impl Parser {
     fn set_operator(&mut self) -> Result<SetOp, Fault>
         ensures { Reads (Use set_operator) set_operator_of (λ o. o) self.old self.new result }
     {
-        if self.at(Kind::Union) {
-            self.expect(Kind::Union)?;
-            let is_all = self.accept(Kind::All)?;
+        if self.at(TokenKind::Union) {
+            self.expect(TokenKind::Union)?;
+            let is_all = self.accept(TokenKind::All)?;
             return Ok(if is_all {
                 SetOp::UnionAll
             } else {
                 SetOp::Union
             });
         }
-        if self.at(Kind::Intersect) {
-            self.expect(Kind::Intersect)?;
+        if self.at(TokenKind::Intersect) {
+            self.expect(TokenKind::Intersect)?;
             return Ok(SetOp::Intersect);
         }
-        self.expect(Kind::Except)?;
+        self.expect(TokenKind::Except)?;
         Ok(SetOp::Except)
     }
 
     /// A word and a number, where the word stands there: `[ LIMIT number ]` or `[ COST number ]`.
-    pub fn numbered(&mut self, kind: Kind) -> Result<Option<(i64, Span)>, Fault>
+    pub fn numbered(&mut self, kind: TokenKind) -> Result<Option<(i64, Span)>, Fault>
         ensures { Reads (optional (word kind ⨟ word Number)) (if_there limit_of) (λ n. n) self.old self.new result }
     {
         if !self.at(kind) {
@@ -83,10 +83,10 @@ impl Parser {
     fn block(&mut self, alloc: Global) -> Result<BlockSyn, Fault>
         ensures { Reads (Use block) block_of syntax.block_of self.old self.new result }
     {
-        self.expect(Kind::Select)?;
-        let distinct = self.accept(Kind::Distinct)?;
+        self.expect(TokenKind::Select)?;
+        let distinct = self.accept(TokenKind::Distinct)?;
         let items = self.items(alloc)?;
-        or_drop!(self.expect(Kind::From), items);
+        or_drop!(self.expect(TokenKind::From), items);
         let from = or_drop!(self.entries(alloc), items);
         let filter = or_drop!(self.filter(alloc), items, from);
         Ok(BlockSyn {
@@ -101,10 +101,10 @@ impl Parser {
     fn filter(&mut self, alloc: Global) -> Result<Option<Node>, Fault>
         ensures { Reads (optional (word Where ⨟ Use expr)) (if_there filter_of) (λ f. option_map expression_of f) self.old self.new result }
     {
-        if !self.at(Kind::Where) {
+        if !self.at(TokenKind::Where) {
             return Ok(None);
         }
-        self.expect(Kind::Where)?;
+        self.expect(TokenKind::Where)?;
         let filter = self.expr(alloc)?;
         Ok(Some(filter))
     }
@@ -113,8 +113,8 @@ impl Parser {
     fn items(&mut self, alloc: Global) -> Result<Items, Fault>
         ensures { Reads (Use items) select_items_of (λ i. i) self.old self.new result }
     {
-        if self.at(Kind::Star) {
-            let at = self.expect(Kind::Star)?;
+        if self.at(TokenKind::Star) {
+            let at = self.expect(TokenKind::Star)?;
             return Ok(Items::Star(at));
         }
         let columns = self.colrefs(alloc)?;
@@ -127,8 +127,8 @@ impl Parser {
     {
         let mut columns = Vec::new(alloc);
         columns.push(self.colref()?)?;
-        while self.at(Kind::Comma) {
-            self.expect(Kind::Comma)?;
+        while self.at(TokenKind::Comma) {
+            self.expect(TokenKind::Comma)?;
             columns.push(self.colref()?)?;
         }
         Ok(List::of(columns))
@@ -140,8 +140,8 @@ impl Parser {
     {
         let mut entries = Vec::new(alloc);
         entries.push(self.entry()?)?;
-        while self.at(Kind::Comma) {
-            self.expect(Kind::Comma)?;
+        while self.at(TokenKind::Comma) {
+            self.expect(TokenKind::Comma)?;
             entries.push(self.entry()?)?;
         }
         Ok(List::of(entries))
@@ -160,10 +160,10 @@ impl Parser {
     fn alias(&mut self) -> Result<Option<Name>, Fault>
         ensures { Reads (optional (optional (word As) ⨟ name_part)) (if_there alias_of) (λ a. a) self.old self.new result }
     {
-        if !self.at(Kind::As) && !self.at_name() {
+        if !self.at(TokenKind::As) && !self.at_name() {
             return Ok(None);
         }
-        let _ = self.accept(Kind::As)?;
+        let _ = self.accept(TokenKind::As)?;
         let alias = self.name()?;
         Ok(Some(alias))
     }

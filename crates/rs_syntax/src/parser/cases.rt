@@ -5,12 +5,13 @@ ghost use Rattle.rs_syntax.specs.Cases.{cases_in, when_of, when_view, whens_of};
 ghost use Rattle.rs_syntax.specs.Expressions.{case_of};
 ghost use Rattle.rs_syntax.specs.Makes.{Makes};
 ghost use Rattle.rs_syntax.specs.Reads.{Reads};
-ghost use Rattle.rs_syntax.specs.Syntax.{expression_of};
+ghost use Rattle.rs_syntax.specs.Syntax.{Case, expression_of};
 
 use crate::node::Node;
 use crate::parser::nodes::case;
+use crate::parser::operators::Level;
 use crate::parser::{Fault, Parser};
-use rs_grammar::Kind;
+use rs_grammar::TokenKind;
 use rs_lex::Span;
 use std::alloc::Global;
 
@@ -29,15 +30,13 @@ impl Parser {
         ensures { Reads (Use case) case_of expression_of self.old self.new result }
     {
         let from = self.start();
-        self.expect(Kind::Case)?;
+        self.expect(TokenKind::Case)?;
         let first = self.when(alloc)?;
         let others = or_drop!(self.whens(alloc), first);
-        or_drop!(self.expect(Kind::Else), first, others);
-        let otherwise = or_drop!(self.expr(alloc), first, others);
-        or_drop!(self.expect(Kind::End), first, others, otherwise);
+        or_drop!(self.expect(TokenKind::Else), first, others);
+        let otherwise = or_drop!(self.expr_before(alloc, TokenKind::End), first, others);
         let at = self.since(from);
-        let rest = or_drop!(fold_cases(alloc, others, otherwise, at.end), first);
-        case(alloc, first.condition, first.outcome, rest, at)
+        cases(alloc, first, others, otherwise, at)
     }
 
     /// `{ when }`
@@ -46,7 +45,7 @@ impl Parser {
         ensures { Reads (Many (Use when)) whens_of (λ parts. map when_view parts.items) self.old self.new result }
     {
         let mut parts = Vec::new(alloc);
-        'more: while self.at(Kind::When) {
+        'more: while self.at(TokenKind::When) {
             let part = self.when(alloc)?;
             parts.push(part)?;
         }
@@ -59,16 +58,29 @@ impl Parser {
         ensures { Reads (Use when) when_of when_view self.old self.new result }
     {
         let from = self.start();
-        self.expect(Kind::When)?;
-        let condition = self.expr(alloc)?;
-        or_drop!(self.expect(Kind::Then), condition);
-        let outcome = or_drop!(self.expr(alloc), condition);
+        self.expect(TokenKind::When)?;
+        let condition = self.expr_before(alloc, TokenKind::Then)?;
+        let outcome = or_drop!(self.chain(alloc, Level::Or), condition);
         Ok(When {
             from,
             condition,
             outcome,
         })
     }
+}
+
+/// A CASE of a first WHEN part, others and an ELSE part.
+fn cases(
+    alloc: Global,
+    first: When,
+    others: Vec<When>,
+    otherwise: Node,
+    at: Span,
+) -> Result<Node, Fault>
+    ensures { Makes (Case (expression_of first.condition) (expression_of first.outcome) (cases_in at.end (map when_view others.items) (expression_of otherwise)) at) result }
+{
+    let rest = or_drop!(fold_cases(alloc, others, otherwise, at.end), first);
+    case(alloc, first.condition, first.outcome, rest, at)
 }
 
 /// The WHEN parts up to a place, each with the next one as its rest, and the ELSE part as that of the last one.

@@ -1,53 +1,69 @@
-//! Expressions, one function a rule. Every recursion stands behind a token that counts towards the depth, so that
-//! the depth bounds the stack; chains of operators are read by loops.
-ghost use Rattle.std.specs.Prelude.{[], ◌∷◌};
-ghost use Rattle.rs_grammar.specs.Grammar.{One, Use, absolute, base, brackets, comp, conj, expr, extreme, neg, plain, prod, sign, sum};
-ghost use Rattle.rs_grammar.specs.Kinds.{comparisons};
-ghost use Rattle.rs_grammar.specs.declared.kind.Kind.TheVariants.{Minus, Plus, Slash, Star};
-ghost use Rattle.rs_syntax.specs.Expressions.{absolute_of, adding_of, base_of, brackets_of, column_in, comp_of, conj_of, expr_of, extreme_in, multiplying_of, neg_of, prod_of, rel_of, sign_of, sum_of};
+//! Expressions, one function a rule, but for the four rules of operators that group to the left, which share one. Every
+//! recursion stands behind a token that counts towards the depth, so that the depth bounds the stack; chains of
+//! operators are read by loops.
+ghost use Rattle.std.specs.Prelude.{◌≡◌, [], ◌∷◌, false};
+ghost use Rattle.rs_grammar.specs.Grammar.{One, Use, absolute, base, brackets, comp, expr, extreme, name as name_part, neg, optional, plain, sign, word, ◌∣◌, ◌⨟◌};
+ghost use Rattle.rs_grammar.specs.Reading.{next_is};
+ghost use Rattle.rs_grammar.specs.declared.kind.TokenKind.TheVariants.{Abs, Case, Dot, Max, Min, OpenBracket};
+ghost use Rattle.rs_syntax.specs.Expressions.{absolute_of, base_of, brackets_of, column_in, comp_of, expr_of, extreme_in, neg_of, sign_of};
+ghost use Rattle.rs_syntax.specs.Levels.{chain_of, operand_of, operand_rule, rule_at};
+ghost use Rattle.rs_syntax.specs.Operands.{first_expr_of, word_of};
 ghost use Rattle.rs_syntax.specs.Reads.{Reads};
 ghost use Rattle.rs_syntax.specs.Syntax.{expression_of};
 
 use crate::name::{ColRef, Name};
-use crate::node::{Node, Op};
-use crate::parser::nodes::{abs, and, arith, compare, greatest, least, neg, not, or};
+use crate::node::Node;
+use crate::parser::nodes::{abs, compare, extreme, join, neg, not};
+use crate::parser::operators::{COMPARISONS, Level};
 use crate::parser::{Fault, Parser};
-use rs_grammar::{Kind, Lexeme};
+use rs_grammar::{Lexeme, TokenKind};
 use rs_lex::Span;
-use rs_value::Rel;
 use std::alloc::Global;
+
+/// What a word is that is a function's name where a bracket stands behind it.
+#[derive(Drop)]
+enum Word {
+    Column(ColRef),
+    /// A function, and where its name starts.
+    Function(TokenKind, u32),
+}
 
 impl Parser {
     /// `conj { OR conj }`
-    #[cycle(expr)]
     pub fn expr(&mut self, alloc: Global) -> Result<Node, Fault>
         ensures { Reads (Use expr) expr_of expression_of self.old self.new result }
     {
+        self.chain(alloc, Level::Or)
+    }
+
+    /// What the operators of a level join: `conj { OR conj }`, `neg { AND neg }`, `prod { ( "+" | "-" ) prod }` or
+    /// `sign { ( "*" | "/" ) sign }`.
+    #[cycle(expr)]
+    pub fn chain(&mut self, alloc: Global, level: Level) -> Result<Node, Fault>
+        ensures { Reads (Use (rule_at level)) (chain_of level) expression_of self.old self.new result }
+    {
         let from = self.start();
-        let mut node = self.conj(alloc)?;
-        'more: while self.at(Kind::Or) {
-            or_drop!(self.expect(Kind::Or), node);
-            let right = or_drop!(self.conj(alloc), node);
+        let mut node = self.operand(alloc, level)?;
+        'more: while self.at_operator(level) {
+            let operator = or_drop!(self.operator(level), node);
+            let right = or_drop!(self.operand(alloc, level), node);
             let at = self.since(from);
-            node = or(alloc, node, right, at)?;
+            node = join(alloc, operator, node, right, at)?;
         }
         Ok(node)
     }
 
-    /// `neg { AND neg }`
+    /// What stands at each side of an operator of a level: `conj`, `neg`, `prod` or `sign`.
     #[cycle(expr)]
-    fn conj(&mut self, alloc: Global) -> Result<Node, Fault>
-        ensures { Reads (Use conj) conj_of expression_of self.old self.new result }
+    fn operand(&mut self, alloc: Global, level: Level) -> Result<Node, Fault>
+        ensures { Reads (Use (operand_rule level)) (operand_of level) expression_of self.old self.new result }
     {
-        let from = self.start();
-        let mut node = self.neg(alloc)?;
-        'more: while self.at(Kind::And) {
-            or_drop!(self.expect(Kind::And), node);
-            let right = or_drop!(self.neg(alloc), node);
-            let at = self.since(from);
-            node = and(alloc, node, right, at)?;
+        match level {
+            Level::Or => self.chain(alloc, Level::And),
+            Level::And => self.neg(alloc),
+            Level::Sum => self.chain(alloc, Level::Product),
+            Level::Product => self.sign(alloc),
         }
-        Ok(node)
     }
 
     /// `NOT neg | comp`
@@ -55,11 +71,11 @@ impl Parser {
     fn neg(&mut self, alloc: Global) -> Result<Node, Fault>
         ensures { Reads (Use neg) neg_of expression_of self.old self.new result }
     {
-        if !self.at(Kind::Not) {
+        if !self.at(TokenKind::Not) {
             return self.comp(alloc);
         }
         let from = self.start();
-        self.expect(Kind::Not)?;
+        self.expect(TokenKind::Not)?;
         let part = self.neg(alloc)?;
         let at = self.since(from);
         not(alloc, part, at)
@@ -71,46 +87,14 @@ impl Parser {
         ensures { Reads (Use comp) comp_of expression_of self.old self.new result }
     {
         let from = self.start();
-        let left = self.sum(alloc)?;
+        let left = self.chain(alloc, Level::Sum)?;
         if !self.at_any(&COMPARISONS) {
             return Ok(left);
         }
         let rel = or_drop!(self.comparison(), left);
-        let right = or_drop!(self.sum(alloc), left);
+        let right = or_drop!(self.chain(alloc, Level::Sum), left);
         let at = self.since(from);
         compare(alloc, rel, left, right, at)
-    }
-
-    /// `prod { ( "+" | "-" ) prod }`
-    #[cycle(expr)]
-    fn sum(&mut self, alloc: Global) -> Result<Node, Fault>
-        ensures { Reads (Use sum) sum_of expression_of self.old self.new result }
-    {
-        let from = self.start();
-        let mut node = self.prod(alloc)?;
-        'more: while self.at_any(&[Kind::Plus, Kind::Minus]) {
-            let op = or_drop!(self.adding(), node);
-            let right = or_drop!(self.prod(alloc), node);
-            let at = self.since(from);
-            node = arith(alloc, op, node, right, at)?;
-        }
-        Ok(node)
-    }
-
-    /// `sign { ( "*" | "/" ) sign }`
-    #[cycle(expr)]
-    fn prod(&mut self, alloc: Global) -> Result<Node, Fault>
-        ensures { Reads (Use prod) prod_of expression_of self.old self.new result }
-    {
-        let from = self.start();
-        let mut node = self.sign(alloc)?;
-        'more: while self.at_any(&[Kind::Star, Kind::Slash]) {
-            let op = or_drop!(self.multiplying(), node);
-            let right = or_drop!(self.sign(alloc), node);
-            let at = self.since(from);
-            node = arith(alloc, op, node, right, at)?;
-        }
-        Ok(node)
     }
 
     /// `"-" sign | base`
@@ -118,11 +102,11 @@ impl Parser {
     fn sign(&mut self, alloc: Global) -> Result<Node, Fault>
         ensures { Reads (Use sign) sign_of expression_of self.old self.new result }
     {
-        if !self.at(Kind::Minus) {
+        if !self.at(TokenKind::Minus) {
             return self.base(alloc);
         }
         let from = self.start();
-        self.expect(Kind::Minus)?;
+        self.expect(TokenKind::Minus)?;
         let part = self.sign(alloc)?;
         let at = self.since(from);
         neg(alloc, part, at)
@@ -133,27 +117,42 @@ impl Parser {
     fn base(&mut self, alloc: Global) -> Result<Node, Fault>
         ensures { Reads (Use base) base_of expression_of self.old self.new result }
     {
-        if self.at(Kind::Number) {
+        if self.at(TokenKind::Abs) {
+            return self.absolute(alloc);
+        }
+        if self.at_any(&[TokenKind::Max, TokenKind::Min]) {
+            return self.extreme(alloc);
+        }
+        if self.at(TokenKind::OpenBracket) {
+            return self.brackets(alloc);
+        }
+        if self.at(TokenKind::Case) {
+            return self.case(alloc);
+        }
+        self.simple()
+    }
+
+    /// `number | literal | plain`, where none of the other operands begins.
+    fn simple(&mut self) -> Result<Node, Fault>
+        requires absolute { next_is (Abs ∷ []) self.old.rest ≡ false }
+        requires extreme { next_is (Max ∷ Min ∷ []) self.old.rest ≡ false }
+        requires brackets { next_is (OpenBracket ∷ []) self.old.rest ≡ false }
+        requires case { next_is (Case ∷ []) self.old.rest ≡ false }
+        ensures { Reads (Use base) base_of expression_of self.old self.new result }
+    {
+        if self.at(TokenKind::Number) {
             let (number, at) = self.number()?;
             return Ok(Node::Int(number, at));
         }
-        if self.at(Kind::Literal) {
+        if self.at(TokenKind::Literal) {
             let (text, at) = self.literal()?;
             return Ok(Node::Text(text, at));
         }
         if self.at_plain_name() {
-            return Ok(Node::Column(self.plain()?));
+            let column = self.plain()?;
+            return Ok(Node::Column(column));
         }
-        if self.at(Kind::Abs) {
-            return self.absolute(alloc);
-        }
-        if self.at_any(&[Kind::Max, Kind::Min]) {
-            return self.extreme(alloc);
-        }
-        if self.at(Kind::OpenBracket) {
-            return self.brackets(alloc);
-        }
-        self.case(alloc)
+        Err(Fault::Expected)
     }
 
     /// A column whose name is no function's: `name [ "." name ]`.
@@ -169,18 +168,15 @@ impl Parser {
     fn absolute(&mut self, alloc: Global) -> Result<Node, Fault>
         ensures { Reads (Use absolute) absolute_of expression_of self.old self.new result }
     {
-        let accepted = self.at(Kind::Abs);
-        let Lexeme { text, at: word, .. } = self.take(accepted)?;
-        if !self.at(Kind::OpenBracket) {
-            let column = self.qualified(Name { text, at: word })?;
-            return Ok(Node::Column(column));
+        let word = self.word(&[TokenKind::Abs])?;
+        match word {
+            Word::Column(column) => Ok(Node::Column(column)),
+            Word::Function(_, from) => {
+                let part = self.expr_before(alloc, TokenKind::CloseBracket)?;
+                let at = self.since(from);
+                abs(alloc, part, at)
+            }
         }
-        drop(text);
-        self.expect(Kind::OpenBracket)?;
-        let part = self.expr(alloc)?;
-        or_drop!(self.expect(Kind::CloseBracket), part);
-        let at = self.since(word.start);
-        abs(alloc, part, at)
     }
 
     /// `( MIN | MAX ) "(" expr "," expr ")"`, or the column `min` or `max`.
@@ -188,28 +184,15 @@ impl Parser {
     fn extreme(&mut self, alloc: Global) -> Result<Node, Fault>
         ensures { Reads (Use extreme) extreme_in expression_of self.old self.new result }
     {
-        let accepted = self.at_any(&[Kind::Min, Kind::Max]);
-        let Lexeme {
-            kind,
-            text,
-            at: word,
-            ..
-        } = self.take(accepted)?;
-        if !self.at(Kind::OpenBracket) {
-            let column = self.qualified(Name { text, at: word })?;
-            return Ok(Node::Column(column));
-        }
-        drop(text);
-        self.expect(Kind::OpenBracket)?;
-        let first = self.expr(alloc)?;
-        or_drop!(self.expect(Kind::Comma), first);
-        let second = or_drop!(self.expr(alloc), first);
-        or_drop!(self.expect(Kind::CloseBracket), first, second);
-        let at = self.since(word.start);
-        if kind.is(Kind::Min) {
-            least(alloc, first, second, at)
-        } else {
-            greatest(alloc, first, second, at)
+        let word = self.word(&[TokenKind::Min, TokenKind::Max])?;
+        match word {
+            Word::Column(column) => Ok(Node::Column(column)),
+            Word::Function(kind, from) => {
+                let first = self.expr_before(alloc, TokenKind::Comma)?;
+                let second = or_drop!(self.expr_before(alloc, TokenKind::CloseBracket), first);
+                let at = self.since(from);
+                extreme(alloc, kind, first, second, at)
+            }
         }
     }
 
@@ -218,57 +201,32 @@ impl Parser {
     fn brackets(&mut self, alloc: Global) -> Result<Node, Fault>
         ensures { Reads (Use brackets) brackets_of expression_of self.old self.new result }
     {
-        self.expect(Kind::OpenBracket)?;
-        let node = self.expr(alloc)?;
-        or_drop!(self.expect(Kind::CloseBracket), node);
+        self.expect(TokenKind::OpenBracket)?;
+        self.expr_before(alloc, TokenKind::CloseBracket)
+    }
+
+    /// An expression, and a token of this kind behind it.
+    #[cycle(expr)]
+    pub fn expr_before(&mut self, alloc: Global, kind: TokenKind) -> Result<Node, Fault>
+        ensures { Reads (Use expr ⨟ word kind) first_expr_of expression_of self.old self.new result }
+    {
+        let node = self.chain(alloc, Level::Or)?;
+        or_drop!(self.expect(kind), node);
         Ok(node)
     }
 
-    /// `"+" | "-"`
-    fn adding(&mut self) -> Result<Op, Fault>
-        ensures { Reads (One (Plus ∷ Minus ∷ [])) adding_of (λ op. op) self.old self.new result }
+    /// A word that is a function's name, and the bracket behind it, or a column that is called so.
+    fn word(&mut self, kinds: &[TokenKind]) -> Result<Word, Fault>
+        ensures { Reads (One kinds.now ⨟ (word OpenBracket ∣ optional (word Dot ⨟ name_part))) word_of (λ w. w) self.old self.new result }
     {
-        let kind = self.any_of(&[Kind::Plus, Kind::Minus])?;
-        Ok(if kind.is(Kind::Plus) {
-            Op::Add
-        } else {
-            Op::Sub
-        })
-    }
-
-    /// `"*" | "/"`
-    fn multiplying(&mut self) -> Result<Op, Fault>
-        ensures { Reads (One (Star ∷ Slash ∷ [])) multiplying_of (λ op. op) self.old self.new result }
-    {
-        let kind = self.any_of(&[Kind::Star, Kind::Slash])?;
-        Ok(if kind.is(Kind::Star) {
-            Op::Mul
-        } else {
-            Op::Div
-        })
-    }
-
-    /// `"=" | "<>" | "<" | "<=" | ">" | ">="`
-    fn comparison(&mut self) -> Result<Rel, Fault>
-        ensures { Reads (One comparisons) rel_of (λ rel. rel) self.old self.new result }
-    {
-        let kind = self.any_of(&COMPARISONS)?;
-        Ok(match kind {
-            Kind::Equal => Rel::Eq,
-            Kind::NotEqual => Rel::Ne,
-            Kind::Less => Rel::Lt,
-            Kind::LessEqual => Rel::Le,
-            Kind::Greater => Rel::Gt,
-            _ => Rel::Ge,
-        })
+        let accepted = self.at_any(kinds);
+        let Lexeme { kind, text, at, .. } = self.take(accepted)?;
+        if self.at(TokenKind::OpenBracket) {
+            drop(text);
+            self.expect(TokenKind::OpenBracket)?;
+            return Ok(Word::Function(kind, at.start));
+        }
+        let column = self.qualified(Name { text, at })?;
+        Ok(Word::Column(column))
     }
 }
-
-const COMPARISONS: [Kind; 6] = [
-    Kind::Equal,
-    Kind::NotEqual,
-    Kind::Less,
-    Kind::LessEqual,
-    Kind::Greater,
-    Kind::GreaterEqual,
-];

@@ -1,13 +1,13 @@
 ghost use Rattle.std.specs.Prelude.{◌≡◌, [], ◌∷◌};
 ghost use Rattle.rs_grammar.specs.Grammar.{One, Use, colref, column, columns, name as name_part, optional, word, ◌⨟◌};
-ghost use Rattle.rs_grammar.specs.declared.kind.Kind.TheVariants.{Dot, Int, Integer, Text};
+ghost use Rattle.rs_grammar.specs.declared.kind.TokenKind.TheVariants.{Dot, Int, Integer, Text};
 ghost use Rattle.rs_syntax.specs.Reads.{Reads};
 ghost use Rattle.rs_syntax.specs.Statements.{column_of, columns_of, data_type_of};
 ghost use Rattle.rs_syntax.specs.Trees.{colref_of, qualified};
 
 use crate::name::{ColRef, Name};
 use crate::parser::{Fault, Parser};
-use rs_grammar::Kind;
+use rs_grammar::TokenKind;
 use rs_value::{Kind as ValueKind, List};
 use std::alloc::Global;
 
@@ -24,13 +24,13 @@ impl Parser {
     pub fn qualified(&mut self, first: Name) -> Result<ColRef, Fault>
         ensures { Reads (optional (word Dot ⨟ name_part)) (qualified first) (λ c. c) self.old self.new result }
     {
-        if !self.at(Kind::Dot) {
+        if !self.at(TokenKind::Dot) {
             return Ok(ColRef {
                 alias: None,
                 column: first,
             });
         }
-        self.expect(Kind::Dot)?;
+        self.expect(TokenKind::Dot)?;
         let column = self.name()?;
         Ok(ColRef {
             alias: Some(first),
@@ -44,8 +44,8 @@ impl Parser {
     {
         let mut columns = Vec::new(alloc);
         columns.push(self.column()?)?;
-        while self.at(Kind::Comma) {
-            self.expect(Kind::Comma)?;
+        while self.at(TokenKind::Comma) {
+            self.expect(TokenKind::Comma)?;
             columns.push(self.column()?)?;
         }
         Ok(List::of(columns))
@@ -64,8 +64,8 @@ impl Parser {
     fn data_type(&mut self) -> Result<ValueKind, Fault>
         ensures { Reads (One (Int ∷ Integer ∷ Text ∷ [])) data_type_of (λ kind. kind) self.old self.new result }
     {
-        let kind = self.any_of(&[Kind::Int, Kind::Integer, Kind::Text])?;
-        Ok(if kind.is(Kind::Text) {
+        let kind = self.any_of(&[TokenKind::Int, TokenKind::Integer, TokenKind::Text])?;
+        Ok(if kind.is(TokenKind::Text) {
             ValueKind::Text
         } else {
             ValueKind::Int

@@ -1,10 +1,14 @@
 ghost use Rattle.std.specs.Prelude.{◌≡◌, IfErr, IfOk};
+ghost use Rattle.rs_syntax.specs.Expressions.{extreme_of};
+ghost use Rattle.rs_syntax.specs.Levels.{joined};
 ghost use Rattle.rs_syntax.specs.Makes.{Makes};
-ghost use Rattle.rs_syntax.specs.Syntax.{Abs, And, Arith, Case, Compare, Greatest, Least, Neg, Not, Or, expression_of};
+ghost use Rattle.rs_syntax.specs.Syntax.{Abs, Case, Compare, Neg, Not, expression_of};
 ghost use Rattle.rs_syntax.specs.declared.parser.Fault.TheVariants.{Memory};
 
-use crate::node::{Node, Op};
+use crate::node::Node;
 use crate::parser::Fault;
+use crate::parser::operators::Operator;
+use rs_grammar::TokenKind;
 use rs_lex::Span;
 use rs_value::Rel;
 use std::alloc::{AllocFailed, Global};
@@ -56,11 +60,22 @@ pub fn abs(alloc: Global, part: Node, at: Span) -> Result<Node, Fault>
     Ok(Node::Abs(Box::new(alloc, part)?, at))
 }
 
-pub fn arith(alloc: Global, op: Op, left: Node, right: Node, at: Span) -> Result<Node, Fault>
-    ensures { Makes (Arith op (expression_of left) (expression_of right) at) result }
+/// Two operands with the operator between them.
+pub fn join(
+    alloc: Global,
+    operator: Operator,
+    left: Node,
+    right: Node,
+    at: Span,
+) -> Result<Node, Fault>
+    ensures { Makes (joined operator (expression_of left) (expression_of right) at) result }
 {
     let (left, right) = boxes(alloc, left, right)?;
-    Ok(Node::Arith(op, left, right, at))
+    match operator {
+        Operator::Or => Ok(Node::Or(left, right, at)),
+        Operator::And => Ok(Node::And(left, right, at)),
+        Operator::Arith(op) => Ok(Node::Arith(op, left, right, at)),
+    }
 }
 
 pub fn compare(alloc: Global, rel: Rel, left: Node, right: Node, at: Span) -> Result<Node, Fault>
@@ -70,32 +85,21 @@ pub fn compare(alloc: Global, rel: Rel, left: Node, right: Node, at: Span) -> Re
     Ok(Node::Compare(rel, left, right, at))
 }
 
-pub fn and(alloc: Global, left: Node, right: Node, at: Span) -> Result<Node, Fault>
-    ensures { Makes (And (expression_of left) (expression_of right) at) result }
+/// The lesser one of two where the word is MIN, else the greater one.
+pub fn extreme(
+    alloc: Global,
+    word: TokenKind,
+    first: Node,
+    second: Node,
+    at: Span,
+) -> Result<Node, Fault>
+    ensures { Makes (extreme_of word (expression_of first) (expression_of second) at) result }
 {
-    let (left, right) = boxes(alloc, left, right)?;
-    Ok(Node::And(left, right, at))
-}
-
-pub fn or(alloc: Global, left: Node, right: Node, at: Span) -> Result<Node, Fault>
-    ensures { Makes (Or (expression_of left) (expression_of right) at) result }
-{
-    let (left, right) = boxes(alloc, left, right)?;
-    Ok(Node::Or(left, right, at))
-}
-
-pub fn least(alloc: Global, left: Node, right: Node, at: Span) -> Result<Node, Fault>
-    ensures { Makes (Least (expression_of left) (expression_of right) at) result }
-{
-    let (left, right) = boxes(alloc, left, right)?;
-    Ok(Node::Least(left, right, at))
-}
-
-pub fn greatest(alloc: Global, left: Node, right: Node, at: Span) -> Result<Node, Fault>
-    ensures { Makes (Greatest (expression_of left) (expression_of right) at) result }
-{
-    let (left, right) = boxes(alloc, left, right)?;
-    Ok(Node::Greatest(left, right, at))
+    let (first, second) = boxes(alloc, first, second)?;
+    if word.is(TokenKind::Min) {
+        return Ok(Node::Least(first, second, at));
+    }
+    Ok(Node::Greatest(first, second, at))
 }
 
 pub fn case(

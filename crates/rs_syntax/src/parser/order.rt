@@ -1,13 +1,13 @@
 //! The order of a query's rows, and how many of them are asked for.
 ghost use Rattle.rs_grammar.specs.Grammar.{Use, optional, terms, word, ◌⨟◌};
-ghost use Rattle.rs_grammar.specs.declared.kind.Kind.TheVariants.{By, Desc, Limit, Number, Order};
+ghost use Rattle.rs_grammar.specs.declared.kind.TokenKind.TheVariants.{By, Desc, Limit, Number, Order};
 ghost use Rattle.rs_syntax.specs.Reads.{Reads};
 ghost use Rattle.rs_syntax.specs.Statements.{limit_of, terms_of};
 ghost use Rattle.rs_syntax.specs.Trees.{if_there, last, part};
 
 use crate::parser::{Fault, Parser};
 use crate::select::TermSyn;
-use rs_grammar::Kind;
+use rs_grammar::TokenKind;
 use rs_lex::Span;
 use rs_value::List;
 use std::alloc::Global;
@@ -18,11 +18,11 @@ impl Parser {
         ensures { Reads (word Order ⨟ word By ⨟ Use terms ⨟ optional (word Desc) ⨟ optional (word Limit ⨟ word Number))
             (λ t. (terms_of (part 2 t), if_there limit_of (last 4 t))) (λ o. o) self.old self.new result }
     {
-        self.expect(Kind::Order)?;
-        self.expect(Kind::By)?;
+        self.expect(TokenKind::Order)?;
+        self.expect(TokenKind::By)?;
         let terms = self.terms(alloc)?;
-        let _ = self.accept(Kind::Desc)?;
-        let limit = self.numbered(Kind::Limit)?;
+        let _ = self.accept(TokenKind::Desc)?;
+        let limit = self.numbered(TokenKind::Limit)?;
         Ok((terms, limit))
     }
 }

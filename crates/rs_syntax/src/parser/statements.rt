@@ -6,7 +6,7 @@ ghost use Rattle.rs_syntax.specs.Syntax.{command_of, commands_of};
 
 use crate::parser::{Fault, Parser};
 use crate::statement::Statement;
-use rs_grammar::Kind;
+use rs_grammar::TokenKind;
 use std::alloc::Global;
 
 impl Parser {
@@ -17,10 +17,10 @@ impl Parser {
         let mut statements = Vec::new(alloc);
         'statements: while self.at_any(&STATEMENTS) {
             statements.push(self.statement(alloc)?)?;
-            if !self.at(Kind::Semicolon) {
+            if !self.at(TokenKind::Semicolon) {
                 return Ok(statements);
             }
-            self.expect(Kind::Semicolon)?;
+            self.expect(TokenKind::Semicolon)?;
         }
         Ok(statements)
     }
@@ -29,19 +29,19 @@ impl Parser {
     fn statement(&mut self, alloc: Global) -> Result<Statement, Fault>
         ensures { Reads (Use statement) statement_of command_of self.old self.new result }
     {
-        if self.at(Kind::Create) {
+        if self.at(TokenKind::Create) {
             return self.create(alloc);
         }
-        if self.at(Kind::Select) {
+        if self.at(TokenKind::Select) {
             return Ok(Statement::Query(self.select(alloc)?));
         }
-        if self.at(Kind::Declare) {
+        if self.at(TokenKind::Declare) {
             return self.declare(alloc);
         }
-        if self.at(Kind::Fetch) {
+        if self.at(TokenKind::Fetch) {
             return self.fetch();
         }
-        if self.at(Kind::Close) {
+        if self.at(TokenKind::Close) {
             return self.close();
         }
         self.explain(alloc)
@@ -51,11 +51,11 @@ impl Parser {
     fn create(&mut self, alloc: Global) -> Result<Statement, Fault>
         ensures { Reads (Use create) create_of command_of self.old self.new result }
     {
-        self.expect(Kind::Create)?;
-        if self.at(Kind::Table) {
+        self.expect(TokenKind::Create)?;
+        if self.at(TokenKind::Table) {
             return self.create_table(alloc);
         }
-        if self.at(Kind::Predicate) {
+        if self.at(TokenKind::Predicate) {
             return self.create_predicate(alloc);
         }
         self.create_rank_index(alloc)
@@ -65,12 +65,12 @@ impl Parser {
     fn create_table(&mut self, alloc: Global) -> Result<Statement, Fault>
         ensures { Reads (Use create_table) create_table_of command_of self.old self.new result }
     {
-        self.expect(Kind::Table)?;
+        self.expect(TokenKind::Table)?;
         let name = self.name()?;
-        or_drop!(self.expect(Kind::OpenBracket), name);
+        or_drop!(self.expect(TokenKind::OpenBracket), name);
         let columns = or_drop!(self.columns(alloc), name);
-        or_drop!(self.expect(Kind::CloseBracket), name, columns);
-        or_drop!(self.expect(Kind::From), name, columns);
+        or_drop!(self.expect(TokenKind::CloseBracket), name, columns);
+        or_drop!(self.expect(TokenKind::From), name, columns);
         let (file, _) = or_drop!(self.literal(), name, columns);
         Ok(Statement::CreateTable {
             name,
@@ -83,15 +83,15 @@ impl Parser {
     fn create_predicate(&mut self, alloc: Global) -> Result<Statement, Fault>
         ensures { Reads (Use create_predicate) create_predicate_of command_of self.old self.new result }
     {
-        self.expect(Kind::Predicate)?;
+        self.expect(TokenKind::Predicate)?;
         let name = self.name()?;
-        or_drop!(self.expect(Kind::OpenBracket), name);
+        or_drop!(self.expect(TokenKind::OpenBracket), name);
         let params = or_drop!(self.columns(alloc), name);
-        or_drop!(self.expect(Kind::CloseBracket), name, params);
-        or_drop!(self.expect(Kind::Max), name, params);
+        or_drop!(self.expect(TokenKind::CloseBracket), name, params);
+        or_drop!(self.expect(TokenKind::Max), name, params);
         let max = or_drop!(self.number(), name, params);
-        let cost = or_drop!(self.numbered(Kind::Cost), name, params);
-        or_drop!(self.expect(Kind::As), name, params);
+        let cost = or_drop!(self.numbered(TokenKind::Cost), name, params);
+        or_drop!(self.expect(TokenKind::As), name, params);
         let formula = or_drop!(self.expr(alloc), name, params);
         Ok(Statement::CreatePredicate {
             name,
@@ -106,18 +106,18 @@ impl Parser {
     fn create_rank_index(&mut self, alloc: Global) -> Result<Statement, Fault>
         ensures { Reads (Use create_rank_index) create_rank_index_of command_of self.old self.new result }
     {
-        self.expect(Kind::Rank)?;
-        self.expect(Kind::Index)?;
+        self.expect(TokenKind::Rank)?;
+        self.expect(TokenKind::Index)?;
         let name = self.name()?;
-        or_drop!(self.expect(Kind::On), name);
+        or_drop!(self.expect(TokenKind::On), name);
         let table = or_drop!(self.name(), name);
-        or_drop!(self.expect(Kind::OpenBracket), name, table);
+        or_drop!(self.expect(TokenKind::OpenBracket), name, table);
         let from = self.start();
         let predicate = or_drop!(self.name(), name, table);
-        or_drop!(self.expect(Kind::OpenBracket), name, table, predicate);
+        or_drop!(self.expect(TokenKind::OpenBracket), name, table, predicate);
         let args = or_drop!(self.args(alloc), name, table, predicate);
         or_drop!(
-            self.expect(Kind::CloseBracket),
+            self.expect(TokenKind::CloseBracket),
             name,
             table,
             predicate,
@@ -125,7 +125,7 @@ impl Parser {
         );
         let at = self.since(from);
         or_drop!(
-            self.expect(Kind::CloseBracket),
+            self.expect(TokenKind::CloseBracket),
             name,
             table,
             predicate,
@@ -144,10 +144,10 @@ impl Parser {
     fn declare(&mut self, alloc: Global) -> Result<Statement, Fault>
         ensures { Reads (Use declare) declare_of command_of self.old self.new result }
     {
-        self.expect(Kind::Declare)?;
+        self.expect(TokenKind::Declare)?;
         let name = self.name()?;
-        or_drop!(self.expect(Kind::Cursor), name);
-        or_drop!(self.expect(Kind::For), name);
+        or_drop!(self.expect(TokenKind::Cursor), name);
+        or_drop!(self.expect(TokenKind::For), name);
         let select = or_drop!(self.select(alloc), name);
         Ok(Statement::Declare { name, select })
     }
@@ -156,9 +156,9 @@ impl Parser {
     fn fetch(&mut self) -> Result<Statement, Fault>
         ensures { Reads (Use fetch) fetch_of command_of self.old self.new result }
     {
-        self.expect(Kind::Fetch)?;
+        self.expect(TokenKind::Fetch)?;
         let count = self.number()?;
-        self.expect(Kind::From)?;
+        self.expect(TokenKind::From)?;
         let name = self.name()?;
         Ok(Statement::Fetch { count, name })
     }
@@ -167,7 +167,7 @@ impl Parser {
     fn close(&mut self) -> Result<Statement, Fault>
         ensures { Reads (Use close) close_of command_of self.old self.new result }
     {
-        self.expect(Kind::Close)?;
+        self.expect(TokenKind::Close)?;
         let name = self.name()?;
         Ok(Statement::Close { name })
     }
@@ -176,8 +176,8 @@ impl Parser {
     fn explain(&mut self, alloc: Global) -> Result<Statement, Fault>
         ensures { Reads (Use explain) explain_of command_of self.old self.new result }
     {
-        self.expect(Kind::Explain)?;
-        let is_analyze = self.accept(Kind::Analyze)?;
+        self.expect(TokenKind::Explain)?;
+        let is_analyze = self.accept(TokenKind::Analyze)?;
         let select = self.select(alloc)?;
         Ok(if is_analyze {
             Statement::ExplainAnalyze(select)
@@ -188,11 +188,11 @@ impl Parser {
 }
 
 /// The words that begin a statement.
-const STATEMENTS: [Kind; 6] = [
-    Kind::Close,
-    Kind::Create,
-    Kind::Declare,
-    Kind::Explain,
-    Kind::Fetch,
-    Kind::Select,
+const STATEMENTS: [TokenKind; 6] = [
+    TokenKind::Close,
+    TokenKind::Create,
+    TokenKind::Declare,
+    TokenKind::Explain,
+    TokenKind::Fetch,
+    TokenKind::Select,
 ];

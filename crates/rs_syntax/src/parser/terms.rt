@@ -1,14 +1,14 @@
 //! Predicates with their arguments, and the terms of ORDER BY.
 ghost use Rattle.rs_grammar.specs.Grammar.{Use, arg, args, optional, term, terms, word, ◌⨟◌};
-ghost use Rattle.rs_grammar.specs.declared.kind.Kind.TheVariants.{Minus, Number, Star};
+ghost use Rattle.rs_grammar.specs.declared.kind.TokenKind.TheVariants.{Minus, Number, Star};
 ghost use Rattle.rs_syntax.specs.Reads.{Reads};
 ghost use Rattle.rs_syntax.specs.Statements.{arg_of, args_of, signed_number_of, term_of, terms_of};
-ghost use Rattle.rs_syntax.specs.Trees.{if_there, number_of, weight_in};
+ghost use Rattle.rs_syntax.specs.Trees.{if_there, leaf_number, weight_in};
 
 use crate::name::Arg;
 use crate::parser::{Fault, Parser};
 use crate::select::TermSyn;
-use rs_grammar::Kind;
+use rs_grammar::TokenKind;
 use rs_lex::Span;
 use rs_value::List;
 use std::alloc::Global;
@@ -20,8 +20,8 @@ impl Parser {
     {
         let mut terms = Vec::new(alloc);
         terms.push(self.term(alloc)?)?;
-        'more: while self.at(Kind::Plus) {
-            self.expect(Kind::Plus)?;
+        'more: while self.at(TokenKind::Plus) {
+            self.expect(TokenKind::Plus)?;
             terms.push(self.term(alloc)?)?;
         }
         Ok(List::of(terms))
@@ -34,9 +34,9 @@ impl Parser {
         let from = self.start();
         let weight = self.weight()?;
         let predicate = self.name()?;
-        or_drop!(self.expect(Kind::OpenBracket), predicate);
+        or_drop!(self.expect(TokenKind::OpenBracket), predicate);
         let args = or_drop!(self.args(alloc), predicate);
-        or_drop!(self.expect(Kind::CloseBracket), predicate, args);
+        or_drop!(self.expect(TokenKind::CloseBracket), predicate, args);
         let at = self.since(from);
         let weight = match weight {
             Some(weight) => weight,
@@ -54,11 +54,11 @@ impl Parser {
     fn weight(&mut self) -> Result<Option<(i64, Span)>, Fault>
         ensures { Reads (optional (word Number ⨟ word Star)) (if_there weight_in) (λ w. w) self.old self.new result }
     {
-        if !self.at(Kind::Number) {
+        if !self.at(TokenKind::Number) {
             return Ok(None);
         }
         let weight = self.number()?;
-        self.expect(Kind::Star)?;
+        self.expect(TokenKind::Star)?;
         Ok(Some(weight))
     }
 
@@ -68,8 +68,8 @@ impl Parser {
     {
         let mut args = Vec::new(alloc);
         args.push(self.arg()?)?;
-        while self.at(Kind::Comma) {
-            self.expect(Kind::Comma)?;
+        while self.at(TokenKind::Comma) {
+            self.expect(TokenKind::Comma)?;
             args.push(self.arg()?)?;
         }
         Ok(List::of(args))
@@ -82,7 +82,7 @@ impl Parser {
         if self.at_name() {
             return Ok(Arg::Column(self.colref()?));
         }
-        if self.at_any(&[Kind::Minus, Kind::Number]) {
+        if self.at_any(&[TokenKind::Minus, TokenKind::Number]) {
             let (number, at) = self.signed_number()?;
             return Ok(Arg::Int(number, at));
         }
@@ -95,7 +95,7 @@ impl Parser {
         ensures { Reads (optional (word Minus) ⨟ word Number) signed_number_of (λ n. n) self.old self.new result }
     {
         let from = self.start();
-        let is_negative = self.accept(Kind::Minus)?;
+        let is_negative = self.accept(TokenKind::Minus)?;
         let (number, _) = self.number()?;
         let at = self.since(from);
         Ok((if is_negative { -number } else { number }, at))

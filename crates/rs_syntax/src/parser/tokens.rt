@@ -2,16 +2,16 @@ ghost use Rattle.std.specs.Prelude.{◌≡◌, [], ◌∷◌, Bool, List, IfOk, 
 ghost use Rattle.rs_grammar.specs.Grammar.{One, name as name_part, optional, start_of, word};
 ghost use Rattle.rs_grammar.specs.Kinds.{names, plain_names};
 ghost use Rattle.rs_grammar.specs.Reading.{is_too_deep, left_behind, next_is};
-ghost use Rattle.rs_grammar.specs.declared.kind.Kind.{Kind};
+ghost use Rattle.rs_grammar.specs.declared.kind.TokenKind.{TokenKind};
 ghost use Rattle.rs_grammar.specs.declared.lexeme.Lexeme.{Lexeme};
-ghost use Rattle.rs_grammar.specs.declared.kind.Kind.TheVariants.{Literal, Number};
+ghost use Rattle.rs_grammar.specs.declared.kind.TokenKind.TheVariants.{Literal, Number};
 ghost use Rattle.rs_syntax.specs.Numbers.{IsNumber};
 ghost use Rattle.rs_syntax.specs.Reads.{Reads};
-ghost use Rattle.rs_syntax.specs.Trees.{span, is_there, kind_at, leaf, name_of, number_of, place_of, text_of};
+ghost use Rattle.rs_syntax.specs.Trees.{span, is_there, kind_at, leaf, leaf_name, leaf_number, leaf_span, leaf_text};
 
 use crate::name::Name;
 use crate::parser::{Fault, Parser};
-use rs_grammar::{Kind, Lexeme};
+use rs_grammar::{Lexeme, TokenKind};
 use rs_lex::Span;
 use rs_value::Text;
 
@@ -20,10 +20,10 @@ pub const MOST_DEEP: u32 = 256;
 
 /// How many tokens that count towards the depth may still come behind a token of this kind, where so many may
 /// from it on; `None` where it is one too many.
-fn left_behind(kind: Kind, left: u32) -> Option<u32>
+fn left_behind(kind: TokenKind, left: u32) -> Option<u32>
     ensures { MatchOption result (is_too_deep kind left ≡ true) (λ n. (is_too_deep kind left ≡ false) × (n ≡ left_behind kind left)) }
 {
-    if kind.is(Kind::Semicolon) {
+    if kind.is(TokenKind::Semicolon) {
         return Some(MOST_DEEP);
     }
     if !kind.is_counted() {
@@ -34,7 +34,7 @@ fn left_behind(kind: Kind, left: u32) -> Option<u32>
 
 impl Parser {
     /// Whether the next token is of this kind.
-    pub fn at(&self, kind: Kind) -> bool
+    pub fn at(&self, kind: TokenKind) -> bool
         ensures { result ≡ next_is (kind ∷ []) self.now.rest }
     {
         match self.reversed.last() {
@@ -44,7 +44,7 @@ impl Parser {
     }
 
     /// Whether the next token is of one of these kinds.
-    pub fn at_any(&self, kinds: &[Kind]) -> bool
+    pub fn at_any(&self, kinds: &[TokenKind]) -> bool
         ensures { result ≡ next_is kinds.now self.now.rest }
     {
         match self.reversed.last() {
@@ -109,7 +109,7 @@ impl Parser {
 
     /// Takes the next token, if it is one that may stand there.
     pub fn take(&mut self, accepted: bool) -> Result<Lexeme, Fault>
-        ensures reads { (kinds : List Kind) → accepted ≡ next_is kinds self.old.rest → Reads (One kinds) leaf (λ l. l) self.old self.new result }
+        ensures reads { (kinds : List TokenKind) → accepted ≡ next_is kinds self.old.rest → Reads (One kinds) leaf (λ l. l) self.old self.new result }
         ensures in_range { IfOk result (λ l. IsNumber l.number) }
     {
         if !accepted {
@@ -130,8 +130,8 @@ impl Parser {
     }
 
     /// Takes a token of this kind, and says where it stands.
-    pub fn expect(&mut self, kind: Kind) -> Result<Span, Fault>
-        ensures { Reads (word kind) place_of (λ at. at) self.old self.new result }
+    pub fn expect(&mut self, kind: TokenKind) -> Result<Span, Fault>
+        ensures { Reads (word kind) leaf_span (λ at. at) self.old self.new result }
     {
         let accepted = self.at(kind);
         let lexeme = self.take(accepted)?;
@@ -139,7 +139,7 @@ impl Parser {
     }
 
     /// Takes a token of this kind if it stands there, and says whether it did.
-    pub fn accept(&mut self, kind: Kind) -> Result<bool, Fault>
+    pub fn accept(&mut self, kind: TokenKind) -> Result<bool, Fault>
         ensures { Reads (optional (word kind)) is_there (λ there. there) self.old self.new result }
     {
         if !self.at(kind) {
@@ -150,7 +150,7 @@ impl Parser {
     }
 
     /// Takes a token of one of these kinds.
-    pub fn any_of(&mut self, kinds: &[Kind]) -> Result<Kind, Fault>
+    pub fn any_of(&mut self, kinds: &[TokenKind]) -> Result<TokenKind, Fault>
         ensures { Reads (One kinds.now) kind_at (λ kind. kind) self.old self.new result }
     {
         let accepted = self.at_any(kinds);
@@ -159,7 +159,7 @@ impl Parser {
     }
 
     pub fn name(&mut self) -> Result<Name, Fault>
-        ensures { Reads name_part name_of (λ name. name) self.old self.new result }
+        ensures { Reads name_part leaf_name (λ name. name) self.old self.new result }
     {
         let accepted = self.at_name();
         let Lexeme { text, at, .. } = self.take(accepted)?;
@@ -168,7 +168,7 @@ impl Parser {
 
     /// A name that is no function's.
     pub fn plain_name(&mut self) -> Result<Name, Fault>
-        ensures { Reads (One plain_names) name_of (λ name. name) self.old self.new result }
+        ensures { Reads (One plain_names) leaf_name (λ name. name) self.old self.new result }
     {
         let accepted = self.at_plain_name();
         let Lexeme { text, at, .. } = self.take(accepted)?;
@@ -176,18 +176,18 @@ impl Parser {
     }
 
     pub fn number(&mut self) -> Result<(i64, Span), Fault>
-        ensures reads { Reads (word Number) number_of (λ number. number) self.old self.new result }
+        ensures reads { Reads (word Number) leaf_number (λ number. number) self.old self.new result }
         ensures in_range { IfOk result (λ number. IsNumber number.0) }
     {
-        let accepted = self.at(Kind::Number);
+        let accepted = self.at(TokenKind::Number);
         let lexeme = self.take(accepted)?;
         Ok((lexeme.number, lexeme.at))
     }
 
     pub fn literal(&mut self) -> Result<(Text, Span), Fault>
-        ensures { Reads (word Literal) text_of (λ text. text) self.old self.new result }
+        ensures { Reads (word Literal) leaf_text (λ text. text) self.old self.new result }
     {
-        let accepted = self.at(Kind::Literal);
+        let accepted = self.at(TokenKind::Literal);
         let Lexeme { text, at, .. } = self.take(accepted)?;
         Ok((text, at))
     }

@@ -2,7 +2,7 @@ use Rattle.std.proofs.Common.{ℕ, List, ◌≡◌, ◌+◌, ◌<◌, ◌≤◌,
 use Rattle.std.specs.List.{AllByRecursion, list_any}
 use Rattle.std.specs.Str.{bytes_eq}
 use Rattle.std.proofs.lemmas.List.{length_push}
-use Rattle.rs_catalog.specs.Catalogue.{number_of}
+use Rattle.rs_catalog.specs.Catalogue.{number_named}
 use Rattle.rs_catalog.specs.declared.room.What.TheVariants as what
 use Rattle.rs_bind.specs.declared.fault.BindFault.TheVariants.{At}
 use Rattle.rs_bind.specs.declared.fault.Why.TheVariants.{NoTable}
@@ -21,7 +21,7 @@ pub returns-in_err-number-clause-gives : goal.returns-in_err-number-clause-gives
 returns-in_err-number-clause-gives c =
     let room : length c.loop-table.made.items ≢ 6 = omega arith in
     let entry = c.loop-table-item.result in
-    let none : or_fault (At NoTable entry.0.at) (number_of what.Table entry.0.text c.args.catalog.now) ≡ Err c.in_err-number.field-0.0 =
+    let none : or_fault (At NoTable entry.0.at) (number_named what.Table entry.0.text c.args.catalog.now) ≡ Err c.in_err-number.field-0.0 =
     sym c.table_number.ensures.value ∙ c.in_err-number.was in
     let told = entries-no_table c.args.catalog.now c.args.from.now c.loop-table.made.items c.loop-table.table-index entry c.in_err-number.field-0.0 (omega arith)
     c.loop-table-item.is c.loop-table.invariant.so_far room none in
@@ -32,7 +32,7 @@ pub returns-then-is_among-clause-gives : goal.returns-then-is_among-clause-gives
 returns-then-is_among-clause-gives c =
     let room : length c.loop-table.made.items ≢ 6 = omega arith in
     let entry = c.loop-table-item.result in
-    let is : or_fault (At NoTable entry.0.at) (number_of what.Table entry.0.text c.args.catalog.now) ≡ Ok c.in_ok-number.number =
+    let is : or_fault (At NoTable entry.0.at) (number_named what.Table entry.0.text c.args.catalog.now) ≡ Ok c.in_ok-number.number =
     sym c.table_number.ensures.value ∙ c.in_ok-number.was in
     let alias = c.alias_of-alias.result.now in
     let found : list_any (λ (e : ℕ × List ℕ). bytes_eq e.1 alias.text) c.loop-table.made.items ≡ true =
@@ -47,7 +47,7 @@ loop-table-preserved c =
     let room : length c.loop-table.made.items ≢ 6 = omega arith in
     let entry = c.loop-table-item.result in
     let number = c.in_ok-number.number in
-    let is : or_fault (At NoTable entry.0.at) (number_of what.Table entry.0.text c.args.catalog.now) ≡ Ok number =
+    let is : or_fault (At NoTable entry.0.at) (number_named what.Table entry.0.text c.args.catalog.now) ≡ Ok number =
     sym c.table_number.ensures.value ∙ c.in_ok-number.was in
     let alias = c.alias_of-alias.result.now in
     let other : list_any (λ (e : ℕ × List ℕ). bytes_eq e.1 alias.text) c.loop-table.made.items ≡ false =

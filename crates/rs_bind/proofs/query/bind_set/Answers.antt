@@ -1,10 +1,9 @@
 use Rattle.std.proofs.Common.{◌≡◌, ◌≤◌, ◌∙◌, true, length, List, subst}
 use Rattle.std.specs.List.{AllByRecursion}
-use Rattle.rs_bind.specs.Queries.{agree, names_of}
+use Rattle.rs_bind.specs.Queries.{agree, output_names}
 use Rattle.rs_bind.specs.Sources.{Found}
 use Rattle.rs_bind.specs.Terms.{IsEntryItem}
-use Rattle.rs_bind.proofs.FormedFacts.{HasLimits-with}
-use Rattle.rs_bind.proofs.UnrankedFacts.{items-entries, names_of-few}
+use Rattle.rs_bind.proofs.UnrankedFacts.{items-entries, output_names-few}
 use Rattle.rs_bind.proofs.query.bind_set.Goals as goal
 
 pub output_terms-requires-2-clause-named : goal.output_terms-requires-2-clause-named
@@ -12,10 +11,10 @@ output_terms-requires-2-clause-named c =
     let left : List Found = c.in_ok-left.left.items in
     let right : List Found = c.in-Ok.right.items in
     let agrees : agree left right ≡ true = cc in
-    let names : c.deref-6.result.now ≡ names_of c.args.catalog.now c.in_ok-left.left = c.deref-6.ensures.value ∙ c.in-Ok-names_of.ensures in
+    let names : c.deref-6.result.now ≡ output_names c.args.catalog.now c.in_ok-left.left = c.deref-6.ensures.value ∙ c.in-Ok-names_of.ensures in
     let items : right ≡ c.deref-7.result.now = cc in
     subst (λ (xs : List Found). length c.deref-6.result.now ≤ length xs) items
-    (names_of-few c.args.catalog.now c.in_ok-left.left c.deref-6.result.now right names agrees)
+    (output_names-few c.args.catalog.now c.in_ok-left.left c.deref-6.result.now right names agrees)
 
 pub output_terms-requires-2-clause-few : goal.output_terms-requires-2-clause-few
 output_terms-requires-2-clause-few c =
@@ -23,12 +22,3 @@ output_terms-requires-2-clause-few c =
     let items : right ≡ c.deref-7.result.now = cc in
     subst (AllByRecursion IsEntryItem) items
     (items-entries c.args.catalog.now c.in-Ok.right.from right c.in-Ok.ensures.few c.in-Ok.ensures.items)
-
-pub returns-in-Ok-with_terms-2-clause-limits : goal.returns-in-Ok-with_terms-2-clause-limits
-returns-in-Ok-with_terms-2-clause-limits c =
-    let catalogue = c.args.catalog.now in (
-      HasLimits-with catalogue c.in_ok-left.left c.in-Ok-output_terms.terms c.in-Ok-with_terms.left c.in-Ok-with_terms.ensures c.in_ok-left.ensures.columns
-          c.in_ok-left.ensures.narrow,
-      HasLimits-with catalogue c.in-Ok.right c.in-Ok-output_terms-2.terms c.in-Ok-with_terms-2.right c.in-Ok-with_terms-2.ensures
-          c.in-Ok.ensures.columns c.in-Ok.ensures.narrow,
-    )

@@ -1,29 +1,36 @@
-use Rattle.std.proofs.Common.{length, subst, sym}
+use Rattle.std.proofs.Common.{ap, length, subst, sym}
 use Rattle.std.specs.Prelude.{Ok}
+use Rattle.rs_value.proofs.ResultFacts.{given-err}
 use Rattle.rs_expr.specs.InOrder.{Inquires}
-use Rattle.rs_expr.proofs.InOrderFacts.{Ends-ok}
+use Rattle.rs_expr.proofs.InOrderFacts.{InquiryEnds-ok}
 use Rattle.rs_catalog.specs.Indexes.{IsRanking}
-use Rattle.rs_catalog.specs.Making.{scoring_of}
+use Rattle.rs_catalog.specs.Making.{as_ranking, scoring_of}
 use Rattle.rs_catalog.specs.declared.index.IndexFault.TheVariants.{Memory}
 use Rattle.rs_catalog.proofs.MakeFacts.{Inquires-ranked, Inquires-unranked, Inquires-unsorted, ranked}
 use Rattle.rs_catalog.proofs.RankingFacts.{IsRanking-stable}
 use Rattle.rs_catalog.proofs.make.rank_rows.Goals as goal
 
-pub returns-in-Err-clause-ranks : goal.returns-in-Err-clause-ranks
-returns-in-Err-clause-ranks g c =
-    Inquires-unranked (scoring_of (g.S.Scorer.state c.args.scorer.now).answer c.args.predicate.now c.args.args.now c.args.table.now.rows) c.in-Err.fault _ _ c.in-Err.ensures
-
-pub returns-in-Ok-sort_stably-clause-ranks : goal.returns-in-Ok-sort_stably-clause-ranks
-returns-in-Ok-sort_stably-clause-ranks g c =
+pub returns-in_err-entries-clause-ranks : goal.returns-in_err-entries-clause-ranks
+returns-in_err-entries-clause-ranks g c =
     let scoring = scoring_of (g.S.Scorer.state c.args.scorer.now).answer c.args.predicate.now c.args.args.now c.args.table.now.rows in
-    subst (λ entries. Inquires Memory (ranked scoring) (Ok entries) (g.S.Scorer.state c.args.scorer.now) (g.S.Scorer.state c.score_rows.new.scorer)) (sym c.in-Ok-sort_stably.ensures.ok)
-    (Inquires-ranked scoring c.in-Ok.entries.items _ _ c.in-Ok.ensures)
+    subst (λ result. Inquires Memory (ranked scoring) result (g.S.Scorer.state c.args.scorer.now) (g.S.Scorer.state c.score_rows.new.scorer))
+    (sym (ap as_ranking (given-err c.from_residual.result c.in_err-entries.field-0.0 c.from_residual.ensures)))
+    (Inquires-unranked scoring c.in_err-entries.field-0.0 _ _ c.in_err-entries.ensures)
 
-pub returns-in-Ok-sort_stably-clause-ranking : goal.returns-in-Ok-sort_stably-clause-ranking
-returns-in-Ok-sort_stably-clause-ranking g c =
-    subst (IsRanking (length c.args.table.now.rows) c.args.predicate.now.max) (sym c.in-Ok-sort_stably.ensures.ok)
-    (IsRanking-stable _ _ c.args.table.now.rows c.in-Ok.entries.items (sym (Ends-ok _ _ _ _ _ c.in-Ok.ensures).gives))
+pub returns-clause-ranks : goal.returns-clause-ranks
+returns-clause-ranks g c =
+    let scoring = scoring_of (g.S.Scorer.state c.args.scorer.now).answer c.args.predicate.now c.args.args.now c.args.table.now.rows in
+    subst (λ entries. Inquires Memory (ranked scoring) (Ok entries) (g.S.Scorer.state c.args.scorer.now) (g.S.Scorer.state c.score_rows.new.scorer)) (sym c.in_ok-sort_stably.ensures.ok)
+    (Inquires-ranked scoring c.in_ok-entries.entries.items _ _ c.in_ok-entries.ensures)
 
-pub returns-in-Err-sort_stably-clause-ranks : goal.returns-in-Err-sort_stably-clause-ranks
-returns-in-Err-sort_stably-clause-ranks g c =
-    Inquires-unsorted (scoring_of (g.S.Scorer.state c.args.scorer.now).answer c.args.predicate.now c.args.args.now c.args.table.now.rows) c.in-Ok.entries.items _ _ c.in-Ok.ensures
+pub returns-clause-ranking : goal.returns-clause-ranking
+returns-clause-ranking g c =
+    subst (IsRanking (length c.args.table.now.rows) c.args.predicate.now.max) (sym c.in_ok-sort_stably.ensures.ok)
+    (IsRanking-stable _ _ c.args.table.now.rows c.in_ok-entries.entries.items (sym (InquiryEnds-ok _ _ _ _ _ c.in_ok-entries.ensures).gives))
+
+pub returns-in_err-sort_stably-clause-ranks : goal.returns-in_err-sort_stably-clause-ranks
+returns-in_err-sort_stably-clause-ranks g c =
+    let scoring = scoring_of (g.S.Scorer.state c.args.scorer.now).answer c.args.predicate.now c.args.args.now c.args.table.now.rows in
+    subst (λ result. Inquires Memory (ranked scoring) result (g.S.Scorer.state c.args.scorer.now) (g.S.Scorer.state c.score_rows.new.scorer))
+    (sym (ap as_ranking (given-err c.from_residual-in_err-sort_stably.result Memory c.from_residual-in_err-sort_stably.ensures)))
+    (Inquires-unsorted scoring c.in_ok-entries.entries.items _ _ c.in_ok-entries.ensures)

@@ -2,7 +2,7 @@ use Rattle.std.proofs.Common.{◌≡◌, ◌∙◌, ◌+◌, ◌≤◌, arith, r
 use Rattle.rs_lex.specs.Front.{front_of}
 use Rattle.rs_lex.specs.Spelling.{token_or_fault}
 use Rattle.rs_lex.specs.declared.front.Front.TheVariants.{Gap}
-use Rattle.rs_lex.proofs.SpellingFacts.{rest_of, front_of-gap, reach-within, Reaches-gap, Spells-end, IsNext-token, IsMore-other, Refuses-fault}
+use Rattle.rs_lex.proofs.SpellingFacts.{rest_of, front_of-gap, reach-within, Reaches-gap, Spells-end, IsNext-token, IsMore-other, RefusesBytes-fault}
 use Rattle.rs_lex.proofs.lexer.next_token.Goals as goal
 
 pub returns-in-End-clause-next : goal.returns-in-End-clause-next
@@ -44,7 +44,7 @@ pub returns-in_err-token_of-in_default-clause-refused : goal.returns-in_err-toke
 returns-in_err-token_of-in_default-clause-refused c =
     let is : c.front_at.result ≡ front_of (drop c.loop-n.at c.args.bytes.now) = c.front_at.ensures ∙ ap front_of (rest_of c.loop-n.at c.args.bytes.now) in
     let gives : Some (Err c.in_err-token_of-in_default.field-0.0) ≡ token_or_fault c.args.count c.loop-n.at c.front_at.result = c.in_err-token_of-in_default.ensures in
-    let refused = Refuses-fault c.args.count c.args.at c.loop-n.at c.args.bytes.now c.front_at.result c.in_err-token_of-in_default.field-0.0
+    let refused = RefusesBytes-fault c.args.count c.args.at c.loop-n.at c.args.bytes.now c.front_at.result c.in_err-token_of-in_default.field-0.0
     c.requires.few is gives (record { spelled = c.loop-n.invariant.spelled; refused = c.loop-n.invariant.refused }) in
     search (rules, refused)
 

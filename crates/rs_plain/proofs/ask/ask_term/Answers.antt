@@ -1,25 +1,24 @@
-use Rattle.std.proofs.Common.{◌≡◌, ◌∙◌, ◌-◌, ◌<◌, ◌∷◌, [], length, true, get_or, sym, ap, subst, arith, rules}
+use Rattle.std.proofs.Common.{◌≡◌, ◌∙◌, ◌-◌, ◌<◌, length, true, get_or, refl, sym, ap, subst, arith, rules}
 use Rattle.std.specs.Prelude.{Err}
 use Rattle.std.specs.Int.{w128}
 use Rattle.std.proofs.lemmas.Int.{to_z-of_z}
-use Rattle.std.proofs.lemmas.Option.{slice_get_within}
+use Rattle.std.proofs.lemmas.Option.{slice_get_read, slice_get_within}
 use Rattle.rs_value.specs.Value.{all_fit}
 use Rattle.rs_expr.specs.InOrder.{Inquires}
 use Rattle.rs_expr.specs.Scoring.{call_of}
 use Rattle.rs_expr.proofs.ScoringFacts.{Scored}
-use Rattle.rs_query.specs.Answers.{worth_of}
 use Rattle.rs_query.specs.Meaning.{is_inside}
 use Rattle.rs_query.specs.Tables.{all_entries}
 use Rattle.rs_query.specs.WellFormed.{IsTerm}
 use Rattle.rs_query.specs.declared.term.Term.{Term as BoundTerm}
-use Rattle.rs_plain.specs.Asking.{worth_for}
-use Rattle.rs_plain.specs.Plain.{evaluating, question_of}
+use Rattle.rs_query.specs.Asking.{asking_worth, worth_for}
+use Rattle.rs_plain.specs.Plain.{plain_faults}
 use Rattle.rs_plain.specs.declared.fault.PlainFault.TheVariants.{Memory, Probe}
-use Rattle.rs_plain.proofs.AskFacts.{Inquires-got, Inquires-no_call, Inquires-no_memory, Inquires-refused}
-use Rattle.rs_plain.proofs.QuestionFacts.{given-err}
+use Rattle.rs_query.proofs.AskFacts.{Inquires-got, Inquires-no_call, Inquires-no_memory, Inquires-refused}
+use Rattle.rs_value.proofs.ResultFacts.{given-err}
 use Rattle.rs_query.proofs.EntryFacts.{terms-inside}
 use Rattle.rs_order.proofs.EachFacts.{each-slice_get}
-use Rattle.rs_plain.proofs.RowFacts.{each-at, slice_get-at}
+use Rattle.rs_plain.proofs.RowFacts.{each-at}
 use Rattle.rs_plain.proofs.ask.ask_term.Goals as goal
 
 pub args-requires-clause-inside : goal.args-requires-clause-inside
@@ -41,33 +40,31 @@ score-requires g c =
     let is : c.index-term.result.now ≡ get_or c.args.block.now.terms (c.args.number - 1) c.index-term.result.now =
     subst (λ terms. c.index-term.result.now ≡ get_or terms (c.args.number - 1) c.index-term.result.now) c.items.ensures c.index-term.ensures in
     let within : c.args.number - 1 < length c.args.block.now.terms = omega arith in
-    let at = slice_get-at c.args.block.now.terms (c.args.number - 1) c.index-term.result.now within is in
+    let at = slice_get_read c.args.block.now.terms _ (c.args.number - 1) c.index-term.result.now refl within is in
     ap (all_fit c.predicate-predicate.result.now.params) c.deref.ensures.value
     ∙ c.in_ok-args.ensures.fit c.index-term.result.now c.predicate-predicate.result.now at c.predicate-predicate.ensures
 
 pub returns-in_err-args : goal.returns-in_err-args
 returns-in_err-args g c = λ term e.
     let old = g.S.Scorer.state c.args.scorer.now in
-    subst (λ r. Inquires Memory (evaluating old.answer c.args.catalog.now (question_of c.args.ids.now.block c.args.block.now c.args.ids.now.rows term ∷ [])
-    (worth_of old.answer c.args.catalog.now c.args.block.now c.args.ids.now.rows term)) r old old)
+    subst (λ r. Inquires Memory (asking_worth plain_faults old.answer c.args.catalog.now c.args.block.now c.args.ids.now term) r old old)
     (sym (given-err c.from_residual.result Memory c.from_residual.ensures))
-    (Inquires-no_call c.args.catalog.now c.args.block.now c.args.ids.now term old)
+    (Inquires-no_call plain_faults Memory c.args.catalog.now c.args.block.now c.args.ids.now term old)
 
 pub returns-in-Ok : goal.returns-in-Ok
 returns-in-Ok g c = λ term e.
     let is : c.index-term.result.now ≡ get_or c.args.block.now.terms (c.args.number - 1) c.index-term.result.now =
     subst (λ terms. c.index-term.result.now ≡ get_or terms (c.args.number - 1) c.index-term.result.now) c.items.ensures c.index-term.ensures in
     let within : c.args.number - 1 < length c.args.block.now.terms = omega arith in
-    let at = slice_get-at c.args.block.now.terms (c.args.number - 1) c.index-term.result.now within is in
+    let at = slice_get_read c.args.block.now.terms _ (c.args.number - 1) c.index-term.result.now refl within is in
     let same : c.index-term.result.now ≡ term = cc in
     let old = g.S.Scorer.state c.args.scorer.now in
     let new = g.S.Scorer.state c.score.new.self in
-    subst (λ t. Inquires Memory (evaluating old.answer c.args.catalog.now (question_of c.args.ids.now.block c.args.block.now c.args.ids.now.rows t ∷ [])
-    (worth_of old.answer c.args.catalog.now c.args.block.now c.args.ids.now.rows t)) c.worth_for.result old new) same
-    (Inquires-got c.args.catalog.now c.args.block.now c.args.ids.now c.index-term.result.now old new c.predicate-predicate.result.now c.deref.result.now
+    subst (λ t. Inquires Memory (asking_worth plain_faults old.answer c.args.catalog.now c.args.block.now c.args.ids.now t) c.worth_for.result old new) same
+    (Inquires-got plain_faults Memory c.args.catalog.now c.args.block.now c.args.ids.now c.index-term.result.now old new c.predicate-predicate.result.now c.deref.result.now
     c.predicate-predicate.ensures (c.deref.ensures.value ∙ c.in_ok-args.ensures.value c.index-term.result.now at)
     c.max.result c.in-Ok.got c.worth_for.result c.max.ensures.value c.in-Ok.ensures.answers
-    (c.worth_for.ensures ∙ ap (worth_for c.index-term.result.now c.args.ids.now c.max.result) (to_z-of_z w128 c.in-Ok.got (search rules)))
+    (c.worth_for.ensures ∙ ap (worth_for plain_faults c.index-term.result.now c.args.ids.now c.max.result) (to_z-of_z w128 c.in-Ok.got (search rules)))
     (record { same = c.in-Ok.ensures.same; told = c.in-Ok.ensures.told; calls = c.in-Ok.ensures.calls; counts = c.in-Ok.ensures.counts }))
 
 pub returns-in-Err-Failed : goal.returns-in-Err-Failed
@@ -75,13 +72,12 @@ returns-in-Err-Failed g c = λ term e.
     let is : c.index-term.result.now ≡ get_or c.args.block.now.terms (c.args.number - 1) c.index-term.result.now =
     subst (λ terms. c.index-term.result.now ≡ get_or terms (c.args.number - 1) c.index-term.result.now) c.items.ensures c.index-term.ensures in
     let within : c.args.number - 1 < length c.args.block.now.terms = omega arith in
-    let at = slice_get-at c.args.block.now.terms (c.args.number - 1) c.index-term.result.now within is in
+    let at = slice_get_read c.args.block.now.terms _ (c.args.number - 1) c.index-term.result.now refl within is in
     let same : c.index-term.result.now ≡ term = cc in
     let old = g.S.Scorer.state c.args.scorer.now in
     let new = g.S.Scorer.state c.score.new.self in
-    subst (λ t. Inquires Memory (evaluating old.answer c.args.catalog.now (question_of c.args.ids.now.block c.args.block.now c.args.ids.now.rows t ∷ [])
-    (worth_of old.answer c.args.catalog.now c.args.block.now c.args.ids.now.rows t)) (Err (Probe c.index-term.result.now.predicate)) old new) same
-    (Inquires-refused c.args.catalog.now c.args.block.now c.args.ids.now c.index-term.result.now old new c.predicate-predicate.result.now c.deref.result.now
+    subst (λ t. Inquires Memory (asking_worth plain_faults old.answer c.args.catalog.now c.args.block.now c.args.ids.now t) (Err (Probe c.index-term.result.now.predicate)) old new) same
+    (Inquires-refused plain_faults Memory c.args.catalog.now c.args.block.now c.args.ids.now c.index-term.result.now old new c.predicate-predicate.result.now c.deref.result.now
     c.predicate-predicate.ensures (c.deref.ensures.value ∙ c.in_ok-args.ensures.value c.index-term.result.now at)
     (subst (λ f. Scored (call_of c.predicate-predicate.result.now c.deref.result.now) (Err f) old new) c.in-Err-Failed.field-0-is
     (record { same = c.in-Err-Failed.ensures.same; told = c.in-Err-Failed.ensures.told; calls = c.in-Err-Failed.ensures.calls; counts = c.in-Err-Failed.ensures.counts })))
@@ -91,13 +87,12 @@ returns g c = λ term e.
     let is : c.index-term.result.now ≡ get_or c.args.block.now.terms (c.args.number - 1) c.index-term.result.now =
     subst (λ terms. c.index-term.result.now ≡ get_or terms (c.args.number - 1) c.index-term.result.now) c.items.ensures c.index-term.ensures in
     let within : c.args.number - 1 < length c.args.block.now.terms = omega arith in
-    let at = slice_get-at c.args.block.now.terms (c.args.number - 1) c.index-term.result.now within is in
+    let at = slice_get_read c.args.block.now.terms _ (c.args.number - 1) c.index-term.result.now refl within is in
     let same : c.index-term.result.now ≡ term = cc in
     let old = g.S.Scorer.state c.args.scorer.now in
     let new = g.S.Scorer.state c.score.new.self in
-    subst (λ t. Inquires Memory (evaluating old.answer c.args.catalog.now (question_of c.args.ids.now.block c.args.block.now c.args.ids.now.rows t ∷ [])
-    (worth_of old.answer c.args.catalog.now c.args.block.now c.args.ids.now.rows t)) (Err Memory) old new) same
-    (Inquires-no_memory c.args.catalog.now c.args.block.now c.args.ids.now c.index-term.result.now old new c.predicate-predicate.result.now c.deref.result.now
+    subst (λ t. Inquires Memory (asking_worth plain_faults old.answer c.args.catalog.now c.args.block.now c.args.ids.now t) (Err Memory) old new) same
+    (Inquires-no_memory plain_faults Memory c.args.catalog.now c.args.block.now c.args.ids.now c.index-term.result.now old new c.predicate-predicate.result.now c.deref.result.now
     c.predicate-predicate.ensures (c.deref.ensures.value ∙ c.in_ok-args.ensures.value c.index-term.result.now at)
     (subst (λ f. Scored (call_of c.predicate-predicate.result.now c.deref.result.now) (Err f) old new) c.in-Err-Memory.field-0-is
     (record { same = c.in-Err-Memory.ensures.same; told = c.in-Err-Memory.ensures.told; calls = c.in-Err-Memory.ensures.calls; counts = c.in-Err-Memory.ensures.counts })))

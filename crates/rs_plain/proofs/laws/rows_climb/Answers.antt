@@ -1,4 +1,4 @@
-use Rattle.rs_plain.proofs.OrderFacts.{Rise-query}
+use Rattle.rs_query.proofs.RiseFacts.{Rise-query}
 use Rattle.rs_plain.proofs.laws.rows_climb.Goals as goal
 
 pub returns : goal.returns

@@ -5,19 +5,21 @@ use Rattle.rs_expr.specs.Scoring.{Answering}
 use Rattle.rs_query.specs.Answers.{base_of, rows_of, set_base}
 use Rattle.rs_query.specs.Tables.{sizes_of}
 use Rattle.rs_query.specs.Views.{all_rows}
-use Rattle.rs_plain.specs.Plain.{block_questions, evaluating, questions_of}
-use Rattle.rs_plain.specs.Results.{items_of}
+use Rattle.rs_query.specs.Questions.{asking}
+use Rattle.rs_plain.specs.Plain.{block_questions, plain_faults, questions_of}
+use Rattle.rs_plain.specs.Results.{as_list}
 use Rattle.rs_plain.specs.declared.fault.PlainFault.TheVariants.{Memory}
-use Rattle.rs_plain.proofs.QuestionFacts.{Asked-more, Asked-none, Ended-behind, Gave-behind, Gave-ok, Failed-behind, Stopped-behind, given-items}
+use Rattle.rs_query.proofs.QuestionFacts.{AllAsked-more, AllAsked-none, Ended-behind, Gave-behind, Gave-ok, Failed-behind, Stopped-behind}
+use Rattle.rs_plain.proofs.RowFacts.{given-items}
 use Rattle.rs_plain.proofs.rows.query_rows.Goals as goal
 
 pub returns-in-One : goal.returns-in-One
 returns-in-One g c =
     let old = g.S.Scorer.state c.args.scorer.now in
     subst (λ query. Inquires Memory
-    (evaluating old.answer c.args.catalog.now (questions_of c.args.catalog.now query (all_rows c.args.catalog.now query))
+    (asking plain_faults old.answer c.args.catalog.now (questions_of c.args.catalog.now query (all_rows c.args.catalog.now query))
     (rows_of old.answer c.args.catalog.now query (all_rows c.args.catalog.now query)))
-    (items_of c.base_rows.result) old (g.S.Scorer.state c.base_rows.new.scorer))
+    (as_list c.base_rows.result) old (g.S.Scorer.state c.base_rows.new.scorer))
     (sym c.in-One.is) c.base_rows.ensures
 
 pub returns-in_err-first-in-Set : goal.returns-in_err-first-in-Set
@@ -27,14 +29,14 @@ returns-in_err-first-in-Set g c =
     let old = g.S.Scorer.state c.args.scorer.now in
     let middle = g.S.Scorer.state c.base_rows-in-Set.new.scorer in
     subst (λ query. Inquires Memory
-    (evaluating old.answer c.args.catalog.now (questions_of c.args.catalog.now query (all_rows c.args.catalog.now query))
+    (asking plain_faults old.answer c.args.catalog.now (questions_of c.args.catalog.now query (all_rows c.args.catalog.now query))
     (rows_of old.answer c.args.catalog.now query (all_rows c.args.catalog.now query)))
-    (items_of c.from_residual.result) old middle)
+    (as_list c.from_residual.result) old middle)
     (sym c.in-Set.is)
-    (Failed-behind c.args.catalog.now {A = List Answer} {B = List Answer} [] left right (left ++ right)
+    (Failed-behind plain_faults Memory c.args.catalog.now {A = List Answer} {B = List Answer} [] left right (left ++ right)
     (λ (a : Answering). base_of a c.args.catalog.now 1 c.in-Set.left (sizes_of c.args.catalog.now c.in-Set.left)) _ c.in_err-first-in-Set.field-0.0 _ old old middle
     refl (given-items c.from_residual.result c.in_err-first-in-Set.field-0.0 c.from_residual.ensures)
-    (Asked-none old.answer c.args.catalog.now old) c.in_err-first-in-Set.ensures)
+    (AllAsked-none old.answer c.args.catalog.now old) c.in_err-first-in-Set.ensures)
 
 pub returns-in_err-second-in-Set : goal.returns-in_err-second-in-Set
 returns-in_err-second-in-Set g c =
@@ -43,13 +45,13 @@ returns-in_err-second-in-Set g c =
     let old = g.S.Scorer.state c.args.scorer.now in
     let middle = g.S.Scorer.state c.base_rows-in-Set.new.scorer in
     let new = g.S.Scorer.state c.base_rows-in-Set-2.new.scorer in
-    let gave = Gave-ok old.answer c.args.catalog.now left _ c.in_ok-first-in-Set.first.items old middle c.in_ok-first-in-Set.ensures in
+    let gave = Gave-ok plain_faults Memory old.answer c.args.catalog.now left _ c.in_ok-first-in-Set.first.items old middle c.in_ok-first-in-Set.ensures in
     subst (λ query. Inquires Memory
-    (evaluating old.answer c.args.catalog.now (questions_of c.args.catalog.now query (all_rows c.args.catalog.now query))
+    (asking plain_faults old.answer c.args.catalog.now (questions_of c.args.catalog.now query (all_rows c.args.catalog.now query))
     (rows_of old.answer c.args.catalog.now query (all_rows c.args.catalog.now query)))
-    (items_of c.from_residual-in_err-second-in-Set.result) old new)
+    (as_list c.from_residual-in_err-second-in-Set.result) old new)
     (sym c.in-Set.is)
-    (Failed-behind c.args.catalog.now {A = List Answer} {B = List Answer} left right [] (left ++ right)
+    (Failed-behind plain_faults Memory c.args.catalog.now {A = List Answer} {B = List Answer} left right [] (left ++ right)
     (λ (a : Answering). base_of a c.args.catalog.now 2 c.in-Set.right (sizes_of c.args.catalog.now c.in-Set.right)) _ c.in_err-second-in-Set.field-0.0 _ old middle new
     (ap (λ more. left ++ more) (sym (append-nil right)))
     (given-items c.from_residual-in_err-second-in-Set.result c.in_err-second-in-Set.field-0.0 c.from_residual-in_err-second-in-Set.ensures)
@@ -62,18 +64,18 @@ returns-in_err-set_rows-in-Set g c =
     let old = g.S.Scorer.state c.args.scorer.now in
     let middle = g.S.Scorer.state c.base_rows-in-Set.new.scorer in
     let new = g.S.Scorer.state c.base_rows-in-Set-2.new.scorer in
-    let gave = Gave-ok old.answer c.args.catalog.now left _ c.in_ok-first-in-Set.first.items old middle c.in_ok-first-in-Set.ensures in
-    let also = Gave-behind c.args.catalog.now {A = List Answer} left right
+    let gave = Gave-ok plain_faults Memory old.answer c.args.catalog.now left _ c.in_ok-first-in-Set.first.items old middle c.in_ok-first-in-Set.ensures in
+    let also = Gave-behind plain_faults Memory c.args.catalog.now {A = List Answer} left right
     (λ (a : Answering). base_of a c.args.catalog.now 2 c.in-Set.right (sizes_of c.args.catalog.now c.in-Set.right)) c.in_ok-second-in-Set.second.items old middle new
     gave.asked c.in_ok-second-in-Set.ensures in
     subst (λ query. Inquires Memory
-    (evaluating old.answer c.args.catalog.now (questions_of c.args.catalog.now query (all_rows c.args.catalog.now query))
+    (asking plain_faults old.answer c.args.catalog.now (questions_of c.args.catalog.now query (all_rows c.args.catalog.now query))
     (rows_of old.answer c.args.catalog.now query (all_rows c.args.catalog.now query)))
-    (items_of c.from_residual-in_err-set_rows-in-Set.result) old new)
+    (as_list c.from_residual-in_err-set_rows-in-Set.result) old new)
     (sym c.in-Set.is)
-    (Stopped-behind c.args.catalog.now {A = List Answer} (left ++ right) _ _ old new
+    (Stopped-behind plain_faults Memory c.args.catalog.now {A = List Answer} (left ++ right) _ _ old new
     (given-items c.from_residual-in_err-set_rows-in-Set.result Memory c.from_residual-in_err-set_rows-in-Set.ensures)
-    (Asked-more old.answer c.args.catalog.now left right old middle new gave.asked also.asked))
+    (AllAsked-more old.answer c.args.catalog.now left right old middle new gave.asked also.asked))
 
 pub returns-in_ok-set_rows-in-Set : goal.returns-in_ok-set_rows-in-Set
 returns-in_ok-set_rows-in-Set g c =
@@ -82,16 +84,16 @@ returns-in_ok-set_rows-in-Set g c =
     let old = g.S.Scorer.state c.args.scorer.now in
     let middle = g.S.Scorer.state c.base_rows-in-Set.new.scorer in
     let new = g.S.Scorer.state c.base_rows-in-Set-2.new.scorer in
-    let gave = Gave-ok old.answer c.args.catalog.now left _ c.in_ok-first-in-Set.first.items old middle c.in_ok-first-in-Set.ensures in
-    let also = Gave-behind c.args.catalog.now {A = List Answer} left right
+    let gave = Gave-ok plain_faults Memory old.answer c.args.catalog.now left _ c.in_ok-first-in-Set.first.items old middle c.in_ok-first-in-Set.ensures in
+    let also = Gave-behind plain_faults Memory c.args.catalog.now {A = List Answer} left right
     (λ (a : Answering). base_of a c.args.catalog.now 2 c.in-Set.right (sizes_of c.args.catalog.now c.in-Set.right)) c.in_ok-second-in-Set.second.items old middle new
     gave.asked c.in_ok-second-in-Set.ensures in
     subst (λ query. Inquires Memory
-    (evaluating old.answer c.args.catalog.now (questions_of c.args.catalog.now query (all_rows c.args.catalog.now query))
+    (asking plain_faults old.answer c.args.catalog.now (questions_of c.args.catalog.now query (all_rows c.args.catalog.now query))
     (rows_of old.answer c.args.catalog.now query (all_rows c.args.catalog.now query)))
     (Ok c.in_ok-set_rows-in-Set.field-0.items) old new)
     (sym c.in-Set.is)
-    (Ended-behind c.args.catalog.now {A = List Answer} (left ++ right) (left ++ right) _ c.in_ok-set_rows-in-Set.field-0.items old new refl
+    (Ended-behind plain_faults Memory c.args.catalog.now {A = List Answer} (left ++ right) (left ++ right) _ c.in_ok-set_rows-in-Set.field-0.items old new refl
     (c.in_ok-set_rows-in-Set.ensures ∙ ap (λ rows. set_base c.in-Set.op rows c.in_ok-second-in-Set.second.items) gave.is_value
     ∙ ap (set_base c.in-Set.op (base_of old.answer c.args.catalog.now 1 c.in-Set.left (sizes_of c.args.catalog.now c.in-Set.left))) also.is_value)
-    (Asked-more old.answer c.args.catalog.now left right old middle new gave.asked also.asked))
+    (AllAsked-more old.answer c.args.catalog.now left right old middle new gave.asked also.asked))

@@ -19,5 +19,5 @@ returns-in-Some-Top g c = λ beside. Runs-whole (finds_in (g.F.Files.state c.arg
 
 pub returns-in-Some-Plain : goal.returns-in-Some-Plain
 returns-in-Some-Plain g c = λ beside. Runs-form (finds_in (g.F.Files.state c.args.files.now).told) (g.S.Scorer.state c.args.scorer.now).answer c.args.words.now (Plain c.in-Some-Plain.script.now)
-    (record beside { files = g.F.Files.state c.args.files.now; scorer = g.S.Scorer.state c.args.scorer.now; out = g.O.Sink.state c.args.out.now }) (record beside { files = g.F.Files.state c.plain.new.files; scorer = g.S.Scorer.state c.plain.new.scorer; out = g.O.Sink.state c.plain.new.out })
-    c.plain.result (sym (rw c.in-Some-Plain.field-0-is at c.in-Some-Plain.ensures)) (c.plain.ensures beside)
+    (record beside { files = g.F.Files.state c.args.files.now; scorer = g.S.Scorer.state c.args.scorer.now; out = g.O.Sink.state c.args.out.now }) (record beside { files = g.F.Files.state c.run_script.new.files; scorer = g.S.Scorer.state c.run_script.new.scorer; out = g.O.Sink.state c.run_script.new.out })
+    c.run_script.result (sym (rw c.in-Some-Plain.field-0-is at c.in-Some-Plain.ensures)) (c.run_script.ensures beside)

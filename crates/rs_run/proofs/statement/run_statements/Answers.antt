@@ -1,5 +1,6 @@
 use Rattle.std.proofs.Common.{refl, sym, subst, suc, ◌+◌, drop, arith}
 use Rattle.std.specs.Prelude.{Err, Ok}
+use Rattle.rs_value.proofs.ResultFacts.{given-err}
 use Rattle.rs_syntax.specs.Syntax.{command_of, commands_of}
 use Rattle.rs_catalog.specs.Catalogue.{empty}
 use Rattle.rs_run.specs.Run.{finds_in}
@@ -22,18 +23,18 @@ run_statement-requires g c = record {
   written = written-at c.args.statements.now c.loop-index.index c.index-statements-index.result c.loop-index-test.true c.index-statements-index.is c.requires.written;
 }
 
-pub returns-in-Err : goal.returns-in-Err
-returns-in-Err g c = λ beside. Runs-stops (Does (finds_in (g.F.Files.state c.args.files.now).told) (g.S.Scorer.state c.args.scorer.now).answer Plainly) empty (commands_of c.args.statements.now)
+pub returns-in_err-run_statement : goal.returns-in_err-run_statement
+returns-in_err-run_statement g c = λ beside. rw (given-err c.from_residual.result c.in_err-run_statement.field-0.0 c.from_residual.ensures) (Runs-stops (Does (finds_in (g.F.Files.state c.args.files.now).told) (g.S.Scorer.state c.args.scorer.now).answer Plainly) empty (commands_of c.args.statements.now)
     (drop (suc c.loop-index.index) (commands_of c.args.statements.now)) (command_of c.index-statements-index.result) c.loop-index.index c.loop-index.catalog c.run_statement.new.catalog
     (record beside { files = g.F.Files.state c.args.files.now; scorer = g.S.Scorer.state c.args.scorer.now; out = g.O.Sink.state c.args.out.now }) (record beside { files = g.F.Files.state c.loop-index.files; scorer = g.S.Scorer.state c.loop-index.scorer; out = g.O.Sink.state c.loop-index.out }) (record beside { files = g.F.Files.state c.run_statement.new.files; scorer = g.S.Scorer.state c.run_statement.new.scorer; out = g.O.Sink.state c.run_statement.new.out })
     (c.loop-index.invariant.between beside)
     (drop-at command_of c.args.statements.now c.loop-index.index c.index-statements-index.result c.loop-index-test.true c.index-statements-index.is)
     (some-step (g.F.Files.state c.args.files.now).told (g.S.Scorer.state c.args.scorer.now).answer Plainly)
-    (c.loop-index.index + 1) (omega arith) c.in-Err.fault
+    (c.loop-index.index + 1) (omega arith) c.in_err-run_statement.field-0.0
     (Stepped-first (c.loop-index.invariant.between beside).made Plainly (c.loop-index.index + 1) c.loop-index.catalog c.run_statement.new.catalog
-    (command_of c.index-statements-index.result) (Err c.in-Err.fault) (record beside { files = g.F.Files.state c.args.files.now; scorer = g.S.Scorer.state c.args.scorer.now; out = g.O.Sink.state c.args.out.now })
+    (command_of c.index-statements-index.result) (Err c.in_err-run_statement.field-0.0) (record beside { files = g.F.Files.state c.args.files.now; scorer = g.S.Scorer.state c.args.scorer.now; out = g.O.Sink.state c.args.out.now })
     (record beside { files = g.F.Files.state c.loop-index.files; scorer = g.S.Scorer.state c.loop-index.scorer; out = g.O.Sink.state c.loop-index.out }) (record beside { files = g.F.Files.state c.run_statement.new.files; scorer = g.S.Scorer.state c.run_statement.new.scorer; out = g.O.Sink.state c.run_statement.new.out })
-    (c.loop-index.invariant.between beside).has (c.in-Err.ensures beside))
+    (c.loop-index.invariant.between beside).has (c.in_err-run_statement.ensures beside)))
 
 pub loop-index-preserved : goal.loop-index-preserved
 loop-index-preserved g c = record {
@@ -46,7 +47,7 @@ loop-index-preserved g c = record {
       (Stepped-first (c.loop-index.invariant.between beside).made Plainly (c.loop-index.index + 1) c.loop-index.catalog c.run_statement.new.catalog
       (command_of c.index-statements-index.result) (Ok tt) (record beside { files = g.F.Files.state c.args.files.now; scorer = g.S.Scorer.state c.args.scorer.now; out = g.O.Sink.state c.args.out.now })
       (record beside { files = g.F.Files.state c.loop-index.files; scorer = g.S.Scorer.state c.loop-index.scorer; out = g.O.Sink.state c.loop-index.out }) (record beside { files = g.F.Files.state c.run_statement.new.files; scorer = g.S.Scorer.state c.run_statement.new.scorer; out = g.O.Sink.state c.run_statement.new.out })
-      (c.loop-index.invariant.between beside).has (c.in-Ok.ensures beside));
+      (c.loop-index.invariant.between beside).has (c.in_ok-run_statement.ensures beside));
   statements_same = refl;
 }
 

@@ -1,30 +1,27 @@
-use Rattle.std.proofs.Common.{sym, subst, take}
-use Rattle.std.specs.List.{AllByRecursion}
-use Rattle.rs_run.specs.Parts.Steps.{IsRow, Ran, lines_of, lines_run}
-use Rattle.rs_run.proofs.RunFacts.{RanTop-no_table, RanTop-ranked_fault, RanTop-ranked, are_rows}
+use Rattle.std.proofs.Common.{subst}
+use Rattle.rs_value.proofs.ResultFacts.{given-err}
+use Rattle.rs_run.specs.Lines.{rank_lines}
+use Rattle.rs_run.specs.Parts.Steps.{Ran, lines_run}
+use Rattle.rs_run.proofs.RunFacts.{RanTop-no_table, RanTop-ranked, RanTop-unranked}
 use Rattle.rs_run.proofs.top.top.Goals as goal
 
-pub returns-in-Err : goal.returns-in-Err
-returns-in-Err g c = λ beside.
-    RanTop-no_table beside.scorer.answer (record { file = c.args.file.now; column = c.args.column.now; max = c.args.max; count = c.args.count })
-    (record beside { files = g.F.Files.state c.args.files.now; out = g.O.Sink.state c.args.out.now }) (g.F.Files.state c.fetch_table.new.files) c.in-Err.fault c.in-Err.ensures.fetches
+pub returns-in_err-table : goal.returns-in_err-table
+returns-in_err-table g c = λ beside.
+    rw (given-err c.from_residual.result c.in_err-table.field-0.0 c.from_residual.ensures) (RanTop-no_table beside.scorer.answer (record { file = c.args.file.now; column = c.args.column.now; max = c.args.max; count = c.args.count })
+    (record beside { files = g.F.Files.state c.args.files.now; out = g.O.Sink.state c.args.out.now }) (g.F.Files.state c.fetch_table.new.files) c.in_err-table.field-0.0 c.in_err-table.ensures.fetches)
 
-pub returns-in-Err-rank_rows : goal.returns-in-Err-rank_rows
-returns-in-Err-rank_rows g c = λ beside.
-    RanTop-ranked_fault beside.scorer.answer (record { file = c.args.file.now; column = c.args.column.now; max = c.args.max; count = c.args.count })
+pub returns-in_err-rows : goal.returns-in_err-rows
+returns-in_err-rows g c = λ beside.
+    rw (given-err c.from_residual-in_err-rows.result c.in_err-rows.field-0.0 c.from_residual-in_err-rows.ensures) (RanTop-unranked beside.scorer.answer (record { file = c.args.file.now; column = c.args.column.now; max = c.args.max; count = c.args.count })
     (record beside { files = g.F.Files.state c.args.files.now; out = g.O.Sink.state c.args.out.now }) (g.F.Files.state c.fetch_table.new.files)
-    c.in-Ok.table c.in-Err-rank_rows.fault c.in-Ok.ensures.fetches c.in-Err-rank_rows.ensures
-
-pub put_rows-requires : goal.put_rows-requires
-put_rows-requires g c =
-    subst (AllByRecursion (λ r. IsRow c.in-Ok.table r.row)) (sym c.deref.ensures.value) (are_rows c.in-Ok.table _ c.in-Ok-rank_rows.ranked.items c.in-Ok-rank_rows.ensures.each)
+    c.in_ok-table.table c.in_err-rows.field-0.0 c.in_ok-table.ensures.fetches c.in_err-rows.ensures)
 
 pub returns : goal.returns
 returns g c = λ beside.
+    let fetched = record beside { files = g.F.Files.state c.fetch_table.new.files; out = g.O.Sink.state c.args.out.now } in
+    let new = record beside { files = g.F.Files.state c.fetch_table.new.files; out = g.O.Sink.state c.put_rows.new.out } in
     RanTop-ranked beside.scorer.answer (record { file = c.args.file.now; column = c.args.column.now; max = c.args.max; count = c.args.count })
     (record beside { files = g.F.Files.state c.args.files.now; out = g.O.Sink.state c.args.out.now }) (g.F.Files.state c.fetch_table.new.files)
-    c.in-Ok.table c.in-Ok-rank_rows.ranked.items c.put_rows.result (record beside { files = g.F.Files.state c.fetch_table.new.files; out = g.O.Sink.state c.put_rows.new.out })
-    c.in-Ok.ensures.fetches c.in-Ok-rank_rows.ensures
-    (subst (λ rows. Ran (lines_run (lines_of c.in-Ok.table 1 (take c.args.count rows))) c.put_rows.result
-    (record beside { files = g.F.Files.state c.fetch_table.new.files; out = g.O.Sink.state c.args.out.now }) (record beside { files = g.F.Files.state c.fetch_table.new.files; out = g.O.Sink.state c.put_rows.new.out }))
+    c.in_ok-table.table c.in_ok-rows.rows.items c.put_rows.result new c.in_ok-table.ensures.fetches c.in_ok-rows.ensures
+    (subst (λ rows. Ran (lines_run (rank_lines 1 rows)) c.put_rows.result fetched new)
     c.deref.ensures.value (c.put_rows.ensures (record beside { files = g.F.Files.state c.fetch_table.new.files })))

@@ -1,5 +1,5 @@
 use Rattle.std.proofs.Common.{inr, arith, true, false, ◌∙◌}
-use Rattle.rs_syntax.proofs.Cutting.{EndsLast-here, Within-more, ended-more}
+use Rattle.rs_syntax.proofs.Cutting.{EndsLast-here, Within-more, statements_ended-more}
 use Rattle.rs_syntax.proofs.script.statements_end.Goals as goal
 use Rattle.rs_syntax.proofs.script.statements_end.Goals.{then-is+else-ended-eq-MOST_STATEMENTS, else-is}
 
@@ -14,9 +14,9 @@ loop-index-preserved c =
     c.loop-index.invariant.count c.loop-index.invariant.few c.loop-index.invariant.within in
     elim c.if-is.branch [
       | then-is+else-ended-eq-MOST_STATEMENTS w ↦
-          let count = ended-more c.args.lexemes.now c.loop-index.index c.loop-index.ended c.index-lexemes-index.result true (omega arith) c.index-lexemes-index.is w.if-is.ensures c.loop-index.invariant.count in
+          let count = statements_ended-more c.args.lexemes.now c.loop-index.index c.loop-index.ended c.index-lexemes-index.result true (omega arith) c.index-lexemes-index.is w.if-is.ensures c.loop-index.invariant.count in
           record { count = w.ended-is ∙ count; few = omega arith; within = within }
       | else-is w ↦
-          let count = ended-more c.args.lexemes.now c.loop-index.index c.loop-index.ended c.index-lexemes-index.result false (omega arith) c.index-lexemes-index.is w.if-is.ensures c.loop-index.invariant.count in
+          let count = statements_ended-more c.args.lexemes.now c.loop-index.index c.loop-index.ended c.index-lexemes-index.result false (omega arith) c.index-lexemes-index.is w.if-is.ensures c.loop-index.invariant.count in
           record { count = w.ended-is ∙ (omega (arith, count)); few = omega arith; within = within }
     ]

@@ -2,7 +2,7 @@
 use Rattle.std.proofs.Common.{◌≡◌, ◌≤◌, ◌-◌, Some, arith, length, refl, subst}
 use Rattle.std.specs.Prelude.{option_map, slice_get}
 use Rattle.std.proofs.lemmas.Option.{slice_get_read}
-use Rattle.rs_catalog.specs.Indexes.{IsEntry, predicate_for, ranking_at, rows_for}
+use Rattle.rs_catalog.specs.Indexes.{IsIndexEntry, predicate_for, ranking_at, rows_for}
 use Rattle.rs_catalog.specs.declared.index.IndexDef.{IndexDef}
 use Rattle.rs_catalog.proofs.InsideFacts.{entry_fits, ranking_at-index}
 use Rattle.rs_catalog.proofs.catalog.Catalog.index_row.Goals as goal
@@ -30,5 +30,5 @@ returns-clause-fits c =
     ranking_at-index fields.tables.entries fields.predicates.entries fields.indexes.entries c.args.self.now c.self.view_is c.args.index c.index.result.now c.index.ensures in
     let within : c.args.place ≤ length c.index.result.now.ranking.items = subst (λ ranking. c.args.place ≤ length ranking) ranking c.requires.place_in in
     let there = slice_get_read c.index.result.now.ranking.items _ (c.args.place - 1) c.index-entry.result.now refl (omega (arith, c.requires.some_place)) c.index-entry.ensures in
-    subst (λ catalogue. (def : IndexDef) → option_map (λ i. i.def) (slice_get catalogue.indexes c.args.index) ≡ Some def → IsEntry (length (rows_for catalogue def)) (predicate_for catalogue def).max c.index-entry.result.now) c.self.view_is
+    subst (λ catalogue. (def : IndexDef) → option_map (λ i. i.def) (slice_get catalogue.indexes c.args.index) ≡ Some def → IsIndexEntry (length (rows_for catalogue def)) (predicate_for catalogue def).max c.index-entry.result.now) c.self.view_is
     (entry_fits fields.tables.entries fields.predicates.entries fields.indexes.entries c.self.invariant c.args.index c.index.result.now c.index.ensures (c.args.place - 1) c.index-entry.result.now there)

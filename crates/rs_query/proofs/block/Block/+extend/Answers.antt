@@ -1,7 +1,7 @@
 -- Where a condition on the rows chosen so far fails nothing begins with them. Else they are whole, or go on with each row of
 -- the next entry.
 use Rattle.std.proofs.Common.{◌≡◌, ◌∙◌, ◌<◌, ◌++◌, length, ap, sym, append-nil, arith, rules}
-use Rattle.rs_query.proofs.ExtendFacts.{IsPrefix-longer, combinations_from-none, combinations_from-rows, combinations_from-whole}
+use Rattle.rs_query.proofs.ExtendFacts.{IsPartialCombination-longer, combinations_from-none, combinations_from-rows, combinations_from-whole}
 use Rattle.rs_query.proofs.block.Block.+extend.Goals as goal
 
 pub returns-then-not-branch : goal.returns-then-not-branch
@@ -23,7 +23,7 @@ extend-requires t c =
       search rules,
       (
         c.requires.block,
-        IsPrefix-longer c.args.catalog.now c.args.self.now c.requires.block c.args.chosen c.loop-row.row c.rows_at-row-end.result c.args.rows c.with_row-longer.result c.requires.prefix within
+        IsPartialCombination-longer c.args.catalog.now c.args.self.now c.requires.block c.args.chosen c.loop-row.row c.rows_at-row-end.result c.args.rows c.with_row-longer.result c.requires.prefix within
             c.rows_at-row-end.ensures c.loop-row-test.true c.with_row-longer.ensures,
       ),
     )

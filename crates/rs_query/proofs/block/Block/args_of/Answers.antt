@@ -3,7 +3,7 @@ use Rattle.std.proofs.Common.{◌≡◌, ◌∙◌, ◌+◌, ◌++◌, [], ◌�
 use Rattle.std.specs.Prelude.{slice_get}
 use Rattle.std.proofs.lemmas.Option.{slice_get_read}
 use Rattle.rs_value.specs.Value.{all_fit}
-use Rattle.rs_query.specs.Meaning.{arg_of}
+use Rattle.rs_query.specs.Meaning.{argument_value}
 use Rattle.rs_query.proofs.ArgFacts.{HasKind-at, all_fit-all, all_fit-more}
 use Rattle.rs_query.proofs.EntryFacts.{arg-inside}
 use Rattle.rs_query.proofs.ListFacts.{map-take-more}
@@ -32,8 +32,8 @@ loop-arg-preserved c =
     record {
       values = c.in_ok-push.ensures.items
           ∙ ap (λ made. made ++ c.in_ok-arg_of.field-0 ∷ []) c.loop-arg.invariant.values
-          ∙ ap (λ v. map (arg_of c.args.catalog.now c.args.self.now c.args.ids.now.rows) (take i args) ++ v ∷ []) c.in_ok-arg_of.ensures.value
-          ∙ sym (map-take-more (arg_of c.args.catalog.now c.args.self.now c.args.ids.now.rows) args i c.arg-item.result at);
+          ∙ ap (λ v. map (argument_value c.args.catalog.now c.args.self.now c.args.ids.now.rows) (take i args) ++ v ∷ []) c.in_ok-arg_of.ensures.value
+          ∙ sym (map-take-more (argument_value c.args.catalog.now c.args.self.now c.args.ids.now.rows) args i c.arg-item.result at);
       fit = λ kinds are. ap (all_fit (take (i + 1) kinds)) c.in_ok-push.ensures.items
           ∙ all_fit-more c.args.catalog.now c.args.self.now kinds args i c.arg-item.result c.loop-arg.values.items c.in_ok-arg_of.field-0 are at
           (c.loop-arg.invariant.fit kinds are) c.in_ok-arg_of.ensures.fit;

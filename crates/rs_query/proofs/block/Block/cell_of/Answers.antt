@@ -3,8 +3,8 @@ use Rattle.std.proofs.Common.{◌≡◌, ◌-◌, Some, get_or}
 use Rattle.std.proofs.lemmas.Result.{IfOk-weaker}
 use Rattle.rs_value.specs.declared.value.Value.{Value}
 use Rattle.rs_table.specs.Relation.{cell_at}
-use Rattle.rs_query.specs.Meaning.{cell_of}
-use Rattle.rs_query.proofs.CellFacts.{IsOf-table, cell_of-value, column-within, row-within}
+use Rattle.rs_query.specs.Meaning.{column_value}
+use Rattle.rs_query.proofs.CellFacts.{IsOf-table, column_value-value, column-within, row-within}
 use Rattle.rs_query.proofs.EntryFacts.{has_number-inside}
 use Rattle.rs_query.proofs.block.Block.cell_of.Goals as goal
 
@@ -32,6 +32,6 @@ returns-clause-value c =
     let is = IsOf-table c.args.catalog.now c.args.self.now c.args.column c.table.result.now c.table.ensures in
     IfOk-weaker c.value.result
     (λ (v : Value). cell_at c.table.result.now (get_or c.args.ids.now.rows (c.args.column.0 - 1) 0) c.args.column.1 ≡ Some v)
-    (λ (v : Value). v ≡ cell_of c.args.catalog.now c.args.self.now c.args.ids.now.rows c.args.column)
-    (λ v e. cell_of-value c.args.catalog.now c.args.self.now c.args.ids.now.rows c.args.column c.table.result.now v is e)
+    (λ (v : Value). v ≡ column_value c.args.catalog.now c.args.self.now c.args.ids.now.rows c.args.column)
+    (λ v e. column_value-value c.args.catalog.now c.args.self.now c.args.ids.now.rows c.args.column c.table.result.now v is e)
     c.value.ensures.cell

@@ -2,7 +2,7 @@
 use Rattle.std.proofs.Common.{ℕ, ◌≡◌, ◌∙◌, ◌++◌, [], ◌∷◌, Some, get_or, map, take, sym, ap}
 use Rattle.std.specs.Prelude.{slice_get}
 use Rattle.std.proofs.lemmas.Option.{slice_get-get_or}
-use Rattle.rs_query.specs.Meaning.{cell_of}
+use Rattle.rs_query.specs.Meaning.{column_value}
 use Rattle.rs_query.specs.WellFormed.{IsColumn}
 use Rattle.rs_query.proofs.CellFacts.{HaveKinds-more}
 use Rattle.rs_query.proofs.EntryFacts.{column-inside}
@@ -31,8 +31,8 @@ loop-column-preserved c =
     record {
       values = c.in_ok-push.ensures.items
           ∙ ap (λ made. made ++ c.in_ok-cell_of.field-0 ∷ []) c.loop-column.invariant.values
-          ∙ ap (λ v. map (cell_of c.args.catalog.now c.args.self.now c.args.ids.now.rows) (take i columns) ++ v ∷ []) c.in_ok-cell_of.ensures.value
-          ∙ sym (map-take-more (cell_of c.args.catalog.now c.args.self.now c.args.ids.now.rows) columns i column at);
+          ∙ ap (λ v. map (column_value c.args.catalog.now c.args.self.now c.args.ids.now.rows) (take i columns) ++ v ∷ []) c.in_ok-cell_of.ensures.value
+          ∙ sym (map-take-more (column_value c.args.catalog.now c.args.self.now c.args.ids.now.rows) columns i column at);
       kinds = HaveKinds-more c.args.catalog.now c.args.self.now c.args.ids.now.rows columns c.loop-column.values.items c.push.new.self.items i column c.in_ok-cell_of.field-0 at
           c.loop-column.invariant.values c.in_ok-push.ensures.items c.loop-column.invariant.kinds c.in_ok-cell_of.ensures.fit;
     }

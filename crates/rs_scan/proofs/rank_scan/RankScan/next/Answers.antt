@@ -5,7 +5,7 @@ use Rattle.std.specs.Prelude.{option_map, slice_get}
 use Rattle.std.proofs.lemmas.Option.{slice_get-map, slice_get_past}
 use Rattle.rs_rank.specs.declared.scored_row.ScoredRow.{ScoredRow}
 use Rattle.rs_catalog.specs.Indexes.{IsRanking, predicate_for, ranking_at}
-use Rattle.rs_scan.specs.Scans.{IndexScan, IsOfAllRows, entries_in, index_rows, row_of, rows_of_index, scored}
+use Rattle.rs_scan.specs.Scans.{IndexScan, IsOfAllRows, entries_in, index_rows, entry_row, rows_of_index, scored}
 use Rattle.rs_scan.proofs.IndexFacts.{entries_in-ranking, index-count}
 use Rattle.rs_scan.proofs.rank_scan.RankScan.next.Goals as goal
 
@@ -33,7 +33,7 @@ returns-clause-row c =
     let place : scan.drawn + 1 - 1 ≡ scan.drawn = omega arith in
     let there : slice_get ranking scan.drawn ≡ Some entry = ap (slice_get ranking) (sym place) ∙ c.index_row-score.ensures.entry in
     let made : c.row_of.result ≡ scored scan.block scan.entry scan.weight entry =
-    c.row_of.ensures ∙ ap (row_of scan.block scan.entry entry.row) c.share-sum.ensures in
+    c.row_of.ensures ∙ ap (entry_row scan.block scan.entry entry.row) c.share-sum.ensures in
     subst (λ (s : IndexScan). Some c.row_of.result ≡ slice_get (rows_of_index catalogue s) s.drawn) c.self.view_is
     (ap Some made
     ∙ sym (slice_get-map (scored scan.block scan.entry scan.weight) (entries_in scan.rows ranking) scan.drawn

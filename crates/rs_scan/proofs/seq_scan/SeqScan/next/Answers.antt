@@ -2,7 +2,7 @@
 use Rattle.std.proofs.Common.{◌≡◌, ◌∙◌, ◌+◌, ◌<◌, Some, None, sym, ap, subst, arith}
 use Rattle.std.specs.Prelude.{slice_get}
 use Rattle.std.proofs.lemmas.Option.{slice_get_past}
-use Rattle.rs_scan.specs.Scans.{TableScan, row_of, rows_of_table, table_rows}
+use Rattle.rs_scan.specs.Scans.{TableScan, entry_row, rows_of_table, table_rows}
 use Rattle.rs_scan.proofs.ScanFacts.{length-rows_from, slice_get-rows_from}
 use Rattle.rs_scan.proofs.seq_scan.SeqScan.next.Goals as goal
 
@@ -19,5 +19,5 @@ returns-clause-row c =
     let less : scan.drawn < scan.rows = omega (arith, c.self.invariant.within, c.if-self.false) in
     let one : scan.drawn + 1 ≡ 1 + scan.drawn = omega arith in
     subst (λ (s : TableScan). Some c.row_of.result ≡ slice_get (rows_of_table s) s.drawn) c.self.view_is
-    (ap Some (c.row_of.ensures ∙ ap (λ n. row_of scan.block scan.entry n 0) one)
+    (ap Some (c.row_of.ensures ∙ ap (λ n. entry_row scan.block scan.entry n 0) one)
     ∙ sym (slice_get-rows_from scan.block scan.entry 1 scan.rows scan.drawn less))

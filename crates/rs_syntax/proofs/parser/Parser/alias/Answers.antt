@@ -1,7 +1,7 @@
 use Rattle.std.proofs.Common.{◌≡◌, true, ◌∷◌, rules, sym, refl}
 use Rattle.rs_grammar.specs.Kinds.{names}
 use Rattle.rs_grammar.specs.Reading.{next_is}
-use Rattle.rs_grammar.specs.declared.kind.Kind.TheVariants.{As}
+use Rattle.rs_grammar.specs.declared.kind.TokenKind.TheVariants.{As}
 use Rattle.rs_syntax.proofs.Blocks.{next_is-neither, next_is-one, next_is-others}
 use Rattle.rs_syntax.proofs.Steps.{read-both, read-not, read-this, found, halts-then, halts-this, goes_on}
 use Rattle.rs_syntax.proofs.parser.Parser.alias.Goals as goal

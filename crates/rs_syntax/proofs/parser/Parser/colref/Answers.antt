@@ -1,6 +1,6 @@
 use Rattle.std.proofs.Common.{rules, ap}
 use Rattle.rs_grammar.specs.Grammar.{Node, colref, name, optional, word, ◌⨟◌}
-use Rattle.rs_grammar.specs.declared.kind.Kind.TheVariants.{Dot}
+use Rattle.rs_grammar.specs.declared.kind.TokenKind.TheVariants.{Dot}
 use Rattle.rs_syntax.specs.Trees.{colref_of, qualified}
 use Rattle.rs_syntax.proofs.Steps.{halts-first, halts-rule, goes_on}
 use Rattle.rs_syntax.proofs.Results.{reads-behind, reads-rule}

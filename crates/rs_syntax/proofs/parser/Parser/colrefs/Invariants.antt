@@ -1,6 +1,6 @@
 use Rattle.std.proofs.Common.{length}
 use Rattle.rs_grammar.specs.Grammar.{Use, colref, word, ◌⨟◌}
-use Rattle.rs_grammar.specs.declared.kind.Kind.TheVariants.{Comma}
+use Rattle.rs_grammar.specs.declared.kind.TokenKind.TheVariants.{Comma}
 use Rattle.rs_syntax.specs.Trees.{colref_of}
 use Rattle.rs_syntax.proofs.Lists.{Listing}
 use Rattle.rs_syntax.proofs.parser.Parser.colrefs.Given as goal

@@ -1,6 +1,6 @@
 use Rattle.std.proofs.Common.{length}
 use Rattle.rs_grammar.specs.Grammar.{Use, term, word, ◌⨟◌}
-use Rattle.rs_grammar.specs.declared.kind.Kind.TheVariants.{Plus}
+use Rattle.rs_grammar.specs.declared.kind.TokenKind.TheVariants.{Plus}
 use Rattle.rs_syntax.specs.Statements.{term_of}
 use Rattle.rs_syntax.proofs.Lists.{Listing}
 use Rattle.rs_syntax.proofs.parser.Parser.terms.Given as goal

@@ -1,0 +1,78 @@
+//! The plan that a query of one table has until plans are chosen by their cost.
+
+ghost use Rattle.std.specs.Prelude.{ℕ, ◌≡◌, ◌≤◌, ◌==◌, IfOk, Option, false, if◌then◌else◌, length};
+ghost use Rattle.rs_query.specs.WellFormed.{IsBlock};
+ghost use Rattle.rs_query.specs.declared.query.Query.TheVariants.{One};
+ghost use Rattle.rs_plan.specs.Fixed.{first_indexed, first_table, fixed_tree, ranked_but};
+ghost use Rattle.rs_plan.specs.Plans.{IsPlan};
+ghost use Rattle.rs_plan.specs.Shapes.{tree_of};
+ghost use Rattle.rs_plan.specs.Trees.{Rank};
+
+use crate::plan::Plan;
+use rs_catalog::Catalog;
+use rs_query::Block;
+use rs_value::Memory;
+use std::alloc::Global;
+
+/// The plan of a block of one FROM entry and without DISTINCT. It scans the table by the rank index of the first term that has
+/// one, or as it is where none has, and evaluates the other terms above, the first one lowest.
+pub fn fixed_plan(alloc: Global, catalog: &Catalog, block: &Block) -> Result<Plan, Memory>
+    requires block { IsBlock catalog.now block.now }
+    requires one { length block.now.from ≡ 1 }
+    requires whole { block.now.distinct ≡ false }
+    ensures tree { IfOk result (λ plan. tree_of plan ≡ fixed_tree catalog.now block.now) }
+    ensures plan { IfOk result (λ plan. (limit : Option ℕ) → IsPlan catalog.now (One block.now limit) (tree_of plan)) }
+{
+    let terms = block.terms.items().len() as u8;
+    match first_indexed(catalog, block) {
+        Some((term, index)) => {
+            let scan = Plan::RankScan {
+                entry: 1,
+                term,
+                index,
+            };
+            ranked(alloc, terms, term, scan)
+        }
+        None => ranked(alloc, terms, 0, Plan::SeqScan { entry: 1 }),
+    }
+}
+
+/// The number of the first term for which the table has a rank index, and that of the index.
+fn first_indexed(catalog: &Catalog, block: &Block) -> Option<(u8, u8)>
+    requires { IsBlock catalog.now block.now }
+    ensures { result ≡ first_indexed catalog.now (first_table block.now.from) 1 block.now.terms }
+{
+    let table = block.from.items()[0].0;
+    let mut number = 1;
+    for term in block.terms.items() {
+        let index = catalog.index_for(table, term.predicate, term.args.items(), 1);
+        if let Some(index) = index {
+            return Some((number, index));
+        }
+        number += 1;
+    }
+    None
+}
+
+/// Operators for so many terms above a scan that has evaluated one of them, or none where that is 0.
+fn ranked(alloc: Global, terms: u8, below: u8, scan: Plan) -> Result<Plan, Memory>
+    requires { terms ≤ 8 }
+    ensures { IfOk result (λ plan. tree_of plan ≡ ranked_but below 1 terms (tree_of scan)) }
+{
+    let mut plan = scan;
+    for place in 0..terms {
+        plan = rank_but(alloc, place + 1, below, plan)?;
+    }
+    Ok(plan)
+}
+
+/// An operator for a term above a plan, but where the term is the one that is evaluated below.
+fn rank_but(alloc: Global, term: u8, below: u8, child: Plan) -> Result<Plan, Memory>
+    ensures { IfOk result (λ plan. tree_of plan ≡ (if term == below then tree_of child else Rank term (tree_of child))) }
+{
+    if term == below {
+        return Ok(child);
+    }
+    let child = Box::new(alloc, child)?;
+    Ok(Plan::Rank { term, child })
+}

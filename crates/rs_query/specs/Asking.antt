@@ -1,0 +1,22 @@
+-- One question to the scorer, for the functions that ask it.
+use Rattle.std.specs.Prelude.{ℕ, ℤ, [], ◌∷◌, Result, ok_or}
+use Rattle.rs_rank.specs.Ids.{ids_inside}
+use Rattle.rs_rank.specs.declared.ids.Ids.{Ids}
+use Rattle.rs_expr.specs.InOrder.{Inquiry}
+use Rattle.rs_expr.specs.Scores.{score_within}
+use Rattle.rs_expr.specs.Scoring.{Answering}
+use Rattle.rs_catalog.specs.Catalogue.{Catalogue}
+use Rattle.rs_query.specs.Answers.{worth_of}
+use Rattle.rs_query.specs.Questions.{Faults, asking, question_of}
+use Rattle.rs_query.specs.declared.block.Block.{Block}
+use Rattle.rs_query.specs.declared.term.Term.{Term}
+
+module _ {F : Type 0} (faults : Faults F) where
+  -- a number that the scorer answered to a term for these rows, as a worth where it is one
+  abbrev pub worth_for : Term → Ids → ℕ → ℤ → Result ℕ F
+  worth_for term ids max got = ok_or (score_within max got) (faults.bad term.predicate (ids_inside ids.block term.entries ids.rows) got max)
+
+  -- the question of a term for these rows, and what the term is worth on them
+  abbrev pub asking_worth : Answering → Catalogue → Block → Ids → Term → Inquiry ℕ F
+  asking_worth answer catalogue block ids term =
+      asking faults answer catalogue (question_of ids.block block ids.rows term ∷ []) (worth_of answer catalogue block ids.rows term)
