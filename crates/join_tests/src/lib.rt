@@ -3,4 +3,10 @@
 #![tactic(auto)]
 
 #[cfg(test)]
+mod hashed;
+#[cfg(test)]
+mod nested;
+#[cfg(test)]
 mod ripple;
+#[cfg(test)]
+mod rows;

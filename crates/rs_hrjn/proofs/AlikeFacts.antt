@@ -1,0 +1,65 @@
+-- The rows at the places of some join values are those that have them, and to try these is to try all.
+use Rattle.std.proofs.Common.{◌≡◌, ℕ, zero, suc, Bool, true, false, cond, List, [], ◌∷◌, get_or, drop, length, map, refl, sym, ◌∙◌, ap}
+use Rattle.std.specs.List.{filter}
+use Rattle.rs_rank.specs.declared.row.RankRow.{RankRow}
+use Rattle.rs_rank.specs.Rows.{merge_row}
+use Rattle.rs_ripple.specs.Pairs.{pairs_against, pairs_with}
+use Rattle.rs_value.specs.declared.value.Value.{Value}
+use Rattle.rs_hrjn.specs.Drawn.{DrawnRow, alike, are_equal, places_alike, rows_of}
+use Rattle.rs_hrjn.specs.Hashed.{HaveTheirValues, rows_at}
+use Rattle.rs_hrjn.proofs.EqualFacts.{are_equal-itself}
+
+-- as many places as rows
+pub length-places_alike : (values : List Value) (n : ℕ) (rows : List DrawnRow) → length (places_alike values n rows) ≡ length (alike values rows)
+length-places_alike values n [] = refl
+length-places_alike values n (drawn ∷ rows) = step (are_equal values drawn.values) (places_alike values (suc n) rows) (alike values rows) (length-places_alike values (suc n) rows)
+  where
+    step : (b : Bool) (places : List ℕ) (found : List DrawnRow) → length places ≡ length found → length (cond b (n ∷ places) places) ≡ length (cond b (drawn ∷ found) found)
+    step true places found e = ap suc e
+    step false places found e = e
+
+-- what is behind n items of a list
+drop-first : {X : Type 0} (n : ℕ) (whole : List X) (x other : X) (xs : List X) → drop n whole ≡ x ∷ xs → (get_or whole n other ≡ x) × (drop (suc n) whole ≡ xs)
+drop-first zero [] x other xs e = absurd (cc)
+drop-first zero (w ∷ ws) x other xs e = (cc, cc)
+drop-first (suc n) [] x other xs e = absurd (cc)
+drop-first (suc n) (w ∷ ws) x other xs e = drop-first n ws x other xs e
+
+rows-at : (other : RankRow) (values : List Value) (n : ℕ) (rows : List DrawnRow) (whole : List RankRow) → drop n whole ≡ rows_of rows → rows_at other (places_alike values n rows) whole ≡ rows_of (alike values rows)
+rows-at other values n [] whole e = refl
+rows-at other values n (drawn ∷ rows) whole e =
+    let both = drop-first n whole drawn.row other (rows_of rows) e in
+    step (are_equal values drawn.values) (places_alike values (suc n) rows) (alike values rows) both.0 (rows-at other values (suc n) rows whole both.1)
+  where
+    step : (b : Bool) (places : List ℕ) (found : List DrawnRow) → get_or whole n other ≡ drawn.row → rows_at other places whole ≡ rows_of found → rows_at other (cond b (n ∷ places) places) whole ≡ rows_of (cond b (drawn ∷ found) found)
+    step true places found here rest = ap (λ row. row ∷ rows_at other places whole) here ∙ ap (λ rows. drawn.row ∷ rows) rest
+    step false places found here rest = rest
+
+-- a row that matches is among them
+filter-alike : (matches : RankRow → Bool) (values : List Value) (rows : List DrawnRow) → HaveTheirValues matches values rows → filter matches (rows_of (alike values rows)) ≡ filter matches (rows_of rows)
+filter-alike matches values [] same = refl
+filter-alike matches values (drawn ∷ rows) same =
+    step (matches drawn.row) refl (are_equal values drawn.values) refl same.0 (filter-alike matches values rows same.1)
+  where
+    step : (m : Bool) → matches drawn.row ≡ m → (b : Bool) → are_equal values drawn.values ≡ b → (matches drawn.row ≡ true → values ≡ drawn.values) → filter matches (rows_of (alike values rows)) ≡ filter matches (rows_of rows) →
+        filter matches (rows_of (cond b (drawn ∷ alike values rows) (alike values rows))) ≡ cond m (drawn.row ∷ filter matches (rows_of rows)) (filter matches (rows_of rows))
+    step true e true f equal rest = ap (λ m. cond m (drawn.row ∷ filter matches (rows_of (alike values rows))) (filter matches (rows_of (alike values rows)))) e ∙ ap (λ found. drawn.row ∷ found) rest
+    step true e false f equal rest = absurd (true_false (sym (are_equal-itself values) ∙ ap (are_equal values) (equal e) ∙ f))
+      where
+        true_false : true ≡ false → ⊥
+        true_false g = cc
+    step false e true f equal rest = ap (λ m. cond m (drawn.row ∷ filter matches (rows_of (alike values rows))) (filter matches (rows_of (alike values rows)))) e ∙ rest
+    step false e false f equal rest = rest
+
+-- so the pairs with them are the pairs with all
+pub pairs_with-alike : (matches : RankRow → RankRow → Bool) (row : RankRow) (values : List Value) (rights : List DrawnRow) → HaveTheirValues (matches row) values rights →
+    pairs_with matches merge_row (rows_at row (places_alike values 0 rights) (rows_of rights)) row ≡ pairs_with matches merge_row (rows_of rights) row
+pairs_with-alike matches row values rights same =
+    ap (λ rows. pairs_with matches merge_row rows row) (rows-at row values 0 rights (rows_of rights) refl)
+    ∙ ap (map (merge_row row)) (filter-alike (matches row) values rights same)
+
+pub pairs_against-alike : (matches : RankRow → RankRow → Bool) (row : RankRow) (values : List Value) (lefts : List DrawnRow) → HaveTheirValues (λ left. matches left row) values lefts →
+    pairs_against matches merge_row (rows_at row (places_alike values 0 lefts) (rows_of lefts)) row ≡ pairs_against matches merge_row (rows_of lefts) row
+pairs_against-alike matches row values lefts same =
+    ap (λ rows. pairs_against matches merge_row rows row) (rows-at row values 0 lefts (rows_of lefts) refl)
+    ∙ ap (map (λ left. merge_row left row)) (filter-alike (λ left. matches left row) values lefts same)

@@ -1,0 +1,5 @@
+pub mod MapFacts
+pub mod EqualFacts
+pub mod IndexFacts
+pub mod AlikeFacts
+pub mod Worked

@@ -1,0 +1,16 @@
+-- The pairs of the rows that are left give what the pairs of all give.
+use Rattle.std.proofs.Common.{◌≡◌, ◌+◌, ◌≤◌, false, drop}
+use Rattle.rs_rank.specs.Rows.{merge_row}
+use Rattle.rs_ripple.specs.Pairs.{pairs_against}
+use Rattle.rs_ripple.specs.Stands.{CanFindEach, found_each}
+use Rattle.rs_nrjn.proofs.nested.find_left.Given as goal
+
+abbrev pub invariant-loop-left : goal.invariant-loop-left
+invariant-loop-left g l = record {
+  alive : l.core.spent ≡ false;
+  pairs : CanFindEach (pairs_against (g.M.Matcher.truth l.fn.matcher) merge_row (drop l.left-index l.lefts) l.row) l.core;
+  rest : found_each (pairs_against (g.M.Matcher.truth l.fn.matcher) merge_row (drop l.left-index l.lefts) l.row) l.core
+      ≡ found_each (pairs_against (g.M.Matcher.truth l.fn.matcher) merge_row l.lefts l.row) l.fn.core;
+  truth : g.M.Matcher.truth l.matcher ≡ g.M.Matcher.truth l.fn.matcher;
+  calls : g.M.Matcher.calls l.matcher ≤ g.M.Matcher.calls l.fn.matcher + l.left-index;
+}

@@ -1,0 +1,7 @@
+//! The core of the nested rank join. It keeps the rows drawn of both sides, and tries each new row against all those of
+//! the other side.
+#![tactic(auto)]
+
+mod nested;
+
+pub use nested::Nrjn;
