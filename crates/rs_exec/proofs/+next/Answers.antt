@@ -1,0 +1,145 @@
+-- A node that is asked gives the next row of its list, and stands one ask further.
+use Rattle.std.proofs.Common.{suc, Ok, refl, sym, ap, subst, arith}
+use Rattle.rs_plan.specs.Calls.{questions_of_ask}
+use Rattle.rs_value.proofs.ResultFacts.{given-err}
+use Rattle.rs_exec.specs.Asked.{Asked, CanAsk, NodeAfter}
+use Rattle.rs_exec.specs.Asking.{world_of}
+use Rattle.rs_exec.specs.Nodes.{asked_in, number_in, tree_in}
+use Rattle.rs_exec.specs.Standing.{Stands}
+use Rattle.rs_exec.specs.declared.fault.ExecFault.TheVariants.{Memory}
+use Rattle.rs_exec.specs.declared.node.Node.{Node}
+use Rattle.rs_exec.specs.declared.node.Node.TheVariants as node
+use Rattle.rs_exec.proofs.CycleFacts.{end-kept, given, height, index-entry, index-gave, index-view, input-can, input-failed, input-stands, next-nearer, rank-asked, row-can, row-failed, row-kept, still-stopped, table-entry, table-gave}
+use Rattle.rs_exec.proofs.StepFacts.{Between, between-start}
+use Rattle.rs_exec.proofs.+next.Goals as goal
+
+pub node::Node::next-next-requires-clause-entry : goal.node::Node::next-next-requires-clause-entry
+node::Node::next-next-requires-clause-entry g t c =
+    let answer = (g.S.Scorer.state c.args.scorer.now).answer in
+    let can = subst (λ (n : Node). CanAsk c.args.catalog.now answer c.args.query.now (number_in n) (tree_in n) (asked_in n)) c.in-SeqScan.is c.requires.can in
+    let stands = subst (λ (n : Node). Stands (world_of c.args.catalog.now answer c.args.query.now) (number_in n) n) c.in-SeqScan.is c.requires.stands in
+    table-entry c.args.catalog.now answer c.args.query.now c.in-SeqScan.head can stands
+
+pub node::Node::next-returns-in_err-next-in-SeqScan : goal.node::Node::next-returns-in_err-next-in-SeqScan
+node::Node::next-returns-in_err-next-in-SeqScan g t c =
+    let old = g.S.Scorer.state c.args.scorer.now in
+    let w = world_of c.args.catalog.now old.answer c.args.query.now in
+    let self = c.args.self.now in
+    still-stopped w (number_in self) (tree_in self) (asked_in self) (ap (λ (n : Node). questions_of_ask w (number_in n) (tree_in n) (suc (asked_in n))) c.in-SeqScan.is)
+    (NodeAfter w (number_in self) (tree_in self) (asked_in self) (node.SeqScan c.next.new.self)) old refl c.from_residual.result
+    (given-err c.from_residual.result Memory c.from_residual.ensures)
+
+pub node::Node::next-next-requires-in-RankScan-clause-entry : goal.node::Node::next-next-requires-in-RankScan-clause-entry
+node::Node::next-next-requires-in-RankScan-clause-entry g t c =
+    let answer = (g.S.Scorer.state c.args.scorer.now).answer in
+    let can = subst (λ (n : Node). CanAsk c.args.catalog.now answer c.args.query.now (number_in n) (tree_in n) (asked_in n)) c.in-RankScan.is c.requires.can in
+    let stands = subst (λ (n : Node). Stands (world_of c.args.catalog.now answer c.args.query.now) (number_in n) n) c.in-RankScan.is c.requires.stands in
+    index-entry c.args.catalog.now answer c.args.query.now c.in-RankScan.head can stands
+
+pub node::Node::next-next-requires-in-RankScan-clause-view : goal.node::Node::next-next-requires-in-RankScan-clause-view
+node::Node::next-next-requires-in-RankScan-clause-view g t c =
+    let answer = (g.S.Scorer.state c.args.scorer.now).answer in
+    let can = subst (λ (n : Node). CanAsk c.args.catalog.now answer c.args.query.now (number_in n) (tree_in n) (asked_in n)) c.in-RankScan.is c.requires.can in
+    let stands = subst (λ (n : Node). Stands (world_of c.args.catalog.now answer c.args.query.now) (number_in n) n) c.in-RankScan.is c.requires.stands in
+    index-view c.args.catalog.now answer c.args.query.now c.in-RankScan.head can stands
+
+pub node::Node::next-returns-in_err-next-in-RankScan : goal.node::Node::next-returns-in_err-next-in-RankScan
+node::Node::next-returns-in_err-next-in-RankScan g t c =
+    let old = g.S.Scorer.state c.args.scorer.now in
+    let w = world_of c.args.catalog.now old.answer c.args.query.now in
+    let self = c.args.self.now in
+    still-stopped w (number_in self) (tree_in self) (asked_in self) (ap (λ (n : Node). questions_of_ask w (number_in n) (tree_in n) (suc (asked_in n))) c.in-RankScan.is)
+    (NodeAfter w (number_in self) (tree_in self) (asked_in self) (node.RankScan c.next-in-RankScan.new.self)) old refl c.from_residual-in_err-next-in-RankScan.result
+    (given-err c.from_residual-in_err-next-in-RankScan.result Memory c.from_residual-in_err-next-in-RankScan.ensures)
+
+pub node::Node::next-returns-in_ok-next-in-SeqScan : goal.node::Node::next-returns-in_ok-next-in-SeqScan
+node::Node::next-returns-in_ok-next-in-SeqScan g t c =
+    let old = g.S.Scorer.state c.args.scorer.now in
+    let w = world_of c.args.catalog.now old.answer c.args.query.now in
+    let can = subst (λ (n : Node). CanAsk c.args.catalog.now old.answer c.args.query.now (number_in n) (tree_in n) (asked_in n)) c.in-SeqScan.is c.requires.can in
+    let stands = subst (λ (n : Node). Stands w (number_in n) n) c.in-SeqScan.is c.requires.stands in
+    let row = c.in_ok-next-in-SeqScan.field-0 in
+    subst (λ (n : Node). Asked w (number_in n) (tree_in n) (asked_in n) (NodeAfter w (number_in n) (tree_in n) (asked_in n) (node.SeqScan c.next.new.self)) (Ok row) old old) (sym c.in-SeqScan.is)
+    (table-gave c.args.catalog.now old.answer c.args.query.now old refl c.in-SeqScan.head c.next.new.self can stands row c.in_ok-next-in-SeqScan.ensures.row c.in_ok-next-in-SeqScan.ensures.after)
+
+pub node::Node::next-returns-in_ok-next-in-RankScan : goal.node::Node::next-returns-in_ok-next-in-RankScan
+node::Node::next-returns-in_ok-next-in-RankScan g t c =
+    let old = g.S.Scorer.state c.args.scorer.now in
+    let w = world_of c.args.catalog.now old.answer c.args.query.now in
+    let can = subst (λ (n : Node). CanAsk c.args.catalog.now old.answer c.args.query.now (number_in n) (tree_in n) (asked_in n)) c.in-RankScan.is c.requires.can in
+    let stands = subst (λ (n : Node). Stands w (number_in n) n) c.in-RankScan.is c.requires.stands in
+    let row = c.in_ok-next-in-RankScan.field-0 in
+    subst (λ (n : Node). Asked w (number_in n) (tree_in n) (asked_in n) (NodeAfter w (number_in n) (tree_in n) (asked_in n) (node.RankScan c.next-in-RankScan.new.self)) (Ok row) old old) (sym c.in-RankScan.is)
+    (index-gave c.args.catalog.now old.answer c.args.query.now old refl c.in-RankScan.head c.next-in-RankScan.new.self can stands row
+    c.in_ok-next-in-RankScan.ensures.row c.in_ok-next-in-RankScan.ensures.after)
+
+pub node::Node::next-returns-in-Rank : goal.node::Node::next-returns-in-Rank
+node::Node::next-returns-in-Rank g t c =
+    let old = g.S.Scorer.state c.args.scorer.now in
+    rank-asked (world_of c.args.catalog.now old.answer c.args.query.now) c.args.self.now c.in-Rank.head c.next_ranked.new.head c.in-Rank.child c.deref_mut.result.now c.next_ranked.new.child
+    c.next_ranked.result old (g.S.Scorer.state c.next_ranked.new.scorer) c.in-Rank.is c.deref_mut.ensures.value c.next_ranked.ensures
+
+pub rank::next_ranked-loop-alloc-init : goal.rank::next_ranked-loop-alloc-init
+rank::next_ranked-loop-alloc-init g t c =
+    let old = g.S.Scorer.state c.args.scorer.now in
+    let head = c.args.head.now in
+    let child = c.args.child.now in
+    let w = world_of c.args.catalog.now old.answer c.args.query.now in
+    record {
+      number_is = refl;
+      tree_is = refl;
+      stands = c.requires.child;
+      between = subst (λ tally. Between w (number_in child) head.term (tree_in child) head.tally.asked (asked_in child)
+          (record { core = head.core; term = head.term; tally = tally; calls = head.calls }) old old) (sym c.ask.ensures)
+          (between-start c.args.catalog.now c.args.query.now (number_in child) head.term (tree_in child) head.tally.asked old c.requires.can head (asked_in child) refl refl
+          c.requires.head.keeps c.requires.head.asked);
+    }
+
+pub rank::next_ranked-next-requires : goal.rank::next_ranked-next-requires
+rank::next_ranked-next-requires g t c κs within =
+    let less = c.decreases in
+    let same = ap height c.loop-alloc.invariant.tree_is in
+    let need = c.needs.ensures.needs c.loop-alloc-test.true in
+    (omega arith, (within, (input-can c.loop-alloc.invariant c.requires.can need, input-stands c.loop-alloc.invariant c.requires.can need)))
+
+pub rank::next_ranked-returns-in_err-row : goal.rank::next_ranked-returns-in_err-row
+rank::next_ranked-returns-in_err-row g t c =
+    input-failed c.loop-alloc.invariant c.requires.can (c.needs.ensures.needs c.loop-alloc-test.true) _ c.in_err-row.field-0.0 c.from_residual.result (g.S.Scorer.state c.next.new.scorer)
+    (given-err c.from_residual.result c.in_err-row.field-0.0 c.from_residual.ensures) c.in_err-row.ensures.inquires
+
+pub rank::next_ranked-feed-requires : goal.rank::next_ranked-feed-requires
+rank::next_ranked-feed-requires g t c =
+    record {
+      can = row-can c.loop-alloc.invariant c.requires.can (c.needs.ensures.needs c.loop-alloc-test.true)
+          c.in-Some.row c.in_ok-row.field-0 c.in-Some.is (g.S.Scorer.state c.next.new.scorer) c.in_ok-row.ensures.inquires;
+    }
+
+pub rank::next_ranked-loop-alloc-smaller-in-Continue-branch-3 : goal.rank::next_ranked-loop-alloc-smaller-in-Continue-branch-3
+rank::next_ranked-loop-alloc-smaller-in-Continue-branch-3 g t c =
+    next-nearer c.loop-alloc.invariant c.requires.can (c.needs.ensures.needs c.loop-alloc-test.true) c.next.new.self (c.in_ok-row.ensures.leaves refl)
+
+pub rank::next_ranked-loop-alloc-preserved-in-Continue-branch-3 : goal.rank::next_ranked-loop-alloc-preserved-in-Continue-branch-3
+rank::next_ranked-loop-alloc-preserved-in-Continue-branch-3 g t c =
+    row-kept c.loop-alloc.invariant c.requires.can (c.needs.ensures.needs c.loop-alloc-test.true)
+    c.in-Some.row c.in_ok-row.field-0 c.in-Some.is (g.S.Scorer.state c.next.new.scorer) c.in_ok-row.ensures.inquires
+    c.feed.new.self (g.S.Scorer.state c.feed.new.scorer) c.next.new.self c.in_ok-feed-in-Some.ensures (c.in_ok-row.ensures.leaves refl)
+
+pub rank::next_ranked-returns-in_err-feed-in-Some : goal.rank::next_ranked-returns-in_err-feed-in-Some
+rank::next_ranked-returns-in_err-feed-in-Some g t c =
+    row-failed c.loop-alloc.invariant c.requires.can (c.needs.ensures.needs c.loop-alloc-test.true)
+    c.in-Some.row c.in_ok-row.field-0 c.in-Some.is (g.S.Scorer.state c.next.new.scorer) c.in_ok-row.ensures.inquires
+    _ c.in_err-feed-in-Some.field-0.0 c.from_residual-in_err-feed-in-Some.result (g.S.Scorer.state c.feed.new.scorer)
+    (given-err c.from_residual-in_err-feed-in-Some.result c.in_err-feed-in-Some.field-0.0 c.from_residual-in_err-feed-in-Some.ensures) c.in_err-feed-in-Some.ensures
+
+pub rank::next_ranked-loop-alloc-smaller : goal.rank::next_ranked-loop-alloc-smaller
+rank::next_ranked-loop-alloc-smaller g t c =
+    next-nearer c.loop-alloc.invariant c.requires.can (c.needs.ensures.needs c.loop-alloc-test.true) c.next.new.self (c.in_ok-row.ensures.leaves refl)
+
+pub rank::next_ranked-loop-alloc-preserved : goal.rank::next_ranked-loop-alloc-preserved
+rank::next_ranked-loop-alloc-preserved g t c =
+    end-kept c.loop-alloc.invariant c.requires.can (c.needs.ensures.needs c.loop-alloc-test.true)
+    c.in_ok-row.field-0 c.in-None.is (g.S.Scorer.state c.next.new.scorer) c.end.new.self c.next.new.self c.end.ensures c.in_ok-row.ensures.inquires (c.in_ok-row.ensures.leaves refl)
+
+pub rank::next_ranked-returns : goal.rank::next_ranked-returns
+rank::next_ranked-returns g t c =
+    given c.loop-alloc.invariant c.requires.can c.give.new.self c.give.result (c.needs.ensures.rests c.loop-alloc-test.false) c.give.ensures.row c.give.ensures.after

@@ -1,0 +1,25 @@
+use Rattle.std.proofs.Common.{◌+◌, ◌-◌, ◌*◌, suc}
+use Rattle.rs_order.specs.Schedule.{Left}
+use Rattle.rs_plan.specs.Counts.{asked_of}
+use Rattle.rs_plan.specs.Trees.{Rank}
+use Rattle.rs_exec.specs.Asking.{world_of}
+use Rattle.rs_exec.specs.Nodes.{asked_in, number_in, tree_in}
+use Rattle.rs_exec.proofs.CycleFacts.{Turn, height}
+use Rattle.rs_exec.proofs.+next.Given as goal
+
+-- each call goes one node down
+abbrev pub decreases-node::Node::next : goal.decreases-node::Node::next
+decreases-node::Node::next g l = 2 * height (tree_in l.self.now)
+
+abbrev pub decreases-rank::next_ranked : goal.decreases-rank::next_ranked
+decreases-rank::next_ranked g l = 2 * height (tree_in l.child.now) + 1
+
+-- the operator stands between two asks of its input, which stands too and is of the same plan
+abbrev pub invariant-rank::next_ranked-loop-alloc : goal.invariant-rank::next_ranked-loop-alloc
+invariant-rank::next_ranked-loop-alloc g l =
+    Turn l.catalog l.query (number_in l.fn.child) l.fn.head.term (tree_in l.fn.child) l.fn.head.tally.asked (g.S.Scorer.state l.fn.scorer) l.head l.child (g.S.Scorer.state l.scorer)
+
+-- the asks of the input that are left
+abbrev pub decreases-rank::next_ranked-loop-alloc : goal.decreases-rank::next_ranked-loop-alloc
+decreases-rank::next_ranked-loop-alloc g l =
+    asked_of (world_of l.catalog (g.S.Scorer.state l.fn.scorer).answer l.query) (number_in l.fn.child) (Rank l.fn.head.term (tree_in l.fn.child)) (suc l.fn.head.tally.asked) Left - asked_in l.child

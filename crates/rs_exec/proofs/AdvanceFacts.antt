@@ -1,0 +1,144 @@
+-- A cursor that stands and isn't over asks its plan once more.
+use Rattle.std.proofs.Common.{◌≡◌, ◌∙◌, ℕ, suc, ◌≤◌, true, false, refl, sym, ap, subst}
+use Rattle.std.specs.Prelude.{Option, Some, None, Result, Ok, Err, if◌then◌else◌, option_map, slice_get}
+use Rattle.std.specs.List.{AllByRecursion}
+use Rattle.rs_order.proofs.EachFacts.{each-slice_get}
+use Rattle.rs_expr.specs.InOrder.{Inquires}
+use Rattle.rs_expr.specs.Scoring.{ScorerState}
+use Rattle.rs_rank.specs.Weights.{IsWeights}
+use Rattle.rs_rank.specs.declared.answer.Answer.{Answer}
+use Rattle.rs_rank.specs.declared.row.RankRow.{RankRow}
+use Rattle.rs_catalog.specs.Catalogue.{Catalogue}
+use Rattle.rs_query.specs.Answers.{weights_of}
+use Rattle.rs_query.specs.Meaning.{is_inside}
+use Rattle.rs_query.specs.Tables.{HasRows, all_entries, sizes_of}
+use Rattle.rs_query.specs.WellFormed.{IsBlock, entries_mask}
+use Rattle.rs_query.specs.declared.query.Query.{Query}
+use Rattle.rs_query.specs.declared.query.Query.TheVariants.{One, Set}
+use Rattle.rs_query.proofs.EntryFacts.{items-inside}
+use Rattle.rs_query.proofs.QuestionFacts.{Gave-ok, Stopped-behind}
+use Rattle.rs_plan.specs.Calls.{questions_of_ask}
+use Rattle.rs_plan.specs.Lists.{World, block_in, list_of, list_of_plan}
+use Rattle.rs_plan.specs.Plans.{IsPlan}
+use Rattle.rs_plan.specs.Trees.{PlanTree, entries}
+use Rattle.rs_exec.specs.Asked.{CanAsk, NodeAfter}
+use Rattle.rs_exec.specs.Asking.{exec_faults, next_row, world_of}
+use Rattle.rs_exec.specs.Building.{IsBuilt}
+use Rattle.rs_exec.specs.Cursors.{CursorState, StandsFor, answer_for, asks_of, is_over, next_answer, next_of, no_question, plan_of}
+use Rattle.rs_exec.specs.Nodes.{asked_in, number_in, tree_in}
+use Rattle.rs_exec.specs.Standing.{Stands}
+use Rattle.rs_exec.specs.declared.fault.ExecFault.{ExecFault}
+use Rattle.rs_exec.specs.declared.fault.ExecFault.TheVariants.{Memory}
+use Rattle.rs_exec.specs.declared.node.Node.{Node}
+use Rattle.rs_exec.specs.declared.node.Node.TheVariants as node
+use Rattle.rs_exec.specs.declared.scan.IndexNode.{IndexNode}
+use Rattle.rs_exec.specs.declared.scan.TableNode.{TableNode}
+use Rattle.rs_exec.proofs.CursorFacts.{cursor-after, cursor-can, first-block, next-fault, next-given}
+use Rattle.rs_exec.proofs.ListFacts.{IsRow, list-rows}
+use Rattle.rs_exec.proofs.PartFacts.{no-set, part-plan}
+use Rattle.rs_exec.proofs.StepFacts.{block-formed, few-entries, sizes-are}
+
+-- a node that stands gives the rows of its block
+node-number : (w : World) (number : ℕ) (n : Node) → Stands w number n → number_in n ≡ number
+node-number w number (node.SeqScan head) stands = ap (λ (h : TableNode). h.block) stands
+node-number w number (node.RankScan head) stands = ap (λ (h : IndexNode). h.block) stands
+node-number w number (node.Rank' head p child) stands = node-number w number child stands.1
+
+-- a plan that can be executed ranges over all entries
+plan-entries : (catalogue : Catalogue) (query : Query) (tree : PlanTree) → IsPlan catalogue query tree → IsBuilt tree → entries tree ≡ all_entries (block_in query 1)
+plan-entries catalogue (One block limit) tree plan built = plan.0.all
+plan-entries catalogue (Set op left right limit) tree plan built = absurd (no-set catalogue left right tree plan.0 built)
+
+module _ (catalogue : Catalogue) (cursor : CursorState) (old : ScorerState) (stands : StandsFor catalogue old.answer cursor) where
+  abbrev w : World
+  w = world_of catalogue old.answer cursor.query
+
+  root-number : number_in cursor.root ≡ 1
+  root-number = node-number w 1 cursor.root stands.nodes
+
+  pub root-can : AllByRecursion (λ size. size ≤ 131072) (sizes_of catalogue (block_in cursor.query 1)) → IsWeights (weights_of (block_in cursor.query 1))
+      → is_over (world_of catalogue old.answer cursor.query) (plan_of cursor) (asks_of cursor) ≡ false
+      → CanAsk catalogue old.answer cursor.query (number_in cursor.root) (tree_in cursor.root) (asked_in cursor.root)
+  root-can few weights more =
+      subst (λ n. CanAsk catalogue old.answer cursor.query n (tree_in cursor.root) (asked_in cursor.root)) (sym root-number)
+      (cursor-can catalogue old.answer cursor stands few weights more)
+
+  pub root-stands : Stands (world_of catalogue old.answer cursor.query) (number_in cursor.root) cursor.root
+  root-stands = subst (λ n. Stands w n cursor.root) (sym root-number) stands.nodes
+
+  pub root-after : AllByRecursion (λ size. size ≤ 131072) (sizes_of catalogue (block_in cursor.query 1)) → IsWeights (weights_of (block_in cursor.query 1))
+      → is_over (world_of catalogue old.answer cursor.query) (plan_of cursor) (asks_of cursor) ≡ false → (root : Node)
+      → NodeAfter (world_of catalogue old.answer cursor.query) (number_in cursor.root) (tree_in cursor.root) (asked_in cursor.root) root
+      → StandsFor catalogue old.answer (record cursor { root = root })
+  root-after few weights more root after =
+      cursor-after catalogue old.answer cursor root stands (cursor-can catalogue old.answer cursor stands few weights more)
+      (subst (λ n. NodeAfter w n (tree_in cursor.root) (asked_in cursor.root) root) root-number after)
+
+  -- the rows of its list are of its one block
+  module _ (row : RankRow) (there : slice_get (list_of w 1 (plan_of cursor)) (asks_of cursor) ≡ Some row) where
+    row-is : IsRow w 1 (plan_of cursor) row
+    row-is =
+        each-slice_get (IsRow w 1 (plan_of cursor)) (list_of w 1 (plan_of cursor)) (asks_of cursor) row
+        (list-rows w 1 (few-entries catalogue cursor.query 1 stands.query) (sizes-are catalogue old.answer cursor.query 1 (first-block cursor.query)) (plan_of cursor)
+        (part-plan catalogue cursor.query (plan_of cursor) stands.plan stands.built)) there
+
+    pub row-block : IsBlock catalogue (block_in cursor.query row.ids.block)
+    row-block = block-formed catalogue cursor.query row.ids.block stands.query
+
+    row-mask : row.ids.mask ≡ all_entries (block_in cursor.query row.ids.block)
+    row-mask =
+        row-is.mask ∙ plan-entries catalogue cursor.query (plan_of cursor) stands.plan stands.built
+        ∙ ap (λ n. all_entries (block_in cursor.query n)) (sym row-is.block)
+
+    pub row-inside : is_inside (entries_mask (block_in cursor.query row.ids.block).items) row.ids.mask ≡ true
+    row-inside = ap (is_inside (entries_mask (block_in cursor.query row.ids.block).items)) row-mask ∙ items-inside catalogue (block_in cursor.query row.ids.block) row-block
+
+    pub row-rows : HasRows catalogue (block_in cursor.query row.ids.block) row.ids.mask row.ids.rows
+    row-rows =
+        subst (λ n. HasRows catalogue (block_in cursor.query n) row.ids.mask row.ids.rows) (sym row-is.block)
+        (subst (λ mask. HasRows catalogue (block_in cursor.query 1) mask row.ids.rows) (sym row-is.mask) row-is.rows)
+
+  module _ (new : ScorerState) (more : is_over (world_of catalogue old.answer cursor.query) (plan_of cursor) (asks_of cursor) ≡ false) where
+    goes-on : next_of w (plan_of cursor) (asks_of cursor) ≡ next_answer w (plan_of cursor) (asks_of cursor)
+    goes-on = ap (λ b. if b then no_question (Ok None) else next_answer w (plan_of cursor) (asks_of cursor)) more
+
+    abbrev Asks : Result (Option RankRow) ExecFault → Type 0
+    Asks result = Inquires Memory (next_row w (number_in cursor.root) (tree_in cursor.root) (asked_in cursor.root)) result old new
+
+    of-plan : (result : Result (Option RankRow) ExecFault) → Asks result → Inquires Memory (next_row w 1 (plan_of cursor) (asks_of cursor)) result old new
+    of-plan result asked = subst (λ n. Inquires Memory (next_row w n (plan_of cursor) (asks_of cursor)) result old new) root-number asked
+
+    -- a fault of the plan is the cursor's
+    pub advance-failed : (fault : ExecFault) (result : Result (Option Answer) ExecFault) → result ≡ Err fault
+        → Inquires Memory (next_row (world_of catalogue old.answer cursor.query) (number_in cursor.root) (tree_in cursor.root) (asked_in cursor.root)) (Err fault) old new
+        → Inquires Memory (next_of (world_of catalogue old.answer cursor.query) (plan_of cursor) (asks_of cursor)) result old new
+    advance-failed fault result is asked =
+        subst (λ i. Inquires Memory i result old new) (sym goes-on)
+        (subst (λ r. Inquires Memory (next_answer w (plan_of cursor) (asks_of cursor)) r old new) (sym is)
+        (next-fault w (plan_of cursor) (asks_of cursor) fault old new (of-plan (Err fault) asked)))
+
+    module _ (row : Option RankRow)
+        (asked : Inquires Memory (next_row (world_of catalogue old.answer cursor.query) (number_in cursor.root) (tree_in cursor.root) (asked_in cursor.root)) (Ok row) old new) where
+      pub advance-there : slice_get (list_of (world_of catalogue old.answer cursor.query) 1 (plan_of cursor)) (asks_of cursor) ≡ row
+      advance-there =
+          let gave = Gave-ok exec_faults Memory old.answer catalogue {A = Option RankRow} (questions_of_ask w 1 (plan_of cursor) (suc (asks_of cursor)))
+          (slice_get (list_of_plan w (plan_of cursor)) (asks_of cursor)) row old new (of-plan (Ok row) asked) in
+          sym gave.is_value
+
+      -- the answer of its row is given
+      pub advance-gave : (given : Option Answer) → given ≡ option_map (answer_for (world_of catalogue old.answer cursor.query)) row
+          → Inquires Memory (next_of (world_of catalogue old.answer cursor.query) (plan_of cursor) (asks_of cursor)) (Ok given) old new
+      advance-gave given is =
+          subst (λ i. Inquires Memory i (Ok given) old new) (sym goes-on)
+          (subst (λ g. Inquires Memory (next_answer w (plan_of cursor) (asks_of cursor)) (Ok g) old new) (sym is)
+          (next-given w (plan_of cursor) (asks_of cursor) row old new refl (of-plan (Ok row) asked)))
+
+      -- there was no memory for it
+      pub advance-stopped : (result : Result (Option Answer) ExecFault) → result ≡ Err Memory
+          → Inquires Memory (next_of (world_of catalogue old.answer cursor.query) (plan_of cursor) (asks_of cursor)) result old new
+      advance-stopped result is =
+          let gave = Gave-ok exec_faults Memory old.answer catalogue {A = Option RankRow} (questions_of_ask w 1 (plan_of cursor) (suc (asks_of cursor)))
+          (slice_get (list_of_plan w (plan_of cursor)) (asks_of cursor)) row old new (of-plan (Ok row) asked) in
+          subst (λ i. Inquires Memory i result old new) (sym goes-on)
+          (Stopped-behind exec_faults Memory catalogue (questions_of_ask w 1 (plan_of cursor) (suc (asks_of cursor)))
+          (option_map (answer_for w) (slice_get (list_of_plan w (plan_of cursor)) (asks_of cursor))) result old new is gave.asked)

@@ -1,0 +1,124 @@
+-- A cursor over the nodes of its plan.
+use Rattle.std.proofs.Common.{◌≡◌, ℕ, suc, ◌≤◌, ◌||◌, Bool, true, false, inl, [], length, refl, sym, ap, subst, append-nil, arith}
+use Rattle.std.specs.Prelude.{Option, Ok, Err, nat_lt, option_map, slice_get}
+use Rattle.std.specs.List.{AllByRecursion}
+use Rattle.std.proofs.lemmas.Bool.Decides.{nat_tests}
+use Rattle.rs_expr.specs.InOrder.{Inquires}
+use Rattle.rs_expr.specs.Scoring.{Answering, ScorerState}
+use Rattle.rs_rank.specs.Weights.{IsWeights}
+use Rattle.rs_rank.specs.declared.answer.Answer.{Answer}
+use Rattle.rs_rank.specs.declared.row.RankRow.{RankRow}
+use Rattle.rs_catalog.specs.Catalogue.{Catalogue}
+use Rattle.rs_query.specs.Answers.{limit_of, weights_of}
+use Rattle.rs_query.specs.Tables.{sizes_of}
+use Rattle.rs_query.specs.WellFormed.{IsQuery}
+use Rattle.rs_query.specs.declared.query.Query.{Query}
+use Rattle.rs_query.specs.declared.query.Query.TheVariants.{One, Set}
+use Rattle.rs_query.proofs.QuestionFacts.{AllAsked-none, Gave-ok, Inquires-asked, Inquires-fault}
+use Rattle.rs_plan.specs.Calls.{questions_of_ask}
+use Rattle.rs_plan.specs.Lists.{World, block_in, list_of_plan}
+use Rattle.rs_plan.specs.Trees.{PlanTree}
+use Rattle.rs_plan.specs.Plans.{IsPlan}
+use Rattle.rs_exec.specs.Asked.{CanAsk, HasBlock, NodeAfter}
+use Rattle.rs_exec.specs.Asking.{exec_faults, next_row, world_of}
+use Rattle.rs_exec.specs.Cursors.{CursorState, StandsFor, answer_for, asks_of, is_limit, is_over, next_answer, plan_of}
+use Rattle.rs_exec.specs.declared.fault.ExecFault.{ExecFault}
+use Rattle.rs_exec.specs.declared.fault.ExecFault.TheVariants.{Memory}
+use Rattle.rs_exec.specs.Building.{IsBuilt}
+use Rattle.rs_exec.specs.Indexes.{HoldIndexes}
+use Rattle.rs_exec.specs.Nodes.{tree_in}
+use Rattle.rs_exec.specs.Starting.{IsStart}
+use Rattle.rs_exec.specs.declared.node.Node.{Node}
+use Rattle.rs_exec.proofs.FewFacts.{list-few}
+use Rattle.rs_exec.proofs.PartFacts.{part-plan}
+use Rattle.rs_exec.proofs.StartFacts.{start-asked, start-stands, start-tree}
+use Rattle.rs_exec.proofs.StepFacts.{few-entries, sizes-are}
+
+-- neither of two tests that fail together is passed
+neither : (a b : Bool) → a || b ≡ false → b ≡ false
+neither true b e = cc
+neither false b e = e
+
+not-less : (a b : ℕ) → nat_lt a b ≡ false → b ≤ a
+not-less a b e = grind (arith, nat_tests)
+
+pub first-block : (query : Query) → HasBlock query 1
+first-block (One block limit) = refl
+first-block (Set op left right limit) = inl refl
+
+-- a cursor whose nodes were made for a plan stands
+pub cursor-start : (catalogue : Catalogue) (answer : Answering) (query : Query) (tree : PlanTree) (root : Node) → IsQuery catalogue query → IsPlan catalogue query tree
+    → IsBuilt tree → HoldIndexes answer catalogue tree → IsStart catalogue (block_in query 1) 1 tree root
+    → StandsFor catalogue answer (record { query = query; root = root; failed = false })
+cursor-start catalogue answer query tree root formed plan built indexes is =
+    let w = world_of catalogue answer query in
+    let number = first-block query in
+    let same = start-tree catalogue (block_in query 1) 1 tree root is in
+    let unasked = start-asked catalogue (block_in query 1) 1 tree root is in
+    record {
+      sound = refl;
+      query = formed;
+      plan = subst (IsPlan catalogue query) (sym same) plan;
+      built = subst IsBuilt (sym same) built;
+      indexes = subst (HoldIndexes answer catalogue) (sym same) indexes;
+      nodes = start-stands w 1 (few-entries catalogue query 1 formed) (sizes-are catalogue answer query 1 number) refl tree root (part-plan catalogue query tree plan built) is;
+      asks = omega arith;
+    }
+
+-- a cursor that stands and isn't over can ask its plan once more
+pub cursor-can : (catalogue : Catalogue) (answer : Answering) (cursor : CursorState) → StandsFor catalogue answer cursor
+    → AllByRecursion (λ size. size ≤ 131072) (sizes_of catalogue (block_in cursor.query 1)) → IsWeights (weights_of (block_in cursor.query 1))
+    → is_over (world_of catalogue answer cursor.query) (plan_of cursor) (asks_of cursor) ≡ false
+    → CanAsk catalogue answer cursor.query 1 (plan_of cursor) (asks_of cursor)
+cursor-can catalogue answer cursor stands few weights more =
+    let w = world_of catalogue answer cursor.query in
+    let tree = plan_of cursor in
+    let part = part-plan catalogue cursor.query tree stands.plan stands.built in
+    let number = first-block cursor.query in
+    record {
+      formed = stands.query;
+      number_is = number;
+      part = part;
+      indexes = stands.indexes;
+      weights = weights;
+      more = not-less (length (list_of_plan w tree)) (asks_of cursor)
+          (neither (is_limit (limit_of cursor.query) (asks_of cursor)) (nat_lt (length (list_of_plan w tree)) (asks_of cursor)) more);
+      few = list-few w 1 (sizes-are catalogue answer cursor.query 1 number) few tree part;
+    }
+
+-- and stands after it
+pub cursor-after : (catalogue : Catalogue) (answer : Answering) (cursor : CursorState) (root : Node) → StandsFor catalogue answer cursor
+    → CanAsk catalogue answer cursor.query 1 (plan_of cursor) (asks_of cursor)
+    → NodeAfter (world_of catalogue answer cursor.query) 1 (plan_of cursor) (asks_of cursor) root
+    → StandsFor catalogue answer (record cursor { root = root })
+cursor-after catalogue answer cursor root stands can after =
+    let w = world_of catalogue answer cursor.query in
+    let more = can.more in
+    let asked = after.asked_is in
+    let size : length (list_of_plan w (tree_in root)) ≡ length (list_of_plan w (plan_of cursor)) = ap (λ tree. length (list_of_plan w tree)) after.tree_is in
+    record {
+      sound = stands.sound;
+      query = stands.query;
+      plan = subst (IsPlan catalogue cursor.query) (sym after.tree_is) stands.plan;
+      built = subst IsBuilt (sym after.tree_is) stands.built;
+      indexes = subst (HoldIndexes answer catalogue) (sym after.tree_is) stands.indexes;
+      nodes = after.stands;
+      asks = omega arith;
+    }
+
+-- an ask that gave a row, or met the end, is one of the cursor with the row's answer
+pub next-given : (w : World) (tree : PlanTree) (n : ℕ) (row : Option RankRow) (old new : ScorerState) → w.answer ≡ old.answer
+    → Inquires Memory (next_row w 1 tree n) (Ok row) old new → Inquires Memory (next_answer w tree n) (Ok (option_map (answer_for w) row)) old new
+next-given w tree n row old new same inquires =
+    let gave = Gave-ok exec_faults Memory w.answer w.catalogue {A = Option RankRow} (questions_of_ask w 1 tree (suc n)) (slice_get (list_of_plan w tree) n) row old new inquires in
+    subst (λ r. Inquires Memory (next_answer w tree n) (Ok (option_map (answer_for w) r)) old new) (sym gave.is_value)
+    (Inquires-asked exec_faults Memory w.answer w.catalogue {A = Option Answer} (questions_of_ask w 1 tree (suc n))
+    (option_map (answer_for w) (slice_get (list_of_plan w tree) n)) old new gave.asked)
+
+-- so is one that ended with a fault
+pub next-fault : (w : World) (tree : PlanTree) (n : ℕ) (fault : ExecFault) (old new : ScorerState)
+    → Inquires Memory (next_row w 1 tree n) (Err fault) old new → Inquires Memory (next_answer w tree n) (Err fault) old new
+next-fault w tree n fault old new inquires =
+    Inquires-fault exec_faults Memory w.answer w.catalogue {A = Option RankRow} {B = Option Answer} [] (questions_of_ask w 1 tree (suc n)) []
+    (questions_of_ask w 1 tree (suc n)) (slice_get (list_of_plan w tree) n) (option_map (answer_for w) (slice_get (list_of_plan w tree) n)) fault old old new
+    (sym (append-nil (questions_of_ask w 1 tree (suc n)))) (AllAsked-none w.answer w.catalogue old) inquires

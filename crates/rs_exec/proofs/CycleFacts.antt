@@ -1,0 +1,353 @@
+-- One ask of a scan, as a node of a plan: it puts no question, and gives the next row of its list.
+use Rattle.std.proofs.Common.{ℕ, suc, ◌≡◌, ◌∙◌, ◌+◌, ◌-◌, ◌≤◌, ◌<◌, true, max, min, List, [], Box, Global, length, refl, sym, ap, subst, arith}
+use Rattle.std.specs.Box.{with_value}
+use Rattle.std.specs.Prelude.{Option, Some, None, Result, Ok, Err, IsOk, if◌then◌else◌, is_some, option_and_then, option_map, slice_get, unwrap_or}
+use Rattle.std.proofs.lemmas.Option.{slice_get_within}
+use Rattle.rs_table.specs.Relation.{Relation}
+use Rattle.rs_expr.specs.InOrder.{Inquires}
+use Rattle.rs_expr.specs.Scoring.{Answering, ScorerState}
+use Rattle.rs_rank.specs.declared.row.RankRow.{RankRow}
+use Rattle.rs_catalog.specs.Catalogue.{Catalogue, NamedTable, RankIndex}
+use Rattle.rs_catalog.specs.Indexes.{rows_for}
+use Rattle.rs_catalog.specs.declared.index.IndexDef.{IndexDef}
+use Rattle.rs_scan.specs.Scans.{rows_of_index, rows_of_table}
+use Rattle.rs_query.specs.Questions.{asking}
+use Rattle.rs_query.specs.declared.query.Query.{Query}
+use Rattle.rs_query.specs.declared.term.Term.{Term}
+use Rattle.rs_query.proofs.QuestionFacts.{AllAsked, AllAsked-none, Ended-behind, Gave-ok, Stopped-behind}
+use Rattle.rs_plan.specs.Calls.{questions_of_ask}
+use Rattle.rs_order.specs.Schedule.{Left}
+use Rattle.rs_rank.specs.declared.ask.Ask.TheVariants.{Need}
+use Rattle.rs_mu.specs.Mu.{ask_of, left_for, taken_for}
+use Rattle.rs_plan.specs.Counts.{asked_of, gave_of}
+use Rattle.rs_plan.specs.Lists.{World, block_in, list_of}
+use Rattle.rs_plan.specs.Trees.{Distinct, HashJoin, NestedJoin, PlanTree, Rank, RankScan, SeqScan, SetOperator}
+use Rattle.rs_exec.specs.Asked.{Asked, CanAsk, NodeAfter, RankAfter}
+use Rattle.rs_exec.specs.Asking.{exec_faults, next_row, world_of}
+use Rattle.rs_exec.specs.Drawing.{ScansEntry, drawn_then, next_drawn, passes, tally_with}
+use Rattle.rs_exec.specs.Feeding.{CanTake, feeding}
+use Rattle.rs_exec.specs.Nodes.{asked_in, number_in, tree_in}
+use Rattle.rs_exec.specs.Standing.{HeadStands, Stands, index_node_after, table_node_after, tally_after}
+use Rattle.rs_exec.specs.declared.fault.ExecFault.{ExecFault}
+use Rattle.rs_exec.specs.declared.fault.ExecFault.TheVariants.{Memory}
+use Rattle.rs_exec.specs.declared.node.Node.{Node}
+use Rattle.rs_exec.specs.declared.node.Node.TheVariants as node
+use Rattle.rs_exec.specs.declared.node.Node.TheViews as view
+use Rattle.rs_exec.specs.declared.rank.RankNode.{RankNode}
+use Rattle.rs_exec.specs.declared.scan.IndexNode.{IndexNode}
+use Rattle.rs_exec.specs.declared.scan.TableNode.{TableNode}
+use Rattle.rs_exec.specs.declared.tally.Tally.{Tally}
+use Rattle.rs_exec.proofs.IndexTermFacts.{index-for}
+use Rattle.rs_exec.proofs.ScanFacts.{index-next, index-then, table-next, table-then}
+use Rattle.rs_exec.proofs.StartFacts.{size-is}
+use Rattle.rs_exec.proofs.StepFacts.{Between, between-can, between-ended, between-fault, between-fed, between-less, between-over, between-own_fault, between-stands, between-take, between-there, few-entries, row-is, sizes-are, slice_get-none, term-at}
+
+-- how many nodes stand below one another
+abbrev pub height : PlanTree → ℕ
+height (SeqScan entry) = 0
+height (RankScan entry term index) = 0
+height (Rank term child) = suc (height child)
+height (HashJoin left right) = suc (max (height left) (height right))
+height (NestedJoin left right) = suc (max (height left) (height right))
+height (Distinct child) = suc (height child)
+height (SetOperator left right) = suc (max (height left) (height right))
+
+-- a fault is no answer
+fault-not : (result : Result (Option RankRow) ExecFault) (fault : ExecFault) → result ≡ Err fault → IsOk result → ⊥
+fault-not (Ok row) fault e ok = absurd (cc)
+fault-not (Err f) fault e ok = absurd (let no = ok in cc)
+
+-- a node that puts no question
+module _ (w : World) (number : ℕ) (tree : PlanTree) (a : ℕ) (none : questions_of_ask w number tree (suc a) ≡ []) (After : Type 0) (old : ScorerState) (same : w.answer ≡ old.answer) where
+  -- there was no memory
+  pub still-stopped : (result : Result (Option RankRow) ExecFault) → result ≡ Err Memory → Asked w number tree a After result old old
+  still-stopped result e = record {
+    inquires = subst (λ answer. Inquires Memory (asking exec_faults answer w.catalogue (questions_of_ask w number tree (suc a)) (slice_get (list_of w number tree) a)) result old old) (sym same)
+        (Stopped-behind exec_faults Memory w.catalogue (questions_of_ask w number tree (suc a)) (slice_get (list_of w number tree) a) result old old e
+        (subst (λ qs. AllAsked old.answer w.catalogue qs old old) (sym none) (AllAsked-none old.answer w.catalogue old)));
+    leaves = λ ok. absurd (fault-not result Memory e ok);
+  }
+
+  -- the next row was given
+  pub still-gave : (row : Option RankRow) → row ≡ slice_get (list_of w number tree) a → After → Asked w number tree a After (Ok row) old old
+  still-gave row e after = record {
+    inquires = subst (λ answer. Inquires Memory (asking exec_faults answer w.catalogue (questions_of_ask w number tree (suc a)) (slice_get (list_of w number tree) a)) (Ok row) old old) (sym same)
+        (Ended-behind exec_faults Memory w.catalogue [] (questions_of_ask w number tree (suc a)) (slice_get (list_of w number tree) a) row old old none e (AllAsked-none old.answer w.catalogue old));
+    leaves = λ ok. after;
+  }
+
+-- the tally counts a row where the list has one
+tally-more : {A : Type 0} (rows : List A) (a : ℕ) → ◌≡◌ {A = ℕ} (if is_some (slice_get rows a) then min a (length rows) + 1 else min a (length rows)) (min (suc a) (length rows))
+tally-more {A} rows a = go (slice_get rows a) refl where
+  go : (o : Option A) → slice_get rows a ≡ o → ◌≡◌ {A = ℕ} (if is_some o then min a (length rows) + 1 else min a (length rows)) (min (suc a) (length rows))
+  go (Some x) e = let within = slice_get_within rows a x e in omega arith
+  go None e = let past = slice_get-none rows a e in omega arith
+
+tally-next : (w : World) (number : ℕ) (tree : PlanTree) (a : ℕ) (row : Option RankRow) → row ≡ slice_get (list_of w number tree) a
+    → tally_with row (tally_after w number tree a) ≡ tally_after w number tree (suc a)
+tally-next w number tree a row is =
+    let one : a + 1 ≡ suc a = omega arith in
+    ap (λ r. tally_with r (tally_after w number tree a)) is
+    ∙ ap (λ (gave : ℕ). record { asked = a + 1; gave = gave }) (tally-more (list_of w number tree) a)
+    ∙ ap (λ (asked : ℕ). record { asked = asked; gave = gave_of w number tree (suc a) }) one
+
+-- the rows of a table, by its first ones
+size-rows : (o : Option NamedTable) → unwrap_or (option_map (λ (r : Relation). length r.rows) (option_map (λ (t : NamedTable). t.table) o)) 0 ≡ length (unwrap_or (option_map (λ (t : NamedTable). t.table.rows) o) [])
+size-rows (Some t) = refl
+size-rows None = refl
+
+module _ (catalogue : Catalogue) (answer : Answering) (query : Query) where
+  abbrev w : World
+  w = world_of catalogue answer query
+
+  -- the scan of a table is one of an entry
+  pub table-entry : (head : TableNode) → CanAsk catalogue answer query head.block (SeqScan head.entry) head.tally.asked
+      → head ≡ table_node_after (world_of catalogue answer query) head.block head.entry head.tally.asked → ScansEntry catalogue query head.block head.entry head.scan.rows
+  table-entry head can keeps = record {
+    formed = can.formed;
+    is_entry = can.part;
+    all = ap (λ (h : TableNode). h.scan.rows) keeps
+        ∙ sym (size-is w head.block (few-entries catalogue query head.block can.formed) (sizes-are catalogue answer query head.block can.number_is) head.entry can.part);
+  }
+
+  pub index-entry : (head : IndexNode) → CanAsk catalogue answer query head.block (RankScan head.entry head.term head.scan.index) head.tally.asked
+      → head ≡ index_node_after (world_of catalogue answer query) head.block head.entry head.term head.scan.index head.tally.asked → ScansEntry catalogue query head.block head.entry head.scan.rows
+  index-entry head can keeps = record {
+    formed = can.formed;
+    is_entry = can.part.is_entry;
+    all = ap (λ (h : IndexNode). h.scan.rows) keeps
+        ∙ sym (size-is w head.block (few-entries catalogue query head.block can.formed) (sizes-are catalogue answer query head.block can.number_is) head.entry can.part.is_entry);
+  }
+
+  -- the index of a scan is one of the entry's table
+  pub index-view : (head : IndexNode) → CanAsk catalogue answer query head.block (RankScan head.entry head.term head.scan.index) head.tally.asked
+      → head ≡ index_node_after (world_of catalogue answer query) head.block head.entry head.term head.scan.index head.tally.asked
+      → (def : IndexDef) → option_map (λ (i : RankIndex). i.def) (slice_get catalogue.indexes head.scan.index) ≡ Some def → head.scan.rows ≡ length (rows_for catalogue def)
+  index-view head can keeps def is =
+      let part = can.part in
+      let found = index-for catalogue part.table part.term.predicate part.term.args head.entry head.scan.index part.first in
+      let same : found.found.def ≡ def = (let e : Some found.found.def ≡ Some def = sym (ap (option_map (λ (i : RankIndex). i.def)) found.there) ∙ is in cc) in
+      (index-entry head can keeps).all
+      ∙ ap (λ (o : Option (ℕ × List ℕ)). unwrap_or (option_map (λ (r : Relation). length r.rows)
+      (option_and_then (λ (from : ℕ × List ℕ). option_map (λ (t : NamedTable). t.table) (slice_get catalogue.tables from.0)) o)) 0) part.from
+      ∙ size-rows (slice_get catalogue.tables part.table)
+      ∙ ap (λ n. length (unwrap_or (option_map (λ (t : NamedTable). t.table.rows) (slice_get catalogue.tables n)) [])) (sym found.table_is ∙ ap (λ (d : IndexDef). d.table) same)
+
+  -- a scan of a table after one ask more
+  abbrev table_then : Option RankRow → TableNode → TableNode
+  table_then row head = record head {
+    scan = record head.scan { drawn = drawn_then (passes catalogue query) (rows_of_table head.scan) head.scan.drawn };
+    tally = tally_with row head.tally;
+  }
+
+  module _ (old : ScorerState) (same : answer ≡ old.answer) (head new : TableNode) (can : CanAsk catalogue answer query head.block (SeqScan head.entry) head.tally.asked)
+      (keeps : head ≡ table_node_after (world_of catalogue answer query) head.block head.entry head.tally.asked) where
+    pub table-gave : (row : Option RankRow) → row ≡ next_drawn (passes catalogue query) (rows_of_table head.scan) head.scan.drawn
+        → new ≡ record head { scan = record head.scan { drawn = drawn_then (passes catalogue query) (rows_of_table head.scan) head.scan.drawn }; tally = tally_with row head.tally }
+        → Asked (world_of catalogue answer query) head.block (SeqScan head.entry) head.tally.asked
+        (NodeAfter (world_of catalogue answer query) head.block (SeqScan head.entry) head.tally.asked (node.SeqScan new)) (Ok row) old old
+    table-gave row given after =
+        let number = head.block in
+        let entry = head.entry in
+        let a = head.tally.asked in
+        let sizes = sizes-are catalogue answer query number can.number_is in
+        let most = few-entries catalogue query number can.formed in
+        let below = can.part.most in
+        let few : entry ≤ 6 = omega arith in
+        let is : row ≡ slice_get (list_of w number (SeqScan entry)) a =
+        given ∙ ap (λ (h : TableNode). next_drawn (passes catalogue query) (rows_of_table h.scan) h.scan.drawn) keeps
+        ∙ table-next w number entry can.part.some few sizes a in
+        let whole : new ≡ table_node_after w number entry (suc a) =
+        after ∙ ap (table_then row) keeps
+        ∙ ap (λ (drawn : ℕ). record (table_node_after w number entry a) { scan = record (table_node_after w number entry a).scan { drawn = drawn }; tally = tally_with row (tally_after w number (SeqScan entry) a) })
+        (table-then w number entry can.part.some few sizes a)
+        ∙ ap (λ (tally : Tally). record (table_node_after w number entry (suc a)) { tally = tally }) (tally-next w number (SeqScan entry) a row is) in
+        still-gave w number (SeqScan entry) a refl (NodeAfter w number (SeqScan entry) a (node.SeqScan new)) old same row is
+        (subst (λ (n : TableNode). NodeAfter w number (SeqScan entry) a (node.SeqScan n)) (sym whole) (record { number_is = refl; tree_is = refl; asked_is = refl; stands = refl }))
+
+  -- a scan of an index after one ask more
+  abbrev index_then : Option RankRow → IndexNode → IndexNode
+  index_then row head = record head {
+    scan = record head.scan { drawn = drawn_then (passes catalogue query) (rows_of_index catalogue head.scan) head.scan.drawn };
+    tally = tally_with row head.tally;
+  }
+
+  module _ (old : ScorerState) (same : answer ≡ old.answer) (head new : IndexNode) (can : CanAsk catalogue answer query head.block (RankScan head.entry head.term head.scan.index) head.tally.asked)
+      (keeps : head ≡ index_node_after (world_of catalogue answer query) head.block head.entry head.term head.scan.index head.tally.asked) where
+    pub index-gave : (row : Option RankRow) → row ≡ next_drawn (passes catalogue query) (rows_of_index catalogue head.scan) head.scan.drawn
+        → new ≡ record head { scan = record head.scan { drawn = drawn_then (passes catalogue query) (rows_of_index catalogue head.scan) head.scan.drawn }; tally = tally_with row head.tally }
+        → Asked (world_of catalogue answer query) head.block (RankScan head.entry head.term head.scan.index) head.tally.asked
+        (NodeAfter (world_of catalogue answer query) head.block (RankScan head.entry head.term head.scan.index) head.tally.asked (node.RankScan new)) (Ok row) old old
+    index-gave row given after =
+        let number = head.block in
+        let entry = head.entry in
+        let term = head.term in
+        let index = head.scan.index in
+        let a = head.tally.asked in
+        let sizes = sizes-are catalogue answer query number can.number_is in
+        let tree = RankScan entry term index in
+        let is : row ≡ slice_get (list_of w number tree) a =
+        given ∙ ap (λ (h : IndexNode). next_drawn (passes catalogue query) (rows_of_index catalogue h.scan) h.scan.drawn) keeps
+        ∙ index-next w number entry term index can.formed can.part can.indexes sizes a in
+        let whole : new ≡ index_node_after w number entry term index (suc a) =
+        after ∙ ap (index_then row) keeps
+        ∙ ap (λ (drawn : ℕ). record (index_node_after w number entry term index a) { scan = record (index_node_after w number entry term index a).scan { drawn = drawn }; tally = tally_with row (tally_after w number tree a) })
+        (index-then w number entry term index can.formed can.part can.indexes sizes a)
+        ∙ ap (λ (tally : Tally). record (index_node_after w number entry term index (suc a)) { tally = tally }) (tally-next w number tree a row is) in
+        still-gave w number tree a refl (NodeAfter w number tree a (node.RankScan new)) old same row is
+        (subst (λ (n : IndexNode). NodeAfter w number tree a (node.RankScan n)) (sym whole) (record { number_is = refl; tree_is = refl; asked_is = refl; stands = refl }))
+
+-- an operator and its input, held apart, as a node
+module _ (w : World) (self : Node) (head after : RankNode) (box : Box Node Global) (middle child : Node) (result : Result (Option RankRow) ExecFault) (old new : ScorerState) where
+  pub rank-asked : self ≡ view.Rank head box → middle ≡ box.value
+      → Asked w (number_in middle) (Rank head.term (tree_in middle)) head.tally.asked (RankAfter w (number_in middle) (Rank head.term (tree_in middle)) head.tally.asked after child) result old new
+      → Asked w (number_in self) (tree_in self) (asked_in self) (NodeAfter w (number_in self) (tree_in self) (asked_in self) (view.Rank after (with_value box child))) result old new
+  rank-asked is value asked =
+      let held = subst (λ (n : Node). Asked w (number_in n) (Rank head.term (tree_in n)) head.tally.asked (RankAfter w (number_in n) (Rank head.term (tree_in n)) head.tally.asked after child) result old new) value asked in
+      subst (λ (n : Node). Asked w (number_in n) (tree_in n) (asked_in n) (NodeAfter w (number_in n) (tree_in n) (asked_in n) (view.Rank after (with_value box child))) result old new) (sym is)
+      (record {
+        inquires = held.inquires;
+        leaves = λ ok. let left = held.leaves ok in record { number_is = left.number_is; tree_is = left.tree_is; asked_is = left.asked_is; stands = (left.operator, left.input) };
+      })
+
+-- a fault ends the ask
+pub ask-failed : (w : World) (number : ℕ) (tree : PlanTree) (a : ℕ) (After : Type 0) (result : Result (Option RankRow) ExecFault) (fault : ExecFault) (old new : ScorerState) → result ≡ Err fault
+    → Inquires Memory (next_row w number tree a) (Err fault) old new → Asked w number tree a After result old new
+ask-failed w number tree a After result fault old new is inquires = record {
+  inquires = subst (λ r. Inquires Memory (next_row w number tree a) r old new) (sym is) inquires;
+  leaves = λ ok. absurd (fault-not result fault is ok);
+}
+
+-- during ask a + 1 of an operator, between two asks of its input: the input is of this number and this tree, and stands, and the
+-- operator stands between these asks
+pub record Turn (catalogue : Catalogue) (query : Query) (number term : ℕ) (tree : PlanTree) (a : ℕ) (old : ScorerState) (head : RankNode) (child : Node) (now : ScorerState) : Type 0 where
+  pub number_is : number_in child ≡ number
+  pub tree_is : tree_in child ≡ tree
+  pub stands : Stands (world_of catalogue old.answer query) (number_in child) child
+  pub between : Between (world_of catalogue old.answer query) number term tree a (asked_in child) head old now
+
+module _ {catalogue : Catalogue} {query : Query} {number term : ℕ} {tree : PlanTree} {a : ℕ} {old : ScorerState} {head : RankNode} {child : Node} {now : ScorerState}
+    (turn : Turn catalogue query number term tree a old head child now) (can : CanAsk catalogue old.answer query number (Rank term tree) a) where
+  abbrev whole : World
+  whole = world_of catalogue old.answer query
+
+  -- the input is asked once more
+  module _ (need : ask_of head.core ≡ Need) where
+    pub input-can : CanAsk catalogue now.answer query (number_in child) (tree_in child) (asked_in child)
+    input-can =
+        subst (λ n. CanAsk catalogue now.answer query n (tree_in child) (asked_in child)) (sym turn.number_is)
+        (subst (λ t. CanAsk catalogue now.answer query number t (asked_in child)) (sym turn.tree_is)
+        (between-can catalogue query number term tree a old can head (asked_in child) now turn.between need))
+
+    pub input-stands : Stands (world_of catalogue now.answer query) (number_in child) child
+    input-stands = subst (λ answer. Stands (world_of catalogue answer query) (number_in child) child) (sym turn.between.all_asked.keeps.answer) turn.stands
+
+    -- it is one of this number and this tree
+    same : (result : Result (Option RankRow) ExecFault) (asked : ScorerState) → Inquires Memory (next_row (world_of catalogue now.answer query) (number_in child) (tree_in child) (asked_in child)) result now asked
+        → Inquires Memory (next_row (world_of catalogue now.answer query) number tree (asked_in child)) result now asked
+    same result asked below =
+        subst (λ n. Inquires Memory (next_row (world_of catalogue now.answer query) n tree (asked_in child)) result now asked) turn.number_is
+        (subst (λ t. Inquires Memory (next_row (world_of catalogue now.answer query) (number_in child) t (asked_in child)) result now asked) turn.tree_is below)
+
+    pub input-failed : (After : Type 0) (fault : ExecFault) (result : Result (Option RankRow) ExecFault) (asked : ScorerState) → result ≡ Err fault
+        → Inquires Memory (next_row (world_of catalogue now.answer query) (number_in child) (tree_in child) (asked_in child)) (Err fault) now asked
+        → Asked (world_of catalogue old.answer query) number (Rank term tree) a After result old asked
+    input-failed After fault result asked is below =
+        ask-failed whole number (Rank term tree) a After result fault old asked is
+        (between-fault catalogue query number term tree a old can head (asked_in child) fault now asked turn.between need (same (Err fault) asked below))
+
+    module _ (next : Node)
+        (after : NodeAfter (world_of catalogue now.answer query) (number_in child) (tree_in child) (asked_in child) next) where
+      -- fewer asks are left
+      pub next-nearer : asked_of (world_of catalogue old.answer query) number (Rank term tree) (suc a) Left - asked_in next < asked_of (world_of catalogue old.answer query) number (Rank term tree) (suc a) Left - asked_in child
+      next-nearer =
+          let less = between-less catalogue query number term tree a old can head (asked_in child) now turn.between need in
+          let is = after.asked_is in
+          omega arith
+
+      next-turn : (after_head : RankNode) (new : ScorerState) → Between (world_of catalogue old.answer query) number term tree a (suc (asked_in child)) after_head old new
+          → Turn catalogue query number term tree a old after_head next new
+      next-turn after_head new between = record {
+        number_is = after.number_is ∙ turn.number_is;
+        tree_is = after.tree_is ∙ turn.tree_is;
+        stands = subst (λ n. Stands whole n next) (sym after.number_is)
+            (subst (λ answer. Stands (world_of catalogue answer query) (number_in child) next) turn.between.all_asked.keeps.answer after.stands);
+        between = subst (λ asks. Between whole number term tree a asks after_head old new) (sym after.asked_is) between;
+      }
+
+    module _ (row : RankRow) (got : Option RankRow) (is_row : got ≡ Some row) (asked : ScorerState)
+        (answered : Inquires Memory (next_row (world_of catalogue now.answer query) (number_in child) (tree_in child) (asked_in child)) (Ok got) now asked) where
+      below : Inquires Memory (next_row (world_of catalogue now.answer query) (number_in child) (tree_in child) (asked_in child)) (Ok (Some row)) now asked
+      below = subst (λ (r : Option RankRow). Inquires Memory (next_row (world_of catalogue now.answer query) (number_in child) (tree_in child) (asked_in child)) (Ok r) now asked) is_row answered
+
+      there : slice_get (list_of whole number tree) (asked_in child) ≡ Some row
+      there = between-there catalogue query number term tree a old can head (asked_in child) now asked (Some row) turn.between (same (Ok (Some row)) asked below)
+
+      pub row-can : CanTake catalogue asked.answer query row head
+      row-can =
+          subst (λ answer. CanTake catalogue answer query row head) (sym below.keeps.answer)
+          (between-take catalogue query number term tree a old can head (asked_in child) now row turn.between need there)
+
+      -- what taking the row did speaks of each term that has the operator's number in the row's block: it is the one of the plan
+      own : (result : Result RankNode ExecFault) (new : ScorerState)
+          → ((t : Term) → slice_get (block_in query row.ids.block).terms (head.term - 1) ≡ Some t → Inquires Memory (feeding asked.answer catalogue query row t head) result asked new)
+          → Inquires Memory (feeding asked.answer catalogue query row (can.part.1.term) head) result asked new
+      own result new taking =
+          taking (can.part.1.term)
+          (ap (λ k. slice_get (block_in query row.ids.block).terms (k - 1)) turn.between.term_is
+          ∙ term-at catalogue query number term tree a old can row (row-is catalogue query number term tree a old can (asked_in child) row there))
+
+      -- it was taken
+      pub row-kept : (taken : RankNode) (new : ScorerState) (next : Node)
+          → ((t : Term) → slice_get (block_in query row.ids.block).terms (head.term - 1) ≡ Some t → Inquires Memory (feeding asked.answer catalogue query row t head) (Ok taken) asked new)
+          → NodeAfter (world_of catalogue now.answer query) (number_in child) (tree_in child) (asked_in child) next
+          → Turn catalogue query number term tree a old taken next new
+      row-kept taken new next taking after =
+          next-turn next after taken new
+          (between-fed catalogue query number term tree a old can head taken (asked_in child) now asked new row turn.between need (same (Ok (Some row)) asked below) (own (Ok taken) new taking))
+
+      pub row-failed : (After : Type 0) (fault : ExecFault) (result : Result (Option RankRow) ExecFault) (new : ScorerState) → result ≡ Err fault
+          → ((t : Term) → slice_get (block_in query row.ids.block).terms (head.term - 1) ≡ Some t → Inquires Memory (feeding asked.answer catalogue query row t head) (Err fault) asked new)
+          → Asked (world_of catalogue old.answer query) number (Rank term tree) a After result old new
+      row-failed After fault result new is taking =
+          ask-failed whole number (Rank term tree) a After result fault old new is
+          (between-own_fault catalogue query number term tree a old can head (asked_in child) fault now asked new row turn.between need (same (Ok (Some row)) asked below) (own (Err fault) new taking))
+
+    -- its end is told
+    pub end-kept : (got : Option RankRow) → got ≡ None → (asked : ScorerState) (ended : RankNode) (next : Node) → ended ≡ record head { core = record head.core { ended = true } }
+        → Inquires Memory (next_row (world_of catalogue now.answer query) (number_in child) (tree_in child) (asked_in child)) (Ok got) now asked
+        → NodeAfter (world_of catalogue now.answer query) (number_in child) (tree_in child) (asked_in child) next
+        → Turn catalogue query number term tree a old ended next asked
+    end-kept got none asked ended next e below after =
+        next-turn next after ended asked
+        (subst (λ n. Between whole number term tree a (suc (asked_in child)) n old asked) (sym e)
+        (between-ended catalogue query number term tree a old can head (asked_in child) now asked turn.between need (same (Ok None) asked (subst (λ (r : Option RankRow). Inquires Memory (next_row (world_of catalogue now.answer query) (number_in child) (tree_in child) (asked_in child)) (Ok r) now asked) none below))).1)
+
+  -- the operator gives
+  pub given : (after : RankNode) (row : Option RankRow) → (ask_of head.core ≡ Need → ⊥)
+      → row ≡ taken_for (ask_of head.core) head.core
+      → after ≡ record head { core = left_for (ask_of head.core) head.core; tally = record head.tally { gave = if is_some row then head.tally.gave + 1 else head.tally.gave } }
+      → Asked (world_of catalogue old.answer query) number (Rank term tree) a (RankAfter (world_of catalogue old.answer query) number (Rank term tree) a after child) (Ok row) old now
+  given after row over is e =
+      let inquires = subst (λ r. Inquires Memory (next_row whole number (Rank term tree) a) (Ok r) old now) (sym is)
+      (between-over catalogue query number term tree a old can head (asked_in child) now turn.between over) in
+      let gave = Gave-ok exec_faults Memory old.answer catalogue {A = Option RankRow} (questions_of_ask whole number (Rank term tree) (suc a)) (slice_get (list_of whole number (Rank term tree)) a) row old now inquires in
+      let more = can.more in
+      let all : min a (length (list_of whole number (Rank term tree))) ≡ a = omega arith in
+      let count : after.tally.gave ≡ min (suc a) (length (list_of whole number (Rank term tree))) =
+      ap (λ (n : RankNode). n.tally.gave) e
+      ∙ ap (λ (n : ℕ). if is_some row then n + 1 else n) (turn.between.gave_is ∙ sym all)
+      ∙ ap (λ (r : Option RankRow). if is_some r then min a (length (list_of whole number (Rank term tree))) + 1 else min a (length (list_of whole number (Rank term tree)))) gave.is_value
+      ∙ tally-more (list_of whole number (Rank term tree)) a in
+      record {
+        inquires = inquires;
+        leaves = λ ok. record {
+          number_is = turn.number_is;
+          tree_is = ap (λ t. Rank t (tree_in child)) (ap (λ (n : RankNode). n.term) e ∙ turn.between.term_is) ∙ ap (Rank term) turn.tree_is;
+          asked_is = ap (λ (n : RankNode). n.tally.asked) e ∙ turn.between.asked_is;
+          operator = subst (λ t. HeadStands whole number after t (asked_in child)) (sym turn.tree_is)
+              (between-stands catalogue query number term tree a old can head after (asked_in child) now turn.between over
+              (ap (λ (n : RankNode). n.core) e) (ap (λ (n : RankNode). n.term) e) (ap (λ (n : RankNode). n.tally.asked) e) (ap (λ (n : RankNode). n.calls) e) count);
+          input = subst (λ n. Stands whole n child) turn.number_is turn.stands;
+        };
+      }

@@ -1,0 +1,166 @@
+-- A cursor that stands goes on to stand in a larger catalogue: it reads nothing of what joined.
+use Rattle.std.proofs.Common.{◌≡◌, ◌∙◌, ℕ, zero, suc, ◌-◌, ◌≤◌, ◌==◌, List, [], ◌∷◌, length, map, refl, sym, subst}
+use Rattle.std.specs.Prelude.{if◌then◌else◌, min, nat_le, slice_get, slice_index, unwrap_or}
+use Rattle.std.specs.List.{filter}
+use Rattle.rs_order.specs.Asks.{bar_after}
+use Rattle.rs_order.specs.Schedule.{Left, is_of_side}
+use Rattle.rs_order.specs.Sorting.{sorted}
+use Rattle.rs_rank.specs.Keys.{key_cmp}
+use Rattle.rs_rank.specs.Masks.{mask_of}
+use Rattle.rs_rank.specs.Weights.{evaluated}
+use Rattle.rs_rank.specs.declared.ids.Ids.{Ids}
+use Rattle.rs_rank.specs.declared.key.Key.{Key}
+use Rattle.rs_rank.specs.declared.row.RankRow.{RankRow}
+use Rattle.rs_rank.specs.declared.scored_row.ScoredRow.{ScoredRow}
+use Rattle.rs_expr.specs.Scoring.{Answering}
+use Rattle.rs_mu.specs.Stands.{state_after}
+use Rattle.rs_catalog.specs.Catalogue.{Catalogue}
+use Rattle.rs_query.specs.Views.{all_rows}
+use Rattle.rs_query.specs.WellFormed.{IsBlock, IsQuery}
+use Rattle.rs_query.specs.declared.query.Query.{Query}
+use Rattle.rs_query.specs.declared.query.Query.TheVariants.{One, Set}
+use Rattle.rs_plan.specs.Asks.{asks_alone}
+use Rattle.rs_plan.specs.Counts.{asked_of, drawn_to, gave_of, place_in_index, place_in_table, size_at}
+use Rattle.rs_plan.specs.Lists.{World, block_in, ids_of, key_under, list_of, row_under, sizes_in, sources, weights_in, worths}
+use Rattle.rs_plan.specs.Plans.{IsPart, IsRankScan}
+use Rattle.rs_plan.specs.Trees.{Distinct, HashJoin, NestedJoin, Rank, RankScan, SeqScan, SetOperator, PlanTree, terms}
+use Rattle.rs_exec.specs.Asking.{world_of}
+use Rattle.rs_exec.specs.Building.{IsBuilt}
+use Rattle.rs_exec.specs.Cursors.{CursorState, StandsFor, asks_of, plan_of}
+use Rattle.rs_exec.specs.Nodes.{tree_in}
+use Rattle.rs_exec.specs.Standing.{Stands, index_node_after, rank_node_after, table_node_after}
+use Rattle.rs_exec.specs.declared.node.Node.{Node}
+use Rattle.rs_exec.specs.declared.node.Node.TheVariants as node
+use Rattle.rs_exec.proofs.LargerFacts.{combinations-same, indexes-larger, joined, plan-larger, query-larger, ranking-same, size-same, worths-same}
+use Rattle.rs_exec.proofs.PartFacts.{part-plan}
+use Rattle.rs_exec.proofs.StepFacts.{block-formed}
+
+-- a query sees the same rows of its tables
+view-same : (catalogue more : Catalogue) (query : Query) → IsQuery catalogue query → all_rows (joined catalogue more) query ≡ all_rows catalogue query
+view-same catalogue more (One block limit) is = λ i. record { first = map (size-same catalogue more block is.0 i) (1 ∷ 2 ∷ 3 ∷ 4 ∷ 5 ∷ 6 ∷ []); second = [] }
+view-same catalogue more (Set op left right limit) is = λ i. record {
+  first = map (size-same catalogue more left is.0.left_block i) (1 ∷ 2 ∷ 3 ∷ 4 ∷ 5 ∷ 6 ∷ []);
+  second = map (size-same catalogue more right is.0.right_block i) (1 ∷ 2 ∷ 3 ∷ 4 ∷ 5 ∷ 6 ∷ []);
+}
+
+module _ (catalogue more : Catalogue) (answer : Answering) (query : Query) (formed : IsQuery catalogue query) where
+  abbrev small : World
+  small = world_of catalogue answer query
+
+  abbrev large : World
+  large = world_of (joined catalogue more) answer query
+
+  block-is : (number : ℕ) → IsBlock catalogue (block_in query number)
+  block-is number = block-formed catalogue query number formed
+
+  sizes-same : (number : ℕ) → sizes_in large number ≡ sizes_in small number
+  sizes-same number = λ i. if number == 1 then (view-same catalogue more query formed i).first else (view-same catalogue more query formed i).second
+
+  size_at-same : (number entry : ℕ) → size_at large number entry ≡ size_at small number entry
+  size_at-same number entry = λ i. unwrap_or (slice_get (sizes-same number i) (entry - 1)) 0
+
+  worth-is : (ids : Ids) → worths large ids ≡ worths small ids
+  worth-is ids = worths-same catalogue more (block_in query ids.block) (block-is ids.block) answer ids.rows
+
+  ids-same : (number mask : ℕ) → ids_of large number mask ≡ ids_of small number mask
+  ids-same number mask = λ i.
+      map (λ (rows : List ℕ). record { block = number; mask = mask; rows = rows })
+      (combinations-same catalogue more (block_in query number) (block-is number) i (sizes-same number i) mask)
+
+  -- so the lists of its plans are the same
+  sources-same : (number : ℕ) (tree : PlanTree) → IsBuilt tree → sources large number tree ≡ sources small number tree
+  sources-same number (SeqScan entry) built = ids-same number (mask_of entry)
+  sources-same number (RankScan entry term index) built = ids-same number (mask_of entry)
+  sources-same number (Rank term child) built = sources-same number child built
+  sources-same number (HashJoin left right) built = absurd built
+  sources-same number (NestedJoin left right) built = absurd built
+  sources-same number (Distinct child) built = absurd built
+  sources-same number (SetOperator left right) built = absurd built
+
+  row-same : (mask : ℕ) → row_under large mask ≡ row_under small mask
+  row-same mask = λ i ids. record { ids = ids; sum = evaluated (weights_in small) mask (worth-is ids i) }
+
+  list-same : (number : ℕ) (tree : PlanTree) → IsBuilt tree → list_of large number tree ≡ list_of small number tree
+  list-same number tree built = λ i. sorted key_cmp (key_under small (terms tree)) (map (row-same (terms tree) i) (sources-same number tree built i))
+
+  gave-same : (number : ℕ) (tree : PlanTree) → IsBuilt tree → (a : ℕ) → gave_of large number tree a ≡ gave_of small number tree a
+  gave-same number tree built a = λ i. min a (length (list-same number tree built i))
+
+  asked-same : (number term : ℕ) (child : PlanTree) → IsBuilt child → (a : ℕ) → asked_of large number (Rank term child) a Left ≡ asked_of small number (Rank term child) a Left
+  asked-same number term child built zero = refl
+  asked-same number term child built (suc n) = λ i.
+      length (filter (is_of_side Left) (asks_alone (map (key_under small (terms child)) (list-same number child built i))
+      (bar_after (λ (key : Key). key) (map (key_under small (terms (Rank term child))) (list-same number (Rank term child) built i)) n)))
+
+  -- and what its nodes keep
+  table-same : (number entry a : ℕ) → table_node_after large number entry a ≡ table_node_after small number entry a
+  table-same number entry a = λ i. record {
+    scan = record {
+      entry = entry;
+      block = number;
+      rows = size_at-same number entry i;
+      drawn = drawn_to (place_in_table entry) (size_at-same number entry i) (list-same number (SeqScan entry) tt i) a;
+    };
+    block = number;
+    entry = entry;
+    tally = record { asked = a; gave = gave-same number (SeqScan entry) tt a i };
+  }
+
+  index-same : (number entry term index : ℕ) → IsRankScan catalogue (block_in query number) entry term index → (a : ℕ)
+      → index_node_after large number entry term index a ≡ index_node_after small number entry term index a
+  index-same number entry term index scans a =
+      let ranking = ranking-same catalogue more (block_in query number) (block-is number) entry term index scans in
+      λ i. record {
+        scan = record {
+          index = index;
+          entry = entry;
+          block = number;
+          weight = slice_index (weights_in small).weight (term - 1);
+          rows = size_at-same number entry i;
+          drawn = drawn_to (place_in_index (filter (λ (e : ScoredRow). nat_le e.row (size_at-same number entry i)) (ranking i)) entry) (size_at-same number entry i)
+              (list-same number (RankScan entry term index) tt i) a;
+        };
+        block = number;
+        entry = entry;
+        term = term;
+        tally = record { asked = a; gave = gave-same number (RankScan entry term index) tt a i };
+      }
+
+  rank-same : (number term : ℕ) (child : PlanTree) → IsBuilt child → (a : ℕ) → rank_node_after large number term child a ≡ rank_node_after small number term child a
+  rank-same number term child built a = λ i. record {
+    core = state_after (record {
+      weights = weights_in small;
+      terms = terms child;
+      term = term;
+      worth = λ (row : RankRow). slice_index (worth-is row.ids i) (term - 1);
+    }) (list-same number child built i) (asked-same number term child built a i) (gave-same number (Rank term child) built a i);
+    term = term;
+    tally = record { asked = a; gave = gave-same number (Rank term child) built a i };
+    calls = min (asked-same number term child built a i) (length (list-same number child built i));
+  }
+
+  stands-larger : (number : ℕ) (n : Node) → IsPart catalogue (block_in query number) (tree_in n) → IsBuilt (tree_in n) → Stands small number n → Stands large number n
+  stands-larger number (node.SeqScan head) part built is = is ∙ sym (table-same number head.entry head.tally.asked)
+  stands-larger number (node.RankScan head) part built is = is ∙ sym (index-same number head.entry head.term head.scan.index part head.tally.asked)
+  stands-larger number (node.Rank' head p child) part built is = (
+    record {
+      keeps = is.0.keeps ∙ sym (rank-same number head.term (tree_in child) built head.tally.asked);
+      asked = is.0.asked ∙ sym (asked-same number head.term (tree_in child) built head.tally.asked);
+    },
+    stands-larger number child part.0 built is.1,
+  )
+
+pub cursor-larger : (catalogue more : Catalogue) (answer : Answering) (cursor : CursorState) → StandsFor catalogue answer cursor → StandsFor (joined catalogue more) answer cursor
+cursor-larger catalogue more answer cursor stands =
+    let query = cursor.query in
+    let tree = plan_of cursor in
+    let part = part-plan catalogue query tree stands.plan stands.built in
+    record {
+      sound = stands.sound;
+      query = query-larger catalogue more query stands.query;
+      plan = plan-larger catalogue more query tree stands.plan;
+      built = stands.built;
+      indexes = indexes-larger catalogue more (block_in query 1) (block-formed catalogue query 1 stands.query) answer tree part stands.indexes;
+      nodes = stands-larger catalogue more answer query stands.query 1 cursor.root part stands.built stands.nodes;
+      asks = subst (λ (rows : List RankRow). asks_of cursor ≤ suc (length rows)) (sym (list-same catalogue more answer query stands.query 1 tree stands.built)) stands.asks;
+    }

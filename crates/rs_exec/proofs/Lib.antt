@@ -1,0 +1,25 @@
+mod AdvanceFacts
+mod AnswerFacts
+mod FeedFacts
+mod CountFacts
+mod CursorFacts
+mod CycleFacts
+mod DrawFacts
+mod FewFacts
+pub mod HeldFacts
+mod IndexTermFacts
+mod LargerFacts
+mod LargerNodes
+mod IndexListFacts
+mod ListFacts
+mod MakingFacts
+mod NextFacts
+mod PartFacts
+mod RankFacts
+mod ScanFacts
+mod SourceFacts
+mod StartFacts
+mod StepFacts
+mod SumFacts
+mod TableFacts
+mod WorkedAsks

@@ -1,0 +1,146 @@
+-- Nodes that are made stand before any ask.
+use Rattle.std.proofs.Common.{◌≡◌, ◌∙◌, ℕ, zero, suc, ◌-◌, ◌≤◌, Bool, false, List, [], ◌∷◌, length, map, refl, sym, ap, subst, arith}
+use Rattle.std.specs.Prelude.{min, nat_lt, slice_get, slice_index, unwrap_or}
+use Rattle.std.proofs.lemmas.Bool.Decides.{nat_tests}
+use Rattle.rs_mu.specs.Mu.{new_mu}
+use Rattle.rs_query.specs.Answers.{weights_of}
+use Rattle.rs_query.specs.Tables.{size_of, sizes_of}
+use Rattle.rs_query.specs.declared.block.Block.{Block}
+use Rattle.rs_scan.specs.Scans.{new_index_scan, new_table_scan}
+use Rattle.rs_catalog.specs.Catalogue.{Catalogue}
+use Rattle.rs_rank.specs.declared.weights.Weights.{Weights}
+use Rattle.rs_plan.specs.Counts.{size_at}
+use Rattle.rs_plan.specs.Lists.{World, list_of, numbered_block, sizes_in, weights_in}
+use Rattle.rs_plan.specs.Plans.{IsEntryNumber, IsPart}
+use Rattle.rs_plan.specs.Trees.{Distinct, HashJoin, NestedJoin, Rank, RankScan, SeqScan, SetOperator, PlanTree, terms}
+use Rattle.rs_exec.specs.Nodes.{asked_in, tree_in}
+use Rattle.rs_exec.specs.Standing.{HeadStands, Stands, core_after, index_node_after, rank_node_after, table_node_after, tally_after}
+use Rattle.rs_exec.specs.Starting.{IsStart, no_tally}
+use Rattle.rs_exec.specs.declared.node.Node.{Node}
+use Rattle.rs_exec.specs.declared.node.Node.TheVariants as node
+use Rattle.rs_exec.specs.declared.rank.RankNode.{RankNode}
+use Rattle.rs_exec.specs.declared.scan.IndexNode.{IndexNode}
+use Rattle.rs_exec.specs.declared.scan.TableNode.{TableNode}
+use Rattle.rs_exec.specs.declared.tally.Tally.{Tally}
+
+-- the nodes are of the tree that they were made for
+pub start-tree : (catalogue : Catalogue) (block : Block) (number : ℕ) (tree : PlanTree) (n : Node) → IsStart catalogue block number tree n → tree_in n ≡ tree
+start-tree catalogue block number (SeqScan entry) (node.SeqScan head) is = ap (λ (h : TableNode). SeqScan h.entry) is
+start-tree catalogue block number (SeqScan entry) (node.RankScan head) is = absurd is
+start-tree catalogue block number (SeqScan entry) (node.Rank' head p below) is = absurd is
+start-tree catalogue block number (RankScan entry term index) (node.SeqScan head) is = absurd is
+start-tree catalogue block number (RankScan entry term index) (node.RankScan head) is = ap (λ (h : IndexNode). RankScan h.entry h.term h.scan.index) is
+start-tree catalogue block number (RankScan entry term index) (node.Rank' head p below) is = absurd is
+start-tree catalogue block number (Rank term child) (node.SeqScan head) is = absurd is
+start-tree catalogue block number (Rank term child) (node.RankScan head) is = absurd is
+start-tree catalogue block number (Rank term child) (node.Rank' head p below) is =
+    ap (λ (h : RankNode). Rank h.term (tree_in below)) is.0 ∙ ap (Rank term) (start-tree catalogue block number child below is.1)
+start-tree catalogue block number (HashJoin left right) n is = absurd is
+start-tree catalogue block number (NestedJoin left right) n is = absurd is
+start-tree catalogue block number (Distinct child) n is = absurd is
+start-tree catalogue block number (SetOperator left right) n is = absurd is
+
+-- they were not asked
+pub start-asked : (catalogue : Catalogue) (block : Block) (number : ℕ) (tree : PlanTree) (n : Node) → IsStart catalogue block number tree n → asked_in n ≡ 0
+start-asked catalogue block number (SeqScan entry) (node.SeqScan head) is = ap (λ (h : TableNode). h.tally.asked) is
+start-asked catalogue block number (SeqScan entry) (node.RankScan head) is = absurd is
+start-asked catalogue block number (SeqScan entry) (node.Rank' head p below) is = absurd is
+start-asked catalogue block number (RankScan entry term index) (node.SeqScan head) is = absurd is
+start-asked catalogue block number (RankScan entry term index) (node.RankScan head) is = ap (λ (h : IndexNode). h.tally.asked) is
+start-asked catalogue block number (RankScan entry term index) (node.Rank' head p below) is = absurd is
+start-asked catalogue block number (Rank term child) (node.SeqScan head) is = absurd is
+start-asked catalogue block number (Rank term child) (node.RankScan head) is = absurd is
+start-asked catalogue block number (Rank term child) (node.Rank' head p below) is = ap (λ (h : RankNode). h.tally.asked) is.0
+start-asked catalogue block number (HashJoin left right) n is = absurd is
+start-asked catalogue block number (NestedJoin left right) n is = absurd is
+start-asked catalogue block number (Distinct child) n is = absurd is
+start-asked catalogue block number (SetOperator left right) n is = absurd is
+
+-- the item of a number among six
+of-six : (f : ℕ → ℕ) (entry : ℕ) → 1 ≤ entry → entry ≤ 6 → unwrap_or (slice_get (map f (1 ∷ 2 ∷ 3 ∷ 4 ∷ 5 ∷ 6 ∷ [])) (entry - 1)) 0 ≡ f entry
+of-six f zero some few = absurd (omega arith)
+of-six f (suc zero) some few = refl
+of-six f (suc (suc zero)) some few = refl
+of-six f (suc (suc (suc zero))) some few = refl
+of-six f (suc (suc (suc (suc zero)))) some few = refl
+of-six f (suc (suc (suc (suc (suc zero))))) some few = refl
+of-six f (suc (suc (suc (suc (suc (suc zero)))))) some few = refl
+of-six f (suc (suc (suc (suc (suc (suc (suc n))))))) some few = absurd (omega arith)
+
+-- no row is given before any ask
+none-given : (n : ℕ) → 0 ≡ min 0 n
+none-given n = omega arith
+
+none-less : (n : ℕ) → false ≡ nat_lt n 0
+none-less n = grind (arith, nat_tests)
+
+tally-none : (w : World) (number : ℕ) (tree : PlanTree) → no_tally ≡ tally_after w number tree 0
+tally-none w number tree = ap (λ (gave : ℕ). record { asked = 0; gave = gave }) (none-given (length (list_of w number tree)))
+
+rank-none : (w : World) (number term : ℕ) (child : PlanTree)
+    → record { core = new_mu (weights_in w) (terms child) term; term = term; tally = no_tally; calls = 0 } ≡ rank_node_after w number term child 0
+rank-none w number term child =
+    let gave = none-given (length (list_of w number (Rank term child))) in
+    let core = λ (ended : Bool) (count : ℕ). record (core_after w number term child 0 count) { ended = ended } in
+    ap (λ (ended : Bool). record { core = core ended 0; term = term; tally = no_tally; calls = 0 }) (none-less (length (list_of w number child)))
+    ∙ ap (λ (count : ℕ). record { core = core_after w number term child 0 count; term = term; tally = record { asked = 0; gave = count }; calls = 0 }) gave
+    ∙ ap (λ (calls : ℕ). record (rank_node_after w number term child 0) { calls = calls }) (none-given (length (list_of w number child)))
+
+module _ (w : World) (number : ℕ) (most : length (numbered_block w number).from ≤ 6) (sizes : sizes_in w number ≡ sizes_of w.catalogue (numbered_block w number)) where
+  -- an entry has the rows of its table
+  pub size-is : (entry : ℕ) → IsEntryNumber (numbered_block w number) entry → size_of w.catalogue (numbered_block w number) entry ≡ size_at w number entry
+  size-is entry is =
+      let below = is.most in
+      sym (ap (λ (all : List ℕ). unwrap_or (slice_get all (entry - 1)) 0) sizes
+      ∙ of-six (size_of w.catalogue (numbered_block w number)) entry is.some (omega arith))
+
+  module _ (weights : weights_of (numbered_block w number) ≡ weights_in w) where
+    pub start-stands : (tree : PlanTree) (n : Node) → IsPart w.catalogue (numbered_block w number) tree → IsStart w.catalogue (numbered_block w number) number tree n → Stands w number n
+    start-stands (SeqScan entry) (node.SeqScan head) part is =
+        subst (λ (h : TableNode). h ≡ table_node_after w number h.entry h.tally.asked) (sym is)
+        (ap (λ (rows : ℕ). record { scan = new_table_scan entry number rows; block = number; entry = entry; tally = no_tally }) (size-is entry part)
+        ∙ ap (λ (tally : Tally). record { scan = new_table_scan entry number (size_at w number entry); block = number; entry = entry; tally = tally })
+        (tally-none w number (SeqScan entry)))
+    start-stands (SeqScan entry) (node.RankScan head) part is = absurd is
+    start-stands (SeqScan entry) (node.Rank' head p below) part is = absurd is
+    start-stands (RankScan entry term index) (node.SeqScan head) part is = absurd is
+    start-stands (RankScan entry term index) (node.RankScan head) part is =
+        subst (λ (h : IndexNode). h ≡ index_node_after w number h.entry h.term h.scan.index h.tally.asked) (sym is)
+        (ap (λ (rows : ℕ). record {
+          scan = new_index_scan index entry number (slice_index (weights_of (numbered_block w number)).weight (term - 1)) rows;
+          block = number;
+          entry = entry;
+          term = term;
+          tally = no_tally;
+        }) (size-is entry part.is_entry)
+        ∙ ap (λ (ws : Weights). record {
+          scan = new_index_scan index entry number (slice_index ws.weight (term - 1)) (size_at w number entry);
+          block = number;
+          entry = entry;
+          term = term;
+          tally = no_tally;
+        }) weights
+        ∙ ap (λ (tally : Tally). record {
+          scan = new_index_scan index entry number (slice_index (weights_in w).weight (term - 1)) (size_at w number entry);
+          block = number;
+          entry = entry;
+          term = term;
+          tally = tally;
+        }) (tally-none w number (RankScan entry term index)))
+    start-stands (RankScan entry term index) (node.Rank' head p below) part is = absurd is
+    start-stands (Rank term child) (node.SeqScan head) part is = absurd is
+    start-stands (Rank term child) (node.RankScan head) part is = absurd is
+    start-stands (Rank term child) (node.Rank' head p below) part is =
+        let tree = start-tree w.catalogue (numbered_block w number) number child below is.1 in (
+          subst (λ (h : RankNode). HeadStands w number h (tree_in below) (asked_in below)) (sym is.0) (record {
+            keeps = ap (λ (ws : Weights). record { core = new_mu ws (terms child) term; term = term; tally = no_tally; calls = 0 }) weights
+                ∙ ap (λ (below : PlanTree). record { core = new_mu (weights_in w) (terms below) term; term = term; tally = no_tally; calls = 0 }) (sym tree)
+                ∙ rank-none w number term (tree_in below);
+            asked = start-asked w.catalogue (numbered_block w number) number child below is.1;
+          }),
+          start-stands child below part.0 is.1,
+        )
+    start-stands (HashJoin left right) n part is = absurd is
+    start-stands (NestedJoin left right) n part is = absurd is
+    start-stands (Distinct child) n part is = absurd is
+    start-stands (SetOperator left right) n part is = absurd is

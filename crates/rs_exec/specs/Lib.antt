@@ -1,0 +1,11 @@
+pub mod Asked
+pub mod Asking
+pub mod Building
+pub mod Cursors
+pub mod Drawing
+pub mod Feeding
+pub mod Indexes
+pub mod Nodes
+pub mod Standing
+pub mod Starting
+pub mod Stored

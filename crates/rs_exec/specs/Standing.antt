@@ -1,0 +1,80 @@
+-- What each node of a plan keeps once it was asked so often: a function of the finished lists alone. A node stands where it keeps
+-- just that. These are equations, one at each node.
+use Rattle.std.specs.Prelude.{ℕ, ◌≡◌, ◌-◌, slice_index}
+use Rattle.rs_order.specs.Schedule.{Left}
+use Rattle.rs_rank.specs.declared.row.RankRow.{RankRow}
+use Rattle.rs_mu.specs.Mu.{Mu}
+use Rattle.rs_mu.specs.Stands.{Evaluation, state_after}
+use Rattle.rs_plan.specs.Counts.{asked_of, drawn_of, gave_of, size_at}
+use Rattle.rs_plan.specs.Lists.{World, list_of, weights_in, worths}
+use Rattle.rs_plan.specs.Trees.{Rank, RankScan, SeqScan, PlanTree, terms}
+use Rattle.rs_exec.specs.declared.node.Node.{Node}
+use Rattle.rs_exec.specs.declared.node.Node.TheVariants as node
+use Rattle.rs_exec.specs.declared.rank.RankNode.{RankNode}
+use Rattle.rs_exec.specs.declared.scan.IndexNode.{IndexNode}
+use Rattle.rs_exec.specs.declared.scan.TableNode.{TableNode}
+use Rattle.rs_exec.specs.declared.tally.Tally.{Tally}
+use Rattle.rs_exec.specs.Nodes.{asked_in, tree_in}
+
+-- so many asks, and a row for each as long as the list has more
+abbrev pub tally_after : World → ℕ → PlanTree → ℕ → Tally
+tally_after w number tree a = record { asked = a; gave = gave_of w number tree a }
+
+-- a scan of a table has drawn up to the last row that it gave
+abbrev pub table_node_after : World → ℕ → ℕ → ℕ → TableNode
+table_node_after w number entry a = record {
+  scan = record { entry = entry; block = number; rows = size_at w number entry; drawn = drawn_of w number (SeqScan entry) a };
+  block = number;
+  entry = entry;
+  tally = tally_after w number (SeqScan entry) a;
+}
+
+-- so has a scan of an index
+abbrev pub index_node_after : World → ℕ → ℕ → ℕ → ℕ → ℕ → IndexNode
+index_node_after w number entry term index a = record {
+  scan = record {
+    index = index;
+    entry = entry;
+    block = number;
+    weight = slice_index (weights_in w).weight (term - 1);
+    rows = size_at w number entry;
+    drawn = drawn_of w number (RankScan entry term index) a;
+  };
+  block = number;
+  entry = entry;
+  term = term;
+  tally = tally_after w number (RankScan entry term index) a;
+}
+
+-- what a rank operator evaluates in addition
+abbrev pub evaluation_for : World → ℕ → PlanTree → Evaluation
+evaluation_for w term child = record {
+  weights = weights_in w;
+  terms = terms child;
+  term = term;
+  worth = λ (row : RankRow). slice_index (worths w row.ids) (term - 1);
+}
+
+-- a rank operator keeps the rows that it drew and hasn't given, after so many asks of its input and so many answers
+abbrev pub core_after : World → ℕ → ℕ → PlanTree → ℕ → ℕ → Mu
+core_after w number term child asks answers = state_after (evaluation_for w term child) (list_of w number child) asks answers
+
+-- a rank operator: its input was asked as often as its answers take, and it made a call for each row that came
+abbrev pub rank_node_after : World → ℕ → ℕ → PlanTree → ℕ → RankNode
+rank_node_after w number term child a = record {
+  core = core_after w number term child (asked_of w number (Rank term child) a Left) (gave_of w number (Rank term child) a);
+  term = term;
+  tally = tally_after w number (Rank term child) a;
+  calls = gave_of w number child (asked_of w number (Rank term child) a Left);
+}
+
+-- a rank operator over an input of this tree that was asked so often keeps what its own asks give
+pub record HeadStands (w : World) (number : ℕ) (head : RankNode) (child : PlanTree) (asks : ℕ) : Type 0 where
+  pub keeps : head ≡ rank_node_after w number head.term child head.tally.asked
+  pub asked : asks ≡ asked_of w number (Rank head.term child) head.tally.asked Left
+
+-- a node and all below it keep what the asks of the node give
+abbrev pub Stands : World → ℕ → Node → Type 0
+Stands w number (node.SeqScan head) = head ≡ table_node_after w number head.entry head.tally.asked
+Stands w number (node.RankScan head) = head ≡ index_node_after w number head.entry head.term head.scan.index head.tally.asked
+Stands w number (node.Rank' head p child) = HeadStands w number head (tree_in child) (asked_in child) × Stands w number child

@@ -1,0 +1,39 @@
+-- The nodes of a plan at its start: nothing is drawn, held or asked.
+use Rattle.std.specs.Prelude.{ℕ, ◌≡◌, ◌-◌, slice_index}
+use Rattle.rs_catalog.specs.Catalogue.{Catalogue}
+use Rattle.rs_mu.specs.Mu.{new_mu}
+use Rattle.rs_query.specs.Answers.{weights_of}
+use Rattle.rs_query.specs.Tables.{size_of}
+use Rattle.rs_query.specs.declared.block.Block.{Block}
+use Rattle.rs_scan.specs.Scans.{new_index_scan, new_table_scan}
+use Rattle.rs_plan.specs.Trees.{Rank, RankScan, SeqScan, PlanTree, terms}
+use Rattle.rs_exec.specs.declared.node.Node.{Node}
+use Rattle.rs_exec.specs.declared.node.Node.TheVariants as node
+use Rattle.rs_exec.specs.declared.rank.RankNode.{RankNode}
+use Rattle.rs_exec.specs.declared.tally.Tally.{Tally}
+
+abbrev pub no_tally : Tally
+no_tally = record { asked = 0; gave = 0 }
+
+-- the nodes of this tree, of a block of this number, before any ask
+abbrev pub IsStart : Catalogue → Block → ℕ → PlanTree → Node → Type 0
+IsStart catalogue block number (SeqScan entry) (node.SeqScan head) =
+    head ≡ record { scan = new_table_scan entry number (size_of catalogue block entry); block = number; entry = entry; tally = no_tally }
+IsStart catalogue block number (RankScan entry term index) (node.RankScan head) =
+    head ≡ record {
+      scan = new_index_scan index entry number (slice_index (weights_of block).weight (term - 1)) (size_of catalogue block entry);
+      block = number;
+      entry = entry;
+      term = term;
+      tally = no_tally;
+    }
+IsStart catalogue block number (Rank term child) (node.Rank' head p below) =
+    (head ≡ record { core = new_mu (weights_of block) (terms child) term; term = term; tally = no_tally; calls = 0 })
+    × IsStart catalogue block number child below
+IsStart catalogue block number tree nodes = ⊥
+
+-- an operator over these nodes
+abbrev pub IsRankOver : RankNode → Node → Node → Type 0
+IsRankOver head below (node.Rank' top p child) = (top ≡ head) × (child ≡ below)
+IsRankOver head below (node.SeqScan top) = ⊥
+IsRankOver head below (node.RankScan top) = ⊥

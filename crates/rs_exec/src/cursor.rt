@@ -1,0 +1,224 @@
+ghost use Rattle.std.specs.Prelude.{◌≡◌, ◌≤◌, IfOk, None, Ok, is_err, slice_get, true, false};
+ghost use Rattle.std.specs.List.{AllByRecursion};
+ghost use Rattle.rs_expr.specs.InOrder.{Inquires};
+ghost use Rattle.rs_expr.specs.Scoring.{Answering};
+ghost use Rattle.rs_catalog.specs.Catalogue.{Catalogue};
+ghost use Rattle.rs_plan.specs.Counts.{counts_of_plan};
+ghost use Rattle.rs_plan.specs.Lists.{block_in};
+ghost use Rattle.rs_plan.specs.Plans.{IsPlan};
+ghost use Rattle.rs_plan.specs.Shapes.{tree_of};
+ghost use Rattle.rs_query.specs.Answers.{limit_of, weights_of};
+ghost use Rattle.rs_rank.specs.Weights.{IsWeights};
+ghost use Rattle.rs_query.specs.Meaning.{is_inside, outputs_of};
+ghost use Rattle.rs_query.specs.Tables.{HasRows, sizes_of};
+ghost use Rattle.rs_query.specs.WellFormed.{IsBlock, IsQuery, entries_mask};
+ghost use Rattle.rs_exec.specs.Asking.{world_of};
+ghost use Rattle.rs_exec.specs.Building.{IsBuilt};
+ghost use Rattle.rs_exec.specs.Cursors.{CanGo, IsNew, IsOver, StandsFor, asks_after, asks_of, call_of, is_limit, is_over, next_of, plan_of};
+ghost use Rattle.rs_exec.specs.Indexes.{HoldIndexes};
+
+use crate::block::block_of;
+use crate::fault::ExecFault;
+use crate::node::Node;
+use rs_catalog::Catalog;
+use rs_expr::Scorer;
+use rs_filter::project;
+use rs_plan::{Counts, Plan};
+use rs_query::{Block, Query};
+use rs_rank::{Answer, RankRow};
+use rs_value::{List, Memory};
+use std::alloc::Global;
+use std::marker::Model;
+
+/// A query whose rows are given one after another, by a plan.
+///
+/// It keeps its plan's state between two calls, so whoever holds it may stop at any row. It sees the catalogue anew at each
+/// call: what joins the catalogue in between changes nothing for it.
+#[derive(Drop)]
+pub struct Cursor {
+    alloc: Global,
+    query: Query,
+    root: Node,
+    // Whether a call of it failed.
+    failed: bool,
+}
+
+impl Model for Cursor {
+    ghost use Rattle.rs_exec.specs.Cursors.{CursorState};
+    ghost use Rattle.rs_exec.specs.Stored.{cursor_code};
+
+    ghost Value = { CursorState };
+
+    ghost coded = { cursor_code };
+
+    ghost view = { λ c. record { query = c.query; root = c.root; failed = c.failed } };
+}
+
+impl Cursor {
+    /// A cursor over a plan of the query. No row is asked for yet.
+    pub fn start(
+        alloc: Global,
+        catalog: &Catalog,
+        query: Query,
+        plan: &Plan,
+    ) -> Result<Cursor, Memory>
+        requires query { IsQuery catalog.now query }
+        requires plan { IsPlan catalog.now query (tree_of plan.now) }
+        // Joins, DISTINCT and set operators can't be executed yet.
+        requires built { IsBuilt (tree_of plan.now) }
+        ensures new { IfOk result (IsNew query (tree_of plan.now)) }
+        ensures stands { (answer : Answering) → HoldIndexes answer catalog.now (tree_of plan.now) → IfOk result (StandsFor catalog.now answer) }
+    {
+        match Node::start(alloc, catalog, block_of(&query, 1), 1, plan) {
+            Ok(root) => Ok(Cursor {
+                alloc,
+                query,
+                root,
+                failed: false,
+            }),
+            Err(Memory) => {
+                drop(query);
+                Err(Memory)
+            }
+        }
+    }
+
+    /// The next row of the answer, or None where it has ended or LIMIT rows were given. The scorer is called only where this
+    /// row, or the end, needs it. Once None was answered it is answered again, without a call and without memory. After a
+    /// fault each further call answers `Broken`.
+    pub fn next<S: Scorer>(
+        &mut self,
+        catalog: &Catalog,
+        scorer: &mut S,
+    ) -> Result<Option<Answer>, ExecFault>
+        requires { CanGo catalog.now (S.state scorer.old).answer self.old }
+        ensures asks { Inquires ExecFault.Memory (call_of catalog.now (S.state scorer.old).answer self.old) result
+            (S.state scorer.old) (S.state scorer.new) }
+        ensures over { IsOver catalog.now (S.state scorer.old).answer self.old → result ≡ Ok None }
+        ensures query { self.new.query ≡ self.old.query }
+        ensures failed { self.new.failed ≡ is_err result }
+        ensures plan { IfOk result (λ _. plan_of self.new ≡ plan_of self.old) }
+        ensures count { IfOk result (λ _. asks_of self.new
+            ≡ asks_after (world_of catalog.now (S.state scorer.old).answer self.old.query) (plan_of self.old) (asks_of self.old)) }
+        ensures stands { IfOk result (λ _. StandsFor catalog.now (S.state scorer.old).answer self.new) }
+    {
+        if self.failed {
+            return Err(ExecFault::Broken);
+        }
+        let result = self.advance(catalog, scorer);
+        self.failed = result.is_err();
+        result
+    }
+
+    /// The query, as it was given.
+    pub fn query(&self) -> &Query
+        ensures { result.now ≡ self.now.query }
+    {
+        &self.query
+    }
+
+    /// What the node at a place of the plan has done so far, or None past the last one. A node stands before its children, the
+    /// first one at 0. It takes no memory.
+    pub fn counts(&self, node: u8) -> Option<Counts>
+        requires { self.now.failed ≡ false }
+        ensures { (catalogue : Catalogue) (answer : Answering) → StandsFor catalogue answer self.now
+            → result ≡ slice_get (counts_of_plan (world_of catalogue answer self.now.query) (plan_of self.now) (asks_of self.now)) node }
+    {
+        self.root.counts_at(node)
+    }
+
+    /// The next row, of a cursor that didn't fail.
+    fn advance<S: Scorer>(
+        &mut self,
+        catalog: &Catalog,
+        scorer: &mut S,
+    ) -> Result<Option<Answer>, ExecFault>
+        requires { StandsFor catalog.now (S.state scorer.old).answer self.old }
+        ensures asks { Inquires ExecFault.Memory
+            (next_of (world_of catalog.now (S.state scorer.old).answer self.old.query) (plan_of self.old) (asks_of self.old)) result
+            (S.state scorer.old) (S.state scorer.new) }
+        ensures over { IsOver catalog.now (S.state scorer.old).answer self.old → result ≡ Ok None }
+        ensures query { self.new.query ≡ self.old.query }
+        ensures plan { IfOk result (λ _. plan_of self.new ≡ plan_of self.old) }
+        ensures count { IfOk result (λ _. asks_of self.new
+            ≡ asks_after (world_of catalog.now (S.state scorer.old).answer self.old.query) (plan_of self.old) (asks_of self.old)) }
+        ensures stands { IfOk result (λ _. StandsFor catalog.now (S.state scorer.old).answer self.new) }
+    {
+        if self.is_over() {
+            return Ok(None);
+        }
+        // So no count and no sum can pass its type.
+        limits_hold(catalog, block_of(&self.query, 1));
+        match self.root.next(self.alloc, catalog, &self.query, scorer)? {
+            Some(row) => Ok(Some(answer_for(self.alloc, catalog, &self.query, &row)?)),
+            None => Ok(None),
+        }
+    }
+
+    /// Whether LIMIT rows were given, or an ask found the end.
+    fn is_over(&self) -> bool
+        ensures { (catalogue : Catalogue) (answer : Answering) → StandsFor catalogue answer self.now
+            → result ≡ is_over (world_of catalogue answer self.now.query) (plan_of self.now) (asks_of self.now) }
+    {
+        let tally = self.root.tally();
+        is_limit(limit_of(&self.query), tally.asked) || tally.gave < tally.asked
+    }
+}
+
+/// Whether so many rows are as many as LIMIT says.
+fn is_limit(limit: Option<u32>, rows: u128) -> bool
+    ensures { result ≡ is_limit limit rows }
+{
+    match limit {
+        Some(limit) => u128::from(limit) <= rows,
+        None => false,
+    }
+}
+
+/// How many rows the answer has at most, where the query says so.
+fn limit_of(query: &Query) -> Option<u32>
+    ensures { result ≡ limit_of query.now }
+{
+    match query {
+        Query::One(_, limit) => *limit,
+        Query::Set(_, _, _, limit) => *limit,
+    }
+}
+
+/// The row with its score and its output values.
+fn answer_for(
+    alloc: Global,
+    catalog: &Catalog,
+    query: &Query,
+    row: &RankRow,
+) -> Result<Answer, Memory>
+    requires block { IsBlock catalog.now (block_in query.now row.now.ids.block) }
+    requires inside { is_inside (entries_mask (block_in query.now row.now.ids.block).items) row.now.ids.mask ≡ true }
+    requires rows { HasRows catalog.now (block_in query.now row.now.ids.block) row.now.ids.mask row.now.ids.rows }
+    ensures { IfOk result (λ answer. answer ≡ record {
+      ids = row.now.ids;
+      score = row.now.sum;
+      values = outputs_of catalog.now (block_in query.now row.now.ids.block) row.now.ids.rows;
+    }) }
+{
+    let block = block_of(query, row.ids.block);
+    let values = project(alloc, catalog, block, row)?;
+    Ok(Answer {
+        ids: row.ids,
+        score: row.sum,
+        values: List::of(values),
+    })
+}
+
+/// No table has more rows than a table may have, and weights and maxima are within their limits. The function changes nothing;
+/// it is called for its contract.
+fn limits_hold(catalog: &Catalog, block: &Block)
+    requires { IsBlock catalog.now block.now }
+    ensures rows { AllByRecursion (λ size. size ≤ 131072) (sizes_of catalog.now block.now) }
+    ensures weights { IsWeights (weights_of block.now) }
+{
+    let _ = block.weights();
+    for from in block.from.items() {
+        let _ = catalog.table(from.0).len();
+    }
+}

@@ -1,0 +1,54 @@
+//! What the rows of a plan are, and when a cursor goes on to stand: laws that hold of every scorer, catalogue and query. The
+//! functions compute nothing; each is called for its contract.
+
+ghost use Rattle.std.specs.Prelude.{◌≡◌, ℕ, List};
+ghost use Rattle.std.specs.List.{flat_map};
+ghost use Rattle.rs_order.specs.Schedule.{numbers_from};
+ghost use Rattle.rs_expr.specs.Predicates.{PredicateDef};
+ghost use Rattle.rs_expr.specs.Scoring.{Answering};
+ghost use Rattle.rs_rank.specs.Stable.{stable};
+ghost use Rattle.rs_rank.specs.Weights.{IsWeights};
+ghost use Rattle.rs_rank.specs.declared.scored_row.ScoredRow.{ScoredRow};
+ghost use Rattle.rs_table.specs.Relation.{Relation};
+ghost use Rattle.rs_catalog.specs.Catalogue.{Catalogue, with_index, with_predicate, with_table};
+ghost use Rattle.rs_catalog.specs.declared.index.IndexDef.{IndexDef};
+ghost use Rattle.rs_query.specs.Answers.{answer_of, cut, limit_of, rows_of};
+ghost use Rattle.rs_query.specs.WellFormed.{IsQuery};
+ghost use Rattle.rs_plan.specs.Calls.{calls_of_plan, part_of_plan};
+ghost use Rattle.rs_plan.specs.Lists.{World, list_of_plan, weights_in};
+ghost use Rattle.rs_plan.specs.Plans.{IsPlan};
+ghost use Rattle.rs_plan.specs.Trees.{PlanTree};
+ghost use Rattle.rs_exec.specs.Building.{IsBuilt};
+ghost use Rattle.rs_exec.specs.Cursors.{CursorState, StandsFor, answers_of};
+
+/// The rows of a plan are those of the query in the stable order of their scores. Cut to LIMIT they are its answer.
+pub fn plans_give_the_answer()
+    ensures order { (w : World) (tree : PlanTree) → IsQuery w.catalogue w.query → IsPlan w.catalogue w.query tree
+        → answers_of w tree ≡ stable (λ row. row.score) (rows_of w.answer w.catalogue w.query w.view) }
+    ensures answer { (w : World) (tree : PlanTree) → IsQuery w.catalogue w.query → IsPlan w.catalogue w.query tree
+        → cut (limit_of w.query) (answers_of w tree) ≡ answer_of w.answer w.catalogue w.query w.view }
+{}
+
+/// So any two plans of a query give the same rows in the same order.
+pub fn plans_give_the_same_rows()
+    ensures { (w : World) (tree other : PlanTree) → IsPlan w.catalogue w.query tree → IsPlan w.catalogue w.query other
+        → list_of_plan w tree ≡ list_of_plan w other }
+{}
+
+/// The calls of the first asks, one ask after another, are those that come with so many asks: no call is made ahead, and none
+/// twice.
+pub fn rows_give_the_parts_in_turn()
+    ensures { (w : World) (tree : PlanTree) (n : ℕ) → IsQuery w.catalogue w.query → IsWeights (weights_in w)
+        → IsPlan w.catalogue w.query tree → IsBuilt tree
+        → flat_map (part_of_plan w tree) (numbers_from 1 n) ≡ calls_of_plan w tree n }
+{}
+
+/// What joins the catalogue changes nothing for a cursor that stands.
+pub fn cursors_stand_in_larger_catalogues()
+    ensures tables { (catalogue : Catalogue) (answer : Answering) (cursor : CursorState) (name : List ℕ) (table : Relation)
+        → StandsFor catalogue answer cursor → StandsFor (with_table name table catalogue) answer cursor }
+    ensures predicates { (catalogue : Catalogue) (answer : Answering) (cursor : CursorState) (predicate : PredicateDef)
+        → StandsFor catalogue answer cursor → StandsFor (with_predicate predicate catalogue) answer cursor }
+    ensures indexes { (catalogue : Catalogue) (answer : Answering) (cursor : CursorState) (def : IndexDef) (ranking : List ScoredRow)
+        → StandsFor catalogue answer cursor → StandsFor (with_index def ranking catalogue) answer cursor }
+{}

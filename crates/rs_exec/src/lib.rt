@@ -1,0 +1,22 @@
+//! The executor. A cursor gives the rows of a query's answer one after another, in the order of a plan: each is asked for only
+//! once it is wanted, and the scorer is called only where the plan's operators need it. Plans of scans and rank operators are
+//! executed; joins, DISTINCT and set operators are not built yet.
+#![tactic(auto)]
+
+mod block;
+mod cursor;
+mod fault;
+mod laws;
+mod node;
+mod rank;
+mod scan;
+mod score;
+mod start;
+mod tally;
+
+pub use cursor::Cursor;
+pub use fault::ExecFault;
+pub use laws::{
+    cursors_stand_in_larger_catalogues, plans_give_the_answer, plans_give_the_same_rows,
+    rows_give_the_parts_in_turn,
+};

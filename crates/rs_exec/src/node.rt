@@ -1,0 +1,83 @@
+ghost use Rattle.std.specs.Prelude.{◌≡◌, ◌∷◌, [], slice_get};
+ghost use Rattle.rs_exec.specs.Asked.{Asked, CanAsk, NodeAfter};
+ghost use Rattle.rs_exec.specs.Asking.{world_of};
+ghost use Rattle.rs_exec.specs.Nodes.{asked_in, counts_in, number_in, tally_in, tree_in};
+ghost use Rattle.rs_exec.specs.Standing.{Stands};
+
+use crate::fault::ExecFault;
+use crate::rank::{RankNode, next_ranked};
+use crate::scan::{IndexNode, TableNode};
+use crate::tally::Tally;
+use rs_catalog::Catalog;
+use rs_expr::Scorer;
+use rs_plan::Counts;
+use rs_query::Query;
+use rs_rank::RankRow;
+use std::alloc::Global;
+
+/// A node of a plan that is executed, with all nodes below it.
+#[derive(Drop)]
+pub(crate) enum Node {
+    SeqScan(TableNode),
+    RankScan(IndexNode),
+    Rank(RankNode, Box<Node>),
+}
+
+impl Node {
+    /// The next row of the node's list. The nodes below are asked as often as it takes, and a rank operator calls the scorer
+    /// for each row that comes from below.
+    #[cycle(next)]
+    pub(crate) fn next<S: Scorer>(
+        &mut self,
+        alloc: Global,
+        catalog: &Catalog,
+        query: &Query,
+        scorer: &mut S,
+    ) -> Result<Option<RankRow>, ExecFault>
+        requires can { CanAsk catalog.now (S.state scorer.old).answer query.now (number_in self.old) (tree_in self.old) (asked_in self.old) }
+        requires stands { Stands (world_of catalog.now (S.state scorer.old).answer query.now) (number_in self.old) self.old }
+        ensures { Asked (world_of catalog.now (S.state scorer.old).answer query.now) (number_in self.old) (tree_in self.old) (asked_in self.old)
+            (NodeAfter (world_of catalog.now (S.state scorer.old).answer query.now) (number_in self.old) (tree_in self.old) (asked_in self.old) self.new)
+            result (S.state scorer.old) (S.state scorer.new) }
+    {
+        match self {
+            Node::SeqScan(head) => Ok(head.next(alloc, catalog, query)?),
+            Node::RankScan(head) => Ok(head.next(alloc, catalog, query)?),
+            Node::Rank(head, child) => next_ranked(head, child, alloc, catalog, query, scorer),
+        }
+    }
+
+    /// How often it was asked, and how many rows it gave.
+    pub(crate) fn tally(&self) -> Tally
+        ensures { result ≡ tally_in self.now }
+    {
+        match self {
+            Node::SeqScan(head) => head.tally,
+            Node::RankScan(head) => head.tally,
+            Node::Rank(head, _) => head.tally,
+        }
+    }
+
+    /// What the node at a place counts, in the order of a node before its children, from 0.
+    pub(crate) fn counts_at(&self, place: u8) -> Option<Counts>
+        ensures { result ≡ slice_get (counts_in self.now) place }
+    {
+        match self {
+            Node::SeqScan(head) => counts_if_first(place, head.counts()),
+            Node::RankScan(head) => counts_if_first(place, head.counts()),
+            Node::Rank(head, child) => {
+                if place == 0 {
+                    return Some(head.counts());
+                }
+                child.counts_at(place - 1)
+            }
+        }
+    }
+}
+
+/// The counts of a node without children, where the place is its own.
+fn counts_if_first(place: u8, counts: Counts) -> Option<Counts>
+    ensures { result ≡ slice_get (counts ∷ []) place }
+{
+    if place == 0 { Some(counts) } else { None }
+}
