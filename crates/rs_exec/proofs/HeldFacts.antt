@@ -34,7 +34,7 @@ held-larger catalogue more answer index held =
     let predicate = predicate-same catalogue more index.def.predicate held.predicate in
     let table = slice_get-front catalogue.tables more.tables index.def.table held.table in
     let same : making answer (joined catalogue more) index.def ≡ making answer catalogue index.def = λ i.
-        making_of answer (predicate i) index.def.args (unwrap_or (option_map (λ (t : NamedTable). t.table.rows) (table i)) []) in
+    making_of answer (predicate i) index.def.args (unwrap_or (option_map (λ (t : NamedTable). t.table.rows) (table i)) []) in
     let all_tables = length-append catalogue.tables more.tables in
     let all_predicates = length-append catalogue.predicates more.predicates in
     record {
