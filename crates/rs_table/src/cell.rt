@@ -48,9 +48,6 @@ pub(crate) fn read_cell(
             Some(number) => Ok(Value::Int(number)),
             None => Err(TableFault::NotInt { row, column }),
         },
-        Kind::Text => match text_at(alloc, row, column, field) {
-            Ok(text) => Ok(Value::Text(text)),
-            Err(fault) => Err(fault),
-        },
+        Kind::Text => Ok(Value::Text(text_at(alloc, row, column, field)?)),
     }
 }

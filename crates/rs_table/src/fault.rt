@@ -1,3 +1,5 @@
+use rs_value::Memory;
+use std::alloc::AllocFailed;
 use thiserror::Error;
 
 /// Why a file is no table. Rows and columns count from 1, and the header is row 0.
@@ -21,4 +23,26 @@ pub enum TableFault {
     NoColumn,
     #[error("the header has {found} columns")]
     TooManyColumns { found: u32 },
+}
+
+impl From<Memory> for TableFault {
+    ghost use Rattle.std.specs.Prelude.{◌≡◌};
+    ghost use Rattle.rs_table.specs.declared.fault.TableFault.TheVariants.{Memory};
+
+    ghost from_gives = { λ _ fault. fault ≡ Memory };
+
+    fn from(_: Memory) -> TableFault {
+        TableFault::Memory
+    }
+}
+
+impl<T: Drop> From<AllocFailed<T>> for TableFault {
+    ghost use Rattle.std.specs.Prelude.{◌≡◌};
+    ghost use Rattle.rs_table.specs.declared.fault.TableFault.TheVariants.{Memory};
+
+    ghost from_gives = { λ _ fault. fault ≡ Memory };
+
+    fn from(_: AllocFailed<T>) -> TableFault {
+        TableFault::Memory
+    }
 }

@@ -9,7 +9,7 @@ use crate::cell::{field_at, text_at};
 use crate::fault::TableFault;
 use crate::records::Records;
 use csv::ByteRecord;
-use rs_value::{Kind, Memory, Text};
+use rs_value::{Kind, Text};
 use std::alloc::Global;
 use std::marker::Model;
 
@@ -55,11 +55,10 @@ impl Schema {
     {
         let mut records = Records::new(alloc, bytes);
         let mut header = ByteRecord::new(alloc);
-        match records.read(&mut header) {
-            Ok(true) => read_columns(alloc, &header, column),
-            Ok(false) => Err(TableFault::NoHeader),
-            Err(Memory) => Err(TableFault::Memory),
+        if !records.read(&mut header)? {
+            return Err(TableFault::NoHeader);
         }
+        read_columns(alloc, &header, column)
     }
 
     /// The place of the first column of this name, counted from 0.
@@ -104,14 +103,9 @@ fn read_columns(alloc: Global, header: &ByteRecord, column: &Text) -> Result<Sch
     let mut columns = Vec::new(alloc);
     let mut found = false;
     for index in 0..header.len() {
-        let name = match text_at(alloc, 0, index as u32 + 1, field_at(header, index)) {
-            Ok(name) => name,
-            Err(fault) => return Err(fault),
-        };
+        let name = text_at(alloc, 0, index as u32 + 1, field_at(header, index))?;
         let is_named = name.as_str() == column.as_str();
-        if columns.push((name, kind_for(found, is_named))).is_err() {
-            return Err(TableFault::Memory);
-        }
+        columns.push((name, kind_for(found, is_named)))?;
         found |= is_named;
     }
     if found {

@@ -52,14 +52,9 @@ impl Table {
         let columns = schema.columns();
         let mut records = Records::new(alloc, bytes);
         let mut record_ = ByteRecord::new(alloc);
-        match read_header(columns, &mut records, &mut record_) {
-            Ok(()) => {}
-            Err(fault) => return Err(fault),
-        }
-        match read_rows(alloc, columns, &mut records, &mut record_) {
-            Ok(rows) => Ok(Table { schema, rows }),
-            Err(fault) => Err(fault),
-        }
+        read_header(columns, &mut records, &mut record_)?;
+        let rows = read_rows(alloc, columns, &mut records, &mut record_)?;
+        Ok(Table { schema, rows })
     }
 
     /// The columns.
@@ -108,13 +103,12 @@ fn read_header(
     requires { length columns.now ≤ 64 }
     ensures { MatchResult result (λ _. rows_of_records columns.now records.old ≡ rows_from columns.now 1 records.new) (λ fault. (fault ≡ TableFault.Memory) ⊎ (rows_of_records columns.now records.old ≡ Err fault)) }
 {
-    match records.read(record_) {
-        Ok(true) => match difference(columns, record_) {
-            Some(column) => Err(TableFault::HeaderDiffers { column }),
-            None => Ok(()),
-        },
-        Ok(false) => Err(TableFault::NoHeader),
-        Err(Memory) => Err(TableFault::Memory),
+    if !records.read(record_)? {
+        return Err(TableFault::NoHeader);
+    }
+    match difference(columns, record_) {
+        Some(column) => Err(TableFault::HeaderDiffers { column }),
+        None => Ok(()),
     }
 }
 
@@ -150,14 +144,9 @@ fn read_rows(
     let mut rows = Vec::new(alloc);
     loop {
         let row = rows.len() as u32 + 1;
-        match next_row(alloc, columns, row, records, record_) {
-            Ok(Some(values)) => {
-                if rows.push(values).is_err() {
-                    return Err(TableFault::Memory);
-                }
-            }
-            Ok(None) => return Ok(rows),
-            Err(fault) => return Err(fault),
+        match next_row(alloc, columns, row, records, record_)? {
+            Some(values) => rows.push(values)?,
+            None => return Ok(rows),
         }
     }
 }
@@ -175,14 +164,11 @@ fn next_row(
     ensures few { IfOk result (λ next. MatchOption next (Unit {0}) (λ values. row ≤ most_rows)) }
     ensures refused { IfErr result (λ fault. (fault ≡ TableFault.Memory) ⊎ (rows_from columns.now row records.old ≡ Err fault)) }
 {
-    match records.read(record_) {
-        Ok(true) => match read_row(alloc, columns, row, record_) {
-            Ok(values) => Ok(Some(values)),
-            Err(fault) => Err(fault),
-        },
-        Ok(false) => Ok(None),
-        Err(Memory) => Err(TableFault::Memory),
+    if !records.read(record_)? {
+        return Ok(None);
     }
+    let values = read_row(alloc, columns, row, record_)?;
+    Ok(Some(values))
 }
 
 /// The values of a row.
@@ -223,14 +209,7 @@ fn read_cells(
     let mut values = Vec::new(alloc);
     for (index, column) in columns.iter().enumerate() {
         let field = field_at(record_, index);
-        match read_cell(alloc, column.1, row, index as u32 + 1, field) {
-            Ok(value) => {
-                if values.push(value).is_err() {
-                    return Err(TableFault::Memory);
-                }
-            }
-            Err(fault) => return Err(fault),
-        }
+        values.push(read_cell(alloc, column.1, row, index as u32 + 1, field)?)?;
     }
     Ok(List::of(values))
 }
