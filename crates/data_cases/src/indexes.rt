@@ -5,12 +5,14 @@ ghost use Rattle.rs_catalog.specs.Catalogue.{names_of, room_for};
 ghost use Rattle.rs_catalog.specs.Indexes.{IsIndex, arg_fits, args_fit};
 ghost use Rattle.rs_catalog.specs.declared.room.What.TheVariants as what;
 
+use crate::catalogue::found;
+use crate::keys::is_space;
 use case_lines::{Fault, cut_at, cut_word, print_call, small_number_of, text_of, value_of};
 use rs_catalog::{BoundArg, Catalog, IndexDef, IndexFault, What};
 use rs_expr::{Call, MemScorer, Predicate};
 use rs_table::Table;
 use rs_value::{GREATEST_INT, Kind, List, Memory, Text, Value};
-use std::alloc::Global;
+use std::alloc::{AllocError, Global};
 
 /// Makes an index, `NAME TABLE PREDICATE ARGUMENT..`, and tells what becomes of it, and the calls.
 pub fn tell_made(
@@ -18,15 +20,15 @@ pub fn tell_made(
     catalog: &mut Catalog,
     scorer: &mut MemScorer,
     words: &[u8],
-) -> Result<String, Fault> {
+    told: &mut String,
+) -> Result<(), Fault> {
     let (name, words) = cut_word(words);
-    let mut told = match make(alloc, catalog, scorer, name, words)? {
-        Ok(()) => tell_entries(alloc, catalog, name)?,
+    match make(alloc, catalog, scorer, name, words)? {
+        Ok(()) => tell_entries(alloc, catalog, name, told)?,
         Err(IndexFault::Memory) => return Err(Fault::Memory),
-        Err(fault) => format!(in alloc; "{fault:?}")?,
-    };
-    tell_calls(scorer.calls(), &mut told)?;
-    Ok(told)
+        Err(fault) => write!(told, "{fault:?}")?,
+    }
+    Ok(tell_calls(scorer.calls(), told)?)
 }
 
 fn make(
@@ -37,11 +39,11 @@ fn make(
     words: &[u8],
 ) -> Result<Result<(), IndexFault>, Fault> {
     let def = def_of(alloc, catalog, name, words)?;
-    if !can_join(catalog, &def) {
-        drop(def);
-        return Err(Fault::Form);
+    if can_join(catalog, &def) {
+        Ok(catalog.add_index(alloc, def, scorer))
+    } else {
+        Err(Fault::Form)
     }
-    Ok(catalog.add_index(alloc, def, scorer))
 }
 
 /// What an index of this name is of: `TABLE PREDICATE ARGUMENT..`.
@@ -64,11 +66,10 @@ fn def_of(alloc: Global, catalog: &Catalog, name: &[u8], words: &[u8]) -> Result
 }
 
 /// The number of the one of this name in a list.
-fn number_in(alloc: Global, catalog: &Catalog, what: What, name: &[u8]) -> Result<u8, Fault>
+pub fn number_in(alloc: Global, catalog: &Catalog, what: What, name: &[u8]) -> Result<u8, Fault>
     ensures { IfOk result (λ number. number < length (names_of what catalog.now)) }
 {
-    let name = text_of(alloc, name)?;
-    match catalog.find(what, &name) {
+    match found(alloc, catalog, what, name)? {
         Some(number) => Ok(number),
         None => Err(Fault::Form),
     }
@@ -77,7 +78,7 @@ fn number_in(alloc: Global, catalog: &Catalog, what: What, name: &[u8]) -> Resul
 /// Arguments of an index or a term.
 fn args_of(alloc: Global, words: &[u8]) -> Result<Vec<BoundArg>, Fault> {
     let mut args = Vec::new(alloc);
-    for word in words.split(|byte| *byte == b' ') {
+    for word in words.split(is_space) {
         args.push(arg_of(alloc, word)?)?;
     }
     Ok(args)
@@ -152,25 +153,27 @@ fn fits(columns: &[(Text, Kind)], kind: Kind, arg: &BoundArg) -> bool
     }
 }
 
-/// The entries of the index of this name: the score and the row of each.
-fn tell_entries(alloc: Global, catalog: &Catalog, name: &[u8]) -> Result<String, Fault> {
-    let name = text_of(alloc, name)?;
-    match catalog.find(What::Index, &name) {
-        Some(index) => tell_entries_of(alloc, catalog, index),
-        None => Err(Fault::Form),
-    }
+/// Tells the entries of the index of this name: the score and the row of each.
+fn tell_entries(
+    alloc: Global,
+    catalog: &Catalog,
+    name: &[u8],
+    told: &mut String,
+) -> Result<(), Fault> {
+    let index = number_in(alloc, catalog, What::Index, name)?;
+    Ok(tell_entries_of(catalog, index, told)?)
 }
 
-fn tell_entries_of(alloc: Global, catalog: &Catalog, index: u8) -> Result<String, Fault>
+fn tell_entries_of(catalog: &Catalog, index: u8, told: &mut String) -> Result<(), AllocError>
     requires { index < length catalog.now.indexes }
 {
-    let mut told = String::from_str(alloc, "entries")?;
+    told.push_str("entries")?;
     let def = catalog.index(index);
     for place in 1..=catalog.table(def.table).len() {
         let (score, row) = catalog.index_row(index, place);
         write!(told, " {score}.{row}")?;
     }
-    Ok(told)
+    Ok(())
 }
 
 /// Tells the calls of a scorer.
@@ -185,8 +188,13 @@ fn tell_calls(calls: &[Call], told: &mut String) -> Result<(), Memory> {
     Ok(())
 }
 
-/// The number of the first index of a term: `TABLE PREDICATE ENTRY ARGUMENT..`.
-pub fn tell_index_for(alloc: Global, catalog: &Catalog, words: &[u8]) -> Result<String, Fault> {
+/// Tells the number of the first index of a term: `TABLE PREDICATE ENTRY ARGUMENT..`.
+pub fn tell_index_for(
+    alloc: Global,
+    catalog: &Catalog,
+    words: &[u8],
+    told: &mut String,
+) -> Result<(), Fault> {
     let (table, words) = cut_word(words);
     let (predicate, words) = cut_word(words);
     let (entry, words) = cut_word(words);
@@ -195,5 +203,6 @@ pub fn tell_index_for(alloc: Global, catalog: &Catalog, words: &[u8]) -> Result<
     let entry = small_number_of(entry)?;
     let args = args_of(alloc, words)?;
     let found = catalog.index_for(table, predicate, &args, entry);
-    Ok(format!(in alloc; "{found:?}")?)
+    drop(args);
+    Ok(write!(told, "{found:?}")?)
 }

@@ -16,14 +16,24 @@ pub fn key_of(word: &[u8]) -> Result<Key, Fault> {
 }
 
 /// The ids that a word stands for: `BLOCK:MASK:ROW.ROW..`.
-pub fn ids_of(word: &[u8]) -> Result<Ids, Fault> {
+fn ids_of(word: &[u8]) -> Result<Ids, Fault> {
     let (block, word) = parts_of(word)?;
     let (mask, rows) = parts_of(word)?;
+    ids_with(block, mask, rows)
+}
+
+/// The ids of this block and this mask, and of the rows that a word stands for.
+pub fn ids_with(block: &[u8], mask: &[u8], rows: &[u8]) -> Result<Ids, Fault> {
     Ok(Ids {
         block: small_number_of(block)?,
         mask: small_number_of(mask)?,
         rows: rows_of(rows)?,
     })
+}
+
+/// Whether a byte stands between two words.
+pub fn is_space(byte: &u8) -> bool {
+    *byte == b' '
 }
 
 /// What stands in front of a `:`, and what behind it.
@@ -48,23 +58,26 @@ fn rows_of(word: &[u8]) -> Result<[u32; 6], Fault> {
 /// The keys that words stand for.
 pub fn keys_of(alloc: Global, words: &[u8]) -> Result<Vec<Key>, Fault> {
     let mut keys = Vec::new(alloc);
-    for word in words.split(|byte| *byte == b' ') {
+    for word in words.split(is_space) {
         keys.push(key_of(word)?)?;
     }
     Ok(keys)
 }
 
-/// How each key stands to each of them.
-pub fn tell_keys(alloc: Global, words: &[u8]) -> Result<String, Fault> {
+/// Tells how each key stands to each of them.
+pub fn tell_keys(alloc: Global, words: &[u8], told: &mut String) -> Result<(), Fault> {
     let keys = keys_of(alloc, words)?;
-    let mut told = String::new(alloc);
+    Ok(tell_all_signs(&keys, told)?)
+}
+
+fn tell_all_signs(keys: &[Key], told: &mut String) -> Result<(), AllocError> {
     let mut between = "";
-    for key in &keys {
+    for key in keys {
         told.push_str(between)?;
-        tell_signs(key, &keys, &mut told)?;
+        tell_signs(key, keys, told)?;
         between = " ";
     }
-    Ok(told)
+    Ok(())
 }
 
 fn tell_signs(key: &Key, others: &[Key], told: &mut String) -> Result<(), AllocError> {
@@ -96,20 +109,25 @@ fn agreed(key: &Key, other: &Key, order: Ordering, sign: &'static str) -> &'stat
     }
 }
 
-/// The place of a key among those behind it in a map, counted from 1, and that of the first one there.
-pub fn tell_place(alloc: Global, words: &[u8]) -> Result<String, Fault> {
+/// Tells the place of a key among those behind it in a map, counted from 1, and that of the first one there.
+pub fn tell_place(alloc: Global, words: &[u8], told: &mut String) -> Result<(), Fault> {
     let (key, words) = cut_word(words);
     let key = key_of(key)?;
-    let places = places_of(alloc, words)?;
-    let place = places.get(&key).copied();
-    let first = places.first_key_value().map(|(_, place)| *place);
-    Ok(format!(in alloc; "{place:?}, first {first:?}")?)
+    let (place, first) = places_in(alloc, &key, words)?;
+    Ok(write!(told, "{place:?}, first {first:?}")?)
 }
 
-fn places_of(alloc: Global, words: &[u8]) -> Result<BTreeMap<Key, u32>, Fault> {
+fn places_in(alloc: Global, key: &Key, words: &[u8]) -> Result<(Option<u32>, Option<u32>), Fault> {
     let mut places = BTreeMap::new(alloc);
-    for (word, place) in words.split(|byte| *byte == b' ').zip(1..) {
+    put_places(&mut places, words)?;
+    let first = places.first_key_value().map(|(_, place)| *place);
+    Ok((places.get(key).copied(), first))
+}
+
+/// Puts each key into a map, with its place.
+fn put_places(places: &mut BTreeMap<Key, u32>, words: &[u8]) -> Result<(), Fault> {
+    for (word, place) in words.split(is_space).zip(1..) {
         places.insert(key_of(word)?, place)?;
     }
-    Ok(places)
+    Ok(())
 }

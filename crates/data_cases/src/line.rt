@@ -46,65 +46,92 @@ impl Data {
 
     fn forget(&mut self, alloc: Global) {
         self.catalog = Catalog::new(alloc);
+        self.forget_scores(alloc);
+    }
+
+    fn forget_scores(&mut self, alloc: Global) {
         self.scorer = MemScorer::new(alloc);
     }
 
     /// Makes an index, and forgets what was written for it.
-    fn tell_made(&mut self, alloc: Global, rest: &[u8]) -> Result<String, Fault> {
-        let told = tell_made(alloc, &mut self.catalog, &mut self.scorer, rest)?;
-        self.scorer = MemScorer::new(alloc);
-        Ok(told)
+    fn tell_made(&mut self, alloc: Global, rest: &[u8], told: &mut String) -> Result<(), Fault> {
+        let answer = tell_made(alloc, &mut self.catalog, &mut self.scorer, rest, told);
+        self.forget_scores(alloc);
+        answer
     }
 
     /// What is asked of the catalogue, or of none.
-    fn tell(&mut self, alloc: Global, word: &[u8], rest: &[u8]) -> Result<String, Fault> {
+    fn tell(
+        &mut self,
+        alloc: Global,
+        word: &[u8],
+        rest: &[u8],
+        told: &mut String,
+    ) -> Result<(), Fault> {
         match word {
-            b"index" => self.tell_made(alloc, rest),
-            b"find-table" => tell_table(alloc, &self.catalog, rest),
-            b"find-predicate" => tell_predicate(alloc, &self.catalog, rest),
-            b"find-index" => tell_index(alloc, &self.catalog, rest),
-            b"room" => tell_room(alloc, &self.catalog, rest),
-            b"index-for" => tell_index_for(alloc, &self.catalog, rest),
-            b"scan-table" => tell_table_scan(alloc, &self.catalog, rest),
-            b"scan-index" => tell_index_scan(alloc, &self.catalog, rest),
-            _ => answer(alloc, word, rest),
+            b"index" => self.tell_made(alloc, rest, told),
+            b"find-table" => tell_table(alloc, &self.catalog, rest, told),
+            b"find-predicate" => tell_predicate(alloc, &self.catalog, rest, told),
+            b"find-index" => tell_index(alloc, &self.catalog, rest, told),
+            b"room" => tell_room(alloc, &self.catalog, rest, told),
+            b"index-for" => tell_index_for(alloc, &self.catalog, rest, told),
+            b"scan-table" => tell_table_scan(alloc, &self.catalog, rest, told),
+            b"scan-index" => tell_index_scan(alloc, &self.catalog, rest, told),
+            _ => tell_ranks(alloc, word, rest, told),
         }
+    }
+
+    /// Does what a line says, and tells its answer, if it has one.
+    fn tell_line(&mut self, alloc: Global, line: &[u8], told: &mut String) -> Result<(), Fault> {
+        let (word, rest) = cut_word(line);
+        if self.prepare(alloc, word, rest)? {
+            return Ok(());
+        }
+        told.push_str("  ")?;
+        self.tell(alloc, word, rest, told)?;
+        Ok(told.push_str("\n")?)
     }
 }
 
 impl Cases for Data {
     fn answer(&mut self, alloc: Global, line: &[u8]) -> Result<String, Fault> {
-        let (word, rest) = cut_word(line);
-        if self.prepare(alloc, word, rest)? {
-            return Ok(String::new(alloc));
-        }
-        told_line(alloc, self.tell(alloc, word, rest)?)
+        let mut told = String::new(alloc);
+        self.tell_line(alloc, line, &mut told)?;
+        Ok(told)
     }
 }
 
-/// The line that tells an answer.
-fn told_line(alloc: Global, answer: String) -> Result<String, Fault> {
-    Ok(format!(in alloc; "  {answer}\n")?)
+/// What is asked of scores, masks and weights, or of others.
+fn tell_ranks(alloc: Global, word: &[u8], rest: &[u8], told: &mut String) -> Result<(), Fault> {
+    match word {
+        b"sort" => tell_sorted(alloc, rest, told),
+        b"answers" => tell_answers(alloc, rest, told),
+        b"mask" => tell_mask(rest, told),
+        b"has" => tell_has(rest, told),
+        b"masks" => tell_masks(rest, told),
+        b"rest" => tell_rest(rest, told),
+        _ => tell_order(alloc, word, rest, told),
+    }
 }
 
-/// What is asked of no catalogue.
-fn answer(alloc: Global, word: &[u8], rest: &[u8]) -> Result<String, Fault> {
+/// What is asked of keys and of the answers of cores, or of queues.
+fn tell_order(alloc: Global, word: &[u8], rest: &[u8], told: &mut String) -> Result<(), Fault> {
     match word {
-        b"sort" => tell_sorted(alloc, rest),
-        b"answers" => tell_answers(alloc, rest),
-        b"mask" => tell_mask(alloc, rest),
-        b"has" => tell_has(alloc, rest),
-        b"masks" => tell_masks(alloc, rest),
-        b"rest" => tell_rest(alloc, rest),
-        b"keys" => tell_keys(alloc, rest),
-        b"find" => tell_place(alloc, rest),
-        b"asks" => tell_asks(alloc),
-        b"join-asks" => tell_join_asks(alloc),
-        b"queue" => tell_queue(alloc, rest),
-        b"key-queue" => tell_key_queue(alloc, rest),
-        b"key-held" => tell_held(alloc, rest),
-        b"steps" => tell_steps(alloc, rest),
-        b"numbers" => tell_numbers(alloc, rest),
+        b"keys" => tell_keys(alloc, rest, told),
+        b"find" => tell_place(alloc, rest, told),
+        b"asks" => tell_asks(told),
+        b"join-asks" => tell_join_asks(told),
+        _ => tell_queues(alloc, word, rest, told),
+    }
+}
+
+fn tell_queues(alloc: Global, word: &[u8], rest: &[u8], told: &mut String) -> Result<(), Fault> {
+    match word {
+        b"queue" => tell_queue(alloc, rest, told),
+        b"key-queue" => tell_key_queue(alloc, rest, told),
+        b"key-held" => tell_held(alloc, rest, told),
+        b"steps" => tell_steps(alloc, rest, told),
+        b"numbers" => tell_numbers(alloc, rest, told),
         _ => Err(Fault::Form),
     }
 }

@@ -1,6 +1,6 @@
 //! What is asked of queues.
 
-use crate::keys::{key_of, keys_of};
+use crate::keys::{is_space, key_of, keys_of};
 use case_lines::{Fault, count_of, cut_at, cut_word, number_of, numbers_of, text_of};
 use rs_queue::Queue;
 use rs_rank::Key;
@@ -21,19 +21,23 @@ fn put<K: Ord + Drop, V: Drop>(queue: &mut Queue<K, V>, key: K, item: V) -> Resu
 /// The queue of these keys, each with its place among them, from 1. Of equal keys it has the first.
 fn queue_of<K: Ord + Copy + Drop>(alloc: Global, keys: &[K]) -> Result<Queue<K, u64>, Memory> {
     let mut queue = Queue::new(alloc);
-    for (key, place) in keys.iter().zip(1..) {
-        put(&mut queue, *key, place)?;
-    }
+    put_all(&mut queue, keys)?;
     Ok(queue)
 }
 
-/// What the queue of these keys has, and what it gives.
-pub fn tell_queue(alloc: Global, words: &[u8]) -> Result<String, Fault> {
+fn put_all<K: Ord + Copy + Drop>(queue: &mut Queue<K, u64>, keys: &[K]) -> Result<(), Memory> {
+    for (key, place) in keys.iter().zip(1..) {
+        put(queue, *key, place)?;
+    }
+    Ok(())
+}
+
+/// Tells what the queue of these keys has, and what it gives.
+pub fn tell_queue(alloc: Global, words: &[u8], told: &mut String) -> Result<(), Fault> {
     let keys = numbers_of(alloc, words)?;
     let mut queue = queue_of(alloc, &keys)?;
-    let mut told = String::new(alloc);
-    tell_pairs(&mut queue, &mut told)?;
-    Ok(told)
+    drop(keys);
+    Ok(tell_pairs(&mut queue, told)?)
 }
 
 fn tell_pairs(queue: &mut Queue<u64, u64>, told: &mut String) -> Result<(), AllocError> {
@@ -65,17 +69,23 @@ fn is_held(queue: &Queue<u64, u64>, key: Option<u64>) -> bool {
     }
 }
 
-/// What the queue of these keys gives.
-pub fn tell_key_queue(alloc: Global, words: &[u8]) -> Result<String, Fault> {
+/// Tells what the queue of these keys gives.
+pub fn tell_key_queue(alloc: Global, words: &[u8], told: &mut String) -> Result<(), Fault> {
+    let mut queue = queue_of_keys(alloc, words)?;
+    Ok(tell_key_pairs(&mut queue, told)?)
+}
+
+fn queue_of_keys(alloc: Global, words: &[u8]) -> Result<Queue<Key, u64>, Fault> {
     let keys = keys_of(alloc, words)?;
-    let mut queue = queue_of(alloc, &keys)?;
-    let mut told = String::new(alloc);
+    Ok(queue_of(alloc, &keys)?)
+}
+
+fn tell_key_pairs(queue: &mut Queue<Key, u64>, told: &mut String) -> Result<(), AllocError> {
     for _ in 0..queue.len() {
-        tell_key(&mut queue, &mut told)?;
+        tell_key(queue, told)?;
     }
     let is_empty = queue.is_empty();
-    write!(told, "{is_empty}")?;
-    Ok(told)
+    write!(told, "{is_empty}")
 }
 
 /// Takes the first pair out, and tells the key that came first and the item.
@@ -90,25 +100,33 @@ fn tell_key(queue: &mut Queue<Key, u64>, told: &mut String) -> Result<(), AllocE
     Ok(())
 }
 
-/// Whether the queue of the other keys has the first one.
-pub fn tell_held(alloc: Global, words: &[u8]) -> Result<String, Fault> {
+/// Tells whether the queue of the other keys has the first one.
+pub fn tell_held(alloc: Global, words: &[u8], told: &mut String) -> Result<(), Fault> {
     let (key, words) = cut_word(words);
     let key = key_of(key)?;
-    let keys = keys_of(alloc, words)?;
-    let is_held = queue_of(alloc, &keys)?.has_key(&key);
-    Ok(format!(in alloc; "{is_held}")?)
+    let queue = queue_of_keys(alloc, words)?;
+    let is_held = queue.has_key(&key);
+    drop(queue);
+    Ok(write!(told, "{is_held}")?)
 }
 
-/// What steps do to a queue of texts.
-pub fn tell_steps(alloc: Global, words: &[u8]) -> Result<String, Fault> {
+/// Tells what steps do to a queue of texts.
+pub fn tell_steps(alloc: Global, words: &[u8], told: &mut String) -> Result<(), Fault> {
     let mut queue = Queue::new(alloc);
-    let mut told = String::new(alloc);
-    for word in words.split(|byte| *byte == b' ') {
-        tell_step(alloc, word, &mut queue, &mut told)?;
+    tell_all_steps(alloc, words, &mut queue, told)
+}
+
+fn tell_all_steps(
+    alloc: Global,
+    words: &[u8],
+    queue: &mut Queue<u64, Text>,
+    told: &mut String,
+) -> Result<(), Fault> {
+    for word in words.split(is_space) {
+        tell_step(alloc, word, queue, told)?;
     }
     let is_empty = queue.is_empty();
-    write!(told, "{is_empty}")?;
-    Ok(told)
+    Ok(write!(told, "{is_empty}")?)
 }
 
 fn tell_step(
@@ -119,7 +137,7 @@ fn tell_step(
 ) -> Result<(), Fault> {
     match cut_at(word, b'=') {
         Some((key, text)) => {
-            put(queue, number_of(key)?, text_of(alloc, text)?)?;
+            put_text(alloc, queue, key, text)?;
             let first = queue.peek();
             Ok(write!(told, "{first:?}; ")?)
         }
@@ -127,15 +145,28 @@ fn tell_step(
     }
 }
 
+fn put_text(
+    alloc: Global,
+    queue: &mut Queue<u64, Text>,
+    key: &[u8],
+    text: &[u8],
+) -> Result<(), Fault> {
+    let key = number_of(key)?;
+    let text = text_of(alloc, text)?;
+    Ok(put(queue, key, text)?)
+}
+
 /// Takes the first pair out, and tells its text.
 fn tell_text(queue: &mut Queue<u64, Text>, told: &mut String) -> Result<(), AllocError> {
     match queue.pop() {
-        Some((_, text)) => {
-            told.push_str(text.as_str())?;
-            told.push_str("; ")
-        }
-        None => told.push_str("none; "),
+        Some((_, text)) => push_step(text.as_str(), told),
+        None => push_step("none", told),
     }
+}
+
+fn push_step(text: &str, told: &mut String) -> Result<(), AllocError> {
+    told.push_str(text)?;
+    told.push_str("; ")
 }
 
 /// So many numbers below 5,000.
@@ -157,14 +188,21 @@ fn rising_numbers(alloc: Global, count: u32) -> Result<Vec<u32>, Memory> {
     Ok(numbers)
 }
 
-/// Whether the queue of so many numbers gives them as a sort does, and how many it gives.
-pub fn tell_numbers(alloc: Global, word: &[u8]) -> Result<String, Fault> {
+/// Tells whether the queue of so many numbers gives them as a sort does, and how many it gives.
+pub fn tell_numbers(alloc: Global, word: &[u8], told: &mut String) -> Result<(), Fault> {
     let count = count_of(word)?;
     let keys = rising_numbers(alloc, count)?;
-    let mut queue = queue_of(alloc, &numbers(alloc, count)?)?;
+    let mut queue = queue_of_numbers(alloc, count)?;
     let are_given = gives_keys(&mut queue, &keys);
+    drop(queue);
     let given = keys.len();
-    Ok(format!(in alloc; "{are_given} {given}")?)
+    drop(keys);
+    Ok(write!(told, "{are_given} {given}")?)
+}
+
+fn queue_of_numbers(alloc: Global, count: u32) -> Result<Queue<u32, u64>, Memory> {
+    let numbers = numbers(alloc, count)?;
+    queue_of(alloc, &numbers)
 }
 
 /// Whether the queue gives these keys and no more.

@@ -1,6 +1,6 @@
 //! What is asked of scores, masks and weights.
 
-use crate::keys::{ids_of, parts_of};
+use crate::keys::{ids_with, is_space, parts_of};
 use case_lines::{Fault, cut_word, number_of, numbers_of, small_number_of, value_of};
 use rs_rank::{
     Answer, Ask, Ids, JoinAsk, Scored, Weights, are_disjoint, has_number, mask_of, sort_stably,
@@ -34,15 +34,20 @@ pub fn laws_hold_of_rows() {
     stable_is_sorted_by_key();
 }
 
-/// The places of rows of these scores in the stable order.
-pub fn tell_sorted(alloc: Global, words: &[u8]) -> Result<String, Fault> {
-    let rows = sorted(alloc, &rows_of(alloc, words)?)?;
-    let mut told = String::from_str(alloc, "places")?;
-    for row in &rows {
+/// Tells the places of rows of these scores in the stable order.
+pub fn tell_sorted(alloc: Global, words: &[u8], told: &mut String) -> Result<(), Fault> {
+    let rows = rows_of(alloc, words)?;
+    let rows = sorted(alloc, &rows)?;
+    Ok(tell_places(&rows, told)?)
+}
+
+fn tell_places(rows: &[Row], told: &mut String) -> Result<(), AllocError> {
+    told.push_str("places")?;
+    for row in rows {
         let place = row.row;
         write!(told, " {place}")?;
     }
-    Ok(told)
+    Ok(())
 }
 
 /// The rows in the stable order.
@@ -62,15 +67,20 @@ fn rows_of(alloc: Global, words: &[u8]) -> Result<Vec<Row>, Fault> {
     Ok(rows)
 }
 
-/// The answers in the stable order.
-pub fn tell_answers(alloc: Global, words: &[u8]) -> Result<String, Fault> {
-    let mut answers = answers_of(alloc, words)?;
-    sort_stably(&mut answers)?;
-    let mut told = String::from_str(alloc, "answers")?;
-    for answer in &answers {
-        tell_answer(answer, &mut told)?;
+/// Tells the answers in the stable order.
+pub fn tell_answers(alloc: Global, words: &[u8], told: &mut String) -> Result<(), Fault> {
+    let mut answers = Vec::new(alloc);
+    read_answers(alloc, words, &mut answers)?;
+    sort_and_tell(&mut answers, told)
+}
+
+fn sort_and_tell(answers: &mut Vec<Answer>, told: &mut String) -> Result<(), Fault> {
+    sort_stably(answers)?;
+    told.push_str("answers")?;
+    for answer in answers.as_slice() {
+        tell_answer(answer, told)?;
     }
-    Ok(told)
+    Ok(())
 }
 
 fn tell_answer(answer: &Answer, told: &mut String) -> Result<(), AllocError> {
@@ -80,12 +90,11 @@ fn tell_answer(answer: &Answer, told: &mut String) -> Result<(), AllocError> {
     write!(told, "; {score} {ids:?} {count}")
 }
 
-fn answers_of(alloc: Global, words: &[u8]) -> Result<Vec<Answer>, Fault> {
-    let mut answers = Vec::new(alloc);
-    for word in words.split(|byte| *byte == b' ') {
-        answers.push(answer_of(alloc, word)?)?;
+fn read_answers(alloc: Global, words: &[u8], into: &mut Vec<Answer>) -> Result<(), Fault> {
+    for word in words.split(is_space) {
+        into.push(answer_of(alloc, word)?)?;
     }
-    Ok(answers)
+    Ok(())
 }
 
 /// The answer that a word stands for: `SCORE:BLOCK:MASK:ROW.ROW..:VALUE,VALUE..`.
@@ -93,19 +102,20 @@ fn answer_of(alloc: Global, word: &[u8]) -> Result<Answer, Fault> {
     let (score, word) = parts_of(word)?;
     let score = number_of(score)?;
     let (ids, values) = ids_and_values_of(word)?;
+    let values = values_of(alloc, values)?;
     Ok(Answer {
         ids,
         score,
-        values: List::of(values_of(alloc, values)?),
+        values: List::of(values),
     })
 }
 
-/// The ids in front of the last `:`, and the word of the values behind it.
+/// The ids in front of the third `:`, and the word of the values behind it.
 fn ids_and_values_of(word: &[u8]) -> Result<(Ids, &[u8]), Fault> {
-    let Some(at) = word.iter().rposition(|byte| *byte == b':') else {
-        return Err(Fault::Form);
-    };
-    Ok((ids_of(&word[..at])?, &word[at + 1..]))
+    let (block, word) = parts_of(word)?;
+    let (mask, word) = parts_of(word)?;
+    let (rows, values) = parts_of(word)?;
+    Ok((ids_with(block, mask, rows)?, values))
 }
 
 fn values_of(alloc: Global, word: &[u8]) -> Result<Vec<Value>, Fault> {
@@ -119,18 +129,18 @@ fn values_of(alloc: Global, word: &[u8]) -> Result<Vec<Value>, Fault> {
     Ok(values)
 }
 
-/// The mask of a number.
-pub fn tell_mask(alloc: Global, word: &[u8]) -> Result<String, Fault> {
+/// Tells the mask of a number.
+pub fn tell_mask(word: &[u8], told: &mut String) -> Result<(), Fault> {
     let number = small_number_of(word)?;
     if number < 1 || number > 8 {
         return Err(Fault::Form);
     }
     let mask = mask_of(number);
-    Ok(format!(in alloc; "{mask}")?)
+    Ok(write!(told, "{mask}")?)
 }
 
-/// Whether a mask has a number.
-pub fn tell_has(alloc: Global, words: &[u8]) -> Result<String, Fault> {
+/// Tells whether a mask has a number.
+pub fn tell_has(words: &[u8], told: &mut String) -> Result<(), Fault> {
     let (mask, number) = cut_word(words);
     let mask = small_number_of(mask)?;
     let number = small_number_of(number)?;
@@ -138,17 +148,17 @@ pub fn tell_has(alloc: Global, words: &[u8]) -> Result<String, Fault> {
         return Err(Fault::Form);
     }
     let has = has_number(mask, number);
-    Ok(format!(in alloc; "{has}")?)
+    Ok(write!(told, "{has}")?)
 }
 
-/// The union of two masks, and whether they have no number in common.
-pub fn tell_masks(alloc: Global, words: &[u8]) -> Result<String, Fault> {
+/// Tells the union of two masks, and whether they have no number in common.
+pub fn tell_masks(words: &[u8], told: &mut String) -> Result<(), Fault> {
     let (left, right) = cut_word(words);
     let left = small_number_of(left)?;
     let right = small_number_of(right)?;
     let both = union(left, right);
     let apart = are_disjoint(left, right);
-    Ok(format!(in alloc; "{both} {apart}")?)
+    Ok(write!(told, "{both} {apart}")?)
 }
 
 /// Two terms of weights 1 and 2, at most 10 and 100.
@@ -163,8 +173,8 @@ const GREATEST: Weights = Weights {
     max: [u32::MAX; 8],
 };
 
-/// What the terms outside a mask give at most.
-pub fn tell_rest(alloc: Global, words: &[u8]) -> Result<String, Fault> {
+/// Tells what the terms outside a mask give at most.
+pub fn tell_rest(words: &[u8], told: &mut String) -> Result<(), Fault> {
     let (weights, terms) = cut_word(words);
     let terms = small_number_of(terms)?;
     let rest = match weights {
@@ -172,35 +182,39 @@ pub fn tell_rest(alloc: Global, words: &[u8]) -> Result<String, Fault> {
         b"greatest" => GREATEST.rest(terms),
         _ => return Err(Fault::Form),
     };
-    Ok(format!(in alloc; "{rest}")?)
+    Ok(write!(told, "{rest}")?)
 }
 
-/// Which answers of the core of an operator are equal.
-pub fn tell_asks(alloc: Global) -> Result<String, Fault> {
-    Ok(equal_ones(alloc, &[Ask::Need, Ask::Ready, Ask::End])?)
+/// Tells which answers of the core of an operator are equal.
+pub fn tell_asks(told: &mut String) -> Result<(), Fault> {
+    Ok(tell_equal_ones(&[Ask::Need, Ask::Ready, Ask::End], told)?)
 }
 
-/// Which answers of the core of a join are equal.
-pub fn tell_join_asks(alloc: Global) -> Result<String, Fault> {
+/// Tells which answers of the core of a join are equal.
+pub fn tell_join_asks(told: &mut String) -> Result<(), Fault> {
     let asks = [
         JoinAsk::NeedLeft,
         JoinAsk::NeedRight,
         JoinAsk::Ready,
         JoinAsk::End,
     ];
-    Ok(equal_ones(alloc, &asks)?)
+    Ok(tell_equal_ones(&asks, told)?)
 }
 
-/// Which of these are equal, each with each.
-fn equal_ones<T: PartialEq>(alloc: Global, items: &[T]) -> Result<String, AllocError> {
-    let mut told = String::new(alloc);
+/// Tells which of these are equal, each with each.
+fn tell_equal_ones<T: PartialEq>(items: &[T], told: &mut String) -> Result<(), AllocError> {
     let mut between = "";
     for item in items {
         told.push_str(between)?;
-        for other in items {
-            told.push_str(if item == other { "=" } else { "!" })?;
-        }
+        tell_equal_to(item, items, told)?;
         between = " ";
     }
-    Ok(told)
+    Ok(())
+}
+
+fn tell_equal_to<T: PartialEq>(item: &T, items: &[T], told: &mut String) -> Result<(), AllocError> {
+    for other in items {
+        told.push_str(if item == other { "=" } else { "!" })?;
+    }
+    Ok(())
 }

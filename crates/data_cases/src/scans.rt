@@ -3,7 +3,8 @@
 ghost use Rattle.std.specs.Prelude.{◌≡◌, ◌≤◌, ◌<◌, length};
 ghost use Rattle.rs_scan.specs.Scans.{IsOfAllRows};
 
-use case_lines::{Fault, count_of, cut_word, small_number_of, text_of};
+use crate::indexes::number_in;
+use case_lines::{Fault, count_of, cut_word, small_number_of};
 use rs_catalog::{Catalog, What};
 use rs_rank::RankRow;
 use rs_scan::{RankScan, SeqScan};
@@ -39,55 +40,55 @@ fn drawing_of(words: &[u8]) -> Result<Drawing, Fault> {
     })
 }
 
-/// The rows that a scan of a table gives: `NAME ENTRY BLOCK COUNT`.
-pub fn tell_table_scan(alloc: Global, catalog: &Catalog, words: &[u8]) -> Result<String, Fault> {
+/// Tells the rows that a scan of a table gives: `NAME ENTRY BLOCK COUNT`.
+pub fn tell_table_scan(
+    alloc: Global,
+    catalog: &Catalog,
+    words: &[u8],
+    told: &mut String,
+) -> Result<(), Fault> {
     let (name, words) = cut_word(words);
     let drawing = drawing_of(words)?;
-    let name = text_of(alloc, name)?;
-    match catalog.find(What::Table, &name) {
-        Some(table) => Ok(tell_rows(alloc, catalog.table(table).len(), drawing)?),
-        None => Err(Fault::Form),
-    }
+    let table = number_in(alloc, catalog, What::Table, name)?;
+    Ok(tell_rows(catalog.table(table).len(), drawing, told)?)
 }
 
-fn tell_rows(alloc: Global, rows: u32, drawing: Drawing) -> Result<String, AllocError> {
+fn tell_rows(rows: u32, drawing: Drawing, told: &mut String) -> Result<(), AllocError> {
     let mut scan = SeqScan::new(drawing.entry, drawing.block, rows);
-    let mut told = String::new(alloc);
     for _ in 0..drawing.count {
-        tell_row(scan.next(), &mut told)?;
+        tell_row(scan.next(), told)?;
     }
-    tell_drawn(scan.drawn(), &mut told)?;
-    Ok(told)
+    tell_drawn(scan.drawn(), told)
 }
 
-/// The rows that a scan of a rank index gives, for a term of this weight: `NAME WEIGHT ENTRY BLOCK COUNT`.
-pub fn tell_index_scan(alloc: Global, catalog: &Catalog, words: &[u8]) -> Result<String, Fault> {
+/// Tells the rows that a scan of a rank index gives, for a term of this weight: `NAME WEIGHT ENTRY BLOCK COUNT`.
+pub fn tell_index_scan(
+    alloc: Global,
+    catalog: &Catalog,
+    words: &[u8],
+    told: &mut String,
+) -> Result<(), Fault> {
     let (name, words) = cut_word(words);
     let (weight, words) = cut_word(words);
     let weight = count_of(weight)?;
     let drawing = drawing_of(words)?;
-    let name = text_of(alloc, name)?;
-    match catalog.find(What::Index, &name) {
-        Some(index) => Ok(tell_ranking(alloc, catalog, index, weight, drawing)?),
-        None => Err(Fault::Form),
-    }
+    let index = number_in(alloc, catalog, What::Index, name)?;
+    Ok(tell_ranking(catalog, index, weight, drawing, told)?)
 }
 
 fn tell_ranking(
-    alloc: Global,
     catalog: &Catalog,
     index: u8,
     weight: u32,
     drawing: Drawing,
-) -> Result<String, AllocError>
+    told: &mut String,
+) -> Result<(), AllocError>
     requires { index < length catalog.now.indexes }
 {
     let rows = catalog.table(catalog.index(index).table).len();
     let mut scan = RankScan::new(index, drawing.entry, drawing.block, weight, rows);
-    let mut told = String::new(alloc);
-    draw(catalog, &mut scan, drawing.count, &mut told)?;
-    tell_drawn(scan.drawn(), &mut told)?;
-    Ok(told)
+    draw(catalog, &mut scan, drawing.count, told)?;
+    tell_drawn(scan.drawn(), told)
 }
 
 /// Draws so many rows, and tells each.

@@ -70,8 +70,13 @@ fn tell_token(token: &Token, told: &mut String) -> Result<(), AllocError> {
 fn tell_lexemes(alloc: Global, script: &Text, tokens: &[Token]) -> Result<String, Fault>
     requires { IsFront script.now tokens.now }
 {
+    let lexemes = lexemes(alloc, script, tokens)?;
+    told_lexemes(alloc, &lexemes)
+}
+
+fn told_lexemes(alloc: Global, lexemes: &[Lexeme]) -> Result<String, Fault> {
     let mut told = String::from_str(alloc, "lexemes")?;
-    for lexeme in &lexemes(alloc, script, tokens)? {
+    for lexeme in lexemes {
         tell_lexeme(lexeme, &mut told)?;
     }
     Ok(told)

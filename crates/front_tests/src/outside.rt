@@ -39,6 +39,23 @@ fn add_two_files(files: &mut MemFiles, alloc: Global) -> Result<(), Fail> {
 /// A name, a limit, what the fetch answers, and what the buffer then holds, which held `>`.
 type Fetch = (&'static str, usize, Result<(), FetchFault>, &'static str);
 
+/// Fetches a file, and compares.
+fn assert_fetch(
+    rt: &impl Abort,
+    alloc: Global,
+    files: &mut MemFiles,
+    row: &Fetch,
+) -> Result<(), Fail> {
+    let (name, limit, answer, bytes) = *row;
+    let mut into = b">".to_vec(alloc)?;
+    let got = fetch(files, alloc, name, limit, &mut into)?;
+    assert!(rt;
+        got == answer && into.as_slice() == bytes.as_bytes(),
+        "at {name}, {limit}"
+    );
+    Ok(())
+}
+
 /// Fetches from the two files, and compares.
 fn assert_fetches(
     rt: &impl Abort,
@@ -46,11 +63,8 @@ fn assert_fetches(
     files: &mut MemFiles,
     rows: &[Fetch],
 ) -> Result<(), Fail> {
-    for (name, limit, answer, bytes) in rows {
-        let mut into = b">".to_vec(alloc)?;
-        let got = fetch(files, alloc, name, *limit, &mut into)?;
-        assert_eq!(rt; got, *answer, "at {name}, {limit}");
-        assert_eq!(rt; into.as_slice(), bytes.as_bytes(), "at {name}, {limit}");
+    for row in rows {
+        assert_fetch(rt, alloc, files, row)?;
     }
     Ok(())
 }
@@ -126,12 +140,17 @@ fn sink_failing(alloc: Global, call: u32, after: usize) -> Result<MemSink, Fail>
     Ok(sink)
 }
 
+fn assert_taken(rt: &impl Abort, sink: &mut MemSink, failed: u32, bytes: &str) -> Result<(), Fail> {
+    assert_puts(rt, sink, failed)?;
+    assert_eq!(rt; sink.bytes(), bytes.as_bytes());
+    Ok(())
+}
+
 #[test]
 fn puts_into_memory(rt: HostRuntime) -> Result<(), Fail> {
-    for (call, after, failed, bytes) in PUTS {
-        let mut sink = sink_failing(rt.alloc(), call, after)?;
-        assert_puts(&rt, &mut sink, failed)?;
-        assert_eq!(rt; sink.bytes(), bytes.as_bytes(), "at {call}, {after}");
+    for (call, after, failed, bytes) in &PUTS {
+        let mut sink = sink_failing(rt.alloc(), *call, *after)?;
+        assert_taken(&rt, &mut sink, *failed, bytes)?;
     }
     Ok(())
 }
@@ -173,8 +192,7 @@ fn assert_length<F: Files>(
 ) -> Result<(), Fail> {
     let mut into = b">".to_vec(alloc)?;
     let got = fetch(files, alloc, name, limit, &mut into)?;
-    assert_eq!(rt; got, answer, "at {name}, {limit}");
-    assert_eq!(rt; into.len(), length, "at {name}, {limit}");
+    assert!(rt; got == answer && into.len() == length, "at {name}, {limit}");
     Ok(())
 }
 
@@ -255,8 +273,11 @@ fn assert_narrow(
     bytes: &str,
 ) -> Result<(), Fail> {
     assert_puts(rt, &mut OutSink::new(&mut *writer), failed)?;
-    assert_eq!(rt; writer.taken.as_slice(), bytes.as_bytes());
-    assert_eq!(rt; writer.flushes, flushes);
+    let taken = writer.taken.as_slice();
+    assert!(rt;
+        taken == bytes.as_bytes() && writer.flushes == flushes,
+        "{bytes}"
+    );
     Ok(())
 }
 
@@ -274,10 +295,15 @@ fn puts_through_a_narrow_writer(rt: HostRuntime) -> Result<(), Fail> {
     Ok(())
 }
 
+/// Writes a line in three pieces.
+fn assert_line<S: Sink>(rt: &impl Abort, sink: &mut S) -> Result<(), Fail> {
+    let pieces = [b"rs_outside ".as_slice(), b"", b"writes\n"];
+    assert_eq!(rt; put_all(sink, &pieces)?, 0);
+    Ok(())
+}
+
 #[test]
 fn puts_on_the_streams(rt: HostRuntime) -> Result<(), Fail> {
-    let pieces = [b"rs_outside ".as_slice(), b"", b"writes\n"];
-    assert_eq!(rt; put_all(&mut OutSink::output(&rt), &pieces)?, 0);
-    assert_eq!(rt; put_all(&mut OutSink::error(&rt), &pieces)?, 0);
-    Ok(())
+    assert_line(&rt, &mut OutSink::output(&rt))?;
+    assert_line(&rt, &mut OutSink::error(&rt))
 }

@@ -60,9 +60,12 @@ fn assert_answers<S: Scorer>(
 fn assert_calls(rt: &impl Abort, calls: &[Call], name: &[u8], answers: &[Answer]) {
     assert_eq!(rt; calls.len(), answers.len());
     for (call, answer) in calls.iter().zip(answers) {
-        assert_eq!(rt; call.predicate.bytes(), name);
-        assert_eq!(rt; only_number(call), Some(i64::from(answer.0)));
+        assert!(rt; is_call(call, name, answer.0));
     }
+}
+
+fn is_call(call: &Call, name: &[u8], number: u8) -> bool {
+    call.predicate.bytes() == name && only_number(call) == Some(i64::from(number))
 }
 
 /// The number of a call that has no other argument.
@@ -73,12 +76,16 @@ fn only_number(call: &Call) -> Option<i64> {
     }
 }
 
-/// Asserts the parts of such a predicate, but for its formula.
+/// Asserts the parts of such a predicate.
 fn assert_parts(rt: &impl Abort, predicate: &Predicate, name: &[u8]) {
     assert_eq!(rt; predicate.name().bytes(), name);
-    assert_eq!(rt; predicate.params(), [Kind::Int].as_slice());
+    assert!(rt; is_of_a_number(predicate.params()) && is_sum(predicate.formula()));
     assert_eq!(rt; predicate.max(), 100);
     assert_eq!(rt; predicate.cost(), 5);
+}
+
+fn is_of_a_number(params: &[Kind]) -> bool {
+    matches!(params, [Kind::Int])
 }
 
 fn is_sum(formula: &Expr) -> bool {
@@ -89,18 +96,34 @@ fn is_sum(formula: &Expr) -> bool {
 fn gives_the_parts_of_a_predicate(rt: HostRuntime) -> Result<(), Fail> {
     let near = doubling(rt.alloc(), b"near")?;
     assert_parts(&rt, &near, b"near");
-    assert!(rt; is_sum(near.formula()));
     Ok(())
 }
 
 /// The values of the formula. The last one lies above the greatest score.
 const OF_FORMULA: [Answer; 4] = [(0, Ok(1)), (7, Ok(15)), (7, Ok(15)), (255, Ok(511))];
 
+/// Asserts what a scorer answers for a predicate of this name.
+fn assert_of_name<S: Scorer>(
+    rt: &impl Abort,
+    alloc: Global,
+    scorer: &mut S,
+    name: &[u8],
+    answers: &[Answer],
+) -> Result<(), Fail> {
+    let predicate = doubling(alloc, name)?;
+    assert_answers(rt, scorer, &predicate, answers);
+    Ok(())
+}
+
 #[test]
 fn answers_the_value_of_the_formula(rt: HostRuntime) -> Result<(), Fail> {
-    let near = doubling(rt.alloc(), b"near")?;
-    assert_answers(&rt, &mut FormulaScorer::new(), &near, &OF_FORMULA);
-    Ok(())
+    assert_of_name(
+        &rt,
+        rt.alloc(),
+        &mut FormulaScorer::new(),
+        b"near",
+        &OF_FORMULA,
+    )
 }
 
 /// Asserts what a scorer answers for one name, and that these are its calls.
@@ -110,8 +133,7 @@ fn assert_near(
     scorer: &mut MemScorer,
     answers: &[Answer],
 ) -> Result<(), Fail> {
-    let near = doubling(alloc, b"near")?;
-    assert_answers(rt, scorer, &near, answers);
+    assert_of_name(rt, alloc, scorer, b"near", answers)?;
     assert_calls(rt, scorer.calls(), b"near", answers);
     Ok(())
 }
@@ -126,32 +148,39 @@ fn answers_the_value_where_no_score_is_written(rt: HostRuntime) -> Result<(), Fa
     )
 }
 
+/// Writes the score of a number.
+fn write(scorer: &mut MemScorer, alloc: Global, number: i64, score: i128) -> Result<(), Fail> {
+    let near = text(alloc, b"near")?;
+    Ok(scorer.set(&near, &[Value::Int(number)], score)?)
+}
+
+/// Writes 90 for the text `9`.
+fn write_of_text(scorer: &mut MemScorer, alloc: Global) -> Result<(), Fail> {
+    let near = text(alloc, b"near")?;
+    let nine = Value::Text(text(alloc, b"9")?);
+    Ok(scorer.set(&near, &[nine], 90)?)
+}
+
 /// Writes 70 for 7, over 60, and -3 for 8, and 90 for the text `9`.
 fn write_scores(scorer: &mut MemScorer, alloc: Global) -> Result<(), Fail> {
-    let near = text(alloc, b"near")?;
-    scorer.set(&near, &[Value::Int(7)], 60)?;
-    scorer.set(&near, &[Value::Int(8)], -3)?;
-    scorer.set(&near, &[Value::Int(7)], 70)?;
-    let nine = Value::Text(text(alloc, b"9")?);
-    scorer.set(&near, &[nine], 90)?;
-    Ok(())
+    write(scorer, alloc, 7, 60)?;
+    write(scorer, alloc, 8, -3)?;
+    write(scorer, alloc, 7, 70)?;
+    write_of_text(scorer, alloc)
 }
 
 const WRITTEN: [Answer; 4] = [(7, Ok(70)), (8, Ok(-3)), (9, Ok(19)), (7, Ok(70))];
 
-/// Asserts that the scores are of one name alone.
-fn assert_far(rt: &impl Abort, alloc: Global, scorer: &mut MemScorer) -> Result<(), Fail> {
-    let far = doubling(alloc, b"far")?;
-    assert_answers(rt, scorer, &far, &[(7, Ok(15))]);
-    Ok(())
+/// Asserts what is written, and that the scores are of one name alone.
+fn assert_written(rt: &impl Abort, alloc: Global, scorer: &mut MemScorer) -> Result<(), Fail> {
+    write_scores(scorer, alloc)?;
+    assert_near(rt, alloc, scorer, &WRITTEN)?;
+    assert_of_name(rt, alloc, scorer, b"far", &[(7, Ok(15))])
 }
 
 #[test]
 fn answers_the_last_score_that_is_written(rt: HostRuntime) -> Result<(), Fail> {
-    let mut scorer = MemScorer::new(rt.alloc());
-    write_scores(&mut scorer, rt.alloc())?;
-    assert_near(&rt, rt.alloc(), &mut scorer, &WRITTEN)?;
-    assert_far(&rt, rt.alloc(), &mut scorer)
+    assert_written(&rt, rt.alloc(), &mut MemScorer::new(rt.alloc()))
 }
 
 /// The second and the fourth call are planned to fail.
@@ -164,8 +193,7 @@ const PLANNED: [Answer; 5] = [
 ];
 
 fn plan(scorer: &mut MemScorer, alloc: Global) -> Result<(), Fail> {
-    let near = text(alloc, b"near")?;
-    scorer.set(&near, &[Value::Int(7)], 70)?;
+    write(scorer, alloc, 7, 70)?;
     scorer.fail_at(4)?;
     scorer.fail_at(2)?;
     Ok(())

@@ -145,17 +145,21 @@ fn assert_pair<M: Matcher>(
     Ok(())
 }
 
+fn assert_matches(rt: &impl Abort, matcher: &mut BlockMatch<'_>) -> Result<(), Fail> {
+    for pair in &PAIRS {
+        assert_pair(rt, matcher, pair)?;
+    }
+    assert_eq!(rt; matcher.calls(), 12);
+    Ok(())
+}
+
 fn assert_pairs(rt: &impl Abort, alloc: Global, catalog: &Catalog) -> Result<(), Fail>
     requires tables { length catalog.now.tables ≡ 1 }
     requires predicate { HasPredicate catalog.now }
 {
     let block = formed_pair(rt, alloc, catalog, false)?;
     let mut matcher = BlockMatch::new(alloc, catalog, &block, 1, 2);
-    for pair in &PAIRS {
-        assert_pair(rt, &mut matcher, pair)?;
-    }
-    assert_eq!(rt; matcher.calls(), 12);
-    Ok(())
+    assert_matches(rt, &mut matcher)
 }
 
 #[test]

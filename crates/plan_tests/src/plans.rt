@@ -1,6 +1,7 @@
 //! Which trees are plans of a query of two entries and one term, and the order of codes.
 
 ghost use Rattle.std.specs.Prelude.{◌≡◌, length};
+ghost use Rattle.rs_query.specs.WellFormed.{IsQuery};
 ghost use Rattle.plan_tests.specs.Pair.{HasPredicate};
 
 use crate::query::{catalogue, query};
@@ -8,8 +9,9 @@ use crate::tree::Step::{self, Distinct, HashJoin, NestedJoin, Rank, RankScan, Sc
 use crate::tree::tree;
 use rs_catalog::Catalog;
 use rs_plan::{
-    Signature, code_order_is_total, different_plans_have_different_codes, plans_have_numbers,
+    Plan, Signature, code_order_is_total, different_plans_have_different_codes, plans_have_numbers,
 };
+use rs_query::Query;
 use std::alloc::Global;
 use std::cmp::Ordering;
 use std::process::Abort;
@@ -59,7 +61,23 @@ const CASES: [Case; 14] = [
     ),
 ];
 
-/// Asserts of a tree whether it is a plan of the query, with DISTINCT or without.
+/// Asserts of a tree whether it is a plan of the query.
+fn assert_plan(
+    rt: &impl Abort,
+    alloc: Global,
+    catalog: &Catalog,
+    query: &Query,
+    steps: &[Step],
+    want: bool,
+) -> Result<(), Fail>
+    requires { IsQuery catalog.now query.now }
+{
+    let plan = tree(alloc, steps)?;
+    assert_eq!(rt; plan.valid(catalog, query), want, "{steps:?}");
+    Ok(())
+}
+
+/// The same of the query with DISTINCT or without.
 fn assert_case(
     rt: &impl Abort,
     alloc: Global,
@@ -72,12 +90,16 @@ fn assert_case(
     requires predicate { HasPredicate catalog.now }
 {
     let query = query(rt, alloc, catalog, distinct)?;
-    match tree(alloc, steps) {
-        Ok(plan) => assert_eq!(rt; plan.valid(catalog, &query), want, "{steps:?}"),
-        Err(fail) => {
-            drop(query);
-            return Err(fail);
-        }
+    assert_plan(rt, alloc, catalog, &query, steps, want)
+}
+
+fn assert_cases(rt: &impl Abort, alloc: Global, catalog: &Catalog) -> Result<(), Fail>
+    requires tables { length catalog.now.tables ≡ 1 }
+    requires predicate { HasPredicate catalog.now }
+{
+    for (steps, plain, distinct) in &CASES {
+        assert_case(rt, alloc, catalog, steps, false, *plain)?;
+        assert_case(rt, alloc, catalog, steps, true, *distinct)?;
     }
     Ok(())
 }
@@ -85,11 +107,7 @@ fn assert_case(
 #[test]
 fn tells_plans_from_other_trees(rt: HostRuntime) -> Result<(), Fail> {
     let catalog = catalogue(&rt, rt.alloc())?;
-    for (steps, plain, distinct) in &CASES {
-        assert_case(&rt, rt.alloc(), &catalog, steps, false, *plain)?;
-        assert_case(&rt, rt.alloc(), &catalog, steps, true, *distinct)?;
-    }
-    Ok(())
+    assert_cases(&rt, rt.alloc(), &catalog)
 }
 
 /// Trees in the order of their codes.
@@ -104,51 +122,52 @@ const TREES: [&[Step]; 8] = [
     &[Scan(1), Distinct],
 ];
 
-/// Asserts how the codes of two trees compare.
+/// Asserts how the code of a tree compares with that of a second one.
 fn assert_order(
     rt: &impl Abort,
     alloc: Global,
-    first: &[Step],
+    first: &Plan,
     second: &[Step],
     want: Ordering,
 ) -> Result<(), Fail> {
-    let first = tree(alloc, first)?;
-    match tree(alloc, second) {
-        Ok(second) => {
-            assert!(rt; first.has_numbers());
-            assert!(rt; second.has_numbers());
-            assert_eq!(rt; first.cmp_code(&second), want);
-            Ok(())
-        }
-        Err(fail) => {
-            drop(first);
-            Err(fail)
-        }
-    }
+    let second = tree(alloc, second)?;
+    assert!(rt; first.has_numbers());
+    assert!(rt; second.has_numbers());
+    assert_eq!(rt; first.cmp_code(&second), want);
+    Ok(())
 }
 
-#[test]
-fn orders_plans_by_their_codes(rt: HostRuntime) -> Result<(), Fail> {
-    for (i, first) in TREES.iter().enumerate() {
-        for (j, second) in TREES.iter().enumerate() {
-            assert_order(&rt, rt.alloc(), first, second, i.cmp(&j))?;
-        }
+/// Asserts that a tree stands at this place of the order.
+fn assert_place(rt: &impl Abort, alloc: Global, place: usize, steps: &[Step]) -> Result<(), Fail> {
+    let first = tree(alloc, steps)?;
+    for (other, second) in TREES.iter().enumerate() {
+        assert_order(rt, alloc, &first, second, place.cmp(&other))?;
     }
     Ok(())
 }
 
 #[test]
-fn names_entries_and_terms(rt: HostRuntime) -> Result<(), Fail> {
-    let plan = tree(
-        rt.alloc(),
-        &[Scan(3), RankScan(1, 4, 0), NestedJoin, Rank(2)],
-    )?;
+fn orders_plans_by_their_codes(rt: HostRuntime) -> Result<(), Fail> {
+    for (place, steps) in TREES.iter().enumerate() {
+        assert_place(&rt, rt.alloc(), place, steps)?;
+    }
+    Ok(())
+}
+
+fn assert_signature(rt: &impl Abort, plan: &Plan) {
     assert!(rt; plan.has_numbers());
     let signature = Signature {
         entries: 0b101,
         terms: 0b1010,
     };
     assert_eq!(rt; plan.signature(), signature);
+}
+
+#[test]
+fn names_entries_and_terms(rt: HostRuntime) -> Result<(), Fail> {
+    let steps = [Scan(3), RankScan(1, 4, 0), NestedJoin, Rank(2)];
+    let plan = tree(rt.alloc(), &steps)?;
+    assert_signature(&rt, &plan);
     Ok(())
 }
 

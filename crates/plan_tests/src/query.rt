@@ -6,6 +6,7 @@ ghost use Rattle.rs_value.specs.declared.kind.Kind.TheVariants as kind;
 ghost use Rattle.rs_value.specs.declared.rel.Rel.TheVariants.{Eq};
 ghost use Rattle.rs_expr.specs.Formulas.{Argument, Numbers};
 ghost use Rattle.rs_expr.specs.Uses.{is_kind};
+ghost use Rattle.rs_catalog.specs.Catalogue.{empty};
 ghost use Rattle.rs_catalog.specs.declared.index.BoundArg.TheVariants as arg;
 ghost use Rattle.rs_query.specs.WellFormed.{IsBlock, IsFromEntry, IsQuery, column_kind};
 ghost use Rattle.plan_tests.specs.Pair.{ArePair, HasPredicate, IsPair};
@@ -71,14 +72,23 @@ fn add_table(rt: &impl Abort, alloc: Global, catalog: &mut Catalog) -> Result<()
     Ok(catalog.add_table(name, table)?)
 }
 
-/// The table and the predicate.
+/// Adds the predicate and the table.
+fn fill(rt: &impl Abort, alloc: Global, catalog: &mut Catalog) -> Result<(), Fail>
+    requires { catalog.old ≡ empty }
+    ensures tables { IfOk result (λ _. length catalog.new.tables ≡ 1) }
+    ensures predicate { IfOk result (λ _. HasPredicate catalog.new) }
+{
+    add_predicate(rt, alloc, catalog)?;
+    add_table(rt, alloc, catalog)
+}
+
+/// The catalogue of the table and the predicate.
 pub(crate) fn catalogue(rt: &impl Abort, alloc: Global) -> Result<Catalog, Fail>
     ensures tables { IfOk result (λ catalog. length catalog.tables ≡ 1) }
     ensures predicate { IfOk result HasPredicate }
 {
     let mut catalog = Catalog::new(alloc);
-    add_predicate(rt, alloc, &mut catalog)?;
-    add_table(rt, alloc, &mut catalog)?;
+    fill(rt, alloc, &mut catalog)?;
     Ok(catalog)
 }
 
