@@ -23,11 +23,25 @@ fn number(alloc: Global, number: i64) -> Result<Vec<Value>, AllocError>
 fn finds_a_pair_by_its_join_values(rt: HostRuntime) -> Result<(), Fail> {
     let mut matcher = Higher { calls: 0 };
     let mut join = Hrjn::new(rt.alloc(), TWO_TERMS, LEFT, RIGHT);
-    assert_eq!(rt; join.ask(), JoinAsk::NeedLeft);
     join.feed_left(left(1, 10), number(rt.alloc(), 7)?, &mut matcher)?;
     join.feed_right(right(1, 9), number(rt.alloc(), 7)?, &mut matcher)?;
     assert_eq!(rt; matcher.calls, 1);
     assert_eq!(rt; join.ask(), JoinAsk::Ready);
     assert_eq!(rt; join.take(), Some(pair(1, 1, 19)));
+    Ok(())
+}
+
+// The rows don't match, and have other join values: the matcher isn't asked.
+#[test]
+fn asks_the_matcher_of_equal_values_alone(rt: HostRuntime) -> Result<(), Fail> {
+    let mut matcher = Higher { calls: 0 };
+    let mut join = Hrjn::new(rt.alloc(), TWO_TERMS, LEFT, RIGHT);
+    join.feed_left(left(1, 9), number(rt.alloc(), 7)?, &mut matcher)?;
+    join.feed_right(right(1, 9), number(rt.alloc(), 8)?, &mut matcher)?;
+    assert_eq!(rt; matcher.calls, 0);
+    join.left_ended();
+    assert_eq!(rt; join.ask(), JoinAsk::NeedRight);
+    join.right_ended();
+    assert_eq!(rt; join.ask(), JoinAsk::End);
     Ok(())
 }

@@ -1,20 +1,14 @@
 //! What no clause says of the core of a rank join: rows worked by hand, and that memory is granted.
 
-ghost use Rattle.std.specs.Prelude.{◌≡◌, ◌≤◌, ◌+◌, [], ◌∷◌};
+ghost use Rattle.std.specs.Prelude.{◌≡◌, ◌≤◌, ◌+◌, [], ◌∷◌, false};
+ghost use Rattle.rs_ripple.specs.Ripple.{ask_of, left_for};
+ghost use Rattle.join_tests.specs.Cores.{new_core};
 
-use rs_rank::{Ids, JoinAsk, Key, RankRow, Weights};
+use crate::rows::{Higher, LEFT, RIGHT, TWO_TERMS, left as left_row, pair, right as right_row};
+use rs_rank::{Ids, JoinAsk, Key, RankRow};
 use rs_ripple::*;
+use std::process::Abort;
 use std::test::Fail;
-
-// Two terms of weight 1 and at most 10: the first is evaluated on the left side, the second on the right one.
-const TWO_TERMS: Weights = Weights {
-    weight: [1, 1, 0, 0, 0, 0, 0, 0],
-    max: [10, 10, 0, 0, 0, 0, 0, 0],
-};
-
-const LEFT: Side = Side { mask: 1, terms: 1 };
-
-const RIGHT: Side = Side { mask: 2, terms: 2 };
 
 // The key of a left row, by its number: the other term adds 10 at most.
 const fn left(number: u32, worth: u64) -> Key
@@ -52,80 +46,115 @@ const fn right(number: u32, worth: u64) -> Key
     }
 }
 
-// A pair of rows, by their numbers.
-const fn pair(left: u32, right: u32, sum: u64) -> RankRow
-    ensures { result ≡ record {
-      ids = record { block = 1; mask = 3; rows = left ∷ right ∷ 0 ∷ 0 ∷ 0 ∷ 0 ∷ [] };
-      sum = sum;
-    } }
+// Asserts what the join does next.
+fn assert_ask(rt: &impl Abort, core: &RippleCore, want: JoinAsk)
+    requires { core.now.spent ≡ false }
 {
-    RankRow {
-        ids: Ids {
-            block: 1,
-            mask: 3,
-            rows: [left, right, 0, 0, 0, 0],
-        },
-        sum,
-    }
+    assert_eq!(rt; core.ask(), want);
+}
+
+// Asserts which pair is taken.
+fn assert_taken(rt: &impl Abort, core: &mut RippleCore, want: Option<RankRow>)
+    requires { core.old.spent ≡ false }
+    ensures { core.new ≡ left_for (ask_of core.old) core.old }
+{
+    assert_eq!(rt; core.take(), want);
 }
 
 // Equal worths on both sides: of the pairs of 17 that of the earlier left row comes first.
+fn assert_a_pair_once_certain(rt: &impl Abort, core: &mut RippleCore) -> Result<(), Fail>
+    requires { core.old ≡ new_core }
+{
+    assert_ask(rt, core, JoinAsk::NeedLeft);
+    core.left_drawn(left(1, 10));
+    assert_ask(rt, core, JoinAsk::NeedRight);
+    core.right_drawn(right(1, 9));
+    assert_ask(rt, core, JoinAsk::NeedLeft);
+    core.left_drawn(left(2, 8));
+    core.found(pair(2, 1, 17))?;
+    assert_ask(rt, core, JoinAsk::NeedRight);
+    assert_taken(rt, core, None);
+    core.right_drawn(right(2, 7));
+    core.found(pair(1, 2, 17))?;
+    assert_ask(rt, core, JoinAsk::Ready);
+    assert_taken(rt, core, Some(pair(1, 2, 17)));
+    Ok(())
+}
+
 #[test]
 fn gives_a_pair_once_none_can_precede_it(rt: HostRuntime) -> Result<(), Fail> {
     let mut core = RippleCore::new(rt.alloc(), TWO_TERMS, LEFT, RIGHT);
-    assert_eq!(rt; core.ask(), JoinAsk::NeedLeft);
+    assert_a_pair_once_certain(&rt, &mut core)
+}
+
+fn assert_a_pair_at_once(rt: &impl Abort, core: &mut RippleCore) -> Result<(), Fail>
+    requires { core.old ≡ new_core }
+{
     core.left_drawn(left(1, 10));
-    assert_eq!(rt; core.ask(), JoinAsk::NeedRight);
     core.right_drawn(right(1, 9));
-    assert_eq!(rt; core.ask(), JoinAsk::NeedLeft);
-    core.left_drawn(left(2, 8));
-    core.found(pair(2, 1, 17))?;
-    assert_eq!(rt; core.ask(), JoinAsk::NeedRight);
-    assert_eq!(rt; core.take(), None);
-    core.right_drawn(right(2, 7));
-    core.found(pair(1, 2, 17))?;
-    assert_eq!(rt; core.ask(), JoinAsk::Ready);
-    assert_eq!(rt; core.take(), Some(pair(1, 2, 17)));
+    core.found(pair(1, 1, 19))?;
+    assert_taken(rt, core, Some(pair(1, 1, 19)));
+    assert_ask(rt, core, JoinAsk::NeedLeft);
     Ok(())
 }
 
 #[test]
 fn gives_a_pair_of_the_first_rows_at_once(rt: HostRuntime) -> Result<(), Fail> {
     let mut core = RippleCore::new(rt.alloc(), TWO_TERMS, LEFT, RIGHT);
+    assert_a_pair_at_once(&rt, &mut core)
+}
+
+fn assert_what_is_left(rt: &impl Abort, core: &mut RippleCore) -> Result<(), Fail>
+    requires { core.old ≡ new_core }
+{
     core.left_drawn(left(1, 10));
     core.right_drawn(right(1, 9));
-    core.found(pair(1, 1, 19))?;
-    assert_eq!(rt; core.take(), Some(pair(1, 1, 19)));
-    assert_eq!(rt; core.ask(), JoinAsk::NeedLeft);
+    core.left_ended();
+    assert_ask(rt, core, JoinAsk::NeedRight);
+    core.right_drawn(right(2, 4));
+    core.found(pair(1, 2, 14))?;
+    assert_ask(rt, core, JoinAsk::Ready);
+    core.take();
+    core.right_ended();
+    assert_ask(rt, core, JoinAsk::End);
+    assert_taken(rt, core, None);
     Ok(())
 }
 
 #[test]
 fn gives_what_is_left_once_both_sides_ended(rt: HostRuntime) -> Result<(), Fail> {
     let mut core = RippleCore::new(rt.alloc(), TWO_TERMS, LEFT, RIGHT);
-    core.left_drawn(left(1, 10));
-    core.right_drawn(right(1, 9));
-    core.left_ended();
-    assert_eq!(rt; core.ask(), JoinAsk::NeedRight);
-    core.right_drawn(right(2, 4));
-    core.found(pair(1, 2, 14))?;
-    assert_eq!(rt; core.ask(), JoinAsk::Ready);
-    core.take();
-    core.right_ended();
-    assert_eq!(rt; core.ask(), JoinAsk::End);
-    assert_eq!(rt; core.take(), None);
-    Ok(())
+    assert_what_is_left(&rt, &mut core)
 }
 
 #[test]
-fn ends_where_a_side_is_empty(rt: HostRuntime) -> Result<(), Fail> {
+fn ends_where_the_left_side_is_empty(rt: HostRuntime) {
     let mut core = RippleCore::new(rt.alloc(), TWO_TERMS, LEFT, RIGHT);
     core.left_ended();
-    assert_eq!(rt; core.ask(), JoinAsk::End);
+    assert_ask(&rt, &core, JoinAsk::End);
+}
+
+#[test]
+fn ends_where_the_right_side_is_empty(rt: HostRuntime) {
     let mut core = RippleCore::new(rt.alloc(), TWO_TERMS, LEFT, RIGHT);
     core.left_drawn(left(1, 10));
     core.right_ended();
-    assert_eq!(rt; core.ask(), JoinAsk::End);
+    assert_ask(&rt, &core, JoinAsk::End);
+}
+
+// A left row matches a right one of a lesser sum.
+#[test]
+fn tries_a_pair(rt: HostRuntime) -> Result<(), Fail> {
+    let mut matcher = Higher { calls: 0 };
+    let mut core = RippleCore::new(rt.alloc(), TWO_TERMS, LEFT, RIGHT);
+    let key = core.left_key(&left_row(1, 10));
+    core.left_drawn(key);
+    let key = core.right_key(&right_row(1, 9));
+    core.right_drawn(key);
+    core.try_pair(&left_row(1, 10), &right_row(1, 9), &mut matcher)?;
+    assert_eq!(rt; matcher.calls, 1);
+    assert_eq!(rt; core.take(), Some(pair(1, 1, 19)));
+    core.give_up();
     Ok(())
 }
 
@@ -140,4 +169,14 @@ fn laws_hold_of_the_core() {
     schedule_has_the_asks();
     ready_answers_are_certain();
     answers_rise();
+}
+
+#[test]
+fn laws_hold_of_a_join_with_its_rows() {
+    new_join_stands();
+    standing_join_fits();
+    left_row_is_fed();
+    right_row_is_fed();
+    side_of_join_ends();
+    taken_join_stands();
 }

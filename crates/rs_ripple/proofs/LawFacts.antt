@@ -41,13 +41,13 @@ new-stands j lefts rights input = record {
 }
 
 -- no row is at a place behind the last one
-slice_get_none : {X : Type 0} (xs : List X) (n : ℕ) → slice_get xs n ≡ None → length xs ≤ n
+pub slice_get_none : {X : Type 0} (xs : List X) (n : ℕ) → slice_get xs n ≡ None → length xs ≤ n
 slice_get_none [] n e = omega arith
 slice_get_none (x ∷ xs) zero e = cc
 slice_get_none (x ∷ xs) (suc n) e = let le = slice_get_none xs n e in omega arith
 
 -- a side that has one more row, before and after it is asked
-still_open : (j : Join) (key : RankRow → Key) (rows : List RankRow) (i : ℕ) (row : RankRow) → slice_get rows i ≡ Some row → ltb (length (map key rows)) i ≡ ltb (length (map key rows)) (suc i)
+pub still_open : (j : Join) (key : RankRow → Key) (rows : List RankRow) (i : ℕ) (row : RankRow) → slice_get rows i ≡ Some row → ltb (length (map key rows)) i ≡ ltb (length (map key rows)) (suc i)
 still_open j key rows i row e =
     let within = slice_get_within rows i row e in
     let count = length-map rows key in
@@ -81,7 +81,7 @@ module _ (j : Join) (lefts rights : List RankRow) (made : List SideAsk) (count :
   tells-right need = subst (Tells j lefts rights made count) need (stands-tells j lefts rights made count ripple s)
 
   -- the answers given stay those of the whole
-  settled-left : ask_of ripple ≡ NeedLeft → take count (part (suc i) k) ≡ take count whole
+  pub settled-left : ask_of ripple ≡ NeedLeft → take count (part (suc i) k) ≡ take count whole
   settled-left need =
       let counts = asked-left made (suc i) in
       subst (λ n. take count (part n k) ≡ take count whole) counts.0
@@ -90,7 +90,7 @@ module _ (j : Join) (lefts rights : List RankRow) (made : List SideAsk) (count :
       (BeginsWith-append (schedule_of j lefts rights count) made (next_left ∷ []) s.least)
       (BeginsWith-more (schedule_of j lefts rights (suc count)) made next_left s.most (tells-left need))))
 
-  settled-right : ask_of ripple ≡ NeedRight → take count (part i (suc k)) ≡ take count whole
+  pub settled-right : ask_of ripple ≡ NeedRight → take count (part i (suc k)) ≡ take count whole
   settled-right need =
       let counts = asked-right made (suc k) in
       subst (λ n. take count (part n (suc k)) ≡ take count whole) counts.0
@@ -99,11 +99,11 @@ module _ (j : Join) (lefts rights : List RankRow) (made : List SideAsk) (count :
       (BeginsWith-append (schedule_of j lefts rights count) made (next_right ∷ []) s.least)
       (BeginsWith-more (schedule_of j lefts rights (suc count)) made next_right s.most (tells-right need))))
 
-  settled-now : take count (part i k) ≡ take count whole
+  pub settled-now : take count (part i k) ≡ take count whole
   settled-now = settled-made j lefts rights s.input made count s.least s.most
 
   -- one ask more of a side
-  left-asked : ask_of ripple ≡ NeedLeft → (r : Ripple) → r ≡ state_after j lefts rights (suc i) k count → Stands j lefts rights (made ++ next_left ∷ []) count r
+  pub left-asked : ask_of ripple ≡ NeedLeft → (r : Ripple) → r ≡ state_after j lefts rights (suc i) k count → Stands j lefts rights (made ++ next_left ∷ []) count r
   left-asked need r e =
       let counts = asked-left made (suc i) in
       record {
@@ -114,7 +114,7 @@ module _ (j : Join) (lefts rights : List RankRow) (made : List SideAsk) (count :
         within = s.within;
       }
 
-  right-asked : ask_of ripple ≡ NeedRight → (r : Ripple) → r ≡ state_after j lefts rights i (suc k) count → Stands j lefts rights (made ++ next_right ∷ []) count r
+  pub right-asked : ask_of ripple ≡ NeedRight → (r : Ripple) → r ≡ state_after j lefts rights i (suc k) count → Stands j lefts rights (made ++ next_right ∷ []) count r
   right-asked need r e =
       let counts = asked-right made (suc k) in
       record {
@@ -138,7 +138,7 @@ module _ (j : Join) (lefts rights : List RankRow) (made : List SideAsk) (count :
         behind = subst (λ (r : Ripple). IsBehindDrawn r.left.drawn (side_key j j.left row)) (sym s.state) (behind-drawn (side_key j j.left) lefts i row s.input.left_rows.rising next);
       }
 
-  left-key : (row : RankRow) → slice_get lefts i ≡ Some row → Some (drawn_with (drawn_of (take i (side_keys j j.left lefts))) (side_key j j.left row)) ≡ drawn_of (take (suc i) (side_keys j j.left lefts))
+  pub left-key : (row : RankRow) → slice_get lefts i ≡ Some row → Some (drawn_with (drawn_of (take i (side_keys j j.left lefts))) (side_key j j.left row)) ≡ drawn_of (take (suc i) (side_keys j j.left lefts))
   left-key row next = drawn-more (side_keys j j.left lefts) i (side_key j j.left row) (slice_get-map (side_key j j.left) lefts i ∙ ap (option_map (side_key j j.left)) next)
 
   pub left-found : ask_of ripple ≡ NeedLeft → (row : RankRow) (more : List RankRow) → slice_get lefts i ≡ Some row → AreFoundOf more (pairs_with j.matches merge_row (take k rights) row) → CanFindEach more (left_drawn (side_key j j.left row) ripple)
@@ -183,7 +183,7 @@ module _ (j : Join) (lefts rights : List RankRow) (made : List SideAsk) (count :
         behind = subst (λ (r : Ripple). IsBehindDrawn r.right.drawn (side_key j j.right row)) (sym s.state) (behind-drawn (side_key j j.right) rights k row s.input.right_rows.rising next);
       }
 
-  right-key : (row : RankRow) → slice_get rights k ≡ Some row → Some (drawn_with (drawn_of (take k (side_keys j j.right rights))) (side_key j j.right row)) ≡ drawn_of (take (suc k) (side_keys j j.right rights))
+  pub right-key : (row : RankRow) → slice_get rights k ≡ Some row → Some (drawn_with (drawn_of (take k (side_keys j j.right rights))) (side_key j j.right row)) ≡ drawn_of (take (suc k) (side_keys j j.right rights))
   right-key row next = drawn-more (side_keys j j.right rights) k (side_key j j.right row) (slice_get-map (side_key j j.right) rights k ∙ ap (option_map (side_key j j.right)) next)
 
   pub right-found : ask_of ripple ≡ NeedRight → (row : RankRow) (more : List RankRow) → slice_get rights k ≡ Some row → AreFoundOf more (pairs_against j.matches merge_row (take i lefts) row) → CanFindEach more (right_drawn (side_key j j.right row) ripple)

@@ -1,7 +1,9 @@
+pub mod AfterFacts
 pub mod BarFacts
 pub mod FeedLeftFacts
 pub mod FeedRightFacts
 pub mod GrowFacts
+pub mod JoinLawFacts
 pub mod JoinedFacts
 pub mod LawFacts
 pub mod MoreFacts

@@ -117,7 +117,7 @@ module _ {K : Type 0} (cmp : K → K → Ordering) where
       (Ascends-turns Left 2 lefts (Ascends-Climbs cmp (λ key. key) lefts c)) (Ascends-turns Right 2 rights (Ascends-Climbs cmp (λ key. key) rights d))
 
 -- what passes is all where all pass
-filter-all : {X : Type 0} (p : X → Bool) (xs : List X) → ((z : X) → In z xs → p z ≡ true) → filter p xs ≡ xs
+pub filter-all : {X : Type 0} (p : X → Bool) (xs : List X) → ((z : X) → In z xs → p z ≡ true) → filter p xs ≡ xs
 filter-all p [] all = refl
 filter-all p (x ∷ xs) all = ap (λ b. cond b (x ∷ filter p xs) (filter p xs)) (all x (inl refl)) ∙ ap (λ ys. x ∷ ys) (filter-all p xs (λ z h. all z (inr h)))
 

@@ -1,7 +1,8 @@
 -- A rank join that keeps the rows drawn of its sides: which of their pairs it holds, and what one more row does to it.
-use Rattle.std.specs.Prelude.{ℕ, ◌≡◌, Bool, true, List, [], ◌∷◌, ◌++◌, map, Option, Some, None}
+use Rattle.std.specs.Prelude.{ℕ, ◌≡◌, Bool, true, List, [], ◌∷◌, ◌++◌, map, take, Option, Some, None}
 use Rattle.std.specs.List.{AllByRecursion, filter}
 use Rattle.std.specs.Ordering.{is_lt}
+use Rattle.rs_order.specs.Schedule.{Left, Right, SideAsk}
 use Rattle.rs_order.specs.Sorting.{sorted}
 use Rattle.rs_rank.specs.declared.ask.JoinAsk.{JoinAsk}
 use Rattle.rs_rank.specs.declared.key.Key.{Key}
@@ -14,7 +15,7 @@ use Rattle.rs_ripple.specs.declared.side.Drawn.{Drawn}
 use Rattle.rs_ripple.specs.declared.side.Side.{Side}
 use Rattle.rs_ripple.specs.Pairs.{pairs}
 use Rattle.rs_ripple.specs.Ripple.{CanDrawLeft, CanDrawRight, Ripple, full_key, is_reached, left_drawn, left_ended, left_for, left_threshold, new_ripple, right_drawn, right_ended, right_threshold}
-use Rattle.rs_ripple.specs.Stands.{AreSidesOf, Join, drawn_of}
+use Rattle.rs_ripple.specs.Stands.{AreSidesOf, Join, Stands, asked, drawn_of}
 
 -- the core, and the rows drawn of each side in the order in which they came
 pub record Joined : Type 0 where
@@ -121,3 +122,9 @@ pub record IsJoined (joined : Joined) : Type 0 where
   pub left_keys : joined.ripple.left.drawn ≡ drawn_of (map (left_key joined.ripple) joined.lefts)
   pub right_keys : joined.ripple.right.drawn ≡ drawn_of (map (right_key joined.ripple) joined.rights)
   pub reached : IsTakenReached joined.ripple.taken joined.ripple.left.drawn joined.ripple.right.drawn joined.ripple
+
+-- a join that keeps its rows stands where its core does, with the rows that were drawn
+pub record JoinStands (j : Join) (lefts rights : List RankRow) (made : List SideAsk) (count : ℕ) (joined : Joined) : Type 0 where
+  pub core : Stands j lefts rights made count joined.ripple
+  pub left_rows : joined.lefts ≡ take (asked Left made) lefts
+  pub right_rows : joined.rights ≡ take (asked Right made) rights

@@ -1,3 +1,4 @@
+pub mod After
 pub mod Joined
 pub mod Pairs
 pub mod Ripple

@@ -2,10 +2,15 @@
 //! were found among them in the order of their keys, each as soon as no pair still to come can precede it.
 #![tactic(auto)]
 
+mod join_laws;
 mod laws;
 mod ripple;
 mod side;
 
+pub use join_laws::{
+    left_row_is_fed, new_join_stands, right_row_is_fed, side_of_join_ends, standing_join_fits,
+    taken_join_stands,
+};
 pub use laws::{
     answers_rise, asks_of_core_are_exact, left_row_is_drawn, new_core_stands,
     ready_answers_are_certain, right_row_is_drawn, schedule_has_the_asks, side_ends,
