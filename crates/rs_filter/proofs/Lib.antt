@@ -1,5 +1,9 @@
 pub mod AcrossFacts
+pub mod DistinctLists
 pub mod JoinFacts
+pub mod JoinValueFacts
 pub mod MatchFacts
 pub mod SideFacts
+pub mod SplitFacts
+mod WorkedJoinValues
 mod WorkedMatching

@@ -22,11 +22,11 @@ IsRowNumber-test false size row is = both (nat_le 1 row) (nat_le row size) is re
   both true false e f g = absurd (true≢false (sym e))
   both false most e f g = absurd (true≢false (sym e))
 
-and-first : (a b : Bool) → (a && b) ≡ true → a ≡ true
+pub and-first : (a b : Bool) → (a && b) ≡ true → a ≡ true
 and-first true b e = refl
 and-first false b e = absurd (true≢false (sym e))
 
-and-second : (a b : Bool) → (a && b) ≡ true → b ≡ true
+pub and-second : (a b : Bool) → (a && b) ≡ true → b ≡ true
 and-second true b e = e
 and-second false b e = absurd (true≢false (sym e))
 
@@ -63,7 +63,7 @@ choice-step mask place sizes rows p q =
     rw (drop-cons sizes place 0 p, drop-cons rows place 0 q, half-behind mask place) refl
 
 -- what is outside both masks
-outside-both : (m n : ℕ) → eqb (bit_or m n % 2) 0 ≡ (eqb (m % 2) 0 && eqb (n % 2) 0)
+pub outside-both : (m n : ℕ) → eqb (bit_or m n % 2) 0 ≡ (eqb (m % 2) 0 && eqb (n % 2) 0)
 outside-both m n = both (bit_or m n % 2) (bit_or-first m n) where
   both : (o : ℕ) → o ≡ max (m % 2) (n % 2) → eqb o 0 ≡ (eqb (m % 2) 0 && eqb (n % 2) 0)
   both o e = grind (arith, nat_tests)
@@ -130,7 +130,7 @@ merged-right (suc i) m n (size ∷ sizes) (left ∷ lefts) (right ∷ rights) l 
     let rest : bit_and (m / 2) (n / 2) ≡ 0 = omega arith in
     merged-right i (m / 2) (n / 2) sizes lefts rights l.1 (omega arith) rest (rw (half-before n i) at bit)
 
-length-choice : (mask : ℕ) (sizes rows : List ℕ) → IsChoice mask sizes rows → length rows ≡ length sizes
+pub length-choice : (mask : ℕ) (sizes rows : List ℕ) → IsChoice mask sizes rows → length rows ≡ length sizes
 length-choice mask [] [] is = refl
 length-choice mask [] (row ∷ rows) is = absurd is
 length-choice mask (size ∷ sizes) [] is = absurd is

@@ -1,2 +1,4 @@
+pub mod Distinct
+pub mod JoinValues
 pub mod Matching
 pub mod Stored

@@ -1,4 +1,4 @@
-//! What a join gives of its sides: laws that hold of every catalogue and block. The function computes nothing; it is called for
+//! What a join gives of its sides: laws that hold of every catalogue and block. The functions compute nothing; each is called for
 //! its contract.
 
 ghost use Rattle.std.specs.Prelude.{◌≡◌, ◌&&◌, ◌↔◌, ℕ, List, bit_or, true};
@@ -13,6 +13,7 @@ ghost use Rattle.rs_query.specs.Combinations.{combinations, satisfies};
 ghost use Rattle.rs_query.specs.Tables.{sizes_of};
 ghost use Rattle.rs_query.specs.WellFormed.{IsBlock};
 ghost use Rattle.rs_query.specs.declared.block.Block.{Block as Bound};
+ghost use Rattle.rs_filter.specs.JoinValues.{left_values, right_values};
 ghost use Rattle.rs_filter.specs.Matching.{IsView, joins, satisfies_across};
 
 /// Of rows of two sides that share no entry: each conjunct that speaks of entries of both sides together is looked at in a
@@ -31,4 +32,11 @@ pub fn sides_and_matches_are_combinations()
         ↔ (In l.ids.rows (combinations catalogue block sizes l.ids.mask)
         × In r.ids.rows (combinations catalogue block sizes r.ids.mask)
         × (joins catalogue block l.ids.mask r.ids.mask l r ≡ true)) }
+{}
+
+/// Rows that match have equal join values. So it is enough to look for the matches of a row among the rows that have its own.
+pub fn matches_have_equal_join_values()
+    ensures { (catalogue : Catalogue) (block : Bound) (left right : ℕ) (l r : RankRow) → IsBlock catalogue block
+        → AreDisjoint left right → joins catalogue block left right l r ≡ true
+        → left_values catalogue block left right l.ids.rows ≡ right_values catalogue block left right r.ids.rows }
 {}

@@ -1,0 +1,5 @@
+pub mod DistinctFacts
+pub mod FirstFacts
+pub mod ListFacts
+pub mod SameFacts
+pub mod ValueFacts

@@ -1,0 +1,11 @@
+pub mod BaseFacts
+pub mod BoundFacts
+pub mod CompareFacts
+pub mod ComparedFacts
+pub mod ComparedStandFacts
+pub mod HeadFacts
+pub mod LawFacts
+pub mod UnionAllFacts
+pub mod UnionFacts
+pub mod WalkFacts
+pub mod Worked

@@ -1,0 +1,9 @@
+-- The row is held.
+use Rattle.rs_setop.proofs.LawFacts.{union-left-row, union-right-row}
+use Rattle.rs_setop.proofs.union_laws.union_takes_rows.Goals as goal
+
+pub returns-clause-left : goal.returns-clause-left
+returns-clause-left c = λ s lefts rights made count u st need row e. union-left-row s lefts rights made count u st need row e
+
+pub returns-clause-right : goal.returns-clause-right
+returns-clause-right c = λ s lefts rights made count u st need row e. union-right-row s lefts rights made count u st need row e

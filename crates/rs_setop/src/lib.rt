@@ -1,0 +1,36 @@
+//! The cores of the set operators. Each draws the rows of two sides, each in the order of its keys, and gives the rows of
+//! UNION ALL, UNION, INTERSECT or EXCEPT in the order of their keys, each as soon as no row still to come can change it.
+#![tactic(auto)]
+
+mod answer_laws;
+mod compared;
+mod compared_laws;
+mod except;
+mod heads;
+mod held;
+mod intersect;
+mod reached;
+mod union;
+mod union_all;
+mod union_all_laws;
+mod union_laws;
+
+pub use answer_laws::{set_answers_rise, set_rows_can_be_sorted_first};
+pub use compared_laws::{
+    asks_of_comparison_are_exact, comparison_gives_the_next_answer, comparison_takes_ends,
+    comparison_takes_rows, new_comparison_stands,
+};
+pub use except::ExceptCore;
+pub use heads::Heads;
+pub use held::{Head, HeldRow};
+pub use intersect::IntersectCore;
+pub use union::UnionCore;
+pub use union_all::UnionAllCore;
+pub use union_all_laws::{
+    asks_of_union_all_are_exact, new_union_all_stands, union_all_gives_the_next_answer,
+    union_all_takes_ends, union_all_takes_rows,
+};
+pub use union_laws::{
+    asks_of_union_are_exact, new_union_stands, union_gives_the_next_answer, union_takes_ends,
+    union_takes_rows,
+};

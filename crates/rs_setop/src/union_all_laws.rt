@@ -1,0 +1,65 @@
+//! Laws of UNION ALL over the rows of its two sides. It stands at the asks that were made, those behind the last rows among
+//! them, and a number of answers. The functions compute nothing; each is called for its contract.
+
+ghost use Rattle.std.specs.Prelude.{◌≡◌, ℕ, suc, List, [], ◌∷◌, ◌++◌, Some, None};
+ghost use Rattle.std.specs.List.{slice_get};
+ghost use Rattle.std.specs.Option.{option_map};
+ghost use Rattle.rs_order.specs.Schedule.{Left, Right, SideAsk};
+ghost use Rattle.rs_rank.specs.declared.ask.JoinAsk.TheVariants.{NeedLeft, NeedRight, Ready};
+ghost use Rattle.rs_rank.specs.Rows.{HasSum};
+ghost use Rattle.rs_value.specs.declared.set_op.SetOp.TheVariants as op;
+ghost use Rattle.rs_setop.specs.Heads.{ask_of};
+ghost use Rattle.rs_outputs.specs.Rows.{OutputRow};
+ghost use Rattle.rs_setop.specs.Sides.{AreSides, IsNextAsk, Sides, answers, asked};
+ghost use Rattle.rs_setop.specs.Stands.{UnionAllStands};
+ghost use Rattle.rs_setop.specs.UnionAll.{UnionAll, left_ended, left_fed, left_for, new_union_all, right_ended, right_fed, taken_for};
+
+/// A new operator stands at no ask and no answer.
+pub fn new_union_all_stands()
+    ensures { (s : Sides) (lefts rights : List OutputRow) → AreSides s lefts rights
+        → UnionAllStands s lefts rights [] 0 (new_union_all s.weights s.terms) }
+{}
+
+/// Where it needs a row of a side that has one more, it can be fed that row, and stands at one more ask.
+pub fn union_all_takes_rows()
+    ensures left { (s : Sides) (lefts rights : List OutputRow) (made : List SideAsk) (count : ℕ) (u : UnionAll)
+        → UnionAllStands s lefts rights made count u → ask_of u.heads ≡ NeedLeft
+        → (row : OutputRow) → slice_get lefts (asked Left made) ≡ Some row
+        → HasSum u.weights u.terms row.row
+        × UnionAllStands s lefts rights (made ++ record { side = Left; number = suc (asked Left made) } ∷ []) count (left_fed row.row row.values u) }
+    ensures right { (s : Sides) (lefts rights : List OutputRow) (made : List SideAsk) (count : ℕ) (u : UnionAll)
+        → UnionAllStands s lefts rights made count u → ask_of u.heads ≡ NeedRight
+        → (row : OutputRow) → slice_get rights (asked Right made) ≡ Some row
+        → HasSum u.weights u.terms row.row
+        × UnionAllStands s lefts rights (made ++ record { side = Right; number = suc (asked Right made) } ∷ []) count (right_fed row.row row.values u) }
+{}
+
+/// Where it needs a row of a side that has no more, it can be told the end of that side, and stands at one more
+/// ask.
+pub fn union_all_takes_ends()
+    ensures left { (s : Sides) (lefts rights : List OutputRow) (made : List SideAsk) (count : ℕ) (u : UnionAll)
+        → UnionAllStands s lefts rights made count u → ask_of u.heads ≡ NeedLeft
+        → slice_get lefts (asked Left made) ≡ None
+        → UnionAllStands s lefts rights (made ++ record { side = Left; number = suc (asked Left made) } ∷ []) count (left_ended u) }
+    ensures right { (s : Sides) (lefts rights : List OutputRow) (made : List SideAsk) (count : ℕ) (u : UnionAll)
+        → UnionAllStands s lefts rights made count u → ask_of u.heads ≡ NeedRight
+        → slice_get rights (asked Right made) ≡ None
+        → UnionAllStands s lefts rights (made ++ record { side = Right; number = suc (asked Right made) } ∷ []) count (right_ended u) }
+{}
+
+/// Where it is ready, it gives the next of the answers of both whole sides, and stands at one more answer.
+pub fn union_all_gives_the_next_answer()
+    ensures { (s : Sides) (lefts rights : List OutputRow) (made : List SideAsk) (count : ℕ) (u : UnionAll)
+        → UnionAllStands s lefts rights made count u → ask_of u.heads ≡ Ready
+        → (taken_for (ask_of u.heads) u
+        ≡ option_map (λ (row : OutputRow). row.row) (slice_get (answers s op.UnionAll lefts rights) count))
+        × UnionAllStands s lefts rights made (suc count) (left_for (ask_of u.heads) u) }
+{}
+
+/// What it does next is the next ask of the schedule for the next answer; once all these asks are made it is ready,
+/// or ends where there is no next answer.
+pub fn asks_of_union_all_are_exact()
+    ensures { (s : Sides) (lefts rights : List OutputRow) (made : List SideAsk) (count : ℕ) (u : UnionAll)
+        → UnionAllStands s lefts rights made count u
+        → IsNextAsk s op.UnionAll lefts rights made count (ask_of u.heads) }
+{}
