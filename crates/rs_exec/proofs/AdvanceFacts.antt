@@ -1,5 +1,5 @@
 -- A cursor that stands and isn't over asks its plan once more.
-use Rattle.std.proofs.Common.{◌≡◌, ◌∙◌, ℕ, suc, ◌≤◌, true, false, refl, sym, ap, subst}
+use Rattle.std.proofs.Common.{◌≡◌, ◌∙◌, suc, ◌≤◌, true, false, refl, sym, ap, subst}
 use Rattle.std.specs.Prelude.{Option, Some, None, Result, Ok, Err, if◌then◌else◌, option_map, slice_get}
 use Rattle.std.specs.List.{AllByRecursion}
 use Rattle.rs_order.proofs.EachFacts.{each-slice_get}
@@ -30,19 +30,11 @@ use Rattle.rs_exec.specs.Standing.{Stands}
 use Rattle.rs_exec.specs.declared.fault.ExecFault.{ExecFault}
 use Rattle.rs_exec.specs.declared.fault.ExecFault.TheVariants.{Memory}
 use Rattle.rs_exec.specs.declared.node.Node.{Node}
-use Rattle.rs_exec.specs.declared.node.Node.TheVariants as node
-use Rattle.rs_exec.specs.declared.scan.IndexNode.{IndexNode}
-use Rattle.rs_exec.specs.declared.scan.TableNode.{TableNode}
 use Rattle.rs_exec.proofs.CursorFacts.{cursor-after, cursor-can, first-block, next-fault, next-given}
+use Rattle.rs_exec.proofs.JoinCycleFacts.{node-number}
 use Rattle.rs_exec.proofs.ListFacts.{IsRow, list-rows}
 use Rattle.rs_exec.proofs.PartFacts.{no-set, part-plan}
 use Rattle.rs_exec.proofs.StepFacts.{block-formed, few-entries, sizes-are}
-
--- a node that stands gives the rows of its block
-node-number : (w : World) (number : ℕ) (n : Node) → Stands w number n → number_in n ≡ number
-node-number w number (node.SeqScan head) stands = ap (λ (h : TableNode). h.block) stands
-node-number w number (node.RankScan head) stands = ap (λ (h : IndexNode). h.block) stands
-node-number w number (node.Rank' head p child) stands = node-number w number child stands.1
 
 -- a plan that can be executed ranges over all entries
 plan-entries : (catalogue : Catalogue) (query : Query) (tree : PlanTree) → IsPlan catalogue query tree → IsBuilt tree → entries tree ≡ all_entries (block_in query 1)

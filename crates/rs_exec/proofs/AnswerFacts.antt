@@ -22,7 +22,7 @@ use Rattle.rs_query.specs.Answers.{all_terms, base_of, distinct_if, occurs_in, a
 use Rattle.rs_query.specs.Combinations.{combinations}
 use Rattle.rs_query.specs.Tables.{all_entries}
 use Rattle.rs_query.specs.Views.{View}
-use Rattle.rs_query.specs.WellFormed.{AreSameTerms, IsQuery}
+use Rattle.rs_query.specs.WellFormed.{AreSameTerms}
 use Rattle.rs_query.specs.declared.block.Block.{Block}
 use Rattle.rs_query.specs.declared.query.Query.{Query}
 use Rattle.rs_query.specs.declared.query.Query.TheVariants.{One, Set}
@@ -32,7 +32,7 @@ use Rattle.rs_query.proofs.ScoreFacts.{same-sides, same-weights, score-evaluated
 use Rattle.rs_plan.specs.Lists.{World, numbered_block, key_under, list_of_plan, row_under, sizes_in, sources, weights_in}
 use Rattle.rs_plan.specs.Plans.{IsPlan}
 use Rattle.rs_plan.specs.Trees.{PlanTree, terms}
-use Rattle.rs_exec.specs.Cursors.{answer_for, answers_of}
+use Rattle.rs_exec.specs.Cursors.{HasFewTerms, answer_for, answers_of}
 use Rattle.rs_exec.proofs.SourceFacts.{ids_in, sources-plan, terms-plan}
 
 -- the stable order of what a function gives of each item
@@ -123,26 +123,25 @@ module _ (catalogue : Catalogue) (answer : Answering) (view : View) where
   abbrev world : Query → World
   world query = record { catalogue = catalogue; answer = answer; query = query; view = view }
 
-  given-query : (query : Query) (tree : PlanTree) → IsQuery catalogue query → IsPlan catalogue query tree
+  given-query : (query : Query) (tree : PlanTree) → HasFewTerms query → IsPlan catalogue query tree
       → AllByRecursion (λ (row : Answer). answer_for (world query) (row_under (world query) (terms tree) row.ids) ≡ row) (rows_of answer catalogue query view)
-  given-query (One block limit) tree formed plan =
-      given-base (world (One block limit)) (terms tree) 1 (scores-block answer catalogue block (terms tree) plan.1 formed.0.most_terms)
-  given-query (Set op left right limit) tree formed plan =
+  given-query (One block limit) tree few plan =
+      given-base (world (One block limit)) (terms tree) 1 (scores-block answer catalogue block (terms tree) plan.1 few)
+  given-query (Set op left right limit) tree few plan =
       let w = world (Set op left right limit) in
-      let sides = formed.0 in
-      let same = same-sides left right sides.terms in
-      let all : terms tree ≡ all_terms right = plan.1 ∙ ap (λ (n : ℕ). 2 ^ n - 1) (same-count left right sides.terms) in
+      let same = same-sides left right few.2 in
+      let all : terms tree ≡ all_terms right = plan.1 ∙ ap (λ (n : ℕ). 2 ^ n - 1) (same-count left right few.2) in
       given-set w (terms tree) op (base_of answer catalogue 1 left view.first) (base_of answer catalogue 2 right view.second)
-      (given-base w (terms tree) 1 (scores-block answer catalogue left (terms tree) plan.1 sides.left_block.most_terms))
+      (given-base w (terms tree) 1 (scores-block answer catalogue left (terms tree) plan.1 few.0))
       (given-base w (terms tree) 2 (λ rows. ap (λ weights. evaluated weights (terms tree) (worths_of answer catalogue right rows)) same
-      ∙ scores-block answer catalogue right (terms tree) all sides.right_block.most_terms rows))
+      ∙ scores-block answer catalogue right (terms tree) all few.1 rows))
 
-pub answers-stable : (w : World) (tree : PlanTree) → IsQuery w.catalogue w.query → IsPlan w.catalogue w.query tree
+pub answers-stable : (w : World) (tree : PlanTree) → HasFewTerms w.query → IsPlan w.catalogue w.query tree
     → answers_of w tree ≡ stable (λ (a : Answer). a.score) (rows_of w.answer w.catalogue w.query w.view)
-answers-stable w tree formed plan =
+answers-stable w tree few plan =
     ap (λ sources. map (answer_for w) (sorted key_cmp (key_under w (terms tree)) (map (row_under w (terms tree)) sources))) (sources-plan w tree plan)
     ∙ stable-under w (terms tree) (rows_of w.answer w.catalogue w.query w.view) (Rise-query w.answer w.catalogue w.query w.view)
-    (given-query w.catalogue w.answer w.view w.query tree formed plan)
+    (given-query w.catalogue w.answer w.view w.query tree few plan)
 
 -- two plans have the same list
 pub lists-same : (w : World) (tree other : PlanTree) → IsPlan w.catalogue w.query tree → IsPlan w.catalogue w.query other → list_of_plan w tree ≡ list_of_plan w other

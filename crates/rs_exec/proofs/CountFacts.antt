@@ -1,15 +1,18 @@
 -- What the nodes of a plan that stand count is what the definition says.
-use Rattle.std.proofs.Common.{◌≡◌, ◌∙◌, ℕ, List, [], ◌∷◌, ap}
+use Rattle.std.proofs.Common.{◌≡◌, ◌∙◌, ℕ, zero, suc, List, [], ◌∷◌, ◌++◌, Box, Global, refl, sym, ap, ap₂}
+use Rattle.std.specs.Prelude.{Some, None, Result, Ok, Err, slice_get}
 use Rattle.rs_plan.specs.Counts.{counts, counts_at}
 use Rattle.rs_plan.specs.declared.counts.Counts.{Counts}
 use Rattle.rs_plan.specs.Lists.{World}
-use Rattle.rs_plan.specs.Trees.{Rank}
+use Rattle.rs_plan.specs.Trees.{NestedJoin, Rank}
+use Rattle.rs_exec.specs.declared.join.JoinNode.{JoinNode}
 use Rattle.rs_exec.specs.declared.node.Node.{Node}
 use Rattle.rs_exec.specs.declared.node.Node.TheVariants as node
+use Rattle.rs_exec.specs.declared.node.Node.TheViews as view
 use Rattle.rs_exec.specs.declared.rank.RankNode.{RankNode}
 use Rattle.rs_exec.specs.declared.scan.IndexNode.{IndexNode}
 use Rattle.rs_exec.specs.declared.scan.TableNode.{TableNode}
-use Rattle.rs_exec.specs.Nodes.{asked_in, counts_in, tree_in}
+use Rattle.rs_exec.specs.Nodes.{asked_in, at_or_past, counts_in, tree_in}
 use Rattle.rs_exec.specs.Standing.{Stands}
 
 pub counts-stand : (w : World) (number : ℕ) (n : Node) → Stands w number n → counts_in n ≡ counts w number (tree_in n) (asked_in n)
@@ -21,3 +24,45 @@ counts-stand w number (node.Rank' head p child) is =
     ap (λ (n : RankNode). record { asked = n.tally.asked; gave = n.tally.gave; calls = n.calls; drawn = 0 } ∷ counts_in child) is.0.keeps
     ∙ ap (λ (rest : List Counts). counts_at w number (Rank head.term (tree_in child)) head.tally.asked ∷ rest)
     (counts-stand w number child is.1 ∙ ap (counts w number (tree_in child)) is.0.asked)
+counts-stand w number (node.NestedJoin' head p left q right) is =
+    ap (λ (n : JoinNode). record { asked = n.tally.asked; gave = n.tally.gave; calls = 0; drawn = 0 } ∷ counts_in left ++ counts_in right) is.0.keeps
+    ∙ ap₂ (λ (on_left on_right : List Counts). counts_at w number (NestedJoin (tree_in left) (tree_in right)) head.tally.asked ∷ on_left ++ on_right)
+    (counts-stand w number left is.1 ∙ ap (counts w number (tree_in left)) is.0.left_asked)
+    (counts-stand w number right is.2 ∙ ap (counts w number (tree_in right)) is.0.right_asked)
+
+-- what is found in a list; past its end, in the next one
+abbrev or_past : {A : Type 0} → Result A ℕ → List A → Result A ℕ
+or_past (Ok x) ys = Ok x
+or_past (Err place) ys = at_or_past ys place
+
+at_or_past-append : {A : Type 0} (xs ys : List A) (place : ℕ) → at_or_past (xs ++ ys) place ≡ or_past (at_or_past xs place) ys
+at_or_past-append [] ys place = refl
+at_or_past-append (x ∷ xs) ys zero = refl
+at_or_past-append (x ∷ xs) ys (suc place) = at_or_past-append xs ys place
+
+at_or_past-behind : {A : Type 0} (own : A) (xs ys : List A) (place rest : ℕ) → Err rest ≡ at_or_past (own ∷ []) place → at_or_past (own ∷ xs ++ ys) place ≡ or_past (at_or_past xs rest) ys
+at_or_past-behind own xs ys zero rest e = absurd (cc)
+at_or_past-behind own xs ys (suc place) rest e =
+    let same : rest ≡ place = cc in
+    at_or_past-append xs ys place ∙ ap (λ n. or_past (at_or_past xs n) ys) (sym same)
+
+-- the counts of a join's nodes, where the place isn't its own
+pub join-counts : (self : Node) (head : JoinNode) (left right : Box Node Global) (own : Counts) (middle : Node) (place rest : ℕ) (found : Result Counts ℕ) → self ≡ view.NestedJoin head left right
+    → own ≡ record { asked = head.tally.asked; gave = head.tally.gave; calls = 0; drawn = 0 } → Err rest ≡ at_or_past (own ∷ []) place → middle ≡ left.value
+    → found ≡ at_or_past (counts_in middle) rest → or_past found (counts_in right.value) ≡ at_or_past (counts_in self) place
+join-counts self head left right own middle place rest found is own_is next value found_is =
+    ap (λ (f : Result Counts ℕ). or_past f (counts_in right.value)) (found_is ∙ ap (λ (n : Node). at_or_past (counts_in n) rest) value)
+    ∙ sym (at_or_past-behind own (counts_in left.value) (counts_in right.value) place rest next)
+    ∙ ap (λ (first : Counts). at_or_past (first ∷ counts_in left.value ++ counts_in right.value) place) own_is
+    ∙ ap (λ (n : Node). at_or_past (counts_in n) place) (sym is)
+
+-- what is found is there, and nothing is past the end
+pub at_or_past-found : {A : Type 0} (xs : List A) (place : ℕ) (x : A) → Ok x ≡ at_or_past xs place → Some x ≡ slice_get xs place
+at_or_past-found [] place x e = absurd (cc)
+at_or_past-found (y ∷ xs) zero x e = cc
+at_or_past-found (y ∷ xs) (suc place) x e = at_or_past-found xs place x e
+
+pub at_or_past-none : {A : Type 0} (xs : List A) (place rest : ℕ) → Err rest ≡ at_or_past xs place → None ≡ slice_get xs place
+at_or_past-none [] place rest e = refl
+at_or_past-none (y ∷ xs) zero rest e = absurd (cc)
+at_or_past-none (y ∷ xs) (suc place) rest e = at_or_past-none xs place rest e

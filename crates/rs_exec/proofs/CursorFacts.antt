@@ -2,7 +2,7 @@
 use Rattle.std.proofs.Common.{◌≡◌, ℕ, suc, ◌≤◌, ◌||◌, Bool, true, false, inl, [], length, refl, sym, ap, subst, append-nil, arith}
 use Rattle.std.specs.Prelude.{Option, Ok, Err, nat_lt, option_map, slice_get}
 use Rattle.std.specs.List.{AllByRecursion}
-use Rattle.std.proofs.lemmas.Bool.Decides.{nat_tests}
+use Rattle.std.proofs.lemmas.Bool.{ltb-false, or_parts}
 use Rattle.rs_expr.specs.InOrder.{Inquires}
 use Rattle.rs_expr.specs.Scoring.{Answering, ScorerState}
 use Rattle.rs_rank.specs.Weights.{IsWeights}
@@ -33,14 +33,6 @@ use Rattle.rs_exec.proofs.FewFacts.{list-few}
 use Rattle.rs_exec.proofs.PartFacts.{part-plan}
 use Rattle.rs_exec.proofs.StartFacts.{start-asked, start-stands, start-tree}
 use Rattle.rs_exec.proofs.StepFacts.{few-entries, sizes-are}
-
--- neither of two tests that fail together is passed
-neither : (a b : Bool) → a || b ≡ false → b ≡ false
-neither true b e = cc
-neither false b e = e
-
-not-less : (a b : ℕ) → nat_lt a b ≡ false → b ≤ a
-not-less a b e = grind (arith, nat_tests)
 
 pub first-block : (query : Query) → HasBlock query 1
 first-block (One block limit) = refl
@@ -81,8 +73,9 @@ cursor-can catalogue answer cursor stands few weights more =
       part = part;
       indexes = stands.indexes;
       weights = weights;
-      more = not-less (length (list_of_plan w tree)) (asks_of cursor)
-          (neither (is_limit (limit_of cursor.query) (asks_of cursor)) (nat_lt (length (list_of_plan w tree)) (asks_of cursor)) more);
+      more = ltb-false (length (list_of_plan w tree)) (asks_of cursor)
+          (or_parts (is_limit (limit_of cursor.query) (asks_of cursor)) (nat_lt (length (list_of_plan w tree)) (asks_of cursor)) more).1;
+      tables = few;
       few = list-few w 1 (sizes-are catalogue answer cursor.query 1 number) few tree part;
     }
 

@@ -77,7 +77,7 @@ module _ (w : World) (number : ℕ) (tree : PlanTree) (a : ℕ) (none : question
   }
 
 -- the tally counts a row where the list has one
-tally-more : {A : Type 0} (rows : List A) (a : ℕ) → ◌≡◌ {A = ℕ} (if is_some (slice_get rows a) then min a (length rows) + 1 else min a (length rows)) (min (suc a) (length rows))
+pub tally-more : {A : Type 0} (rows : List A) (a : ℕ) → ◌≡◌ {A = ℕ} (if is_some (slice_get rows a) then min a (length rows) + 1 else min a (length rows)) (min (suc a) (length rows))
 tally-more {A} rows a = go (slice_get rows a) refl where
   go : (o : Option A) → slice_get rows a ≡ o → ◌≡◌ {A = ℕ} (if is_some o then min a (length rows) + 1 else min a (length rows)) (min (suc a) (length rows))
   go (Some x) e = let within = slice_get_within rows a x e in omega arith

@@ -3,6 +3,7 @@ use Rattle.std.proofs.Common.{◌≡◌, ℕ, zero, suc, ◌*◌, ◌/◌, ◌%�
 use Rattle.std.specs.Prelude.{not}
 use Rattle.std.specs.List.{AllByRecursion, filter, flat_map}
 use Rattle.std.proofs.lemmas.List.{length-append, length-map}
+use Rattle.std.proofs.lemmas.List.Sums.{count_by-le-length, length-filter}
 use Rattle.std.proofs.lemmas.Nat.{mul-le}
 use Rattle.rs_rank.specs.Masks.{mask_of}
 use Rattle.rs_rank.specs.declared.answer.Answer.{Answer}
@@ -15,17 +16,14 @@ use Rattle.rs_plan.specs.Plans.{IsPart}
 use Rattle.rs_plan.specs.Trees.{Distinct, HashJoin, NestedJoin, Rank, RankScan, SeqScan, SetOperator, PlanTree, entries}
 use Rattle.rs_exec.proofs.ListFacts.{list-length}
 
-length-filter : {A : Type 0} (p : A → Bool) (xs : List A) → length (filter p xs) ≤ length xs
-length-filter p [] = omega arith
-length-filter p (x ∷ xs) =
-    let rest = length-filter p xs in
-    elim (p x) as (λ b. length (cond b (x ∷ filter p xs) (filter p xs)) ≤ suc (length xs)) [ true ↦ omega arith | false ↦ omega arith ]
+filter-less : {A : Type 0} (p : A → Bool) (xs : List A) → length (filter p xs) ≤ length xs
+filter-less p xs = subst (λ n. n ≤ length xs) (sym (length-filter p xs)) (count_by-le-length p xs)
 
 length-firsts : (rows : List Answer) → length (firsts rows) ≤ length rows
 length-firsts [] = omega arith
 length-firsts (row ∷ rows) =
     let rest = length-firsts rows in
-    let kept = length-filter (λ (other : Answer). not (same_values row.values other.values)) (firsts rows) in
+    let kept = filter-less (λ (other : Answer). not (same_values row.values other.values)) (firsts rows) in
     omega arith
 
 length-numbers_to : (n : ℕ) → length (numbers_to n) ≡ n
@@ -64,7 +62,7 @@ module _ (w : World) (number : ℕ) (sizes : sizes_in w number ≡ sizes_of w.ca
     (few : AllByRecursion (λ size. size ≤ 131072) (sizes_of w.catalogue (numbered_block w number))) where
   combinations-few : (mask : ℕ) → length (combinations w.catalogue (numbered_block w number) (sizes_in w number) mask) ≤ 2 ^ 102
   combinations-few mask =
-      let kept = length-filter (satisfies w.catalogue (numbered_block w number) mask) (choices mask (sizes_in w number)) in
+      let kept = filter-less (satisfies w.catalogue (numbered_block w number) mask) (choices mask (sizes_in w number)) in
       let all = choices-few mask (sizes_in w number) (subst (AllByRecursion (λ size. size ≤ 131072)) (sym sizes) few) in
       let product : most (sizes_in w number) ≡ 2 ^ 102 = ap most sizes in
       omega arith

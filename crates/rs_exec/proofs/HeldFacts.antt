@@ -1,17 +1,19 @@
 -- The indexes of a catalogue go on to hold a scorer's answers where it grows, and so those of each plan do.
-use Rattle.std.proofs.Common.{◌≡◌, ◌∙◌, ℕ, List, [], ◌∷◌, ◌++◌, length-append, subst, arith}
-use Rattle.std.specs.Prelude.{Ok, option_map, unwrap_or}
+use Rattle.std.proofs.Common.{◌≡◌, ◌∙◌, ℕ, List, [], ◌∷◌, ◌++◌, length-append, inl, inr, sym, subst, arith}
+use Rattle.std.specs.Prelude.{◌⊎◌, Result, Ok, Err, option_map, unwrap_or}
 use Rattle.std.specs.List.{AllByRecursion}
 use Rattle.std.proofs.lemmas.Option.{slice_get_within}
 use Rattle.rs_table.specs.Relation.{Relation}
-use Rattle.rs_expr.specs.InOrder.{Inquiry}
+use Rattle.rs_expr.specs.InOrder.{InquiryEnds, InquiryFails, InquiryStops}
 use Rattle.rs_expr.specs.Predicates.{PredicateDef}
-use Rattle.rs_expr.specs.Scoring.{Answering}
+use Rattle.rs_expr.specs.Scoring.{Answering, ScorerState}
 use Rattle.rs_rank.specs.declared.scored_row.ScoredRow.{ScoredRow}
 use Rattle.rs_catalog.specs.Catalogue.{Catalogue, NamedTable, RankIndex, with_index, with_predicate, with_table}
 use Rattle.rs_catalog.specs.Indexes.{IsIndex, making, making_of}
+use Rattle.rs_catalog.specs.Making.{MakesIndex, catalogue_after}
 use Rattle.rs_catalog.specs.declared.index.IndexDef.{IndexDef}
 use Rattle.rs_catalog.specs.declared.index.IndexFault.{IndexFault}
+use Rattle.rs_catalog.specs.declared.index.IndexFault.TheVariants.{Memory}
 use Rattle.rs_order.proofs.EachFacts.{each-push, each-slice_get, each-weaker}
 use Rattle.rs_plan.specs.Trees.{Distinct, HashJoin, NestedJoin, Rank, RankScan, SeqScan, SetOperator, PlanTree}
 use Rattle.rs_exec.specs.Indexes.{AreHeld, HoldIndexes, IsHeld}
@@ -70,3 +72,18 @@ held-with_index catalogue answer def ranking is makes held =
     } in
     subst (λ (larger : Catalogue). AllByRecursion (IsHeld answer larger) (catalogue.indexes ++ index ∷ [])) (joined-index catalogue def ranking)
     (each-push (IsHeld answer (joined catalogue more)) catalogue.indexes index (all-larger catalogue more answer held) (held-larger catalogue more answer index last))
+
+-- so do they where an index is made, whatever comes of it, for the scorer behind the calls
+pub held-makes : (catalogue new : Catalogue) (def : IndexDef) (result : Result (Unit {0}) IndexFault) (before after : ScorerState) → IsIndex catalogue def
+    → AreHeld before.answer catalogue → MakesIndex (making before.answer catalogue def) def catalogue new result before after → AreHeld after.answer new
+held-makes catalogue new def result before after is held makes =
+    subst (λ (answer : Answering). AreHeld answer new) (sym makes.inquires.keeps.answer)
+    (subst (AreHeld before.answer) (sym makes.joins) (go makes.ranking makes.inquires.comes)) where
+      go : (ranking : Result (List ScoredRow) IndexFault)
+          → (InquiryEnds (making before.answer catalogue def) ranking before after ⊎ InquiryFails (making before.answer catalogue def) ranking before after)
+          ⊎ InquiryStops Memory (making before.answer catalogue def) ranking before after
+          → AreHeld before.answer (catalogue_after def ranking catalogue)
+      go (Err fault) comes = held
+      go (Ok ranking) (inl (inl ends)) = held-with_index catalogue before.answer def ranking is (sym ends.gives) held
+      go (Ok ranking) (inl (inr fails)) = let gives = fails.gives in cc
+      go (Ok ranking) (inr stops) = let gives = stops.gives in cc

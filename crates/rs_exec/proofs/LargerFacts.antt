@@ -25,6 +25,8 @@ use Rattle.rs_catalog.specs.declared.index.IndexDef.{IndexDef}
 use Rattle.rs_catalog.specs.declared.index.IndexFault.{IndexFault}
 use Rattle.rs_catalog.specs.declared.index.BoundArg.{BoundArg}
 use Rattle.rs_catalog.specs.declared.index.BoundArg.TheVariants as arg
+use Rattle.rs_rank.specs.Ids.{merge_rows}
+use Rattle.rs_filter.specs.Matching.{is_across, is_choice, joins}
 use Rattle.rs_query.specs.Answers.{clamped, predicate_at, worth_of, worths_of}
 use Rattle.rs_query.specs.Combinations.{choices, combinations, satisfies}
 use Rattle.rs_query.specs.Conjuncts.{ConjunctDef}
@@ -139,6 +141,14 @@ module _ (catalogue more : Catalogue) where
     satisfies-same = λ i mask rows.
         list_all (λ (conjunct : ConjunctDef). if is_inside conjunct.entries mask then holds conjunct.condition (map (value-same i rows) conjunct.columns) else true)
         block.conjuncts
+
+    pub joins-same : joins larger block ≡ joins catalogue block
+    joins-same = λ i left right l r.
+        let sizes = map (size-same i) (1 ∷ 2 ∷ 3 ∷ 4 ∷ 5 ∷ 6 ∷ []) in
+        ((l.ids.mask == left) && is_choice left sizes l.ids.rows)
+        && (((r.ids.mask == right) && is_choice right sizes r.ids.rows)
+        && list_all (λ (conjunct : ConjunctDef).
+        if is_across left right conjunct then holds conjunct.condition (map (value-same i (merge_rows l.ids.rows r.ids.rows)) conjunct.columns) else true) block.conjuncts)
 
     pub combinations-same : combinations larger block ≡ combinations catalogue block
     combinations-same = λ i sizes mask. filter (satisfies-same i mask) (choices mask sizes)

@@ -1,9 +1,9 @@
 -- A cursor that stands goes on to stand in a larger catalogue: it reads nothing of what joined.
-use Rattle.std.proofs.Common.{◌≡◌, ◌∙◌, ℕ, zero, suc, ◌-◌, ◌≤◌, ◌==◌, List, [], ◌∷◌, length, map, refl, sym, subst}
+use Rattle.std.proofs.Common.{◌≡◌, ◌∙◌, ℕ, zero, suc, ◌-◌, ◌≤◌, ◌==◌, List, [], ◌∷◌, length, map, bit_or, refl, sym, subst}
 use Rattle.std.specs.Prelude.{if◌then◌else◌, min, nat_le, slice_get, slice_index, unwrap_or}
 use Rattle.std.specs.List.{filter}
 use Rattle.rs_order.specs.Asks.{bar_after}
-use Rattle.rs_order.specs.Schedule.{Left, is_of_side}
+use Rattle.rs_order.specs.Schedule.{JoinSide, Left, Right, is_of_side}
 use Rattle.rs_order.specs.Sorting.{sorted}
 use Rattle.rs_rank.specs.Keys.{key_cmp}
 use Rattle.rs_rank.specs.Masks.{mask_of}
@@ -23,15 +23,19 @@ use Rattle.rs_plan.specs.Asks.{asks_alone}
 use Rattle.rs_plan.specs.Counts.{asked_of, drawn_to, gave_of, place_in_index, place_in_table, size_at}
 use Rattle.rs_plan.specs.Lists.{World, block_in, ids_of, key_under, list_of, row_under, sizes_in, sources, weights_in, worths}
 use Rattle.rs_plan.specs.Plans.{IsPart, IsRankScan}
-use Rattle.rs_plan.specs.Trees.{Distinct, HashJoin, NestedJoin, Rank, RankScan, SeqScan, SetOperator, PlanTree, terms}
+use Rattle.rs_plan.specs.Trees.{Distinct, HashJoin, NestedJoin, Rank, RankScan, SeqScan, SetOperator, PlanTree, entries, terms}
 use Rattle.rs_exec.specs.Asking.{world_of}
 use Rattle.rs_exec.specs.Building.{IsBuilt}
 use Rattle.rs_exec.specs.Cursors.{CursorState, StandsFor, asks_of, plan_of}
+use Rattle.rs_rank.specs.Merging.{merge_key}
+use Rattle.rs_rank.specs.Turns.{join_schedule}
+use Rattle.rs_ripple.specs.After.{joined_after}
+use Rattle.rs_exec.specs.Joining.{side_for}
 use Rattle.rs_exec.specs.Nodes.{tree_in}
-use Rattle.rs_exec.specs.Standing.{Stands, index_node_after, rank_node_after, table_node_after}
+use Rattle.rs_exec.specs.Standing.{Stands, index_node_after, join_node_after, rank_node_after, table_node_after}
 use Rattle.rs_exec.specs.declared.node.Node.{Node}
 use Rattle.rs_exec.specs.declared.node.Node.TheVariants as node
-use Rattle.rs_exec.proofs.LargerFacts.{combinations-same, indexes-larger, joined, plan-larger, query-larger, ranking-same, size-same, worths-same}
+use Rattle.rs_exec.proofs.LargerFacts.{combinations-same, indexes-larger, joined, joins-same, plan-larger, query-larger, ranking-same, size-same, worths-same}
 use Rattle.rs_exec.proofs.PartFacts.{part-plan}
 use Rattle.rs_exec.proofs.StepFacts.{block-formed}
 
@@ -73,7 +77,7 @@ module _ (catalogue more : Catalogue) (answer : Answering) (query : Query) (form
   sources-same number (RankScan entry term index) built = ids-same number (mask_of entry)
   sources-same number (Rank term child) built = sources-same number child built
   sources-same number (HashJoin left right) built = absurd built
-  sources-same number (NestedJoin left right) built = absurd built
+  sources-same number (NestedJoin left right) built = ids-same number (bit_or (entries left) (entries right))
   sources-same number (Distinct child) built = absurd built
   sources-same number (SetOperator left right) built = absurd built
 
@@ -91,6 +95,14 @@ module _ (catalogue more : Catalogue) (answer : Answering) (query : Query) (form
   asked-same number term child built (suc n) = λ i.
       length (filter (is_of_side Left) (asks_alone (map (key_under small (terms child)) (list-same number child built i))
       (bar_after (λ (key : Key). key) (map (key_under small (terms (Rank term child))) (list-same number (Rank term child) built i)) n)))
+
+  join_asked-same : (number : ℕ) (left right : PlanTree) → IsBuilt left → IsBuilt right → (a : ℕ) (side : JoinSide)
+      → asked_of large number (NestedJoin left right) a side ≡ asked_of small number (NestedJoin left right) a side
+  join_asked-same number left right on_left on_right zero side = refl
+  join_asked-same number left right on_left on_right (suc n) side = λ i.
+      length (filter (is_of_side side) (join_schedule key_cmp (merge_key (weights_in small) (terms left) (terms right))
+      (map (key_under small (terms left)) (list-same number left on_left i)) (map (key_under small (terms right)) (list-same number right on_right i))
+      (bar_after (λ (key : Key). key) (map (key_under small (terms (NestedJoin left right))) (list-same number (NestedJoin left right) (on_left, on_right) i)) n)))
 
   -- and what its nodes keep
   table-same : (number entry a : ℕ) → table_node_after large number entry a ≡ table_node_after small number entry a
@@ -139,6 +151,23 @@ module _ (catalogue more : Catalogue) (answer : Answering) (query : Query) (form
     calls = min (asked-same number term child built a i) (length (list-same number child built i));
   }
 
+  join-same : (number : ℕ) (left right : PlanTree) → IsBuilt left → IsBuilt right → (a : ℕ) → join_node_after large number left right a ≡ join_node_after small number left right a
+  join-same number left right on_left on_right a = λ i. record {
+    core = joined_after (record {
+      weights = weights_in small;
+      block = number;
+      left = side_for left;
+      right = side_for right;
+      matches = joins-same catalogue more (block_in query number) (block-is number) i (entries left) (entries right);
+    }) (list-same number left on_left i) (list-same number right on_right i)
+        (join_asked-same number left right on_left on_right a Left i) (join_asked-same number left right on_left on_right a Right i)
+        (gave-same number (NestedJoin left right) (on_left, on_right) a i);
+    block = number;
+    left = entries left;
+    right = entries right;
+    tally = record { asked = a; gave = gave-same number (NestedJoin left right) (on_left, on_right) a i };
+  }
+
   stands-larger : (number : ℕ) (n : Node) → IsPart catalogue (block_in query number) (tree_in n) → IsBuilt (tree_in n) → Stands small number n → Stands large number n
   stands-larger number (node.SeqScan head) part built is = is ∙ sym (table-same number head.entry head.tally.asked)
   stands-larger number (node.RankScan head) part built is = is ∙ sym (index-same number head.entry head.term head.scan.index part head.tally.asked)
@@ -148,6 +177,15 @@ module _ (catalogue more : Catalogue) (answer : Answering) (query : Query) (form
       asked = is.0.asked ∙ sym (asked-same number head.term (tree_in child) built head.tally.asked);
     },
     stands-larger number child part.0 built is.1,
+  )
+  stands-larger number (node.NestedJoin' head p left q right) part built is = (
+    record {
+      keeps = is.0.keeps ∙ sym (join-same number (tree_in left) (tree_in right) built.0 built.1 head.tally.asked);
+      left_asked = is.0.left_asked ∙ sym (join_asked-same number (tree_in left) (tree_in right) built.0 built.1 head.tally.asked Left);
+      right_asked = is.0.right_asked ∙ sym (join_asked-same number (tree_in left) (tree_in right) built.0 built.1 head.tally.asked Right);
+    },
+    stands-larger number left part.0 built.0 is.1,
+    stands-larger number right part.1 built.1 is.2,
   )
 
 pub cursor-larger : (catalogue more : Catalogue) (answer : Answering) (cursor : CursorState) → StandsFor catalogue answer cursor → StandsFor (joined catalogue more) answer cursor

@@ -11,10 +11,14 @@ mod IndexTermFacts
 mod LargerFacts
 mod LargerNodes
 mod IndexListFacts
+mod JoinListFacts
+mod JoinStepFacts
+mod JoinCycleFacts
 mod ListFacts
 mod MakingFacts
 mod NextFacts
 mod PartFacts
+mod PartMaskFacts
 mod RankFacts
 mod ScanFacts
 mod SourceFacts
@@ -23,3 +27,4 @@ mod StepFacts
 mod SumFacts
 mod TableFacts
 mod WorkedAsks
+mod WorkedJoin

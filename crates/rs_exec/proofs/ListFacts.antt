@@ -1,7 +1,7 @@
 -- The list of each node, whatever its kind, can be the input of an operator: its keys rise, and no two rows have the same ids.
 use Rattle.std.proofs.Common.{◌≡◌, ◌∙◌, ℕ, ◌≤◌, Bool, true, false, List, [], ◌∷◌, length, map, bit_or, refl, sym, ap, subst}
 use Rattle.std.proofs.lemmas.List.{length-map}
-use Rattle.std.specs.Cmp.{nat_cmp_is, tied_itself}
+use Rattle.std.proofs.lemmas.Cmp.{nat_cmp_total, tied_itself}
 use Rattle.std.specs.Cmp.Lexicographic.{slice_cmp}
 use Rattle.std.specs.List.{AllByRecursion}
 use Rattle.std.specs.Ordering.{nat_cmp, ordering_then}
@@ -38,9 +38,6 @@ use Rattle.rs_exec.proofs.SourceFacts.{ids_in}
 abbrev pub IdsRise : List Ids → Type 0
 IdsRise ids = Climbs ids_cmp (λ (i : Ids). i) ids
 
-nat_cmp-same : (n : ℕ) → nat_cmp n n ≡ Equal
-nat_cmp-same n = sym (nat_cmp_is n n Equal refl)
-
 -- those of rows
 each-id : (first : Answer) (rows : List Answer) → AllByRecursion (Precedes ids_cmp (λ (row : Answer). row.ids) first) rows
     → AllByRecursion (Precedes ids_cmp (λ (i : Ids). i) first.ids) (ids_in rows)
@@ -59,7 +56,7 @@ module _ (number mask : ℕ) where
   each-choice : (first : List ℕ) (rest : List (List ℕ)) → AllByRecursion (Precedes (slice_cmp nat_cmp) (λ (rows : List ℕ). rows) first) rest
       → AllByRecursion (Precedes ids_cmp (λ (i : Ids). i) (ids first)) (map (λ rows. record { block = number; mask = mask; rows = rows }) rest)
   each-choice first [] h = tt
-  each-choice first (rows ∷ rest) h = (ap (λ o. ordering_then o (slice_cmp nat_cmp first rows)) (nat_cmp-same number) ∙ h.0, each-choice first rest h.1)
+  each-choice first (rows ∷ rest) h = (ap (λ o. ordering_then o (slice_cmp nat_cmp first rows)) (tied_itself nat_cmp_total number) ∙ h.0, each-choice first rest h.1)
 
   pub rise-choices : (all : List (List ℕ)) → Climbs (slice_cmp nat_cmp) (λ (rows : List ℕ). rows) all
       → IdsRise (map (λ rows. record { block = number; mask = mask; rows = rows }) all)

@@ -1,35 +1,52 @@
 -- The questions of one ask go on where those of the asks before it end.
-use Rattle.std.proofs.Common.{◌≡◌, ◌∙◌, ℕ, zero, suc, ◌+◌, ◌-◌, List, [], ◌∷◌, ◌++◌, length, map, drop, refl, sym, ap, arith}
+use Rattle.std.proofs.Common.{◌≡◌, ◌∙◌, ℕ, zero, suc, ◌+◌, ◌-◌, List, [], ◌∷◌, ◌++◌, length, map, take, drop, refl, sym, ap, ap₂, arith}
 use Rattle.std.proofs.lemmas.Grind.{flat_map-append}
 use Rattle.std.proofs.lemmas.List.{append-nil, map-append}
 use Rattle.std.specs.List.{flat_map}
-use Rattle.rs_order.specs.Schedule.{Left, numbers_from}
+use Rattle.rs_order.specs.Schedule.{Left, SideAsk, numbers_from}
 use Rattle.rs_rank.specs.Weights.{IsWeights}
 use Rattle.rs_expr.specs.declared.scorer.Call.{Call}
 use Rattle.rs_catalog.specs.Catalogue.{Catalogue}
 use Rattle.rs_query.specs.Questions.{Question, call_for}
+use Rattle.rs_query.specs.Tables.{sizes_of}
 use Rattle.rs_query.specs.WellFormed.{IsQuery}
 use Rattle.rs_query.specs.declared.block.Block.{Block}
 use Rattle.rs_query.specs.declared.query.Query.{Query}
 use Rattle.rs_query.specs.declared.query.Query.TheVariants.{One, Set}
 use Rattle.rs_plan.specs.Asks.{asks_from}
-use Rattle.rs_plan.specs.Calls.{calls_of_plan, part_of_plan, questions, questions_of_ask, rank_part}
+use Rattle.rs_plan.specs.Calls.{calls_of_plan, part_of_plan, questions, questions_of_ask, rank_part, side_part}
 use Rattle.rs_plan.specs.Counts.{asked_of}
-use Rattle.rs_plan.specs.Lists.{World, block_in, numbered_block, list_of, weights_in}
+use Rattle.rs_plan.specs.Lists.{World, block_in, numbered_block, list_of, sizes_in, weights_in}
 use Rattle.rs_plan.specs.Plans.{IsPart, IsPlan, IsSetPlan}
 use Rattle.rs_plan.specs.Trees.{Distinct, HashJoin, NestedJoin, Rank, RankScan, SeqScan, SetOperator, PlanTree}
+use Rattle.rs_filter.specs.Matching.{IsView}
+use Rattle.rs_ripple.specs.Stands.{BeginsWith, schedule_of}
+use Rattle.rs_ripple.proofs.ScheduleFacts.{schedule_of-more}
 use Rattle.rs_exec.specs.Building.{IsBuilt}
+use Rattle.rs_exec.specs.Joining.{join_for}
+use Rattle.rs_exec.proofs.JoinListFacts.{CanJoinParts, join-sides}
+use Rattle.rs_exec.proofs.JoinStepFacts.{join-schedule}
 use Rattle.rs_exec.proofs.RankFacts.{asks-more, asks_from-split, drop-front, rank-questions}
 
 -- what is a list and others behind it is that list and what is left without it
 behind-front : {A : Type 0} (xs ys zs : List A) → ys ≡ xs ++ zs → ys ≡ xs ++ drop (length xs) ys
 behind-front xs ys zs is = is ∙ ap (λ rest. xs ++ rest) (sym (ap (drop (length xs)) is ∙ drop-front xs zs))
 
-pub grows : (w : World) (number : ℕ) (tree : PlanTree) (a : ℕ) → IsQuery w.catalogue w.query → IsPart w.catalogue (numbered_block w number) tree → IsWeights (weights_in w) → IsBuilt tree
+-- a list that begins with another one is that one and the rest
+begun : {A : Type 0} (xs front : List A) → BeginsWith xs front → xs ≡ front ++ drop (length front) xs
+begun xs [] begins = refl
+begun [] (f ∷ front) begins = absurd (cc)
+begun (x ∷ xs) (f ∷ front) begins =
+    let first : f ≡ x = cc in
+    let rest : front ≡ take (length front) xs = cc in
+    ap₂ (λ z zs. z ∷ zs) (sym first) (begun xs front rest)
+
+pub grows : (w : World) (number : ℕ) (tree : PlanTree) (a : ℕ) → IsQuery w.catalogue w.query → IsView (sizes_in w number) (sizes_of w.catalogue (numbered_block w number))
+    → IsPart w.catalogue (numbered_block w number) tree → IsWeights (weights_in w) → IsBuilt tree
     → questions w number tree (suc a) ≡ questions w number tree a ++ questions_of_ask w number tree (suc a)
-grows w number (SeqScan entry) a formed part weights built = refl
-grows w number (RankScan entry term index) a formed part weights built = refl
-grows w number (Rank term child) a formed part weights built =
+grows w number (SeqScan entry) a formed view part weights built = refl
+grows w number (RankScan entry term index) a formed view part weights built = refl
+grows w number (Rank term child) a formed view part weights built =
     let first = asked_of w number (Rank term child) a Left in
     let last = asked_of w number (Rank term child) (suc a) Left in
     let le = asks-more w number term child formed part weights a (suc a) (omega arith) in
@@ -39,10 +56,20 @@ grows w number (Rank term child) a formed part weights built =
     ∙ ap (flat_map step) (asks_from-split Left 1 first (last - first) last (omega arith))
     ∙ flat_map-append step (asks_from Left 1 first) (asks_from Left (1 + first) (last - first))
     ∙ ap (λ (qs : List Question). qs ++ flat_map step (asks_from Left (1 + first) (last - first))) (sym (rank-questions w number term child a)))
-grows w number (HashJoin left right) a formed part weights built = absurd built
-grows w number (NestedJoin left right) a formed part weights built = absurd built
-grows w number (Distinct child) a formed part weights built = absurd built
-grows w number (SetOperator left right) a formed part weights built = absurd built
+grows w number (HashJoin left right) a formed view part weights built = absurd built
+grows w number (NestedJoin left right) a formed view part weights built =
+    let parts : CanJoinParts w number left right = record { formed = formed; weights = weights; view = view; left_part = part.0; right_part = part.1; joined = part.2 } in
+    let j = join_for w number left right in
+    let before = schedule_of j (list_of w number left) (list_of w number right) a in
+    let after = schedule_of j (list_of w number left) (list_of w number right) (suc a) in
+    let step = side_part (questions w number left) (questions w number right) in
+    behind-front (questions w number (NestedJoin left right) a) (questions w number (NestedJoin left right) (suc a)) (flat_map step (drop (length before) after))
+    (ap (flat_map step) (join-schedule w number left right parts (suc a)
+    ∙ begun after before (schedule_of-more j (list_of w number left) (list_of w number right) (join-sides w number left right parts) a))
+    ∙ flat_map-append step before (drop (length before) after)
+    ∙ ap (λ (asks : List SideAsk). flat_map step asks ++ flat_map step (drop (length before) after)) (sym (join-schedule w number left right parts a)))
+grows w number (Distinct child) a formed view part weights built = absurd built
+grows w number (SetOperator left right) a formed view part weights built = absurd built
 
 -- a plan that can be executed is a part of a plan of the one block
 pub no-set : (catalogue : Catalogue) (left right : Block) (tree : PlanTree) → IsSetPlan catalogue left right tree → IsBuilt tree → ⊥
@@ -50,7 +77,7 @@ no-set catalogue left right (SeqScan entry) plan built = plan
 no-set catalogue left right (RankScan entry term index) plan built = plan
 no-set catalogue left right (Rank term child) plan built = no-set catalogue left right child plan.0 built
 no-set catalogue left right (HashJoin l r) plan built = built
-no-set catalogue left right (NestedJoin l r) plan built = built
+no-set catalogue left right (NestedJoin l r) plan built = plan
 no-set catalogue left right (Distinct child) plan built = built
 no-set catalogue left right (SetOperator l r) plan built = built
 
@@ -65,23 +92,23 @@ numbers-next first (suc n) =
     let same : suc first + n ≡ first + suc n = omega arith in
     ap (λ (rest : List ℕ). first ∷ rest) (numbers-next (suc first) n) ∙ ap (λ k. numbers_from first (suc n) ++ k ∷ []) same
 
-pub parts-in-turn : (w : World) (tree : PlanTree) (n : ℕ) → IsQuery w.catalogue w.query → IsWeights (weights_in w) → IsPlan w.catalogue w.query tree → IsBuilt tree
+pub parts-in-turn : (w : World) (tree : PlanTree) (n : ℕ) → IsQuery w.catalogue w.query → IsView (sizes_in w 1) (sizes_of w.catalogue (numbered_block w 1)) → IsWeights (weights_in w) → IsPlan w.catalogue w.query tree → IsBuilt tree
     → flat_map (part_of_plan w tree) (numbers_from 1 n) ≡ calls_of_plan w tree n
-parts-in-turn w tree zero formed weights plan built = sym (ap (map (call_for w.catalogue)) (none tree built)) where
+parts-in-turn w tree zero formed view weights plan built = sym (ap (map (call_for w.catalogue)) (none tree built)) where
   none : (tree : PlanTree) → IsBuilt tree → questions w 1 tree 0 ≡ []
   none (SeqScan entry) built = refl
   none (RankScan entry term index) built = refl
   none (Rank term child) built = refl
   none (HashJoin left right) built = absurd built
-  none (NestedJoin left right) built = absurd built
+  none (NestedJoin left right) built = refl
   none (Distinct child) built = absurd built
   none (SetOperator left right) built = absurd built
-parts-in-turn w tree (suc n) formed weights plan built =
+parts-in-turn w tree (suc n) formed view weights plan built =
     let call = call_for w.catalogue in
     let same : 1 + n ≡ suc n = omega arith in
     ap (flat_map (part_of_plan w tree)) (numbers-next 1 n)
     ∙ flat_map-append (part_of_plan w tree) (numbers_from 1 n) ((1 + n) ∷ [])
-    ∙ ap (λ (calls : List Call). calls ++ flat_map (part_of_plan w tree) ((1 + n) ∷ [])) (parts-in-turn w tree n formed weights plan built)
+    ∙ ap (λ (calls : List Call). calls ++ flat_map (part_of_plan w tree) ((1 + n) ∷ [])) (parts-in-turn w tree n formed view weights plan built)
     ∙ ap (λ (calls : List Call). calls_of_plan w tree n ++ calls) (append-nil (part_of_plan w tree (1 + n)) ∙ ap (part_of_plan w tree) same)
     ∙ sym (map-append call (questions w 1 tree n) (questions_of_ask w 1 tree (suc n)))
-    ∙ ap (map call) (sym (grows w 1 tree n formed (part-plan w.catalogue w.query tree plan built) weights built))
+    ∙ ap (map call) (sym (grows w 1 tree n formed view (part-plan w.catalogue w.query tree plan built) weights built))

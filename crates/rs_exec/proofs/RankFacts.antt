@@ -68,7 +68,7 @@ length-filter-map p f (x ∷ xs) =
       | false ↦ length-filter-map p f xs
     ]
 
-bar_after-map : {X K : Type 0} (key : X → K) (xs : List X) (n : ℕ) → bar_after (λ (k : K). k) (map key xs) n ≡ bar_after key xs n
+pub bar_after-map : {X K : Type 0} (key : X → K) (xs : List X) (n : ℕ) → bar_after (λ (k : K). k) (map key xs) n ≡ bar_after key xs n
 bar_after-map key [] n = refl
 bar_after-map key (x ∷ xs) zero = refl
 bar_after-map key (x ∷ xs) (suc n) = bar_after-map key xs n

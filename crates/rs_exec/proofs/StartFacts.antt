@@ -1,5 +1,5 @@
 -- Nodes that are made stand before any ask.
-use Rattle.std.proofs.Common.{◌≡◌, ◌∙◌, ℕ, zero, suc, ◌-◌, ◌≤◌, Bool, false, List, [], ◌∷◌, length, map, refl, sym, ap, subst, arith}
+use Rattle.std.proofs.Common.{◌≡◌, ◌∙◌, ℕ, zero, suc, ◌-◌, ◌≤◌, Bool, false, List, [], ◌∷◌, length, map, None, refl, sym, ap, ap₂, subst, arith}
 use Rattle.std.specs.Prelude.{min, nat_lt, slice_get, slice_index, unwrap_or}
 use Rattle.std.proofs.lemmas.Bool.Decides.{nat_tests}
 use Rattle.rs_mu.specs.Mu.{new_mu}
@@ -12,10 +12,14 @@ use Rattle.rs_rank.specs.declared.weights.Weights.{Weights}
 use Rattle.rs_plan.specs.Counts.{size_at}
 use Rattle.rs_plan.specs.Lists.{World, list_of, numbered_block, sizes_in, weights_in}
 use Rattle.rs_plan.specs.Plans.{IsEntryNumber, IsPart}
-use Rattle.rs_plan.specs.Trees.{Distinct, HashJoin, NestedJoin, Rank, RankScan, SeqScan, SetOperator, PlanTree, terms}
+use Rattle.rs_plan.specs.Trees.{Distinct, HashJoin, NestedJoin, Rank, RankScan, SeqScan, SetOperator, PlanTree, entries, terms}
+use Rattle.rs_ripple.specs.Joined.{Joined, new_joined}
+use Rattle.rs_ripple.specs.Stands.{side_keys, state_after}
+use Rattle.rs_exec.specs.Joining.{join_for, side_for}
 use Rattle.rs_exec.specs.Nodes.{asked_in, tree_in}
-use Rattle.rs_exec.specs.Standing.{HeadStands, Stands, core_after, index_node_after, rank_node_after, table_node_after, tally_after}
+use Rattle.rs_exec.specs.Standing.{HeadStands, JoinStands, Stands, core_after, index_node_after, join_node_after, joined_from, rank_node_after, table_node_after, tally_after}
 use Rattle.rs_exec.specs.Starting.{IsStart, no_tally}
+use Rattle.rs_exec.specs.declared.join.JoinNode.{JoinNode}
 use Rattle.rs_exec.specs.declared.node.Node.{Node}
 use Rattle.rs_exec.specs.declared.node.Node.TheVariants as node
 use Rattle.rs_exec.specs.declared.rank.RankNode.{RankNode}
@@ -28,15 +32,22 @@ pub start-tree : (catalogue : Catalogue) (block : Block) (number : ℕ) (tree : 
 start-tree catalogue block number (SeqScan entry) (node.SeqScan head) is = ap (λ (h : TableNode). SeqScan h.entry) is
 start-tree catalogue block number (SeqScan entry) (node.RankScan head) is = absurd is
 start-tree catalogue block number (SeqScan entry) (node.Rank' head p below) is = absurd is
+start-tree catalogue block number (SeqScan entry) (node.NestedJoin' head p l q r) is = absurd is
 start-tree catalogue block number (RankScan entry term index) (node.SeqScan head) is = absurd is
 start-tree catalogue block number (RankScan entry term index) (node.RankScan head) is = ap (λ (h : IndexNode). RankScan h.entry h.term h.scan.index) is
 start-tree catalogue block number (RankScan entry term index) (node.Rank' head p below) is = absurd is
+start-tree catalogue block number (RankScan entry term index) (node.NestedJoin' head p l q r) is = absurd is
 start-tree catalogue block number (Rank term child) (node.SeqScan head) is = absurd is
 start-tree catalogue block number (Rank term child) (node.RankScan head) is = absurd is
 start-tree catalogue block number (Rank term child) (node.Rank' head p below) is =
     ap (λ (h : RankNode). Rank h.term (tree_in below)) is.0 ∙ ap (Rank term) (start-tree catalogue block number child below is.1)
+start-tree catalogue block number (Rank term child) (node.NestedJoin' head p l q r) is = absurd is
 start-tree catalogue block number (HashJoin left right) n is = absurd is
-start-tree catalogue block number (NestedJoin left right) n is = absurd is
+start-tree catalogue block number (NestedJoin left right) (node.SeqScan head) is = absurd is
+start-tree catalogue block number (NestedJoin left right) (node.RankScan head) is = absurd is
+start-tree catalogue block number (NestedJoin left right) (node.Rank' head p below) is = absurd is
+start-tree catalogue block number (NestedJoin left right) (node.NestedJoin' head p l q r) is =
+    ap₂ NestedJoin (start-tree catalogue block number left l is.1) (start-tree catalogue block number right r is.2)
 start-tree catalogue block number (Distinct child) n is = absurd is
 start-tree catalogue block number (SetOperator left right) n is = absurd is
 
@@ -45,14 +56,20 @@ pub start-asked : (catalogue : Catalogue) (block : Block) (number : ℕ) (tree :
 start-asked catalogue block number (SeqScan entry) (node.SeqScan head) is = ap (λ (h : TableNode). h.tally.asked) is
 start-asked catalogue block number (SeqScan entry) (node.RankScan head) is = absurd is
 start-asked catalogue block number (SeqScan entry) (node.Rank' head p below) is = absurd is
+start-asked catalogue block number (SeqScan entry) (node.NestedJoin' head p l q r) is = absurd is
 start-asked catalogue block number (RankScan entry term index) (node.SeqScan head) is = absurd is
 start-asked catalogue block number (RankScan entry term index) (node.RankScan head) is = ap (λ (h : IndexNode). h.tally.asked) is
 start-asked catalogue block number (RankScan entry term index) (node.Rank' head p below) is = absurd is
+start-asked catalogue block number (RankScan entry term index) (node.NestedJoin' head p l q r) is = absurd is
 start-asked catalogue block number (Rank term child) (node.SeqScan head) is = absurd is
 start-asked catalogue block number (Rank term child) (node.RankScan head) is = absurd is
 start-asked catalogue block number (Rank term child) (node.Rank' head p below) is = ap (λ (h : RankNode). h.tally.asked) is.0
+start-asked catalogue block number (Rank term child) (node.NestedJoin' head p l q r) is = absurd is
 start-asked catalogue block number (HashJoin left right) n is = absurd is
-start-asked catalogue block number (NestedJoin left right) n is = absurd is
+start-asked catalogue block number (NestedJoin left right) (node.SeqScan head) is = absurd is
+start-asked catalogue block number (NestedJoin left right) (node.RankScan head) is = absurd is
+start-asked catalogue block number (NestedJoin left right) (node.Rank' head p below) is = absurd is
+start-asked catalogue block number (NestedJoin left right) (node.NestedJoin' head p l q r) is = ap (λ (h : JoinNode). h.tally.asked) is.0
 start-asked catalogue block number (Distinct child) n is = absurd is
 start-asked catalogue block number (SetOperator left right) n is = absurd is
 
@@ -86,6 +103,25 @@ rank-none w number term child =
     ∙ ap (λ (count : ℕ). record { core = core_after w number term child 0 count; term = term; tally = record { asked = 0; gave = count }; calls = 0 }) gave
     ∙ ap (λ (calls : ℕ). record (rank_node_after w number term child 0) { calls = calls }) (none-given (length (list_of w number child)))
 
+-- a join of which nothing is drawn
+abbrev new_join : Weights → ℕ → PlanTree → PlanTree → JoinNode
+new_join weights number left right =
+    record { core = new_joined weights (side_for left) (side_for right); block = number; left = entries left; right = entries right; tally = no_tally }
+
+join-none : (w : World) (number : ℕ) (left right : PlanTree) → new_join (weights_in w) number left right ≡ join_node_after w number left right 0
+join-none w number left right =
+    let j = join_for w number left right in
+    let node : Joined → ℕ → JoinNode = λ core gave. record { core = core; block = number; left = entries left; right = entries right; tally = record { asked = 0; gave = gave } } in
+    let core : Bool → Bool → Joined = λ left_over right_over. record (joined_from w number left right 0 0 0) {
+      ripple = record (state_after j (list_of w number left) (list_of w number right) 0 0 0) {
+        left = record { side = side_for left; drawn = None; ended = left_over };
+        right = record { side = side_for right; drawn = None; ended = right_over };
+      };
+    } in
+    ap₂ (λ (left_over right_over : Bool). node (core left_over right_over) 0)
+    (none-less (length (side_keys j j.left (list_of w number left)))) (none-less (length (side_keys j j.right (list_of w number right))))
+    ∙ ap (λ (gave : ℕ). node (joined_from w number left right 0 0 gave) gave) (none-given (length (list_of w number (NestedJoin left right))))
+
 module _ (w : World) (number : ℕ) (most : length (numbered_block w number).from ≤ 6) (sizes : sizes_in w number ≡ sizes_of w.catalogue (numbered_block w number)) where
   -- an entry has the rows of its table
   pub size-is : (entry : ℕ) → IsEntryNumber (numbered_block w number) entry → size_of w.catalogue (numbered_block w number) entry ≡ size_at w number entry
@@ -103,6 +139,7 @@ module _ (w : World) (number : ℕ) (most : length (numbered_block w number).fro
         (tally-none w number (SeqScan entry)))
     start-stands (SeqScan entry) (node.RankScan head) part is = absurd is
     start-stands (SeqScan entry) (node.Rank' head p below) part is = absurd is
+    start-stands (SeqScan entry) (node.NestedJoin' head p l q r) part is = absurd is
     start-stands (RankScan entry term index) (node.SeqScan head) part is = absurd is
     start-stands (RankScan entry term index) (node.RankScan head) part is =
         subst (λ (h : IndexNode). h ≡ index_node_after w number h.entry h.term h.scan.index h.tally.asked) (sym is)
@@ -128,6 +165,7 @@ module _ (w : World) (number : ℕ) (most : length (numbered_block w number).fro
           tally = tally;
         }) (tally-none w number (RankScan entry term index)))
     start-stands (RankScan entry term index) (node.Rank' head p below) part is = absurd is
+    start-stands (RankScan entry term index) (node.NestedJoin' head p l q r) part is = absurd is
     start-stands (Rank term child) (node.SeqScan head) part is = absurd is
     start-stands (Rank term child) (node.RankScan head) part is = absurd is
     start-stands (Rank term child) (node.Rank' head p below) part is =
@@ -140,7 +178,23 @@ module _ (w : World) (number : ℕ) (most : length (numbered_block w number).fro
           }),
           start-stands child below part.0 is.1,
         )
+    start-stands (Rank term child) (node.NestedJoin' head p l q r) part is = absurd is
     start-stands (HashJoin left right) n part is = absurd is
-    start-stands (NestedJoin left right) n part is = absurd is
+    start-stands (NestedJoin left right) (node.SeqScan head) part is = absurd is
+    start-stands (NestedJoin left right) (node.RankScan head) part is = absurd is
+    start-stands (NestedJoin left right) (node.Rank' head p below) part is = absurd is
+    start-stands (NestedJoin left right) (node.NestedJoin' head p l q r) part is =
+        let on_left = start-tree w.catalogue (numbered_block w number) number left l is.1 in
+        let on_right = start-tree w.catalogue (numbered_block w number) number right r is.2 in (
+          subst (λ (h : JoinNode). JoinStands w number h (tree_in l) (tree_in r) (asked_in l) (asked_in r)) (sym is.0) (record {
+            keeps = ap (λ (ws : Weights). new_join ws number left right) weights
+                ∙ ap₂ (new_join (weights_in w) number) (sym on_left) (sym on_right)
+                ∙ join-none w number (tree_in l) (tree_in r);
+            left_asked = start-asked w.catalogue (numbered_block w number) number left l is.1;
+            right_asked = start-asked w.catalogue (numbered_block w number) number right r is.2;
+          }),
+          start-stands left l part.0 is.1,
+          start-stands right r part.1 is.2,
+        )
     start-stands (Distinct child) n part is = absurd is
     start-stands (SetOperator left right) n part is = absurd is

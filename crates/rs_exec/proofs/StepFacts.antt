@@ -2,7 +2,8 @@
 use Rattle.std.proofs.Common.{◌≡◌, ◌∙◌, ℕ, zero, suc, ◌≤◌, ◌<◌, ◌+◌, ◌-◌, true, false, List, [], ◌∷◌, ◌++◌, length, map, get_or, cond, eqb, refl, sym, ap, subst, inl, inr, arith, append-nil, append_assoc}
 use Rattle.std.specs.List.{flat_map}
 use Rattle.std.proofs.lemmas.Grind.{flat_map-append}
-use Rattle.std.proofs.lemmas.Option.{slice_get_past, slice_get_within}
+use Rattle.std.proofs.lemmas.List.{get_or-map}
+use Rattle.std.proofs.lemmas.Option.{get_or_from_slice_get, slice_get_past, slice_get_within}
 use Rattle.rs_order.proofs.EachFacts.{each-slice_get}
 use Rattle.rs_order.specs.Sorting.{sorted}
 use Rattle.rs_order.proofs.ReorderFacts.{asks_upto-none}
@@ -114,9 +115,7 @@ all-asks e rows n past =
 
 -- what a function gives of the item at a place
 pub get_or-map-at : {A : Type 0} (f : A → ℕ) (xs : List A) (i : ℕ) (x : A) → slice_get xs i ≡ Some x → get_or (map f xs) i 0 ≡ f x
-get_or-map-at f [] i x there = cc
-get_or-map-at f (y ∷ xs) zero x there = let same : y ≡ x = cc in ap f same
-get_or-map-at f (y ∷ xs) (suc i) x there = get_or-map-at f xs i x there
+get_or-map-at f xs i x there = get_or-map f xs i x 0 (slice_get_within xs i x there) ∙ ap f (get_or_from_slice_get xs i x x there)
 
 -- each block of a query is well formed
 pub block-formed : (catalogue : Catalogue) (query : Query) (number : ℕ) → IsQuery catalogue query → IsBlock catalogue (block_in query number)
@@ -209,7 +208,7 @@ module _ (catalogue : Catalogue) (query : Query) (number term : ℕ) (child : Pl
       let size = same-length in
       let few = can.few in
       subst (λ answer. CanAsk catalogue answer query number child asks) (sym between.all_asked.keeps.answer)
-      (record { formed = can.formed; number_is = can.number_is; part = can.part.0; indexes = can.indexes; weights = can.weights; more = omega arith; few = omega arith })
+      (record { formed = can.formed; number_is = can.number_is; part = can.part.0; indexes = can.indexes; weights = can.weights; more = omega arith; tables = can.tables; few = omega arith })
 
   -- a row of the input is one of its part of the plan, and the term is one of its block
   pub row-is : (asks : ℕ) (row : RankRow) → slice_get (list_of w number child) asks ≡ Some row → IsRow w number child row

@@ -1,24 +1,27 @@
 -- What one ask of a node of a plan did.
 use Rattle.std.specs.Prelude.{ℕ, suc, ◌≡◌, ◌⊎◌, ◌≤◌, ◌^◌, length, Option, Result, IsOk}
+use Rattle.std.specs.List.{AllByRecursion}
 use Rattle.rs_expr.specs.InOrder.{Inquires}
 use Rattle.rs_expr.specs.Scoring.{Answering, ScorerState}
 use Rattle.rs_rank.specs.declared.row.RankRow.{RankRow}
 use Rattle.rs_rank.specs.Weights.{IsWeights}
 use Rattle.rs_catalog.specs.Catalogue.{Catalogue}
+use Rattle.rs_query.specs.Tables.{sizes_of}
 use Rattle.rs_query.specs.WellFormed.{IsQuery}
 use Rattle.rs_query.specs.declared.query.Query.{Query}
 use Rattle.rs_query.specs.declared.query.Query.TheVariants.{One, Set}
 use Rattle.rs_plan.specs.Lists.{World, block_in, list_of, weights_in}
 use Rattle.rs_plan.specs.Plans.{IsPart}
-use Rattle.rs_plan.specs.Trees.{Rank, PlanTree}
+use Rattle.rs_plan.specs.Trees.{NestedJoin, Rank, PlanTree}
 use Rattle.rs_exec.specs.declared.fault.ExecFault.{ExecFault}
 use Rattle.rs_exec.specs.declared.fault.ExecFault.TheVariants.{Memory}
+use Rattle.rs_exec.specs.declared.join.JoinNode.{JoinNode}
 use Rattle.rs_exec.specs.declared.node.Node.{Node}
 use Rattle.rs_exec.specs.declared.rank.RankNode.{RankNode}
 use Rattle.rs_exec.specs.Asking.{next_row, world_of}
 use Rattle.rs_exec.specs.Indexes.{HoldIndexes}
 use Rattle.rs_exec.specs.Nodes.{asked_in, number_in, tree_in}
-use Rattle.rs_exec.specs.Standing.{HeadStands, Stands}
+use Rattle.rs_exec.specs.Standing.{HeadStands, JoinStands, Stands}
 
 -- the number of a block of a query
 abbrev pub HasBlock : Query → ℕ → Type 0
@@ -26,7 +29,7 @@ HasBlock (One block limit) number = number ≡ 1
 HasBlock (Set op left right limit) number = (number ≡ 1) ⊎ (number ≡ 2)
 
 -- a part of a plan of a block can be asked once more: the query and the part are those of the catalogue, its indexes hold the
--- answers, the weights are within their limits, no ask found its end, and its list has no more rows than six tables can make
+-- answers, the weights are within their limits, no ask found its end, and no table, and so no list, has more rows than it may have
 pub record CanAsk (catalogue : Catalogue) (answer : Answering) (query : Query) (number : ℕ) (tree : PlanTree) (asked : ℕ) : Type 0 where
   pub formed : IsQuery catalogue query
   pub number_is : HasBlock query number
@@ -34,6 +37,7 @@ pub record CanAsk (catalogue : Catalogue) (answer : Answering) (query : Query) (
   pub indexes : HoldIndexes answer catalogue tree
   pub weights : IsWeights (weights_in (world_of catalogue answer query))
   pub more : asked ≤ length (list_of (world_of catalogue answer query) number tree)
+  pub tables : AllByRecursion (λ size. size ≤ 131072) (sizes_of catalogue (block_in query number))
   pub few : length (list_of (world_of catalogue answer query) number tree) ≤ 2 ^ 102
 
 -- what holds of a node after an ask that was answered: it is of the same tree and block, was asked once more, and stands
@@ -50,6 +54,15 @@ pub record RankAfter (w : World) (number : ℕ) (tree : PlanTree) (asked : ℕ) 
   pub asked_is : head.tally.asked ≡ suc asked
   pub operator : HeadStands w number head (tree_in child) (asked_in child)
   pub input : Stands w number child
+
+-- the same of a join and its two sides
+pub record JoinAfter (w : World) (number : ℕ) (tree : PlanTree) (asked : ℕ) (head : JoinNode) (left right : Node) : Type 0 where
+  pub number_is : head.block ≡ number
+  pub tree_is : NestedJoin (tree_in left) (tree_in right) ≡ tree
+  pub asked_is : head.tally.asked ≡ suc asked
+  pub operator : JoinStands w number head (tree_in left) (tree_in right) (asked_in left) (asked_in right)
+  pub left_side : Stands w number left
+  pub right_side : Stands w number right
 
 -- an ask of a node of this tree, which was asked so often: it made the calls of this ask, in order, and gave the next row; and
 -- where it was answered, this holds after it

@@ -8,8 +8,9 @@ use Rattle.rs_catalog.specs.Catalogue.{Catalogue}
 use Rattle.rs_query.specs.Answers.{limit_of}
 use Rattle.rs_query.specs.Meaning.{outputs_of}
 use Rattle.rs_query.specs.Questions.{asking}
-use Rattle.rs_query.specs.WellFormed.{IsQuery}
+use Rattle.rs_query.specs.WellFormed.{AreSameTerms, IsQuery}
 use Rattle.rs_query.specs.declared.query.Query.{Query}
+use Rattle.rs_query.specs.declared.query.Query.TheVariants.{One, Set}
 use Rattle.rs_plan.specs.Calls.{questions_of_ask}
 use Rattle.rs_plan.specs.Lists.{World, numbered_block, list_of_plan}
 use Rattle.rs_plan.specs.Plans.{IsPlan}
@@ -30,6 +31,11 @@ answer_for w row = record { ids = row.ids; score = row.sum; values = outputs_of 
 -- the rows that a cursor gives where there is no LIMIT
 abbrev pub answers_of : World → PlanTree → List Answer
 answers_of w tree = map (answer_for w) (list_of_plan w tree)
+
+-- no block of a query has more than eight terms, and two blocks have the same
+abbrev pub HasFewTerms : Query → Type 0
+HasFewTerms (One block limit) = length block.terms ≤ 8
+HasFewTerms (Set op left right limit) = (length left.terms ≤ 8) × (length right.terms ≤ 8) × AreSameTerms left right left.terms right.terms
 
 -- so many rows are as many as LIMIT says
 abbrev pub is_limit : Option ℕ → ℕ → Bool

@@ -5,6 +5,7 @@ pub mod Cursors
 pub mod Drawing
 pub mod Feeding
 pub mod Indexes
+pub mod Joining
 pub mod Nodes
 pub mod Standing
 pub mod Starting

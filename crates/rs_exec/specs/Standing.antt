@@ -1,19 +1,23 @@
 -- What each node of a plan keeps once it was asked so often: a function of the finished lists alone. A node stands where it keeps
 -- just that. These are equations, one at each node.
 use Rattle.std.specs.Prelude.{ℕ, ◌≡◌, ◌-◌, slice_index}
-use Rattle.rs_order.specs.Schedule.{Left}
+use Rattle.rs_order.specs.Schedule.{Left, Right}
 use Rattle.rs_rank.specs.declared.row.RankRow.{RankRow}
 use Rattle.rs_mu.specs.Mu.{Mu}
 use Rattle.rs_mu.specs.Stands.{Evaluation, state_after}
 use Rattle.rs_plan.specs.Counts.{asked_of, drawn_of, gave_of, size_at}
 use Rattle.rs_plan.specs.Lists.{World, list_of, weights_in, worths}
-use Rattle.rs_plan.specs.Trees.{Rank, RankScan, SeqScan, PlanTree, terms}
+use Rattle.rs_plan.specs.Trees.{NestedJoin, Rank, RankScan, SeqScan, PlanTree, entries, terms}
+use Rattle.rs_ripple.specs.After.{joined_after}
+use Rattle.rs_ripple.specs.Joined.{Joined}
+use Rattle.rs_exec.specs.declared.join.JoinNode.{JoinNode}
 use Rattle.rs_exec.specs.declared.node.Node.{Node}
 use Rattle.rs_exec.specs.declared.node.Node.TheVariants as node
 use Rattle.rs_exec.specs.declared.rank.RankNode.{RankNode}
 use Rattle.rs_exec.specs.declared.scan.IndexNode.{IndexNode}
 use Rattle.rs_exec.specs.declared.scan.TableNode.{TableNode}
 use Rattle.rs_exec.specs.declared.tally.Tally.{Tally}
+use Rattle.rs_exec.specs.Joining.{join_for}
 use Rattle.rs_exec.specs.Nodes.{asked_in, tree_in}
 
 -- so many asks, and a row for each as long as the list has more
@@ -73,8 +77,32 @@ pub record HeadStands (w : World) (number : ℕ) (head : RankNode) (child : Plan
   pub keeps : head ≡ rank_node_after w number head.term child head.tally.asked
   pub asked : asks ≡ asked_of w number (Rank head.term child) head.tally.asked Left
 
+-- a join holds the pairs of its rows that match and weren't given, after so many asks of each side and so many answers
+abbrev pub joined_from : World → ℕ → PlanTree → PlanTree → ℕ → ℕ → ℕ → Joined
+joined_from w number left right left_asks right_asks answers =
+    joined_after (join_for w number left right) (list_of w number left) (list_of w number right) left_asks right_asks answers
+
+-- a nested join: its sides were asked as often as its answers take
+abbrev pub join_node_after : World → ℕ → PlanTree → PlanTree → ℕ → JoinNode
+join_node_after w number left right a = record {
+  core = joined_from w number left right
+      (asked_of w number (NestedJoin left right) a Left) (asked_of w number (NestedJoin left right) a Right) (gave_of w number (NestedJoin left right) a);
+  block = number;
+  left = entries left;
+  right = entries right;
+  tally = tally_after w number (NestedJoin left right) a;
+}
+
+-- a join over sides of these trees that were asked so often keeps what its own asks give
+pub record JoinStands (w : World) (number : ℕ) (head : JoinNode) (left right : PlanTree) (left_asks right_asks : ℕ) : Type 0 where
+  pub keeps : head ≡ join_node_after w number left right head.tally.asked
+  pub left_asked : left_asks ≡ asked_of w number (NestedJoin left right) head.tally.asked Left
+  pub right_asked : right_asks ≡ asked_of w number (NestedJoin left right) head.tally.asked Right
+
 -- a node and all below it keep what the asks of the node give
 abbrev pub Stands : World → ℕ → Node → Type 0
 Stands w number (node.SeqScan head) = head ≡ table_node_after w number head.entry head.tally.asked
 Stands w number (node.RankScan head) = head ≡ index_node_after w number head.entry head.term head.scan.index head.tally.asked
 Stands w number (node.Rank' head p child) = HeadStands w number head (tree_in child) (asked_in child) × Stands w number child
+Stands w number (node.NestedJoin' head p left q right) =
+    JoinStands w number head (tree_in left) (tree_in right) (asked_in left) (asked_in right) × Stands w number left × Stands w number right

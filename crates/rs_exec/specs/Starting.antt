@@ -6,11 +6,14 @@ use Rattle.rs_query.specs.Answers.{weights_of}
 use Rattle.rs_query.specs.Tables.{size_of}
 use Rattle.rs_query.specs.declared.block.Block.{Block}
 use Rattle.rs_scan.specs.Scans.{new_index_scan, new_table_scan}
-use Rattle.rs_plan.specs.Trees.{Rank, RankScan, SeqScan, PlanTree, terms}
+use Rattle.rs_plan.specs.Trees.{NestedJoin, Rank, RankScan, SeqScan, PlanTree, entries, terms}
+use Rattle.rs_ripple.specs.Joined.{new_joined}
+use Rattle.rs_exec.specs.declared.join.JoinNode.{JoinNode}
 use Rattle.rs_exec.specs.declared.node.Node.{Node}
 use Rattle.rs_exec.specs.declared.node.Node.TheVariants as node
 use Rattle.rs_exec.specs.declared.rank.RankNode.{RankNode}
 use Rattle.rs_exec.specs.declared.tally.Tally.{Tally}
+use Rattle.rs_exec.specs.Joining.{side_for}
 
 abbrev pub no_tally : Tally
 no_tally = record { asked = 0; gave = 0 }
@@ -30,6 +33,15 @@ IsStart catalogue block number (RankScan entry term index) (node.RankScan head) 
 IsStart catalogue block number (Rank term child) (node.Rank' head p below) =
     (head ≡ record { core = new_mu (weights_of block) (terms child) term; term = term; tally = no_tally; calls = 0 })
     × IsStart catalogue block number child below
+IsStart catalogue block number (NestedJoin left right) (node.NestedJoin' head p on_left q on_right) =
+    (head ≡ record {
+      core = new_joined (weights_of block) (side_for left) (side_for right);
+      block = number;
+      left = entries left;
+      right = entries right;
+      tally = no_tally;
+    })
+    × IsStart catalogue block number left on_left × IsStart catalogue block number right on_right
 IsStart catalogue block number tree nodes = ⊥
 
 -- an operator over these nodes
@@ -37,3 +49,11 @@ abbrev pub IsRankOver : RankNode → Node → Node → Type 0
 IsRankOver head below (node.Rank' top p child) = (top ≡ head) × (child ≡ below)
 IsRankOver head below (node.SeqScan top) = ⊥
 IsRankOver head below (node.RankScan top) = ⊥
+IsRankOver head below (node.NestedJoin' top p left q right) = ⊥
+
+-- a join over these nodes
+abbrev pub IsJoinOver : JoinNode → Node → Node → Node → Type 0
+IsJoinOver head on_left on_right (node.NestedJoin' top p left q right) = (top ≡ head) × (left ≡ on_left) × (right ≡ on_right)
+IsJoinOver head on_left on_right (node.SeqScan top) = ⊥
+IsJoinOver head on_left on_right (node.RankScan top) = ⊥
+IsJoinOver head on_left on_right (node.Rank' top p child) = ⊥

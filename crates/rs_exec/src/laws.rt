@@ -13,19 +13,21 @@ ghost use Rattle.rs_table.specs.Relation.{Relation};
 ghost use Rattle.rs_catalog.specs.Catalogue.{Catalogue, with_index, with_predicate, with_table};
 ghost use Rattle.rs_catalog.specs.declared.index.IndexDef.{IndexDef};
 ghost use Rattle.rs_query.specs.Answers.{answer_of, cut, limit_of, rows_of};
+ghost use Rattle.rs_query.specs.Tables.{sizes_of};
 ghost use Rattle.rs_query.specs.WellFormed.{IsQuery};
 ghost use Rattle.rs_plan.specs.Calls.{calls_of_plan, part_of_plan};
-ghost use Rattle.rs_plan.specs.Lists.{World, list_of_plan, weights_in};
+ghost use Rattle.rs_filter.specs.Matching.{IsView};
+ghost use Rattle.rs_plan.specs.Lists.{World, list_of_plan, numbered_block, sizes_in, weights_in};
 ghost use Rattle.rs_plan.specs.Plans.{IsPlan};
 ghost use Rattle.rs_plan.specs.Trees.{PlanTree};
 ghost use Rattle.rs_exec.specs.Building.{IsBuilt};
-ghost use Rattle.rs_exec.specs.Cursors.{CursorState, StandsFor, answers_of};
+ghost use Rattle.rs_exec.specs.Cursors.{CursorState, HasFewTerms, StandsFor, answers_of};
 
 /// The rows of a plan are those of the query in the stable order of their scores. Cut to LIMIT they are its answer.
 pub fn plans_give_the_answer()
-    ensures order { (w : World) (tree : PlanTree) → IsQuery w.catalogue w.query → IsPlan w.catalogue w.query tree
+    ensures order { (w : World) (tree : PlanTree) → HasFewTerms w.query → IsPlan w.catalogue w.query tree
         → answers_of w tree ≡ stable (λ row. row.score) (rows_of w.answer w.catalogue w.query w.view) }
-    ensures answer { (w : World) (tree : PlanTree) → IsQuery w.catalogue w.query → IsPlan w.catalogue w.query tree
+    ensures answer { (w : World) (tree : PlanTree) → HasFewTerms w.query → IsPlan w.catalogue w.query tree
         → cut (limit_of w.query) (answers_of w tree) ≡ answer_of w.answer w.catalogue w.query w.view }
 {}
 
@@ -38,7 +40,8 @@ pub fn plans_give_the_same_rows()
 /// The calls of the first asks, one ask after another, are those that come with so many asks: no call is made ahead, and none
 /// twice.
 pub fn rows_give_the_parts_in_turn()
-    ensures { (w : World) (tree : PlanTree) (n : ℕ) → IsQuery w.catalogue w.query → IsWeights (weights_in w)
+    ensures { (w : World) (tree : PlanTree) (n : ℕ) → IsQuery w.catalogue w.query
+        → IsView (sizes_in w 1) (sizes_of w.catalogue (numbered_block w 1)) → IsWeights (weights_in w)
         → IsPlan w.catalogue w.query tree → IsBuilt tree
         → flat_map (part_of_plan w tree) (numbers_from 1 n) ≡ calls_of_plan w tree n }
 {}

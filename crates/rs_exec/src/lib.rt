@@ -1,11 +1,14 @@
 //! The executor. A cursor gives the rows of a query's answer one after another, in the order of a plan: each is asked for only
-//! once it is wanted, and the scorer is called only where the plan's operators need it. Plans of scans and rank operators are
-//! executed; joins, DISTINCT and set operators are not built yet.
+//! once it is wanted, and the scorer is called only where the plan's operators need it. Plans of scans, rank operators and
+//! nested joins are executed; hash joins, DISTINCT and set operators are not built yet.
 #![tactic(auto)]
 
 mod block;
 mod cursor;
 mod fault;
+mod held;
+mod join;
+mod join_laws;
 mod laws;
 mod node;
 mod rank;
@@ -16,6 +19,8 @@ mod tally;
 
 pub use cursor::Cursor;
 pub use fault::ExecFault;
+pub use held::indexes_go_on_to_hold_answers;
+pub use join_laws::joins_give_the_pairs_that_match;
 pub use laws::{
     cursors_stand_in_larger_catalogues, plans_give_the_answer, plans_give_the_same_rows,
     rows_give_the_parts_in_turn,

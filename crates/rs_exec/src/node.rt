@@ -1,10 +1,11 @@
 ghost use Rattle.std.specs.Prelude.{◌≡◌, ◌∷◌, [], slice_get};
 ghost use Rattle.rs_exec.specs.Asked.{Asked, CanAsk, NodeAfter};
 ghost use Rattle.rs_exec.specs.Asking.{world_of};
-ghost use Rattle.rs_exec.specs.Nodes.{asked_in, counts_in, number_in, tally_in, tree_in};
+ghost use Rattle.rs_exec.specs.Nodes.{asked_in, at_or_past, counts_in, number_in, tally_in, tree_in};
 ghost use Rattle.rs_exec.specs.Standing.{Stands};
 
 use crate::fault::ExecFault;
+use crate::join::{JoinNode, next_joined};
 use crate::rank::{RankNode, next_ranked};
 use crate::scan::{IndexNode, TableNode};
 use crate::tally::Tally;
@@ -21,6 +22,7 @@ pub(crate) enum Node {
     SeqScan(TableNode),
     RankScan(IndexNode),
     Rank(RankNode, Box<Node>),
+    NestedJoin(JoinNode, Box<Node>, Box<Node>),
 }
 
 impl Node {
@@ -44,6 +46,9 @@ impl Node {
             Node::SeqScan(head) => Ok(head.next(alloc, catalog, query)?),
             Node::RankScan(head) => Ok(head.next(alloc, catalog, query)?),
             Node::Rank(head, child) => next_ranked(head, child, alloc, catalog, query, scorer),
+            Node::NestedJoin(head, left, right) => {
+                next_joined(head, left, right, alloc, catalog, query, scorer)
+            }
         }
     }
 
@@ -55,29 +60,50 @@ impl Node {
             Node::SeqScan(head) => head.tally,
             Node::RankScan(head) => head.tally,
             Node::Rank(head, _) => head.tally,
+            Node::NestedJoin(head, _, _) => head.tally,
         }
     }
 
-    /// What the node at a place counts, in the order of a node before its children, from 0.
+    /// What the node at a place counts, in the order of a node before its children, and of the left one before the right one,
+    /// from 0.
     pub(crate) fn counts_at(&self, place: u8) -> Option<Counts>
         ensures { result ≡ slice_get (counts_in self.now) place }
     {
+        match self.counts_or_past(place) {
+            Ok(counts) => Some(counts),
+            Err(_) => None,
+        }
+    }
+
+    /// The same; past the last node, by how many places.
+    fn counts_or_past(&self, place: u8) -> Result<Counts, u8>
+        ensures { result ≡ at_or_past (counts_in self.now) place }
+    {
         match self {
-            Node::SeqScan(head) => counts_if_first(place, head.counts()),
-            Node::RankScan(head) => counts_if_first(place, head.counts()),
-            Node::Rank(head, child) => {
-                if place == 0 {
-                    return Some(head.counts());
-                }
-                child.counts_at(place - 1)
-            }
+            Node::SeqScan(head) => counts_or_next(place, head.counts()),
+            Node::RankScan(head) => counts_or_next(place, head.counts()),
+            Node::Rank(head, child) => match counts_or_next(place, head.counts()) {
+                Ok(counts) => Ok(counts),
+                Err(place) => child.counts_or_past(place),
+            },
+            Node::NestedJoin(head, left, right) => match counts_or_next(place, head.counts()) {
+                Ok(counts) => Ok(counts),
+                Err(place) => match left.counts_or_past(place) {
+                    Ok(counts) => Ok(counts),
+                    Err(place) => right.counts_or_past(place),
+                },
+            },
         }
     }
 }
 
-/// The counts of a node without children, where the place is its own.
-fn counts_if_first(place: u8, counts: Counts) -> Option<Counts>
-    ensures { result ≡ slice_get (counts ∷ []) place }
+/// The counts of a node, where the place is its own; else the place among the nodes behind it.
+fn counts_or_next(place: u8, counts: Counts) -> Result<Counts, u8>
+    ensures { result ≡ at_or_past (counts ∷ []) place }
 {
-    if place == 0 { Some(counts) } else { None }
+    if place == 0 {
+        Ok(counts)
+    } else {
+        Err(place - 1)
+    }
 }

@@ -6,15 +6,19 @@ ghost use Rattle.rs_plan.specs.Plans.{IsEntryNumber, IsPart};
 ghost use Rattle.rs_plan.specs.Shapes.{tree_of};
 ghost use Rattle.rs_query.specs.Tables.{size_of};
 ghost use Rattle.rs_query.specs.WellFormed.{IsBlock};
+ghost use Rattle.rs_plan.specs.Numbers.{HasNumbers};
 ghost use Rattle.rs_exec.specs.Building.{IsBuilt};
-ghost use Rattle.rs_exec.specs.Starting.{IsRankOver, IsStart};
+ghost use Rattle.rs_exec.specs.Joining.{side_for};
+ghost use Rattle.rs_exec.specs.Starting.{IsJoinOver, IsRankOver, IsStart};
 
+use crate::join::JoinNode;
 use crate::node::Node;
 use crate::rank::RankNode;
 use crate::scan::{IndexNode, TableNode};
 use rs_catalog::Catalog;
 use rs_plan::Plan;
 use rs_query::Block;
+use rs_ripple::Side;
 use rs_value::Memory;
 use std::alloc::Global;
 
@@ -49,7 +53,18 @@ impl Node {
                 over(alloc, head, below)
             }
             Plan::HashJoin { left: _, right: _ } => unreachable!(),
-            Plan::NestedJoin { left: _, right: _ } => unreachable!(),
+            Plan::NestedJoin { left, right } => {
+                let head = JoinNode::new(
+                    alloc,
+                    block.weights(),
+                    number,
+                    side_of(left),
+                    side_of(right),
+                );
+                let on_left = Node::start(alloc, catalog, block, number, left)?;
+                let on_right = Node::start(alloc, catalog, block, number, right)?;
+                join_over(alloc, head, on_left, on_right)
+            }
             Plan::Distinct { child: _ } => unreachable!(),
             Plan::SetOperator { left: _, right: _ } => unreachable!(),
         }
@@ -67,6 +82,27 @@ fn over(alloc: Global, head: RankNode, below: Node) -> Result<Node, Memory>
             Err(Memory)
         }
     }
+}
+
+/// A side of a join.
+fn side_of(plan: &Plan) -> Side
+    requires { HasNumbers (tree_of plan.now) }
+    ensures { result ≡ side_for (tree_of plan.now) }
+{
+    let signature = plan.signature();
+    Side {
+        mask: signature.entries,
+        terms: signature.terms,
+    }
+}
+
+/// A join over its sides.
+fn join_over(alloc: Global, head: JoinNode, left: Node, right: Node) -> Result<Node, Memory>
+    ensures { IfOk result (IsJoinOver head left right) }
+{
+    let left = Box::new(alloc, left)?;
+    let right = Box::new(alloc, right)?;
+    Ok(Node::NestedJoin(head, left, right))
 }
 
 /// How many rows the table of an entry has.

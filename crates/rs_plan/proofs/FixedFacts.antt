@@ -2,6 +2,7 @@
 use Rattle.std.proofs.Common.{ℕ, zero, suc, ◌≡◌, ◌∙◌, ◌≤◌, ◌<◌, ◌+◌, ◌-◌, ◌^◌, ◌==◌, Bool, true, false, List, [], ◌∷◌, length, cond, eqb, not, refl, sym, ap, subst, arith, bit_or}
 use Rattle.std.proofs.lemmas.Bool.{and_parts, eqb-false, eqb-true, le-leb, not-true}
 use Rattle.std.proofs.lemmas.Option.{slice_get_within}
+use Rattle.std.specs.List.{AllByRecursion}
 use Rattle.std.specs.Prelude.{◌&&◌, ◌||◌, nat_le, IfOk, Option, Some, None, Result, Ok, Err, slice_get, if◌then◌else◌}
 use Rattle.rs_value.specs.declared.kind.Kind.{Kind}
 use Rattle.rs_value.specs.declared.memory.Memory.{Memory}
@@ -14,7 +15,7 @@ use Rattle.rs_catalog.specs.declared.index.BoundArg.TheVariants as arg
 use Rattle.rs_query.specs.Answers.{all_terms}
 use Rattle.rs_query.specs.Meaning.{is_inside}
 use Rattle.rs_query.specs.Tables.{all_entries}
-use Rattle.rs_query.specs.WellFormed.{AreArgs, IsBlock, IsTerm, argument_columns, entries_mask}
+use Rattle.rs_query.specs.WellFormed.{AreArgs, IsTerm, argument_columns, entries_mask}
 use Rattle.rs_query.specs.declared.block.Block.{Block}
 use Rattle.rs_query.specs.declared.query.Query.TheVariants.{One}
 use Rattle.rs_query.specs.declared.term.Term.{Term}
@@ -133,7 +134,7 @@ module _ (catalogue : Catalogue) (block : Block) where
       terms-one true = refl
       terms-one false = refl
 
-  module _ (formed : IsBlock catalogue block) (one : length block.from ≡ 1) where
+  module _ (few : length block.terms ≤ 8) (are_terms : AllByRecursion (IsTerm catalogue block) block.terms) (one : length block.from ≡ 1) where
     one-entry : (kinds : List Kind) (args : List BoundArg) → AreArgs catalogue block kinds args
         → entries_mask (argument_columns args) ≡ cond (nat_le 1 (length (argument_columns args))) 1 0
     one-entry [] [] are = refl
@@ -152,7 +153,7 @@ module _ (catalogue : Catalogue) (block : Block) where
 
     term-alone : (place : ℕ) (term : Term) → slice_get block.terms place ≡ Some term → term.entries ≡ 1
     term-alone place term there =
-        let is = each-slice_get (IsTerm catalogue block) block.terms place term formed.terms there in
+        let is = each-slice_get (IsTerm catalogue block) block.terms place term are_terms there in
         is.entries ∙ one-entry is.predicate.params term.args is.args ∙ some-one (length (argument_columns term.args)) is.some_column
 
     part-ranked : (below number count : ℕ) (tree : PlanTree) → 1 ≤ number → number + count ≡ suc (length block.terms) → entries tree ≡ 1 → IsPart catalogue block tree
@@ -182,9 +183,8 @@ module _ (catalogue : Catalogue) (block : Block) where
         → IsPart catalogue block (ranked_but below 1 (length block.terms) scan) × (entries (ranked_but below 1 (length block.terms) scan) ≡ 1)
         × (terms (ranked_but below 1 (length block.terms) scan) ≡ all_terms block)
     over-scan below scan within alone evaluated part =
-        let most = formed.most_terms in
         let is = and_parts (once below 1 (length block.terms) (scanned below)) (with_terms below 1 (length block.terms) (scanned below) == 2 ^ length block.terms - 1)
-        (right (length block.terms) below most within) in (
+        (right (length block.terms) below few within) in (
           part-ranked below 1 (length block.terms) scan (omega arith) (omega arith) alone part (ap (once below 1 (length block.terms)) evaluated ∙ is.0),
           entries-ranked below 1 (length block.terms) scan ∙ alone,
           terms-ranked below 1 (length block.terms) scan ∙ ap (with_terms below 1 (length block.terms)) evaluated

@@ -1,6 +1,6 @@
 pub mod CodeFacts
 pub mod DecidingFacts
-mod FixedFacts
+pub mod FixedFacts
 pub mod LawFacts
 pub mod WorkedCounts
 pub mod WorkedJoins

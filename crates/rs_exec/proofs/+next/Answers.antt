@@ -10,6 +10,7 @@ use Rattle.rs_exec.specs.declared.fault.ExecFault.TheVariants.{Memory}
 use Rattle.rs_exec.specs.declared.node.Node.{Node}
 use Rattle.rs_exec.specs.declared.node.Node.TheVariants as node
 use Rattle.rs_exec.proofs.CycleFacts.{end-kept, given, height, index-entry, index-gave, index-view, input-can, input-failed, input-stands, next-nearer, rank-asked, row-can, row-failed, row-kept, still-stopped, table-entry, table-gave}
+use Rattle.rs_exec.proofs.JoinCycleFacts.{join-asked-node, turn-block, turn-fits, turn-given, turn-left_can, turn-left_ended, turn-left_failed, turn-left_fed, turn-left_feeds, turn-left_nearer, turn-left_stands, turn-left_stopped, turn-over, turn-right_can, turn-right_ended, turn-right_failed, turn-right_fed, turn-right_feeds, turn-right_nearer, turn-right_stands, turn-right_stopped, turn-start}
 use Rattle.rs_exec.proofs.StepFacts.{Between, between-start}
 use Rattle.rs_exec.proofs.+next.Goals as goal
 
@@ -143,3 +144,114 @@ rank::next_ranked-loop-alloc-preserved g t c =
 pub rank::next_ranked-returns : goal.rank::next_ranked-returns
 rank::next_ranked-returns g t c =
     given c.loop-alloc.invariant c.requires.can c.give.new.self c.give.result (c.needs.ensures.rests c.loop-alloc-test.false) c.give.ensures.row c.give.ensures.after
+
+pub node::Node::next-returns-in-NestedJoin : goal.node::Node::next-returns-in-NestedJoin
+node::Node::next-returns-in-NestedJoin g t c =
+    let old = g.S.Scorer.state c.args.scorer.now in
+    join-asked-node (world_of c.args.catalog.now old.answer c.args.query.now) c.args.self.now c.in-NestedJoin.head c.next_joined.new.head c.in-NestedJoin.left c.in-NestedJoin.right
+    c.deref_mut-in-NestedJoin.result.now c.deref_mut-in-NestedJoin-2.result.now c.next_joined.new.left c.next_joined.new.right
+    c.next_joined.result old (g.S.Scorer.state c.next_joined.new.scorer) c.in-NestedJoin.is c.deref_mut-in-NestedJoin.ensures.value c.deref_mut-in-NestedJoin-2.ensures.value c.next_joined.ensures
+
+pub join::next_joined-loop-left-init : goal.join::next_joined-loop-left-init
+join::next_joined-loop-left-init g t c =
+    turn-start c.args.catalog.now c.args.query.now c.args.head.now c.args.left.now c.args.right.now (g.S.Scorer.state c.args.scorer.now)
+    c.requires.can c.requires.head c.requires.left c.requires.right c.ask.new.self c.ask.ensures
+
+pub join::next_joined-next-requires : goal.join::next_joined-next-requires
+join::next_joined-next-requires g t c κs within =
+    let less = c.decreases in
+    let same = ap height c.loop-left.invariant.left_tree in
+    let need = sym c.in-NeedLeft.ensures in
+    (omega arith, (within, (turn-left_can c.loop-left.invariant c.requires.can need, turn-left_stands c.loop-left.invariant c.requires.can need)))
+
+pub join::next_joined-returns-in_err-row-in-NeedLeft : goal.join::next_joined-returns-in_err-row-in-NeedLeft
+join::next_joined-returns-in_err-row-in-NeedLeft g t c =
+    turn-left_failed c.loop-left.invariant c.requires.can (sym c.in-NeedLeft.ensures) _ c.in_err-row-in-NeedLeft.field-0.0 c.from_residual.result (g.S.Scorer.state c.next.new.scorer)
+    (given-err c.from_residual.result c.in_err-row-in-NeedLeft.field-0.0 c.from_residual.ensures) c.in_err-row-in-NeedLeft.ensures.inquires
+
+pub join::next_joined-feed_left-requires-clause-block : goal.join::next_joined-feed_left-requires-clause-block
+join::next_joined-feed_left-requires-clause-block g t c = turn-block c.loop-left.invariant c.requires.can
+
+pub join::next_joined-feed_left-requires-clause-row : goal.join::next_joined-feed_left-requires-clause-row
+join::next_joined-feed_left-requires-clause-row g t c =
+    turn-left_feeds c.loop-left.invariant c.requires.can (sym c.in-NeedLeft.ensures) c.in-Some.row c.in_ok-row-in-NeedLeft.field-0 c.in-Some.is
+    (g.S.Scorer.state c.next.new.scorer) c.in_ok-row-in-NeedLeft.ensures.inquires
+
+pub join::next_joined-feed_left-requires-clause-fits : goal.join::next_joined-feed_left-requires-clause-fits
+join::next_joined-feed_left-requires-clause-fits g t c = turn-fits c.loop-left.invariant c.requires.can
+
+pub join::next_joined-loop-left-smaller-in-Continue-branch-3 : goal.join::next_joined-loop-left-smaller-in-Continue-branch-3
+join::next_joined-loop-left-smaller-in-Continue-branch-3 g t c =
+    turn-left_nearer c.loop-left.invariant c.requires.can (sym c.in-NeedLeft.ensures) c.next.new.self (c.in_ok-row-in-NeedLeft.ensures.leaves refl)
+
+pub join::next_joined-loop-left-preserved-in-Continue-branch-3 : goal.join::next_joined-loop-left-preserved-in-Continue-branch-3
+join::next_joined-loop-left-preserved-in-Continue-branch-3 g t c =
+    turn-left_fed c.loop-left.invariant c.requires.can (sym c.in-NeedLeft.ensures) c.in-Some.row c.in_ok-row-in-NeedLeft.field-0 c.in-Some.is
+    (g.S.Scorer.state c.next.new.scorer) c.in_ok-row-in-NeedLeft.ensures.inquires c.feed_left.new.self c.next.new.self c.in_ok-feed_left-in-Some.ensures (c.in_ok-row-in-NeedLeft.ensures.leaves refl)
+
+pub join::next_joined-returns-in_err-feed_left-in-Some : goal.join::next_joined-returns-in_err-feed_left-in-Some
+join::next_joined-returns-in_err-feed_left-in-Some g t c =
+    turn-left_stopped c.loop-left.invariant c.requires.can (sym c.in-NeedLeft.ensures) c.in-Some.row c.in_ok-row-in-NeedLeft.field-0 c.in-Some.is
+    (g.S.Scorer.state c.next.new.scorer) c.in_ok-row-in-NeedLeft.ensures.inquires _ c.from_residual-in_err-feed_left-in-Some.result (given-err c.from_residual-in_err-feed_left-in-Some.result Memory c.from_residual-in_err-feed_left-in-Some.ensures)
+
+pub join::next_joined-loop-left-smaller-in-None : goal.join::next_joined-loop-left-smaller-in-None
+join::next_joined-loop-left-smaller-in-None g t c =
+    turn-left_nearer c.loop-left.invariant c.requires.can (sym c.in-NeedLeft.ensures) c.next.new.self (c.in_ok-row-in-NeedLeft.ensures.leaves refl)
+
+pub join::next_joined-loop-left-preserved-in-None : goal.join::next_joined-loop-left-preserved-in-None
+join::next_joined-loop-left-preserved-in-None g t c =
+    turn-left_ended c.loop-left.invariant c.requires.can (sym c.in-NeedLeft.ensures) c.in_ok-row-in-NeedLeft.field-0 c.in-None.is
+    (g.S.Scorer.state c.next.new.scorer) c.end_left.new.self c.next.new.self c.end_left.ensures c.in_ok-row-in-NeedLeft.ensures.inquires (c.in_ok-row-in-NeedLeft.ensures.leaves refl)
+
+pub join::next_joined-next-requires-in-NeedRight : goal.join::next_joined-next-requires-in-NeedRight
+join::next_joined-next-requires-in-NeedRight g t c κs within =
+    let less = c.decreases in
+    let same = ap height c.loop-left.invariant.right_tree in
+    let need = sym c.in-NeedRight.ensures in
+    (omega arith, (within, (turn-right_can c.loop-left.invariant c.requires.can need, turn-right_stands c.loop-left.invariant c.requires.can need)))
+
+pub join::next_joined-returns-in_err-row-in-NeedRight : goal.join::next_joined-returns-in_err-row-in-NeedRight
+join::next_joined-returns-in_err-row-in-NeedRight g t c =
+    turn-right_failed c.loop-left.invariant c.requires.can (sym c.in-NeedRight.ensures) _ c.in_err-row-in-NeedRight.field-0.0 c.from_residual-in_err-row-in-NeedRight.result (g.S.Scorer.state c.next-in-NeedRight.new.scorer)
+    (given-err c.from_residual-in_err-row-in-NeedRight.result c.in_err-row-in-NeedRight.field-0.0 c.from_residual-in_err-row-in-NeedRight.ensures) c.in_err-row-in-NeedRight.ensures.inquires
+
+pub join::next_joined-feed_right-requires-clause-block : goal.join::next_joined-feed_right-requires-clause-block
+join::next_joined-feed_right-requires-clause-block g t c = turn-block c.loop-left.invariant c.requires.can
+
+pub join::next_joined-feed_right-requires-clause-row : goal.join::next_joined-feed_right-requires-clause-row
+join::next_joined-feed_right-requires-clause-row g t c =
+    turn-right_feeds c.loop-left.invariant c.requires.can (sym c.in-NeedRight.ensures) c.in-Some-2.row c.in_ok-row-in-NeedRight.field-0 c.in-Some-2.is
+    (g.S.Scorer.state c.next-in-NeedRight.new.scorer) c.in_ok-row-in-NeedRight.ensures.inquires
+
+pub join::next_joined-feed_right-requires-clause-fits : goal.join::next_joined-feed_right-requires-clause-fits
+join::next_joined-feed_right-requires-clause-fits g t c = turn-fits c.loop-left.invariant c.requires.can
+
+pub join::next_joined-loop-left-smaller-in-Continue-branch-6 : goal.join::next_joined-loop-left-smaller-in-Continue-branch-6
+join::next_joined-loop-left-smaller-in-Continue-branch-6 g t c =
+    turn-right_nearer c.loop-left.invariant c.requires.can (sym c.in-NeedRight.ensures) c.next-in-NeedRight.new.self (c.in_ok-row-in-NeedRight.ensures.leaves refl)
+
+pub join::next_joined-loop-left-preserved-in-Continue-branch-6 : goal.join::next_joined-loop-left-preserved-in-Continue-branch-6
+join::next_joined-loop-left-preserved-in-Continue-branch-6 g t c =
+    turn-right_fed c.loop-left.invariant c.requires.can (sym c.in-NeedRight.ensures) c.in-Some-2.row c.in_ok-row-in-NeedRight.field-0 c.in-Some-2.is
+    (g.S.Scorer.state c.next-in-NeedRight.new.scorer) c.in_ok-row-in-NeedRight.ensures.inquires c.feed_right.new.self c.next-in-NeedRight.new.self c.in_ok-feed_right-in-Some-2.ensures (c.in_ok-row-in-NeedRight.ensures.leaves refl)
+
+pub join::next_joined-returns-in_err-feed_right-in-Some-2 : goal.join::next_joined-returns-in_err-feed_right-in-Some-2
+join::next_joined-returns-in_err-feed_right-in-Some-2 g t c =
+    turn-right_stopped c.loop-left.invariant c.requires.can (sym c.in-NeedRight.ensures) c.in-Some-2.row c.in_ok-row-in-NeedRight.field-0 c.in-Some-2.is
+    (g.S.Scorer.state c.next-in-NeedRight.new.scorer) c.in_ok-row-in-NeedRight.ensures.inquires _ c.from_residual-in_err-feed_right-in-Some-2.result (given-err c.from_residual-in_err-feed_right-in-Some-2.result Memory c.from_residual-in_err-feed_right-in-Some-2.ensures)
+
+pub join::next_joined-loop-left-smaller : goal.join::next_joined-loop-left-smaller
+join::next_joined-loop-left-smaller g t c =
+    turn-right_nearer c.loop-left.invariant c.requires.can (sym c.in-NeedRight.ensures) c.next-in-NeedRight.new.self (c.in_ok-row-in-NeedRight.ensures.leaves refl)
+
+pub join::next_joined-loop-left-preserved : goal.join::next_joined-loop-left-preserved
+join::next_joined-loop-left-preserved g t c =
+    turn-right_ended c.loop-left.invariant c.requires.can (sym c.in-NeedRight.ensures) c.in_ok-row-in-NeedRight.field-0 c.in-None-2.is
+    (g.S.Scorer.state c.next-in-NeedRight.new.scorer) c.end_right.new.self c.next-in-NeedRight.new.self c.end_right.ensures c.in_ok-row-in-NeedRight.ensures.inquires (c.in_ok-row-in-NeedRight.ensures.leaves refl)
+
+pub join::next_joined-returns-in-Ready : goal.join::next_joined-returns-in-Ready
+join::next_joined-returns-in-Ready g t c =
+    turn-given c.loop-left.invariant c.requires.can (sym c.in-Ready.ensures) c.give.new.self c.give.result c.give.ensures.row c.give.ensures.after
+
+pub join::next_joined-returns-in-End : goal.join::next_joined-returns-in-End
+join::next_joined-returns-in-End g t c = turn-over c.loop-left.invariant c.requires.can (sym c.in-End.ensures)

@@ -1,10 +1,11 @@
-use Rattle.std.proofs.Common.{◌+◌, ◌-◌, ◌*◌, suc}
-use Rattle.rs_order.specs.Schedule.{Left}
+use Rattle.std.proofs.Common.{◌+◌, ◌-◌, ◌*◌, suc, max}
+use Rattle.rs_order.specs.Schedule.{Left, Right}
 use Rattle.rs_plan.specs.Counts.{asked_of}
-use Rattle.rs_plan.specs.Trees.{Rank}
+use Rattle.rs_plan.specs.Trees.{NestedJoin, Rank}
 use Rattle.rs_exec.specs.Asking.{world_of}
 use Rattle.rs_exec.specs.Nodes.{asked_in, number_in, tree_in}
 use Rattle.rs_exec.proofs.CycleFacts.{Turn, height}
+use Rattle.rs_exec.proofs.JoinCycleFacts.{JoinTurn}
 use Rattle.rs_exec.proofs.+next.Given as goal
 
 -- each call goes one node down
@@ -23,3 +24,17 @@ invariant-rank::next_ranked-loop-alloc g l =
 abbrev pub decreases-rank::next_ranked-loop-alloc : goal.decreases-rank::next_ranked-loop-alloc
 decreases-rank::next_ranked-loop-alloc g l =
     asked_of (world_of l.catalog (g.S.Scorer.state l.fn.scorer).answer l.query) (number_in l.fn.child) (Rank l.fn.head.term (tree_in l.fn.child)) (suc l.fn.head.tally.asked) Left - asked_in l.child
+
+abbrev pub decreases-join::next_joined : goal.decreases-join::next_joined
+decreases-join::next_joined g l = 2 * max (height (tree_in l.left.now)) (height (tree_in l.right.now)) + 1
+
+-- the join stands between two asks of its sides, which stand too and are of the same plan
+abbrev pub invariant-join::next_joined-loop-left : goal.invariant-join::next_joined-loop-left
+invariant-join::next_joined-loop-left g l =
+    JoinTurn l.catalog l.query l.fn.head.block (tree_in l.fn.left) (tree_in l.fn.right) l.fn.head.tally.asked (g.S.Scorer.state l.fn.scorer) l.head l.left l.right (g.S.Scorer.state l.scorer)
+
+-- the asks of both sides that are left
+abbrev pub decreases-join::next_joined-loop-left : goal.decreases-join::next_joined-loop-left
+decreases-join::next_joined-loop-left g l =
+    (asked_of (world_of l.catalog (g.S.Scorer.state l.fn.scorer).answer l.query) l.fn.head.block (NestedJoin (tree_in l.fn.left) (tree_in l.fn.right)) (suc l.fn.head.tally.asked) Left - asked_in l.left)
+    + (asked_of (world_of l.catalog (g.S.Scorer.state l.fn.scorer).answer l.query) l.fn.head.block (NestedJoin (tree_in l.fn.left) (tree_in l.fn.right)) (suc l.fn.head.tally.asked) Right - asked_in l.right)

@@ -10,6 +10,10 @@ use Rattle.rs_plan.specs.Shapes.{tree_of}
 use Rattle.rs_plan.specs.Trees.{Rank, PlanTree, terms}
 use Rattle.rs_plan.specs.declared.plan.Plan.{Plan}
 use Rattle.rs_plan.proofs.DecidingFacts.{part-numbers}
+use Rattle.rs_ripple.specs.Ripple.{CanJoin}
+use Rattle.rs_ripple.specs.declared.side.Side.{Side}
+use Rattle.rs_exec.specs.Joining.{side_for}
+use Rattle.rs_exec.proofs.PartMaskFacts.{can-join}
 use Rattle.rs_exec.proofs.node.Node.+start.Goals as goal
 
 -- what is a part of a plan of a block has the numbers of entries and terms
@@ -38,3 +42,25 @@ new-head-requires-in-Rank-clause-term t c =
     ap tree_of c.in-Rank.is ∙ ap (λ (plan : Plan). Rank c.in-Rank.term (tree_of plan)) (sym c.deref-in-Rank.ensures) in
     let part = subst (IsPart c.args.catalog.now c.args.block.now) is c.requires.part in
     new-term c.args.catalog.now c.args.block.now c.in-Rank.term (tree_of c.deref-in-Rank.result.now) c.requires.block part c.signature.result.terms c.signature.ensures.terms
+
+pub side_of-requires : goal.side_of-requires
+side_of-requires t c =
+    let part = subst (IsPart c.args.catalog.now c.args.block.now) (ap tree_of c.in-NestedJoin.is) c.requires.part in
+    subst (λ (plan : Plan). HasNumbers (tree_of plan)) (sym c.deref-in-NestedJoin.ensures)
+    (numbers c.args.catalog.now c.args.block.now (tree_of c.in-NestedJoin.left.value) c.requires.block part.0)
+
+pub side_of-requires-in-NestedJoin : goal.side_of-requires-in-NestedJoin
+side_of-requires-in-NestedJoin t c =
+    let part = subst (IsPart c.args.catalog.now c.args.block.now) (ap tree_of c.in-NestedJoin.is) c.requires.part in
+    subst (λ (plan : Plan). HasNumbers (tree_of plan)) (sym c.deref-in-NestedJoin-2.ensures)
+    (numbers c.args.catalog.now c.args.block.now (tree_of c.in-NestedJoin.right.value) c.requires.block part.1)
+
+pub new-head-requires-in-NestedJoin : goal.new-head-requires-in-NestedJoin
+new-head-requires-in-NestedJoin t c =
+    let part = subst (IsPart c.args.catalog.now c.args.block.now) (ap tree_of c.in-NestedJoin.is) c.requires.part in
+    let left = c.side_of.ensures ∙ ap (λ (plan : Plan). side_for (tree_of plan)) c.deref-in-NestedJoin.ensures in
+    let right = c.side_of-in-NestedJoin.ensures ∙ ap (λ (plan : Plan). side_for (tree_of plan)) c.deref-in-NestedJoin-2.ensures in
+    subst (λ (side : Side). CanJoin c.weights-in-NestedJoin.result side c.side_of-in-NestedJoin.result) (sym left)
+    (subst (λ (side : Side). CanJoin c.weights-in-NestedJoin.result (side_for (tree_of c.in-NestedJoin.left.value)) side) (sym right)
+    (can-join c.args.catalog.now c.args.block.now c.weights-in-NestedJoin.result (tree_of c.in-NestedJoin.left.value) (tree_of c.in-NestedJoin.right.value)
+    c.requires.block part.0 part.1 part.2 c.weights-in-NestedJoin.ensures.limits))

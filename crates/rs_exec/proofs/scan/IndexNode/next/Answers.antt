@@ -1,14 +1,10 @@
 -- The first row that passes is given; those before it are drawn and let go.
 use Rattle.std.proofs.Common.{◌≡◌, ◌∙◌, ◌+◌, Some, None, sym, ap, subst}
-use Rattle.rs_rank.specs.declared.row.RankRow.{RankRow}
+use Rattle.std.proofs.lemmas.Option.{none-some}
 use Rattle.rs_scan.specs.Scans.{IndexScan, rows_of_index}
 use Rattle.rs_exec.specs.Drawing.{passes}
 use Rattle.rs_exec.proofs.NextFacts.{NonePassed, ended, entry-inside, entry-passes, entry-rows, index-drew, index-ended, index-gave, index-goes_on, index-nearer, index-place, index-row, index-stayed, index-there, index-view, none-more, passed}
 use Rattle.rs_exec.proofs.scan.IndexNode.next.Goals as goal
-
--- a row is there
-some≢none : (row : RankRow) → Some row ≡ None → ⊥
-some≢none row same = cc
 
 pub passes-requires-clause-inside : goal.passes-requires-clause-inside
 passes-requires-clause-inside c =
@@ -62,7 +58,7 @@ returns-then-branch-clause-after c =
     let test = entry-passes c.args.catalog.now c.args.query.now c.block_of-block.result.now old.block old.entry old.scan.rows c.mask_of.result c.within-conjuncts.result row of_entry
     c.block_of-block.ensures c.mask_of.ensures c.in_ok-passes.field-0 c.within-conjuncts.ensures.value c.in_ok-passes.ensures in
     let one = passed (passes c.args.catalog.now c.args.query.now) (rows_of_index c.args.catalog.now old.scan) old.scan.drawn loop.scan.drawn row there (sym test ∙ c.if-branch.true) c.loop-row.invariant.none in
-    let more : loop.scan.drawn ≡ loop.scan.rows → ⊥ = λ end. some≢none row (sym c.in-Some.is ∙ c.next.ensures.end.1 end) in
+    let more : loop.scan.drawn ≡ loop.scan.rows → ⊥ = λ end. none-some row (sym (c.next.ensures.end.1 end) ∙ c.in-Some.is) in
     let drew = index-drew c.args.catalog.now old loop is c.next.new.self c.next.ensures.most more c.next.ensures.after in
     index-gave c.args.catalog.now old loop is c.next.new.self c.give.new.self row (loop.scan.drawn + 1) _ drew c.give.ensures one.drawn
 
@@ -72,7 +68,7 @@ loop-row-smaller c =
     let loop = c.loop-row.self in
     let is = c.loop-row.invariant.self_is in
     let row = c.in-Some.row in
-    let more : loop.scan.drawn ≡ loop.scan.rows → ⊥ = λ end. some≢none row (sym c.in-Some.is ∙ c.next.ensures.end.1 end) in
+    let more : loop.scan.drawn ≡ loop.scan.rows → ⊥ = λ end. none-some row (sym (c.next.ensures.end.1 end) ∙ c.in-Some.is) in
     let drew = index-drew c.args.catalog.now old loop is c.next.new.self c.next.ensures.most more c.next.ensures.after in
     index-nearer c.args.catalog.now old loop is c.next.new.self c.next.ensures.most more drew
 
@@ -86,7 +82,7 @@ loop-row-preserved c =
     let of_entry = index-row c.args.catalog.now old loop is c.args.query.now row c.requires.entry c.requires.same_entry c.requires.same_block c.in-Some.ensures.number there in
     let test = entry-passes c.args.catalog.now c.args.query.now c.block_of-block.result.now old.block old.entry old.scan.rows c.mask_of.result c.within-conjuncts.result row of_entry
     c.block_of-block.ensures c.mask_of.ensures c.in_ok-passes.field-0 c.within-conjuncts.ensures.value c.in_ok-passes.ensures in
-    let more : loop.scan.drawn ≡ loop.scan.rows → ⊥ = λ end. some≢none row (sym c.in-Some.is ∙ c.next.ensures.end.1 end) in
+    let more : loop.scan.drawn ≡ loop.scan.rows → ⊥ = λ end. none-some row (sym (c.next.ensures.end.1 end) ∙ c.in-Some.is) in
     let drew = index-drew c.args.catalog.now old loop is c.next.new.self c.next.ensures.most more c.next.ensures.after in
     record {
       none = subst (λ n. NonePassed (passes c.args.catalog.now c.args.query.now) (rows_of_index c.args.catalog.now old.scan) old.scan.drawn n) (sym (ap (λ (s : IndexScan). s.drawn) drew))

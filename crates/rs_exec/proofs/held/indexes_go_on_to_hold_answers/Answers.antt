@@ -1,0 +1,14 @@
+use Rattle.rs_exec.proofs.HeldFacts.{held-makes, held-plan, held-with_predicate, held-with_table}
+use Rattle.rs_exec.proofs.held.indexes_go_on_to_hold_answers.Goals as goal
+
+pub returns-clause-tables : goal.returns-clause-tables
+returns-clause-tables c = λ catalogue answer name table held. held-with_table catalogue answer name table held
+
+pub returns-clause-predicates : goal.returns-clause-predicates
+returns-clause-predicates c = λ catalogue answer predicate held. held-with_predicate catalogue answer predicate held
+
+pub returns-clause-indexes : goal.returns-clause-indexes
+returns-clause-indexes c = λ catalogue new def result before after is held makes. held-makes catalogue new def result before after is held makes
+
+pub returns-clause-plans : goal.returns-clause-plans
+returns-clause-plans c = λ catalogue answer tree held. held-plan answer catalogue held tree

@@ -1,0 +1,20 @@
+-- The place is the join's own, or one of its left side, or one of its right side.
+use Rattle.std.proofs.Common.{◌∙◌, Ok, Err, ap}
+use Rattle.rs_exec.specs.Nodes.{at_or_past, counts_in}
+use Rattle.rs_exec.specs.declared.node.Node.{Node}
+use Rattle.rs_exec.proofs.CountFacts.{join-counts}
+use Rattle.rs_exec.proofs.node.Node.+counts_or_past.Goals as goal
+
+pub returns-in-Ok-counts_or_past : goal.returns-in-Ok-counts_or_past
+returns-in-Ok-counts_or_past t c =
+    join-counts c.args.self.now c.in-NestedJoin.head c.in-NestedJoin.left c.in-NestedJoin.right c.counts-in-NestedJoin.result c.deref-in-Err-counts_or_next.result.now
+    c.args.place c.in-Err-counts_or_next.place (Ok c.in-Ok-counts_or_past.counts) c.in-NestedJoin.is c.counts-in-NestedJoin.ensures c.in-Err-counts_or_next.ensures
+    c.deref-in-Err-counts_or_next.ensures c.in-Ok-counts_or_past.ensures
+
+pub returns-in-Err-counts_or_past : goal.returns-in-Err-counts_or_past
+returns-in-Err-counts_or_past t c =
+    c.counts_or_past-in-Err-counts_or_past.ensures
+    ∙ ap (λ (n : Node). at_or_past (counts_in n) c.in-Err-counts_or_past.place) c.deref-in-Err-counts_or_past.ensures
+    ∙ join-counts c.args.self.now c.in-NestedJoin.head c.in-NestedJoin.left c.in-NestedJoin.right c.counts-in-NestedJoin.result c.deref-in-Err-counts_or_next.result.now
+    c.args.place c.in-Err-counts_or_next.place (Err c.in-Err-counts_or_past.place) c.in-NestedJoin.is c.counts-in-NestedJoin.ensures c.in-Err-counts_or_next.ensures
+    c.deref-in-Err-counts_or_next.ensures c.in-Err-counts_or_past.ensures
