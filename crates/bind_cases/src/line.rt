@@ -3,15 +3,14 @@ ghost use Rattle.rs_syntax.specs.Syntax.{command_of, commands_of};
 ghost use Rattle.rs_query.specs.WellFormed.{IsQuery};
 ghost use Rattle.rs_syntax.specs.Written.{AreWritten, IsWritten};
 
-use crate::make::make;
 use crate::queries::{tell_combinations, tell_plain};
 use crate::show::{show_count, show_index, show_predicate, show_query, show_table};
 use case_lines::{Cases, Fault, cut_word, number_of, text_of};
+use case_scripts::{make, statements_of};
 use rs_bind::{bind, bind_count, bind_index, bind_predicate, bind_table};
 use rs_catalog::Catalog;
-use rs_lex::{MOST_BYTES, tokens};
 use rs_query::Query;
-use rs_syntax::{Statement, parse};
+use rs_syntax::Statement;
 use std::alloc::Global;
 
 /// The tables and predicates that the lines in front have made.
@@ -44,13 +43,13 @@ impl Cases for Made {
 
 /// Binds the only statement of a script, and tells what came of it.
 fn tell_bound(alloc: Global, catalog: &Catalog, script: &[u8]) -> Result<String, Fault> {
-    let statements = statements_of(alloc, script)?;
+    let statements = statements_of(alloc, &text_of(alloc, script)?)?;
     tell_statement(alloc, catalog, &statements)
 }
 
 /// The same, and the statement joins the catalogue.
 fn tell_made(alloc: Global, catalog: &mut Catalog, script: &[u8]) -> Result<String, Fault> {
-    let statements = statements_of(alloc, script)?;
+    let statements = statements_of(alloc, &text_of(alloc, script)?)?;
     make_statement(alloc, catalog, &statements)
 }
 
@@ -76,7 +75,7 @@ fn tell_query(
     asked: Asked,
     script: &[u8],
 ) -> Result<String, Fault> {
-    let statements = statements_of(alloc, script)?;
+    let statements = statements_of(alloc, &text_of(alloc, script)?)?;
     let query = query_of(alloc, catalog, &statements)?;
     match asked {
         Asked::Rows => tell_combinations(alloc, catalog, &query),
@@ -98,23 +97,6 @@ fn query_of(alloc: Global, catalog: &Catalog, statements: &[Statement]) -> Resul
         Ok(query) => Ok(query),
         Err(_) => Err(Fault::Form),
     }
-}
-
-/// The statements of a script.
-fn statements_of(alloc: Global, script: &[u8]) -> Result<Vec<Statement>, Fault>
-    ensures { IfOk result (λ made. AreWritten (commands_of made.items)) }
-{
-    let text = text_of(alloc, script)?;
-    if text.bytes().len() > MOST_BYTES {
-        return Err(Fault::Form);
-    }
-    let Ok(tokens) = tokens(alloc, &text) else {
-        return Err(Fault::Form);
-    };
-    let Ok(statements) = parse(alloc, &text, &tokens) else {
-        return Err(Fault::Form);
-    };
-    Ok(statements)
 }
 
 fn tell_statement(

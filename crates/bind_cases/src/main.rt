@@ -15,7 +15,6 @@
 #![tactic(auto)]
 
 mod line;
-mod make;
 mod queries;
 mod show;
 

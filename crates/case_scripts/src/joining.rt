@@ -1,20 +1,23 @@
-ghost use Rattle.std.specs.Prelude.{◌≡◌, ◌≤◌, Ok, OnErr, length};
+ghost use Rattle.std.specs.Prelude.{◌≡◌, ◌≤◌, IfOk, Ok, OnErr, length};
 ghost use Rattle.rs_syntax.specs.Syntax.{command_of};
 ghost use Rattle.rs_bind.specs.Predicates.{IsCreatePredicate};
 ghost use Rattle.rs_syntax.specs.Written.{IsWritten};
+ghost use Rattle.case_scripts.specs.Joining.{HasJoined, PredicateJoined, TableJoined};
 
 use case_lines::Fault;
-use rs_bind::{bind_predicate, bind_table};
+use rs_bind::{BindFault, bind_predicate, bind_table};
 use rs_catalog::{Catalog, What};
 use rs_syntax::{Name, Statement};
-use rs_table::{TABLE_LIMIT, Table};
+use rs_table::{TABLE_LIMIT, Table, TableFault};
 use rs_value::{Kind, Text};
 use std::alloc::Global;
 
-/// Makes the table or the predicate of a statement, the last one of the catalogue. After a fault nothing joined.
+/// Makes the table or the predicate of a statement, the last one of the catalogue. The text behind FROM is not the name of a
+/// table's file, but what is in the file. After a fault nothing joined.
 pub fn make(alloc: Global, catalog: &mut Catalog, statement: &Statement) -> Result<(), Fault>
     requires { IsWritten (command_of statement.now) }
-    ensures { OnErr result (catalog.new ≡ catalog.old) }
+    ensures ok { IfOk result (λ _. HasJoined catalog.old catalog.new) }
+    ensures err { OnErr result (catalog.new ≡ catalog.old) }
 {
     match statement {
         Statement::CreateTable {
@@ -36,7 +39,8 @@ fn make_table(
     file: &Text,
 ) -> Result<(), Fault>
     requires { 1 ≤ length columns.now }
-    ensures { OnErr result (catalog.new ≡ catalog.old) }
+    ensures ok { IfOk result (λ _. TableJoined catalog.old catalog.new) }
+    ensures err { OnErr result (catalog.new ≡ catalog.old) }
 {
     let table = table_of(alloc, columns, file)?;
     let Ok(name) = name.text.copy() else {
@@ -58,11 +62,13 @@ fn table_of(alloc: Global, columns: &[(Name, Kind)], file: &Text) -> Result<Tabl
     if file.bytes().len() > TABLE_LIMIT {
         return Err(Fault::Form);
     }
-    let Ok(schema) = bind_table(alloc, columns) else {
-        return Err(Fault::Form);
+    let schema = match bind_table(alloc, columns) {
+        Ok(schema) => schema,
+        Err(fault) => return Err(bind_fault(fault)),
     };
     match Table::read(alloc, schema, file.bytes()) {
         Ok(table) => Ok(table),
+        Err(TableFault::Memory) => Err(Fault::Memory),
         Err(_) => Err(Fault::Form),
     }
 }
@@ -71,10 +77,12 @@ fn table_of(alloc: Global, columns: &[(Name, Kind)], file: &Text) -> Result<Tabl
 fn make_predicate(alloc: Global, catalog: &mut Catalog, statement: &Statement) -> Result<(), Fault>
     requires form { IsCreatePredicate (command_of statement.now) }
     requires written { IsWritten (command_of statement.now) }
-    ensures { OnErr result (catalog.new ≡ catalog.old) }
+    ensures ok { IfOk result (λ _. PredicateJoined catalog.old catalog.new) }
+    ensures err { OnErr result (catalog.new ≡ catalog.old) }
 {
-    let Ok(predicate) = bind_predicate(alloc, statement) else {
-        return Err(Fault::Form);
+    let predicate = match bind_predicate(alloc, statement) {
+        Ok(predicate) => predicate,
+        Err(fault) => return Err(bind_fault(fault)),
     };
     if catalog.room(What::Predicate, predicate.name()) != Ok(()) {
         return Err(Fault::Form);
@@ -82,5 +90,13 @@ fn make_predicate(alloc: Global, catalog: &mut Catalog, statement: &Statement) -
     match catalog.add_predicate(predicate) {
         Ok(()) => Ok(()),
         Err(_) => Err(Fault::Memory),
+    }
+}
+
+/// The fault of a line whose statement can't be bound.
+pub fn bind_fault(fault: BindFault) -> Fault {
+    match fault {
+        BindFault::Memory => Fault::Memory,
+        BindFault::At(_, _) => Fault::Form,
     }
 }
