@@ -77,7 +77,7 @@ printf 'name,price,city\na,40,1\nb,90,1\nc,40,2\n' >h.csv
 printf 'x,y\n10,3\n8,9\n5,1\n2,10\n' >t.csv
 printf 'v\n3\n1\n3\n4\n' >u.csv
 printf 'v\n4\n2\n5\n5\n' >w.csv
-cat >join.sql <<'SQL'
+cat >base <<'SQL'
 CREATE TABLE h (name TEXT, price INT, city INT) FROM 'h.csv';
 CREATE TABLE t (x INT, y INT) FROM 't.csv';
 CREATE PREDICATE p (v INT) MAX 10 AS v;
@@ -85,6 +85,8 @@ CREATE PREDICATE q (v INT) MAX 10 COST 100 AS v;
 CREATE PREDICATE c (v INT) MAX 100 AS v;
 CREATE PREDICATE near (a INT, b INT) MAX 100 AS 100 - ABS(a - b);
 CREATE RANK INDEX px ON t (p(x));
+SQL
+cat base - >join.sql <<'SQL'
 SELECT x.name, y.name FROM h x, h y WHERE x.city = y.city ORDER BY near(x.price, y.price) LIMIT 3;
 SQL
 printf '1,100,a,a\n2,100,b,b\n3,100,c,c\n' >join.wanted
@@ -95,14 +97,20 @@ CREATE PREDICATE half (v INT) MAX 10 AS v / 2;
 SELECT v FROM u UNION SELECT v FROM w ORDER BY half(v);
 SQL
 printf '1,2,4\n2,2,5\n3,1,3\n4,1,2\n5,0,1\n' >union.wanted
+cat base - >plan.sql <<'SQL'
+SELECT x, y FROM t ORDER BY p(x) + q(y) LIMIT 9;
+SQL
+printf '1,17,8,9\n2,13,10,3\n3,12,2,10\n4,6,5,1\n' >plan.wanted
 : >nothing
 printf 'memory\n' >memory
 
-# Runs a script where allocations fail from this one on, or this one alone.
+# Runs a script where allocations fail from this one on, or this one alone. The script `plan` is run by plans.
 # run NAME NUMBER [all]
 run() {
+    local words=(plain "$1.sql")
+    [ "$1" = plan ] && words=(run "$1.sql" 1)
     timeout 60 env LD_PRELOAD="$work/refuse.so" REFUSE_FIRST="$2" ${3:+REFUSE_ALL=1} REFUSE_COUNT="$work/count" \
-        "$program" plain "$1.sql" >out 2>err </dev/null
+        "$program" "${words[@]}" >out 2>err </dev/null
 }
 
 # Whether the file out is whole lines from the head of what is wanted.
@@ -154,7 +162,7 @@ try_each() {
         "the others told the want of memory, $cut of them behind a row"
 }
 
-for name in join union; do
+for name in join union plan; do
     try_each "$name"
     try_each "$name" all
 done

@@ -385,9 +385,50 @@ refused 'a column that is not there in a plan' "bind NoColumn at ${#front}"
 script "${base}SELECT x FROM t ORDER BY p(x); DECLARE c CURSOR FOR SELECT x FROM t ORDER BY p(x);"
 expect 'a cursor behind a query' 5 $'1,10,10\n2,8,8\n3,5,5\n4,2,2\n' $'script: not built statement 7\n' -- plain s.sql
 
+# ---- queries by plans
+script "${base}SELECT x, y FROM t WHERE y < 9 ORDER BY p(y) + 2 * p(x) LIMIT 1; SELECT x FROM t ORDER BY p(x);"
+expect 'two queries by plans' 0 $'1,23,10,3\n1,10,10\n2,8,8\n3,5,5\n4,2,2\n' '' -- run s.sql 0
+expect 'the greatest seed' 0 $'1,23,10,3\n1,10,10\n2,8,8\n3,5,5\n4,2,2\n' '' -- run s.sql 18446744073709551615
+(cd "$root" && timeout 60 "$program" run examples/films/best.sql 1 >"$work/said/out" 2>"$work/said/err" </dev/null)
+echo $? >"$work/said/status"
+text=$(cat "$root/examples/films/best.out" && echo .)
+compare 'the films of the example by a plan' 0 "${text%.}" ''
+# The index of the example calls its predicate for each of the 5,000 films. examples/films/README.md counts the other calls.
+# count NAME WANTED WORD..
+count() {
+    (cd "$root" && timeout 60 "$counter" "${@:3}" >/dev/null 2>"$work/said/err" </dev/null)
+    echo $? >"$work/said/status"
+    : >"$work/said/out"
+    compare "$1" 0 '' "calls $2"$'\n'
+}
+counter=$root/crates/count_calls/out/count_calls
+if [ -x "$counter" ]; then
+    sed 's/^LIMIT 10;/LIMIT 1;/' "$root/examples/films/best.sql" >one.sql
+    count 'the calls of the films, plainly' 8680 plain examples/films/best.sql
+    count 'the calls of the films by a plan' 5064 run examples/films/best.sql 1
+    count 'the calls of the first film by a plan' 5022 run "$work/in/one.sql" 1
+fi
+printf 'x,y\n10,10\n8,99\n' >far.csv
+far="CREATE TABLE t (x INT, y INT) FROM 'far.csv'; CREATE PREDICATE p (v INT) MAX 10 AS v; SELECT x, y FROM t ORDER BY p(x) + p(y)"
+script "$far;"
+expect 'a bad score behind the first row of a plan' 7 $'1,20,10,10\n' $'score: p rows 2: 99 is not in 0..10\n' -- run s.sql 1
+expect 'the same bad score before any row' 7 '' $'score: p rows 2: 99 is not in 0..10\n' -- plain s.sql
+script "$far LIMIT 1;"
+expect 'a bad score of a row that is not needed' 0 $'1,20,10,10\n' '' -- run s.sql 1
+for query in 'SELECT name FROM h, t ORDER BY p(x)' 'SELECT nope FROM nope, nope ORDER BY nope(x)' 'SELECT DISTINCT city FROM h ORDER BY p(city)' \
+    'SELECT city FROM h UNION SELECT y FROM t ORDER BY p(city)' 'EXPLAIN SELECT x FROM t ORDER BY p(x)' 'EXPLAIN ANALYZE SELECT x FROM t ORDER BY p(x)'; do
+    script "$base$query;"
+    expect "no plan is built of '$query'" 5 '' $'script: not built statement 6\n' -- run s.sql 1
+done
+front="${base}SELECT "
+script "${front}z FROM h ORDER BY p(city);"
+expect 'a column that is not there' 5 '' "script: bind NoColumn at ${#front}"$'\n' -- run s.sql 1
+expect 'a missing script of plans' 3 '' $'read: nope.sql: missing\n' -- run nope.sql 00000000000000000007
+
 # ---- the words of the command line
 expect 'no words' 2 '' "$usage"$'\n' --
-for words in --help -h top TOP plain 'plain s.sql s.sql' 'PLAIN s.sql' 'top h.csv' 'top h.csv price 100' 'top h.csv price 100 2 3' 'TOP h.csv price 100 2' \
+for words in --help -h top TOP plain 'plain s.sql s.sql' 'PLAIN s.sql' run 'run s.sql' 'run s.sql 1 2' 'RUN s.sql 1' 'run s.sql x' \
+    'run s.sql -1' 'run s.sql 18446744073709551616' 'run s.sql 000000000000000000001' 'top h.csv' 'top h.csv price 100' 'top h.csv price 100 2 3' 'TOP h.csv price 100 2' \
     'top h.csv price 0 2' 'top h.csv price 4294967296 2' 'top h.csv price 100 1000001' 'top h.csv price x 2' \
     'top h.csv price 100 x' 'top h.csv price -1 2' 'top h.csv price +100 2' 'top h.csv price 100 2.0' \
     'top h.csv price 000000000000000000100 2' 'top h.csv price 100 000000000000000000002' \
@@ -423,6 +464,9 @@ timeout 60 "$program" plain s.sql >/dev/full 2>"$work/said/err"
 echo $? >"$work/said/status"
 : >"$work/said/out"
 compare 'a full device under a query' 4 '' $'write\n'
+timeout 60 "$program" run s.sql 1 >/dev/full 2>"$work/said/err"
+echo $? >"$work/said/status"
+compare 'a full device under a query by a plan' 4 '' $'write\n'
 timeout 60 "$program" top nope.csv price 100 2 >"$work/said/out" 2>&-
 echo $? >"$work/said/status"
 : >"$work/said/err"

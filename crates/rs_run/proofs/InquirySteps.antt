@@ -1,16 +1,18 @@
 -- What the calls of an inquiry did in a run.
-use Rattle.std.proofs.Common.{◌≡◌, ◌∙◌, ◌++◌, List, [], ◌∷◌, map, Some, refl, sym, ap, subst, inl, inr, append_assoc}
-use Rattle.std.specs.Prelude.{Ok, Err, ◌⊎◌}
+use Rattle.std.proofs.Common.{ℕ, ◌≡◌, ◌∙◌, ◌++◌, List, [], ◌∷◌, map, Some, refl, sym, ap, subst, inl, inr, append_assoc, append-nil}
+use Rattle.std.specs.Prelude.{Result, Ok, Err, IfOk, ◌⊎◌}
 use Rattle.std.specs.List.{AllByRecursion}
 use Rattle.rs_expr.specs.InOrder.{InquiryEnds, InquiryFails, Inquires, Inquiry, Request, InquiryStops, calls_of}
 use Rattle.rs_expr.specs.Scoring.{ScorerState}
 use Rattle.rs_run.specs.declared.fault.Fault.{Fault}
 use Rattle.rs_run.specs.declared.fault.Fault.TheVariants.{Memory, Probe}
 use Rattle.rs_run.specs.Halts.{CallFailed, Done}
-use Rattle.rs_run.specs.Parts.Steps.{HasDone, Ran}
-use Rattle.rs_run.specs.Run.{Event, Run, Score, calls_in}
+use Rattle.rs_run.specs.Parts.Steps.{HasDone, Ran, Stepped, lines_run, run_of}
+use Rattle.rs_run.specs.Run.{Event, Put, Run, Score, calls_in}
+use Rattle.rs_run.specs.Sequence.{inquiry_step}
 use Rattle.rs_run.specs.World.{World}
-use Rattle.rs_run.proofs.RanFacts.{HasDone-scorer, Ran-all, Ran-no_memory}
+use Rattle.rs_run.proofs.RanFacts.{HasDone-scorer, Ran-all, Ran-behind, Ran-no_memory}
+use Rattle.rs_run.proofs.SteppedFacts.{events-run_of, step_of}
 
 -- the events of requests
 abbrev pub scores_of : {F : Type 0} → List (Request F) → List Event
@@ -81,3 +83,40 @@ module _ {A F : Type 0} (tells : F → Fault) (memory : F) (inquiry : Inquiry A 
         subst (λ fault. Ran run (Err fault) world (record world { scorer = scorer })) (sym none)
         (Ran-no_memory run (scores_of stops.done) (scores_of stops.rest ++ more) world (record world { scorer = scorer }) (split-at stops.done stops.rest stops.split)
         (HasDone-scorer world scorer (calls_of stops.done) stops.made asked.keeps))
+
+-- a step that makes the calls of an inquiry, and then puts the lines that its outcome gives
+module _ {A F S : Type 0} (lines : Result A F → List (List ℕ)) (outcome : Result A F → Result S Fault) (memory : F) (inquiry : Inquiry A F) (left : S) (world : World) (scorer : ScorerState) where
+  -- it came to a fault
+  pub Stepped-unasked : (tells : F → Fault) (why : F) (told : Fault) → lines (Err why) ≡ [] → outcome (Err why) ≡ Err (tells why) → tells memory ≡ Memory → Probes tells inquiry.requests
+      → Inquires memory inquiry (Err why) world.scorer scorer → (told ≡ tells why) ⊎ (told ≡ Memory)
+      → Stepped (λ step. step ≡ inquiry_step lines outcome inquiry) left (Err told) world (record world { scorer = scorer })
+  Stepped-unasked tells why told none ends no_memory probes asked says = record {
+    step = inquiry_step lines outcome inquiry;
+    does = refl;
+    ran = Ran-unasked tells memory inquiry why world scorer (run_of (inquiry_step lines outcome inquiry)) (map Put (lines inquiry.outcome)) told probes no_memory
+        (events-run_of (calls_in inquiry ++ map Put (lines inquiry.outcome)) (outcome inquiry.outcome))
+        (λ e. ap (λ r. run_of (step_of (calls_in inquiry ++ map Put (lines r)) (outcome r))) e
+        ∙ ap (λ last. run_of (step_of (calls_in inquiry ++ map Put last) (outcome (Err why)))) none
+        ∙ ap (λ events. run_of (step_of events (outcome (Err why)))) (append-nil (calls_in inquiry))
+        ∙ ap (λ o. run_of (step_of (calls_in inquiry) o)) ends) says asked;
+    leaves = tt;
+  }
+
+  -- all calls were made, and then its lines were put, all or those before a fault
+  pub Stepped-asked : (a : A) (result : Result (Unit {0}) Fault) (new : World) → outcome (Ok a) ≡ Ok left → Inquires memory inquiry (Ok a) world.scorer scorer
+      → Ran (lines_run (lines (Ok a))) result (record world { scorer = scorer }) new
+      → Stepped (λ step. step ≡ inquiry_step lines outcome inquiry) left result world new
+  Stepped-asked a result new ends asks puts = record {
+    step = inquiry_step lines outcome inquiry;
+    does = refl;
+    ran = subst (λ r. Ran (run_of (step_of (calls_in inquiry ++ map Put (lines r)) (outcome r))) result world new) (sym asked.given)
+        (subst (λ o. Ran (run_of (step_of (calls_in inquiry ++ map Put (lines (Ok a))) o)) result world new) (sym ends)
+        (Ran-behind (calls_in inquiry) (lines_run (lines (Ok a))) result world (record world { scorer = scorer }) new asked.has puts));
+    leaves = leaves result;
+  } where
+    asked : IsAsked inquiry a world (record world { scorer = scorer })
+    asked = asked-ok memory inquiry a world scorer asks
+
+    leaves : (result : Result (Unit {0}) Fault) → IfOk result (λ done. outcome inquiry.outcome ≡ Ok left)
+    leaves (Ok done) = ap outcome asked.given ∙ ends
+    leaves (Err fault) = tt

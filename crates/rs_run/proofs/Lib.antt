@@ -12,8 +12,16 @@ pub mod InquirySteps
 pub mod IndexSteps
 pub mod QuerySteps
 pub mod LoopFacts
+pub mod SoFar
+pub mod PlanSteps
+pub mod NamedFacts
+pub mod CursorSteps
+pub mod LeftSteps
+pub mod HeldSteps
+pub mod SingleFacts
 pub mod StatementFacts
 pub mod TextFacts
 pub mod OwnFaults
 pub mod OutcomeFacts
 pub mod OneRun
+pub mod SamePuts

@@ -18,14 +18,15 @@ use Rattle.rs_bind.specs.Names.{columns_of}
 use Rattle.rs_run.specs.declared.fault.Fault.{Fault}
 use Rattle.rs_run.specs.declared.fault.Fault.TheVariants.{Script}
 use Rattle.rs_run.specs.declared.script_fault.ScriptFault.TheVariants.{Lex, Parse}
-use Rattle.rs_run.specs.Words.{Form, NoForm, Plain, Top, form_of}
+use Rattle.rs_run.specs.Words.{Form, NoForm, RunScript, Top, form_of}
 use Rattle.rs_run.specs.Top.{top_lines}
 use Rattle.rs_run.specs.Plain.{HasTokens, HasStatements, ScriptRuns, TextRuns, unlexed, unparsed, runs, unread, read, source_of}
 use Rattle.rs_expr.specs.Scoring.{Answering}
 use Rattle.rs_run.specs.Run.{Event, Fetch, Finds, Run, behind, fails, fetch_then, finds_in, found_in}
 use Rattle.rs_run.specs.Running.{IsRun, IsRunOf}
 use Rattle.rs_run.specs.Sequence.{RunOf, RunsOn, Step}
-use Rattle.rs_run.specs.Statements.{Does, DoesTable, Evaluating, Plainly, StatementsRun, table_step, with_room}
+use Rattle.rs_run.specs.declared.evaluating.Evaluating.{Evaluating}
+use Rattle.rs_run.specs.Statements.{Does, DoesTable, StatementsRun, table_step, with_room}
 
 -- a script has one list of tokens at most, and isn't refused by the lexer where it has one
 HasTokens-one : (script : List ℕ) (a b : List Token) → HasTokens script a → HasTokens script b → a ≡ b
@@ -35,7 +36,7 @@ HasTokens-not_refused : (script : List ℕ) (tokens : List Token) (fault : LexFa
 HasTokens-not_refused script tokens fault x refuses = Spells-not_refused 0 0 script tokens fault (omega (arith, x.few)) x.spells refuses
 
 -- and one list of statements at most, with which it isn't refused by the parser
-HasStatements-one : (script : List ℕ) (a b : List Command) → HasStatements script a → HasStatements script b → a ≡ b
+pub HasStatements-one : (script : List ℕ) (a b : List Command) → HasStatements script a → HasStatements script b → a ≡ b
 HasStatements-one script a b x y =
     Parses-one script y.tokens a b (subst (λ tokens. Parses script tokens a) (HasTokens-one script x.tokens y.tokens x.lexed y.lexed) x.parsed) y.parsed
 
@@ -54,7 +55,7 @@ DoesTable-one : (finds : Finds) → OneFile finds → (catalogue : Catalogue) (n
 DoesTable-one finds one catalogue name file (Err fault) a b p q = p ∙ sym q
 DoesTable-one finds one catalogue name file (Ok columns) a b p q = p.2 ∙ ap (table_step catalogue name file columns) (one file p.0 q.0 p.1 q.1) ∙ sym q.2
 
-Does-one : (finds : Finds) → OneFile finds → (answer : Answering) (evaluating : Evaluating) (number : ℕ) (catalogue : Catalogue) (command : Command) (a b : Step Catalogue)
+pub Does-one : (finds : Finds) → OneFile finds → (answer : Answering) (evaluating : Evaluating) (number : ℕ) (catalogue : Catalogue) (command : Command) (a b : Step Catalogue)
     → Does finds answer evaluating number catalogue command a → Does finds answer evaluating number catalogue command b → a ≡ b
 Does-one finds one answer evaluating number catalogue (CreateTable name columns file) a b p q =
     DoesTable-one finds one catalogue name file (with_room catalogue what.Table name (columns_of columns)) a b p q
@@ -113,8 +114,8 @@ ScriptRuns-one finds one statements runs_one name _ _ (read there script run fou
 -- words of a form have one run at most
 IsRunOf-one : (finds : Finds) → OneFile finds → (answer : Answering) (form : Form) (run other : Run) → IsRunOf finds answer form run → IsRunOf finds answer form other → run ≡ other
 IsRunOf-one finds one answer (Top top) run other p q = p.2 ∙ ap (λ there. fetch_then top.file (top_lines top there)) (one top.file p.0 q.0 p.1 q.1) ∙ sym q.2
-IsRunOf-one finds one answer (Plain name) run other p q =
-    ScriptRuns-one finds one (StatementsRun finds answer Plainly) (Statements-one finds one answer Plainly) name run other p q
+IsRunOf-one finds one answer (RunScript name evaluating) run other p q =
+    ScriptRuns-one finds one (StatementsRun finds answer evaluating) (Statements-one finds one answer evaluating) name run other p q
 IsRunOf-one finds one answer NoForm run other p q = p ∙ sym q
 
 pub IsRun-one : (finds : Finds) → OneFile finds → (answer : Answering) (words : List (List ℕ)) (run other : Run) → IsRun finds answer words run → IsRun finds answer words other → run ≡ other

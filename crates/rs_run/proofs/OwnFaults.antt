@@ -1,6 +1,6 @@
 -- The faults that the definition of a run can end with: never that a put failed or a call of the scorer, and Usage only where the words are of no form.
 use Rattle.std.proofs.Common.{ℕ, ℤ, ◌≡◌, ◌+◌, List, [], ◌∷◌, Some, None, Bool, true, false, refl, sym, subst, inl, inr, nat_le, length, if◌then◌else◌}
-use Rattle.std.specs.Prelude.{suc, Option, Result, Ok, Err, unwrap_or, ◌⊎◌}
+use Rattle.std.specs.Prelude.{zero, suc, Option, Result, Ok, Err, unwrap_or, ◌⊎◌}
 use Rattle.rs_value.specs.Text.{text_of}
 use Rattle.rs_value.specs.declared.text.TextFault.{TextFault}
 use Rattle.rs_value.specs.declared.text.TextFault.TheVariants as text
@@ -34,21 +34,33 @@ use Rattle.rs_plain.specs.Plain.{evaluation_of, questions_of}
 use Rattle.rs_plain.specs.declared.fault.PlainFault.{PlainFault}
 use Rattle.rs_plain.specs.declared.fault.PlainFault.TheVariants as plain
 use Rattle.rs_rank.specs.declared.answer.Answer.{Answer}
+use Rattle.rs_query.specs.Answers.{limit_of}
+use Rattle.rs_plan.specs.Calls.{questions_of_ask}
+use Rattle.rs_plan.specs.Lists as plan
+use Rattle.rs_plan.specs.Lists.{list_of_plan}
+use Rattle.rs_plan.specs.Trees.{PlanTree}
+use Rattle.rs_exec.specs.Asking.{world_of}
+use Rattle.rs_exec.specs.Cursors.{next_answer}
+use Rattle.rs_exec.specs.declared.fault.ExecFault.{ExecFault}
+use Rattle.rs_exec.specs.declared.fault.ExecFault.TheVariants as exec
 use Rattle.rs_bind.specs.declared.fault.BindFault.{BindFault}
 use Rattle.rs_bind.specs.declared.fault.BindFault.TheVariants as bind
 use Rattle.rs_run.specs.declared.fault.Fault.{Fault}
 use Rattle.rs_run.specs.declared.fault.Fault.TheVariants.{Memory, Usage, Write, Read, Table, BadScore, Probe, Script}
-use Rattle.rs_run.specs.Words.{Form, NoForm, Plain, Top, TopWords, form_of}
+use Rattle.rs_run.specs.Words.{Form, NoForm, RunScript, Top, TopWords, form_of}
 use Rattle.rs_run.specs.Content.{content_of}
 use Rattle.rs_run.specs.Top.{best_rows, named_table, number_at, or_table_fault, ranked_lines, scored_rows, table_limit, top_lines, top_table}
 use Rattle.rs_run.specs.Plain.{ScriptRuns, TextRuns, unlexed, unparsed, runs, unread, read, or_text_fault, script_limit, source_of, without_mark}
 use Rattle.rs_expr.specs.Scoring.{Answering}
 use Rattle.rs_run.specs.Run.{Event, Finds, Run, fetch_then}
 use Rattle.rs_run.specs.Running.{IsRun, IsRunOf, IsCut}
-use Rattle.rs_run.specs.Sequence.{RunOf, RunsOn, Step}
+use Rattle.rs_run.specs.Planned.{ask_count, ask_outcome, ask_step, asks_from, plan_for}
+use Rattle.rs_run.specs.Sequence.{RunOf, RunsOn, Step, then_step}
 use Rattle.rs_run.specs.Faults.{or_index_fault}
 use Rattle.rs_run.specs.Lines.{rank_lines}
-use Rattle.rs_run.specs.Statements.{Does, DoesTable, Evaluating, Plainly, StatementsRun, explain_outcome, index_step, or_bind_fault, or_room_fault, query_outcome, query_step, refused_or, table_step, with_room}
+use Rattle.rs_run.specs.declared.evaluating.Evaluating.{Evaluating}
+use Rattle.rs_run.specs.declared.evaluating.Evaluating.TheVariants.{Planned, Plainly}
+use Rattle.rs_run.specs.Statements.{Does, DoesTable, StatementsRun, explain_outcome, explain_step, index_step, is_built, not_built, or_bind_fault, or_room_fault, query_outcome, query_step, refused_or, select_step, table_step, with_room}
 
 -- the faults of `top` and of `plain`
 IsOwn : Fault → Type 0
@@ -182,19 +194,71 @@ Own-query catalogue (Err (plain.BadScore predicate ids got max)) own = tt
 Own-query catalogue (Err (plain.Probe predicate)) own = own
 Own-query catalogue (Err plain.Memory) own = tt
 
+-- so does a query by its plan: each of its asks ends with a row or none, or with a bad score
+abbrev OwnGiven : Result (Option Answer) ExecFault → Type 0
+OwnGiven (Ok given) = Unit {0}
+OwnGiven (Err (exec.BadScore predicate ids got max)) = Unit {0}
+OwnGiven (Err (exec.Probe predicate)) = ⊥
+OwnGiven (Err exec.Memory) = ⊥
+OwnGiven (Err exec.Broken) = ⊥
+
+OwnGiven-ask : (w : plan.World) (tree : PlanTree) (n : ℕ) → OwnGiven (next_answer w tree n).outcome
+OwnGiven-ask w tree n = go (first_of (is_bad w.answer w.catalogue) (questions_of_ask w 1 tree (suc n))) refl where
+  go : (bad : Option Question) → first_of (is_bad w.answer w.catalogue) (questions_of_ask w 1 tree (suc n)) ≡ bad → OwnGiven (next_answer w tree n).outcome
+  go None e = rw e tt
+  go (Some question) e = rw e tt
+
+Own-ask : (catalogue : Catalogue) (outcome : Result (Option Answer) ExecFault) → OwnGiven outcome → Own (ask_outcome catalogue outcome)
+unfolding Own IsOwn
+Own-ask catalogue (Ok given) own = tt
+Own-ask catalogue (Err (exec.BadScore predicate ids got max)) own = tt
+Own-ask catalogue (Err (exec.Probe predicate)) own = own
+Own-ask catalogue (Err exec.Memory) own = tt
+Own-ask catalogue (Err exec.Broken) own = tt
+
+Own-then_step : {S T : Type 0} (first : Step S) (next : Step T) → Own first.outcome → Own next.outcome → Own (then_step first next).outcome
+unfolding Own
+Own-then_step {S} first next own later = go first.outcome own where
+  go : (outcome : Result S Fault) → Own outcome → Own (then_step (record first { outcome = outcome }) next).outcome
+  go (Ok state) own = later
+  go (Err fault) own = own
+
+Own-asks : (w : plan.World) (tree : PlanTree) (n count : ℕ) → Own (asks_from w tree n count).outcome
+unfolding Own
+Own-asks w tree n zero = tt
+Own-asks w tree n (suc count) =
+    Own-then_step (ask_step w tree n) (asks_from w tree (suc n) count)
+    (Own-ask w.catalogue (next_answer w tree n).outcome (OwnGiven-ask w tree n)) (Own-asks w tree (suc n) count)
+
 Own-query_step : (evaluating : Evaluating) (answer : Answering) (catalogue : Catalogue) (query : Query) → Own (query_step evaluating answer catalogue query).outcome
 Own-query_step Plainly answer catalogue query =
     Own-query catalogue (evaluation_of answer catalogue query (all_rows catalogue query)).outcome (OwnAnswer-evaluation answer catalogue query (all_rows catalogue query))
+Own-query_step (Planned seed) answer catalogue query =
+    let w = world_of catalogue answer query in
+    let tree = plan_for catalogue query in
+    Own-asks w tree 0 (ask_count (limit_of query) (length (list_of_plan w tree)))
 
 Own-explain : (catalogue : Catalogue) (query : syntax.Query) → Own (explain_outcome catalogue query)
 unfolding Own
 Own-explain catalogue query = Own-then (or_bind_fault (bound_query catalogue query)) (λ bound. Ok catalogue) (Own-bind (bound_query catalogue query)) (λ bound. tt)
+
+Own-explain_step : (evaluating : Evaluating) (number : ℕ) (catalogue : Catalogue) (query : syntax.Query) → Own (explain_step evaluating number catalogue query).outcome
+unfolding Own IsOwn
+Own-explain_step Plainly number catalogue query = Own-explain catalogue query
+Own-explain_step (Planned seed) number catalogue query = tt
 
 -- a statement
 Own-refused : {A : Type 0} (does : A → Step Catalogue) (r : Result A Fault) → Own r → ((a : A) → Own (does a).outcome) → Own (refused_or does r).outcome
 unfolding Own
 Own-refused does (Ok a) own goes = goes a
 Own-refused does (Err fault) own goes = own
+
+Own-select : (evaluating : Evaluating) (answer : Answering) (number : ℕ) (catalogue : Catalogue) (query : syntax.Query) → Own (select_step evaluating answer number catalogue query).outcome
+unfolding Own IsOwn
+Own-select evaluating answer number catalogue query = go (is_built evaluating query) where
+  go : (built : Bool) → Own (if built then refused_or (query_step evaluating answer catalogue) (or_bind_fault (bound_query catalogue query)) else not_built number).outcome
+  go true = Own-refused (query_step evaluating answer catalogue) _ (Own-bind (bound_query catalogue query)) (Own-query_step evaluating answer catalogue)
+  go false = tt
 
 Own-table_step : (catalogue : Catalogue) (name : Name) (file : List ℕ) (columns : List Column) (there : Option (List ℕ)) → Own (table_step catalogue name file columns there).outcome
 unfolding Own
@@ -222,9 +286,9 @@ Own-step finds answer evaluating number catalogue (CreateRankIndex name table pr
     (Own-refused (index_step answer catalogue) _ (Own-with_room catalogue what.Index name (index_def_of catalogue (CreateRankIndex name table predicate args at)))
     (Own-index_step answer catalogue))
 Own-step finds answer evaluating number catalogue (syntax.Ask query) step does =
-    subst (λ s. Own s.outcome) (sym does) (Own-refused (query_step evaluating answer catalogue) _ (Own-bind (bound_query catalogue query)) (Own-query_step evaluating answer catalogue))
-Own-step finds answer evaluating number catalogue (Explain query) step does = subst (λ s. Own s.outcome) (sym does) (Own-explain catalogue query)
-Own-step finds answer evaluating number catalogue (ExplainAnalyze query) step does = subst (λ s. Own s.outcome) (sym does) (Own-explain catalogue query)
+    subst (λ s. Own s.outcome) (sym does) (Own-select evaluating answer number catalogue query)
+Own-step finds answer evaluating number catalogue (Explain query) step does = subst (λ s. Own s.outcome) (sym does) (Own-explain_step evaluating number catalogue query)
+Own-step finds answer evaluating number catalogue (ExplainAnalyze query) step does = subst (λ s. Own s.outcome) (sym does) (Own-explain_step evaluating number catalogue query)
 Own-step finds answer evaluating number catalogue _ step does = subst (λ s. Own s.outcome) (sym does) tt
 
 -- the statements of a script
@@ -241,16 +305,16 @@ Own-statements finds answer evaluating number catalogue (command ∷ rest) run i
     Own-behind (λ next more. RunOf (Does finds answer evaluating) (suc number) next rest more) is.0.events is.0.outcome run
     (Own-step finds answer evaluating number catalogue command is.0 is.1) (λ next more. Own-statements finds answer evaluating (suc number) next rest more) is.2
 
-Own-runs : (finds : Finds) (answer : Answering) (script : List ℕ) (run : Run) → TextRuns (StatementsRun finds answer Plainly) script run → OwnEnd run.fault
+Own-runs : (finds : Finds) (answer : Answering) (evaluating : Evaluating) (script : List ℕ) (run : Run) → TextRuns (StatementsRun finds answer evaluating) script run → OwnEnd run.fault
 unfolding OwnEnd IsOwn
-Own-runs finds answer script _ (unlexed fault refuses) = tt
-Own-runs finds answer script _ (unparsed tokens fault lexed refuses) = tt
-Own-runs finds answer script run (runs commands _ made is) = Own-statements finds answer Plainly 1 empty commands run is
+Own-runs finds answer evaluating script _ (unlexed fault refuses) = tt
+Own-runs finds answer evaluating script _ (unparsed tokens fault lexed refuses) = tt
+Own-runs finds answer evaluating script run (runs commands _ made is) = Own-statements finds answer evaluating 1 empty commands run is
 
-Own-script : (finds : Finds) (answer : Answering) (name : List ℕ) (run : Run) → ScriptRuns finds (StatementsRun finds answer Plainly) name run → OwnEnd run.fault
+Own-script : (finds : Finds) (answer : Answering) (evaluating : Evaluating) (name : List ℕ) (run : Run) → ScriptRuns finds (StatementsRun finds answer evaluating) name run → OwnEnd run.fault
 unfolding Own OwnEnd
-Own-script finds answer name _ (unread there fault found e) = subst Own e (Own-source name there)
-Own-script finds answer name _ (read there script run found e is) = Own-runs finds answer script run is
+Own-script finds answer evaluating name _ (unread there fault found e) = subst Own e (Own-source name there)
+Own-script finds answer evaluating name _ (read there script run found e is) = Own-runs finds answer evaluating script run is
 
 -- the faults that the definition of a run ends with
 unfoldable pub OwnFault : List (List ℕ) → Option Fault → Type 0
@@ -286,8 +350,8 @@ unfolding OwnFault OwnEnd IsOwn
 OwnFault-form finds answer words run (Top top) is_form (inl is) =
     OwnFault-end words run.fault (subst (λ r. OwnEnd r.fault) (sym is.2) (OwnEnd-lines top.file (top_lines top is.0) (Own-top top is.0)))
 OwnFault-form finds answer words run (Top top) is_form (inr cut) = absurd cut
-OwnFault-form finds answer words run (Plain name) is_form (inl is) = OwnFault-end words run.fault (Own-script finds answer name run is)
-OwnFault-form finds answer words run (Plain name) is_form (inr cut) = OwnFault-end words run.fault (subst (λ r. OwnEnd r.fault) (sym cut) tt)
+OwnFault-form finds answer words run (RunScript name evaluating) is_form (inl is) = OwnFault-end words run.fault (Own-script finds answer evaluating name run is)
+OwnFault-form finds answer words run (RunScript name evaluating) is_form (inr cut) = OwnFault-end words run.fault (subst (λ r. OwnEnd r.fault) (sym cut) tt)
 OwnFault-form finds answer words run NoForm is_form (inl is) = subst (λ r. OwnFault words r.fault) (sym is) is_form
 OwnFault-form finds answer words run NoForm is_form (inr cut) = absurd cut
 

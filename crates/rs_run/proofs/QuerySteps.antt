@@ -1,11 +1,8 @@
--- What the step of a query did, from what the evaluation and the puts did.
-use Rattle.std.proofs.Common.{ℕ, ◌≡◌, ◌∙◌, ◌++◌, List, [], ◌∷◌, map, Some, refl, sym, ap, subst, inl, inr, append-nil}
-use Rattle.std.specs.Prelude.{Result, Ok, Err, IfOk, slice_get, ◌⊎◌}
+-- What the step of a query did, from what binding and its calls did.
+use Rattle.std.proofs.Common.{ℕ, ◌≡◌, ◌∙◌, List, [], ◌∷◌, map, Some, refl, sym, ap, inl, inr}
+use Rattle.std.specs.Prelude.{Result, Ok, Err, slice_get, ◌⊎◌}
 use Rattle.rs_value.specs.Answer.{Gives}
-use Rattle.rs_rank.specs.declared.answer.Answer.{Answer}
-use Rattle.rs_expr.specs.InOrder.{Inquires, Inquiry}
 use Rattle.rs_expr.specs.Predicates.{PredicateDef}
-use Rattle.rs_expr.specs.Scoring.{ScorerState}
 use Rattle.rs_syntax.specs.Syntax as syntax
 use Rattle.rs_value.specs.Results.{◌>>=◌}
 use Rattle.rs_catalog.specs.Catalogue.{Catalogue}
@@ -14,59 +11,18 @@ use Rattle.rs_bind.specs.declared.fault.BindFault.{BindFault}
 use Rattle.rs_bind.specs.declared.fault.BindFault.TheVariants as bind
 use Rattle.rs_query.specs.Answers.{predicate_at}
 use Rattle.rs_query.specs.declared.query.Query.{Query}
-use Rattle.rs_query.specs.Questions.{Question, request_for}
-use Rattle.rs_plain.specs.Plain.{plain_faults}
-use Rattle.rs_plain.specs.declared.fault.PlainFault.{PlainFault}
-use Rattle.rs_plain.specs.declared.fault.PlainFault.TheVariants as plain
+use Rattle.rs_query.specs.Questions.{Faults, Question, request_for}
 use Rattle.rs_run.specs.declared.fault.Fault.{Fault}
-use Rattle.rs_run.specs.declared.fault.Fault.TheVariants.{Memory}
-use Rattle.rs_run.specs.Lines.{rank_lines}
-use Rattle.rs_run.specs.Parts.Steps.{Ran, Stepped, lines_run, run_of}
-use Rattle.rs_run.specs.Run.{Put, calls_in}
-use Rattle.rs_run.specs.Statements.{answer_lines, bind_fault, evaluation_step, explain_outcome, or_bind_fault, query_fault, query_outcome}
-use Rattle.rs_run.specs.World.{World}
-use Rattle.rs_run.proofs.InquirySteps.{IsAsked, Probes, Ran-unasked, asked-ok}
-use Rattle.rs_run.proofs.RanFacts.{Ran-behind}
+use Rattle.rs_run.specs.declared.fault.Fault.TheVariants.{Memory, Probe}
+use Rattle.rs_run.specs.Statements.{bind_fault, explain_outcome, or_bind_fault}
+use Rattle.rs_run.proofs.InquirySteps.{Probes}
 use Rattle.rs_run.proofs.StepFacts.{bound-ok}
-use Rattle.rs_run.proofs.SteppedFacts.{events-run_of, step_of}
 
--- each call is of the predicate that is told where it fails
-pub Probes-query : (catalogue : Catalogue) (questions : List Question) → Probes (query_fault catalogue) (map (request_for plain_faults catalogue) questions)
-Probes-query catalogue [] = tt
-Probes-query catalogue (question ∷ rest) = (refl, Probes-query catalogue rest)
-
-module _ (catalogue : Catalogue) (evaluated : Inquiry (List Answer) PlainFault) (world : World) (scorer : ScorerState) where
-  -- the query has no answer
-  pub Query-unanswered : (why : PlainFault) (fault : Fault) → Probes (query_fault catalogue) evaluated.requests → Inquires plain.Memory evaluated (Err why) world.scorer scorer
-      → (fault ≡ query_fault catalogue why) ⊎ (fault ≡ Memory)
-      → Stepped (λ step. step ≡ evaluation_step catalogue evaluated) catalogue (Err fault) world (record world { scorer = scorer })
-  Query-unanswered why fault probes asked told = record {
-    step = evaluation_step catalogue evaluated;
-    does = refl;
-    ran = Ran-unasked (query_fault catalogue) plain.Memory evaluated why world scorer (run_of (evaluation_step catalogue evaluated)) (map Put (answer_lines evaluated.outcome)) fault
-        probes refl (events-run_of (calls_in evaluated ++ map Put (answer_lines evaluated.outcome)) (query_outcome catalogue evaluated.outcome))
-        (λ e. ap (λ r. run_of (step_of (calls_in evaluated ++ map Put (answer_lines r)) (query_outcome catalogue r))) e
-        ∙ ap (λ events. run_of (step_of events (query_outcome catalogue (Err why)))) (append-nil (calls_in evaluated))) told asked;
-    leaves = tt;
-  }
-
-  -- all calls were made, and then its lines were put, all or those before a fault
-  pub Query-answered : (rows : List Answer) (result : Result (Unit {0}) Fault) (new : World) → Inquires plain.Memory evaluated (Ok rows) world.scorer scorer
-      → Ran (lines_run (rank_lines 1 rows)) result (record world { scorer = scorer }) new
-      → Stepped (λ step. step ≡ evaluation_step catalogue evaluated) catalogue result world new
-  Query-answered rows result new asks puts = record {
-    step = evaluation_step catalogue evaluated;
-    does = refl;
-    ran = subst (λ r. Ran (run_of (step_of (calls_in evaluated ++ map Put (answer_lines r)) (query_outcome catalogue r))) result world new) (sym asked.given)
-        (Ran-behind (calls_in evaluated) (lines_run (rank_lines 1 rows)) result world (record world { scorer = scorer }) new asked.has puts);
-    leaves = leaves result;
-  } where
-    asked : IsAsked evaluated rows world (record world { scorer = scorer })
-    asked = asked-ok plain.Memory evaluated rows world scorer asks
-
-    leaves : (result : Result (Unit {0}) Fault) → IfOk result (λ done. (evaluation_step catalogue evaluated).outcome ≡ Ok catalogue)
-    leaves (Ok done) = ap (query_outcome catalogue) asked.given
-    leaves (Err fault) = tt
+-- each question's call is of the predicate that is told where it fails
+pub Probes-questions : {F : Type 0} (faults : Faults F) (tells : F → Fault) (catalogue : Catalogue) → ((number : ℕ) → tells (faults.failed number) ≡ Probe (predicate_at catalogue number).name)
+    → (questions : List Question) → Probes tells (map (request_for faults catalogue) questions)
+Probes-questions faults tells catalogue told [] = tt
+Probes-questions faults tells catalogue told (question ∷ rest) = (told question.term.predicate, Probes-questions faults tells catalogue told rest)
 
 -- what is bound, as a run tells it
 pub Gives-bound : (bound : Result Query BindFault) (query : Query) → Gives bind.Memory bound (Ok query) → Gives Memory (or_bind_fault bound) (Ok query)

@@ -12,11 +12,14 @@ use Rattle.rs_syntax.specs.declared.statement.Statement.{Statement}
 use Rattle.rs_syntax.specs.Written.{AreWritten, IsWritten}
 use Rattle.rs_run.specs.declared.fault.Fault.{Fault}
 use Rattle.rs_run.specs.Halts.{fetched_more}
+use Rattle.rs_exec.specs.Indexes.{AreHeld}
 use Rattle.rs_run.specs.Parts.Steps.{HasDone, Stepped}
 use Rattle.rs_run.specs.Run.{Event, Finds, fetches, finds_in}
 use Rattle.rs_run.specs.Sequence.{Step}
-use Rattle.rs_run.specs.Statements.{Does, DoesTable, Evaluating}
+use Rattle.rs_run.specs.declared.evaluating.Evaluating.{Evaluating}
+use Rattle.rs_run.specs.Statements.{Does, DoesTable}
 use Rattle.rs_run.specs.World.{World}
+use Rattle.rs_run.proofs.HeldSteps.{held-step}
 use Rattle.rs_run.proofs.StepFacts.{some-table}
 use Rattle.rs_run.proofs.SteppedFacts.{Stepped-map}
 
@@ -68,6 +71,13 @@ Stepped-first made evaluating number catalogue left command result old middle ne
     (λ step does. Does-finds (finds_in middle.files.told) (finds_in old.files.told) (finds-after old.files.told middle.files.told (fetches made) has.all.fetched)
     old.scorer.answer evaluating number catalogue command step
     (subst (λ answer. Does (finds_in middle.files.told) answer evaluating number catalogue command step) has.keeps.scorer.answer does)) stepped
+
+-- and the indexes of the catalogue that it leaves hold the scorer's answers
+pub held-next : (made : List Event) (evaluating : Evaluating) (number : ℕ) (catalogue left : Catalogue) (command : Command) (old middle new : World) → HasDone made old middle → IsWritten command
+    → Stepped (Does (finds_in middle.files.told) middle.scorer.answer evaluating number catalogue command) left (Ok tt) middle new → AreHeld old.scorer.answer catalogue → AreHeld old.scorer.answer left
+held-next made evaluating number catalogue left command old middle new has written stepped held =
+    let own = Stepped-first made evaluating number catalogue left command (Ok tt) old middle new has stepped in
+    held-step old.scorer.answer catalogue held (finds_in old.files.told) evaluating number command own.step left written own.does own.leaves
 
 pub written-at : (xs : List Statement) (i : ℕ) (x : Statement) → i < length xs → x ≡ slice_index_or xs i x → AreWritten (commands_of xs) → IsWritten (command_of x)
 written-at [] i x within e h = absurd (omega (arith, within))

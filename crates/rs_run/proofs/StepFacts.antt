@@ -24,13 +24,13 @@ use Rattle.rs_syntax.specs.declared.statement.Statement.{Statement}
 use Rattle.rs_syntax.specs.declared.statement.Statement.TheVariants as statement
 use Rattle.rs_bind.specs.Indexes.{index_def_of}
 use Rattle.rs_bind.specs.Names.{columns_of}
-use Rattle.rs_bind.specs.Queries.{bound_query}
 use Rattle.rs_catalog.specs.declared.room.What.TheVariants as what
 use Rattle.rs_run.specs.Content.{content_of}
 use Rattle.rs_run.specs.Parts.Steps.{FetchesFile, IsReadTable, Ran, Stepped, run_of}
 use Rattle.rs_run.specs.Run.{Fetch, Finds, finds_in}
 use Rattle.rs_run.specs.Sequence.{Step, still}
-use Rattle.rs_run.specs.Statements.{Does, DoesTable, Evaluating, explain_outcome, index_step, or_bind_fault, predicate_outcome, query_step, refused_or, table_step, with_room}
+use Rattle.rs_run.specs.declared.evaluating.Evaluating.{Evaluating}
+use Rattle.rs_run.specs.Statements.{Does, DoesTable, explain_step, index_step, predicate_outcome, refused_or, select_step, table_step, with_room}
 use Rattle.rs_run.specs.Top.{or_table_fault, table_limit}
 use Rattle.rs_run.specs.World.{World}
 use Rattle.rs_run.proofs.FetchFacts.{Ran-unfetched, fault-at, fetched-ok}
@@ -170,15 +170,15 @@ Does-not_built finds answer evaluating number catalogue (statement.ExplainAnalyz
 
 -- what a query does, and what the two forms of EXPLAIN do
 pub Does-query : (finds : Finds) (answer : Answering) (evaluating : Evaluating) (number : ℕ) (catalogue : Catalogue) (s : Statement) (select : Select) → s ≡ statement.Query select
-    → Does finds answer evaluating number catalogue (command_of s) (refused_or (query_step evaluating answer catalogue) (or_bind_fault (bound_query catalogue (query_of select))))
+    → Does finds answer evaluating number catalogue (command_of s) (select_step evaluating answer number catalogue (query_of select))
 Does-query finds answer evaluating number catalogue s select e =
-    subst (λ s. Does finds answer evaluating number catalogue (command_of s) (refused_or (query_step evaluating answer catalogue) (or_bind_fault (bound_query catalogue (query_of select))))) (sym e) refl
+    subst (λ s. Does finds answer evaluating number catalogue (command_of s) (select_step evaluating answer number catalogue (query_of select))) (sym e) refl
 
 pub Does-explain : (finds : Finds) (answer : Answering) (evaluating : Evaluating) (number : ℕ) (catalogue : Catalogue) (s : Statement) (select : Select)
     → (s ≡ statement.Explain select) ⊎ (s ≡ statement.ExplainAnalyze select)
-    → Does finds answer evaluating number catalogue (command_of s) (still (explain_outcome catalogue (query_of select)))
-Does-explain finds answer evaluating number catalogue s select (inl e) = subst (λ s. Does finds answer evaluating number catalogue (command_of s) (still (explain_outcome catalogue (query_of select)))) (sym e) refl
-Does-explain finds answer evaluating number catalogue s select (inr e) = subst (λ s. Does finds answer evaluating number catalogue (command_of s) (still (explain_outcome catalogue (query_of select)))) (sym e) refl
+    → Does finds answer evaluating number catalogue (command_of s) (explain_step evaluating number catalogue (query_of select))
+Does-explain finds answer evaluating number catalogue s select (inl e) = subst (λ s. Does finds answer evaluating number catalogue (command_of s) (explain_step evaluating number catalogue (query_of select))) (sym e) refl
+Does-explain finds answer evaluating number catalogue s select (inr e) = subst (λ s. Does finds answer evaluating number catalogue (command_of s) (explain_step evaluating number catalogue (query_of select))) (sym e) refl
 
 -- what a statement does that makes a predicate
 pub Does-predicate : (finds : Finds) (answer : Answering) (evaluating : Evaluating) (number : ℕ) (catalogue : Catalogue) (s : Statement) (name : Name) (params : List (Name × Kind)) (max : ℤ × Span) (cost : Option (ℤ × Span)) (formula : Node)

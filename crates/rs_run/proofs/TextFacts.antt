@@ -22,8 +22,9 @@ use Rattle.rs_run.specs.Plain.{HasTokens, TextRuns, read, runs, unlexed, unparse
 use Rattle.rs_run.specs.Run.{Event, Fetch, Finds, Run, behind, fails, fetch_then, finds_in}
 use Rattle.rs_run.specs.Running.{IsCut, IsRunOf}
 use Rattle.rs_run.specs.Sequence.{RunOf, RunsOn}
-use Rattle.rs_run.specs.Statements.{Does, Evaluating, Plainly, StatementsRun}
-use Rattle.rs_run.specs.Words.{Plain}
+use Rattle.rs_run.specs.declared.evaluating.Evaluating.{Evaluating}
+use Rattle.rs_run.specs.Statements.{Does, StatementsRun}
+use Rattle.rs_run.specs.Words.{RunScript}
 use Rattle.rs_run.specs.World.{World}
 use Rattle.rs_run.proofs.FetchFacts.{Ran-unfetched, fetched-ok}
 use Rattle.rs_run.proofs.RanFacts.{HasDone-none, Ran-all, Ran-behind}
@@ -111,14 +112,14 @@ TextRuns-turn a b turn script _ (unparsed tokens fault lexed refuses) = unparsed
 TextRuns-turn a b turn script run (runs commands _ made is) = runs commands run made (turn commands run is)
 
 -- the run of a script over what a fetch found
-module _ (answer : Answering) (name : List ℕ) (world : World) (files : Outside FilesTold) where
+module _ (answer : Answering) (evaluating : Evaluating) (name : List ℕ) (world : World) (files : Outside FilesTold) where
   -- there was no script
   pub Script-unread : (fault : Fault) → FetchesFile {A = List ℕ} name (Err fault) (IsSource name) world.files files
-      → Runs (λ run. IsRunOf (finds_in world.files.told) answer (Plain name) run ⊎ IsCut (Plain name) run) (Err fault) world (record world { files = files })
+      → Runs (λ run. IsRunOf (finds_in world.files.told) answer (RunScript name evaluating) run ⊎ IsCut (RunScript name evaluating) run) (Err fault) world (record world { files = files })
   Script-unread fault f = go f.does where
     cut : (NotFetched {A = List ℕ} (Err fault) world.files files ⊎ FetchFails {A = List ℕ} name (Err fault) world.files files)
         ⊎ Fetched {A = List ℕ} name (λ r. r ≡ Err Memory) (Err fault) world.files files
-        → Runs (λ run. IsRunOf (finds_in world.files.told) answer (Plain name) run ⊎ IsCut (Plain name) run) (Err fault) world (record world { files = files })
+        → Runs (λ run. IsRunOf (finds_in world.files.told) answer (RunScript name evaluating) run ⊎ IsCut (RunScript name evaluating) run) (Err fault) world (record world { files = files })
     cut does = record {
       run = fetch_then name (Err Memory);
       is = inr refl;
@@ -128,7 +129,7 @@ module _ (answer : Answering) (name : List ℕ) (world : World) (files : Outside
     }
 
     go : (NotFetched {A = List ℕ} (Err fault) world.files files ⊎ FetchFails {A = List ℕ} name (Err fault) world.files files) ⊎ Fetched name (IsSource name f.there) (Err fault) world.files files
-        → Runs (λ run. IsRunOf (finds_in world.files.told) answer (Plain name) run ⊎ IsCut (Plain name) run) (Err fault) world (record world { files = files })
+        → Runs (λ run. IsRunOf (finds_in world.files.told) answer (RunScript name evaluating) run ⊎ IsCut (RunScript name evaluating) run) (Err fault) world (record world { files = files })
     go (inl broken) = cut (inl broken)
     go (inr fetched) = elim fetched.answers [
       | inl e ↦ record {
@@ -141,15 +142,15 @@ module _ (answer : Answering) (name : List ℕ) (world : World) (files : Outside
 
   -- the script was read, and its text was run
   pub Script-read : (script : List ℕ) (result : Result (Unit {0}) Fault) (new : World) → FetchesFile name (Ok script) (IsSource name) world.files files
-      → Runs (IsText (StatementsRun (finds_in files.told) answer Plainly) script) result (record world { files = files }) new
-      → Runs (λ run. IsRunOf (finds_in world.files.told) answer (Plain name) run ⊎ IsCut (Plain name) run) result world new
+      → Runs (IsText (StatementsRun (finds_in files.told) answer evaluating) script) result (record world { files = files }) new
+      → Runs (λ run. IsRunOf (finds_in world.files.told) answer (RunScript name evaluating) run ⊎ IsCut (RunScript name evaluating) run) result world new
   Script-read script result new f text =
       let source = fetched-ok world files name script (IsSource name) f in record {
         run = behind (Fetch name ∷ []) text.run;
         is = elim text.is [
           | inl is ↦ inl (read f.there script text.run f.is_told (sym source.given)
-              (TextRuns-turn (StatementsRun (finds_in files.told) answer Plainly) (StatementsRun (finds_in world.files.told) answer Plainly)
-              (λ commands run. RunOf-finds (finds_in files.told) (finds_in world.files.told) (finds-after world.files.told files.told (name ∷ []) source.has.all.fetched) answer Plainly 1 empty commands run)
+              (TextRuns-turn (StatementsRun (finds_in files.told) answer evaluating) (StatementsRun (finds_in world.files.told) answer evaluating)
+              (λ commands run. RunOf-finds (finds_in files.told) (finds_in world.files.told) (finds-after world.files.told files.told (name ∷ []) source.has.all.fetched) answer evaluating 1 empty commands run)
               script text.run is))
           | inr e ↦ inr (ap (behind (Fetch name ∷ [])) e)
         ];

@@ -11,7 +11,8 @@ use Rattle.rs_outside.specs.declared.files.FetchFault.TheVariants as fetch
 use Rattle.rs_table.specs.declared.fault.TableFault.{TableFault}
 use Rattle.rs_table.specs.declared.fault.TableFault.TheVariants as table
 use Rattle.rs_run.specs.declared.fault.Fault.TheVariants as fault
-use Rattle.rs_run.specs.Words.{top_words, NoForm, Plain, Top, form_of}
+use Rattle.rs_run.specs.declared.evaluating.Evaluating.TheVariants.{Plainly, Planned}
+use Rattle.rs_run.specs.Words.{top_words, NoForm, RunScript, Top, form_of}
 use Rattle.rs_run.specs.declared.script_fault.ScriptFault.TheVariants as script
 use Rattle.rs_run.specs.declared.status.Status.TheVariants as status
 use Rattle.rs_lex.specs.declared.fault.LexFault.TheVariants as lex
@@ -232,12 +233,34 @@ unfolding words digits
 form_of_top = refl
 
 -- the form of `plain`
-form_of_plain : form_of (codes "plain" ∷ codes "s.sql" ∷ []) ≡ Plain (codes "s.sql")
+form_of_plain : form_of (codes "plain" ∷ codes "s.sql" ∷ []) ≡ RunScript (codes "s.sql") Plainly
 form_of_plain = refl
 
 -- a script may have any name
-form_of_plain_top : form_of (codes "plain" ∷ codes "top" ∷ []) ≡ Plain (codes "top")
+form_of_plain_top : form_of (codes "plain" ∷ codes "top" ∷ []) ≡ RunScript (codes "top") Plainly
 form_of_plain_top = refl
+
+-- the form of `run`
+form_of_run : form_of (codes "run" ∷ codes "s.sql" ∷ codes "007" ∷ []) ≡ RunScript (codes "s.sql") (Planned 7)
+unfolding digits
+form_of_run = refl
+
+-- the greatest seed, and one more
+form_of_greatest_seed : form_of (codes "run" ∷ codes "s.sql" ∷ codes "18446744073709551615" ∷ []) ≡ RunScript (codes "s.sql") (Planned 18446744073709551615)
+unfolding digits
+form_of_greatest_seed = refl
+
+form_of_seed_too_great : form_of (codes "run" ∷ codes "s.sql" ∷ codes "18446744073709551616" ∷ []) ≡ NoForm
+unfolding digits
+form_of_seed_too_great = refl
+
+-- a seed that is no number, and none
+form_of_no_number : form_of (codes "run" ∷ codes "s.sql" ∷ codes "x" ∷ []) ≡ NoForm
+unfolding digits
+form_of_no_number = refl
+
+form_of_no_seed : form_of (codes "run" ∷ codes "s.sql" ∷ []) ≡ NoForm
+form_of_no_seed = refl
 
 -- words of no form
 form_of_nothing : form_of [] ≡ NoForm

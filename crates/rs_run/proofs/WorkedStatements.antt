@@ -24,7 +24,8 @@ use Rattle.rs_run.specs.declared.script_fault.ScriptFault.TheVariants as script
 use Rattle.rs_run.specs.Faults.{only}
 use Rattle.rs_expr.specs.Scoring.{Answering}
 use Rattle.rs_run.specs.Run.{Fetch, Finds, Put, Score, found_in}
-use Rattle.rs_run.specs.Statements.{Plainly, StatementsRun}
+use Rattle.rs_run.specs.declared.evaluating.Evaluating.TheVariants.{Plainly, Planned}
+use Rattle.rs_run.specs.Statements.{StatementsRun}
 
 -- a name at a place
 abbrev name_at : List ℕ → ℕ → Name
@@ -102,6 +103,51 @@ explains_in_silence : StatementsRun (finds (Some (codes "v\n3\n40\n5\n"))) answe
     (record { events = Fetch (codes "f") ∷ []; fault = None })
 unfolding create_table create_predicate select finds answer call csv_on_literals digits chars is_utf8 encode_utf8 escaped fields_text is_blank
 explains_in_silence = (_, (Some (codes "v\n3\n40\n5\n"), refl, refl), (_, (_, refl, (_, (_, refl, (_, (_, refl, (_, refl, refl)), refl)), refl)), refl))
+
+-- by its plan, the second row is asked for before the first one is put, since its score may be greater than 3
+asks_before_a_row : StatementsRun (finds (Some (codes "v\n3\n10\n"))) answer (Planned 7) (create_table ∷ create_predicate ∷ syntax.Ask select ∷ [])
+    (record { events = Fetch (codes "f") ∷ Score (call (pos 3)) ∷ Score (call (pos 10)) ∷ Put (codes "1,10,10\n") ∷ Put (codes "2,3,3\n") ∷ []; fault = None })
+unfolding create_table create_predicate select finds answer call csv_on_literals digits chars is_utf8 encode_utf8 escaped fields_text is_blank
+asks_before_a_row = (_, (Some (codes "v\n3\n10\n"), refl, refl), (_, (_, refl, (_, (_, refl, (_, refl, refl)), refl)), refl))
+
+-- no score is greater than 10, so a row of this score is put before the next one is asked for, whose number is no score
+puts_before_an_ask : StatementsRun (finds (Some (codes "v\n10\n40\n5\n"))) answer (Planned 7) (create_table ∷ create_predicate ∷ syntax.Ask select ∷ create_table ∷ [])
+    (record { events = Fetch (codes "f") ∷ Score (call (pos 10)) ∷ Put (codes "1,10,10\n") ∷ Score (call (pos 40)) ∷ []; fault = Some (fault.BadScore (codes "p") (only 2) (pos 40) 10) })
+unfolding create_table create_predicate select finds answer call csv_on_literals digits chars is_utf8 encode_utf8 escaped fields_text is_blank
+puts_before_an_ask = (_, (Some (codes "v\n10\n40\n5\n"), refl, refl), (_, (_, refl, (_, (_, refl, refl), refl)), refl))
+
+-- SELECT v FROM t ORDER BY p(v) LIMIT 1
+select_one : syntax.Query
+unfolding select
+select_one = record select { limit = Some (pos 1, record { start = 136; end = 137 }) }
+
+-- behind as many rows as LIMIT says nothing is asked
+asks_no_more : StatementsRun (finds (Some (codes "v\n10\n40\n5\n"))) answer (Planned 7) (create_table ∷ create_predicate ∷ syntax.Ask select_one ∷ [])
+    (record { events = Fetch (codes "f") ∷ Score (call (pos 10)) ∷ Put (codes "1,10,10\n") ∷ []; fault = None })
+unfolding create_table create_predicate select select_one finds answer call csv_on_literals digits chars is_utf8 encode_utf8 escaped fields_text is_blank
+asks_no_more = (_, (Some (codes "v\n10\n40\n5\n"), refl, refl), (_, (_, refl, (_, (_, refl, (_, refl, refl)), refl)), refl))
+
+-- the index makes its calls, and a query whose one term it has makes none
+asks_by_an_index : StatementsRun (finds (Some (codes "v\n3\n10\n"))) answer (Planned 7) (create_table ∷ create_predicate ∷ create_index ∷ syntax.Ask select ∷ [])
+    (record { events = Fetch (codes "f") ∷ Score (call (pos 3)) ∷ Score (call (pos 10)) ∷ Put (codes "1,10,10\n") ∷ Put (codes "2,3,3\n") ∷ []; fault = None })
+unfolding create_table create_predicate create_index select finds answer call csv_on_literals digits chars is_utf8 encode_utf8 escaped fields_text is_blank
+asks_by_an_index = (_, (Some (codes "v\n3\n10\n"), refl, refl), (_, (_, refl, (_, (_, refl, (_, (_, refl, (_, refl, refl)), refl)), refl)), refl))
+
+-- SELECT v FROM t, t2 ORDER BY p(v), which isn't built, whatever its names are
+select_two : syntax.Query
+unfolding select
+select_two = record select { left = record select.left { from = (name_at (codes "t") 114, None) ∷ (name_at (codes "t2") 117, None) ∷ [] } }
+
+two_tables : StatementsRun (finds None) answer (Planned 7) (create_predicate ∷ syntax.Ask select_two ∷ create_table ∷ [])
+    (record { events = []; fault = Some (fault.Script (script.NotBuilt 2)) })
+unfolding create_table create_predicate select select_two finds answer call csv_on_literals digits chars is_utf8 encode_utf8 escaped fields_text is_blank
+two_tables = (_, refl, (_, (_, refl, refl), refl))
+
+-- no plan is told of
+explains_no_plan : StatementsRun (finds None) answer (Planned 7) (create_predicate ∷ syntax.ExplainAnalyze select ∷ [])
+    (record { events = []; fault = Some (fault.Script (script.NotBuilt 2)) })
+unfolding create_table create_predicate select finds answer call csv_on_literals digits chars is_utf8 encode_utf8 escaped fields_text is_blank
+explains_no_plan = (_, refl, (_, (_, refl, refl), refl))
 
 -- the first number that is no score ends the run, and no row behind it is asked for
 bad_score : StatementsRun (finds (Some (codes "v\n3\n40\n5\n"))) answer Plainly (create_table ∷ create_predicate ∷ create_index ∷ create_table ∷ [])

@@ -1,17 +1,17 @@
 -- The run of the words of a command line.
 use Rattle.std.specs.Prelude.{ℕ, ◌≡◌, List, Option, Err}
 use Rattle.rs_run.specs.declared.fault.Fault.TheVariants.{Memory, Usage}
-use Rattle.rs_run.specs.Words.{Form, NoForm, Plain, Top, form_of}
+use Rattle.rs_run.specs.Words.{Form, NoForm, RunScript, Top, form_of}
 use Rattle.rs_run.specs.Top.{top_lines}
 use Rattle.rs_run.specs.Plain.{ScriptRuns}
 use Rattle.rs_expr.specs.Scoring.{Answering}
 use Rattle.rs_run.specs.Run.{Finds, Run, fails, fetch_then}
-use Rattle.rs_run.specs.Statements.{Plainly, StatementsRun}
+use Rattle.rs_run.specs.Statements.{StatementsRun}
 
 -- the run of words of this form
 abbrev pub IsRunOf : Finds → Answering → Form → Run → Type 0
 IsRunOf finds answer (Top top) run = (there : Option (List ℕ)) × finds top.file there × (run ≡ fetch_then top.file (top_lines top there))
-IsRunOf finds answer (Plain name) run = ScriptRuns finds (StatementsRun finds answer Plainly) name run
+IsRunOf finds answer (RunScript name evaluating) run = ScriptRuns finds (StatementsRun finds answer evaluating) name run
 IsRunOf finds answer NoForm run = run ≡ fails Usage
 
 -- the run of these words
@@ -21,5 +21,5 @@ IsRun finds answer words run = IsRunOf finds answer (form_of words) run
 -- what is done of a script where there is no memory to tell what it does: its file is fetched, and nothing more
 abbrev pub IsCut : Form → Run → Type 0
 IsCut (Top top) run = ⊥
-IsCut (Plain name) run = run ≡ fetch_then name (Err Memory)
+IsCut (RunScript name evaluating) run = run ≡ fetch_then name (Err Memory)
 IsCut NoForm run = ⊥

@@ -1,7 +1,8 @@
 -- Steps one after another, each from the state that the one before it leaves.
-use Rattle.std.specs.Prelude.{ℕ, suc, ◌≡◌, List, [], ◌∷◌, Some, None, Result, Ok, Err}
+use Rattle.std.specs.Prelude.{ℕ, suc, ◌≡◌, List, [], ◌∷◌, ◌++◌, map, Some, None, Result, Ok, Err}
+use Rattle.rs_expr.specs.InOrder.{Inquiry}
 use Rattle.rs_run.specs.declared.fault.Fault.{Fault}
-use Rattle.rs_run.specs.Run.{Event, Run, behind}
+use Rattle.rs_run.specs.Run.{Event, Put, Run, behind, calls_in}
 
 -- what a statement does: its events, and the state that it leaves, or the fault that ends the run
 pub record Step (S : Type 0) : Type 0 where
@@ -11,6 +12,17 @@ pub record Step (S : Type 0) : Type 0 where
 -- a statement without an event
 abbrev pub still : {S : Type 0} → Result S Fault → Step S
 still outcome = record { events = []; outcome = outcome }
+
+-- all calls of an inquiry, and then the lines that its outcome gives, each in one put
+abbrev pub inquiry_step : {A F S : Type 0} → (Result A F → List (List ℕ)) → (Result A F → Result S Fault) → Inquiry A F → Step S
+inquiry_step lines outcome inquiry = record { events = calls_in inquiry ++ map Put (lines inquiry.outcome); outcome = outcome inquiry.outcome }
+
+-- a step, and then another one, where the first one ends without a fault
+abbrev pub then_step : {S T : Type 0} → Step S → Step T → Step T
+then_step {S} {T} first next = of first.outcome where
+  of : Result S Fault → Step T
+  of (Ok state) = record { events = first.events ++ next.events; outcome = next.outcome }
+  of (Err fault) = record { events = first.events; outcome = Err fault }
 
 -- the run of a step and those behind it, which only go on where it ends without a fault
 abbrev pub RunsOn : {S : Type 0} → (S → Run → Type 0) → List Event → Result S Fault → Run → Type 0

@@ -1,5 +1,5 @@
 -- The statements of a script, one after another: what each does, and the catalogue that it leaves.
-use Rattle.std.specs.Prelude.{ℕ, ◌≡◌, List, [], ◌∷◌, ◌++◌, map, Option, Result, Ok, Err}
+use Rattle.std.specs.Prelude.{ℕ, ◌≡◌, Bool, true, List, [], ◌∷◌, Option, Result, Ok, Err, if◌then◌else◌}
 use Rattle.rs_rank.specs.declared.answer.Answer.{Answer}
 use Rattle.rs_rank.specs.declared.scored_row.ScoredRow.{ScoredRow}
 use Rattle.rs_syntax.specs.declared.name.Name.{Name}
@@ -29,14 +29,18 @@ use Rattle.rs_query.specs.declared.query.Query.{Query}
 use Rattle.rs_plain.specs.Plain.{evaluation_of}
 use Rattle.rs_plain.specs.declared.fault.PlainFault.{PlainFault}
 use Rattle.rs_plain.specs.declared.fault.PlainFault.TheVariants as plain
+use Rattle.rs_exec.specs.Asking.{world_of}
+use Rattle.rs_run.specs.declared.evaluating.Evaluating.{Evaluating}
+use Rattle.rs_run.specs.declared.evaluating.Evaluating.TheVariants.{Plainly, Planned}
 use Rattle.rs_run.specs.declared.fault.Fault.{Fault}
 use Rattle.rs_run.specs.declared.fault.Fault.TheVariants.{BadScore, Memory, Probe, Script}
 use Rattle.rs_run.specs.declared.script_fault.ScriptFault.TheVariants.{Bind, Room, NotBuilt}
 use Rattle.rs_run.specs.Content.{content_of}
 use Rattle.rs_run.specs.Lines.{rank_lines}
 use Rattle.rs_run.specs.Faults.{or_index_fault}
-use Rattle.rs_run.specs.Run.{Fetch, Finds, Put, Run, calls_in}
-use Rattle.rs_run.specs.Sequence.{RunOf, Step, still}
+use Rattle.rs_run.specs.Planned.{is_single, plan_for, planned_step}
+use Rattle.rs_run.specs.Run.{Fetch, Finds, Run, calls_in}
+use Rattle.rs_run.specs.Sequence.{RunOf, Step, inquiry_step, still}
 use Rattle.rs_run.specs.Top.{or_table_fault, table_limit}
 
 -- a rule that a statement breaks ends the run
@@ -102,15 +106,12 @@ query_outcome catalogue (Err fault) = Err (query_fault catalogue fault)
 
 -- a query: all its calls, and then its rows, each as one line
 abbrev pub evaluation_step : Catalogue → Inquiry (List Answer) PlainFault → Step Catalogue
-evaluation_step catalogue evaluated =
-    record { events = calls_in evaluated ++ map Put (answer_lines evaluated.outcome); outcome = query_outcome catalogue evaluated.outcome }
+evaluation_step catalogue evaluated = inquiry_step answer_lines (query_outcome catalogue) evaluated
 
--- how the queries of a script are evaluated: plainly, which scores every combination of rows
-pub data Evaluating : Type 0 where
-  Plainly : Evaluating
-
+-- a query is evaluated plainly, which scores every combination of rows, or by its plan; nothing draws from the seed, since no plan is chosen yet
 abbrev pub query_step : Evaluating → Answering → Catalogue → Query → Step Catalogue
 query_step Plainly answer catalogue query = evaluation_step catalogue (evaluation_of answer catalogue query (all_rows catalogue query))
+query_step (Planned seed) answer catalogue query = planned_step (world_of catalogue answer query) (plan_for catalogue query)
 
 -- EXPLAIN: the query has to be bound, and nothing is told of it
 abbrev pub explain_outcome : Catalogue → syntax.Query → Result Catalogue Fault
@@ -120,6 +121,24 @@ explain_outcome catalogue query = or_bind_fault (bound_query catalogue query) >>
 abbrev pub refused_or : {A S : Type 0} → (A → Step S) → Result A Fault → Step S
 refused_or does (Ok a) = does a
 refused_or does (Err fault) = still (Err fault)
+
+-- the statement of this number is of a form that isn't built
+abbrev pub not_built : {S : Type 0} → ℕ → Step S
+not_built number = still (Err (Script (NotBuilt number)))
+
+-- a query counts as built by its form, before its names and types; plainly, each one is
+abbrev pub is_built : Evaluating → syntax.Query → Bool
+is_built Plainly query = true
+is_built (Planned seed) query = is_single query
+
+abbrev pub select_step : Evaluating → Answering → ℕ → Catalogue → syntax.Query → Step Catalogue
+select_step evaluating answer number catalogue query =
+    if is_built evaluating query then refused_or (query_step evaluating answer catalogue) (or_bind_fault (bound_query catalogue query)) else not_built number
+
+-- no plan is told of yet
+abbrev pub explain_step : Evaluating → ℕ → Catalogue → syntax.Query → Step Catalogue
+explain_step Plainly number catalogue query = still (explain_outcome catalogue query)
+explain_step (Planned seed) number catalogue query = not_built number
 
 -- the fetch of a table's file, where the statement isn't refused before it
 abbrev pub DoesTable : Finds → Catalogue → Name → List ℕ → Result (List Column) Fault → Step Catalogue → Type 0
@@ -134,10 +153,10 @@ Does finds answer evaluating number catalogue (CreatePredicate name params max c
     step ≡ still (predicate_outcome catalogue name (CreatePredicate name params max cost formula))
 Does finds answer evaluating number catalogue (CreateRankIndex name table predicate args at) step =
     step ≡ refused_or (index_step answer catalogue) (with_room catalogue what.Index name (index_def_of catalogue (CreateRankIndex name table predicate args at)))
-Does finds answer evaluating number catalogue (syntax.Ask query) step = step ≡ refused_or (query_step evaluating answer catalogue) (or_bind_fault (bound_query catalogue query))
-Does finds answer evaluating number catalogue (Explain query) step = step ≡ still (explain_outcome catalogue query)
-Does finds answer evaluating number catalogue (ExplainAnalyze query) step = step ≡ still (explain_outcome catalogue query)
-Does finds answer evaluating number catalogue _ step = step ≡ still (Err (Script (NotBuilt number)))
+Does finds answer evaluating number catalogue (syntax.Ask query) step = step ≡ select_step evaluating answer number catalogue query
+Does finds answer evaluating number catalogue (Explain query) step = step ≡ explain_step evaluating number catalogue query
+Does finds answer evaluating number catalogue (ExplainAnalyze query) step = step ≡ explain_step evaluating number catalogue query
+Does finds answer evaluating number catalogue _ step = step ≡ not_built number
 
 -- the run of the statements of a script, over an empty catalogue
 abbrev pub StatementsRun : Finds → Answering → Evaluating → List Command → Run → Type 0

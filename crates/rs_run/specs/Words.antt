@@ -1,7 +1,9 @@
 -- The words of the command line.
-use Rattle.std.specs.Prelude.{ℕ, nat_le, List, [], ◌∷◌, length, Option, Some, None, if◌then◌else◌, codes}
+use Rattle.std.specs.Prelude.{ℕ, nat_le, List, [], ◌∷◌, length, Option, Some, None, option_map, if◌then◌else◌, codes}
 use Rattle.std.specs.Str.{bytes_eq}
 use Rattle.rs_value.specs.Number.{decimal_value}
+use Rattle.rs_run.specs.declared.evaluating.Evaluating.{Evaluating}
+use Rattle.rs_run.specs.declared.evaluating.Evaluating.TheVariants.{Plainly, Planned}
 
 -- what `top FILE COLUMN MAX K` asks for
 pub record TopWords : Type 0 where
@@ -34,16 +36,23 @@ abbrev pub plain_words : List (List ℕ) → Option (List ℕ)
 plain_words (word ∷ script ∷ []) = if bytes_eq word (codes "plain") then Some script else None
 plain_words _ = None
 
--- what words ask for: the first rows of a table, the statements of a script, or nothing that is there
+-- the script and the seed of the words of the form `run SCRIPT SEED`, SEED from 0 to 18,446,744,073,709,551,615
+abbrev pub run_words : List (List ℕ) → Option (List ℕ × ℕ)
+run_words (word ∷ script ∷ seed ∷ []) =
+    if bytes_eq word (codes "run") then option_map (λ number. (script, number)) (number_word 0 18446744073709551615 seed) else None
+run_words _ = None
+
+-- what words ask for: the first rows of a table, the statements of a script, whose queries are evaluated in one of two ways, or nothing that is there
 pub data Form : Type 0 where
   Top : TopWords → Form
-  Plain : List ℕ → Form
+  RunScript : List ℕ → Evaluating → Form
   NoForm : Form
 
 -- the form of words
 abbrev pub form_of : List (List ℕ) → Form
-form_of words = of (top_words words) (plain_words words) where
-  of : Option TopWords → Option (List ℕ) → Form
-  of (Some top) script = Top top
-  of None (Some script) = Plain script
-  of None None = NoForm
+form_of words = of (top_words words) (plain_words words) (run_words words) where
+  of : Option TopWords → Option (List ℕ) → Option (List ℕ × ℕ) → Form
+  of (Some top) plain run = Top top
+  of None (Some script) run = RunScript script Plainly
+  of None None (Some run) = RunScript run.0 (Planned run.1)
+  of None None None = NoForm

@@ -86,7 +86,9 @@ fn answer<F: Files, S: Scorer, O: Sink>(
             files,
             out,
         ),
-        Some(Command::Plain(script)) => run_script(alloc, script, files, scorer, out),
+        Some(Command::RunScript(script, evaluating)) => {
+            run_script(alloc, evaluating, script, files, scorer, out)
+        }
         None => Err(Fault::Usage),
     }
 }

@@ -1,11 +1,15 @@
-//! What the definitions say: a law that holds of all words and files. The function computes nothing; it is called for
-//! its contract.
+//! What the definitions say: laws that hold of all words and files. The functions compute nothing; they are called for
+//! their contracts.
 
-ghost use Rattle.std.specs.Prelude.{◌≡◌, ℕ, List, Option, Some};
+ghost use Rattle.std.specs.Prelude.{◌≡◌, ℕ, List, Option, None, Some};
 ghost use Rattle.rs_outside.specs.Files.{FilesTold};
 ghost use Rattle.rs_expr.specs.Scoring.{Answering};
-ghost use Rattle.rs_run.specs.Run.{Run, finds_in, found_in};
-ghost use Rattle.rs_run.specs.Running.{IsRun};
+ghost use Rattle.rs_run.specs.declared.evaluating.Evaluating.TheVariants.{Plainly, Planned};
+ghost use Rattle.rs_run.specs.Run.{Run, finds_in, found_in, puts};
+ghost use Rattle.rs_run.specs.Running.{IsRun, IsRunOf};
+ghost use Rattle.rs_run.specs.Words.{RunScript};
+
+use rs_exec::plans_give_the_answer;
 
 /// Words have one run at most over the same files and the same answers of a scorer, where the files stay as they are, as
 /// those do that are told.
@@ -15,3 +19,16 @@ pub fn one_run()
     ensures told { (told : FilesTold) (answer : Answering) (words : List (List ℕ)) (run other : Run)
         → IsRun (finds_in (Some told)) answer words run → IsRun (finds_in (Some told)) answer words other → run ≡ other }
 {}
+
+/// A script that ends without a fault under `plain` and under `run`, whatever the seed, puts the same rows in the same order
+/// under both, over the same files and the same answers of a scorer.
+pub fn plain_and_run_agree()
+    ensures files { (there : List ℕ → Option (List ℕ)) (answer : Answering) (name : List ℕ) (seed : ℕ) (run other : Run)
+        → IsRunOf (found_in there) answer (RunScript name Plainly) run → IsRunOf (found_in there) answer (RunScript name (Planned seed)) other
+        → run.fault ≡ None → other.fault ≡ None → puts run.events ≡ puts other.events }
+    ensures told { (told : FilesTold) (answer : Answering) (name : List ℕ) (seed : ℕ) (run other : Run)
+        → IsRunOf (finds_in (Some told)) answer (RunScript name Plainly) run → IsRunOf (finds_in (Some told)) answer (RunScript name (Planned seed)) other
+        → run.fault ≡ None → other.fault ≡ None → puts run.events ≡ puts other.events }
+{
+    plans_give_the_answer();
+}

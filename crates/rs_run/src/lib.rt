@@ -2,14 +2,17 @@
 #![tactic(auto)]
 
 mod command;
+mod evaluating;
 mod fault;
 mod fetch;
 mod laws;
 mod plain;
+mod planned;
 mod put;
 mod query;
 mod report;
 mod script_fault;
+mod select;
 mod statement;
 mod status;
 mod top;
@@ -17,6 +20,6 @@ mod words;
 
 pub use command::run;
 pub use fault::Fault;
-pub use laws::one_run;
+pub use laws::{one_run, plain_and_run_agree};
 pub use script_fault::ScriptFault;
 pub use status::Status;

@@ -6,10 +6,11 @@ ghost use Rattle.rs_run.specs.Parts.Steps.{FetchesFile, IsSource, Runs};
 ghost use Rattle.rs_run.specs.Plain.{TextRuns, or_text_fault, without_mark};
 ghost use Rattle.rs_run.specs.Run.{fails, finds_in};
 ghost use Rattle.rs_run.specs.Running.{IsCut, IsRunOf};
-ghost use Rattle.rs_run.specs.Statements.{Plainly, StatementsRun};
-ghost use Rattle.rs_run.specs.Words.{Plain};
+ghost use Rattle.rs_run.specs.Statements.{StatementsRun};
+ghost use Rattle.rs_run.specs.Words.{RunScript};
 ghost use Rattle.rs_run.specs.World.{World};
 
+use crate::evaluating::Evaluating;
 use crate::fault::Fault;
 use crate::fetch::fetch_file;
 use crate::script_fault::ScriptFault;
@@ -27,18 +28,19 @@ const BYTE_ORDER_MARK: &[u8] = b"\xEF\xBB\xBF";
 /// Does what a script says, statement by statement, up to the first fault.
 pub fn run_script<F: Files, S: Scorer, O: Sink>(
     alloc: Global,
+    evaluating: Evaluating,
     name: &Text,
     files: &mut F,
     scorer: &mut S,
     out: &mut O,
 ) -> Result<(), Fault>
     ensures { (beside : World) → Runs
-        (λ run. IsRunOf (finds_in (F.state files.old).told) (S.state scorer.old).answer (Plain name.now) run ⊎ IsCut (Plain name.now) run) result
+        (λ run. IsRunOf (finds_in (F.state files.old).told) (S.state scorer.old).answer (RunScript name.now evaluating) run ⊎ IsCut (RunScript name.now evaluating) run) result
         (record beside { files = F.state files.old; scorer = S.state scorer.old; out = O.state out.old })
         (record beside { files = F.state files.new; scorer = S.state scorer.new; out = O.state out.new }) }
 {
     let script = fetch_script(alloc, name, files)?;
-    run_text(alloc, &script, files, scorer, out)
+    run_text(alloc, evaluating, &script, files, scorer, out)
 }
 
 /// Fetches the text of a script, without the byte order mark at its start.
@@ -76,6 +78,7 @@ fn without_mark(bytes: &[u8]) -> &[u8]
 /// Does what the text of a script says.
 fn run_text<F: Files, S: Scorer, O: Sink>(
     alloc: Global,
+    evaluating: Evaluating,
     script: &Text,
     files: &mut F,
     scorer: &mut S,
@@ -83,11 +86,11 @@ fn run_text<F: Files, S: Scorer, O: Sink>(
 ) -> Result<(), Fault>
     requires { length script.now ≤ 1048576 }
     ensures { (beside : World) → Runs
-        (λ run. TextRuns (StatementsRun (finds_in (F.state files.old).told) (S.state scorer.old).answer Plainly) script.now run ⊎ (run ≡ fails Memory)) result
+        (λ run. TextRuns (StatementsRun (finds_in (F.state files.old).told) (S.state scorer.old).answer evaluating) script.now run ⊎ (run ≡ fails Memory)) result
         (record beside { files = F.state files.old; scorer = S.state scorer.old; out = O.state out.old })
         (record beside { files = F.state files.new; scorer = S.state scorer.new; out = O.state out.new }) }
 {
     let tokens = tokens(alloc, script)?;
     let statements = parse(alloc, script, &tokens)?;
-    run_statements(alloc, &statements, files, scorer, out)
+    run_statements(alloc, evaluating, &statements, files, scorer, out)
 }

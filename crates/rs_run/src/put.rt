@@ -1,4 +1,5 @@
 ghost use Rattle.std.specs.Prelude.{[], ◌∷◌};
+ghost use Rattle.rs_lines.specs.Row.{line_of};
 ghost use Rattle.rs_run.specs.Lines.{rank_lines};
 ghost use Rattle.rs_run.specs.Parts.Steps.{Ran, lines_run};
 ghost use Rattle.rs_run.specs.World.{World};
@@ -15,10 +16,18 @@ pub fn put_rows<O: Sink>(alloc: Global, rows: &[Answer], out: &mut O) -> Result<
         (record beside { out = O.state out.old }) (record beside { out = O.state out.new }) }
 {
     for (index, row) in rows.iter().enumerate() {
-        let line = row_line(alloc, index as u128 + 1, row.score, row.values.items())?;
-        put_line(&line, out)?;
+        put_row(alloc, index as u128 + 1, row, out)?;
     }
     Ok(())
+}
+
+/// Puts the line of a row that has this rank.
+pub fn put_row<O: Sink>(alloc: Global, rank: u128, row: &Answer, out: &mut O) -> Result<(), Fault>
+    ensures { (beside : World) → Ran (lines_run (line_of rank row.now.score row.now.values ∷ [])) result
+        (record beside { out = O.state out.old }) (record beside { out = O.state out.new }) }
+{
+    let line = row_line(alloc, rank, row.score, row.values.items())?;
+    put_line(&line, out)
 }
 
 /// Puts a line on standard output.

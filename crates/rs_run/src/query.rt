@@ -6,7 +6,8 @@ ghost use Rattle.rs_query.specs.declared.query.Query.{Query};
 ghost use Rattle.rs_bind.specs.Queries.{bound_query};
 ghost use Rattle.rs_syntax.specs.Written.{IsWrittenQuery};
 ghost use Rattle.rs_run.specs.Parts.Steps.{Leaves, Stepped};
-ghost use Rattle.rs_run.specs.Statements.{Plainly, explain_outcome, or_bind_fault, query_fault, query_step, refused_or};
+ghost use Rattle.rs_run.specs.declared.evaluating.Evaluating.TheVariants.{Plainly};
+ghost use Rattle.rs_run.specs.Statements.{explain_outcome, or_bind_fault, query_fault, query_step, refused_or};
 ghost use Rattle.rs_run.specs.World.{World};
 
 use crate::fault::Fault;
@@ -62,23 +63,36 @@ fn query_fault(catalog: &Catalog, why: PlainFault) -> Fault
             ids,
             got,
             max,
-        } => {
-            let rows = ids.rows;
-            match predicate_name(catalog, predicate) {
-                Some(predicate) => Fault::BadScore {
-                    predicate,
-                    rows,
-                    got,
-                    max,
-                },
-                None => Fault::Memory,
-            }
-        }
-        PlainFault::Probe { predicate } => match predicate_name(catalog, predicate) {
-            Some(predicate) => Fault::Probe { predicate },
-            None => Fault::Memory,
-        },
+        } => bad_score(catalog, predicate, ids.rows, got, max),
+        PlainFault::Probe { predicate } => failed_call(catalog, predicate),
         PlainFault::Memory => Fault::Memory,
+    }
+}
+
+/// The fault of a number that is no score, with the name of the predicate.
+pub fn bad_score(catalog: &Catalog, predicate: u8, rows: [u32; 6], got: i128, max: u32) -> Fault
+    requires { predicate < length catalog.now.predicates }
+    ensures { (result ≡ Fault.BadScore (predicate_at catalog.now predicate).name rows got max) ⊎ (result ≡ Fault.Memory) }
+{
+    match predicate_name(catalog, predicate) {
+        Some(predicate) => Fault::BadScore {
+            predicate,
+            rows,
+            got,
+            max,
+        },
+        None => Fault::Memory,
+    }
+}
+
+/// The fault of a call that failed, with the name of the predicate.
+pub fn failed_call(catalog: &Catalog, predicate: u8) -> Fault
+    requires { predicate < length catalog.now.predicates }
+    ensures { (result ≡ Fault.Probe (predicate_at catalog.now predicate).name) ⊎ (result ≡ Fault.Memory) }
+{
+    match predicate_name(catalog, predicate) {
+        Some(predicate) => Fault::Probe { predicate },
+        None => Fault::Memory,
     }
 }
 

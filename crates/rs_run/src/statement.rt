@@ -8,15 +8,17 @@ ghost use Rattle.rs_syntax.specs.Written.{AreWritten, IsWritten};
 ghost use Rattle.rs_catalog.specs.Catalogue.{room_for};
 ghost use Rattle.rs_catalog.specs.Indexes.{IsIndex};
 ghost use Rattle.rs_catalog.specs.declared.room.What.TheVariants as what;
+ghost use Rattle.rs_exec.specs.Indexes.{AreHeld};
 ghost use Rattle.rs_run.specs.Parts.Steps.{FetchesFile, IsIndexNamed, IsPredicateNamed, IsReadTable, Leaves, Runs, Stepped};
 ghost use Rattle.rs_run.specs.Run.{finds_in};
-ghost use Rattle.rs_run.specs.Statements.{Does, DoesTable, Plainly, StatementsRun, index_step, or_room_fault, predicate_outcome, refused_or, with_room};
+ghost use Rattle.rs_run.specs.Statements.{Does, DoesTable, StatementsRun, index_step, or_room_fault, predicate_outcome, refused_or, with_room};
 ghost use Rattle.rs_run.specs.World.{World};
 
+use crate::evaluating::Evaluating;
 use crate::fault::{Fault, index_fault};
 use crate::fetch::{fetch_file, table_fault};
-use crate::query::{explain_query, run_query};
 use crate::script_fault::ScriptFault;
+use crate::select::{run_explain, run_select};
 use rs_bind::{bind_index, bind_predicate, bind_table};
 use rs_catalog::{Catalog, IndexDef, What};
 use rs_expr::{Predicate, Scorer};
@@ -29,13 +31,14 @@ use std::alloc::Global;
 /// Runs the statements of a script one after another, up to the first fault, over an empty catalogue.
 pub fn run_statements<F: Files, S: Scorer, O: Sink>(
     alloc: Global,
+    evaluating: Evaluating,
     statements: &[Statement],
     files: &mut F,
     scorer: &mut S,
     out: &mut O,
 ) -> Result<(), Fault>
     requires written { AreWritten (commands_of statements.now) }
-    ensures { (beside : World) → Runs (StatementsRun (finds_in (F.state files.old).told) (S.state scorer.old).answer Plainly (commands_of statements.now)) result
+    ensures { (beside : World) → Runs (StatementsRun (finds_in (F.state files.old).told) (S.state scorer.old).answer evaluating (commands_of statements.now)) result
         (record beside { files = F.state files.old; scorer = S.state scorer.old; out = O.state out.old })
         (record beside { files = F.state files.new; scorer = S.state scorer.new; out = O.state out.new }) }
 {
@@ -43,6 +46,7 @@ pub fn run_statements<F: Files, S: Scorer, O: Sink>(
     for (index, statement) in statements.iter().enumerate() {
         run_statement(
             alloc,
+            evaluating,
             index + 1,
             statement,
             &mut catalog,
@@ -57,6 +61,7 @@ pub fn run_statements<F: Files, S: Scorer, O: Sink>(
 /// Runs a statement, which counts from 1 in its script.
 fn run_statement<F: Files, S: Scorer, O: Sink>(
     alloc: Global,
+    evaluating: Evaluating,
     number: usize,
     statement: &Statement,
     catalog: &mut Catalog,
@@ -65,8 +70,9 @@ fn run_statement<F: Files, S: Scorer, O: Sink>(
     out: &mut O,
 ) -> Result<(), Fault>
     requires written { IsWritten (command_of statement.now) }
+    requires held { AreHeld (S.state scorer.old).answer catalog.old }
     ensures { (beside : World) → Stepped
-        (Does (finds_in (F.state files.old).told) (S.state scorer.old).answer Plainly number catalog.old (command_of statement.now)) catalog.new result
+        (Does (finds_in (F.state files.old).told) (S.state scorer.old).answer evaluating number catalog.old (command_of statement.now)) catalog.new result
         (record beside { files = F.state files.old; scorer = S.state scorer.old; out = O.state out.old })
         (record beside { files = F.state files.new; scorer = S.state scorer.new; out = O.state out.new }) }
 {
@@ -82,9 +88,13 @@ fn run_statement<F: Files, S: Scorer, O: Sink>(
         Statement::CreateRankIndex { name, .. } => {
             create_index(alloc, name, statement, catalog, scorer)
         }
-        Statement::Query(select) => run_query(alloc, select, catalog, scorer, out),
-        Statement::Explain(select) => explain_query(alloc, select, catalog),
-        Statement::ExplainAnalyze(select) => explain_query(alloc, select, catalog),
+        Statement::Query(select) => {
+            run_select(alloc, evaluating, number, select, catalog, scorer, out)
+        }
+        Statement::Explain(select) => run_explain(alloc, evaluating, number, select, catalog),
+        Statement::ExplainAnalyze(select) => run_explain(
+            alloc, evaluating, number, select, catalog,
+        ),
         _ => Err(Fault::Script(ScriptFault::NotBuilt { statement: number })),
     }
 }

@@ -1,7 +1,8 @@
 ghost use Rattle.std.specs.Prelude.{◌≡◌, Option, option_map};
-ghost use Rattle.rs_run.specs.Words.{form_of, number_word, plain_words, top_words};
+ghost use Rattle.rs_run.specs.Words.{form_of, number_word, plain_words, run_words, top_words};
 ghost use Rattle.rs_run.specs.Parts.Command.{form_of_command, words_of};
 
+use crate::evaluating::Evaluating;
 use rs_value::{Text, decimal_of};
 
 /// The greatest MAX of `top`.
@@ -23,8 +24,8 @@ pub struct TopCommand<'a> {
 #[derive(Clone, Copy)]
 pub enum Command<'a> {
     Top(TopCommand<'a>),
-    /// The script of this name.
-    Plain(&'a Text),
+    /// The statements of the script of this name, with its queries evaluated so.
+    RunScript(&'a Text, Evaluating),
 }
 
 /// What the words of a command line ask for, without the program's name, where they are of a form.
@@ -34,8 +35,11 @@ pub fn command_of(words: &[Text]) -> Option<Command<'_>>
     if let Some(top) = top_command(words) {
         return Some(Command::Top(top));
     }
-    let script = plain_script(words)?;
-    Some(Command::Plain(script))
+    if let Some(script) = plain_script(words) {
+        return Some(Command::RunScript(script, Evaluating::Plainly));
+    }
+    let (script, seed) = run_script(words)?;
+    Some(Command::RunScript(script, Evaluating::Planned(seed)))
 }
 
 /// The words of the form `top FILE COLUMN MAX K`.
@@ -69,6 +73,20 @@ fn plain_script(words: &[Text]) -> Option<&Text>
         return None;
     }
     Some(script)
+}
+
+/// The script and the seed of the words of the form `run SCRIPT SEED`.
+fn run_script(words: &[Text]) -> Option<(&Text, u64)>
+    ensures { option_map (λ run. (run.0.now, run.1)) result ≡ run_words words.now }
+{
+    let [word, script, seed] = words else {
+        return None;
+    };
+    if word.as_str() != "run" {
+        return None;
+    }
+    let seed = number_word(seed, 0, u64::MAX)?;
+    Some((script, seed))
 }
 
 /// A number of the command line: 1 to 20 decimal digits, that write a number from `least` to `most`.

@@ -27,10 +27,11 @@ mod told;
 
 use case_lines::answer_lines;
 use outside::Outside;
-use rs_run::one_run;
+use rs_run::{one_run, plain_and_run_agree};
 use std::process::ExitCode;
 
 fn main(rt: HostRuntime) -> ExitCode {
     one_run();
+    plain_and_run_agree();
     answer_lines(&rt, &mut Outside::new(rt.alloc()))
 }

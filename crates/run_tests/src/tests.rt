@@ -47,7 +47,7 @@ struct Case {
     calls: &'static [&'static str],
 }
 
-const CASES: [Case; 5] = [
+const CASES: [Case; 6] = [
     Case {
         words: &["top", "h.csv", "price", "100", "2"],
         script: &[],
@@ -92,6 +92,14 @@ const CASES: [Case; 5] = [
             "near 90 90",
             "near 40 40",
         ],
+    },
+    Case {
+        words: &["run", "s.sql", "1"],
+        script: &[BASE, "SELECT x, y FROM t ORDER BY p(x) + q(y) LIMIT 9;"],
+        status: Status::Done,
+        out: "1,17,8,9\n2,13,10,3\n3,12,2,10\n4,6,5,1\n",
+        err: "",
+        calls: &["p 10", "p 8", "p 5", "p 2", "q 3", "q 9", "q 1", "q 10"],
     },
     Case {
         words: &["plain", "s.sql"],

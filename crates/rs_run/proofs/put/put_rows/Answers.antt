@@ -1,52 +1,39 @@
-use Rattle.std.proofs.Common.{◌≡◌, ◌≤◌, ◌+◌, ◌∙◌, take, drop, length, map, refl, sym, ap, subst, arith}
+use Rattle.std.proofs.Common.{◌≤◌, ◌+◌, take, drop, length, map, refl, sym, subst, arith}
 use Rattle.std.specs.Prelude.{Ok}
-use Rattle.std.proofs.lemmas.List.{take-append-drop, take_all}
+use Rattle.std.proofs.lemmas.List.{take_all}
 use Rattle.rs_value.proofs.ResultFacts.{given-err}
 use Rattle.rs_lines.specs.Row.{line_of}
 use Rattle.rs_run.specs.Lines.{rank_lines}
 use Rattle.rs_run.specs.Parts.Steps.{HasDone, Ran, lines_run}
 use Rattle.rs_run.specs.Run.{Put}
-use Rattle.rs_run.specs.declared.fault.Fault.TheVariants.{Memory}
 use Rattle.rs_run.proofs.PrintFacts.{length-rank_lines, rank_lines-more, rank_lines-next}
-use Rattle.rs_run.proofs.RanFacts.{HasDone-line, HasDone-none, Ran-all, Ran-lines, Ran-lines_memory}
+use Rattle.rs_run.proofs.RanFacts.{HasDone-line, HasDone-none, Ran-all, Ran-lines}
 use Rattle.rs_run.proofs.put.put_rows.Goals as goal
 
 pub loop-index-init : goal.loop-index-init
 loop-index-init g c = record { has = λ beside. HasDone-none (record beside { out = g.O.Sink.state c.args.out.now }); rows_same = refl }
 
-pub returns-in_err-line : goal.returns-in_err-line
-returns-in_err-line g c = λ beside.
-    let lines = rank_lines 1 c.args.rows.now in
-    let old = record beside { out = g.O.Sink.state c.args.out.now } in
-    let new = record beside { out = g.O.Sink.state c.loop-index.out } in
-    subst (λ result. Ran (lines_run lines) result old new) (sym (given-err c.from_residual.result Memory c.from_residual.ensures))
-    (Ran-lines_memory lines (take c.loop-index.index lines) (drop c.loop-index.index lines) old new (sym (take-append-drop c.loop-index.index lines)) (c.loop-index.invariant.has beside))
-
-pub returns-in_err-put_line : goal.returns-in_err-put_line
-returns-in_err-put_line g c = λ beside.
+pub returns-in_err-put_row : goal.returns-in_err-put_row
+returns-in_err-put_row g c = λ beside.
     let rows = c.args.rows.now in
     let i = c.loop-index.index in
     let row = c.index-rows-index.result in
     let lines = rank_lines 1 rows in
-    let line : c.deref-in-loop-index.result.now ≡ line_of (i + 1) row.score row.values =
-    c.deref-in-loop-index.ensures.value ∙ c.in_ok-line.ensures ∙ ap (λ values. line_of (i + 1) row.score values) (c.deref.ensures.value ∙ c.items.ensures) in
     let old = record beside { out = g.O.Sink.state c.args.out.now } in
-    let new = record beside { out = g.O.Sink.state c.put_line.new.out } in
-    subst (λ result. Ran (lines_run lines) result old new) (sym (given-err c.from_residual-in_err-put_line.result c.in_err-put_line.field-0.0 c.from_residual-in_err-put_line.ensures))
-    (Ran-lines lines (take i lines) (drop (i + 1) lines) c.deref-in-loop-index.result.now c.in_err-put_line.field-0.0 old (record beside { out = g.O.Sink.state c.loop-index.out }) new
-    (rank_lines-next rows i row _ c.loop-index-test.true c.index-rows-index.is line) (c.loop-index.invariant.has beside) (c.in_err-put_line.ensures beside))
+    let new = record beside { out = g.O.Sink.state c.put_row.new.out } in
+    subst (λ result. Ran (lines_run lines) result old new) (sym (given-err c.from_residual.result c.in_err-put_row.field-0.0 c.from_residual.ensures))
+    (Ran-lines lines (take i lines) (drop (i + 1) lines) (line_of (i + 1) row.score row.values) c.in_err-put_row.field-0.0 old (record beside { out = g.O.Sink.state c.loop-index.out }) new
+    (rank_lines-next rows i row _ c.loop-index-test.true c.index-rows-index.is refl) (c.loop-index.invariant.has beside) (c.in_err-put_row.ensures beside))
 
 pub loop-index-preserved : goal.loop-index-preserved
 loop-index-preserved g c =
     let rows = c.args.rows.now in
     let i = c.loop-index.index in
     let row = c.index-rows-index.result in
-    let lines = rank_lines 1 rows in
-    let line : c.deref-in-loop-index.result.now ≡ line_of (i + 1) row.score row.values =
-    c.deref-in-loop-index.ensures.value ∙ c.in_ok-line.ensures ∙ ap (λ values. line_of (i + 1) row.score values) (c.deref.ensures.value ∙ c.items.ensures) in record {
-      has = λ beside. HasDone-line (take (i + 1) lines) (take i lines) c.deref-in-loop-index.result.now
-          (record beside { out = g.O.Sink.state c.args.out.now }) (record beside { out = g.O.Sink.state c.loop-index.out }) (record beside { out = g.O.Sink.state c.put_line.new.out })
-          (rank_lines-more rows i row _ c.loop-index-test.true c.index-rows-index.is line) (c.loop-index.invariant.has beside) (c.in_ok-put_line.ensures beside);
+    let lines = rank_lines 1 rows in record {
+      has = λ beside. HasDone-line (take (i + 1) lines) (take i lines) (line_of (i + 1) row.score row.values)
+          (record beside { out = g.O.Sink.state c.args.out.now }) (record beside { out = g.O.Sink.state c.loop-index.out }) (record beside { out = g.O.Sink.state c.put_row.new.out })
+          (rank_lines-more rows i row _ c.loop-index-test.true c.index-rows-index.is refl) (c.loop-index.invariant.has beside) (c.in_ok-put_row.ensures beside);
       rows_same = refl;
     }
 

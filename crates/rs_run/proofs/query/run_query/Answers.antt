@@ -2,12 +2,15 @@ use Rattle.std.proofs.Common.{refl, subst}
 use Rattle.rs_value.proofs.ResultFacts.{given-err}
 use Rattle.rs_bind.specs.Queries.{bound_query}
 use Rattle.rs_query.specs.Views.{all_rows}
-use Rattle.rs_plain.specs.Plain.{evaluation_of}
+use Rattle.rs_plain.specs.Plain.{evaluation_of, plain_faults}
+use Rattle.rs_plain.specs.declared.fault.PlainFault.TheVariants as plain
 use Rattle.rs_syntax.specs.Syntax.{query_of}
 use Rattle.rs_run.specs.Lines.{rank_lines}
 use Rattle.rs_run.specs.Parts.Steps.{Ran, lines_run}
-use Rattle.rs_run.specs.Statements.{Plainly, bind_fault, or_bind_fault, query_step}
-use Rattle.rs_run.proofs.QuerySteps.{Gives-bound, Gives-unbound, Probes-query, Query-answered, Query-unanswered}
+use Rattle.rs_run.specs.declared.evaluating.Evaluating.TheVariants.{Plainly}
+use Rattle.rs_run.specs.Statements.{answer_lines, bind_fault, or_bind_fault, query_fault, query_outcome, query_step}
+use Rattle.rs_run.proofs.InquirySteps.{Stepped-asked, Stepped-unasked}
+use Rattle.rs_run.proofs.QuerySteps.{Gives-bound, Gives-unbound, Probes-questions}
 use Rattle.rs_run.proofs.StepFacts.{Stepped-bound, Stepped-refused}
 use Rattle.rs_run.proofs.query.run_query.Goals as goal
 
@@ -25,9 +28,9 @@ returns-in-Err g c = λ beside.
     c.in_ok-query.query c.args.catalog.now _ (record beside { scorer = g.S.Scorer.state c.args.scorer.now; out = g.O.Sink.state c.args.out.now })
     (record beside { scorer = g.S.Scorer.state c.answer_plainly.new.scorer; out = g.O.Sink.state c.args.out.now })
     (Gives-bound _ _ c.in_ok-query.ensures.gives)
-    (Query-unanswered c.args.catalog.now (evaluation_of (g.S.Scorer.state c.args.scorer.now).answer c.args.catalog.now c.in_ok-query.query (all_rows c.args.catalog.now c.in_ok-query.query))
-    (record beside { scorer = g.S.Scorer.state c.args.scorer.now; out = g.O.Sink.state c.args.out.now }) (g.S.Scorer.state c.answer_plainly.new.scorer)
-    c.in-Err.why c.query_fault.result (Probes-query c.args.catalog.now _) c.in-Err.ensures.evaluates c.query_fault.ensures)
+    (Stepped-unasked answer_lines (query_outcome c.args.catalog.now) plain.Memory (evaluation_of (g.S.Scorer.state c.args.scorer.now).answer c.args.catalog.now c.in_ok-query.query (all_rows c.args.catalog.now c.in_ok-query.query))
+    c.args.catalog.now (record beside { scorer = g.S.Scorer.state c.args.scorer.now; out = g.O.Sink.state c.args.out.now }) (g.S.Scorer.state c.answer_plainly.new.scorer) (query_fault c.args.catalog.now)
+    c.in-Err.why c.query_fault.result refl refl refl (Probes-questions plain_faults (query_fault c.args.catalog.now) c.args.catalog.now (λ number. refl) _) c.in-Err.ensures.evaluates c.query_fault.ensures)
 
 pub returns : goal.returns
 returns g c = λ beside.
@@ -35,9 +38,9 @@ returns g c = λ beside.
     c.in_ok-query.query c.args.catalog.now _ (record beside { scorer = g.S.Scorer.state c.args.scorer.now; out = g.O.Sink.state c.args.out.now })
     (record beside { scorer = g.S.Scorer.state c.answer_plainly.new.scorer; out = g.O.Sink.state c.put_rows.new.out })
     (Gives-bound _ _ c.in_ok-query.ensures.gives)
-    (Query-answered c.args.catalog.now (evaluation_of (g.S.Scorer.state c.args.scorer.now).answer c.args.catalog.now c.in_ok-query.query (all_rows c.args.catalog.now c.in_ok-query.query))
-    (record beside { scorer = g.S.Scorer.state c.args.scorer.now; out = g.O.Sink.state c.args.out.now }) (g.S.Scorer.state c.answer_plainly.new.scorer)
-    c.in-Ok.rows.items c.put_rows.result (record beside { scorer = g.S.Scorer.state c.answer_plainly.new.scorer; out = g.O.Sink.state c.put_rows.new.out })
+    (Stepped-asked answer_lines (query_outcome c.args.catalog.now) plain.Memory (evaluation_of (g.S.Scorer.state c.args.scorer.now).answer c.args.catalog.now c.in_ok-query.query (all_rows c.args.catalog.now c.in_ok-query.query))
+    c.args.catalog.now (record beside { scorer = g.S.Scorer.state c.args.scorer.now; out = g.O.Sink.state c.args.out.now }) (g.S.Scorer.state c.answer_plainly.new.scorer)
+    c.in-Ok.rows.items c.put_rows.result (record beside { scorer = g.S.Scorer.state c.answer_plainly.new.scorer; out = g.O.Sink.state c.put_rows.new.out }) refl
     c.in-Ok.ensures.evaluates
     (subst (λ rows. Ran (lines_run (rank_lines 1 rows)) c.put_rows.result (record beside { scorer = g.S.Scorer.state c.answer_plainly.new.scorer; out = g.O.Sink.state c.args.out.now })
     (record beside { scorer = g.S.Scorer.state c.answer_plainly.new.scorer; out = g.O.Sink.state c.put_rows.new.out }))

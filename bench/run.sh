@@ -1,0 +1,139 @@
+#!/usr/bin/env bash
+# Measures `ranksql run` on a query over the greatest table, with an index of its first predicate, for the first 1, 10, 100
+# and 1,000 rows. Beside it, in the same run: `ranksql plain` on the same script, and sqlite3, which imports the file and
+# orders by the expression. All three have to print the same rows. Each runs five times, in turn, and the shortest time
+# counts. The time of the query is what it adds to the time of the same script without it, which reads the file and makes
+# the index.
+# The calls of the scorer are counted by the program count_calls, less those of the index. They have to be what the
+# definition says: `plain` calls each predicate once for each row; `run` calls the second predicate for each row of the index
+# whose bound comes before the score of the last row that is printed, and for one more.
+# The programs are those that ./ranksql and `rt run` build, or those that the variables RANKSQL and COUNT_CALLS name.
+# shellcheck source=bench/functions.sh
+. "$(dirname "$0")/functions.sh"
+
+ROWS=131072
+RUNS=5
+
+needs sqlite3 'nothing is measured without it (on Debian: apt-get install sqlite3)'
+needs python3 'it takes the times'
+find_program
+if [ -n "${COUNT_CALLS:-}" ]; then
+    counter=$COUNT_CALLS
+else
+    (cd "$root/crates/count_calls" && rt run -- none) >"$work/built" 2>&1
+    counter=$root/crates/count_calls/out/count_calls
+    [ -x "$counter" ] || { cat "$work/built" >&2; exit 1; }
+fi
+
+cd "$root" || exit
+python3 - "$program" "$counter" "$work" "$ROWS" "$RUNS" <<'PYTHON'
+import subprocess
+import sys
+import time
+
+program, counter, folder, rows, runs = *sys.argv[1:4], int(sys.argv[4]), int(sys.argv[5])
+LIMITS = [1, 10, 100, 1000]
+NO_QUERY = 0
+MOST_RATED, MOST_RECENT = 999, 75
+
+# Films with a rating from 0 to 999 and a year from 1950 to 2024. The numbers are those of the generator
+# x -> 16807 x modulo 2^31 - 1, so each run makes the same file.
+seed = 20260101
+
+
+def draw(below):
+    global seed
+    seed = seed * 16807 % 2147483647
+    return seed * below // 2147483647
+
+
+films = [(draw(1000), 1950 + draw(75)) for _ in range(rows)]
+with open(folder + "/films.csv", "w") as file:
+    file.write("title,rating,year\n")
+    file.writelines("Film number %d,%d,%d\n" % (row, *film) for row, film in enumerate(films, 1))
+for limit in [NO_QUERY, *LIMITS]:
+    with open("%s/%d.sql" % (folder, limit), "w") as file:
+        file.write("""CREATE TABLE films (title TEXT, rating INT, year INT) FROM '%s/films.csv';
+CREATE PREDICATE rated (rating INT) MAX %d AS rating;
+CREATE PREDICATE recent (year INT) MAX %d COST 20 AS year - 1950;
+CREATE RANK INDEX by_rated ON films (rated(rating));
+""" % (folder, MOST_RATED, MOST_RECENT))
+        if limit != NO_QUERY:
+            file.write("SELECT title FROM films ORDER BY 2 * rated(rating) + recent(year) LIMIT %d;\n" % limit)
+
+
+def words_of(side, limit):
+    script = "%s/%d.sql" % (folder, limit)
+    if side == "run":
+        return [program, "run", script, "1"]
+    if side == "plain":
+        return [program, "plain", script]
+    query = "SELECT 2 * rating + year - 1950 AS score, title FROM films ORDER BY score DESC, rowid LIMIT %d;" % limit
+    return ["sqlite3", "-batch", ":memory:",
+            "-cmd", "CREATE TABLE films(title TEXT, rating INTEGER, year INTEGER);",
+            "-cmd", ".import --csv --skip 1 %s/films.csv films" % folder,
+            "-cmd", "CREATE INDEX by_rated ON films (rating DESC);",
+            "-cmd", ".mode list", "-cmd", ".separator ,",
+            query if limit != NO_QUERY else ""]
+
+
+# The time of a run in seconds, and what it printed.
+def spent(words):
+    start = time.perf_counter()
+    ended = subprocess.run(words, stdout=subprocess.PIPE, stderr=subprocess.PIPE, stdin=subprocess.DEVNULL)
+    taken = time.perf_counter() - start
+    if ended.returncode != 0:
+        sys.exit("bench: %s ended with %d: %s" % (" ".join(words), ended.returncode, ended.stderr.decode(errors="replace")))
+    return taken, ended.stdout.decode()
+
+
+# How many calls of the scorer a script makes.
+def calls_of(words):
+    ended = subprocess.run([counter, *words], stdout=subprocess.DEVNULL, stderr=subprocess.PIPE, stdin=subprocess.DEVNULL)
+    told = ended.stderr.decode().split()
+    if ended.returncode != 0 or told[:-1] != ["calls"]:
+        sys.exit("bench: count_calls %s ended with %d: %s" % (" ".join(words), ended.returncode, ended.stderr.decode(errors="replace")))
+    return int(told[-1])
+
+
+# The calls that the definition has for the first rows of `run`.
+scores = sorted((-2 * rating - (year - 1950), row) for row, (rating, year) in enumerate(films, 1))
+bounds = [(-2 * rating - MOST_RECENT, row) for row, (rating, _) in enumerate(films, 1)]
+
+
+def calls_needed(limit):
+    return min(rows, 1 + sum(bound < scores[limit - 1] for bound in bounds))
+
+
+sides = ["run", "plain", "sqlite3"]
+best, printed = {}, {}
+for _ in range(runs):
+    for limit in [NO_QUERY, *LIMITS]:
+        for side in sides:
+            taken, printed[side, limit] = spent(words_of(side, limit))
+            best[side, limit] = min(taken, best.get((side, limit), taken))
+print("a table of %d rows; the best of %d runs" % (rows, runs))
+for limit in LIMITS:
+    wanted = "".join("%d,%s\n" % (rank, line) for rank, line in enumerate(printed["sqlite3", limit].splitlines(), 1))
+    for side in ["run", "plain"]:
+        if printed[side, limit] != wanted:
+            sys.exit("bench: %s and sqlite3 print other rows at LIMIT %d" % (side, limit))
+print("all print the same rows")
+
+
+# The example of the repository: its script, and the part before its query, whose calls are those of the index.
+with open("examples/films/best.sql") as file:
+    text = file.read()
+with open(folder + "/before.sql", "w") as file:
+    file.write(text[:text.index("SELECT")])
+before = calls_of(["plain", folder + "/before.sql"])
+run, plain = (calls_of([*words]) - before for words in [("run", "examples/films/best.sql", "1"), ("plain", "examples/films/best.sql")])
+print("examples/films: calls of run %d, of plain %d" % (run, plain))
+for limit in LIMITS:
+    run, plain = (calls_of(words_of(word, limit)[1:]) - calls_of(words_of(word, NO_QUERY)[1:]) for word in ["run", "plain"])
+    if (run, plain) != (calls_needed(limit), 2 * rows):
+        sys.exit("bench: %d and %d calls at LIMIT %d, where the definitions have %d and %d" % (run, plain, limit, calls_needed(limit), 2 * rows))
+    query = {side: best[side, limit] - best[side, NO_QUERY] for side in sides}
+    print("LIMIT %4d: calls of run %6d, of plain %6d; the query takes run %8.2f ms, plain %8.2f ms, sqlite3 %8.2f ms; the whole of run %.2f of that of plain, %.2f of that of sqlite3"
+          % (limit, run, plain, *(query[side] * 1000 for side in sides), best["run", limit] / best["plain", limit], best["run", limit] / best["sqlite3", limit]))
+PYTHON

@@ -1,0 +1,61 @@
+-- The calls of a cursor, one after another: what was done of all that was left at first.
+use Rattle.std.proofs.Common.{◌≡◌, ◌∙◌, ◌-◌, ◌<◌, suc, length, sym, ap, subst, arith}
+use Rattle.std.specs.Prelude.{Result, Ok, Err}
+use Rattle.rs_expr.specs.Scoring.{Answering}
+use Rattle.rs_catalog.specs.Catalogue.{Catalogue}
+use Rattle.rs_plan.specs.Lists.{list_of_plan}
+use Rattle.rs_exec.specs.Asking.{world_of}
+use Rattle.rs_exec.specs.Cursors.{CursorState, StandsFor, asks_after, asks_of, plan_of}
+use Rattle.rs_run.specs.declared.fault.Fault.{Fault}
+use Rattle.rs_run.specs.Parts.Asks.{IsAt, asks_left, call_step, left_of}
+use Rattle.rs_run.specs.Parts.Steps.{Stepped}
+use Rattle.rs_run.specs.Sequence.{Step, then_step}
+use Rattle.rs_run.specs.World.{World}
+use Rattle.rs_run.proofs.CursorSteps.{left-call}
+use Rattle.rs_run.proofs.SoFar.{SoFar, SoFar-ends, SoFar-more, Stepped-broken}
+
+module _ (catalogue : Catalogue) (answer : Answering) (whole : Step Catalogue) (cursor : CursorState) (old middle new : World)
+    (so_far : SoFar whole (left_of catalogue answer cursor) old middle) (at : middle.scorer.answer ≡ answer) where
+  -- the next call, over the answers that the scorer had at first
+  here : (result : Result (Unit {0}) Fault) → Stepped (λ step. step ≡ call_step catalogue middle.scorer.answer cursor) catalogue result middle new
+      → Stepped (λ step. step ≡ call_step catalogue answer cursor) catalogue result middle new
+  here result stepped = subst (λ a. Stepped (λ step. step ≡ call_step catalogue a cursor) catalogue result middle new) at stepped
+
+  -- there was a fault at it
+  pub Left-broken : StandsFor catalogue answer cursor → (fault : Fault) → Stepped (λ step. step ≡ call_step catalogue middle.scorer.answer cursor) catalogue (Err fault) middle new
+      → Stepped (λ step. step ≡ whole) catalogue (Err fault) old new
+  Left-broken stands fault stepped =
+      let w = world_of catalogue answer cursor.query in
+      SoFar-ends whole old middle new (left_of catalogue answer cursor) catalogue (Err fault) so_far
+      (subst (λ left. Stepped (λ step. step ≡ left) catalogue (Err fault) middle new) (sym (left-call catalogue answer cursor stands))
+      (Stepped-broken (call_step catalogue answer cursor) (asks_left w (plan_of cursor) (asks_after w (plan_of cursor) (asks_of cursor))) fault catalogue catalogue middle new
+      (here (Err fault) stepped)))
+
+  -- it gave a row
+  pub Left-more : (next : CursorState)
+      → left_of catalogue middle.scorer.answer cursor ≡ then_step (call_step catalogue middle.scorer.answer cursor) (left_of catalogue middle.scorer.answer next)
+      → Stepped (λ step. step ≡ call_step catalogue middle.scorer.answer cursor) catalogue (Ok tt) middle new → SoFar whole (left_of catalogue answer next) old new
+  Left-more next left stepped =
+      SoFar-more whole old middle new (call_step catalogue answer cursor) (left_of catalogue answer next) catalogue
+      (subst (λ rest. SoFar whole rest old middle) (subst (λ a. left_of catalogue a cursor ≡ then_step (call_step catalogue a cursor) (left_of catalogue a next)) at left) so_far)
+      (here (Ok tt) stepped)
+
+  -- it gave none
+  pub Left-ended : left_of catalogue middle.scorer.answer cursor ≡ call_step catalogue middle.scorer.answer cursor
+      → Stepped (λ step. step ≡ call_step catalogue middle.scorer.answer cursor) catalogue (Ok tt) middle new → Stepped (λ step. step ≡ whole) catalogue (Ok tt) old new
+  Left-ended end stepped =
+      SoFar-ends whole old middle new (left_of catalogue answer cursor) catalogue (Ok tt) so_far
+      (subst (λ left. Stepped (λ step. step ≡ left) catalogue (Ok tt) middle new) (sym (subst (λ a. left_of catalogue a cursor ≡ call_step catalogue a cursor) at end))
+      (here (Ok tt) stepped))
+
+-- behind each call that gave a row fewer asks are left
+pub fewer-asks : (catalogue : Catalogue) (answer : Answering) (cursor next : CursorState) → IsAt cursor.query (plan_of cursor) (suc (asks_of cursor)) next → StandsFor catalogue answer next
+    → suc (length (list_of_plan (world_of catalogue answer next.query) (plan_of next))) - asks_of next
+    < suc (length (list_of_plan (world_of catalogue answer cursor.query) (plan_of cursor))) - asks_of cursor
+fewer-asks catalogue answer cursor next at stands =
+    let same : length (list_of_plan (world_of catalogue answer next.query) (plan_of next)) ≡ length (list_of_plan (world_of catalogue answer cursor.query) (plan_of cursor)) =
+    ap (λ query. length (list_of_plan (world_of catalogue answer query) (plan_of next))) at.query_is
+    ∙ ap (λ tree. length (list_of_plan (world_of catalogue answer cursor.query) tree)) at.plan_is in
+    let asks = at.asks_are in
+    let within = stands.asks in
+    omega arith

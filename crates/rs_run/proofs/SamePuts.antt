@@ -1,0 +1,247 @@
+-- A script that ends well both ways puts the same lines: the rows of its plans are the answers of its queries.
+use Rattle.std.proofs.Common.{ℕ, zero, suc, ◌≡◌, ◌∙◌, ◌+◌, ◌++◌, Bool, true, false, List, [], ◌∷◌, length, take, drop, map, min, refl, sym, ap, subst, arith}
+use Rattle.std.specs.Prelude.{Option, Some, None, Result, Ok, Err, nat_le, option_map, slice_get, if◌then◌else◌}
+use Rattle.std.proofs.Math.Seq.{take-nil}
+use Rattle.std.proofs.lemmas.Bool.{leb-false, leb-true}
+use Rattle.std.proofs.lemmas.List.{length-map, take_all}
+use Rattle.rs_rank.specs.declared.answer.Answer.{Answer}
+use Rattle.rs_expr.specs.InOrder.{Inquiry, calls_of}
+use Rattle.rs_expr.specs.Scoring.{Answering}
+use Rattle.rs_catalog.specs.Catalogue.{Catalogue, empty}
+use Rattle.rs_syntax.specs.Syntax.{Command, CreateTable, CreatePredicate, CreateRankIndex, Ask, Declare, Fetch, Close, Explain, ExplainAnalyze}
+use Rattle.rs_syntax.specs.Syntax as syntax
+use Rattle.rs_syntax.specs.Written.{AreWritten, IsWritten, IsWrittenQuery}
+use Rattle.rs_syntax.proofs.WrittenFacts.{AreWritten-parsed}
+use Rattle.rs_bind.specs.Queries.{bound_query}
+use Rattle.rs_bind.specs.declared.fault.BindFault.{BindFault}
+use Rattle.rs_query.specs.Answers.{answer_of, cut, limit_of}
+use Rattle.rs_query.specs.Questions.{first_of, is_bad}
+use Rattle.rs_query.specs.Views.{all_rows}
+use Rattle.rs_query.specs.declared.query.Query.{Query}
+use Rattle.rs_plain.specs.Plain.{evaluation_of, plain_faults, questions_of}
+use Rattle.rs_plain.specs.declared.fault.PlainFault.{PlainFault}
+use Rattle.rs_plan.specs.Lists as plan
+use Rattle.rs_plan.specs.Lists.{list_of_plan}
+use Rattle.rs_plan.specs.Plans.{IsPlan}
+use Rattle.rs_plan.specs.Trees.{PlanTree}
+use Rattle.rs_plan.proofs.FixedFacts.{fixed-plan}
+use Rattle.rs_exec.specs.Asking.{world_of}
+use Rattle.rs_exec.specs.Cursors.{HasFewTerms, answer_for, answers_of, next_answer}
+use Rattle.rs_exec.specs.declared.fault.ExecFault.{ExecFault}
+use Rattle.rs_run.specs.declared.evaluating.Evaluating.TheVariants.{Planned, Plainly}
+use Rattle.rs_run.specs.declared.fault.Fault.{Fault}
+use Rattle.rs_run.specs.Lines.{rank_lines}
+use Rattle.rs_run.specs.Plain.{TextRuns, read, runs, source_of, unlexed, unparsed, unread}
+use Rattle.rs_run.specs.Planned.{ask_count, ask_outcome, ask_step, asks_from, given_lines, is_single, plan_for, planned_step}
+use Rattle.rs_run.specs.Run.{Finds, Put, Run, behind, calls_in, puts}
+use Rattle.rs_run.specs.Running.{IsRunOf}
+use Rattle.rs_run.specs.Sequence.{RunOf, RunsOn, Step, then_step}
+use Rattle.rs_run.specs.Statements.{Does, StatementsRun, answer_lines, evaluation_step, not_built, or_bind_fault, query_outcome, query_step, refused_or, select_step}
+use Rattle.rs_run.specs.Words.{RunScript}
+use Rattle.rs_run.proofs.OneRun.{Does-one, HasStatements-one, OneFile}
+use Rattle.rs_run.proofs.PlanSteps.{outcome-value, row-given}
+use Rattle.rs_run.proofs.RanFacts.{puts-append, puts-scores}
+use Rattle.rs_run.proofs.SingleFacts.{single-bound}
+
+-- lines alone
+puts-lines : (lines : List (List ℕ)) → puts (map Put lines) ≡ lines
+puts-lines [] = refl
+puts-lines (line ∷ rest) = ap (λ more. line ∷ more) (puts-lines rest)
+
+-- what a step puts that makes the calls of an inquiry first
+puts-inquiry : {A F : Type 0} (inquiry : Inquiry A F) (lines : List (List ℕ)) → puts (calls_in inquiry ++ map Put lines) ≡ lines
+puts-inquiry inquiry lines =
+    puts-append (calls_in inquiry) (map Put lines) ∙ ap (λ none. none ++ puts (map Put lines)) (puts-scores (calls_of inquiry.requests)) ∙ puts-lines lines
+
+slice_get-map : {A B : Type 0} (f : A → B) (xs : List A) (n : ℕ) → option_map f (slice_get xs n) ≡ slice_get (map f xs) n
+slice_get-map f [] n = refl
+slice_get-map f (x ∷ xs) zero = refl
+slice_get-map f (x ∷ xs) (suc n) = slice_get-map f xs n
+
+-- the line of the row at a place, and those behind it
+lines-next : (rank n count : ℕ) (rows : List Answer)
+    → given_lines rank (Ok (slice_get rows n)) ++ rank_lines (rank + 1) (take count (drop (suc n) rows)) ≡ rank_lines rank (take (suc count) (drop n rows))
+lines-next rank zero count [] = ap (rank_lines (rank + 1)) (take-nil count)
+lines-next rank (suc n) count [] = ap (rank_lines (rank + 1)) (take-nil count)
+lines-next rank zero count (row ∷ rows) = refl
+lines-next rank (suc n) count (row ∷ rows) = lines-next rank n count rows
+
+-- as many rows as there are asks are those up to LIMIT
+take-asks : (limit : Option ℕ) (rows : List Answer) → take (ask_count limit (length rows)) rows ≡ cut limit rows
+take-asks None rows = take_all (suc (length rows)) rows (omega arith)
+take-asks (Some limit) rows = go (nat_le limit (suc (length rows))) refl where
+  go : (b : Bool) → nat_le limit (suc (length rows)) ≡ b → take (min limit (suc (length rows))) rows ≡ take limit rows
+  go true less =
+      let within = leb-true limit (suc (length rows)) less in
+      ap (λ n. take n rows) (let same : min limit (suc (length rows)) ≡ limit = omega arith in same)
+  go false more =
+      let beyond = leb-false limit (suc (length rows)) more in
+      take_all (min limit (suc (length rows))) rows (omega arith) ∙ sym (take_all limit rows (omega arith))
+
+module _ (w : plan.World) (tree : PlanTree) where
+  abbrev rows : List Answer
+  rows = answers_of w tree
+
+  -- an ask that went well gave the row at its place, and left the catalogue
+  puts-ask : (n : ℕ) (state : Catalogue) → (ask_step w tree n).outcome ≡ Ok state → puts (ask_step w tree n).events ≡ given_lines (suc n) (Ok (slice_get rows n))
+  puts-ask n state ends = puts-inquiry (next_answer w tree n) (given_lines (suc n) (next_answer w tree n).outcome) ∙ go (next_answer w tree n).outcome refl ends where
+    go : (outcome : Result (Option Answer) ExecFault) → (next_answer w tree n).outcome ≡ outcome → ask_outcome w.catalogue outcome ≡ Ok state
+        → given_lines (suc n) (next_answer w tree n).outcome ≡ given_lines (suc n) (Ok (slice_get rows n))
+    go (Ok given) is e = ap (given_lines (suc n)) (is ∙ ap Ok (sym (row-given w tree n given is) ∙ slice_get-map (answer_for w) (list_of_plan w tree) n))
+    go (Err fault) is e = absurd cc
+
+  -- asks that went well put the lines of their rows
+  puts-asks : (n count : ℕ) (next : Catalogue) → (asks_from w tree n count).outcome ≡ Ok next
+      → (puts (asks_from w tree n count).events ≡ rank_lines (suc n) (take count (drop n rows))) × (next ≡ w.catalogue)
+  puts-asks n zero next ends = (refl, let same : next ≡ w.catalogue = cc in same)
+  puts-asks n (suc count) next ends = go (puts-asks (suc n) count next) (ask_step w tree n).outcome refl ends where
+    go : ((asks_from w tree (suc n) count).outcome ≡ Ok next
+        → (puts (asks_from w tree (suc n) count).events ≡ rank_lines (suc (suc n)) (take count (drop (suc n) rows))) × (next ≡ w.catalogue))
+        → (outcome : Result Catalogue Fault) → (ask_step w tree n).outcome ≡ outcome
+        → (then_step (record (ask_step w tree n) { outcome = outcome }) (asks_from w tree (suc n) count)).outcome ≡ Ok next
+        → (puts (then_step (record (ask_step w tree n) { outcome = outcome }) (asks_from w tree (suc n) count)).events ≡ rank_lines (suc n) (take (suc count) (drop n rows))) × (next ≡ w.catalogue)
+    go later (Ok state) is e =
+        let more = later e in (
+          puts-append (ask_step w tree n).events (asks_from w tree (suc n) count).events
+              ∙ ap (λ lines. lines ++ puts (asks_from w tree (suc n) count).events) (puts-ask n state is)
+              ∙ ap (λ lines. given_lines (suc n) (Ok (slice_get rows n)) ++ lines) more.0
+              ∙ ap (λ rank. given_lines (suc n) (Ok (slice_get rows n)) ++ rank_lines rank (take count (drop (suc n) rows))) (let same : suc (suc n) ≡ suc n + 1 = omega arith in same)
+              ∙ lines-next (suc n) n count rows,
+          more.1,
+        )
+    go later (Err fault) is e = absurd cc
+
+  -- so a plan that was asked to its end puts its rows up to LIMIT
+  puts-planned : (next : Catalogue) → (planned_step w tree).outcome ≡ Ok next → (puts (planned_step w tree).events ≡ rank_lines 1 (cut (limit_of w.query) rows)) × (next ≡ w.catalogue)
+  puts-planned next ends =
+      let all = puts-asks 0 (ask_count (limit_of w.query) (length (list_of_plan w tree))) next ends in (
+        all.0 ∙ ap (λ size. rank_lines 1 (take (ask_count (limit_of w.query) size) rows)) (sym (length-map (list_of_plan w tree) (answer_for w)))
+            ∙ ap (rank_lines 1) (take-asks (limit_of w.query) rows),
+        all.1,
+      )
+
+-- the rows of a plan up to LIMIT are the answer of its query
+abbrev pub GiveAnswers : Type 0
+GiveAnswers = (w : plan.World) (tree : PlanTree) → HasFewTerms w.query → IsPlan w.catalogue w.query tree
+    → cut (limit_of w.query) (answers_of w tree) ≡ answer_of w.answer w.catalogue w.query w.view
+
+-- what two steps have in common that went well
+record Alike (a b : Step Catalogue) (left right : Catalogue) : Type 0 where
+  lines : puts a.events ≡ puts b.events
+  states : left ≡ right
+
+alike-same : (a b : Step Catalogue) (left right : Catalogue) → a ≡ b → a.outcome ≡ Ok left → b.outcome ≡ Ok right → Alike a b left right
+alike-same a b left right same la lb = record {
+  lines = ap (λ (s : Step Catalogue). puts s.events) same;
+  states = (let outcome = ap (λ (s : Step Catalogue). s.outcome) same in let e : left ≡ right = cc in e);
+}
+
+module _ (give : GiveAnswers) (finds : Finds) (one : OneFile finds) (answer : Answering) (seed : ℕ) where
+  -- a query that was answered plainly
+  puts-plainly : (catalogue : Catalogue) (query : Query) (next : Catalogue) → (evaluation_step catalogue (evaluation_of answer catalogue query (all_rows catalogue query))).outcome ≡ Ok next
+      → (puts (evaluation_step catalogue (evaluation_of answer catalogue query (all_rows catalogue query))).events ≡ rank_lines 1 (answer_of answer catalogue query (all_rows catalogue query)))
+      × (next ≡ catalogue)
+  puts-plainly catalogue query next ends =
+      let evaluated = evaluation_of answer catalogue query (all_rows catalogue query) in
+      let all = go evaluated.outcome refl ends in
+      (puts-inquiry evaluated (answer_lines evaluated.outcome) ∙ all.0, all.1) where
+        go : (outcome : Result (List Answer) PlainFault) → (evaluation_of answer catalogue query (all_rows catalogue query)).outcome ≡ outcome → query_outcome catalogue outcome ≡ Ok next
+            → (answer_lines (evaluation_of answer catalogue query (all_rows catalogue query)).outcome ≡ rank_lines 1 (answer_of answer catalogue query (all_rows catalogue query))) × (next ≡ catalogue)
+        go (Ok rows) is e = (
+          ap answer_lines (is ∙ ap Ok (sym (outcome-value plain_faults answer catalogue (answer_of answer catalogue query (all_rows catalogue query)) rows
+              (first_of (is_bad answer catalogue) (questions_of catalogue query (all_rows catalogue query))) is))),
+          let same : next ≡ catalogue = cc in same,
+        )
+        go (Err fault) is e = absurd cc
+
+  -- a bound query over one table
+  alike-bound : (catalogue : Catalogue) (query : syntax.Query) (bound : Query) (left right : Catalogue) → IsWrittenQuery query → is_single query ≡ true → bound_query catalogue query ≡ Ok bound
+      → (query_step Plainly answer catalogue bound).outcome ≡ Ok left → (query_step (Planned seed) answer catalogue bound).outcome ≡ Ok right
+      → Alike (query_step Plainly answer catalogue bound) (query_step (Planned seed) answer catalogue bound) left right
+  alike-bound catalogue query bound left right written single is la lb =
+      let known = single-bound catalogue query bound written single is in
+      let plainly = puts-plainly catalogue bound left la in
+      let w = world_of catalogue answer bound in
+      let tree = plan_for catalogue bound in
+      let planned = puts-planned w tree right lb in
+      let few : HasFewTerms bound = subst HasFewTerms (sym known.is) known.few in
+      let plans : IsPlan catalogue bound tree =
+      subst (λ q. IsPlan catalogue q (plan_for catalogue q)) (sym known.is) (fixed-plan catalogue known.block known.few known.terms known.one known.whole known.limit) in
+      record {
+        lines = plainly.0 ∙ sym (ap (rank_lines 1) (give w tree few plans)) ∙ sym planned.0;
+        states = plainly.1 ∙ sym planned.1;
+      }
+
+  alike-select : (number : ℕ) (catalogue : Catalogue) (query : syntax.Query) (left right : Catalogue) → IsWrittenQuery query
+      → (select_step Plainly answer number catalogue query).outcome ≡ Ok left → (select_step (Planned seed) answer number catalogue query).outcome ≡ Ok right
+      → Alike (select_step Plainly answer number catalogue query) (select_step (Planned seed) answer number catalogue query) left right
+  alike-select number catalogue query left right written la lb = go (is_single query) refl (bound_query catalogue query) refl la lb where
+    go : (single : Bool) → is_single query ≡ single → (bound : Result Query BindFault) → bound_query catalogue query ≡ bound
+        → (refused_or (query_step Plainly answer catalogue) (or_bind_fault bound)).outcome ≡ Ok left
+        → (if single then refused_or (query_step (Planned seed) answer catalogue) (or_bind_fault bound) else not_built number).outcome ≡ Ok right
+        → Alike (refused_or (query_step Plainly answer catalogue) (or_bind_fault bound)) (if single then refused_or (query_step (Planned seed) answer catalogue) (or_bind_fault bound) else not_built number) left right
+    go true single (Ok bound) is la lb = alike-bound catalogue query bound left right written single is la lb
+    go true single (Err why) is la lb = absurd cc
+    go false single bound is la lb = absurd cc
+
+  alike-step : (number : ℕ) (catalogue : Catalogue) (command : Command) (a b : Step Catalogue) (left right : Catalogue) → IsWritten command
+      → Does finds answer Plainly number catalogue command a → Does finds answer (Planned seed) number catalogue command b → a.outcome ≡ Ok left → b.outcome ≡ Ok right
+      → Alike a b left right
+  alike-step number catalogue (CreateTable name columns file) a b left right written da db la lb =
+      alike-same a b left right (Does-one finds one answer Plainly number catalogue (CreateTable name columns file) a b da db) la lb
+  alike-step number catalogue (CreatePredicate name params max cost formula) a b left right written da db la lb = alike-same a b left right (da ∙ sym db) la lb
+  alike-step number catalogue (CreateRankIndex name table predicate args at) a b left right written da db la lb = alike-same a b left right (da ∙ sym db) la lb
+  alike-step number catalogue (Ask query) a b left right written da db la lb =
+      subst (λ a. Alike a b left right) (sym da) (subst (λ b. Alike (select_step Plainly answer number catalogue query) b left right) (sym db)
+      (alike-select number catalogue query left right written (sym (ap (λ (s : Step Catalogue). s.outcome) da) ∙ la) (sym (ap (λ (s : Step Catalogue). s.outcome) db) ∙ lb)))
+  alike-step number catalogue (Declare name query) a b left right written da db la lb = alike-same a b left right (da ∙ sym db) la lb
+  alike-step number catalogue (Fetch count name) a b left right written da db la lb = alike-same a b left right (da ∙ sym db) la lb
+  alike-step number catalogue (Close name) a b left right written da db la lb = alike-same a b left right (da ∙ sym db) la lb
+  alike-step number catalogue (Explain query) a b left right written da db la lb = absurd (let none = ap (λ (s : Step Catalogue). s.outcome) db in cc)
+  alike-step number catalogue (ExplainAnalyze query) a b left right written da db la lb = absurd (let none = ap (λ (s : Step Catalogue). s.outcome) db in cc)
+
+  -- a statement that was run, and those behind it
+  record Behind (rest : Catalogue → Run → Type 0) (step : Step Catalogue) (run : Run) : Type 0 where
+    left : Catalogue
+    leaves : step.outcome ≡ Ok left
+    more : Run
+    is_more : rest left more
+    is : run ≡ behind step.events more
+    well : more.fault ≡ None
+
+  behind-well : (rest : Catalogue → Run → Type 0) (step : Step Catalogue) (run : Run) → RunsOn rest step.events step.outcome run → run.fault ≡ None → Behind rest step run
+  behind-well rest step run on well = go step.outcome refl on where
+    go : (outcome : Result Catalogue Fault) → step.outcome ≡ outcome → RunsOn rest step.events outcome run → Behind rest step run
+    go (Ok left) is on = record { left = left; leaves = is; more = on.0; is_more = on.1; is = on.2; well = sym (ap (λ (r : Run). r.fault) on.2) ∙ well }
+    go (Err fault) is on = absurd (let ended = ap (λ (r : Run). r.fault) on in cc)
+
+  alike-runs : (number : ℕ) (catalogue : Catalogue) (commands : List Command) (a b : Run) → AreWritten commands → RunOf (Does finds answer Plainly) number catalogue commands a
+      → RunOf (Does finds answer (Planned seed)) number catalogue commands b → a.fault ≡ None → b.fault ≡ None → puts a.events ≡ puts b.events
+  alike-runs number catalogue [] a b written ra rb wa wb = ap (λ (r : Run). puts r.events) (ra ∙ sym rb)
+  alike-runs number catalogue (command ∷ rest) a b written ra rb wa wb =
+      let x = behind-well (λ next more. RunOf (Does finds answer Plainly) (suc number) next rest more) ra.0 a ra.2 wa in
+      let y = behind-well (λ next more. RunOf (Does finds answer (Planned seed)) (suc number) next rest more) rb.0 b rb.2 wb in
+      let first = alike-step number catalogue command ra.0 rb.0 x.left y.left written.0 ra.1 rb.1 x.leaves y.leaves in
+      let later = alike-runs (suc number) y.left rest x.more y.more written.1 (subst (λ next. RunOf (Does finds answer Plainly) (suc number) next rest x.more) first.states x.is_more) y.is_more x.well y.well in
+      ap (λ (r : Run). puts r.events) x.is ∙ puts-append ra.0.events x.more.events
+      ∙ ap (λ lines. lines ++ puts x.more.events) first.lines ∙ ap (λ lines. puts rb.0.events ++ lines) later
+      ∙ sym (puts-append rb.0.events y.more.events) ∙ sym (ap (λ (r : Run). puts r.events) y.is)
+
+  -- texts and scripts
+  alike-texts : (script : List ℕ) (a b : Run) → TextRuns (StatementsRun finds answer Plainly) script a → TextRuns (StatementsRun finds answer (Planned seed)) script b
+      → a.fault ≡ None → b.fault ≡ None → puts a.events ≡ puts b.events
+  alike-texts script _ b (unlexed fault refuses) rb wa wb = absurd cc
+  alike-texts script _ b (unparsed tokens fault lexed refuses) rb wa wb = absurd cc
+  alike-texts script a _ (runs commands _ made is) (unlexed fault refuses) wa wb = absurd cc
+  alike-texts script a _ (runs commands _ made is) (unparsed tokens fault lexed refuses) wa wb = absurd cc
+  alike-texts script a b (runs commands _ made is) (runs others _ again also) wa wb =
+      alike-runs 1 empty commands a b (AreWritten-parsed script made.tokens commands made.lexed.spells made.parsed) is
+      (subst (λ list. StatementsRun finds answer (Planned seed) list b) (sym (HasStatements-one script commands others made again)) also) wa wb
+
+  pub alike-scripts : (name : List ℕ) (a b : Run) → IsRunOf finds answer (RunScript name Plainly) a → IsRunOf finds answer (RunScript name (Planned seed)) b
+      → a.fault ≡ None → b.fault ≡ None → puts a.events ≡ puts b.events
+  alike-scripts name _ b (unread there fault found e) rb wa wb = absurd cc
+  alike-scripts name _ _ (read there script a found e is) (unread other fault again f) wa wb = absurd cc
+  alike-scripts name _ _ (read there script a found e is) (read other text b again f also) wa wb =
+      let same : script ≡ text = (let source = ap (source_of name) (one name there other found again) in cc) in
+      alike-texts text a b (subst (λ s. TextRuns (StatementsRun finds answer Plainly) s a) same is) also wa wb

@@ -1,0 +1,65 @@
+-- A query by a plan: its rows are asked for one after another, and each is put before the next one is asked for.
+use Rattle.std.specs.Prelude.{ℕ, zero, suc, ◌==◌, ◌&&◌, not, min, Bool, is_some, List, [], ◌∷◌, length, Option, Some, None, Result, Ok, Err}
+use Rattle.rs_rank.specs.declared.answer.Answer.{Answer}
+use Rattle.rs_lines.specs.Row.{line_of}
+use Rattle.rs_expr.specs.InOrder.{Inquiry}
+use Rattle.rs_catalog.specs.Catalogue.{Catalogue}
+use Rattle.rs_syntax.specs.Syntax as syntax
+use Rattle.rs_query.specs.Answers.{limit_of, predicate_at}
+use Rattle.rs_query.specs.declared.query.Query.{Query}
+use Rattle.rs_plan.specs.Fixed.{fixed_tree}
+use Rattle.rs_plan.specs.Lists.{World, block_in, list_of_plan}
+use Rattle.rs_plan.specs.Trees.{PlanTree}
+use Rattle.rs_exec.specs.Cursors.{next_answer}
+use Rattle.rs_exec.specs.declared.fault.ExecFault.{ExecFault}
+use Rattle.rs_exec.specs.declared.fault.ExecFault.TheVariants as exec
+use Rattle.rs_run.specs.declared.fault.Fault.{Fault}
+use Rattle.rs_run.specs.declared.fault.Fault.TheVariants.{BadScore, Memory, Probe}
+use Rattle.rs_run.specs.Sequence.{Step, inquiry_step, still, then_step}
+
+-- a query over one table, without DISTINCT: only such queries have plans that are built. Its form alone says so
+abbrev pub is_single : syntax.Query → Bool
+is_single query = not (is_some query.right) && (length query.left.from == 1) && not query.left.distinct
+
+-- the plan of a query until plans are chosen by their cost: that of its one block
+abbrev pub plan_for : Catalogue → Query → PlanTree
+plan_for catalogue query = fixed_tree catalogue (block_in query 1)
+
+-- the line of the row that an ask gave, at this rank; at the end of the rows, or where a fault came, there is none
+abbrev pub given_lines : ℕ → Result (Option Answer) ExecFault → List (List ℕ)
+given_lines rank (Ok (Some row)) = line_of rank row.score row.values ∷ []
+given_lines rank (Ok None) = []
+given_lines rank (Err fault) = []
+
+-- the fault of a run in which an ask came to one; no ask follows it, so none is made of a broken cursor
+abbrev pub ask_fault : Catalogue → ExecFault → Fault
+ask_fault catalogue (exec.BadScore predicate ids got max) = BadScore (predicate_at catalogue predicate).name ids.rows got max
+ask_fault catalogue (exec.Probe predicate) = Probe (predicate_at catalogue predicate).name
+ask_fault catalogue exec.Memory = Memory
+ask_fault catalogue exec.Broken = Memory
+
+-- an ask leaves the catalogue as it is
+abbrev pub ask_outcome : Catalogue → Result (Option Answer) ExecFault → Result Catalogue Fault
+ask_outcome catalogue (Ok given) = Ok catalogue
+ask_outcome catalogue (Err fault) = Err (ask_fault catalogue fault)
+
+-- an ask: its calls, and then the row that it gives, as one line
+abbrev pub asked_step : Catalogue → ℕ → Inquiry (Option Answer) ExecFault → Step Catalogue
+asked_step catalogue rank given = inquiry_step (given_lines rank) (ask_outcome catalogue) given
+
+-- ask n + 1 of a plan, whose row has the rank n + 1
+abbrev pub ask_step : World → PlanTree → ℕ → Step Catalogue
+ask_step w tree n = asked_step w.catalogue (suc n) (next_answer w tree n)
+
+-- so many asks one after another, from ask n + 1 on
+abbrev pub asks_from : World → PlanTree → ℕ → ℕ → Step Catalogue
+asks_from w tree n zero = still (Ok w.catalogue)
+asks_from w tree n (suc count) = then_step (ask_step w tree n) (asks_from w tree (suc n) count)
+
+-- a plan of so many rows is asked until LIMIT rows were given, or an ask met their end
+abbrev pub ask_count : Option ℕ → ℕ → ℕ
+ask_count None rows = suc rows
+ask_count (Some limit) rows = min limit (suc rows)
+
+abbrev pub planned_step : World → PlanTree → Step Catalogue
+planned_step w tree = asks_from w tree 0 (ask_count (limit_of w.query) (length (list_of_plan w tree)))
