@@ -1,0 +1,11 @@
+pub mod Cards
+pub mod Choosing
+pub mod Drawing
+pub mod Estimates
+pub mod Finding
+pub mod Kept
+pub mod Quotients
+pub mod Samples
+pub mod Sampling
+pub mod Taking
+pub mod Words
