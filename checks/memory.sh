@@ -90,6 +90,8 @@ cat base - >join.sql <<'SQL'
 SELECT x.name, y.name FROM h x, h y WHERE x.city = y.city ORDER BY near(x.price, y.price) LIMIT 3;
 SQL
 printf '1,100,a,a\n2,100,b,b\n3,100,c,c\n' >join.wanted
+cp join.sql nested.sql
+cp join.wanted nested.wanted
 cat >union.sql <<'SQL'
 CREATE TABLE u (v INT) FROM 'u.csv';
 CREATE TABLE w (v INT) FROM 'w.csv';
@@ -104,11 +106,11 @@ printf '1,17,8,9\n2,13,10,3\n3,12,2,10\n4,6,5,1\n' >plan.wanted
 : >nothing
 printf 'memory\n' >memory
 
-# Runs a script where allocations fail from this one on, or this one alone. The script `plan` is run by plans.
+# Runs a script where allocations fail from this one on, or this one alone. The scripts `plan` and `nested` are run by plans.
 # run NAME NUMBER [all]
 run() {
     local words=(plain "$1.sql")
-    [ "$1" = plan ] && words=(run "$1.sql" 1)
+    case $1 in plan | nested) words=(run "$1.sql" 1) ;; esac
     timeout 60 env LD_PRELOAD="$work/refuse.so" REFUSE_FIRST="$2" ${3:+REFUSE_ALL=1} REFUSE_COUNT="$work/count" \
         "$program" "${words[@]}" >out 2>err </dev/null
 }
@@ -162,7 +164,7 @@ try_each() {
         "the others told the want of memory, $cut of them behind a row"
 }
 
-for name in join union plan; do
+for name in join union plan nested; do
     try_each "$name"
     try_each "$name" all
 done

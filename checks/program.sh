@@ -393,6 +393,12 @@ expect 'the greatest seed' 0 $'1,23,10,3\n1,10,10\n2,8,8\n3,5,5\n4,2,2\n' '' -- 
 echo $? >"$work/said/status"
 text=$(cat "$root/examples/films/best.out" && echo .)
 compare 'the films of the example by a plan' 0 "${text%.}" ''
+(cd "$root" && timeout 60 "$program" run examples/travel/evening.sql 1 >"$work/said/out" 2>"$work/said/err" </dev/null)
+echo $? >"$work/said/status"
+text=$(cat "$root/examples/travel/evening.out" && echo .)
+compare 'the evenings of the example by a plan' 0 "${text%.}" ''
+script "${base}SELECT x.name, y.name FROM h x, h y WHERE x.city = y.city ORDER BY near(x.price, y.price) LIMIT 3;"
+expect 'a table that is joined with itself by a plan' 0 $'1,100,a,a\n2,100,b,b\n3,100,c,c\n' '' -- run s.sql 1
 # The index of the example calls its predicate for each of the 5,000 films. examples/films/README.md counts the other calls.
 # count NAME WANTED WORD..
 count() {
@@ -407,6 +413,9 @@ if [ -x "$counter" ]; then
     count 'the calls of the films, plainly' 8680 plain examples/films/best.sql
     count 'the calls of the films by a plan' 5064 run examples/films/best.sql 1
     count 'the calls of the first film by a plan' 5022 run "$work/in/one.sql" 1
+    # 83 calls make the indexes. 1,260 combinations satisfy the condition, and plainly each has three calls.
+    count 'the calls of the evenings, plainly' 3863 plain examples/travel/evening.sql
+    count 'the calls of the evenings by a plan' 2509 run examples/travel/evening.sql 1
 fi
 printf 'x,y\n10,10\n8,99\n' >far.csv
 far="CREATE TABLE t (x INT, y INT) FROM 'far.csv'; CREATE PREDICATE p (v INT) MAX 10 AS v; SELECT x, y FROM t ORDER BY p(x) + p(y)"
@@ -415,7 +424,7 @@ expect 'a bad score behind the first row of a plan' 7 $'1,20,10,10\n' $'score: p
 expect 'the same bad score before any row' 7 '' $'score: p rows 2: 99 is not in 0..10\n' -- plain s.sql
 script "$far LIMIT 1;"
 expect 'a bad score of a row that is not needed' 0 $'1,20,10,10\n' '' -- run s.sql 1
-for query in 'SELECT name FROM h, t ORDER BY p(x)' 'SELECT nope FROM nope, nope ORDER BY nope(x)' 'SELECT DISTINCT city FROM h ORDER BY p(city)' \
+for query in 'SELECT DISTINCT name FROM h, t ORDER BY p(x)' 'SELECT DISTINCT nope FROM nope, nope ORDER BY nope(x)' 'SELECT DISTINCT city FROM h ORDER BY p(city)' \
     'SELECT city FROM h UNION SELECT y FROM t ORDER BY p(city)' 'EXPLAIN SELECT x FROM t ORDER BY p(x)' 'EXPLAIN ANALYZE SELECT x FROM t ORDER BY p(x)'; do
     script "$base$query;"
     expect "no plan is built of '$query'" 5 '' $'script: not built statement 6\n' -- run s.sql 1

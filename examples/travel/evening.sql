@@ -26,7 +26,7 @@ CREATE PREDICATE tasty (rating INT) MAX 100 AS rating;
 CREATE PREDICATE near (east INT, north INT, to_east INT, to_north INT) MAX 150 COST 3 AS
     MAX(0, 1500 - ABS(east - to_east) - ABS(north - to_north)) / 10;
 
--- Hotels and restaurants in the order of their scores. Under `plain` no query uses an index; the engine to come will.
+-- Hotels and restaurants in the order of their scores. No query over several tables uses an index yet.
 -- The query calls `near` with columns of two tables, and an index is of one, so there can be none for it.
 CREATE RANK INDEX by_price ON hotels (cheap(price));
 CREATE RANK INDEX by_rating ON restaurants (tasty(rating));

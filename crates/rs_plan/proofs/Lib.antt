@@ -3,6 +3,7 @@ pub mod DecidingFacts
 pub mod FixedFacts
 pub mod LawFacts
 pub mod WorkedCounts
+pub mod WorkedFixed
 pub mod WorkedJoins
 pub mod WorkedPlans
 pub mod WorkedRanks

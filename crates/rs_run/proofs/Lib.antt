@@ -18,7 +18,7 @@ pub mod NamedFacts
 pub mod CursorSteps
 pub mod LeftSteps
 pub mod HeldSteps
-pub mod SingleFacts
+pub mod FixedPlanFacts
 pub mod StatementFacts
 pub mod TextFacts
 pub mod OwnFaults

@@ -32,7 +32,7 @@ use Rattle.rs_run.specs.declared.evaluating.Evaluating.TheVariants.{Planned, Pla
 use Rattle.rs_run.specs.declared.fault.Fault.{Fault}
 use Rattle.rs_run.specs.Lines.{rank_lines}
 use Rattle.rs_run.specs.Plain.{TextRuns, read, runs, source_of, unlexed, unparsed, unread}
-use Rattle.rs_run.specs.Planned.{ask_count, ask_outcome, ask_step, asks_from, given_lines, is_single, plan_for, planned_step}
+use Rattle.rs_run.specs.Planned.{ask_count, ask_outcome, ask_step, asks_from, given_lines, has_fixed_plan, plan_for, planned_step}
 use Rattle.rs_run.specs.Run.{Finds, Put, Run, behind, calls_in, puts}
 use Rattle.rs_run.specs.Running.{IsRunOf}
 use Rattle.rs_run.specs.Sequence.{RunOf, RunsOn, Step, then_step}
@@ -41,7 +41,7 @@ use Rattle.rs_run.specs.Words.{RunScript}
 use Rattle.rs_run.proofs.OneRun.{Does-one, HasStatements-one, OneFile}
 use Rattle.rs_run.proofs.PlanSteps.{outcome-value, row-given}
 use Rattle.rs_run.proofs.RanFacts.{puts-append, puts-scores}
-use Rattle.rs_run.proofs.SingleFacts.{single-bound}
+use Rattle.rs_run.proofs.FixedPlanFacts.{block-bound}
 
 -- lines alone
 puts-lines : (lines : List (List ℕ)) → puts (map Put lines) ≡ lines
@@ -154,19 +154,19 @@ module _ (give : GiveAnswers) (finds : Finds) (one : OneFile finds) (answer : An
         )
         go (Err fault) is e = absurd cc
 
-  -- a bound query over one table
-  alike-bound : (catalogue : Catalogue) (query : syntax.Query) (bound : Query) (left right : Catalogue) → IsWrittenQuery query → is_single query ≡ true → bound_query catalogue query ≡ Ok bound
+  -- a bound query of one block
+  alike-bound : (catalogue : Catalogue) (query : syntax.Query) (bound : Query) (left right : Catalogue) → IsWrittenQuery query → has_fixed_plan query ≡ true → bound_query catalogue query ≡ Ok bound
       → (query_step Plainly answer catalogue bound).outcome ≡ Ok left → (query_step (Planned seed) answer catalogue bound).outcome ≡ Ok right
       → Alike (query_step Plainly answer catalogue bound) (query_step (Planned seed) answer catalogue bound) left right
-  alike-bound catalogue query bound left right written single is la lb =
-      let known = single-bound catalogue query bound written single is in
+  alike-bound catalogue query bound left right written fixed is la lb =
+      let known = block-bound catalogue query bound written fixed is in
       let plainly = puts-plainly catalogue bound left la in
       let w = world_of catalogue answer bound in
       let tree = plan_for catalogue bound in
       let planned = puts-planned w tree right lb in
       let few : HasFewTerms bound = subst HasFewTerms (sym known.is) known.few in
       let plans : IsPlan catalogue bound tree =
-      subst (λ q. IsPlan catalogue q (plan_for catalogue q)) (sym known.is) (fixed-plan catalogue known.block known.few known.terms known.one known.whole known.limit) in
+      subst (λ q. IsPlan catalogue q (plan_for catalogue q)) (sym known.is) (fixed-plan catalogue known.block known.some known.most known.few known.terms known.whole known.limit) in
       record {
         lines = plainly.0 ∙ sym (ap (rank_lines 1) (give w tree few plans)) ∙ sym planned.0;
         states = plainly.1 ∙ sym planned.1;
@@ -175,14 +175,14 @@ module _ (give : GiveAnswers) (finds : Finds) (one : OneFile finds) (answer : An
   alike-select : (number : ℕ) (catalogue : Catalogue) (query : syntax.Query) (left right : Catalogue) → IsWrittenQuery query
       → (select_step Plainly answer number catalogue query).outcome ≡ Ok left → (select_step (Planned seed) answer number catalogue query).outcome ≡ Ok right
       → Alike (select_step Plainly answer number catalogue query) (select_step (Planned seed) answer number catalogue query) left right
-  alike-select number catalogue query left right written la lb = go (is_single query) refl (bound_query catalogue query) refl la lb where
-    go : (single : Bool) → is_single query ≡ single → (bound : Result Query BindFault) → bound_query catalogue query ≡ bound
+  alike-select number catalogue query left right written la lb = go (has_fixed_plan query) refl (bound_query catalogue query) refl la lb where
+    go : (fixed : Bool) → has_fixed_plan query ≡ fixed → (bound : Result Query BindFault) → bound_query catalogue query ≡ bound
         → (refused_or (query_step Plainly answer catalogue) (or_bind_fault bound)).outcome ≡ Ok left
-        → (if single then refused_or (query_step (Planned seed) answer catalogue) (or_bind_fault bound) else not_built number).outcome ≡ Ok right
-        → Alike (refused_or (query_step Plainly answer catalogue) (or_bind_fault bound)) (if single then refused_or (query_step (Planned seed) answer catalogue) (or_bind_fault bound) else not_built number) left right
-    go true single (Ok bound) is la lb = alike-bound catalogue query bound left right written single is la lb
-    go true single (Err why) is la lb = absurd cc
-    go false single bound is la lb = absurd cc
+        → (if fixed then refused_or (query_step (Planned seed) answer catalogue) (or_bind_fault bound) else not_built number).outcome ≡ Ok right
+        → Alike (refused_or (query_step Plainly answer catalogue) (or_bind_fault bound)) (if fixed then refused_or (query_step (Planned seed) answer catalogue) (or_bind_fault bound) else not_built number) left right
+    go true fixed (Ok bound) is la lb = alike-bound catalogue query bound left right written fixed is la lb
+    go true fixed (Err why) is la lb = absurd cc
+    go false fixed bound is la lb = absurd cc
 
   alike-step : (number : ℕ) (catalogue : Catalogue) (command : Command) (a b : Step Catalogue) (left right : Catalogue) → IsWritten command
       → Does finds answer Plainly number catalogue command a → Does finds answer (Planned seed) number catalogue command b → a.outcome ≡ Ok left → b.outcome ≡ Ok right

@@ -1,5 +1,5 @@
 -- The runs of statements, computed on examples.
-use Rattle.std.proofs.Common.{ℕ, ℤ, ◌+◌, false, List, [], ◌∷◌, Some, None, refl}
+use Rattle.std.proofs.Common.{ℕ, ℤ, ◌+◌, true, false, List, [], ◌∷◌, Some, None, refl}
 use Rattle.std.specs.Prelude.{Option, codes, pos}
 use Rattle.csv.proofs.OnLiterals.{csv_on_literals}
 use Rattle.csv.specs.Writing.{escaped, fields_text, is_blank}
@@ -133,15 +133,42 @@ asks_by_an_index : StatementsRun (finds (Some (codes "v\n3\n10\n"))) answer (Pla
 unfolding create_table create_predicate create_index select finds answer call csv_on_literals digits chars is_utf8 encode_utf8 escaped fields_text is_blank
 asks_by_an_index = (_, (Some (codes "v\n3\n10\n"), refl, refl), (_, (_, refl, (_, (_, refl, (_, (_, refl, (_, refl, refl)), refl)), refl)), refl))
 
--- SELECT v FROM t, t2 ORDER BY p(v), which isn't built, whatever its names are
+-- SELECT a.v, b.v FROM t a, t b ORDER BY p(b.v)
 select_two : syntax.Query
 unfolding select
-select_two = record select { left = record select.left { from = (name_at (codes "t") 114, None) ∷ (name_at (codes "t2") 117, None) ∷ [] } }
+select_two = record select {
+  left = record select.left {
+    items = items.List (record { alias = Some (name_at (codes "a") 107); column = name_at (codes "v") 109 }
+        ∷ record { alias = Some (name_at (codes "b") 112); column = name_at (codes "v") 114 } ∷ []);
+    from = (name_at (codes "t") 121, Some (name_at (codes "a") 123)) ∷ (name_at (codes "t") 126, Some (name_at (codes "b") 128)) ∷ [];
+  };
+  terms = record {
+    weight = (pos 1, record { start = 139; end = 140 });
+    predicate = name_at (codes "p") 139;
+    args = arg.Column (record { alias = Some (name_at (codes "b") 141); column = name_at (codes "v") 143 }) ∷ [];
+    at = record { start = 139; end = 145 };
+  } ∷ [];
+}
 
-two_tables : StatementsRun (finds None) answer (Planned 7) (create_predicate ∷ syntax.Ask select_two ∷ create_table ∷ [])
-    (record { events = []; fault = Some (fault.Script (script.NotBuilt 2)) })
+-- the pairs of two tables are asked for in their order, and no further than a pair could still come before the next one to be put
+asks_of_a_join : StatementsRun (finds (Some (codes "v\n3\n10\n"))) answer (Planned 7) (create_table ∷ create_predicate ∷ syntax.Ask select_two ∷ [])
+    (record {
+      events = Fetch (codes "f") ∷ Score (call (pos 3)) ∷ Score (call (pos 10)) ∷ Put (codes "1,10,3,10\n") ∷ Score (call (pos 3)) ∷ Score (call (pos 10))
+          ∷ Put (codes "2,10,10,10\n") ∷ Put (codes "3,3,3,3\n") ∷ Put (codes "4,3,10,3\n") ∷ [];
+      fault = None;
+    })
 unfolding create_table create_predicate select select_two finds answer call csv_on_literals digits chars is_utf8 encode_utf8 escaped fields_text is_blank
-two_tables = (_, refl, (_, (_, refl, refl), refl))
+asks_of_a_join = (_, (Some (codes "v\n3\n10\n"), refl, refl), (_, (_, refl, (_, (_, refl, (_, refl, refl)), refl)), refl))
+
+-- SELECT DISTINCT v FROM t ORDER BY p(v), which isn't built, whatever its names are
+select_distinct : syntax.Query
+unfolding select
+select_distinct = record select { left = record select.left { distinct = true } }
+
+no_plan_with_distinct : StatementsRun (finds None) answer (Planned 7) (create_predicate ∷ syntax.Ask select_distinct ∷ create_table ∷ [])
+    (record { events = []; fault = Some (fault.Script (script.NotBuilt 2)) })
+unfolding create_table create_predicate select select_distinct finds answer call csv_on_literals digits chars is_utf8 encode_utf8 escaped fields_text is_blank
+no_plan_with_distinct = (_, refl, (_, (_, refl, refl), refl))
 
 -- no plan is told of
 explains_no_plan : StatementsRun (finds None) answer (Planned 7) (create_predicate ∷ syntax.ExplainAnalyze select ∷ [])

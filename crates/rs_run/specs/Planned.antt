@@ -1,5 +1,5 @@
 -- A query by a plan: its rows are asked for one after another, and each is put before the next one is asked for.
-use Rattle.std.specs.Prelude.{ℕ, zero, suc, ◌==◌, ◌&&◌, not, min, Bool, is_some, List, [], ◌∷◌, length, Option, Some, None, Result, Ok, Err}
+use Rattle.std.specs.Prelude.{ℕ, zero, suc, ◌&&◌, not, min, Bool, is_some, List, [], ◌∷◌, length, Option, Some, None, Result, Ok, Err}
 use Rattle.rs_rank.specs.declared.answer.Answer.{Answer}
 use Rattle.rs_lines.specs.Row.{line_of}
 use Rattle.rs_expr.specs.InOrder.{Inquiry}
@@ -17,9 +17,9 @@ use Rattle.rs_run.specs.declared.fault.Fault.{Fault}
 use Rattle.rs_run.specs.declared.fault.Fault.TheVariants.{BadScore, Memory, Probe}
 use Rattle.rs_run.specs.Sequence.{Step, inquiry_step, still, then_step}
 
--- a query over one table, without DISTINCT: only such queries have plans that are built. Its form alone says so
-abbrev pub is_single : syntax.Query → Bool
-is_single query = not (is_some query.right) && (length query.left.from == 1) && not query.left.distinct
+-- a query of one block, without DISTINCT: only such queries have plans that are built. Its form alone says so
+abbrev pub has_fixed_plan : syntax.Query → Bool
+has_fixed_plan query = not (is_some query.right) && not query.left.distinct
 
 -- the plan of a query until plans are chosen by their cost: that of its one block
 abbrev pub plan_for : Catalogue → Query → PlanTree

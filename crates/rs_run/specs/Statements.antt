@@ -38,7 +38,7 @@ use Rattle.rs_run.specs.declared.script_fault.ScriptFault.TheVariants.{Bind, Roo
 use Rattle.rs_run.specs.Content.{content_of}
 use Rattle.rs_run.specs.Lines.{rank_lines}
 use Rattle.rs_run.specs.Faults.{or_index_fault}
-use Rattle.rs_run.specs.Planned.{is_single, plan_for, planned_step}
+use Rattle.rs_run.specs.Planned.{has_fixed_plan, plan_for, planned_step}
 use Rattle.rs_run.specs.Run.{Fetch, Finds, Run, calls_in}
 use Rattle.rs_run.specs.Sequence.{RunOf, Step, inquiry_step, still}
 use Rattle.rs_run.specs.Top.{or_table_fault, table_limit}
@@ -129,7 +129,7 @@ not_built number = still (Err (Script (NotBuilt number)))
 -- a query counts as built by its form, before its names and types; plainly, each one is
 abbrev pub is_built : Evaluating → syntax.Query → Bool
 is_built Plainly query = true
-is_built (Planned seed) query = is_single query
+is_built (Planned seed) query = has_fixed_plan query
 
 abbrev pub select_step : Evaluating → Answering → ℕ → Catalogue → syntax.Query → Step Catalogue
 select_step evaluating answer number catalogue query =

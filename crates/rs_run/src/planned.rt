@@ -14,9 +14,9 @@ ghost use Rattle.rs_plan.specs.Shapes.{tree_of};
 ghost use Rattle.rs_exec.specs.Asking.{world_of};
 ghost use Rattle.rs_exec.specs.Cursors.{StandsFor, asks_of, plan_of};
 ghost use Rattle.rs_exec.specs.Indexes.{AreHeld};
-ghost use Rattle.rs_run.specs.Parts.Asks.{HasOne, IsAt, NamesPredicate, StandsSomewhere, as_query, call_step, left_of, without_value};
+ghost use Rattle.rs_run.specs.Parts.Asks.{HasFixedPlan, IsAt, NamesPredicate, StandsSomewhere, as_query, call_step, left_of, without_value};
 ghost use Rattle.rs_run.specs.Parts.Steps.{Stepped};
-ghost use Rattle.rs_run.specs.Planned.{ask_fault, is_single, plan_for, planned_step};
+ghost use Rattle.rs_run.specs.Planned.{ask_fault, has_fixed_plan, plan_for, planned_step};
 ghost use Rattle.rs_run.specs.Sequence.{then_step};
 ghost use Rattle.rs_run.specs.Statements.{or_bind_fault, refused_or};
 ghost use Rattle.rs_run.specs.World.{World};
@@ -35,15 +35,14 @@ use rs_syntax::Select;
 use rs_value::Memory;
 use std::alloc::Global;
 
-/// Whether a query is over one table, without DISTINCT. Its form alone says so.
-pub fn is_single(select: &Select) -> bool
-    ensures { result ≡ is_single (query_of select.now) }
+/// Whether a query is of one block, without DISTINCT, so that it has the fixed plan. Its form alone says so.
+pub fn has_fixed_plan(select: &Select) -> bool
+    ensures { result ≡ has_fixed_plan (query_of select.now) }
 {
-    select.right.is_none() && select.left.from.items().len() == 1 && !select.left.distinct
+    select.right.is_none() && !select.left.distinct
 }
 
-/// Prints the rows of a query over one table: asks its plan for one row after another, and puts each before it asks for the
-/// next one.
+/// Prints the rows of a query: asks its fixed plan for one row after another, and puts each before it asks for the next one.
 pub fn run_planned<S: Scorer, O: Sink>(
     alloc: Global,
     select: &Select,
@@ -52,7 +51,7 @@ pub fn run_planned<S: Scorer, O: Sink>(
     out: &mut O,
 ) -> Result<(), Fault>
     requires written { IsWrittenQuery (query_of select.now) }
-    requires single { is_single (query_of select.now) ≡ true }
+    requires fixed { has_fixed_plan (query_of select.now) ≡ true }
     requires held { AreHeld (S.state scorer.old).answer catalog.now }
     ensures { (beside : World) → Stepped
         (λ step. step ≡ refused_or (λ query. planned_step (world_of catalog.now (S.state scorer.old).answer query) (plan_for catalog.now query))
@@ -67,7 +66,7 @@ pub fn run_planned<S: Scorer, O: Sink>(
 /// A cursor over the plan of a query. No row is asked for yet.
 fn start_cursor(alloc: Global, select: &Select, catalog: &Catalog) -> Result<Cursor, Fault>
     requires written { IsWrittenQuery (query_of select.now) }
-    requires single { is_single (query_of select.now) ≡ true }
+    requires fixed { has_fixed_plan (query_of select.now) ≡ true }
     ensures gives { Gives Fault.Memory (or_bind_fault (bound_query catalog.now (query_of select.now))) (as_query result) }
     ensures at { IfOk result (λ cursor. IsAt cursor.query (plan_for catalog.now cursor.query) 0 cursor) }
     ensures stands { (answer : Answering) → AreHeld answer catalog.now → IfOk result (StandsFor catalog.now answer) }
@@ -86,10 +85,10 @@ fn start_cursor(alloc: Global, select: &Select, catalog: &Catalog) -> Result<Cur
     }
 }
 
-/// The plan of a query over one table.
+/// The fixed plan of a query.
 fn plan_for(alloc: Global, catalog: &Catalog, query: &Query) -> Result<Plan, Memory>
     requires formed { IsQuery catalog.now query.now }
-    requires one { HasOne query.now }
+    requires fixed { HasFixedPlan query.now }
     ensures tree { IfOk result (λ plan. tree_of plan ≡ plan_for catalog.now query.now) }
     ensures plan { IfOk result (λ plan. IsPlan catalog.now query.now (tree_of plan)) }
 {

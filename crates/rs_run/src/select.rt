@@ -10,7 +10,7 @@ ghost use Rattle.rs_run.specs.World.{World};
 
 use crate::evaluating::Evaluating;
 use crate::fault::Fault;
-use crate::planned::{is_single, run_planned};
+use crate::planned::{has_fixed_plan, run_planned};
 use crate::query::{explain_query, run_query};
 use crate::script_fault::ScriptFault;
 use rs_catalog::Catalog;
@@ -39,7 +39,7 @@ pub fn run_select<S: Scorer, O: Sink>(
         Evaluating::Plainly => run_query(alloc, select, catalog, scorer, out),
         Evaluating::Planned(_) => {
             // The form comes before names and types.
-            if !is_single(select) {
+            if !has_fixed_plan(select) {
                 return Err(Fault::Script(ScriptFault::NotBuilt { statement: number }));
             }
             run_planned(alloc, select, catalog, scorer, out)

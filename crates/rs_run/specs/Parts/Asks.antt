@@ -42,10 +42,10 @@ abbrev pub as_query : Result CursorState Fault → Result Query Fault
 as_query (Ok cursor) = Ok cursor.query
 as_query (Err fault) = Err fault
 
--- a query of one block, over one table and without DISTINCT
-abbrev pub HasOne : Query → Type 0
-HasOne (One block limit) = (length block.from ≡ 1) × (block.distinct ≡ false)
-HasOne (Set op left right limit) = ⊥
+-- a query of one block, without DISTINCT
+abbrev pub HasFixedPlan : Query → Type 0
+HasFixedPlan (One block limit) = block.distinct ≡ false
+HasFixedPlan (Set op left right limit) = ⊥
 
 -- whether a call went well, without what it answers
 abbrev pub without_value : Result Bool Fault → Result (Unit {0}) Fault

@@ -1,4 +1,4 @@
-use Rattle.rs_run.proofs.SingleFacts.{plan-one}
+use Rattle.rs_run.proofs.FixedPlanFacts.{plan-one}
 use Rattle.rs_run.proofs.planned.plan_for.Goals as goal
 
 pub returns-clause-plan : goal.returns-clause-plan

@@ -12,7 +12,7 @@ use Rattle.rs_run.specs.Planned.{plan_for}
 use Rattle.rs_run.specs.Statements.{bind_fault}
 use Rattle.rs_exec.proofs.HeldFacts.{held-plan}
 use Rattle.rs_run.proofs.QuerySteps.{Gives-bound, Gives-unbound}
-use Rattle.rs_run.proofs.SingleFacts.{built-fixed, one-bound}
+use Rattle.rs_run.proofs.FixedPlanFacts.{built-fixed, fixed-bound}
 use Rattle.rs_run.proofs.planned.start_cursor.Goals as goal
 
 pub returns-in_err-query : goal.returns-in_err-query
@@ -22,7 +22,7 @@ returns-in_err-query c = rw (given-err c.from_residual.result (bind_fault c.in_e
 pub plan_for-requires : goal.plan_for-requires
 plan_for-requires c = record {
   formed = c.in_ok-query.ensures.formed;
-  one = one-bound c.args.catalog.now (query_of c.args.select.now) c.in_ok-query.query c.requires.written c.requires.single c.in_ok-query.ensures.gives;
+  fixed = fixed-bound c.args.catalog.now (query_of c.args.select.now) c.in_ok-query.query c.requires.written c.requires.fixed c.in_ok-query.ensures.gives;
 }
 
 pub start-requires : goal.start-requires
