@@ -1,5 +1,6 @@
 //! What the lines ask for.
 
+use crate::formulas::{tell_formula, tell_width};
 use crate::scripts::{Asked, tell_script};
 use crate::tables::{tell_cell, tell_place, tell_rows};
 use crate::values::{
@@ -69,6 +70,8 @@ fn answer(alloc: Global, word: &[u8], rest: &[u8], file: &[u8]) -> Result<String
         b"line" => tell_line(alloc, rest),
         b"find" => tell_place_of_key(alloc, rest),
         b"list" => tell_list(alloc, rest),
+        b"width" => tell_width(alloc, rest),
+        b"formula" => tell_formula(alloc, rest),
         b"no-texts" => tell_no_texts(alloc),
         b"no-memory" => tell_no_memory(alloc),
         _ => answer_of_file(alloc, word, rest, file),

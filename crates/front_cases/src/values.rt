@@ -6,7 +6,7 @@ ghost use Rattle.rs_value.specs.Value.{kind_of};
 use case_lines::{
     Fault, bytes_of, cut_word, number_of, numbers_of, print_escaped, text_of, value_of,
 };
-use rs_lines::row_line;
+use rs_lines::RowLines;
 use rs_value::{List, Rel, Text, TextFault, Value, decimal_of, int_of};
 use std::alloc::Global;
 use std::cmp::Ordering;
@@ -96,7 +96,8 @@ pub fn tell_whether(alloc: Global, words: &[u8]) -> Result<String, Fault> {
     Ok(format!(in alloc; "{holds}")?)
 }
 
-fn rel_of(word: &[u8]) -> Result<Rel, Fault> {
+/// The comparison that a word stands for.
+pub fn rel_of(word: &[u8]) -> Result<Rel, Fault> {
     match word {
         b"=" => Ok(Rel::Eq),
         b"<>" => Ok(Rel::Ne),
@@ -138,9 +139,9 @@ pub fn tell_line(alloc: Global, words: &[u8]) -> Result<String, Fault> {
     let rank = rank_of(rank)?;
     let score = number_of(score)?;
     let values = values_of(alloc, words, b' ')?;
-    let line = row_line(alloc, rank, score, &values)?;
+    let mut lines = RowLines::new(alloc);
     let mut told = String::new(alloc);
-    print_escaped(&line, &mut told)?;
+    print_escaped(lines.line(rank, score, &values)?, &mut told)?;
     Ok(told)
 }
 
@@ -152,7 +153,7 @@ fn rank_of(word: &[u8]) -> Result<u128, Fault> {
 }
 
 /// The values whose words have this byte between.
-fn values_of(alloc: Global, words: &[u8], between: u8) -> Result<Vec<Value>, Fault> {
+pub fn values_of(alloc: Global, words: &[u8], between: u8) -> Result<Vec<Value>, Fault> {
     let mut values = Vec::new(alloc);
     if words.is_empty() {
         return Ok(values);

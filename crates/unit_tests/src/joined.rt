@@ -7,8 +7,8 @@ ghost use Rattle.rs_expr.specs.Formulas.{Argument, Numbers};
 ghost use Rattle.rs_catalog.specs.declared.index.BoundArg.TheVariants as arg;
 ghost use Rattle.rs_query.specs.Tables.{HasRows};
 ghost use Rattle.rs_query.specs.WellFormed.{IsBlock};
-ghost use Rattle.data_tests.specs.Joined.{IsJoin};
-ghost use Rattle.data_tests.specs.Tables.{HasPredicate};
+ghost use Rattle.unit_tests.specs.Joined.{IsJoin};
+ghost use Rattle.unit_tests.specs.Tables.{HasPredicate};
 
 use crate::tables::{catalogue, is_number, text};
 use rs_catalog::{BoundArg, Catalog};

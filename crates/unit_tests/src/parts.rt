@@ -4,8 +4,8 @@ ghost use Rattle.std.specs.Prelude.{◌≡◌, ◌∷◌, [], length};
 ghost use Rattle.rs_value.specs.declared.kind.Kind.TheVariants as kind;
 ghost use Rattle.rs_query.specs.Tables.{HasRows};
 ghost use Rattle.rs_query.specs.WellFormed.{IsBlock};
-ghost use Rattle.data_tests.specs.Joined.{IsJoin};
-ghost use Rattle.data_tests.specs.Tables.{HasPredicate};
+ghost use Rattle.unit_tests.specs.Joined.{IsJoin};
+ghost use Rattle.unit_tests.specs.Tables.{HasPredicate};
 
 use crate::joined::{both_rows, formed_join, join, two_tables};
 use rs_catalog::Catalog;
@@ -53,7 +53,9 @@ fn assert_args(
     requires mask { ids.now.mask ≡ 3 }
     requires rows { HasRows catalog.now block.now 3 ids.now.rows }
 {
-    let args = block.args(alloc, catalog, 1, ids)?;
+    let mut args = Vec::new(alloc);
+    args.push(Value::Int(-1))?;
+    block.args(catalog, 1, ids, &mut args)?;
     compare(rt, &args, want, 7);
     Ok(())
 }

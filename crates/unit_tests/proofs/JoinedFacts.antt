@@ -8,10 +8,10 @@ use Rattle.rs_expr.specs.Formulas.{Argument, Numbers}
 use Rattle.rs_expr.specs.Uses.{is_kind}
 use Rattle.rs_catalog.specs.Catalogue.{Catalogue}
 use Rattle.rs_catalog.specs.declared.index.BoundArg.TheVariants as arg
-use Rattle.data_tests.proofs.KindFacts.{a_number}
+use Rattle.unit_tests.proofs.KindFacts.{a_number}
 use Rattle.rs_query.specs.declared.block.Block.{Block}
-use Rattle.data_tests.specs.Joined.{IsJoin}
-use Rattle.data_tests.specs.Tables.{HasPredicate}
+use Rattle.unit_tests.specs.Joined.{IsJoin}
+use Rattle.unit_tests.specs.Tables.{HasPredicate}
 use Rattle.rs_query.specs.WellFormed.{IsBlock, IsColumn, IsConjunct, IsFromEntry, IsTerm, column_kind}
 
 is_conjunct : (catalogue : Catalogue) (block : Block) → IsColumn catalogue block (1, 0) → IsColumn catalogue block (2, 0)

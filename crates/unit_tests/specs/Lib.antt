@@ -1,3 +1,4 @@
 pub mod Cores
 pub mod Joined
+pub mod Joins
 pub mod Tables

@@ -1,6 +1,6 @@
 use Rattle.std.proofs.Common.{◌≡◌, ◌∙◌, true, rules, sym}
-use Rattle.data_tests.proofs.JoinedFacts.{IsBlock-join}
-use Rattle.data_tests.proofs.joined.assert_block.Goals as goal
+use Rattle.unit_tests.proofs.JoinedFacts.{IsBlock-join}
+use Rattle.unit_tests.proofs.joined.assert_block.Goals as goal
 
 pub returns : goal.returns
 returns g c =

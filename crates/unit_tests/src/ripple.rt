@@ -1,8 +1,8 @@
 //! What no clause says of the core of a rank join: rows worked by hand, and that memory is granted.
 
-ghost use Rattle.std.specs.Prelude.{◌≡◌, ◌≤◌, ◌+◌, [], ◌∷◌, false};
+ghost use Rattle.std.specs.Prelude.{◌≡◌, ◌≤◌, IfOk, false};
 ghost use Rattle.rs_ripple.specs.Ripple.{ask_of, left_for};
-ghost use Rattle.join_tests.specs.Cores.{new_core};
+ghost use Rattle.unit_tests.specs.Joins.{core_of_three, left_key, new_core, right_key};
 
 use crate::rows::{Higher, LEFT, RIGHT, TWO_TERMS, left as left_row, pair, right as right_row};
 use rs_rank::{Ids, JoinAsk, Key, RankRow};
@@ -13,10 +13,7 @@ use std::test::Fail;
 // The key of a left row, by its number: the other term adds 10 at most.
 const fn left(number: u32, worth: u64) -> Key
     requires { worth ≤ 10 }
-    ensures { result ≡ record {
-      bound = worth + 10;
-      ids = record { block = 1; mask = 1; rows = number ∷ 0 ∷ 0 ∷ 0 ∷ 0 ∷ 0 ∷ [] };
-    } }
+    ensures { result ≡ left_key number worth }
 {
     Key {
         bound: worth + 10,
@@ -31,10 +28,7 @@ const fn left(number: u32, worth: u64) -> Key
 // The key of a right row, by its number.
 const fn right(number: u32, worth: u64) -> Key
     requires { worth ≤ 10 }
-    ensures { result ≡ record {
-      bound = worth + 10;
-      ids = record { block = 1; mask = 2; rows = 0 ∷ number ∷ 0 ∷ 0 ∷ 0 ∷ 0 ∷ [] };
-    } }
+    ensures { result ≡ right_key number worth }
 {
     Key {
         bound: worth + 10,
@@ -61,9 +55,10 @@ fn assert_taken(rt: &impl Abort, core: &mut RippleCore, want: Option<RankRow>)
     assert_eq!(rt; core.take(), want);
 }
 
-// Equal worths on both sides: of the pairs of 17 that of the earlier left row comes first.
-fn assert_a_pair_once_certain(rt: &impl Abort, core: &mut RippleCore) -> Result<(), Fail>
+// Equal worths on both sides. The pair of the second left row is found first.
+fn assert_a_pair_held(rt: &impl Abort, core: &mut RippleCore) -> Result<(), Fail>
     requires { core.old ≡ new_core }
+    ensures { IfOk result (λ _. core.new ≡ core_of_three) }
 {
     assert_ask(rt, core, JoinAsk::NeedLeft);
     core.left_drawn(left(1, 10));
@@ -72,6 +67,13 @@ fn assert_a_pair_once_certain(rt: &impl Abort, core: &mut RippleCore) -> Result<
     assert_ask(rt, core, JoinAsk::NeedLeft);
     core.left_drawn(left(2, 8));
     core.found(pair(2, 1, 17))?;
+    Ok(())
+}
+
+// Of the pairs of 17 that of the earlier left row comes first.
+fn assert_the_pair_of_the_earlier_row(rt: &impl Abort, core: &mut RippleCore) -> Result<(), Fail>
+    requires { core.old ≡ core_of_three }
+{
     assert_ask(rt, core, JoinAsk::NeedRight);
     assert_taken(rt, core, None);
     core.right_drawn(right(2, 7));
@@ -84,7 +86,8 @@ fn assert_a_pair_once_certain(rt: &impl Abort, core: &mut RippleCore) -> Result<
 #[test]
 fn gives_a_pair_once_none_can_precede_it(rt: HostRuntime) -> Result<(), Fail> {
     let mut core = RippleCore::new(rt.alloc(), TWO_TERMS, LEFT, RIGHT);
-    assert_a_pair_once_certain(&rt, &mut core)
+    assert_a_pair_held(&rt, &mut core)?;
+    assert_the_pair_of_the_earlier_row(&rt, &mut core)
 }
 
 fn assert_a_pair_at_once(rt: &impl Abort, core: &mut RippleCore) -> Result<(), Fail>

@@ -2,7 +2,7 @@
 
 ghost use Rattle.std.specs.Prelude.{◌≡◌, IfOk, false};
 ghost use Rattle.rs_mu.specs.Mu.{ask_of, left_for};
-ghost use Rattle.data_tests.specs.Cores.{core_of_two, new_core, row_of};
+ghost use Rattle.unit_tests.specs.Cores.{core_of_two, new_core, row_of};
 
 use rs_mu::*;
 use rs_rank::{Ask, Ids, RankRow, Weights};

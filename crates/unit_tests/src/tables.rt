@@ -7,7 +7,7 @@ ghost use Rattle.rs_expr.specs.Formulas.{Argument};
 ghost use Rattle.rs_expr.specs.Uses.{is_kind};
 ghost use Rattle.rs_catalog.specs.Catalogue.{empty};
 ghost use Rattle.rs_query.specs.WellFormed.{IsFromEntry, column_kind};
-ghost use Rattle.data_tests.specs.Tables.{HasPredicate};
+ghost use Rattle.unit_tests.specs.Tables.{HasPredicate};
 
 use rs_catalog::{Catalog, What};
 use rs_expr::{Expr, Predicate};

@@ -1,0 +1,66 @@
+//! What no clause says of the hash rank join: rows worked by hand, that the matcher is asked of rows with equal join values
+//! alone, and that memory is granted.
+
+ghost use Rattle.std.specs.Prelude.{◌≡◌, ◌∷◌, [], Bool, IfOk};
+ghost use Rattle.rs_value.specs.declared.value.Value.TheVariants.{Int};
+ghost use Rattle.rs_rank.specs.declared.row.RankRow.{RankRow};
+ghost use Rattle.rs_ripple.specs.Joined.{Fits};
+ghost use Rattle.rs_hrjn.specs.Hashed.{joined_of};
+ghost use Rattle.unit_tests.specs.Joins.{new_hash_join};
+
+use crate::rows::{Higher, LEFT, RIGHT, TWO_TERMS, left, pair, right};
+use rs_hrjn::Hrjn;
+use rs_rank::JoinAsk;
+use rs_value::Value;
+use std::alloc::{AllocError, Global};
+use std::process::Abort;
+use std::test::Fail;
+
+// The join values of a row with one number.
+fn number(alloc: Global, number: i64) -> Result<Vec<Value>, AllocError>
+    ensures { IfOk result (λ values. values.items ≡ Int number ∷ []) }
+{
+    Ok(vec![in alloc; Value::Int(number)]?)
+}
+
+// Both rows have the same join values.
+fn assert_a_pair(rt: &impl Abort, alloc: Global, join: &mut Hrjn) -> Result<(), Fail>
+    requires new { join.old ≡ new_hash_join }
+    requires fits { (matches : RankRow → RankRow → Bool) → Fits matches (joined_of join.old) }
+{
+    let mut matcher = Higher { calls: 0 };
+    join.feed_left(left(1, 10), number(alloc, 7)?, &mut matcher)?;
+    join.feed_right(right(1, 9), number(alloc, 7)?, &mut matcher)?;
+    assert_eq!(rt; matcher.calls, 1);
+    assert_eq!(rt; join.ask(), JoinAsk::Ready);
+    assert_eq!(rt; join.take(), Some(pair(1, 1, 19)));
+    Ok(())
+}
+
+#[test]
+fn finds_a_pair_by_its_join_values(rt: HostRuntime) -> Result<(), Fail> {
+    let mut join = Hrjn::new(rt.alloc(), TWO_TERMS, LEFT, RIGHT);
+    assert_a_pair(&rt, rt.alloc(), &mut join)
+}
+
+// The rows don't match, and have other join values: the matcher isn't asked.
+fn assert_no_pair(rt: &impl Abort, alloc: Global, join: &mut Hrjn) -> Result<(), Fail>
+    requires new { join.old ≡ new_hash_join }
+    requires fits { (matches : RankRow → RankRow → Bool) → Fits matches (joined_of join.old) }
+{
+    let mut matcher = Higher { calls: 0 };
+    join.feed_left(left(1, 9), number(alloc, 7)?, &mut matcher)?;
+    join.feed_right(right(1, 9), number(alloc, 8)?, &mut matcher)?;
+    assert_eq!(rt; matcher.calls, 0);
+    join.left_ended();
+    assert_eq!(rt; join.ask(), JoinAsk::NeedRight);
+    join.right_ended();
+    assert_eq!(rt; join.ask(), JoinAsk::End);
+    Ok(())
+}
+
+#[test]
+fn asks_the_matcher_of_equal_values_alone(rt: HostRuntime) -> Result<(), Fail> {
+    let mut join = Hrjn::new(rt.alloc(), TWO_TERMS, LEFT, RIGHT);
+    assert_no_pair(&rt, rt.alloc(), &mut join)
+}
