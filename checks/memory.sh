@@ -2,13 +2,18 @@
 # Runs the built program on scripts with queries while memory is refused: once for each allocation, which then fails
 # alone, and once more where all behind it fail too. Each run has to print the right rows, or whole lines from their head
 # and then `memory` with status 1.
-# The program is crates/ranksql/out/ranksql, or the one that the variable RANKSQL names. A C compiler is needed: the
-# allocations fail by a small library in front of the system's.
+# Before that it counts the allocations of runs over a table of 1,000 rows that print more or fewer rows, or call the scorer
+# more or less often: a printed row takes its values alone, and a call with numbers none.
+# A join by a hash is executed by the program exec_cases, whichever plan `run` would choose. That program tells its
+# input line by line, and names the line at which there is no memory.
+# The programs are crates/ranksql/out/ranksql and crates/exec_cases/out/exec_cases, or those that the variables RANKSQL and
+# EXEC_CASES name. A C compiler is needed: the allocations fail by a small library in front of the system's.
 set -u -o pipefail
 export LC_ALL=C
 
 root=$(cd "$(dirname "$0")/.." && pwd -P)
 program=${RANKSQL:-$root/crates/ranksql/out/ranksql}
+cases=${EXEC_CASES:-$root/crates/exec_cases/out/exec_cases}
 if [ ! -x "$program" ]; then
     echo "there is no program $program: ./ranksql builds it" >&2
     exit 1
@@ -103,16 +108,29 @@ cat base - >plan.sql <<'SQL'
 SELECT x, y FROM t ORDER BY p(x) + q(y) LIMIT 9;
 SQL
 printf '1,17,8,9\n2,13,10,3\n3,12,2,10\n4,6,5,1\n' >plan.wanted
+cat >hashed.sql <<'LINES'
+front CREATE TABLE h (name TEXT, price INT, city INT) FROM 'name,price,city\na,40,1\nb,90,1\nc,40,2\n'; CREATE PREDICATE near (a INT, b INT) MAX 100 AS 100 - ABS(a - b);
+ask R1(H(S1,S2)) 3 SELECT x.price, y.price FROM h x, h y WHERE x.city = y.city ORDER BY near(x.price, y.price) LIMIT 3
+LINES
+cat hashed.sql - >hashed.wanted <<'LINES'
+  1 3 [1, 1, 0, 0, 0, 0] 100 [Int(40), Int(40)]; calls near 40 40
+  1 3 [2, 2, 0, 0, 0, 0] 100 [Int(90), Int(90)]; calls near 40 90, near 90 40, near 90 90
+  1 3 [3, 3, 0, 0, 0, 0] 100 [Int(40), Int(40)]; calls near 40 40
+  counts 3 3 5 0, 5 5 0 0, 4 3 0 3, 4 3 0 3; limit Some(3)
+LINES
 : >nothing
 printf 'memory\n' >memory
 
 # Runs a script where allocations fail from this one on, or this one alone. The scripts `plan` and `nested` are run by plans.
 # run NAME NUMBER [all]
 run() {
-    local words=(plain "$1.sql")
-    case $1 in plan | nested) words=(run "$1.sql" 1) ;; esac
+    local words=("$program" plain "$1.sql") input=/dev/null
+    case $1 in
+        plan | nested | rows | index | calls) words=("$program" run "$1.sql" 1) ;;
+        hashed) words=("$cases") input=hashed.sql ;;
+    esac
     timeout 60 env LD_PRELOAD="$work/refuse.so" REFUSE_FIRST="$2" ${3:+REFUSE_ALL=1} REFUSE_COUNT="$work/count" \
-        "$program" "${words[@]}" >out 2>err </dev/null
+        "${words[@]}" >out 2>err <"$input"
 }
 
 # Whether the file out is whole lines from the head of what is wanted.
@@ -123,9 +141,11 @@ are_whole_lines() {
 # Whether the run did all, or lacked memory and told so.
 # is_right NAME STATUS
 is_right() {
-    case $2 in
-        0) cmp -s out "$1.wanted" && cmp -s err nothing ;;
-        1) are_whole_lines "$1" && cmp -s err memory ;;
+    case $1.$2 in
+        *.0) cmp -s out "$1.wanted" && cmp -s err nothing ;;
+        hashed.1) are_whole_lines "$1" && grep -qx 'line [12]: there is no memory' err ;;
+        hashed.3) are_whole_lines "$1" && grep -qx "line [12]: the line can't be read" err ;;
+        *.1) are_whole_lines "$1" && cmp -s err memory ;;
         *) false ;;
     esac
 }
@@ -164,7 +184,64 @@ try_each() {
         "the others told the want of memory, $cut of them behind a row"
 }
 
-for name in join union plan nested; do
+awk 'BEGIN {
+    print "title,rating,year"
+    for (row = 1; row <= 1000; row++)
+        printf "Film %d,%d,%d\n", row, row * 7919 % 1000, 1950 + row * 31 % 75
+}' >films.csv
+
+# How many allocations a query over the films takes, and how many rows it prints.
+# count_query NAME INDEX ORDER LIMIT
+count_query() {
+    cat >"$1.sql" <<SQL
+CREATE TABLE films (title TEXT, rating INT, year INT) FROM 'films.csv';
+CREATE PREDICATE level (rating INT) MAX 2 AS 1;
+CREATE PREDICATE rated (rating INT) MAX 999 AS rating;
+CREATE PREDICATE recent (year INT) MAX 75 COST 20 AS year - 1950;
+$2
+SELECT title, year FROM films ORDER BY $3 LIMIT $4;
+SQL
+    run "$1" 0 || {
+        echo "FAILED  $1 with all its memory"
+        exit 1
+    }
+    printed=$(wc -l <out)
+    [ "$printed" -eq "$4" ] || {
+        echo "FAILED  $1 prints $printed rows"
+        exit 1
+    }
+    allocations=$(cat count)
+}
+
+# What a query over the films takes beyond another one, less what the values of its rows take: a list and a text for each.
+# A kept list that grows is moved now and then to a place of twice the size, which is the most that may be left.
+# compare NAME INDEX ORDER LIMIT ORDER LIMIT
+compare() {
+    local few few_rows more
+    count_query "$1" "$2" "$3" "$4"
+    few=$allocations few_rows=$4
+    count_query "$1" "$2" "$5" "$6"
+    more=$((allocations - few))
+    local values=$((2 * ($6 - few_rows)))
+    echo "$1: $more allocations more, $values of them for the values of rows"
+    if [ "$more" -lt "$values" ] || [ "$more" -gt $((values + MOST_GROWN)) ]; then
+        echo "FAILED  $1: that is not within $MOST_GROWN of those for values"
+        failures=$((failures + 1))
+    fi
+}
+
+MOST_GROWN=40
+compare rows '' 'rated(rating)' 10 'rated(rating)' 100
+compare index 'CREATE RANK INDEX by_rated ON films (rated(rating));' '2 * rated(rating) + recent(year)' 10 '2 * rated(rating) + recent(year)' 100
+compare calls '' 'level(rating)' 10 'level(rating) + recent(year)' 10
+
+names=(join union plan nested)
+if [ -x "$cases" ]; then
+    names+=(hashed)
+else
+    echo "there is no program $cases: the join by a hash is left out"
+fi
+for name in "${names[@]}"; do
     try_each "$name"
     try_each "$name" all
 done

@@ -3,4 +3,4 @@
 
 mod row;
 
-pub use row::row_line;
+pub use row::RowLines;

@@ -11,15 +11,16 @@ use rs_catalog::Catalog;
 use rs_expr::{Scorer, ScorerFault, score_within};
 use rs_query::{Block, Term};
 use rs_rank::Ids;
-use std::alloc::Global;
+use rs_value::Value;
 
-/// The worth of a term, counted from 1, for the rows of all entries. The scorer is called once.
+/// The worth of a term, counted from 1, for the rows of all entries. The scorer is called once, with its arguments in a list
+/// that is kept from call to call.
 pub(crate) fn ask_term<S: Scorer>(
-    alloc: Global,
     catalog: &Catalog,
     block: &Block,
     number: u8,
     ids: &Ids,
+    args: &mut Vec<Value>,
     scorer: &mut S,
 ) -> Result<u32, PlainFault>
     requires block { IsBlock catalog.now block.now }
@@ -31,10 +32,10 @@ pub(crate) fn ask_term<S: Scorer>(
         → Inquires PlainFault.Memory (asking_worth plain_faults (S.state scorer.old).answer catalog.now block.now ids.now term)
         result (S.state scorer.old) (S.state scorer.new) }
 {
-    let args = block.args(alloc, catalog, number, ids)?;
+    block.args(catalog, number, ids, args)?;
     let term = &block.terms.items()[number as usize - 1];
     let predicate = catalog.predicate(term.predicate);
-    match scorer.score(predicate, &args) {
+    match scorer.score(predicate, args) {
         Ok(got) => worth_for(term, ids, predicate.max(), got),
         Err(ScorerFault::Failed) => Err(PlainFault::Probe {
             predicate: term.predicate,

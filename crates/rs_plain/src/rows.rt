@@ -17,7 +17,7 @@ use rs_catalog::Catalog;
 use rs_expr::Scorer;
 use rs_query::{Block, Query};
 use rs_rank::{Answer, Ids};
-use rs_value::List;
+use rs_value::{List, Value};
 use std::alloc::Global;
 
 /// The rows of a query, each with its score, before they are put into order.
@@ -99,13 +99,14 @@ fn scored_rows<S: Scorer>(
         (as_list result) (S.state scorer.old) (S.state scorer.new) }
 {
     let mut answers = Vec::new(alloc);
+    let mut args = Vec::new(alloc);
     for rows in combinations {
         let ids = Ids {
             block: number,
             mask: block.all_entries(),
             rows: *rows,
         };
-        let answer = row_for(alloc, catalog, block, &ids, scorer)?;
+        let answer = row_for(alloc, catalog, block, &ids, &mut args, scorer)?;
         answers.push(answer)?;
     }
     Ok(answers)
@@ -117,6 +118,7 @@ fn row_for<S: Scorer>(
     catalog: &Catalog,
     block: &Block,
     ids: &Ids,
+    args: &mut Vec<Value>,
     scorer: &mut S,
 ) -> Result<Answer, PlainFault>
     requires block { IsBlock catalog.now block.now }
@@ -127,7 +129,7 @@ fn row_for<S: Scorer>(
         (answer_row (S.state scorer.old).answer catalog.now block.now ids.now.block ids.now.rows))
         result (S.state scorer.old) (S.state scorer.new) }
 {
-    let score = score_for(alloc, catalog, block, ids, scorer)?;
+    let score = score_for(catalog, block, ids, args, scorer)?;
     let values = block.outputs(alloc, catalog, ids)?;
     Ok(Answer {
         ids: *ids,
@@ -138,10 +140,10 @@ fn row_for<S: Scorer>(
 
 /// The score of a combination of all entries: the sum of weight times worth over the terms, which are asked in order.
 fn score_for<S: Scorer>(
-    alloc: Global,
     catalog: &Catalog,
     block: &Block,
     ids: &Ids,
+    args: &mut Vec<Value>,
     scorer: &mut S,
 ) -> Result<u64, PlainFault>
     requires block { IsBlock catalog.now block.now }
@@ -154,7 +156,7 @@ fn score_for<S: Scorer>(
 {
     let mut score = 0;
     for (index, term) in block.terms.items().iter().enumerate() {
-        let worth = ask_term(alloc, catalog, block, index as u8 + 1, ids, scorer)?;
+        let worth = ask_term(catalog, block, index as u8 + 1, ids, args, scorer)?;
         score += u64::from(term.weight) * u64::from(worth);
     }
     Ok(score)

@@ -1,6 +1,6 @@
 //! What a block computes for rows of its entries: whether conjuncts hold, and values of columns.
 
-ghost use Rattle.std.specs.Prelude.{◌≡◌, ◌≤◌, ◌-◌, ◌∷◌, [], IfOk, List, Some, length, map, slice_get, true, ℕ};
+ghost use Rattle.std.specs.Prelude.{◌≡◌, ◌≤◌, ◌-◌, ◌∷◌, [], IfOk, List, OnOk, Some, length, map, slice_get, true, ℕ};
 ghost use Rattle.std.specs.List.{AllByRecursion};
 ghost use Rattle.rs_expr.specs.Predicates.{PredicateDef};
 ghost use Rattle.rs_expr.specs.Uses.{has_argument};
@@ -45,27 +45,29 @@ impl Block {
         Ok(true)
     }
 
-    /// The arguments of a term, counted from 1, for these rows. They are those that its predicate takes.
+    /// Makes a list that of the arguments of a term, counted from 1, for these rows. They are those that its predicate takes.
+    /// The list is to be kept from call to call: what it held goes, and its memory stays, so that numbers take none once it has
+    /// grown. After an error it holds some of the arguments.
     pub fn args(
         &self,
-        alloc: Global,
         catalog: &Catalog,
         term: u8,
         ids: &Ids,
-    ) -> Result<Vec<Value>, Memory>
+        args: &mut Vec<Value>,
+    ) -> Result<(), Memory>
         requires block { IsBlock catalog.now self.now }
         requires least { 1 ≤ term }
         requires most { term ≤ length self.now.terms }
         requires inside { (t : BoundTerm) → slice_get self.now.terms (term - 1) ≡ Some t → is_inside t.entries ids.now.mask ≡ true }
         requires rows { HasRows catalog.now self.now ids.now.mask ids.now.rows }
         ensures value { (t : BoundTerm) → slice_get self.now.terms (term - 1) ≡ Some t
-            → IfOk result (λ args. args.items ≡ argument_values catalog.now self.now ids.now.rows t) }
+            → OnOk result (args.new.items ≡ argument_values catalog.now self.now ids.now.rows t) }
         ensures fit { (t : BoundTerm) (p : PredicateDef) → slice_get self.now.terms (term - 1) ≡ Some t
             → slice_get catalog.now.predicates t.predicate ≡ Some p
-            → IfOk result (λ args. all_fit p.params args.items ≡ true) }
+            → OnOk result (all_fit p.params args.new.items ≡ true) }
     {
-        let args = self.terms.items()[term as usize - 1].args.items();
-        self.args_of(alloc, catalog, args, ids)
+        let bound = self.terms.items()[term as usize - 1].args.items();
+        self.args_of(catalog, bound, ids, args)
     }
 
     /// The values of the output columns for these rows.
@@ -112,34 +114,34 @@ impl Block {
         ensures fit { IfOk result (λ values. (kind : ValueKind) (i : ℕ) → has_kind catalog.now self.now columns.now kind i ≡ true
             → has_argument values.items kind i ≡ true) }
     {
-        let mut values = Vec::new(alloc);
+        let mut values = Vec::with_capacity(alloc, columns.len())?;
         for column in columns {
             values.push(self.cell_of(catalog, *column, ids)?)?;
         }
         Ok(values)
     }
 
-    /// The values of arguments for these rows.
+    /// Makes a list that of the values of arguments for these rows.
     fn args_of(
         &self,
-        alloc: Global,
         catalog: &Catalog,
         args: &[BoundArg],
         ids: &Ids,
-    ) -> Result<Vec<Value>, Memory>
+        values: &mut Vec<Value>,
+    ) -> Result<(), Memory>
         requires block { IsBlock catalog.now self.now }
         requires args { (kinds : List ValueKind) × AreArgs catalog.now self.now kinds args.now }
         requires inside { is_inside (entries_mask (argument_columns args.now)) ids.now.mask ≡ true }
         requires rows { HasRows catalog.now self.now ids.now.mask ids.now.rows }
-        ensures value { IfOk result (λ values. values.items ≡ map (argument_value catalog.now self.now ids.now.rows) args.now) }
+        ensures value { OnOk result (values.new.items ≡ map (argument_value catalog.now self.now ids.now.rows) args.now) }
         ensures fit { (kinds : List ValueKind) → AreArgs catalog.now self.now kinds args.now
-            → IfOk result (λ values. all_fit kinds values.items ≡ true) }
+            → OnOk result (all_fit kinds values.new.items ≡ true) }
     {
-        let mut values = Vec::new(alloc);
+        values.clear();
         for arg in args {
             values.push(self.arg_of(catalog, arg, ids)?)?;
         }
-        Ok(values)
+        Ok(())
     }
 
     /// The value of an argument for these rows. A number takes no memory.
