@@ -85,7 +85,7 @@ fn child(stack: &mut Vec<Plan>) -> Result<Plan, Fault> {
     }
 }
 
-/// Whether a plan is one of scans and rank operators.
+/// Whether a plan is one of scans, rank operators and joins.
 pub fn is_built(plan: &Plan) -> bool
     ensures { IsTrue result → IsBuilt (tree_of plan.now) }
 {
@@ -93,6 +93,8 @@ pub fn is_built(plan: &Plan) -> bool
         Plan::SeqScan { entry: _ } => true,
         Plan::RankScan { .. } => true,
         Plan::Rank { term: _, child } => is_built(child),
+        Plan::HashJoin { left, right } => is_built(left) && is_built(right),
+        Plan::NestedJoin { left, right } => is_built(left) && is_built(right),
         _ => false,
     }
 }

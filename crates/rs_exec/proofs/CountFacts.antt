@@ -4,8 +4,12 @@ use Rattle.std.specs.Prelude.{Some, None, Result, Ok, Err, slice_get}
 use Rattle.rs_plan.specs.Counts.{counts, counts_at}
 use Rattle.rs_plan.specs.declared.counts.Counts.{Counts}
 use Rattle.rs_plan.specs.Lists.{World}
-use Rattle.rs_plan.specs.Trees.{NestedJoin, Rank}
+use Rattle.rs_plan.specs.Trees.{Distinct, NestedJoin, Rank, PlanTree}
+use Rattle.rs_exec.specs.Cores.{tree_with}
+use Rattle.rs_exec.specs.declared.distinct.DistinctNode.{DistinctNode}
 use Rattle.rs_exec.specs.declared.join.JoinNode.{JoinNode}
+use Rattle.rs_exec.specs.declared.join_core.JoinCore.{JoinCore}
+use Rattle.rs_exec.specs.declared.join_core.JoinCore.TheVariants.{Hash, Nested}
 use Rattle.rs_exec.specs.declared.node.Node.{Node}
 use Rattle.rs_exec.specs.declared.node.Node.TheVariants as node
 use Rattle.rs_exec.specs.declared.node.Node.TheViews as view
@@ -14,6 +18,11 @@ use Rattle.rs_exec.specs.declared.scan.IndexNode.{IndexNode}
 use Rattle.rs_exec.specs.declared.scan.TableNode.{TableNode}
 use Rattle.rs_exec.specs.Nodes.{asked_in, at_or_past, counts_in, tree_in}
 use Rattle.rs_exec.specs.Standing.{Stands}
+
+-- a join counts the same whichever way it is done
+counts-with : (w : World) (number : ℕ) (core : JoinCore) (l r : PlanTree) (a : ℕ) → counts w number (tree_with core l r) a ≡ counts w number (NestedJoin l r) a
+counts-with w number (Nested joined) l r a = refl
+counts-with w number (Hash hashed) l r a = refl
 
 pub counts-stand : (w : World) (number : ℕ) (n : Node) → Stands w number n → counts_in n ≡ counts w number (tree_in n) (asked_in n)
 counts-stand w number (node.SeqScan head) is =
@@ -24,11 +33,16 @@ counts-stand w number (node.Rank' head p child) is =
     ap (λ (n : RankNode). record { asked = n.tally.asked; gave = n.tally.gave; calls = n.calls; drawn = 0 } ∷ counts_in child) is.0.keeps
     ∙ ap (λ (rest : List Counts). counts_at w number (Rank head.term (tree_in child)) head.tally.asked ∷ rest)
     (counts-stand w number child is.1 ∙ ap (counts w number (tree_in child)) is.0.asked)
-counts-stand w number (node.NestedJoin' head p left q right) is =
+counts-stand w number (node.Join' head p left q right) is =
     ap (λ (n : JoinNode). record { asked = n.tally.asked; gave = n.tally.gave; calls = 0; drawn = 0 } ∷ counts_in left ++ counts_in right) is.0.keeps
     ∙ ap₂ (λ (on_left on_right : List Counts). counts_at w number (NestedJoin (tree_in left) (tree_in right)) head.tally.asked ∷ on_left ++ on_right)
     (counts-stand w number left is.1 ∙ ap (counts w number (tree_in left)) is.0.left_asked)
     (counts-stand w number right is.2 ∙ ap (counts w number (tree_in right)) is.0.right_asked)
+    ∙ sym (counts-with w number head.core (tree_in left) (tree_in right) head.tally.asked)
+counts-stand w number (node.Distinct' head p child) is =
+    ap (λ (n : DistinctNode). record { asked = n.tally.asked; gave = n.tally.gave; calls = 0; drawn = 0 } ∷ counts_in child) is.0.keeps
+    ∙ ap (λ (rest : List Counts). counts_at w number (Distinct (tree_in child)) head.tally.asked ∷ rest)
+    (counts-stand w number child is.1 ∙ ap (counts w number (tree_in child)) is.0.asked)
 
 -- what is found in a list; past its end, in the next one
 abbrev or_past : {A : Type 0} → Result A ℕ → List A → Result A ℕ
@@ -47,7 +61,7 @@ at_or_past-behind own xs ys (suc place) rest e =
     at_or_past-append xs ys place ∙ ap (λ n. or_past (at_or_past xs n) ys) (sym same)
 
 -- the counts of a join's nodes, where the place isn't its own
-pub join-counts : (self : Node) (head : JoinNode) (left right : Box Node Global) (own : Counts) (middle : Node) (place rest : ℕ) (found : Result Counts ℕ) → self ≡ view.NestedJoin head left right
+pub join-counts : (self : Node) (head : JoinNode) (left right : Box Node Global) (own : Counts) (middle : Node) (place rest : ℕ) (found : Result Counts ℕ) → self ≡ view.Join head left right
     → own ≡ record { asked = head.tally.asked; gave = head.tally.gave; calls = 0; drawn = 0 } → Err rest ≡ at_or_past (own ∷ []) place → middle ≡ left.value
     → found ≡ at_or_past (counts_in middle) rest → or_past found (counts_in right.value) ≡ at_or_past (counts_in self) place
 join-counts self head left right own middle place rest found is own_is next value found_is =

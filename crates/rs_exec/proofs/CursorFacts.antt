@@ -1,5 +1,5 @@
 -- A cursor over the nodes of its plan.
-use Rattle.std.proofs.Common.{◌≡◌, ℕ, suc, ◌≤◌, ◌||◌, Bool, true, false, inl, [], length, refl, sym, ap, subst, append-nil, arith}
+use Rattle.std.proofs.Common.{◌≡◌, ℕ, suc, ◌≤◌, false, inl, [], length, refl, sym, ap, subst, append-nil, arith}
 use Rattle.std.specs.Prelude.{Option, Ok, Err, nat_lt, option_map, slice_get}
 use Rattle.std.specs.List.{AllByRecursion}
 use Rattle.std.proofs.lemmas.Bool.{ltb-false, or_parts}

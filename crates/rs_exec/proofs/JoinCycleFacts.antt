@@ -1,36 +1,42 @@
 -- One ask of a join: it goes on from one ask of a side to the next, and gives the next row of its list.
-use Rattle.std.proofs.Common.{ℕ, suc, ◌≡◌, ◌∙◌, ◌+◌, ◌-◌, ◌<◌, false, min, Box, Global, length, refl, sym, ap, subst, arith}
+use Rattle.std.proofs.Common.{ℕ, suc, ◌≡◌, ◌∙◌, ◌+◌, ◌-◌, ◌<◌, false, min, Box, Global, length, refl, sym, ap, ap₂, subst, subst₂, arith}
 use Rattle.std.specs.Box.{with_value}
 use Rattle.std.specs.Prelude.{Bool, Option, Some, None, Result, Ok, Err, if◌then◌else◌, is_some}
 use Rattle.rs_order.specs.Schedule.{Left, Right}
-use Rattle.rs_expr.specs.InOrder.{Inquires}
+use Rattle.rs_expr.specs.InOrder.{Inquires, Inquiry}
 use Rattle.rs_expr.specs.Scoring.{ScorerState}
 use Rattle.rs_rank.specs.declared.ask.JoinAsk.TheVariants.{End, NeedLeft, NeedRight, Ready}
 use Rattle.rs_rank.specs.declared.row.RankRow.{RankRow}
 use Rattle.rs_catalog.specs.Catalogue.{Catalogue}
+use Rattle.rs_query.specs.Tables.{HasRows}
 use Rattle.rs_query.specs.WellFormed.{IsBlock}
+use Rattle.rs_rank.specs.Masks.{AreDisjoint}
 use Rattle.rs_query.specs.declared.query.Query.{Query}
 use Rattle.rs_filter.specs.Matching.{joins}
-use Rattle.rs_ripple.specs.Joined.{CanFeedLeft, CanFeedRight, Fits, Joined, end_left, end_right, fed_left, fed_right, rest_for}
-use Rattle.rs_ripple.specs.Ripple.{CanEnd, Ripple, ask_of, taken_for}
+use Rattle.rs_ripple.specs.Joined.{CanFeedLeft, CanFeedRight, Fits, Joined, fed_left, fed_right, rest_for}
+use Rattle.rs_ripple.specs.Ripple.{CanEnd, Ripple, ask_of, left_ended, left_for, right_ended, taken_for}
 use Rattle.rs_plan.specs.Counts.{asked_of, gave_of}
 use Rattle.rs_plan.specs.Lists.{World, block_in, list_of}
 use Rattle.rs_plan.specs.Trees.{NestedJoin, PlanTree, entries}
 use Rattle.rs_exec.specs.Asked.{Asked, CanAsk, JoinAfter, NodeAfter}
 use Rattle.rs_exec.specs.Asking.{next_row, world_of}
+use Rattle.rs_exec.specs.Cores.{HasValues, core_like, core_with, joined_in, tree_with}
 use Rattle.rs_exec.specs.Nodes.{asked_in, number_in, tree_in}
-use Rattle.rs_exec.specs.Standing.{JoinStands, Stands, join_node_after}
+use Rattle.rs_exec.specs.Standing.{JoinStands, Stands, join_node_after, joined_from}
 use Rattle.rs_exec.specs.declared.fault.ExecFault.{ExecFault}
 use Rattle.rs_exec.specs.declared.fault.ExecFault.TheVariants.{Memory}
 use Rattle.rs_exec.specs.declared.join.JoinNode.{JoinNode}
+use Rattle.rs_exec.specs.declared.join_core.JoinCore.{JoinCore}
+use Rattle.rs_exec.specs.declared.join_core.JoinCore.TheVariants.{Hash, Nested}
 use Rattle.rs_exec.specs.declared.node.Node.{Node}
 use Rattle.rs_exec.specs.declared.node.Node.TheVariants as node
 use Rattle.rs_exec.specs.declared.node.Node.TheViews as view
 use Rattle.rs_exec.specs.declared.scan.IndexNode.{IndexNode}
 use Rattle.rs_exec.specs.declared.scan.TableNode.{TableNode}
 use Rattle.rs_exec.specs.declared.tally.Tally.{Tally}
+use Rattle.rs_exec.proofs.CoreFacts.{joined-like, joined-with, like-has, like-joined, like-values, tree-like, tree-with, with-has}
 use Rattle.rs_exec.proofs.CycleFacts.{ask-failed, tally-more}
-use Rattle.rs_exec.proofs.JoinStepFacts.{AskedAll, JoinBetween, between-fits, between-start, end-after, join-parts, left-can, left-ended, left-fault, left-fed, left-feeds, left-less, left-stopped, ready-after, right-can, right-ended, right-fault, right-fed, right-feeds, right-less, right-stopped}
+use Rattle.rs_exec.proofs.JoinStepFacts.{AskedAll, JoinBetween, between-fits, between-start, end-after, join-parts, left-can, left-ended, left-fault, left-fed, left-feeds, left-less, left-rows, left-stopped, ready-after, right-can, right-ended, right-fault, right-fed, right-feeds, right-less, right-rows, right-stopped}
 use Rattle.rs_exec.proofs.StepFacts.{block-formed}
 
 -- a node that stands gives the rows of its block
@@ -38,38 +44,55 @@ pub node-number : (w : World) (number : ℕ) (n : Node) → Stands w number n �
 node-number w number (node.SeqScan head) is = ap (λ (h : TableNode). h.block) is
 node-number w number (node.RankScan head) is = ap (λ (h : IndexNode). h.block) is
 node-number w number (node.Rank' head p child) is = node-number w number child is.1
-node-number w number (node.NestedJoin' head p left q right) is = ap (λ (h : JoinNode). h.block) is.0.keeps
+node-number w number (node.Join' head p left q right) is = ap (λ (h : JoinNode). h.block) is.0.keeps
+node-number w number (node.Distinct' head p child) is = node-number w number child is.1
+
+-- what an ask gives is the same whichever way the join is done
+next_row-with : (w : World) (number : ℕ) (core : JoinCore) (l r : PlanTree) (a : ℕ) → next_row w number (tree_with core l r) a ≡ next_row w number (NestedJoin l r) a
+next_row-with w number (Nested joined) l r a = refl
+next_row-with w number (Hash hashed) l r a = refl
+
+-- the sides of a nested join
+abbrev left_of : PlanTree → PlanTree
+left_of (NestedJoin l r) = l
+left_of tree = tree
+
+abbrev right_of : PlanTree → PlanTree
+right_of (NestedJoin l r) = r
+right_of tree = tree
 
 -- a join and its sides, held apart, as a node
 module _ (w : World) (self : Node) (head after : JoinNode) (left_box right_box : Box Node Global) (left_middle right_middle left right : Node)
     (result : Result (Option RankRow) ExecFault) (old new : ScorerState) where
-  pub join-asked-node : self ≡ view.NestedJoin head left_box right_box → left_middle ≡ left_box.value → right_middle ≡ right_box.value
+  pub join-asked-node : self ≡ view.Join head left_box right_box → left_middle ≡ left_box.value → right_middle ≡ right_box.value
       → Asked w head.block (NestedJoin (tree_in left_middle) (tree_in right_middle)) head.tally.asked
-      (JoinAfter w head.block (NestedJoin (tree_in left_middle) (tree_in right_middle)) head.tally.asked after left right) result old new
+      (JoinAfter w head.block head.core (NestedJoin (tree_in left_middle) (tree_in right_middle)) head.tally.asked after left right) result old new
       → Asked w (number_in self) (tree_in self) (asked_in self)
-      (NodeAfter w (number_in self) (tree_in self) (asked_in self) (view.NestedJoin after (with_value left_box left) (with_value right_box right))) result old new
+      (NodeAfter w (number_in self) (tree_in self) (asked_in self) (view.Join after (with_value left_box left) (with_value right_box right))) result old new
   join-asked-node is left_value right_value asked =
       let first = subst (λ (n : Node). Asked w head.block (NestedJoin (tree_in n) (tree_in right_middle)) head.tally.asked
-      (JoinAfter w head.block (NestedJoin (tree_in n) (tree_in right_middle)) head.tally.asked after left right) result old new) left_value asked in
+      (JoinAfter w head.block head.core (NestedJoin (tree_in n) (tree_in right_middle)) head.tally.asked after left right) result old new) left_value asked in
       let held = subst (λ (n : Node). Asked w head.block (NestedJoin (tree_in left_box.value) (tree_in n)) head.tally.asked
-      (JoinAfter w head.block (NestedJoin (tree_in left_box.value) (tree_in n)) head.tally.asked after left right) result old new) right_value first in
+      (JoinAfter w head.block head.core (NestedJoin (tree_in left_box.value) (tree_in n)) head.tally.asked after left right) result old new) right_value first in
       subst (λ (n : Node). Asked w (number_in n) (tree_in n) (asked_in n)
-      (NodeAfter w (number_in n) (tree_in n) (asked_in n) (view.NestedJoin after (with_value left_box left) (with_value right_box right))) result old new) (sym is)
+      (NodeAfter w (number_in n) (tree_in n) (asked_in n) (view.Join after (with_value left_box left) (with_value right_box right))) result old new) (sym is)
       (record {
-        inquires = held.inquires;
+        inquires = subst (λ (row : Inquiry (Option RankRow) ExecFault). Inquires Memory row result old new)
+            (sym (next_row-with w head.block head.core (tree_in left_box.value) (tree_in right_box.value) head.tally.asked)) held.inquires;
         leaves = λ ok.
             let kept = held.leaves ok in
             record {
               number_is = kept.number_is;
-              tree_is = kept.tree_is;
+              tree_is = kept.kind_is (tree_in left) (tree_in right)
+                  ∙ ap₂ (tree_with head.core) (ap left_of kept.tree_is) (ap right_of kept.tree_is);
               asked_is = kept.asked_is;
               stands = (kept.operator, kept.left_side, kept.right_side);
             };
       })
 
 -- during ask a + 1 of a join, between two asks of its sides: the sides are of this number and these trees, and stand, and the join
--- stands between these asks
-pub record JoinTurn (catalogue : Catalogue) (query : Query) (number : ℕ) (left right : PlanTree) (a : ℕ) (old : ScorerState) (head : JoinNode) (on_left on_right : Node) (now : ScorerState) : Type 0 where
+-- stands between these asks. Its core is of the kind of the first one
+pub record JoinTurn (catalogue : Catalogue) (query : Query) (number : ℕ) (core : JoinCore) (left right : PlanTree) (a : ℕ) (old : ScorerState) (head : JoinNode) (on_left on_right : Node) (now : ScorerState) : Type 0 where
   pub left_tree : tree_in on_left ≡ left
   pub right_tree : tree_in on_right ≡ right
   pub left_stands : Stands (world_of catalogue old.answer query) number on_left
@@ -79,7 +102,9 @@ pub record JoinTurn (catalogue : Catalogue) (query : Query) (number : ℕ) (left
   pub right_is : head.right ≡ entries right
   pub asked_is : head.tally.asked ≡ suc a
   pub gave_is : head.tally.gave ≡ a
-  pub between : JoinBetween (world_of catalogue old.answer query) number left right a (asked_in on_left) (asked_in on_right) head.core old now
+  pub kind_is : (l r : PlanTree) → tree_with head.core l r ≡ tree_with core l r
+  pub values : HasValues catalogue (block_in query number) (entries left) (entries right) head.core
+  pub between : JoinBetween (world_of catalogue old.answer query) number left right a (asked_in on_left) (asked_in on_right) (joined_in head.core) old now
 
 -- at its start
 pub turn-start : (catalogue : Catalogue) (query : Query) (head : JoinNode) (on_left on_right : Node) (old : ScorerState)
@@ -87,13 +112,18 @@ pub turn-start : (catalogue : Catalogue) (query : Query) (head : JoinNode) (on_l
     → JoinStands (world_of catalogue old.answer query) head.block head (tree_in on_left) (tree_in on_right) (asked_in on_left) (asked_in on_right)
     → Stands (world_of catalogue old.answer query) head.block on_left → Stands (world_of catalogue old.answer query) head.block on_right
     → (tally : Tally) → tally ≡ record head.tally { asked = head.tally.asked + 1 }
-    → JoinTurn catalogue query head.block (tree_in on_left) (tree_in on_right) head.tally.asked old (record head { tally = tally }) on_left on_right old
+    → JoinTurn catalogue query head.block head.core (tree_in on_left) (tree_in on_right) head.tally.asked old (record head { tally = tally }) on_left on_right old
 turn-start catalogue query head on_left on_right old can stands left right tally asks =
     let w = world_of catalogue old.answer query in
     let tree = NestedJoin (tree_in on_left) (tree_in on_right) in
     let more = can.more in
     let all : min head.tally.asked (length (list_of w head.block tree)) ≡ head.tally.asked = omega arith in
     let one : head.tally.asked + 1 ≡ suc head.tally.asked = omega arith in
+    let b = block_in query head.block in
+    let l = entries (tree_in on_left) in
+    let r = entries (tree_in on_right) in
+    let kept = joined_from w head.block (tree_in on_left) (tree_in on_right) (asked_of w head.block tree head.tally.asked Left) (asked_of w head.block tree head.tally.asked Right) (gave_of w head.block tree head.tally.asked) in
+    let core : head.core ≡ core_like head.core catalogue b l r kept = ap (λ (n : JoinNode). n.core) stands.keeps in
     record {
       left_tree = refl;
       right_tree = refl;
@@ -104,13 +134,15 @@ turn-start catalogue query head on_left on_right old can stands left right tally
       right_is = ap (λ (n : JoinNode). n.right) stands.keeps;
       asked_is = ap (λ (t : Tally). t.asked) asks ∙ one;
       gave_is = ap (λ (t : Tally). t.gave) asks ∙ ap (λ (n : JoinNode). n.tally.gave) stands.keeps ∙ all;
+      kind_is = λ l r. refl;
+      values = like-values catalogue b l r head.core kept core;
       between = between-start w head.block (tree_in on_left) (tree_in on_right)
-          (join-parts catalogue query head.block (tree_in on_left) (tree_in on_right) head.tally.asked old can) head.tally.asked (asked_in on_left) (asked_in on_right) head.core old more
-          (ap (λ (n : JoinNode). n.core) stands.keeps) stands.left_asked stands.right_asked;
+          (join-parts catalogue query head.block (tree_in on_left) (tree_in on_right) head.tally.asked old can) head.tally.asked (asked_in on_left) (asked_in on_right) (joined_in head.core) old more
+          (like-joined catalogue b l r head.core kept core) stands.left_asked stands.right_asked;
     }
 
-module _ {catalogue : Catalogue} {query : Query} {number : ℕ} {left right : PlanTree} {a : ℕ} {old : ScorerState} {head : JoinNode} {on_left on_right : Node} {now : ScorerState}
-    (turn : JoinTurn catalogue query number left right a old head on_left on_right now) (can : CanAsk catalogue old.answer query number (NestedJoin left right) a) where
+module _ {catalogue : Catalogue} {query : Query} {number : ℕ} {core : JoinCore} {left right : PlanTree} {a : ℕ} {old : ScorerState} {head : JoinNode} {on_left on_right : Node} {now : ScorerState}
+    (turn : JoinTurn catalogue query number core left right a old head on_left on_right now) (can : CanAsk catalogue old.answer query number (NestedJoin left right) a) where
   abbrev whole : World
   whole = world_of catalogue old.answer query
 
@@ -124,21 +156,28 @@ module _ {catalogue : Catalogue} {query : Query} {number : ℕ} {left right : Pl
   pub turn-block : IsBlock catalogue (block_in query head.block)
   turn-block = block-formed catalogue query head.block can.formed
 
-  pub turn-fits : Fits (joins catalogue (block_in query head.block) head.left head.right) head.core
+  pub turn-fits : Fits (joins catalogue (block_in query head.block) head.left head.right) (joined_in head.core)
   turn-fits =
-      subst (λ (matches : RankRow → RankRow → Bool). Fits matches head.core) (sym matches-is)
-      (between-fits catalogue query number left right a old can (asked_in on_left) (asked_in on_right) head.core now turn.between)
+      subst (λ (matches : RankRow → RankRow → Bool). Fits matches (joined_in head.core)) (sym matches-is)
+      (between-fits catalogue query number left right a old can (asked_in on_left) (asked_in on_right) (joined_in head.core) now turn.between)
 
-  pub turn-alive : head.core.ripple.spent ≡ false
+  pub turn-apart : AreDisjoint head.left head.right
+  turn-apart = subst₂ AreDisjoint (sym turn.left_is) (sym turn.right_is) can.part.2.apart
+
+  pub turn-values : HasValues catalogue (block_in query head.block) head.left head.right head.core
+  turn-values = subst₂ (λ l r. HasValues catalogue (block_in query head.block) l r head.core) (sym turn.left_is) (sym turn.right_is)
+      (subst (λ b. HasValues catalogue (block_in query b) (entries left) (entries right) head.core) (sym turn.block_is) turn.values)
+
+  pub turn-alive : (joined_in head.core).ripple.spent ≡ false
   turn-alive = ap (λ (r : Ripple). r.spent) turn.between.keeps.core.state
 
   -- the left side is asked once more
-  module _ (need : ask_of head.core.ripple ≡ NeedLeft) where
+  module _ (need : ask_of (joined_in head.core).ripple ≡ NeedLeft) where
     pub turn-left_can : CanAsk catalogue now.answer query (number_in on_left) (tree_in on_left) (asked_in on_left)
     turn-left_can =
         subst (λ n. CanAsk catalogue now.answer query n (tree_in on_left) (asked_in on_left)) (sym (node-number whole number on_left turn.left_stands))
         (subst (λ t. CanAsk catalogue now.answer query number t (asked_in on_left)) (sym turn.left_tree)
-        (left-can catalogue query number left right a old can (asked_in on_left) (asked_in on_right) head.core now turn.between need))
+        (left-can catalogue query number left right a old can (asked_in on_left) (asked_in on_right) (joined_in head.core) now turn.between need))
 
     pub turn-left_stands : Stands (world_of catalogue now.answer query) (number_in on_left) on_left
     turn-left_stands =
@@ -158,7 +197,7 @@ module _ {catalogue : Catalogue} {query : Query} {number : ℕ} {left right : Pl
         → Asked (world_of catalogue old.answer query) number (NestedJoin left right) a After result old asked
     turn-left_failed After fault result asked is below =
         ask-failed whole number (NestedJoin left right) a After result fault old asked is
-        (left-fault catalogue query number left right a old can (asked_in on_left) (asked_in on_right) head.core now turn.between need fault asked (left-same (Err fault) asked below))
+        (left-fault catalogue query number left right a old can (asked_in on_left) (asked_in on_right) (joined_in head.core) now turn.between need fault asked (left-same (Err fault) asked below))
 
     module _ (next : Node) (after : NodeAfter (world_of catalogue now.answer query) (number_in on_left) (tree_in on_left) (asked_in on_left) next) where
       -- fewer asks are left
@@ -167,14 +206,15 @@ module _ {catalogue : Catalogue} {query : Query} {number : ℕ} {left right : Pl
           < (asked_of (world_of catalogue old.answer query) number (NestedJoin left right) (suc a) Left - asked_in on_left)
           + (asked_of (world_of catalogue old.answer query) number (NestedJoin left right) (suc a) Right - asked_in on_right)
       turn-left_nearer =
-          let less = left-less catalogue query number left right a old can (asked_in on_left) (asked_in on_right) head.core now turn.between need in
+          let less = left-less catalogue query number left right a old can (asked_in on_left) (asked_in on_right) (joined_in head.core) now turn.between need in
           let is = after.asked_is in
           omega arith
 
-      left-turn : (core : Joined) (fed : JoinNode) (new : ScorerState) → fed ≡ record head { core = core }
-          → JoinBetween (world_of catalogue old.answer query) number left right a (suc (asked_in on_left)) (asked_in on_right) core old new
-          → JoinTurn catalogue query number left right a old fed next on_right new
-      left-turn core fed new is between = record {
+      left-turn : (now_core : JoinCore) (fed : JoinNode) (new : ScorerState) → fed ≡ record head { core = now_core }
+          → HasValues catalogue (block_in query number) (entries left) (entries right) now_core → ((l r : PlanTree) → tree_with now_core l r ≡ tree_with head.core l r)
+          → JoinBetween (world_of catalogue old.answer query) number left right a (suc (asked_in on_left)) (asked_in on_right) (joined_in now_core) old new
+          → JoinTurn catalogue query number core left right a old fed next on_right new
+      left-turn now_core fed new is has kind between = record {
         left_tree = after.tree_is ∙ turn.left_tree;
         right_tree = turn.right_tree;
         left_stands = subst (λ n. Stands whole n next) (after.number_is ∙ node-number whole number on_left turn.left_stands)
@@ -186,8 +226,10 @@ module _ {catalogue : Catalogue} {query : Query} {number : ℕ} {left right : Pl
         right_is = ap (λ (n : JoinNode). n.right) is ∙ turn.right_is;
         asked_is = ap (λ (n : JoinNode). n.tally.asked) is ∙ turn.asked_is;
         gave_is = ap (λ (n : JoinNode). n.tally.gave) is ∙ turn.gave_is;
-        between = subst (λ (d : Joined). JoinBetween whole number left right a (asked_in next) (asked_in on_right) d old new) (sym (ap (λ (n : JoinNode). n.core) is))
-            (subst (λ asks. JoinBetween whole number left right a asks (asked_in on_right) core old new) (sym after.asked_is) between);
+        kind_is = λ l r. ap (λ (n : JoinNode). tree_with n.core l r) is ∙ kind l r ∙ turn.kind_is l r;
+        values = subst (λ (n : JoinNode). HasValues catalogue (block_in query number) (entries left) (entries right) n.core) (sym is) has;
+        between = subst (λ (n : JoinNode). JoinBetween whole number left right a (asked_in next) (asked_in on_right) (joined_in n.core) old new) (sym is)
+            (subst (λ asks. JoinBetween whole number left right a asks (asked_in on_right) (joined_in now_core) old new) (sym after.asked_is) between);
       }
 
     module _ (row : RankRow) (got : Option RankRow) (is_row : got ≡ Some row) (asked : ScorerState)
@@ -196,47 +238,65 @@ module _ {catalogue : Catalogue} {query : Query} {number : ℕ} {left right : Pl
       left-below = left-same (Ok (Some row)) asked
           (subst (λ (r : Option RankRow). Inquires Memory (next_row (world_of catalogue now.answer query) (number_in on_left) (tree_in on_left) (asked_in on_left)) (Ok r) now asked) is_row answered)
 
-      pub turn-left_feeds : CanFeedLeft row head.core
-      turn-left_feeds = left-feeds catalogue query number left right a old can (asked_in on_left) (asked_in on_right) head.core now turn.between need asked row left-below
+      pub turn-left_feeds : CanFeedLeft row (joined_in head.core)
+      turn-left_feeds = left-feeds catalogue query number left right a old can (asked_in on_left) (asked_in on_right) (joined_in head.core) now turn.between need asked row left-below
+
+      pub turn-left_rows : HasRows catalogue (block_in query head.block) head.left row.ids.rows
+      turn-left_rows =
+          subst₂ (λ b m. HasRows catalogue (block_in query b) m row.ids.rows) (sym turn.block_is) (sym turn.left_is)
+          (left-rows catalogue query number left right a old can (asked_in on_left) (asked_in on_right) (joined_in head.core) now turn.between need asked row left-below)
 
       -- the row is taken
       pub turn-left_fed : (fed : JoinNode) (next : Node)
-          → fed ≡ record head { core = fed_left (joins catalogue (block_in query head.block) head.left head.right) row head.core }
+          → fed ≡ record head { core = core_like head.core catalogue (block_in query head.block) head.left head.right (fed_left (joins catalogue (block_in query head.block) head.left head.right) row (joined_in head.core)) }
           → NodeAfter (world_of catalogue now.answer query) (number_in on_left) (tree_in on_left) (asked_in on_left) next
-          → JoinTurn catalogue query number left right a old fed next on_right asked
+          → JoinTurn catalogue query number core left right a old fed next on_right asked
       turn-left_fed fed next is after =
-          left-turn next after (fed_left (joins catalogue (block_in query number) (entries left) (entries right)) row head.core) fed asked
-          (is ∙ ap (λ (matches : RankRow → RankRow → Bool). record head { core = fed_left matches row head.core }) matches-is)
-          (left-fed catalogue query number left right a old can (asked_in on_left) (asked_in on_right) head.core now turn.between need asked row left-below)
+          let b = block_in query number in
+          let taken = fed_left (joins catalogue b (entries left) (entries right)) row (joined_in head.core) in
+          left-turn next after (core_like head.core catalogue b (entries left) (entries right) taken) fed asked
+          (is ∙ (λ i. record head {
+            core = core_like head.core catalogue (block_in query (turn.block_is i)) (turn.left_is i) (turn.right_is i)
+                (fed_left (joins catalogue (block_in query (turn.block_is i)) (turn.left_is i) (turn.right_is i)) row (joined_in head.core));
+          }))
+          (like-has catalogue b (entries left) (entries right) head.core taken)
+          (tree-like catalogue b (entries left) (entries right) head.core taken)
+          (subst (λ (d : Joined). JoinBetween whole number left right a (suc (asked_in on_left)) (asked_in on_right) d old asked)
+          (sym (joined-like catalogue b (entries left) (entries right) head.core taken))
+          (left-fed catalogue query number left right a old can (asked_in on_left) (asked_in on_right) (joined_in head.core) now turn.between need asked row left-below))
 
       -- there was no memory for it
       pub turn-left_stopped : (After : Type 0) (result : Result (Option RankRow) ExecFault) → result ≡ Err Memory
           → Asked (world_of catalogue old.answer query) number (NestedJoin left right) a After result old asked
       turn-left_stopped After result is =
           ask-failed whole number (NestedJoin left right) a After result Memory old asked is
-          (left-stopped catalogue query number left right a old can (asked_in on_left) (asked_in on_right) head.core now turn.between need (Some row) asked left-below)
+          (left-stopped catalogue query number left right a old can (asked_in on_left) (asked_in on_right) (joined_in head.core) now turn.between need (Some row) asked left-below)
 
     -- its end is told
-    pub turn-left_ends : CanEnd NeedLeft head.core.ripple
+    pub turn-left_ends : CanEnd NeedLeft (joined_in head.core).ripple
     turn-left_ends = record { alive = turn-alive; need = need }
 
-    pub turn-left_ended : (got : Option RankRow) → got ≡ None → (asked : ScorerState) (fed : JoinNode) (next : Node) → fed ≡ record head { core = end_left head.core }
+    pub turn-left_ended : (got : Option RankRow) → got ≡ None → (asked : ScorerState) (fed : JoinNode) (next : Node) → fed ≡ record head { core = core_with head.core (left_ended (joined_in head.core).ripple) }
         → Inquires Memory (next_row (world_of catalogue now.answer query) (number_in on_left) (tree_in on_left) (asked_in on_left)) (Ok got) now asked
         → NodeAfter (world_of catalogue now.answer query) (number_in on_left) (tree_in on_left) (asked_in on_left) next
-        → JoinTurn catalogue query number left right a old fed next on_right asked
+        → JoinTurn catalogue query number core left right a old fed next on_right asked
     turn-left_ended got none asked fed next is below after =
-        left-turn next after (end_left head.core) fed asked is
-        (left-ended catalogue query number left right a old can (asked_in on_left) (asked_in on_right) head.core now turn.between need asked
+        let ripple = left_ended (joined_in head.core).ripple in
+        left-turn next after (core_with head.core ripple) fed asked is
+        (with-has catalogue (block_in query number) (entries left) (entries right) head.core ripple turn.values)
+        (tree-with head.core ripple)
+        (subst (λ (d : Joined). JoinBetween whole number left right a (suc (asked_in on_left)) (asked_in on_right) d old asked) (sym (joined-with head.core ripple))
+        (left-ended catalogue query number left right a old can (asked_in on_left) (asked_in on_right) (joined_in head.core) now turn.between need asked
         (left-same (Ok None) asked
-        (subst (λ (r : Option RankRow). Inquires Memory (next_row (world_of catalogue now.answer query) (number_in on_left) (tree_in on_left) (asked_in on_left)) (Ok r) now asked) none below)))
+        (subst (λ (r : Option RankRow). Inquires Memory (next_row (world_of catalogue now.answer query) (number_in on_left) (tree_in on_left) (asked_in on_left)) (Ok r) now asked) none below))))
 
   -- the right side is asked once more
-  module _ (need : ask_of head.core.ripple ≡ NeedRight) where
+  module _ (need : ask_of (joined_in head.core).ripple ≡ NeedRight) where
     pub turn-right_can : CanAsk catalogue now.answer query (number_in on_right) (tree_in on_right) (asked_in on_right)
     turn-right_can =
         subst (λ n. CanAsk catalogue now.answer query n (tree_in on_right) (asked_in on_right)) (sym (node-number whole number on_right turn.right_stands))
         (subst (λ t. CanAsk catalogue now.answer query number t (asked_in on_right)) (sym turn.right_tree)
-        (right-can catalogue query number left right a old can (asked_in on_left) (asked_in on_right) head.core now turn.between need))
+        (right-can catalogue query number left right a old can (asked_in on_left) (asked_in on_right) (joined_in head.core) now turn.between need))
 
     pub turn-right_stands : Stands (world_of catalogue now.answer query) (number_in on_right) on_right
     turn-right_stands =
@@ -256,7 +316,7 @@ module _ {catalogue : Catalogue} {query : Query} {number : ℕ} {left right : Pl
         → Asked (world_of catalogue old.answer query) number (NestedJoin left right) a After result old asked
     turn-right_failed After fault result asked is below =
         ask-failed whole number (NestedJoin left right) a After result fault old asked is
-        (right-fault catalogue query number left right a old can (asked_in on_left) (asked_in on_right) head.core now turn.between need fault asked (right-same (Err fault) asked below))
+        (right-fault catalogue query number left right a old can (asked_in on_left) (asked_in on_right) (joined_in head.core) now turn.between need fault asked (right-same (Err fault) asked below))
 
     module _ (next : Node) (after : NodeAfter (world_of catalogue now.answer query) (number_in on_right) (tree_in on_right) (asked_in on_right) next) where
       -- fewer asks are left
@@ -265,14 +325,15 @@ module _ {catalogue : Catalogue} {query : Query} {number : ℕ} {left right : Pl
           < (asked_of (world_of catalogue old.answer query) number (NestedJoin left right) (suc a) Left - asked_in on_left)
           + (asked_of (world_of catalogue old.answer query) number (NestedJoin left right) (suc a) Right - asked_in on_right)
       turn-right_nearer =
-          let less = right-less catalogue query number left right a old can (asked_in on_left) (asked_in on_right) head.core now turn.between need in
+          let less = right-less catalogue query number left right a old can (asked_in on_left) (asked_in on_right) (joined_in head.core) now turn.between need in
           let is = after.asked_is in
           omega arith
 
-      right-turn : (core : Joined) (fed : JoinNode) (new : ScorerState) → fed ≡ record head { core = core }
-          → JoinBetween (world_of catalogue old.answer query) number left right a (asked_in on_left) (suc (asked_in on_right)) core old new
-          → JoinTurn catalogue query number left right a old fed on_left next new
-      right-turn core fed new is between = record {
+      right-turn : (now_core : JoinCore) (fed : JoinNode) (new : ScorerState) → fed ≡ record head { core = now_core }
+          → HasValues catalogue (block_in query number) (entries left) (entries right) now_core → ((l r : PlanTree) → tree_with now_core l r ≡ tree_with head.core l r)
+          → JoinBetween (world_of catalogue old.answer query) number left right a (asked_in on_left) (suc (asked_in on_right)) (joined_in now_core) old new
+          → JoinTurn catalogue query number core left right a old fed on_left next new
+      right-turn now_core fed new is has kind between = record {
         right_tree = after.tree_is ∙ turn.right_tree;
         left_tree = turn.left_tree;
         right_stands = subst (λ n. Stands whole n next) (after.number_is ∙ node-number whole number on_right turn.right_stands)
@@ -284,8 +345,10 @@ module _ {catalogue : Catalogue} {query : Query} {number : ℕ} {left right : Pl
         right_is = ap (λ (n : JoinNode). n.right) is ∙ turn.right_is;
         asked_is = ap (λ (n : JoinNode). n.tally.asked) is ∙ turn.asked_is;
         gave_is = ap (λ (n : JoinNode). n.tally.gave) is ∙ turn.gave_is;
-        between = subst (λ (d : Joined). JoinBetween whole number left right a (asked_in on_left) (asked_in next) d old new) (sym (ap (λ (n : JoinNode). n.core) is))
-            (subst (λ asks. JoinBetween whole number left right a (asked_in on_left) asks core old new) (sym after.asked_is) between);
+        kind_is = λ l r. ap (λ (n : JoinNode). tree_with n.core l r) is ∙ kind l r ∙ turn.kind_is l r;
+        values = subst (λ (n : JoinNode). HasValues catalogue (block_in query number) (entries left) (entries right) n.core) (sym is) has;
+        between = subst (λ (n : JoinNode). JoinBetween whole number left right a (asked_in on_left) (asked_in next) (joined_in n.core) old new) (sym is)
+            (subst (λ asks. JoinBetween whole number left right a (asked_in on_left) asks (joined_in now_core) old new) (sym after.asked_is) between);
       }
 
     module _ (row : RankRow) (got : Option RankRow) (is_row : got ≡ Some row) (asked : ScorerState)
@@ -294,69 +357,89 @@ module _ {catalogue : Catalogue} {query : Query} {number : ℕ} {left right : Pl
       right-below = right-same (Ok (Some row)) asked
           (subst (λ (r : Option RankRow). Inquires Memory (next_row (world_of catalogue now.answer query) (number_in on_right) (tree_in on_right) (asked_in on_right)) (Ok r) now asked) is_row answered)
 
-      pub turn-right_feeds : CanFeedRight row head.core
-      turn-right_feeds = right-feeds catalogue query number left right a old can (asked_in on_left) (asked_in on_right) head.core now turn.between need asked row right-below
+      pub turn-right_feeds : CanFeedRight row (joined_in head.core)
+      turn-right_feeds = right-feeds catalogue query number left right a old can (asked_in on_left) (asked_in on_right) (joined_in head.core) now turn.between need asked row right-below
+
+      pub turn-right_rows : HasRows catalogue (block_in query head.block) head.right row.ids.rows
+      turn-right_rows =
+          subst₂ (λ b m. HasRows catalogue (block_in query b) m row.ids.rows) (sym turn.block_is) (sym turn.right_is)
+          (right-rows catalogue query number left right a old can (asked_in on_left) (asked_in on_right) (joined_in head.core) now turn.between need asked row right-below)
 
       -- the row is taken
       pub turn-right_fed : (fed : JoinNode) (next : Node)
-          → fed ≡ record head { core = fed_right (joins catalogue (block_in query head.block) head.left head.right) row head.core }
+          → fed ≡ record head { core = core_like head.core catalogue (block_in query head.block) head.left head.right (fed_right (joins catalogue (block_in query head.block) head.left head.right) row (joined_in head.core)) }
           → NodeAfter (world_of catalogue now.answer query) (number_in on_right) (tree_in on_right) (asked_in on_right) next
-          → JoinTurn catalogue query number left right a old fed on_left next asked
+          → JoinTurn catalogue query number core left right a old fed on_left next asked
       turn-right_fed fed next is after =
-          right-turn next after (fed_right (joins catalogue (block_in query number) (entries left) (entries right)) row head.core) fed asked
-          (is ∙ ap (λ (matches : RankRow → RankRow → Bool). record head { core = fed_right matches row head.core }) matches-is)
-          (right-fed catalogue query number left right a old can (asked_in on_left) (asked_in on_right) head.core now turn.between need asked row right-below)
+          let b = block_in query number in
+          let taken = fed_right (joins catalogue b (entries left) (entries right)) row (joined_in head.core) in
+          right-turn next after (core_like head.core catalogue b (entries left) (entries right) taken) fed asked
+          (is ∙ (λ i. record head {
+            core = core_like head.core catalogue (block_in query (turn.block_is i)) (turn.left_is i) (turn.right_is i)
+                (fed_right (joins catalogue (block_in query (turn.block_is i)) (turn.left_is i) (turn.right_is i)) row (joined_in head.core));
+          }))
+          (like-has catalogue b (entries left) (entries right) head.core taken)
+          (tree-like catalogue b (entries left) (entries right) head.core taken)
+          (subst (λ (d : Joined). JoinBetween whole number left right a (asked_in on_left) (suc (asked_in on_right)) d old asked)
+          (sym (joined-like catalogue b (entries left) (entries right) head.core taken))
+          (right-fed catalogue query number left right a old can (asked_in on_left) (asked_in on_right) (joined_in head.core) now turn.between need asked row right-below))
 
       -- there was no memory for it
       pub turn-right_stopped : (After : Type 0) (result : Result (Option RankRow) ExecFault) → result ≡ Err Memory
           → Asked (world_of catalogue old.answer query) number (NestedJoin left right) a After result old asked
       turn-right_stopped After result is =
           ask-failed whole number (NestedJoin left right) a After result Memory old asked is
-          (right-stopped catalogue query number left right a old can (asked_in on_left) (asked_in on_right) head.core now turn.between need (Some row) asked right-below)
+          (right-stopped catalogue query number left right a old can (asked_in on_left) (asked_in on_right) (joined_in head.core) now turn.between need (Some row) asked right-below)
 
     -- its end is told
-    pub turn-right_ends : CanEnd NeedRight head.core.ripple
+    pub turn-right_ends : CanEnd NeedRight (joined_in head.core).ripple
     turn-right_ends = record { alive = turn-alive; need = need }
 
-    pub turn-right_ended : (got : Option RankRow) → got ≡ None → (asked : ScorerState) (fed : JoinNode) (next : Node) → fed ≡ record head { core = end_right head.core }
+    pub turn-right_ended : (got : Option RankRow) → got ≡ None → (asked : ScorerState) (fed : JoinNode) (next : Node) → fed ≡ record head { core = core_with head.core (right_ended (joined_in head.core).ripple) }
         → Inquires Memory (next_row (world_of catalogue now.answer query) (number_in on_right) (tree_in on_right) (asked_in on_right)) (Ok got) now asked
         → NodeAfter (world_of catalogue now.answer query) (number_in on_right) (tree_in on_right) (asked_in on_right) next
-        → JoinTurn catalogue query number left right a old fed on_left next asked
+        → JoinTurn catalogue query number core left right a old fed on_left next asked
     turn-right_ended got none asked fed next is below after =
-        right-turn next after (end_right head.core) fed asked is
-        (right-ended catalogue query number left right a old can (asked_in on_left) (asked_in on_right) head.core now turn.between need asked
+        let ripple = right_ended (joined_in head.core).ripple in
+        right-turn next after (core_with head.core ripple) fed asked is
+        (with-has catalogue (block_in query number) (entries left) (entries right) head.core ripple turn.values)
+        (tree-with head.core ripple)
+        (subst (λ (d : Joined). JoinBetween whole number left right a (asked_in on_left) (suc (asked_in on_right)) d old asked) (sym (joined-with head.core ripple))
+        (right-ended catalogue query number left right a old can (asked_in on_left) (asked_in on_right) (joined_in head.core) now turn.between need asked
         (right-same (Ok None) asked
-        (subst (λ (r : Option RankRow). Inquires Memory (next_row (world_of catalogue now.answer query) (number_in on_right) (tree_in on_right) (asked_in on_right)) (Ok r) now asked) none below)))
+        (subst (λ (r : Option RankRow). Inquires Memory (next_row (world_of catalogue now.answer query) (number_in on_right) (tree_in on_right) (asked_in on_right)) (Ok r) now asked) none below))))
 
   -- what is left once a row was given, or none was there
-  after-is : (after : JoinNode) (core : Joined) (row : Option RankRow)
-      → AskedAll (world_of catalogue old.answer query) number left right a (asked_in on_left) (asked_in on_right) row core old now
-      → after.core ≡ core → after.block ≡ head.block → after.left ≡ head.left → after.right ≡ head.right → after.tally.asked ≡ head.tally.asked
+  after-is : (after : JoinNode) (joined : Joined) (row : Option RankRow)
+      → AskedAll (world_of catalogue old.answer query) number left right a (asked_in on_left) (asked_in on_right) row joined old now
+      → joined_in after.core ≡ joined → HasValues catalogue (block_in query number) (entries left) (entries right) after.core
+      → ((l r : PlanTree) → tree_with after.core l r ≡ tree_with head.core l r) → after.block ≡ head.block → after.left ≡ head.left → after.right ≡ head.right → after.tally.asked ≡ head.tally.asked
       → after.tally.gave ≡ gave_of (world_of catalogue old.answer query) number (NestedJoin left right) (suc a)
       → Asked (world_of catalogue old.answer query) number (NestedJoin left right) a
-      (JoinAfter (world_of catalogue old.answer query) number (NestedJoin left right) a after on_left on_right) (Ok row) old now
-  after-is after core row all core_is block_is left_is right_is asked_is gave_is =
+      (JoinAfter (world_of catalogue old.answer query) number core (NestedJoin left right) a after on_left on_right) (Ok row) old now
+  after-is after joined row all joined_is has kind block_is left_is right_is asked_is gave_is =
       let is_asked : after.tally.asked ≡ suc a = asked_is ∙ turn.asked_is in
-      let gave = gave_of whole number (NestedJoin left right) (suc a) in
-      let node : Joined → ℕ → ℕ → ℕ → ℕ → ℕ → JoinNode = λ d b l r asked given. record { core = d; block = b; left = l; right = r; tally = record { asked = asked; gave = given } } in
-      let keeps : after ≡ join_node_after whole number left right (suc a) =
-      ap (λ (d : Joined). node d after.block after.left after.right after.tally.asked after.tally.gave) (core_is ∙ all.keeps)
-      ∙ ap (λ b. node (join_node_after whole number left right (suc a)).core b after.left after.right after.tally.asked after.tally.gave) (block_is ∙ turn.block_is)
-      ∙ ap (λ l. node (join_node_after whole number left right (suc a)).core number l after.right after.tally.asked after.tally.gave) (left_is ∙ turn.left_is)
-      ∙ ap (λ r. node (join_node_after whole number left right (suc a)).core number (entries left) r after.tally.asked after.tally.gave) (right_is ∙ turn.right_is)
-      ∙ ap (λ n. node (join_node_after whole number left right (suc a)).core number (entries left) (entries right) n after.tally.gave) is_asked
-      ∙ ap (λ n. node (join_node_after whole number left right (suc a)).core number (entries left) (entries right) (suc a) n) gave_is in
+      let like = core_like after.core catalogue (block_in query number) (entries left) (entries right) in
+      let keeps : after ≡ join_node_after whole number after.core left right (suc a) =
+      λ i. record {
+        core = (has ∙ ap like (joined_is ∙ all.keeps)) i;
+        block = (block_is ∙ turn.block_is) i;
+        left = (left_is ∙ turn.left_is) i;
+        right = (right_is ∙ turn.right_is) i;
+        tally = record { asked = is_asked i; gave = gave_is i };
+      } in
       record {
         inquires = all.inquires;
         leaves = λ ok. record {
           number_is = block_is ∙ turn.block_is;
+          kind_is = λ l r. kind l r ∙ turn.kind_is l r;
           tree_is = ap (λ t. NestedJoin t (tree_in on_right)) turn.left_tree ∙ ap (NestedJoin left) turn.right_tree;
           asked_is = is_asked;
           operator =
               subst (λ t. JoinStands whole number after t (tree_in on_right) (asked_in on_left) (asked_in on_right)) (sym turn.left_tree)
               (subst (λ t. JoinStands whole number after left t (asked_in on_left) (asked_in on_right)) (sym turn.right_tree)
               (record {
-                keeps = subst (λ n. after ≡ join_node_after whole number left right n) (sym is_asked) keeps;
+                keeps = subst (λ n. after ≡ join_node_after whole number after.core left right n) (sym is_asked) keeps;
                 left_asked = subst (λ n. asked_in on_left ≡ asked_of whole number (NestedJoin left right) n Left) (sym is_asked) all.left_all;
                 right_asked = subst (λ n. asked_in on_right ≡ asked_of whole number (NestedJoin left right) n Right) (sym is_asked) all.right_all;
               }));
@@ -369,16 +452,21 @@ module _ {catalogue : Catalogue} {query : Query} {number : ℕ} {left right : Pl
   most-given = let more = can.more in omega arith
 
   -- the join gives
-  pub turn-given : ask_of head.core.ripple ≡ Ready → (after : JoinNode) (row : Option RankRow) → row ≡ taken_for (ask_of head.core.ripple) head.core.ripple
-      → after ≡ record head { core = rest_for (ask_of head.core.ripple) head.core; tally = record head.tally { gave = if is_some row then head.tally.gave + 1 else head.tally.gave } }
+  pub turn-given : ask_of (joined_in head.core).ripple ≡ Ready → (after : JoinNode) (row : Option RankRow) → row ≡ taken_for (ask_of (joined_in head.core).ripple) (joined_in head.core).ripple
+      → after ≡ record head { core = core_with head.core (left_for (ask_of (joined_in head.core).ripple) (joined_in head.core).ripple); tally = record head.tally { gave = if is_some row then head.tally.gave + 1 else head.tally.gave } }
       → Asked (world_of catalogue old.answer query) number (NestedJoin left right) a
-      (JoinAfter (world_of catalogue old.answer query) number (NestedJoin left right) a after on_left on_right) (Ok row) old now
+      (JoinAfter (world_of catalogue old.answer query) number core (NestedJoin left right) a after on_left on_right) (Ok row) old now
   turn-given ready after row is_row is =
+      let ripple = left_for (ask_of (joined_in head.core).ripple) (joined_in head.core).ripple in
       let rows = list_of whole number (NestedJoin left right) in
-      let all = subst (λ (r : Option RankRow). AskedAll whole number left right a (asked_in on_left) (asked_in on_right) r (rest_for (ask_of head.core.ripple) head.core) old now) (sym is_row)
-      (ready-after catalogue query number left right a old can (asked_in on_left) (asked_in on_right) head.core now turn.between ready) in
-      after-is after (rest_for (ask_of head.core.ripple) head.core) row all
-      (ap (λ (n : JoinNode). n.core) is) (ap (λ (n : JoinNode). n.block) is) (ap (λ (n : JoinNode). n.left) is) (ap (λ (n : JoinNode). n.right) is)
+      let all = subst (λ (r : Option RankRow). AskedAll whole number left right a (asked_in on_left) (asked_in on_right) r (rest_for (ask_of (joined_in head.core).ripple) (joined_in head.core)) old now) (sym is_row)
+      (ready-after catalogue query number left right a old can (asked_in on_left) (asked_in on_right) (joined_in head.core) now turn.between ready) in
+      after-is after (rest_for (ask_of (joined_in head.core).ripple) (joined_in head.core)) row all
+      (ap (λ (n : JoinNode). joined_in n.core) is ∙ joined-with head.core ripple)
+      (subst (λ (n : JoinNode). HasValues catalogue (block_in query number) (entries left) (entries right) n.core) (sym is)
+      (with-has catalogue (block_in query number) (entries left) (entries right) head.core ripple turn.values))
+      (λ l r. ap (λ (n : JoinNode). tree_with n.core l r) is ∙ tree-with head.core ripple l r)
+      (ap (λ (n : JoinNode). n.block) is) (ap (λ (n : JoinNode). n.left) is) (ap (λ (n : JoinNode). n.right) is)
       (ap (λ (n : JoinNode). n.tally.asked) is)
       (ap (λ (n : JoinNode). n.tally.gave) is
       ∙ ap (λ (n : ℕ). if is_some row then n + 1 else n) (turn.gave_is ∙ sym most-given)
@@ -386,13 +474,13 @@ module _ {catalogue : Catalogue} {query : Query} {number : ℕ} {left right : Pl
       ∙ tally-more rows a)
 
   -- or it has ended
-  pub turn-over : ask_of head.core.ripple ≡ End
+  pub turn-over : ask_of (joined_in head.core).ripple ≡ End
       → Asked (world_of catalogue old.answer query) number (NestedJoin left right) a
-      (JoinAfter (world_of catalogue old.answer query) number (NestedJoin left right) a head on_left on_right) (Ok None) old now
+      (JoinAfter (world_of catalogue old.answer query) number core (NestedJoin left right) a head on_left on_right) (Ok None) old now
   turn-over end =
       let rows = list_of whole number (NestedJoin left right) in
-      let all = end-after catalogue query number left right a old can (asked_in on_left) (asked_in on_right) head.core now turn.between end in
-      after-is head head.core None all refl refl refl refl refl
+      let all = end-after catalogue query number left right a old can (asked_in on_left) (asked_in on_right) (joined_in head.core) now turn.between end in
+      after-is head (joined_in head.core) None all refl turn.values (λ l r. refl) refl refl refl refl
       (turn.gave_is ∙ sym most-given
       ∙ ap (λ (r : Option RankRow). if is_some r then min a (length rows) + 1 else min a (length rows)) all.value
       ∙ tally-more rows a)

@@ -6,6 +6,7 @@ use Rattle.std.proofs.lemmas.Grind.{flat_map-append}
 use Rattle.std.proofs.lemmas.List.{length-append}
 use Rattle.std.proofs.lemmas.List.Elements.{filter-append}
 use Rattle.std.proofs.lemmas.Option.{slice_get_past}
+use Rattle.rs_order.proofs.EachFacts.{each-slice_get}
 use Rattle.rs_order.specs.Asks.{bar_after}
 use Rattle.rs_order.specs.Schedule.{JoinSide, Left, Right, SideAsk, is_of_side}
 use Rattle.rs_rank.specs.Keys.{key_cmp}
@@ -17,15 +18,16 @@ use Rattle.rs_expr.specs.InOrder.{Inquires}
 use Rattle.rs_expr.specs.Scoring.{ScorerState}
 use Rattle.rs_catalog.specs.Catalogue.{Catalogue}
 use Rattle.rs_query.specs.Questions.{Question}
-use Rattle.rs_query.specs.Tables.{sizes_of}
+use Rattle.rs_query.specs.Tables.{HasRows, sizes_of}
 use Rattle.rs_query.specs.declared.query.Query.{Query}
 use Rattle.rs_query.proofs.QuestionFacts.{AllAsked, AllAsked-more, AllAsked-none, Ended-behind, Gave, Gave-ok, Inquires-fault, Stopped-within}
 use Rattle.rs_filter.specs.Matching.{IsView, joins}
-use Rattle.rs_ripple.specs.After.{Keeps, joined_after}
-use Rattle.rs_ripple.specs.Joined.{CanFeedLeft, CanFeedRight, Fits, Joined, end_left, end_right, fed_left, fed_right, rest_for}
+use Rattle.rs_ripple.specs.After.{joined_after}
+use Rattle.rs_ripple.specs.Joined.{CanFeedLeft, CanFeedRight, Fits, JoinStands, Joined, end_left, end_right, fed_left, fed_right, rest_for}
 use Rattle.rs_ripple.specs.Ripple.{ask_of, taken_for}
 use Rattle.rs_ripple.specs.Stands.{BeginsWith, Join, answer_key, answers, asked, merged_key, schedule_of, side_keys}
-use Rattle.rs_ripple.proofs.AfterFacts.{keeps-can_left, keeps-can_right, keeps-fits, keeps-is, keeps-left, keeps-left_end, keeps-left_open, keeps-right, keeps-right_end, keeps-right_open, keeps-taken}
+use Rattle.rs_ripple.proofs.AfterFacts.{left-open, right-open}
+use Rattle.rs_ripple.proofs.JoinLawFacts.{is-now, left-can-feed, left-end-stands, left-fed-stands, right-can-feed, right-end-stands, right-fed-stands, stands-fits, taken-join-stands}
 use Rattle.rs_ripple.proofs.LawFacts.{taken-is}
 use Rattle.rs_ripple.proofs.ScheduleFacts.{BeginsWith-itself, asked-left, asked-right, schedule_of-more}
 use Rattle.rs_ripple.proofs.StandFacts.{Tells, stands-tells}
@@ -42,9 +44,10 @@ use Rattle.rs_exec.specs.Joining.{join_for}
 use Rattle.rs_exec.specs.declared.fault.ExecFault.{ExecFault}
 use Rattle.rs_exec.specs.declared.fault.ExecFault.TheVariants.{Memory}
 use Rattle.rs_exec.proofs.FewFacts.{list-few}
+use Rattle.rs_exec.proofs.ListFacts.{IsRow, list-rows}
 use Rattle.rs_exec.proofs.JoinListFacts.{CanJoinParts, join-list, join-sides}
 use Rattle.rs_exec.proofs.RankFacts.{bar_after-map, drop-front}
-use Rattle.rs_exec.proofs.StepFacts.{sizes-are}
+use Rattle.rs_exec.proofs.StepFacts.{few-entries, sizes-are}
 
 -- a view of all rows
 IsView-itself : (sizes : List ℕ) → IsView sizes sizes
@@ -67,7 +70,7 @@ pub record JoinBetween (w : World) (number : ℕ) (left right : PlanTree) (a lef
   pub more : List SideAsk
   pub made : List SideAsk
   pub made_is : made ≡ schedule_of (join_for w number left right) (list_of w number left) (list_of w number right) a ++ more
-  pub keeps : Keeps (join_for w number left right) (list_of w number left) (list_of w number right) made a joined
+  pub keeps : JoinStands (join_for w number left right) (list_of w number left) (list_of w number right) made a joined
   pub left_asked : left_asks ≡ asked Left made
   pub right_asked : right_asks ≡ asked Right made
   pub all_asked : AllAsked old.answer w.catalogue (flat_map (side_part (questions w number left) (questions w number right)) more) old now
@@ -143,8 +146,8 @@ module _ (w : World) (number : ℕ) (left right : PlanTree) (parts : CanJoinPart
             most = schedule_of-more j lefts rights sides a;
             within = subst (λ (rows : List RankRow). a ≤ length rows) (join-list w number left right parts) few;
           };
-          lefts_are = ap (λ (d : Joined). d.lefts) same;
-          rights_are = ap (λ (d : Joined). d.rights) same;
+          left_rows = ap (λ (d : Joined). d.lefts) same;
+          right_rows = ap (λ (d : Joined). d.rights) same;
         };
         left_asked = on_left ∙ join-asked a Left;
         right_asked = on_right ∙ join-asked a Right;
@@ -285,7 +288,7 @@ module _ (catalogue : Catalogue) (query : Query) (number : ℕ) (left right : Pl
 
       pub left-can : CanAsk catalogue now.answer query number left left_asks
       left-can =
-          let most = keeps-left_open jn left_rows right_rows between.made a joined between.keeps need in
+          let most = left-open jn left_rows right_rows between.made a joined between.keeps need in
           let same = between.left_asked in
           side-can left left_asks now can.part.0 can.indexes.0 (omega arith) between.all_asked.keeps.answer
 
@@ -307,7 +310,7 @@ module _ (catalogue : Catalogue) (query : Query) (number : ℕ) (left right : Pl
 
       module _ (new : ScorerState) where
         left-more : (row : Option RankRow) → Inquires Memory (next_row (world_of catalogue now.answer query) number left left_asks) (Ok row) now new
-            → (after : Joined) → Keeps (join_for (world_of catalogue old.answer query) number left right) (list_of (world_of catalogue old.answer query) number left) (list_of (world_of catalogue old.answer query) number right) (between.made ++ record { side = Left; number = suc (asked Left between.made) } ∷ []) a after
+            → (after : Joined) → JoinStands (join_for (world_of catalogue old.answer query) number left right) (list_of (world_of catalogue old.answer query) number left) (list_of (world_of catalogue old.answer query) number right) (between.made ++ record { side = Left; number = suc (asked Left between.made) } ∷ []) a after
             → JoinBetween (world_of catalogue old.answer query) number left right a (suc left_asks) right_asks after old new
         left-more row below after keeps =
             let counts = asked-left between.made (suc (asked Left between.made)) in
@@ -324,19 +327,26 @@ module _ (catalogue : Catalogue) (query : Query) (number : ℕ) (left right : Pl
         -- the row is taken
         module _ (row : RankRow) (below : Inquires Memory (next_row (world_of catalogue now.answer query) number left left_asks) (Ok (Some row)) now new) where
           pub left-feeds : CanFeedLeft row joined
-          left-feeds = keeps-can_left jn left_rows right_rows between.made a joined between.keeps need row (left-there (Some row) new below)
+          left-feeds = left-can-feed jn left_rows right_rows between.made a joined between.keeps need row (left-there (Some row) new below)
+
+          -- its entries have rows of their tables
+          pub left-rows : HasRows catalogue (block_in query number) (entries left) row.ids.rows
+          left-rows =
+              (each-slice_get (IsRow world number left) left_rows (asked Left between.made) row
+              (list-rows world number (few-entries catalogue query number can.formed) (sizes-are catalogue old.answer query number can.number_is) left can.part.0)
+              (left-there (Some row) new below)).rows
 
           pub left-fed : JoinBetween (world_of catalogue old.answer query) number left right a (suc left_asks) right_asks
               (fed_left (joins catalogue (block_in query number) (entries left) (entries right)) row joined) old new
           left-fed =
               left-more (Some row) below (fed_left jn.matches row joined)
-              (keeps-left jn left_rows right_rows between.made a joined between.keeps need row (left-there (Some row) new below))
+              (left-fed-stands jn left_rows right_rows between.made a joined between.keeps need row (left-there (Some row) new below))
 
         -- its end is told
         pub left-ended : Inquires Memory (next_row (world_of catalogue now.answer query) number left left_asks) (Ok None) now new
             → JoinBetween (world_of catalogue old.answer query) number left right a (suc left_asks) right_asks (end_left joined) old new
         left-ended below =
-            left-more None below (end_left joined) (keeps-left_end jn left_rows right_rows between.made a joined between.keeps need (left-there None new below))
+            left-more None below (end_left joined) (left-end-stands jn left_rows right_rows between.made a joined between.keeps need (left-there None new below)).1
 
     -- where the core needs a right row, the right side can be asked once more
     module _ (need : ask_of joined.ripple ≡ NeedRight) where
@@ -352,7 +362,7 @@ module _ (catalogue : Catalogue) (query : Query) (number : ℕ) (left right : Pl
 
       pub right-can : CanAsk catalogue now.answer query number right right_asks
       right-can =
-          let most = keeps-right_open jn left_rows right_rows between.made a joined between.keeps need in
+          let most = right-open jn left_rows right_rows between.made a joined between.keeps need in
           let same = between.right_asked in
           side-can right right_asks now can.part.1 can.indexes.1 (omega arith) between.all_asked.keeps.answer
 
@@ -374,7 +384,7 @@ module _ (catalogue : Catalogue) (query : Query) (number : ℕ) (left right : Pl
 
       module _ (new : ScorerState) where
         right-more : (row : Option RankRow) → Inquires Memory (next_row (world_of catalogue now.answer query) number right right_asks) (Ok row) now new
-            → (after : Joined) → Keeps (join_for (world_of catalogue old.answer query) number left right) (list_of (world_of catalogue old.answer query) number left) (list_of (world_of catalogue old.answer query) number right) (between.made ++ record { side = Right; number = suc (asked Right between.made) } ∷ []) a after
+            → (after : Joined) → JoinStands (join_for (world_of catalogue old.answer query) number left right) (list_of (world_of catalogue old.answer query) number left) (list_of (world_of catalogue old.answer query) number right) (between.made ++ record { side = Right; number = suc (asked Right between.made) } ∷ []) a after
             → JoinBetween (world_of catalogue old.answer query) number left right a left_asks (suc right_asks) after old new
         right-more row below after keeps =
             let counts = asked-right between.made (suc (asked Right between.made)) in
@@ -391,22 +401,29 @@ module _ (catalogue : Catalogue) (query : Query) (number : ℕ) (left right : Pl
         -- the row is taken
         module _ (row : RankRow) (below : Inquires Memory (next_row (world_of catalogue now.answer query) number right right_asks) (Ok (Some row)) now new) where
           pub right-feeds : CanFeedRight row joined
-          right-feeds = keeps-can_right jn left_rows right_rows between.made a joined between.keeps need row (right-there (Some row) new below)
+          right-feeds = right-can-feed jn left_rows right_rows between.made a joined between.keeps need row (right-there (Some row) new below)
+
+          -- its entries have rows of their tables
+          pub right-rows : HasRows catalogue (block_in query number) (entries right) row.ids.rows
+          right-rows =
+              (each-slice_get (IsRow world number right) right_rows (asked Right between.made) row
+              (list-rows world number (few-entries catalogue query number can.formed) (sizes-are catalogue old.answer query number can.number_is) right can.part.1)
+              (right-there (Some row) new below)).rows
 
           pub right-fed : JoinBetween (world_of catalogue old.answer query) number left right a left_asks (suc right_asks)
               (fed_right (joins catalogue (block_in query number) (entries left) (entries right)) row joined) old new
           right-fed =
               right-more (Some row) below (fed_right jn.matches row joined)
-              (keeps-right jn left_rows right_rows between.made a joined between.keeps need row (right-there (Some row) new below))
+              (right-fed-stands jn left_rows right_rows between.made a joined between.keeps need row (right-there (Some row) new below))
 
         -- its end is told
         pub right-ended : Inquires Memory (next_row (world_of catalogue now.answer query) number right right_asks) (Ok None) now new
             → JoinBetween (world_of catalogue old.answer query) number left right a left_asks (suc right_asks) (end_right joined) old new
         right-ended below =
-            right-more None below (end_right joined) (keeps-right_end jn left_rows right_rows between.made a joined between.keeps need (right-there None new below))
+            right-more None below (end_right joined) (right-end-stands jn left_rows right_rows between.made a joined between.keeps need (right-there None new below)).1
 
     pub between-fits : Fits (joins catalogue (block_in query number) (entries left) (entries right)) joined
-    between-fits = keeps-fits jn left_rows right_rows between.made a joined between.keeps
+    between-fits = stands-fits jn left_rows right_rows between.made a joined between.keeps
 
     -- where all asks were made, all questions of this ask were asked
     questions-all : between.made ≡ asks_to (suc a) → questions_of_ask (world_of catalogue old.answer query) number (NestedJoin left right) (suc a) ≡ flat_map puts between.more
@@ -421,12 +438,12 @@ module _ (catalogue : Catalogue) (query : Query) (number : ℕ) (left right : Pl
     list-is = join-list world number left right join-parts
 
     -- what it keeps then, of so many answers
-    kept-all : between.made ≡ asks_to (suc a) → (count : ℕ) (after : Joined) → Keeps (join_for (world_of catalogue old.answer query) number left right) (list_of (world_of catalogue old.answer query) number left) (list_of (world_of catalogue old.answer query) number right) between.made count after
+    kept-all : between.made ≡ asks_to (suc a) → (count : ℕ) (after : Joined) → JoinStands (join_for (world_of catalogue old.answer query) number left right) (list_of (world_of catalogue old.answer query) number left) (list_of (world_of catalogue old.answer query) number right) between.made count after
         → count ≡ gave_of (world_of catalogue old.answer query) number (NestedJoin left right) (suc a)
         → after ≡ joined_after (join_for (world_of catalogue old.answer query) number left right) (list_of (world_of catalogue old.answer query) number left) (list_of (world_of catalogue old.answer query) number right)
         (asked_of (world_of catalogue old.answer query) number (NestedJoin left right) (suc a) Left) (asked_of (world_of catalogue old.answer query) number (NestedJoin left right) (suc a) Right) (gave_of (world_of catalogue old.answer query) number (NestedJoin left right) (suc a))
     kept-all all count after keeps gave =
-        keeps-is jn left_rows right_rows between.made count after keeps
+        is-now jn left_rows right_rows between.made count after keeps
         ∙ ap (λ n. joined_after jn left_rows right_rows n (asked Right between.made) count) (asked-all all Left)
         ∙ ap (λ n. joined_after jn left_rows right_rows (asked_of world number tree (suc a) Left) n count) (asked-all all Right)
         ∙ ap (λ n. joined_after jn left_rows right_rows (asked_of world number tree (suc a) Left) (asked_of world number tree (suc a) Right) n) gave
@@ -447,7 +464,7 @@ module _ (catalogue : Catalogue) (query : Query) (number : ℕ) (left right : Pl
           value = value;
           left_all = between.left_asked ∙ asked-all tells.0 Left;
           right_all = between.right_asked ∙ asked-all tells.0 Right;
-          keeps = kept-all tells.0 (suc a) (rest_for (ask_of joined.ripple) joined) (keeps-taken jn left_rows right_rows between.made a joined between.keeps ready) gave;
+          keeps = kept-all tells.0 (suc a) (rest_for (ask_of joined.ripple) joined) (taken-join-stands jn left_rows right_rows between.made a joined between.keeps ready).1 gave;
         }
 
     -- and where it has ended, there is none

@@ -1,7 +1,7 @@
 -- What joins a catalogue changes nothing of the blocks, queries and plans that are there.
-use Rattle.std.proofs.Common.{◌≡◌, ◌∙◌, ℕ, zero, suc, ◌-◌, ◌<◌, ◌≤◌, ◌==◌, ◌&&◌, Bool, true, cond, List, [], ◌∷◌, ◌++◌, length, length-append, map, get_or, pos, refl, sym, ap, subst, append-nil, arith}
+use Rattle.std.proofs.Common.{◌≡◌, ◌∙◌, ℕ, zero, suc, ◌+◌, ◌*◌, ◌-◌, ◌<◌, ◌≤◌, ◌==◌, ◌&&◌, Bool, true, cond, List, [], ◌∷◌, ◌++◌, length, length-append, map, get_or, pos, refl, sym, ap, subst, append-nil, arith}
 use Rattle.std.specs.Prelude.{Option, Some, None, if◌then◌else◌, nat_lt, option_and_then, option_map, position, slice_get, unwrap_or}
-use Rattle.std.specs.List.{AllByRecursion, filter, list_all, position_or_len}
+use Rattle.std.specs.List.{AllByRecursion, filter, list_all, position_or_len, flat_map}
 use Rattle.std.proofs.lemmas.List.{get_or_append_left}
 use Rattle.std.proofs.lemmas.List.Quantifiers.{position-Some}
 use Rattle.std.proofs.lemmas.List.Sums.{position_or_len_is}
@@ -26,12 +26,13 @@ use Rattle.rs_catalog.specs.declared.index.IndexFault.{IndexFault}
 use Rattle.rs_catalog.specs.declared.index.BoundArg.{BoundArg}
 use Rattle.rs_catalog.specs.declared.index.BoundArg.TheVariants as arg
 use Rattle.rs_rank.specs.Ids.{merge_rows}
+use Rattle.rs_filter.specs.JoinValues.{compared, equated_across, left_values, right_values}
 use Rattle.rs_filter.specs.Matching.{is_across, is_choice, joins}
-use Rattle.rs_query.specs.Answers.{clamped, predicate_at, worth_of, worths_of}
+use Rattle.rs_query.specs.Answers.{answer_row, base_of, clamped, distinct_if, predicate_at, score_of, worth_of, worths_of}
 use Rattle.rs_query.specs.Combinations.{choices, combinations, satisfies}
 use Rattle.rs_query.specs.Conjuncts.{ConjunctDef}
-use Rattle.rs_query.specs.Meaning.{argument_value, column_value, is_inside}
-use Rattle.rs_query.specs.Tables.{entry_table, row_number, size_of}
+use Rattle.rs_query.specs.Meaning.{argument_value, column_value, is_inside, outputs_of}
+use Rattle.rs_query.specs.Tables.{all_entries, entry_table, row_number, size_of}
 use Rattle.rs_query.specs.WellFormed.{AreArgs, IsArg, IsBlock, IsColumn, IsConjunct, IsFromEntry, IsQuery, IsTerm, column_kind, has_kind}
 use Rattle.rs_query.specs.declared.block.Block.{Block}
 use Rattle.rs_query.specs.declared.query.Query.{Query}
@@ -142,6 +143,17 @@ module _ (catalogue more : Catalogue) where
         list_all (λ (conjunct : ConjunctDef). if is_inside conjunct.entries mask then holds conjunct.condition (map (value-same i rows) conjunct.columns) else true)
         block.conjuncts
 
+    -- so are the join values of a row
+    pub left_values-same : left_values larger block ≡ left_values catalogue block
+    left_values-same = λ i left right rows.
+        flat_map (λ (conjunct : ConjunctDef).
+        map (λ (pair : (ℕ × ℕ) × (ℕ × ℕ)). compared conjunct.condition (value-same i rows pair.0)) (equated_across left right conjunct)) block.conjuncts
+
+    pub right_values-same : right_values larger block ≡ right_values catalogue block
+    right_values-same = λ i left right rows.
+        flat_map (λ (conjunct : ConjunctDef).
+        map (λ (pair : (ℕ × ℕ) × (ℕ × ℕ)). compared conjunct.condition (value-same i rows pair.1)) (equated_across left right conjunct)) block.conjuncts
+
     pub joins-same : joins larger block ≡ joins catalogue block
     joins-same = λ i left right l r.
         let sizes = map (size-same i) (1 ∷ 2 ∷ 3 ∷ 4 ∷ 5 ∷ 6 ∷ []) in
@@ -233,6 +245,25 @@ module _ (catalogue more : Catalogue) where
 
     pub worths-same : (answer : Answering) (rows : List ℕ) → worths_of answer larger block rows ≡ worths_of answer catalogue block rows
     worths-same answer rows = worths-of answer rows block.terms is.terms
+
+    -- so its rows have the same values and scores
+    pub outputs-same : outputs_of larger block ≡ outputs_of catalogue block
+    outputs-same = λ i rows. map (value-same i rows) block.items
+
+    score-of : (answer : Answering) (rows : List ℕ) (terms : List Term) → AllByRecursion (IsTerm catalogue block) terms
+        → score_of answer larger block rows terms ≡ score_of answer catalogue block rows terms
+    score-of answer rows [] are = refl
+    score-of answer rows (term ∷ terms) are = λ i. term.weight * worth-same answer rows term are.0 i + score-of answer rows terms are.1 i
+
+    answer_row-same : (answer : Answering) → answer_row answer larger block ≡ answer_row answer catalogue block
+    answer_row-same answer = λ i number rows. record {
+      ids = record { block = number; mask = all_entries block; rows = rows };
+      score = score-of answer rows block.terms is.terms i;
+      values = outputs-same i rows;
+    }
+
+    pub base-same : (answer : Answering) (number : ℕ) → base_of answer larger number block ≡ base_of answer catalogue number block
+    base-same answer number = λ i sizes. distinct_if block.distinct (map (answer_row-same answer i number) (combinations-same i sizes (all_entries block)))
 
     -- an index that a plan of the block scans is one of the catalogue, for a table and a predicate of it
     module _ (entry term number : ℕ) (scans : IsRankScan catalogue block entry term number) where

@@ -1,5 +1,5 @@
 -- A cursor that stands goes on to stand in a larger catalogue: it reads nothing of what joined.
-use Rattle.std.proofs.Common.{◌≡◌, ◌∙◌, ℕ, zero, suc, ◌-◌, ◌≤◌, ◌==◌, List, [], ◌∷◌, length, map, bit_or, refl, sym, subst}
+use Rattle.std.proofs.Common.{◌≡◌, ◌∙◌, ℕ, zero, suc, ◌-◌, ◌≤◌, ◌==◌, false, List, [], ◌∷◌, length, map, take, bit_or, refl, sym, ap, subst}
 use Rattle.std.specs.Prelude.{if◌then◌else◌, min, nat_le, slice_get, slice_index, unwrap_or}
 use Rattle.std.specs.List.{filter}
 use Rattle.rs_order.specs.Asks.{bar_after}
@@ -17,6 +17,7 @@ use Rattle.rs_mu.specs.Stands.{state_after}
 use Rattle.rs_catalog.specs.Catalogue.{Catalogue}
 use Rattle.rs_query.specs.Views.{all_rows}
 use Rattle.rs_query.specs.WellFormed.{IsBlock, IsQuery}
+use Rattle.rs_query.specs.declared.block.Block.{Block}
 use Rattle.rs_query.specs.declared.query.Query.{Query}
 use Rattle.rs_query.specs.declared.query.Query.TheVariants.{One, Set}
 use Rattle.rs_plan.specs.Asks.{asks_alone}
@@ -26,16 +27,24 @@ use Rattle.rs_plan.specs.Plans.{IsPart, IsRankScan}
 use Rattle.rs_plan.specs.Trees.{Distinct, HashJoin, NestedJoin, Rank, RankScan, SeqScan, SetOperator, PlanTree, entries, terms}
 use Rattle.rs_exec.specs.Asking.{world_of}
 use Rattle.rs_exec.specs.Building.{IsBuilt}
+use Rattle.rs_exec.specs.Distincts.{distinct_node_after}
+use Rattle.rs_exec.specs.Outputs.{output_row}
+use Rattle.rs_outputs.specs.Rows.{lists_of}
+use Rattle.rs_rank.specs.declared.answer.Answer.{Answer}
 use Rattle.rs_exec.specs.Cursors.{CursorState, StandsFor, asks_of, plan_of}
 use Rattle.rs_rank.specs.Merging.{merge_key}
 use Rattle.rs_rank.specs.Turns.{join_schedule}
 use Rattle.rs_ripple.specs.After.{joined_after}
+use Rattle.rs_ripple.specs.Joined.{Joined}
+use Rattle.rs_exec.specs.Cores.{core_like, tree_with, with_values}
 use Rattle.rs_exec.specs.Joining.{side_for}
 use Rattle.rs_exec.specs.Nodes.{tree_in}
-use Rattle.rs_exec.specs.Standing.{Stands, index_node_after, join_node_after, rank_node_after, table_node_after}
+use Rattle.rs_exec.specs.Standing.{Stands, index_node_after, join_node_after, joined_from, rank_node_after, table_node_after}
+use Rattle.rs_exec.specs.declared.join_core.JoinCore.{JoinCore}
+use Rattle.rs_exec.specs.declared.join_core.JoinCore.TheVariants.{Hash, Nested}
 use Rattle.rs_exec.specs.declared.node.Node.{Node}
 use Rattle.rs_exec.specs.declared.node.Node.TheVariants as node
-use Rattle.rs_exec.proofs.LargerFacts.{combinations-same, indexes-larger, joined, joins-same, plan-larger, query-larger, ranking-same, size-same, worths-same}
+use Rattle.rs_exec.proofs.LargerFacts.{base-same, combinations-same, indexes-larger, joined, joins-same, left_values-same, outputs-same, plan-larger, query-larger, ranking-same, right_values-same, size-same, worths-same}
 use Rattle.rs_exec.proofs.PartFacts.{part-plan}
 use Rattle.rs_exec.proofs.StepFacts.{block-formed}
 
@@ -46,6 +55,15 @@ view-same catalogue more (Set op left right limit) is = λ i. record {
   first = map (size-same catalogue more left is.0.left_block i) (1 ∷ 2 ∷ 3 ∷ 4 ∷ 5 ∷ 6 ∷ []);
   second = map (size-same catalogue more right is.0.right_block i) (1 ∷ 2 ∷ 3 ∷ 4 ∷ 5 ∷ 6 ∷ []);
 }
+
+-- the sides of a join are parts of a plan, and can be executed, whichever way it is done
+part-with : (catalogue : Catalogue) (block : Block) (core : JoinCore) (l r : PlanTree) → IsPart catalogue block (tree_with core l r) → IsPart catalogue block l × IsPart catalogue block r
+part-with catalogue block (Nested joined) l r part = (part.0, part.1)
+part-with catalogue block (Hash hashed) l r part = (part.0, part.1)
+
+built-with : (core : JoinCore) (l r : PlanTree) → IsBuilt (tree_with core l r) → IsBuilt l × IsBuilt r
+built-with (Nested joined) l r built = built
+built-with (Hash hashed) l r built = built
 
 module _ (catalogue more : Catalogue) (answer : Answering) (query : Query) (formed : IsQuery catalogue query) where
   abbrev small : World
@@ -76,9 +94,10 @@ module _ (catalogue more : Catalogue) (answer : Answering) (query : Query) (form
   sources-same number (SeqScan entry) built = ids-same number (mask_of entry)
   sources-same number (RankScan entry term index) built = ids-same number (mask_of entry)
   sources-same number (Rank term child) built = sources-same number child built
-  sources-same number (HashJoin left right) built = absurd built
+  sources-same number (HashJoin left right) built = ids-same number (bit_or (entries left) (entries right))
   sources-same number (NestedJoin left right) built = ids-same number (bit_or (entries left) (entries right))
-  sources-same number (Distinct child) built = absurd built
+  sources-same number (Distinct child) built = λ i.
+      map (λ (row : Answer). row.ids) (base-same catalogue more (block_in query number) (block-is number) answer number i (sizes-same number i))
   sources-same number (SetOperator left right) built = absurd built
 
   row-same : (mask : ℕ) → row_under large mask ≡ row_under small mask
@@ -103,6 +122,15 @@ module _ (catalogue more : Catalogue) (answer : Answering) (query : Query) (form
       length (filter (is_of_side side) (join_schedule key_cmp (merge_key (weights_in small) (terms left) (terms right))
       (map (key_under small (terms left)) (list-same number left on_left i)) (map (key_under small (terms right)) (list-same number right on_right i))
       (bar_after (λ (key : Key). key) (map (key_under small (terms (NestedJoin left right))) (list-same number (NestedJoin left right) (on_left, on_right) i)) n)))
+
+  distinct_asked-same : (number : ℕ) (child : PlanTree) → IsBuilt child → (a : ℕ) → asked_of large number (Distinct child) a Left ≡ asked_of small number (Distinct child) a Left
+  distinct_asked-same number child built zero = refl
+  distinct_asked-same number child built (suc n) = λ i.
+      length (filter (is_of_side Left) (asks_alone (map (key_under small (terms child)) (list-same number child built i))
+      (bar_after (λ (key : Key). key) (map (key_under small (terms (Distinct child))) (list-same number (Distinct child) built i)) n)))
+
+  output-same : output_row large ≡ output_row small
+  output-same = λ i row. record { row = row; values = outputs-same catalogue more (block_in query row.ids.block) (block-is row.ids.block) i row.ids.rows }
 
   -- and what its nodes keep
   table-same : (number entry a : ℕ) → table_node_after large number entry a ≡ table_node_after small number entry a
@@ -147,25 +175,53 @@ module _ (catalogue more : Catalogue) (answer : Answering) (query : Query) (form
       worth = λ (row : RankRow). slice_index (worth-is row.ids i) (term - 1);
     }) (list-same number child built i) (asked-same number term child built a i) (gave-same number (Rank term child) built a i);
     term = term;
+    args = tt;
     tally = record { asked = a; gave = gave-same number (Rank term child) built a i };
     calls = min (asked-same number term child built a i) (length (list-same number child built i));
   }
 
-  join-same : (number : ℕ) (left right : PlanTree) → IsBuilt left → IsBuilt right → (a : ℕ) → join_node_after large number left right a ≡ join_node_after small number left right a
-  join-same number left right on_left on_right a = λ i. record {
-    core = joined_after (record {
-      weights = weights_in small;
-      block = number;
-      left = side_for left;
-      right = side_for right;
-      matches = joins-same catalogue more (block_in query number) (block-is number) i (entries left) (entries right);
-    }) (list-same number left on_left i) (list-same number right on_right i)
-        (join_asked-same number left right on_left on_right a Left i) (join_asked-same number left right on_left on_right a Right i)
-        (gave-same number (NestedJoin left right) (on_left, on_right) a i);
-    block = number;
-    left = entries left;
-    right = entries right;
-    tally = record { asked = a; gave = gave-same number (NestedJoin left right) (on_left, on_right) a i };
+  joined-same : (number : ℕ) (left right : PlanTree) → IsBuilt left → IsBuilt right → (a : ℕ)
+      → joined_from large number left right (asked_of large number (NestedJoin left right) a Left) (asked_of large number (NestedJoin left right) a Right) (gave_of large number (NestedJoin left right) a)
+      ≡ joined_from small number left right (asked_of small number (NestedJoin left right) a Left) (asked_of small number (NestedJoin left right) a Right) (gave_of small number (NestedJoin left right) a)
+  joined-same number left right on_left on_right a = λ i.
+      joined_after (record {
+        weights = weights_in small;
+        block = number;
+        left = side_for left;
+        right = side_for right;
+        matches = joins-same catalogue more (block_in query number) (block-is number) i (entries left) (entries right);
+      }) (list-same number left on_left i) (list-same number right on_right i)
+      (join_asked-same number left right on_left on_right a Left i) (join_asked-same number left right on_left on_right a Right i)
+      (gave-same number (NestedJoin left right) (on_left, on_right) a i)
+
+  core-same : (number : ℕ) (core : JoinCore) (left right : ℕ) (large_rows small_rows : Joined) → large_rows ≡ small_rows
+      → core_like core (joined catalogue more) (block_in query number) left right large_rows ≡ core_like core catalogue (block_in query number) left right small_rows
+  core-same number (Nested other) left right large_rows small_rows same = ap Nested same
+  core-same number (Hash other) left right large_rows small_rows same = λ i. Hash (record {
+    ripple = (same i).ripple;
+    lefts = with_values (left_values-same catalogue more (block_in query number) (block-is number) i left right) (same i).lefts;
+    rights = with_values (right_values-same catalogue more (block_in query number) (block-is number) i left right) (same i).rights;
+  })
+
+  join-same : (number : ℕ) (core : JoinCore) (left right : PlanTree) → IsBuilt left → IsBuilt right → (a : ℕ)
+      → join_node_after large number core left right a ≡ join_node_after small number core left right a
+  join-same number core left right on_left on_right a =
+      let kept = core-same number core (entries left) (entries right)
+      (joined_from large number left right (asked_of large number (NestedJoin left right) a Left) (asked_of large number (NestedJoin left right) a Right) (gave_of large number (NestedJoin left right) a))
+      (joined_from small number left right (asked_of small number (NestedJoin left right) a Left) (asked_of small number (NestedJoin left right) a Right) (gave_of small number (NestedJoin left right) a))
+      (joined-same number left right on_left on_right a) in
+      λ i. record {
+        core = kept i;
+        block = number;
+        left = entries left;
+        right = entries right;
+        tally = record { asked = a; gave = gave-same number (NestedJoin left right) (on_left, on_right) a i };
+      }
+
+  distinct-same : (number : ℕ) (child : PlanTree) → IsBuilt child → (a : ℕ) → distinct_node_after large number child a ≡ distinct_node_after small number child a
+  distinct-same number child built a = λ i. record {
+    core = record { lists = lists_of (take (distinct_asked-same number child built a i) (map (output-same i) (list-same number child built i))); spent = false };
+    tally = record { asked = a; gave = gave-same number (Distinct child) built a i };
   }
 
   stands-larger : (number : ℕ) (n : Node) → IsPart catalogue (block_in query number) (tree_in n) → IsBuilt (tree_in n) → Stands small number n → Stands large number n
@@ -178,14 +234,23 @@ module _ (catalogue more : Catalogue) (answer : Answering) (query : Query) (form
     },
     stands-larger number child part.0 built is.1,
   )
-  stands-larger number (node.NestedJoin' head p left q right) part built is = (
+  stands-larger number (node.Join' head p left q right) part built is =
+      let parts = part-with catalogue (block_in query number) head.core (tree_in left) (tree_in right) part in
+      let sides = built-with head.core (tree_in left) (tree_in right) built in (
+        record {
+          keeps = is.0.keeps ∙ sym (join-same number head.core (tree_in left) (tree_in right) sides.0 sides.1 head.tally.asked);
+          left_asked = is.0.left_asked ∙ sym (join_asked-same number (tree_in left) (tree_in right) sides.0 sides.1 head.tally.asked Left);
+          right_asked = is.0.right_asked ∙ sym (join_asked-same number (tree_in left) (tree_in right) sides.0 sides.1 head.tally.asked Right);
+        },
+        stands-larger number left parts.0 sides.0 is.1,
+        stands-larger number right parts.1 sides.1 is.2,
+      )
+  stands-larger number (node.Distinct' head p child) part built is = (
     record {
-      keeps = is.0.keeps ∙ sym (join-same number (tree_in left) (tree_in right) built.0 built.1 head.tally.asked);
-      left_asked = is.0.left_asked ∙ sym (join_asked-same number (tree_in left) (tree_in right) built.0 built.1 head.tally.asked Left);
-      right_asked = is.0.right_asked ∙ sym (join_asked-same number (tree_in left) (tree_in right) built.0 built.1 head.tally.asked Right);
+      keeps = is.0.keeps ∙ sym (distinct-same number (tree_in child) built head.tally.asked);
+      asked = is.0.asked ∙ sym (distinct_asked-same number (tree_in child) built head.tally.asked);
     },
-    stands-larger number left part.0 built.0 is.1,
-    stands-larger number right part.1 built.1 is.2,
+    stands-larger number child part.0 built is.1,
   )
 
 pub cursor-larger : (catalogue more : Catalogue) (answer : Answering) (cursor : CursorState) → StandsFor catalogue answer cursor → StandsFor (joined catalogue more) answer cursor

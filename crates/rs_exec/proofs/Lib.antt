@@ -1,9 +1,15 @@
 mod AdvanceFacts
+mod AloneFacts
+mod AlikeFacts
 mod AnswerFacts
 mod FeedFacts
+mod CoreFacts
 mod CountFacts
 mod CursorFacts
 mod CycleFacts
+mod DistinctCycleFacts
+mod DistinctListFacts
+mod DistinctStepFacts
 mod DrawFacts
 mod FewFacts
 pub mod HeldFacts

@@ -14,7 +14,7 @@ use Rattle.rs_query.specs.declared.block.Block.{Block}
 use Rattle.rs_query.specs.declared.query.Query.{Query}
 use Rattle.rs_query.specs.declared.query.Query.TheVariants.{One, Set}
 use Rattle.rs_plan.specs.Asks.{asks_from}
-use Rattle.rs_plan.specs.Calls.{calls_of_plan, part_of_plan, questions, questions_of_ask, rank_part, side_part}
+use Rattle.rs_plan.specs.Calls.{calls_of_plan, part_of, part_of_plan, questions, questions_of_ask, rank_part, side_part}
 use Rattle.rs_plan.specs.Counts.{asked_of}
 use Rattle.rs_plan.specs.Lists.{World, block_in, numbered_block, list_of, sizes_in, weights_in}
 use Rattle.rs_plan.specs.Plans.{IsPart, IsPlan, IsSetPlan}
@@ -24,6 +24,8 @@ use Rattle.rs_ripple.specs.Stands.{BeginsWith, schedule_of}
 use Rattle.rs_ripple.proofs.ScheduleFacts.{schedule_of-more}
 use Rattle.rs_exec.specs.Building.{IsBuilt}
 use Rattle.rs_exec.specs.Joining.{join_for}
+use Rattle.rs_exec.proofs.AloneFacts.{between, between-behind}
+use Rattle.rs_exec.proofs.DistinctStepFacts.{distinct-child_asks, distinct-grows}
 use Rattle.rs_exec.proofs.JoinListFacts.{CanJoinParts, join-sides}
 use Rattle.rs_exec.proofs.JoinStepFacts.{join-schedule}
 use Rattle.rs_exec.proofs.RankFacts.{asks-more, asks_from-split, drop-front, rank-questions}
@@ -41,6 +43,22 @@ begun (x ∷ xs) (f ∷ front) begins =
     let rest : front ≡ take (length front) xs = cc in
     ap₂ (λ z zs. z ∷ zs) (sym first) (begun xs front rest)
 
+-- of a join, whichever way it is done
+join-grows : (w : World) (number : ℕ) (left right : PlanTree) (a : ℕ) → IsQuery w.catalogue w.query → IsView (sizes_in w number) (sizes_of w.catalogue (numbered_block w number))
+    → IsPart w.catalogue (numbered_block w number) (NestedJoin left right) → IsWeights (weights_in w)
+    → questions w number (NestedJoin left right) (suc a) ≡ questions w number (NestedJoin left right) a ++ questions_of_ask w number (NestedJoin left right) (suc a)
+join-grows w number left right a formed view part weights =
+    let parts : CanJoinParts w number left right = record { formed = formed; weights = weights; view = view; left_part = part.0; right_part = part.1; joined = part.2 } in
+    let j = join_for w number left right in
+    let before = schedule_of j (list_of w number left) (list_of w number right) a in
+    let after = schedule_of j (list_of w number left) (list_of w number right) (suc a) in
+    let step = side_part (questions w number left) (questions w number right) in
+    behind-front (questions w number (NestedJoin left right) a) (questions w number (NestedJoin left right) (suc a)) (flat_map step (drop (length before) after))
+    (ap (flat_map step) (join-schedule w number left right parts (suc a)
+    ∙ begun after before (schedule_of-more j (list_of w number left) (list_of w number right) (join-sides w number left right parts) a))
+    ∙ flat_map-append step before (drop (length before) after)
+    ∙ ap (λ (asks : List SideAsk). flat_map step asks ++ flat_map step (drop (length before) after)) (sym (join-schedule w number left right parts a)))
+
 pub grows : (w : World) (number : ℕ) (tree : PlanTree) (a : ℕ) → IsQuery w.catalogue w.query → IsView (sizes_in w number) (sizes_of w.catalogue (numbered_block w number))
     → IsPart w.catalogue (numbered_block w number) tree → IsWeights (weights_in w) → IsBuilt tree
     → questions w number tree (suc a) ≡ questions w number tree a ++ questions_of_ask w number tree (suc a)
@@ -56,19 +74,16 @@ grows w number (Rank term child) a formed view part weights built =
     ∙ ap (flat_map step) (asks_from-split Left 1 first (last - first) last (omega arith))
     ∙ flat_map-append step (asks_from Left 1 first) (asks_from Left (1 + first) (last - first))
     ∙ ap (λ (qs : List Question). qs ++ flat_map step (asks_from Left (1 + first) (last - first))) (sym (rank-questions w number term child a)))
-grows w number (HashJoin left right) a formed view part weights built = absurd built
-grows w number (NestedJoin left right) a formed view part weights built =
-    let parts : CanJoinParts w number left right = record { formed = formed; weights = weights; view = view; left_part = part.0; right_part = part.1; joined = part.2 } in
-    let j = join_for w number left right in
-    let before = schedule_of j (list_of w number left) (list_of w number right) a in
-    let after = schedule_of j (list_of w number left) (list_of w number right) (suc a) in
-    let step = side_part (questions w number left) (questions w number right) in
-    behind-front (questions w number (NestedJoin left right) a) (questions w number (NestedJoin left right) (suc a)) (flat_map step (drop (length before) after))
-    (ap (flat_map step) (join-schedule w number left right parts (suc a)
-    ∙ begun after before (schedule_of-more j (list_of w number left) (list_of w number right) (join-sides w number left right parts) a))
-    ∙ flat_map-append step before (drop (length before) after)
-    ∙ ap (λ (asks : List SideAsk). flat_map step asks ++ flat_map step (drop (length before) after)) (sym (join-schedule w number left right parts a)))
-grows w number (Distinct child) a formed view part weights built = absurd built
+grows w number (HashJoin left right) a formed view part weights built = join-grows w number left right a formed view (part.0, part.1, part.2) weights
+grows w number (NestedJoin left right) a formed view part weights built = join-grows w number left right a formed view part weights
+grows w number (Distinct child) a formed view part weights built =
+    let first = asked_of w number (Distinct child) a Left in
+    let last = asked_of w number (Distinct child) (suc a) Left in
+    let step : SideAsk → List Question = λ ask. part_of (questions w number child) ask.number in
+    behind-front (questions w number (Distinct child) a) (questions w number (Distinct child) (suc a)) (between step first last)
+    (ap (flat_map step) (distinct-child_asks w number child (suc a))
+    ∙ between-behind step first last (distinct-grows w number child formed part weights a)
+    ∙ ap (λ (asks : List SideAsk). flat_map step asks ++ between step first last) (sym (distinct-child_asks w number child a)))
 grows w number (SetOperator left right) a formed view part weights built = absurd built
 
 -- a plan that can be executed is a part of a plan of the one block
@@ -76,9 +91,9 @@ pub no-set : (catalogue : Catalogue) (left right : Block) (tree : PlanTree) → 
 no-set catalogue left right (SeqScan entry) plan built = plan
 no-set catalogue left right (RankScan entry term index) plan built = plan
 no-set catalogue left right (Rank term child) plan built = no-set catalogue left right child plan.0 built
-no-set catalogue left right (HashJoin l r) plan built = built
+no-set catalogue left right (HashJoin l r) plan built = plan
 no-set catalogue left right (NestedJoin l r) plan built = plan
-no-set catalogue left right (Distinct child) plan built = built
+no-set catalogue left right (Distinct child) plan built = plan
 no-set catalogue left right (SetOperator l r) plan built = built
 
 pub part-plan : (catalogue : Catalogue) (query : Query) (tree : PlanTree) → IsPlan catalogue query tree → IsBuilt tree → IsPart catalogue (block_in query 1) tree
@@ -99,9 +114,9 @@ parts-in-turn w tree zero formed view weights plan built = sym (ap (map (call_fo
   none (SeqScan entry) built = refl
   none (RankScan entry term index) built = refl
   none (Rank term child) built = refl
-  none (HashJoin left right) built = absurd built
+  none (HashJoin left right) built = refl
   none (NestedJoin left right) built = refl
-  none (Distinct child) built = absurd built
+  none (Distinct child) built = refl
   none (SetOperator left right) built = absurd built
 parts-in-turn w tree (suc n) formed view weights plan built =
     let call = call_for w.catalogue in

@@ -39,7 +39,7 @@ use Rattle.rs_exec.proofs.ListFacts.{keys-of, list-climbs, list-others, unsorted
 use Rattle.rs_exec.proofs.SumFacts.{list-sums, worth-within}
 
 -- all asks of the left side are asks of it
-left-asks : (first count : ℕ) → length (filter (is_of_side Left) (asks_from Left first count)) ≡ count
+pub left-asks : (first count : ℕ) → length (filter (is_of_side Left) (asks_from Left first count)) ≡ count
 left-asks first zero = refl
 left-asks first (suc count) = ap suc (left-asks (suc first) count)
 
@@ -60,7 +60,7 @@ drop-front [] ys = refl
 drop-front (x ∷ xs) ys = drop-front xs ys
 
 -- the asks for a bar among keys are those among what has the keys
-length-filter-map : {X Y : Type 0} (p : Y → Bool) (f : X → Y) (xs : List X) → length (filter p (map f xs)) ≡ length (filter (λ x. p (f x)) xs)
+pub length-filter-map : {X Y : Type 0} (p : Y → Bool) (f : X → Y) (xs : List X) → length (filter p (map f xs)) ≡ length (filter (λ x. p (f x)) xs)
 length-filter-map p f [] = refl
 length-filter-map p f (x ∷ xs) =
     elim (p (f x)) as (λ b. length (cond b (f x ∷ filter p (map f xs)) (filter p (map f xs))) ≡ length (cond b (x ∷ filter (λ x. p (f x)) xs) (filter (λ x. p (f x)) xs))) [

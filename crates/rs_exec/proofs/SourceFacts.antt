@@ -23,7 +23,7 @@ ids_in rows = map (λ (row : Answer). row.ids) rows
 
 module _ (w : World) where
   -- where no duplicates are dropped, they are all combinations of the entries
-  sources-combinations : (block : Block) (number : ℕ) (tree : PlanTree) → IsPart w.catalogue block tree → HasNoDistinct tree
+  pub sources-combinations : (block : Block) (number : ℕ) (tree : PlanTree) → IsPart w.catalogue block tree → HasNoDistinct tree
       → sources w number tree ≡ ids_of w number (entries tree)
   sources-combinations block number (SeqScan entry) part none = refl
   sources-combinations block number (RankScan entry term index) part none = refl
@@ -65,8 +65,9 @@ module _ (w : World) where
   abbrev all : ℕ → List (List ℕ)
   all number = combinations w.catalogue (numbered_block w number) (sizes_in w number) (all_entries (numbered_block w number))
 
-  ids-rows : (number : ℕ) (combinations : List (List ℕ))
-      → map (λ (rows : List ℕ). record { block = number; mask = all_entries (numbered_block w number); rows = rows }) combinations ≡ ids_in (map (row number) combinations)
+  pub ids-rows : (number : ℕ) (combinations : List (List ℕ))
+      → map (λ (rows : List ℕ). record { block = number; mask = all_entries (numbered_block w number); rows = rows }) combinations
+      ≡ ids_in (map (answer_row w.answer w.catalogue (numbered_block w number) number) combinations)
   ids-rows number [] = refl
   ids-rows number (rows ∷ rest) = ap (λ (ids : List Ids). record { block = number; mask = all_entries (numbered_block w number); rows = rows } ∷ ids) (ids-rows number rest)
 

@@ -2,6 +2,7 @@
 use Rattle.std.proofs.Common.{◌≡◌, ◌∙◌, ℕ, zero, suc, ◌-◌, ◌≤◌, Bool, false, List, [], ◌∷◌, length, map, None, refl, sym, ap, ap₂, subst, arith}
 use Rattle.std.specs.Prelude.{min, nat_lt, slice_get, slice_index, unwrap_or}
 use Rattle.std.proofs.lemmas.Bool.Decides.{nat_tests}
+use Rattle.rs_filter.specs.Distinct.{new_distinct}
 use Rattle.rs_mu.specs.Mu.{new_mu}
 use Rattle.rs_query.specs.Answers.{weights_of}
 use Rattle.rs_query.specs.Tables.{size_of, sizes_of}
@@ -13,13 +14,19 @@ use Rattle.rs_plan.specs.Counts.{size_at}
 use Rattle.rs_plan.specs.Lists.{World, list_of, numbered_block, sizes_in, weights_in}
 use Rattle.rs_plan.specs.Plans.{IsEntryNumber, IsPart}
 use Rattle.rs_plan.specs.Trees.{Distinct, HashJoin, NestedJoin, Rank, RankScan, SeqScan, SetOperator, PlanTree, entries, terms}
+use Rattle.rs_hrjn.specs.Hashed.{new_hashed}
 use Rattle.rs_ripple.specs.Joined.{Joined, new_joined}
 use Rattle.rs_ripple.specs.Stands.{side_keys, state_after}
+use Rattle.rs_exec.specs.Cores.{core_like, hashed_with, tree_with}
+use Rattle.rs_exec.specs.Distincts.{DropsStand, distinct_node_after}
 use Rattle.rs_exec.specs.Joining.{join_for, side_for}
 use Rattle.rs_exec.specs.Nodes.{asked_in, tree_in}
 use Rattle.rs_exec.specs.Standing.{HeadStands, JoinStands, Stands, core_after, index_node_after, join_node_after, joined_from, rank_node_after, table_node_after, tally_after}
 use Rattle.rs_exec.specs.Starting.{IsStart, no_tally}
+use Rattle.rs_exec.specs.declared.distinct.DistinctNode.{DistinctNode}
 use Rattle.rs_exec.specs.declared.join.JoinNode.{JoinNode}
+use Rattle.rs_exec.specs.declared.join_core.JoinCore.{JoinCore}
+use Rattle.rs_exec.specs.declared.join_core.JoinCore.TheVariants.{Hash, Nested}
 use Rattle.rs_exec.specs.declared.node.Node.{Node}
 use Rattle.rs_exec.specs.declared.node.Node.TheVariants as node
 use Rattle.rs_exec.specs.declared.rank.RankNode.{RankNode}
@@ -32,23 +39,38 @@ pub start-tree : (catalogue : Catalogue) (block : Block) (number : ℕ) (tree : 
 start-tree catalogue block number (SeqScan entry) (node.SeqScan head) is = ap (λ (h : TableNode). SeqScan h.entry) is
 start-tree catalogue block number (SeqScan entry) (node.RankScan head) is = absurd is
 start-tree catalogue block number (SeqScan entry) (node.Rank' head p below) is = absurd is
-start-tree catalogue block number (SeqScan entry) (node.NestedJoin' head p l q r) is = absurd is
+start-tree catalogue block number (SeqScan entry) (node.Join' head p l q r) is = absurd is
+start-tree catalogue block number (SeqScan entry) (node.Distinct' head p below) is = absurd is
 start-tree catalogue block number (RankScan entry term index) (node.SeqScan head) is = absurd is
 start-tree catalogue block number (RankScan entry term index) (node.RankScan head) is = ap (λ (h : IndexNode). RankScan h.entry h.term h.scan.index) is
 start-tree catalogue block number (RankScan entry term index) (node.Rank' head p below) is = absurd is
-start-tree catalogue block number (RankScan entry term index) (node.NestedJoin' head p l q r) is = absurd is
+start-tree catalogue block number (RankScan entry term index) (node.Join' head p l q r) is = absurd is
+start-tree catalogue block number (RankScan entry term index) (node.Distinct' head p below) is = absurd is
 start-tree catalogue block number (Rank term child) (node.SeqScan head) is = absurd is
 start-tree catalogue block number (Rank term child) (node.RankScan head) is = absurd is
 start-tree catalogue block number (Rank term child) (node.Rank' head p below) is =
     ap (λ (h : RankNode). Rank h.term (tree_in below)) is.0 ∙ ap (Rank term) (start-tree catalogue block number child below is.1)
-start-tree catalogue block number (Rank term child) (node.NestedJoin' head p l q r) is = absurd is
-start-tree catalogue block number (HashJoin left right) n is = absurd is
+start-tree catalogue block number (Rank term child) (node.Join' head p l q r) is = absurd is
+start-tree catalogue block number (Rank term child) (node.Distinct' head p below) is = absurd is
+start-tree catalogue block number (HashJoin left right) (node.SeqScan head) is = absurd is
+start-tree catalogue block number (HashJoin left right) (node.RankScan head) is = absurd is
+start-tree catalogue block number (HashJoin left right) (node.Rank' head p below) is = absurd is
+start-tree catalogue block number (HashJoin left right) (node.Distinct' head p below) is = absurd is
+start-tree catalogue block number (HashJoin left right) (node.Join' head p l q r) is =
+    ap (λ (h : JoinNode). tree_with h.core (tree_in l) (tree_in r)) is.0
+    ∙ ap₂ HashJoin (start-tree catalogue block number left l is.1) (start-tree catalogue block number right r is.2)
 start-tree catalogue block number (NestedJoin left right) (node.SeqScan head) is = absurd is
 start-tree catalogue block number (NestedJoin left right) (node.RankScan head) is = absurd is
 start-tree catalogue block number (NestedJoin left right) (node.Rank' head p below) is = absurd is
-start-tree catalogue block number (NestedJoin left right) (node.NestedJoin' head p l q r) is =
-    ap₂ NestedJoin (start-tree catalogue block number left l is.1) (start-tree catalogue block number right r is.2)
-start-tree catalogue block number (Distinct child) n is = absurd is
+start-tree catalogue block number (NestedJoin left right) (node.Distinct' head p below) is = absurd is
+start-tree catalogue block number (NestedJoin left right) (node.Join' head p l q r) is =
+    ap (λ (h : JoinNode). tree_with h.core (tree_in l) (tree_in r)) is.0
+    ∙ ap₂ NestedJoin (start-tree catalogue block number left l is.1) (start-tree catalogue block number right r is.2)
+start-tree catalogue block number (Distinct child) (node.SeqScan head) is = absurd is
+start-tree catalogue block number (Distinct child) (node.RankScan head) is = absurd is
+start-tree catalogue block number (Distinct child) (node.Rank' head p below) is = absurd is
+start-tree catalogue block number (Distinct child) (node.Join' head p l q r) is = absurd is
+start-tree catalogue block number (Distinct child) (node.Distinct' head p below) is = ap Distinct (start-tree catalogue block number child below is.1)
 start-tree catalogue block number (SetOperator left right) n is = absurd is
 
 -- they were not asked
@@ -56,21 +78,33 @@ pub start-asked : (catalogue : Catalogue) (block : Block) (number : ℕ) (tree :
 start-asked catalogue block number (SeqScan entry) (node.SeqScan head) is = ap (λ (h : TableNode). h.tally.asked) is
 start-asked catalogue block number (SeqScan entry) (node.RankScan head) is = absurd is
 start-asked catalogue block number (SeqScan entry) (node.Rank' head p below) is = absurd is
-start-asked catalogue block number (SeqScan entry) (node.NestedJoin' head p l q r) is = absurd is
+start-asked catalogue block number (SeqScan entry) (node.Join' head p l q r) is = absurd is
+start-asked catalogue block number (SeqScan entry) (node.Distinct' head p below) is = absurd is
 start-asked catalogue block number (RankScan entry term index) (node.SeqScan head) is = absurd is
 start-asked catalogue block number (RankScan entry term index) (node.RankScan head) is = ap (λ (h : IndexNode). h.tally.asked) is
 start-asked catalogue block number (RankScan entry term index) (node.Rank' head p below) is = absurd is
-start-asked catalogue block number (RankScan entry term index) (node.NestedJoin' head p l q r) is = absurd is
+start-asked catalogue block number (RankScan entry term index) (node.Join' head p l q r) is = absurd is
+start-asked catalogue block number (RankScan entry term index) (node.Distinct' head p below) is = absurd is
 start-asked catalogue block number (Rank term child) (node.SeqScan head) is = absurd is
 start-asked catalogue block number (Rank term child) (node.RankScan head) is = absurd is
 start-asked catalogue block number (Rank term child) (node.Rank' head p below) is = ap (λ (h : RankNode). h.tally.asked) is.0
-start-asked catalogue block number (Rank term child) (node.NestedJoin' head p l q r) is = absurd is
-start-asked catalogue block number (HashJoin left right) n is = absurd is
+start-asked catalogue block number (Rank term child) (node.Join' head p l q r) is = absurd is
+start-asked catalogue block number (Rank term child) (node.Distinct' head p below) is = absurd is
+start-asked catalogue block number (HashJoin left right) (node.SeqScan head) is = absurd is
+start-asked catalogue block number (HashJoin left right) (node.RankScan head) is = absurd is
+start-asked catalogue block number (HashJoin left right) (node.Rank' head p below) is = absurd is
+start-asked catalogue block number (HashJoin left right) (node.Distinct' head p below) is = absurd is
+start-asked catalogue block number (HashJoin left right) (node.Join' head p l q r) is = ap (λ (h : JoinNode). h.tally.asked) is.0
 start-asked catalogue block number (NestedJoin left right) (node.SeqScan head) is = absurd is
 start-asked catalogue block number (NestedJoin left right) (node.RankScan head) is = absurd is
 start-asked catalogue block number (NestedJoin left right) (node.Rank' head p below) is = absurd is
-start-asked catalogue block number (NestedJoin left right) (node.NestedJoin' head p l q r) is = ap (λ (h : JoinNode). h.tally.asked) is.0
-start-asked catalogue block number (Distinct child) n is = absurd is
+start-asked catalogue block number (NestedJoin left right) (node.Distinct' head p below) is = absurd is
+start-asked catalogue block number (NestedJoin left right) (node.Join' head p l q r) is = ap (λ (h : JoinNode). h.tally.asked) is.0
+start-asked catalogue block number (Distinct child) (node.SeqScan head) is = absurd is
+start-asked catalogue block number (Distinct child) (node.RankScan head) is = absurd is
+start-asked catalogue block number (Distinct child) (node.Rank' head p below) is = absurd is
+start-asked catalogue block number (Distinct child) (node.Join' head p l q r) is = absurd is
+start-asked catalogue block number (Distinct child) (node.Distinct' head p below) is = ap (λ (h : DistinctNode). h.tally.asked) is.0
 start-asked catalogue block number (SetOperator left right) n is = absurd is
 
 -- the item of a number among six
@@ -95,32 +129,56 @@ tally-none : (w : World) (number : ℕ) (tree : PlanTree) → no_tally ≡ tally
 tally-none w number tree = ap (λ (gave : ℕ). record { asked = 0; gave = gave }) (none-given (length (list_of w number tree)))
 
 rank-none : (w : World) (number term : ℕ) (child : PlanTree)
-    → record { core = new_mu (weights_in w) (terms child) term; term = term; tally = no_tally; calls = 0 } ≡ rank_node_after w number term child 0
+    → record { core = new_mu (weights_in w) (terms child) term; term = term; args = tt; tally = no_tally; calls = 0 } ≡ rank_node_after w number term child 0
 rank-none w number term child =
     let gave = none-given (length (list_of w number (Rank term child))) in
     let core = λ (ended : Bool) (count : ℕ). record (core_after w number term child 0 count) { ended = ended } in
-    ap (λ (ended : Bool). record { core = core ended 0; term = term; tally = no_tally; calls = 0 }) (none-less (length (list_of w number child)))
-    ∙ ap (λ (count : ℕ). record { core = core_after w number term child 0 count; term = term; tally = record { asked = 0; gave = count }; calls = 0 }) gave
+    ap (λ (ended : Bool). record { core = core ended 0; term = term; args = tt; tally = no_tally; calls = 0 }) (none-less (length (list_of w number child)))
+    ∙ ap (λ (count : ℕ). record { core = core_after w number term child 0 count; term = term; args = tt; tally = record { asked = 0; gave = count }; calls = 0 }) gave
     ∙ ap (λ (calls : ℕ). record (rank_node_after w number term child 0) { calls = calls }) (none-given (length (list_of w number child)))
 
--- a join of which nothing is drawn
-abbrev new_join : Weights → ℕ → PlanTree → PlanTree → JoinNode
-new_join weights number left right =
-    record { core = new_joined weights (side_for left) (side_for right); block = number; left = entries left; right = entries right; tally = no_tally }
+distinct-none : (w : World) (number : ℕ) (child : PlanTree) → record { core = new_distinct; tally = no_tally } ≡ distinct_node_after w number child 0
+distinct-none w number child =
+    ap (λ (gave : ℕ). record { core = new_distinct; tally = record { asked = 0; gave = gave } }) (none-given (length (list_of w number (Distinct child))))
 
-join-none : (w : World) (number : ℕ) (left right : PlanTree) → new_join (weights_in w) number left right ≡ join_node_after w number left right 0
-join-none w number left right =
+-- a join of which nothing is drawn
+abbrev new_join : JoinCore → ℕ → PlanTree → PlanTree → JoinNode
+new_join core number left right = record { core = core; block = number; left = entries left; right = entries right; tally = no_tally }
+
+-- a core of either kind
+data JoinKind : Type 0 where
+  pairs : JoinKind
+  values : JoinKind
+
+abbrev new_core : JoinKind → Weights → PlanTree → PlanTree → JoinCore
+new_core pairs weights left right = Nested (new_joined weights (side_for left) (side_for right))
+new_core values weights left right = Hash (new_hashed weights (side_for left) (side_for right))
+
+joined-none : (w : World) (number : ℕ) (left right : PlanTree) → new_joined (weights_in w) (side_for left) (side_for right) ≡ joined_from w number left right 0 0 0
+joined-none w number left right =
     let j = join_for w number left right in
-    let node : Joined → ℕ → JoinNode = λ core gave. record { core = core; block = number; left = entries left; right = entries right; tally = record { asked = 0; gave = gave } } in
     let core : Bool → Bool → Joined = λ left_over right_over. record (joined_from w number left right 0 0 0) {
       ripple = record (state_after j (list_of w number left) (list_of w number right) 0 0 0) {
         left = record { side = side_for left; drawn = None; ended = left_over };
         right = record { side = side_for right; drawn = None; ended = right_over };
       };
     } in
-    ap₂ (λ (left_over right_over : Bool). node (core left_over right_over) 0)
-    (none-less (length (side_keys j j.left (list_of w number left)))) (none-less (length (side_keys j j.right (list_of w number right))))
-    ∙ ap (λ (gave : ℕ). node (joined_from w number left right 0 0 gave) gave) (none-given (length (list_of w number (NestedJoin left right))))
+    ap₂ core (none-less (length (side_keys j j.left (list_of w number left)))) (none-less (length (side_keys j j.right (list_of w number right))))
+
+core-none : (kind : JoinKind) (w : World) (number : ℕ) (left right : PlanTree) → new_core kind (weights_in w) left right
+    ≡ core_like (new_core kind (weights_in w) left right) w.catalogue (numbered_block w number) (entries left) (entries right) (joined_from w number left right 0 0 0)
+core-none pairs w number left right = ap Nested (joined-none w number left right)
+core-none values w number left right =
+    ap (λ (d : Joined). Hash (hashed_with w.catalogue (numbered_block w number) (entries left) (entries right) d)) (joined-none w number left right)
+
+join-none : (kind : JoinKind) (w : World) (number : ℕ) (left right : PlanTree)
+    → new_join (new_core kind (weights_in w) left right) number left right ≡ join_node_after w number (new_core kind (weights_in w) left right) left right 0
+join-none kind w number left right =
+    let own = new_core kind (weights_in w) left right in
+    let like = core_like own w.catalogue (numbered_block w number) (entries left) (entries right) in
+    let node : JoinCore → ℕ → JoinNode = λ core gave. record { core = core; block = number; left = entries left; right = entries right; tally = record { asked = 0; gave = gave } } in
+    ap (λ (core : JoinCore). node core 0) (core-none kind w number left right)
+    ∙ ap (λ (gave : ℕ). node (like (joined_from w number left right 0 0 gave)) gave) (none-given (length (list_of w number (NestedJoin left right))))
 
 module _ (w : World) (number : ℕ) (most : length (numbered_block w number).from ≤ 6) (sizes : sizes_in w number ≡ sizes_of w.catalogue (numbered_block w number)) where
   -- an entry has the rows of its table
@@ -131,6 +189,19 @@ module _ (w : World) (number : ℕ) (most : length (numbered_block w number).fro
       ∙ of-six (size_of w.catalogue (numbered_block w number)) entry is.some (omega arith))
 
   module _ (weights : weights_of (numbered_block w number) ≡ weights_in w) where
+    -- a join of two sides that weren't asked
+    join-starts : (kind : JoinKind) (left right : PlanTree) (l r : Node) (head : JoinNode) → head ≡ new_join (new_core kind (weights_of (numbered_block w number)) left right) number left right
+        → tree_in l ≡ left → tree_in r ≡ right → asked_in l ≡ 0 → asked_in r ≡ 0 → JoinStands w number head (tree_in l) (tree_in r) (asked_in l) (asked_in r)
+    join-starts kind left right l r head is on_left on_right left_asked right_asked =
+        let same : head ≡ new_join (new_core kind (weights_in w) (tree_in l) (tree_in r)) number (tree_in l) (tree_in r) =
+        is ∙ ap (λ (ws : Weights). new_join (new_core kind ws left right) number left right) weights
+        ∙ ap₂ (λ (x y : PlanTree). new_join (new_core kind (weights_in w) x y) number x y) (sym on_left) (sym on_right) in
+        subst (λ (h : JoinNode). JoinStands w number h (tree_in l) (tree_in r) (asked_in l) (asked_in r)) (sym same) (record {
+          keeps = join-none kind w number (tree_in l) (tree_in r);
+          left_asked = left_asked;
+          right_asked = right_asked;
+        })
+
     pub start-stands : (tree : PlanTree) (n : Node) → IsPart w.catalogue (numbered_block w number) tree → IsStart w.catalogue (numbered_block w number) number tree n → Stands w number n
     start-stands (SeqScan entry) (node.SeqScan head) part is =
         subst (λ (h : TableNode). h ≡ table_node_after w number h.entry h.tally.asked) (sym is)
@@ -139,7 +210,8 @@ module _ (w : World) (number : ℕ) (most : length (numbered_block w number).fro
         (tally-none w number (SeqScan entry)))
     start-stands (SeqScan entry) (node.RankScan head) part is = absurd is
     start-stands (SeqScan entry) (node.Rank' head p below) part is = absurd is
-    start-stands (SeqScan entry) (node.NestedJoin' head p l q r) part is = absurd is
+    start-stands (SeqScan entry) (node.Join' head p l q r) part is = absurd is
+    start-stands (SeqScan entry) (node.Distinct' head p below) part is = absurd is
     start-stands (RankScan entry term index) (node.SeqScan head) part is = absurd is
     start-stands (RankScan entry term index) (node.RankScan head) part is =
         subst (λ (h : IndexNode). h ≡ index_node_after w number h.entry h.term h.scan.index h.tally.asked) (sym is)
@@ -165,36 +237,51 @@ module _ (w : World) (number : ℕ) (most : length (numbered_block w number).fro
           tally = tally;
         }) (tally-none w number (RankScan entry term index)))
     start-stands (RankScan entry term index) (node.Rank' head p below) part is = absurd is
-    start-stands (RankScan entry term index) (node.NestedJoin' head p l q r) part is = absurd is
+    start-stands (RankScan entry term index) (node.Join' head p l q r) part is = absurd is
+    start-stands (RankScan entry term index) (node.Distinct' head p below) part is = absurd is
     start-stands (Rank term child) (node.SeqScan head) part is = absurd is
     start-stands (Rank term child) (node.RankScan head) part is = absurd is
     start-stands (Rank term child) (node.Rank' head p below) part is =
         let tree = start-tree w.catalogue (numbered_block w number) number child below is.1 in (
           subst (λ (h : RankNode). HeadStands w number h (tree_in below) (asked_in below)) (sym is.0) (record {
-            keeps = ap (λ (ws : Weights). record { core = new_mu ws (terms child) term; term = term; tally = no_tally; calls = 0 }) weights
-                ∙ ap (λ (below : PlanTree). record { core = new_mu (weights_in w) (terms below) term; term = term; tally = no_tally; calls = 0 }) (sym tree)
+            keeps = ap (λ (ws : Weights). record { core = new_mu ws (terms child) term; term = term; args = tt; tally = no_tally; calls = 0 }) weights
+                ∙ ap (λ (below : PlanTree). record { core = new_mu (weights_in w) (terms below) term; term = term; args = tt; tally = no_tally; calls = 0 }) (sym tree)
                 ∙ rank-none w number term (tree_in below);
             asked = start-asked w.catalogue (numbered_block w number) number child below is.1;
           }),
           start-stands child below part.0 is.1,
         )
-    start-stands (Rank term child) (node.NestedJoin' head p l q r) part is = absurd is
-    start-stands (HashJoin left right) n part is = absurd is
+    start-stands (Rank term child) (node.Join' head p l q r) part is = absurd is
+    start-stands (Rank term child) (node.Distinct' head p below) part is = absurd is
+    start-stands (HashJoin left right) (node.SeqScan head) part is = absurd is
+    start-stands (HashJoin left right) (node.RankScan head) part is = absurd is
+    start-stands (HashJoin left right) (node.Rank' head p below) part is = absurd is
+    start-stands (HashJoin left right) (node.Distinct' head p below) part is = absurd is
+    start-stands (HashJoin left right) (node.Join' head p l q r) part is = (
+      join-starts values left right l r head is.0 (start-tree w.catalogue (numbered_block w number) number left l is.1) (start-tree w.catalogue (numbered_block w number) number right r is.2)
+          (start-asked w.catalogue (numbered_block w number) number left l is.1) (start-asked w.catalogue (numbered_block w number) number right r is.2),
+      start-stands left l part.0 is.1,
+      start-stands right r part.1 is.2,
+    )
     start-stands (NestedJoin left right) (node.SeqScan head) part is = absurd is
     start-stands (NestedJoin left right) (node.RankScan head) part is = absurd is
     start-stands (NestedJoin left right) (node.Rank' head p below) part is = absurd is
-    start-stands (NestedJoin left right) (node.NestedJoin' head p l q r) part is =
-        let on_left = start-tree w.catalogue (numbered_block w number) number left l is.1 in
-        let on_right = start-tree w.catalogue (numbered_block w number) number right r is.2 in (
-          subst (λ (h : JoinNode). JoinStands w number h (tree_in l) (tree_in r) (asked_in l) (asked_in r)) (sym is.0) (record {
-            keeps = ap (λ (ws : Weights). new_join ws number left right) weights
-                ∙ ap₂ (new_join (weights_in w) number) (sym on_left) (sym on_right)
-                ∙ join-none w number (tree_in l) (tree_in r);
-            left_asked = start-asked w.catalogue (numbered_block w number) number left l is.1;
-            right_asked = start-asked w.catalogue (numbered_block w number) number right r is.2;
-          }),
-          start-stands left l part.0 is.1,
-          start-stands right r part.1 is.2,
-        )
-    start-stands (Distinct child) n part is = absurd is
+    start-stands (NestedJoin left right) (node.Distinct' head p below) part is = absurd is
+    start-stands (NestedJoin left right) (node.Join' head p l q r) part is = (
+      join-starts pairs left right l r head is.0 (start-tree w.catalogue (numbered_block w number) number left l is.1) (start-tree w.catalogue (numbered_block w number) number right r is.2)
+          (start-asked w.catalogue (numbered_block w number) number left l is.1) (start-asked w.catalogue (numbered_block w number) number right r is.2),
+      start-stands left l part.0 is.1,
+      start-stands right r part.1 is.2,
+    )
+    start-stands (Distinct child) (node.SeqScan head) part is = absurd is
+    start-stands (Distinct child) (node.RankScan head) part is = absurd is
+    start-stands (Distinct child) (node.Rank' head p below) part is = absurd is
+    start-stands (Distinct child) (node.Join' head p l q r) part is = absurd is
+    start-stands (Distinct child) (node.Distinct' head p below) part is = (
+      subst (λ (h : DistinctNode). DropsStand w number h (tree_in below) (asked_in below)) (sym is.0) (record {
+        keeps = distinct-none w number (tree_in below);
+        asked = start-asked w.catalogue (numbered_block w number) number child below is.1;
+      }),
+      start-stands child below part.0 is.1,
+    )
     start-stands (SetOperator left right) n part is = absurd is

@@ -143,12 +143,12 @@ tally-is : (t : Tally) (asked gave : ℕ) → t.asked ≡ asked → t.gave ≡ g
 tally-is t asked gave p q = ap (λ n. record { asked = n; gave = t.gave }) p ∙ ap (λ n. record { asked = asked; gave = n }) q
 
 head-is : (n : RankNode) (core : Mu) (term : ℕ) (tally : Tally) (calls : ℕ) → n.core ≡ core → n.term ≡ term → n.tally ≡ tally → n.calls ≡ calls
-    → n ≡ record { core = core; term = term; tally = tally; calls = calls }
+    → n ≡ record { core = core; term = term; args = tt; tally = tally; calls = calls }
 head-is n core term tally calls p q r s =
-    ap (λ c. record { core = c; term = n.term; tally = n.tally; calls = n.calls }) p
-    ∙ ap (λ t. record { core = core; term = t; tally = n.tally; calls = n.calls }) q
-    ∙ ap (λ t. record { core = core; term = term; tally = t; calls = n.calls }) r
-    ∙ ap (λ c. record { core = core; term = term; tally = tally; calls = c }) s
+    ap (λ c. record { core = c; term = n.term; args = tt; tally = n.tally; calls = n.calls }) p
+    ∙ ap (λ t. record { core = core; term = t; args = tt; tally = n.tally; calls = n.calls }) q
+    ∙ ap (λ t. record { core = core; term = term; args = tt; tally = t; calls = n.calls }) r
+    ∙ ap (λ c. record { core = core; term = term; args = tt; tally = tally; calls = c }) s
 
 -- the operator can be asked once more
 module _ (catalogue : Catalogue) (query : Query) (number term : ℕ) (child : PlanTree) (a : ℕ) (old : ScorerState)

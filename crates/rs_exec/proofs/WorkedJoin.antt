@@ -1,4 +1,4 @@
--- What a nested join keeps after so many asks, computed on literals and worked by hand.
+-- What a join keeps after so many asks, computed on literals and worked by hand.
 use Rattle.std.proofs.Common.{◌≡◌, ℕ, false, true, List, [], ◌∷◌, refl}
 use Rattle.std.specs.Prelude.{pos, None, Some, codes}
 use Rattle.rs_value.specs.declared.kind.Kind.TheVariants as kind
@@ -13,12 +13,16 @@ use Rattle.rs_expr.specs.Meaning.{value_of}
 use Rattle.rs_catalog.specs.Catalogue.{Catalogue, NamedTable}
 use Rattle.rs_catalog.specs.declared.index.BoundArg.TheVariants as arg
 use Rattle.rs_query.specs.declared.query.Query.TheVariants.{One}
-use Rattle.rs_plan.specs.Lists.{World, list_of}
+use Rattle.rs_hrjn.specs.Hashed.{new_hashed}
+use Rattle.rs_plan.specs.Lists.{World, list_of, weights_in}
 use Rattle.rs_plan.specs.Trees.{NestedJoin, SeqScan}
-use Rattle.rs_ripple.specs.Joined.{Joined}
+use Rattle.rs_ripple.specs.Joined.{Joined, new_joined}
 use Rattle.rs_ripple.specs.Stands.{answers}
-use Rattle.rs_exec.specs.Joining.{join_for}
+use Rattle.rs_exec.specs.Cores.{joined_in}
+use Rattle.rs_exec.specs.Joining.{join_for, side_for}
 use Rattle.rs_exec.specs.Standing.{join_node_after}
+use Rattle.rs_exec.specs.declared.join_core.JoinCore.{JoinCore}
+use Rattle.rs_exec.specs.declared.join_core.JoinCore.TheVariants.{Hash, Nested}
 
 abbrev int : ℕ → Value
 int n = value.Int (pos n)
@@ -65,11 +69,18 @@ list_joined = refl
 pairs_joined : answers (join_for world 1 (SeqScan 1) (SeqScan 2)) (list_of world 1 (SeqScan 1)) (list_of world 1 (SeqScan 2)) ≡ row 3 1 2 ∷ row 3 1 3 ∷ row 3 2 1 ∷ []
 pairs_joined = refl
 
+-- joins by trying all pairs, and by join values
+abbrev nested : JoinCore
+nested = Nested (new_joined (weights_in world) (side_for (SeqScan 1)) (side_for (SeqScan 2)))
+
+abbrev hash : JoinCore
+hash = Hash (new_hashed (weights_in world) (side_for (SeqScan 1)) (side_for (SeqScan 2)))
+
 -- the first answer: the first rows don't match. The left side's key, that of both first rows, comes first, on a tie with the right
 -- side's; then both sides' keys are that of the first left row with the first right one, and so on, until the second right row is
 -- there. The pair of the second left row with the first right one is held
 abbrev core_after_one : Joined
-core_after_one = (join_node_after world 1 (SeqScan 1) (SeqScan 2) 1).core
+core_after_one = joined_in (join_node_after world 1 nested (SeqScan 1) (SeqScan 2) 1).core
 
 lefts_after_one : core_after_one.lefts ≡ row 1 1 0 ∷ row 1 2 0 ∷ []
 lefts_after_one = refl
@@ -83,9 +94,17 @@ held_after_one = refl
 taken_after_one : core_after_one.ripple.taken ≡ Some (key 3 1 2)
 taken_after_one = refl
 
+-- a hash join keeps the same, each row with its value of g
+hashed_after_one : (join_node_after world 1 hash (SeqScan 1) (SeqScan 2) 1).core ≡ Hash (record {
+  ripple = core_after_one.ripple;
+  lefts = record { row = row 1 1 0; values = int 1 ∷ [] } ∷ record { row = row 1 2 0; values = int 2 ∷ [] } ∷ [];
+  rights = record { row = row 2 0 1; values = int 2 ∷ [] } ∷ record { row = row 2 0 2; values = int 1 ∷ [] } ∷ [];
+})
+hashed_after_one = refl
+
 -- behind the last answer both sides have ended, and nothing is held
 abbrev core_after_four : Joined
-core_after_four = (join_node_after world 1 (SeqScan 1) (SeqScan 2) 4).core
+core_after_four = joined_in (join_node_after world 1 nested (SeqScan 1) (SeqScan 2) 4).core
 
 held_after_four : core_after_four.ripple.held ≡ []
 held_after_four = refl
@@ -98,7 +117,7 @@ right_over_after_four = refl
 
 -- a join of which nothing was asked keeps nothing
 abbrev core_at_first : Joined
-core_at_first = (join_node_after world 1 (SeqScan 1) (SeqScan 2) 0).core
+core_at_first = joined_in (join_node_after world 1 nested (SeqScan 1) (SeqScan 2) 0).core
 
 lefts_at_first : core_at_first.lefts ≡ []
 lefts_at_first = refl

@@ -12,13 +12,17 @@ use Rattle.rs_query.specs.declared.query.Query.{Query}
 use Rattle.rs_query.specs.declared.query.Query.TheVariants.{One, Set}
 use Rattle.rs_plan.specs.Lists.{World, block_in, list_of, weights_in}
 use Rattle.rs_plan.specs.Plans.{IsPart}
-use Rattle.rs_plan.specs.Trees.{NestedJoin, Rank, PlanTree}
+use Rattle.rs_plan.specs.Trees.{Distinct, NestedJoin, Rank, PlanTree}
+use Rattle.rs_exec.specs.declared.distinct.DistinctNode.{DistinctNode}
 use Rattle.rs_exec.specs.declared.fault.ExecFault.{ExecFault}
 use Rattle.rs_exec.specs.declared.fault.ExecFault.TheVariants.{Memory}
 use Rattle.rs_exec.specs.declared.join.JoinNode.{JoinNode}
+use Rattle.rs_exec.specs.declared.join_core.JoinCore.{JoinCore}
 use Rattle.rs_exec.specs.declared.node.Node.{Node}
 use Rattle.rs_exec.specs.declared.rank.RankNode.{RankNode}
 use Rattle.rs_exec.specs.Asking.{next_row, world_of}
+use Rattle.rs_exec.specs.Cores.{tree_with}
+use Rattle.rs_exec.specs.Distincts.{DropsStand}
 use Rattle.rs_exec.specs.Indexes.{HoldIndexes}
 use Rattle.rs_exec.specs.Nodes.{asked_in, number_in, tree_in}
 use Rattle.rs_exec.specs.Standing.{HeadStands, JoinStands, Stands}
@@ -55,14 +59,23 @@ pub record RankAfter (w : World) (number : ℕ) (tree : PlanTree) (asked : ℕ) 
   pub operator : HeadStands w number head (tree_in child) (asked_in child)
   pub input : Stands w number child
 
--- the same of a join and its two sides
-pub record JoinAfter (w : World) (number : ℕ) (tree : PlanTree) (asked : ℕ) (head : JoinNode) (left right : Node) : Type 0 where
+-- the same of a join and its two sides, whose core was this one before
+pub record JoinAfter (w : World) (number : ℕ) (core : JoinCore) (tree : PlanTree) (asked : ℕ) (head : JoinNode) (left right : Node) : Type 0 where
   pub number_is : head.block ≡ number
+  pub kind_is : (l r : PlanTree) → tree_with head.core l r ≡ tree_with core l r
   pub tree_is : NestedJoin (tree_in left) (tree_in right) ≡ tree
   pub asked_is : head.tally.asked ≡ suc asked
   pub operator : JoinStands w number head (tree_in left) (tree_in right) (asked_in left) (asked_in right)
   pub left_side : Stands w number left
   pub right_side : Stands w number right
+
+-- the same of an operator that drops duplicates and its input
+pub record DistinctAfter (w : World) (number : ℕ) (tree : PlanTree) (asked : ℕ) (head : DistinctNode) (child : Node) : Type 0 where
+  pub number_is : number_in child ≡ number
+  pub tree_is : Distinct (tree_in child) ≡ tree
+  pub asked_is : head.tally.asked ≡ suc asked
+  pub operator : DropsStand w number head (tree_in child) (asked_in child)
+  pub input : Stands w number child
 
 -- an ask of a node of this tree, which was asked so often: it made the calls of this ask, in order, and gave the next row; and
 -- where it was answered, this holds after it

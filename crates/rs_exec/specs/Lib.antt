@@ -1,12 +1,15 @@
 pub mod Asked
 pub mod Asking
 pub mod Building
+pub mod Cores
 pub mod Cursors
+pub mod Distincts
 pub mod Drawing
 pub mod Feeding
 pub mod Indexes
 pub mod Joining
 pub mod Nodes
+pub mod Outputs
 pub mod Standing
 pub mod Starting
 pub mod Stored

@@ -1,7 +1,8 @@
 -- The nodes of a plan that is executed: which tree they are, and what they count.
 use Rattle.std.specs.Prelude.{ℕ, zero, suc, List, [], ◌∷◌, ◌++◌, Result, Ok, Err}
 use Rattle.rs_plan.specs.declared.counts.Counts.{Counts}
-use Rattle.rs_plan.specs.Trees.{NestedJoin, Rank, RankScan, SeqScan, PlanTree}
+use Rattle.rs_plan.specs.Trees.{Distinct, Rank, RankScan, SeqScan, PlanTree}
+use Rattle.rs_exec.specs.Cores.{tree_with}
 use Rattle.rs_exec.specs.declared.node.Node.{Node}
 use Rattle.rs_exec.specs.declared.node.Node.TheVariants as node
 use Rattle.rs_exec.specs.declared.tally.Tally.{Tally}
@@ -11,21 +12,24 @@ abbrev pub tree_in : Node → PlanTree
 tree_in (node.SeqScan head) = SeqScan head.entry
 tree_in (node.RankScan head) = RankScan head.entry head.term head.scan.index
 tree_in (node.Rank' head p child) = Rank head.term (tree_in child)
-tree_in (node.NestedJoin' head p left q right) = NestedJoin (tree_in left) (tree_in right)
+tree_in (node.Join' head p left q right) = tree_with head.core (tree_in left) (tree_in right)
+tree_in (node.Distinct' head p child) = Distinct (tree_in child)
 
 -- the number of the block whose rows it gives
 abbrev pub number_in : Node → ℕ
 number_in (node.SeqScan head) = head.block
 number_in (node.RankScan head) = head.block
 number_in (node.Rank' head p child) = number_in child
-number_in (node.NestedJoin' head p left q right) = head.block
+number_in (node.Join' head p left q right) = head.block
+number_in (node.Distinct' head p child) = number_in child
 
 -- how often it was asked, and how many rows it gave
 abbrev pub tally_in : Node → Tally
 tally_in (node.SeqScan head) = head.tally
 tally_in (node.RankScan head) = head.tally
 tally_in (node.Rank' head p child) = head.tally
-tally_in (node.NestedJoin' head p left q right) = head.tally
+tally_in (node.Join' head p left q right) = head.tally
+tally_in (node.Distinct' head p child) = head.tally
 
 abbrev pub asked_in : Node → ℕ
 asked_in n = (tally_in n).asked
@@ -36,8 +40,9 @@ counts_in (node.SeqScan head) = record { asked = head.tally.asked; gave = head.t
 counts_in (node.RankScan head) = record { asked = head.tally.asked; gave = head.tally.gave; calls = 0; drawn = head.scan.drawn } ∷ []
 counts_in (node.Rank' head p child) =
     record { asked = head.tally.asked; gave = head.tally.gave; calls = head.calls; drawn = 0 } ∷ counts_in child
-counts_in (node.NestedJoin' head p left q right) =
+counts_in (node.Join' head p left q right) =
     record { asked = head.tally.asked; gave = head.tally.gave; calls = 0; drawn = 0 } ∷ counts_in left ++ counts_in right
+counts_in (node.Distinct' head p child) = record { asked = head.tally.asked; gave = head.tally.gave; calls = 0; drawn = 0 } ∷ counts_in child
 
 -- the item at a place; past the last one, by how many places
 abbrev pub at_or_past : {A : Type 0} → List A → ℕ → Result A ℕ

@@ -6,7 +6,7 @@ use Rattle.rs_rank.specs.declared.row.RankRow.{RankRow}
 use Rattle.rs_mu.specs.Mu.{Mu}
 use Rattle.rs_mu.specs.Stands.{Evaluation, state_after}
 use Rattle.rs_plan.specs.Counts.{asked_of, drawn_of, gave_of, size_at}
-use Rattle.rs_plan.specs.Lists.{World, list_of, weights_in, worths}
+use Rattle.rs_plan.specs.Lists.{World, list_of, numbered_block, weights_in, worths}
 use Rattle.rs_plan.specs.Trees.{NestedJoin, Rank, RankScan, SeqScan, PlanTree, entries, terms}
 use Rattle.rs_ripple.specs.After.{joined_after}
 use Rattle.rs_ripple.specs.Joined.{Joined}
@@ -17,6 +17,9 @@ use Rattle.rs_exec.specs.declared.rank.RankNode.{RankNode}
 use Rattle.rs_exec.specs.declared.scan.IndexNode.{IndexNode}
 use Rattle.rs_exec.specs.declared.scan.TableNode.{TableNode}
 use Rattle.rs_exec.specs.declared.tally.Tally.{Tally}
+use Rattle.rs_exec.specs.declared.join_core.JoinCore.{JoinCore}
+use Rattle.rs_exec.specs.Cores.{core_like}
+use Rattle.rs_exec.specs.Distincts.{DropsStand}
 use Rattle.rs_exec.specs.Joining.{join_for}
 use Rattle.rs_exec.specs.Nodes.{asked_in, tree_in}
 
@@ -68,6 +71,7 @@ abbrev pub rank_node_after : World → ℕ → ℕ → PlanTree → ℕ → Rank
 rank_node_after w number term child a = record {
   core = core_after w number term child (asked_of w number (Rank term child) a Left) (gave_of w number (Rank term child) a);
   term = term;
+  args = tt;
   tally = tally_after w number (Rank term child) a;
   calls = gave_of w number child (asked_of w number (Rank term child) a Left);
 }
@@ -82,11 +86,12 @@ abbrev pub joined_from : World → ℕ → PlanTree → PlanTree → ℕ → ℕ
 joined_from w number left right left_asks right_asks answers =
     joined_after (join_for w number left right) (list_of w number left) (list_of w number right) left_asks right_asks answers
 
--- a nested join: its sides were asked as often as its answers take
-abbrev pub join_node_after : World → ℕ → PlanTree → PlanTree → ℕ → JoinNode
-join_node_after w number left right a = record {
-  core = joined_from w number left right
-      (asked_of w number (NestedJoin left right) a Left) (asked_of w number (NestedJoin left right) a Right) (gave_of w number (NestedJoin left right) a);
+-- a join with a core of the kind of this one: its sides were asked as often as its answers take. The list of a join and the asks
+-- of its sides are the same whichever way it is done
+abbrev pub join_node_after : World → ℕ → JoinCore → PlanTree → PlanTree → ℕ → JoinNode
+join_node_after w number core left right a = record {
+  core = core_like core w.catalogue (numbered_block w number) (entries left) (entries right) (joined_from w number left right
+      (asked_of w number (NestedJoin left right) a Left) (asked_of w number (NestedJoin left right) a Right) (gave_of w number (NestedJoin left right) a));
   block = number;
   left = entries left;
   right = entries right;
@@ -95,7 +100,7 @@ join_node_after w number left right a = record {
 
 -- a join over sides of these trees that were asked so often keeps what its own asks give
 pub record JoinStands (w : World) (number : ℕ) (head : JoinNode) (left right : PlanTree) (left_asks right_asks : ℕ) : Type 0 where
-  pub keeps : head ≡ join_node_after w number left right head.tally.asked
+  pub keeps : head ≡ join_node_after w number head.core left right head.tally.asked
   pub left_asked : left_asks ≡ asked_of w number (NestedJoin left right) head.tally.asked Left
   pub right_asked : right_asks ≡ asked_of w number (NestedJoin left right) head.tally.asked Right
 
@@ -104,5 +109,6 @@ abbrev pub Stands : World → ℕ → Node → Type 0
 Stands w number (node.SeqScan head) = head ≡ table_node_after w number head.entry head.tally.asked
 Stands w number (node.RankScan head) = head ≡ index_node_after w number head.entry head.term head.scan.index head.tally.asked
 Stands w number (node.Rank' head p child) = HeadStands w number head (tree_in child) (asked_in child) × Stands w number child
-Stands w number (node.NestedJoin' head p left q right) =
+Stands w number (node.Join' head p left q right) =
     JoinStands w number head (tree_in left) (tree_in right) (asked_in left) (asked_in right) × Stands w number left × Stands w number right
+Stands w number (node.Distinct' head p child) = DropsStand w number head (tree_in child) (asked_in child) × Stands w number child

@@ -1,13 +1,17 @@
 -- The nodes of a plan at its start: nothing is drawn, held or asked.
 use Rattle.std.specs.Prelude.{ℕ, ◌≡◌, ◌-◌, slice_index}
 use Rattle.rs_catalog.specs.Catalogue.{Catalogue}
+use Rattle.rs_filter.specs.Distinct.{new_distinct}
 use Rattle.rs_mu.specs.Mu.{new_mu}
 use Rattle.rs_query.specs.Answers.{weights_of}
 use Rattle.rs_query.specs.Tables.{size_of}
 use Rattle.rs_query.specs.declared.block.Block.{Block}
 use Rattle.rs_scan.specs.Scans.{new_index_scan, new_table_scan}
-use Rattle.rs_plan.specs.Trees.{NestedJoin, Rank, RankScan, SeqScan, PlanTree, entries, terms}
+use Rattle.rs_plan.specs.Trees.{Distinct, HashJoin, NestedJoin, Rank, RankScan, SeqScan, PlanTree, entries, terms}
+use Rattle.rs_hrjn.specs.Hashed.{new_hashed}
 use Rattle.rs_ripple.specs.Joined.{new_joined}
+use Rattle.rs_exec.specs.declared.join_core.JoinCore.TheVariants.{Hash, Nested}
+use Rattle.rs_exec.specs.declared.distinct.DistinctNode.{DistinctNode}
 use Rattle.rs_exec.specs.declared.join.JoinNode.{JoinNode}
 use Rattle.rs_exec.specs.declared.node.Node.{Node}
 use Rattle.rs_exec.specs.declared.node.Node.TheVariants as node
@@ -31,17 +35,28 @@ IsStart catalogue block number (RankScan entry term index) (node.RankScan head) 
       tally = no_tally;
     }
 IsStart catalogue block number (Rank term child) (node.Rank' head p below) =
-    (head ≡ record { core = new_mu (weights_of block) (terms child) term; term = term; tally = no_tally; calls = 0 })
+    (head ≡ record { core = new_mu (weights_of block) (terms child) term; term = term; args = tt; tally = no_tally; calls = 0 })
     × IsStart catalogue block number child below
-IsStart catalogue block number (NestedJoin left right) (node.NestedJoin' head p on_left q on_right) =
+IsStart catalogue block number (HashJoin left right) (node.Join' head p on_left q on_right) =
     (head ≡ record {
-      core = new_joined (weights_of block) (side_for left) (side_for right);
+      core = Hash (new_hashed (weights_of block) (side_for left) (side_for right));
       block = number;
       left = entries left;
       right = entries right;
       tally = no_tally;
     })
     × IsStart catalogue block number left on_left × IsStart catalogue block number right on_right
+IsStart catalogue block number (NestedJoin left right) (node.Join' head p on_left q on_right) =
+    (head ≡ record {
+      core = Nested (new_joined (weights_of block) (side_for left) (side_for right));
+      block = number;
+      left = entries left;
+      right = entries right;
+      tally = no_tally;
+    })
+    × IsStart catalogue block number left on_left × IsStart catalogue block number right on_right
+IsStart catalogue block number (Distinct child) (node.Distinct' head p below) =
+    (head ≡ record { core = new_distinct; tally = no_tally }) × IsStart catalogue block number child below
 IsStart catalogue block number tree nodes = ⊥
 
 -- an operator over these nodes
@@ -49,11 +64,21 @@ abbrev pub IsRankOver : RankNode → Node → Node → Type 0
 IsRankOver head below (node.Rank' top p child) = (top ≡ head) × (child ≡ below)
 IsRankOver head below (node.SeqScan top) = ⊥
 IsRankOver head below (node.RankScan top) = ⊥
-IsRankOver head below (node.NestedJoin' top p left q right) = ⊥
+IsRankOver head below (node.Join' top p left q right) = ⊥
+IsRankOver head below (node.Distinct' top p child) = ⊥
 
 -- a join over these nodes
 abbrev pub IsJoinOver : JoinNode → Node → Node → Node → Type 0
-IsJoinOver head on_left on_right (node.NestedJoin' top p left q right) = (top ≡ head) × (left ≡ on_left) × (right ≡ on_right)
+IsJoinOver head on_left on_right (node.Join' top p left q right) = (top ≡ head) × (left ≡ on_left) × (right ≡ on_right)
 IsJoinOver head on_left on_right (node.SeqScan top) = ⊥
 IsJoinOver head on_left on_right (node.RankScan top) = ⊥
 IsJoinOver head on_left on_right (node.Rank' top p child) = ⊥
+IsJoinOver head on_left on_right (node.Distinct' top p child) = ⊥
+
+-- an operator that drops duplicates over these nodes
+abbrev pub IsDistinctOver : DistinctNode → Node → Node → Type 0
+IsDistinctOver head below (node.Distinct' top p child) = (top ≡ head) × (child ≡ below)
+IsDistinctOver head below (node.SeqScan top) = ⊥
+IsDistinctOver head below (node.RankScan top) = ⊥
+IsDistinctOver head below (node.Rank' top p child) = ⊥
+IsDistinctOver head below (node.Join' top p left q right) = ⊥

@@ -64,7 +64,7 @@ impl Cursor {
     ) -> Result<Cursor, Memory>
         requires query { IsQuery catalog.now query }
         requires plan { IsPlan catalog.now query (tree_of plan.now) }
-        // Hash joins, DISTINCT and set operators can't be executed yet.
+        // Set operators can't be executed yet.
         requires built { IsBuilt (tree_of plan.now) }
         ensures new { IfOk result (IsNew query (tree_of plan.now)) }
         ensures stands { (answer : Answering) → HoldIndexes answer catalog.now (tree_of plan.now) → IfOk result (StandsFor catalog.now answer) }

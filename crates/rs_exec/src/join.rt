@@ -1,4 +1,4 @@
-//! The nested rank join as a node.
+//! The rank joins as a node.
 
 ghost use Rattle.std.specs.Prelude.{◌≡◌, ◌<◌, ◌+◌, ◌-◌, ◌^◌, OnOk, is_some, if◌then◌else◌, false};
 ghost use Rattle.rs_filter.specs.Matching.{joins};
@@ -6,8 +6,13 @@ ghost use Rattle.rs_plan.specs.Lists.{block_in};
 ghost use Rattle.rs_plan.specs.Trees.{NestedJoin};
 ghost use Rattle.rs_query.specs.WellFormed.{IsBlock};
 ghost use Rattle.rs_rank.specs.declared.ask.JoinAsk.TheVariants.{NeedLeft, NeedRight};
-ghost use Rattle.rs_ripple.specs.Joined.{CanFeedLeft, CanFeedRight, Fits, end_left, end_right, fed_left, fed_right, new_joined, rest_for};
-ghost use Rattle.rs_ripple.specs.Ripple.{CanEnd, CanJoin, ask_of, taken_for};
+ghost use Rattle.rs_query.specs.Tables.{HasRows};
+ghost use Rattle.rs_rank.specs.Masks.{AreDisjoint};
+ghost use Rattle.rs_hrjn.specs.Hashed.{new_hashed};
+ghost use Rattle.rs_ripple.specs.Joined.{CanFeedLeft, CanFeedRight, Fits, fed_left, fed_right, new_joined};
+ghost use Rattle.rs_ripple.specs.Ripple.{CanEnd, CanJoin, ask_of, left_ended, left_for, right_ended, taken_for};
+ghost use Rattle.rs_exec.specs.Cores.{HasValues, core_like, core_with, joined_in};
+ghost use Rattle.rs_exec.specs.declared.join_core.JoinCore.TheVariants.{Hash, Nested};
 ghost use Rattle.rs_exec.specs.Asked.{Asked, CanAsk, JoinAfter};
 ghost use Rattle.rs_exec.specs.Asking.{world_of};
 ghost use Rattle.rs_exec.specs.Nodes.{asked_in, tree_in};
@@ -15,11 +20,12 @@ ghost use Rattle.rs_exec.specs.Standing.{JoinStands, Stands};
 
 use crate::block::block_of;
 use crate::fault::ExecFault;
+use crate::join_core::JoinCore;
 use crate::node::Node;
 use crate::tally::Tally;
 use rs_catalog::Catalog;
 use rs_expr::Scorer;
-use rs_filter::BlockMatch;
+use rs_hrjn::Hrjn;
 use rs_nrjn::Nrjn;
 use rs_plan::Counts;
 use rs_query::Query;
@@ -28,10 +34,10 @@ use rs_ripple::Side;
 use rs_value::Memory;
 use std::alloc::Global;
 
-/// A nested rank join, without its sides.
+/// A rank join, without its sides.
 #[derive(Drop)]
 pub(crate) struct JoinNode {
-    pub(crate) core: Nrjn,
+    pub(crate) core: JoinCore,
     /// The number of its block, and the masks of the entries of its sides in there.
     pub(crate) block: u8,
     pub(crate) left: u8,
@@ -40,8 +46,8 @@ pub(crate) struct JoinNode {
 }
 
 impl JoinNode {
-    /// The join of two sides of a block, of which no row is drawn.
-    pub(crate) fn new(
+    /// The join of two sides of a block, of which no row is drawn, by trying all pairs.
+    pub(crate) fn nested(
         alloc: Global,
         weights: Weights,
         block: u8,
@@ -50,7 +56,7 @@ impl JoinNode {
     ) -> JoinNode
         requires { CanJoin weights left right }
         ensures { result ≡ record {
-          core = new_joined weights left right;
+          core = Nested (new_joined weights left right);
           block = block;
           left = left.mask;
           right = right.mask;
@@ -58,7 +64,33 @@ impl JoinNode {
         } }
     {
         JoinNode {
-            core: Nrjn::new(alloc, weights, left, right),
+            core: JoinCore::Nested(Nrjn::new(alloc, weights, left, right)),
+            block,
+            left: left.mask,
+            right: right.mask,
+            tally: Tally::new(),
+        }
+    }
+
+    /// The same join by join values.
+    pub(crate) fn hash(
+        alloc: Global,
+        weights: Weights,
+        block: u8,
+        left: Side,
+        right: Side,
+    ) -> JoinNode
+        requires { CanJoin weights left right }
+        ensures { result ≡ record {
+          core = Hash (new_hashed weights left right);
+          block = block;
+          left = left.mask;
+          right = right.mask;
+          tally = record { asked = 0; gave = 0 };
+        } }
+    {
+        JoinNode {
+            core: JoinCore::Hash(Hrjn::new(alloc, weights, left, right)),
             block,
             left: left.mask,
             right: right.mask,
@@ -68,8 +100,8 @@ impl JoinNode {
 
     /// What it does next.
     fn ask(&self) -> JoinAsk
-        requires { self.now.core.ripple.spent ≡ false }
-        ensures { result ≡ ask_of self.now.core.ripple }
+        requires { (joined_in self.now.core).ripple.spent ≡ false }
+        ensures { result ≡ ask_of (joined_in self.now.core).ripple }
     {
         self.core.ask()
     }
@@ -83,15 +115,19 @@ impl JoinNode {
         query: &Query,
     ) -> Result<(), Memory>
         requires block { IsBlock catalog.now (block_in query.now self.old.block) }
-        requires row { CanFeedLeft row self.old.core }
-        requires fits { Fits (joins catalog.now (block_in query.now self.old.block) self.old.left self.old.right) self.old.core }
+        requires apart { AreDisjoint self.old.left self.old.right }
+        requires values { HasValues catalog.now (block_in query.now self.old.block) self.old.left self.old.right self.old.core }
+        requires row { CanFeedLeft row (joined_in self.old.core) }
+        requires rows { HasRows catalog.now (block_in query.now self.old.block) self.old.left row.ids.rows }
+        requires fits { Fits (joins catalog.now (block_in query.now self.old.block) self.old.left self.old.right) (joined_in self.old.core) }
         ensures { OnOk result (self.new ≡ record self.old {
-          core = fed_left (joins catalog.now (block_in query.now self.old.block) self.old.left self.old.right) row self.old.core;
+          core = core_like self.old.core catalog.now (block_in query.now self.old.block) self.old.left self.old.right
+              (fed_left (joins catalog.now (block_in query.now self.old.block) self.old.left self.old.right) row (joined_in self.old.core));
         }) }
     {
         let block = block_of(query, self.block);
-        let mut matcher = BlockMatch::new(alloc, catalog, block, self.left, self.right);
-        self.core.feed_left(row, &mut matcher)
+        self.core
+            .feed_left(row, alloc, catalog, block, self.left, self.right)
     }
 
     /// Takes the right side's next row, and finds the left rows drawn so far that it matches.
@@ -103,40 +139,44 @@ impl JoinNode {
         query: &Query,
     ) -> Result<(), Memory>
         requires block { IsBlock catalog.now (block_in query.now self.old.block) }
-        requires row { CanFeedRight row self.old.core }
-        requires fits { Fits (joins catalog.now (block_in query.now self.old.block) self.old.left self.old.right) self.old.core }
+        requires apart { AreDisjoint self.old.left self.old.right }
+        requires values { HasValues catalog.now (block_in query.now self.old.block) self.old.left self.old.right self.old.core }
+        requires row { CanFeedRight row (joined_in self.old.core) }
+        requires rows { HasRows catalog.now (block_in query.now self.old.block) self.old.right row.ids.rows }
+        requires fits { Fits (joins catalog.now (block_in query.now self.old.block) self.old.left self.old.right) (joined_in self.old.core) }
         ensures { OnOk result (self.new ≡ record self.old {
-          core = fed_right (joins catalog.now (block_in query.now self.old.block) self.old.left self.old.right) row self.old.core;
+          core = core_like self.old.core catalog.now (block_in query.now self.old.block) self.old.left self.old.right
+              (fed_right (joins catalog.now (block_in query.now self.old.block) self.old.left self.old.right) row (joined_in self.old.core));
         }) }
     {
         let block = block_of(query, self.block);
-        let mut matcher = BlockMatch::new(alloc, catalog, block, self.left, self.right);
-        self.core.feed_right(row, &mut matcher)
+        self.core
+            .feed_right(row, alloc, catalog, block, self.left, self.right)
     }
 
     /// The left side has no row more.
     fn end_left(&mut self)
-        requires { CanEnd NeedLeft self.old.core.ripple }
-        ensures { self.new ≡ record self.old { core = end_left self.old.core } }
+        requires { CanEnd NeedLeft (joined_in self.old.core).ripple }
+        ensures { self.new ≡ record self.old { core = core_with self.old.core (left_ended (joined_in self.old.core).ripple) } }
     {
-        self.core.left_ended();
+        self.core.end_left();
     }
 
     /// The right side has no row more.
     fn end_right(&mut self)
-        requires { CanEnd NeedRight self.old.core.ripple }
-        ensures { self.new ≡ record self.old { core = end_right self.old.core } }
+        requires { CanEnd NeedRight (joined_in self.old.core).ripple }
+        ensures { self.new ≡ record self.old { core = core_with self.old.core (right_ended (joined_in self.old.core).ripple) } }
     {
-        self.core.right_ended();
+        self.core.end_right();
     }
 
     /// The first held pair, where the join is ready.
     fn give(&mut self) -> Option<RankRow>
-        requires alive { self.old.core.ripple.spent ≡ false }
+        requires alive { (joined_in self.old.core).ripple.spent ≡ false }
         requires small { self.old.tally.gave < 2 ^ 128 - 1 }
-        ensures row { result ≡ taken_for (ask_of self.old.core.ripple) self.old.core.ripple }
+        ensures row { result ≡ taken_for (ask_of (joined_in self.old.core).ripple) (joined_in self.old.core).ripple }
         ensures after { self.new ≡ record self.old {
-          core = rest_for (ask_of self.old.core.ripple) self.old.core;
+          core = core_with self.old.core (left_for (ask_of (joined_in self.old.core).ripple) (joined_in self.old.core).ripple);
           tally = record self.old.tally { gave = if is_some result then self.old.tally.gave + 1 else self.old.tally.gave };
         } }
     {
@@ -160,7 +200,7 @@ impl JoinNode {
     }
 }
 
-/// The next row of a nested join. Its sides are asked until no pair still to come can precede the first held one.
+/// The next row of a join, whichever way it is done. Its sides are asked until no pair still to come can precede the first held one.
 #[cycle(next)]
 pub(crate) fn next_joined<S: Scorer>(
     head: &mut JoinNode,
@@ -176,7 +216,7 @@ pub(crate) fn next_joined<S: Scorer>(
     requires left { Stands (world_of catalog.now (S.state scorer.old).answer query.now) head.old.block left.old }
     requires right { Stands (world_of catalog.now (S.state scorer.old).answer query.now) head.old.block right.old }
     ensures { Asked (world_of catalog.now (S.state scorer.old).answer query.now) head.old.block (NestedJoin (tree_in left.old) (tree_in right.old)) head.old.tally.asked
-        (JoinAfter (world_of catalog.now (S.state scorer.old).answer query.now) head.old.block (NestedJoin (tree_in left.old) (tree_in right.old))
+        (JoinAfter (world_of catalog.now (S.state scorer.old).answer query.now) head.old.block head.old.core (NestedJoin (tree_in left.old) (tree_in right.old))
         head.old.tally.asked head.new left.new right.new)
         result (S.state scorer.old) (S.state scorer.new) }
 {

@@ -1,16 +1,20 @@
 //! The executor. A cursor gives the rows of a query's answer one after another, in the order of a plan: each is asked for only
-//! once it is wanted, and the scorer is called only where the plan's operators need it. Plans of scans, rank operators and
-//! nested joins are executed; hash joins, DISTINCT and set operators are not built yet.
+//! once it is wanted, and the scorer is called only where the plan's operators need it. Plans of scans, rank operators, joins
+//! and DISTINCT are executed; set operators are not built yet.
 #![tactic(auto)]
 
 mod block;
 mod cursor;
+mod distinct;
+mod distinct_laws;
 mod fault;
 mod held;
 mod join;
+mod join_core;
 mod join_laws;
 mod laws;
 mod node;
+mod output;
 mod rank;
 mod scan;
 mod score;
@@ -18,6 +22,7 @@ mod start;
 mod tally;
 
 pub use cursor::Cursor;
+pub use distinct_laws::distinct_gives_the_first_rows;
 pub use fault::ExecFault;
 pub use held::indexes_go_on_to_hold_answers;
 pub use join_laws::joins_give_the_pairs_that_match;

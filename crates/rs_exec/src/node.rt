@@ -4,6 +4,7 @@ ghost use Rattle.rs_exec.specs.Asking.{world_of};
 ghost use Rattle.rs_exec.specs.Nodes.{asked_in, at_or_past, counts_in, number_in, tally_in, tree_in};
 ghost use Rattle.rs_exec.specs.Standing.{Stands};
 
+use crate::distinct::{DistinctNode, next_distinct};
 use crate::fault::ExecFault;
 use crate::join::{JoinNode, next_joined};
 use crate::rank::{RankNode, next_ranked};
@@ -22,7 +23,8 @@ pub(crate) enum Node {
     SeqScan(TableNode),
     RankScan(IndexNode),
     Rank(RankNode, Box<Node>),
-    NestedJoin(JoinNode, Box<Node>, Box<Node>),
+    Join(JoinNode, Box<Node>, Box<Node>),
+    Distinct(DistinctNode, Box<Node>),
 }
 
 impl Node {
@@ -46,8 +48,11 @@ impl Node {
             Node::SeqScan(head) => Ok(head.next(alloc, catalog, query)?),
             Node::RankScan(head) => Ok(head.next(alloc, catalog, query)?),
             Node::Rank(head, child) => next_ranked(head, child, alloc, catalog, query, scorer),
-            Node::NestedJoin(head, left, right) => {
+            Node::Join(head, left, right) => {
                 next_joined(head, left, right, alloc, catalog, query, scorer)
+            }
+            Node::Distinct(head, child) => {
+                next_distinct(head, child, alloc, catalog, query, scorer)
             }
         }
     }
@@ -60,7 +65,8 @@ impl Node {
             Node::SeqScan(head) => head.tally,
             Node::RankScan(head) => head.tally,
             Node::Rank(head, _) => head.tally,
-            Node::NestedJoin(head, _, _) => head.tally,
+            Node::Join(head, _, _) => head.tally,
+            Node::Distinct(head, _) => head.tally,
         }
     }
 
@@ -86,12 +92,16 @@ impl Node {
                 Ok(counts) => Ok(counts),
                 Err(place) => child.counts_or_past(place),
             },
-            Node::NestedJoin(head, left, right) => match counts_or_next(place, head.counts()) {
+            Node::Join(head, left, right) => match counts_or_next(place, head.counts()) {
                 Ok(counts) => Ok(counts),
                 Err(place) => match left.counts_or_past(place) {
                     Ok(counts) => Ok(counts),
                     Err(place) => right.counts_or_past(place),
                 },
+            },
+            Node::Distinct(head, child) => match counts_or_next(place, head.counts()) {
+                Ok(counts) => Ok(counts),
+                Err(place) => child.counts_or_past(place),
             },
         }
     }

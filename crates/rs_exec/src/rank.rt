@@ -21,7 +21,7 @@ ghost use Rattle.rs_exec.specs.Standing.{HeadStands, Stands};
 use crate::block::block_of;
 use crate::fault::ExecFault;
 use crate::node::Node;
-use crate::score::ask_term;
+use crate::score::{CallArgs, ask_term};
 use crate::tally::Tally;
 use rs_catalog::Catalog;
 use rs_expr::Scorer;
@@ -37,6 +37,7 @@ pub(crate) struct RankNode {
     pub(crate) core: MuCore,
     /// The number of its term.
     pub(crate) term: u8,
+    pub(crate) args: CallArgs,
     pub(crate) tally: Tally,
     /// How many calls it made.
     pub(crate) calls: u128,
@@ -50,6 +51,7 @@ impl RankNode {
         ensures { result ≡ record {
           core = new_mu weights terms term;
           term = term;
+          args = tt;
           tally = record { asked = 0; gave = 0 };
           calls = 0;
         } }
@@ -57,6 +59,7 @@ impl RankNode {
         RankNode {
             core: MuCore::new(alloc, weights, terms, term),
             term,
+            args: CallArgs::new(alloc),
             tally: Tally::new(),
             calls: 0,
         }
@@ -66,7 +69,6 @@ impl RankNode {
     fn feed<S: Scorer>(
         &mut self,
         row: RankRow,
-        alloc: Global,
         catalog: &Catalog,
         query: &Query,
         scorer: &mut S,
@@ -78,7 +80,14 @@ impl RankNode {
             (left_by result self.new) (S.state scorer.old) (S.state scorer.new) }
     {
         let block = block_of(query, row.ids.block);
-        let worth = ask_term(alloc, catalog, block, self.term, &row.ids, scorer)?;
+        let worth = ask_term(
+            catalog,
+            block,
+            self.term,
+            &row.ids,
+            self.args.list(),
+            scorer,
+        )?;
         self.calls += 1;
         self.core.feed(row, worth)?;
         Ok(())
@@ -152,7 +161,7 @@ pub(crate) fn next_ranked<S: Scorer>(
     head.tally.ask();
     while head.needs() {
         match child.next(alloc, catalog, query, scorer)? {
-            Some(row) => head.feed(row, alloc, catalog, query, scorer)?,
+            Some(row) => head.feed(row, catalog, query, scorer)?,
             None => head.end(),
         }
     }

@@ -14,15 +14,47 @@ use rs_catalog::Catalog;
 use rs_expr::{Scorer, ScorerFault, score_within};
 use rs_query::{Block, Term};
 use rs_rank::Ids;
+use rs_value::Value;
 use std::alloc::Global;
+use std::marker::Model;
 
-/// What a term, counted from 1, is worth on a row that has all entries of the term. The scorer is called once.
+/// The list for the arguments of a call. It is kept from call to call, so that a call takes no memory once the list has grown.
+/// Clauses don't see what is in it: each call makes that anew.
+#[derive(Drop)]
+pub(crate) struct CallArgs {
+    values: Vec<Value>,
+}
+
+impl Model for CallArgs {
+    ghost use Rattle.std.specs.Prelude.{⊤};
+
+    ghost Value = { ⊤ };
+
+    ghost view = { λ _. tt };
+}
+
+impl CallArgs {
+    /// An empty list, without memory.
+    pub(crate) fn new(alloc: Global) -> CallArgs {
+        CallArgs {
+            values: Vec::new(alloc),
+        }
+    }
+
+    /// The list, to be filled.
+    pub(crate) fn list(&mut self) -> &mut Vec<Value> {
+        &mut self.values
+    }
+}
+
+/// What a term, counted from 1, is worth on a row that has all entries of the term. The scorer is called once, with its arguments
+/// in a list that is kept from call to call.
 pub(crate) fn ask_term<S: Scorer>(
-    alloc: Global,
     catalog: &Catalog,
     block: &Block,
     number: u8,
     ids: &Ids,
+    args: &mut Vec<Value>,
     scorer: &mut S,
 ) -> Result<u32, ExecFault>
     requires block { IsBlock catalog.now block.now }
@@ -34,10 +66,10 @@ pub(crate) fn ask_term<S: Scorer>(
         → Inquires ExecFault.Memory (asking_worth exec_faults (S.state scorer.old).answer catalog.now block.now ids.now term)
         result (S.state scorer.old) (S.state scorer.new) }
 {
-    let args = block.args(alloc, catalog, number, ids)?;
+    block.args(catalog, number, ids, args)?;
     let term = &block.terms.items()[number as usize - 1];
     let predicate = catalog.predicate(term.predicate);
-    match scorer.score(predicate, &args) {
+    match scorer.score(predicate, args) {
         Ok(got) => worth_for(term, ids, predicate.max(), got),
         Err(ScorerFault::Failed) => Err(ExecFault::Probe {
             predicate: term.predicate,

@@ -9,8 +9,9 @@ ghost use Rattle.rs_query.specs.WellFormed.{IsBlock};
 ghost use Rattle.rs_plan.specs.Numbers.{HasNumbers};
 ghost use Rattle.rs_exec.specs.Building.{IsBuilt};
 ghost use Rattle.rs_exec.specs.Joining.{side_for};
-ghost use Rattle.rs_exec.specs.Starting.{IsJoinOver, IsRankOver, IsStart};
+ghost use Rattle.rs_exec.specs.Starting.{IsDistinctOver, IsJoinOver, IsRankOver, IsStart};
 
+use crate::distinct::DistinctNode;
 use crate::join::JoinNode;
 use crate::node::Node;
 use crate::rank::RankNode;
@@ -52,9 +53,8 @@ impl Node {
                 let head = RankNode::new(alloc, block.weights(), child.signature().terms, *term);
                 over(alloc, head, below)
             }
-            Plan::HashJoin { left: _, right: _ } => unreachable!(),
-            Plan::NestedJoin { left, right } => {
-                let head = JoinNode::new(
+            Plan::HashJoin { left, right } => {
+                let head = JoinNode::hash(
                     alloc,
                     block.weights(),
                     number,
@@ -65,7 +65,22 @@ impl Node {
                 let on_right = Node::start(alloc, catalog, block, number, right)?;
                 join_over(alloc, head, on_left, on_right)
             }
-            Plan::Distinct { child: _ } => unreachable!(),
+            Plan::NestedJoin { left, right } => {
+                let head = JoinNode::nested(
+                    alloc,
+                    block.weights(),
+                    number,
+                    side_of(left),
+                    side_of(right),
+                );
+                let on_left = Node::start(alloc, catalog, block, number, left)?;
+                let on_right = Node::start(alloc, catalog, block, number, right)?;
+                join_over(alloc, head, on_left, on_right)
+            }
+            Plan::Distinct { child } => {
+                let below = Node::start(alloc, catalog, block, number, child)?;
+                distinct_over(alloc, DistinctNode::new(alloc), below)
+            }
             Plan::SetOperator { left: _, right: _ } => unreachable!(),
         }
     }
@@ -77,6 +92,19 @@ fn over(alloc: Global, head: RankNode, below: Node) -> Result<Node, Memory>
 {
     match Box::new(alloc, below) {
         Ok(below) => Ok(Node::Rank(head, below)),
+        Err(_) => {
+            drop(head);
+            Err(Memory)
+        }
+    }
+}
+
+/// An operator that drops duplicates over its input.
+fn distinct_over(alloc: Global, head: DistinctNode, below: Node) -> Result<Node, Memory>
+    ensures { IfOk result (IsDistinctOver head below) }
+{
+    match Box::new(alloc, below) {
+        Ok(below) => Ok(Node::Distinct(head, below)),
         Err(_) => {
             drop(head);
             Err(Memory)
@@ -102,7 +130,7 @@ fn join_over(alloc: Global, head: JoinNode, left: Node, right: Node) -> Result<N
 {
     let left = Box::new(alloc, left)?;
     let right = Box::new(alloc, right)?;
-    Ok(Node::NestedJoin(head, left, right))
+    Ok(Node::Join(head, left, right))
 }
 
 /// How many rows the table of an entry has.

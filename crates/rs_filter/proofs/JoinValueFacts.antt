@@ -62,12 +62,12 @@ compared-same (Texts Eq (side.Arg k) (side.Arg l)) values i j u v is truth at_u 
 compared-same condition values i j u v is truth at_u at_v = absurd (cc)
 
 -- two columns of different entries that a condition equates
-record IsEquated (condition : Condition) (columns : List (ℕ × ℕ)) (a b : ℕ × ℕ) : Type 0 where
-  left : ℕ
-  right : ℕ
-  is_equated : equated condition ≡ Some (left, right)
-  left_there : slice_get columns left ≡ Some a
-  right_there : slice_get columns right ≡ Some b
+pub record IsEquated (condition : Condition) (columns : List (ℕ × ℕ)) (a b : ℕ × ℕ) : Type 0 where
+  pub left : ℕ
+  pub right : ℕ
+  pub is_equated : equated condition ≡ Some (left, right)
+  pub left_there : slice_get columns left ≡ Some a
+  pub right_there : slice_get columns right ≡ Some b
 
 across-back : (o p : Option (ℕ × ℕ)) (a b : ℕ × ℕ) → across o p ≡ Some (a, b) → (o ≡ Some a) × (p ≡ Some b)
 across-back None p a b e = absurd (cc)
@@ -80,7 +80,7 @@ across-back (Some x) (Some y) a b e = go (eqb x.0 y.0) refl where
       let pair : (x, y) ≡ (a, b) = cc in
       (ap (λ (p : (ℕ × ℕ) × (ℕ × ℕ)). Some p.0) pair, ap (λ (p : (ℕ × ℕ) × (ℕ × ℕ)). Some p.1) pair)
 
-equality-back : (condition : Condition) (columns : List (ℕ × ℕ)) (a b : ℕ × ℕ) → equality_of condition columns ≡ Some (a, b) → IsEquated condition columns a b
+pub equality-back : (condition : Condition) (columns : List (ℕ × ℕ)) (a b : ℕ × ℕ) → equality_of condition columns ≡ Some (a, b) → IsEquated condition columns a b
 equality-back condition columns a b e = go (equated condition) refl where
   go : (o : Option (ℕ × ℕ)) → equated condition ≡ o → IsEquated condition columns a b
   go None none = let nothing : ◌≡◌ {A = Option ((ℕ × ℕ) × (ℕ × ℕ))} None (Some (a, b)) = rw none at e in absurd (cc)

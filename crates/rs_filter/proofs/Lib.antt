@@ -1,5 +1,6 @@
 pub mod AcrossFacts
 pub mod DistinctLists
+pub mod JoinColumnFacts
 pub mod JoinFacts
 pub mod JoinValueFacts
 pub mod MatchFacts

@@ -144,7 +144,7 @@ one_joins-decided left right (c ∷ rest) =
     back zero conjunct is joins = inl (subst (λ (x : ConjunctDef). Joins left right x.equality) (sym (same_Some c conjunct is)) joins)
     back (suc place) conjunct is joins = inr (record { place = place; conjunct = conjunct; is = is; joins = joins })
 
-hashed-decided : (block : Block) (left right : ℕ) → Decides (is_hashed block left right) (IsHashed block left right)
+pub hashed-decided : (block : Block) (left right : ℕ) → Decides (is_hashed block left right) (IsHashed block left right)
 hashed-decided block left right =
     Decides-like (is_hashed block left right)
     (λ one. record { place = one.place; conjunct = one.conjunct; there = one.is; columns = one.joins.columns; equality = one.joins.is; across = one.joins.across })

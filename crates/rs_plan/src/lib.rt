@@ -17,3 +17,4 @@ pub use fixed::fixed_plan;
 pub use laws::{code_order_is_total, different_plans_have_different_codes, plans_have_numbers};
 pub use plan::Plan;
 pub use signature::Signature;
+pub use valid::can_hash;

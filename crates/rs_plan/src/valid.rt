@@ -8,7 +8,7 @@ ghost use Rattle.rs_query.specs.WellFormed.{IsBlock, IsQuery};
 ghost use Rattle.rs_plan.specs.Deciding.{are_joined, has_no_distinct, is_complete, is_distinct, is_found, is_hashed, is_part, is_plan, is_rank, is_rank_scan, is_set_plan, joins_sides};
 ghost use Rattle.rs_plan.specs.Numbers.{HasNumbers, IsUpTo};
 ghost use Rattle.rs_query.specs.Answers.{all_terms};
-ghost use Rattle.rs_plan.specs.Plans.{IsPlan};
+ghost use Rattle.rs_plan.specs.Plans.{IsHashed, IsPlan};
 ghost use Rattle.rs_plan.specs.Shapes.{tree_of};
 ghost use Rattle.rs_plan.specs.Trees.{entries, terms};
 
@@ -212,6 +212,14 @@ fn is_rank(block: &Block, term: u8, below: Signature) -> bool
         Some(found) => !has_number(below.terms, term) && is_inside(found.entries, below.entries),
         None => false,
     }
+}
+
+/// Whether a hash join of sides with these entries is a plan: a conjunct says that a column of the left ones equals one of the
+/// right ones. It takes no memory.
+pub fn can_hash(block: &Block, left: u8, right: u8) -> bool
+    ensures { IsTrue result ↔ IsHashed block.now left right }
+{
+    is_hashed(block, left, right)
 }
 
 /// Whether a conjunct says that a column of the left entries equals one of the right entries.

@@ -17,6 +17,7 @@ use Rattle.rs_rank.specs.Ids.{AreOtherIds}
 use Rattle.rs_rank.specs.Keys.{key_cmp}
 use Rattle.rs_rank.specs.Rows.{HasSum, HaveOtherIds, merge_row}
 use Rattle.rs_rank.proofs.OrderFacts.{key_cmp-total}
+use Rattle.rs_ripple.specs.After.{joined_after}
 use Rattle.rs_ripple.specs.Joined.{CanFeedLeft, CanFeedRight, Fits, JoinStands, Joined, end_left, end_right, fed_left, fed_right, is_behind, left_key, rest_for, right_key}
 use Rattle.rs_ripple.specs.Ripple.{CanDrawLeft, CanDrawRight, CanEnd, Ripple, ask_of, drawn_with, taken_for}
 use Rattle.rs_ripple.specs.Stands.{AreSidesOf, IsRowOf, Join, answer_key, answers, asked, drawn_of, side_key, side_keys, state_after, taken_after}
@@ -85,11 +86,8 @@ module _ (j : Join) (lefts rights : List RankRow) (made : List SideAsk) (count :
   abbrev k : ℕ
   k = asked Right made
 
-  abbrev now : Joined
-  now = record { ripple = state_after j lefts rights i k count; lefts = take i lefts; rights = take k rights }
-
-  -- what the join keeps
-  is-now : joined ≡ now
+  -- what the join keeps is a function of the lists
+  pub is-now : joined ≡ joined_after j lefts rights (asked Left made) (asked Right made) count
   is-now =
       ap (λ (r : Ripple). record { ripple = r; lefts = joined.lefts; rights = joined.rights }) s.core.state
       ∙ ap₂ (λ (ls : List RankRow) (rs : List RankRow). record { ripple = state_after j lefts rights i k count; lefts = ls; rights = rs }) s.left_rows s.right_rows

@@ -1,17 +1,10 @@
 -- What a rank join that keeps its rows keeps after so many asks of each side and so many answers.
-use Rattle.std.specs.Prelude.{ℕ, ◌≡◌, List, take}
-use Rattle.rs_order.specs.Schedule.{Left, Right, SideAsk}
+use Rattle.std.specs.Prelude.{ℕ, List, take}
 use Rattle.rs_rank.specs.declared.row.RankRow.{RankRow}
 use Rattle.rs_ripple.specs.Joined.{Joined}
-use Rattle.rs_ripple.specs.Stands.{Join, Stands, asked, state_after}
+use Rattle.rs_ripple.specs.Stands.{Join, state_after}
 
 -- the core, and the rows that came of each side
 abbrev pub joined_after : Join → List RankRow → List RankRow → ℕ → ℕ → ℕ → Joined
 joined_after j lefts rights left_asks right_asks count =
     record { ripple = state_after j lefts rights left_asks right_asks count; lefts = take left_asks lefts; rights = take right_asks rights }
-
--- the core stands where these asks were made, and the rows are those that came
-pub record Keeps (j : Join) (lefts rights : List RankRow) (made : List SideAsk) (count : ℕ) (joined : Joined) : Type 0 where
-  pub core : Stands j lefts rights made count joined.ripple
-  pub lefts_are : joined.lefts ≡ take (asked Left made) lefts
-  pub rights_are : joined.rights ≡ take (asked Right made) rights

@@ -1,5 +1,5 @@
 -- A node that is asked gives the next row of its list, and stands one ask further.
-use Rattle.std.proofs.Common.{suc, Ok, refl, sym, ap, subst, arith}
+use Rattle.std.proofs.Common.{◌∙◌, suc, Ok, refl, sym, ap, subst, arith}
 use Rattle.rs_plan.specs.Calls.{questions_of_ask}
 use Rattle.rs_value.proofs.ResultFacts.{given-err}
 use Rattle.rs_exec.specs.Asked.{Asked, CanAsk, NodeAfter}
@@ -10,7 +10,8 @@ use Rattle.rs_exec.specs.declared.fault.ExecFault.TheVariants.{Memory}
 use Rattle.rs_exec.specs.declared.node.Node.{Node}
 use Rattle.rs_exec.specs.declared.node.Node.TheVariants as node
 use Rattle.rs_exec.proofs.CycleFacts.{end-kept, given, height, index-entry, index-gave, index-view, input-can, input-failed, input-stands, next-nearer, rank-asked, row-can, row-failed, row-kept, still-stopped, table-entry, table-gave}
-use Rattle.rs_exec.proofs.JoinCycleFacts.{join-asked-node, turn-block, turn-fits, turn-given, turn-left_can, turn-left_ended, turn-left_failed, turn-left_fed, turn-left_feeds, turn-left_nearer, turn-left_stands, turn-left_stopped, turn-over, turn-right_can, turn-right_ended, turn-right_failed, turn-right_fed, turn-right_feeds, turn-right_nearer, turn-right_stands, turn-right_stopped, turn-start}
+use Rattle.rs_exec.proofs.DistinctCycleFacts.{distinct-asked, drops_turn-can, drops_turn-dropped, drops_turn-failed, drops_turn-given, drops_turn-over, drops_turn-puts, drops_turn-stands, drops_turn-start, drops_turn-stopped}
+use Rattle.rs_exec.proofs.JoinCycleFacts.{join-asked-node, turn-apart, turn-block, turn-fits, turn-given, turn-left_can, turn-left_ended, turn-left_failed, turn-left_fed, turn-left_feeds, turn-left_nearer, turn-left_rows, turn-left_stands, turn-left_stopped, turn-over, turn-right_can, turn-right_ended, turn-right_failed, turn-right_fed, turn-right_feeds, turn-right_nearer, turn-right_rows, turn-right_stands, turn-right_stopped, turn-start, turn-values}
 use Rattle.rs_exec.proofs.StepFacts.{Between, between-start}
 use Rattle.rs_exec.proofs.+next.Goals as goal
 
@@ -91,7 +92,7 @@ rank::next_ranked-loop-alloc-init g t c =
       tree_is = refl;
       stands = c.requires.child;
       between = subst (λ tally. Between w (number_in child) head.term (tree_in child) head.tally.asked (asked_in child)
-          (record { core = head.core; term = head.term; tally = tally; calls = head.calls }) old old) (sym c.ask.ensures)
+          (record { core = head.core; term = head.term; args = tt; tally = tally; calls = head.calls }) old old) (sym c.ask.ensures)
           (between-start c.args.catalog.now c.args.query.now (number_in child) head.term (tree_in child) head.tally.asked old c.requires.can head (asked_in child) refl refl
           c.requires.head.keeps c.requires.head.asked);
     }
@@ -145,12 +146,12 @@ pub rank::next_ranked-returns : goal.rank::next_ranked-returns
 rank::next_ranked-returns g t c =
     given c.loop-alloc.invariant c.requires.can c.give.new.self c.give.result (c.needs.ensures.rests c.loop-alloc-test.false) c.give.ensures.row c.give.ensures.after
 
-pub node::Node::next-returns-in-NestedJoin : goal.node::Node::next-returns-in-NestedJoin
-node::Node::next-returns-in-NestedJoin g t c =
+pub node::Node::next-returns-in-Join : goal.node::Node::next-returns-in-Join
+node::Node::next-returns-in-Join g t c =
     let old = g.S.Scorer.state c.args.scorer.now in
-    join-asked-node (world_of c.args.catalog.now old.answer c.args.query.now) c.args.self.now c.in-NestedJoin.head c.next_joined.new.head c.in-NestedJoin.left c.in-NestedJoin.right
-    c.deref_mut-in-NestedJoin.result.now c.deref_mut-in-NestedJoin-2.result.now c.next_joined.new.left c.next_joined.new.right
-    c.next_joined.result old (g.S.Scorer.state c.next_joined.new.scorer) c.in-NestedJoin.is c.deref_mut-in-NestedJoin.ensures.value c.deref_mut-in-NestedJoin-2.ensures.value c.next_joined.ensures
+    join-asked-node (world_of c.args.catalog.now old.answer c.args.query.now) c.args.self.now c.in-Join.head c.next_joined.new.head c.in-Join.left c.in-Join.right
+    c.deref_mut-in-Join.result.now c.deref_mut-in-Join-2.result.now c.next_joined.new.left c.next_joined.new.right
+    c.next_joined.result old (g.S.Scorer.state c.next_joined.new.scorer) c.in-Join.is c.deref_mut-in-Join.ensures.value c.deref_mut-in-Join-2.ensures.value c.next_joined.ensures
 
 pub join::next_joined-loop-left-init : goal.join::next_joined-loop-left-init
 join::next_joined-loop-left-init g t c =
@@ -171,6 +172,17 @@ join::next_joined-returns-in_err-row-in-NeedLeft g t c =
 
 pub join::next_joined-feed_left-requires-clause-block : goal.join::next_joined-feed_left-requires-clause-block
 join::next_joined-feed_left-requires-clause-block g t c = turn-block c.loop-left.invariant c.requires.can
+
+pub join::next_joined-feed_left-requires-clause-apart : goal.join::next_joined-feed_left-requires-clause-apart
+join::next_joined-feed_left-requires-clause-apart g t c = turn-apart c.loop-left.invariant c.requires.can
+
+pub join::next_joined-feed_left-requires-clause-values : goal.join::next_joined-feed_left-requires-clause-values
+join::next_joined-feed_left-requires-clause-values g t c = turn-values c.loop-left.invariant c.requires.can
+
+pub join::next_joined-feed_left-requires-clause-rows : goal.join::next_joined-feed_left-requires-clause-rows
+join::next_joined-feed_left-requires-clause-rows g t c =
+    turn-left_rows c.loop-left.invariant c.requires.can (sym c.in-NeedLeft.ensures) c.in-Some.row c.in_ok-row-in-NeedLeft.field-0 c.in-Some.is
+    (g.S.Scorer.state c.next.new.scorer) c.in_ok-row-in-NeedLeft.ensures.inquires
 
 pub join::next_joined-feed_left-requires-clause-row : goal.join::next_joined-feed_left-requires-clause-row
 join::next_joined-feed_left-requires-clause-row g t c =
@@ -218,6 +230,17 @@ join::next_joined-returns-in_err-row-in-NeedRight g t c =
 pub join::next_joined-feed_right-requires-clause-block : goal.join::next_joined-feed_right-requires-clause-block
 join::next_joined-feed_right-requires-clause-block g t c = turn-block c.loop-left.invariant c.requires.can
 
+pub join::next_joined-feed_right-requires-clause-apart : goal.join::next_joined-feed_right-requires-clause-apart
+join::next_joined-feed_right-requires-clause-apart g t c = turn-apart c.loop-left.invariant c.requires.can
+
+pub join::next_joined-feed_right-requires-clause-values : goal.join::next_joined-feed_right-requires-clause-values
+join::next_joined-feed_right-requires-clause-values g t c = turn-values c.loop-left.invariant c.requires.can
+
+pub join::next_joined-feed_right-requires-clause-rows : goal.join::next_joined-feed_right-requires-clause-rows
+join::next_joined-feed_right-requires-clause-rows g t c =
+    turn-right_rows c.loop-left.invariant c.requires.can (sym c.in-NeedRight.ensures) c.in-Some-2.row c.in_ok-row-in-NeedRight.field-0 c.in-Some-2.is
+    (g.S.Scorer.state c.next-in-NeedRight.new.scorer) c.in_ok-row-in-NeedRight.ensures.inquires
+
 pub join::next_joined-feed_right-requires-clause-row : goal.join::next_joined-feed_right-requires-clause-row
 join::next_joined-feed_right-requires-clause-row g t c =
     turn-right_feeds c.loop-left.invariant c.requires.can (sym c.in-NeedRight.ensures) c.in-Some-2.row c.in_ok-row-in-NeedRight.field-0 c.in-Some-2.is
@@ -255,3 +278,51 @@ join::next_joined-returns-in-Ready g t c =
 
 pub join::next_joined-returns-in-End : goal.join::next_joined-returns-in-End
 join::next_joined-returns-in-End g t c = turn-over c.loop-left.invariant c.requires.can (sym c.in-End.ensures)
+
+pub node::Node::next-returns-in-Distinct : goal.node::Node::next-returns-in-Distinct
+node::Node::next-returns-in-Distinct g t c =
+    let old = g.S.Scorer.state c.args.scorer.now in
+    distinct-asked (world_of c.args.catalog.now old.answer c.args.query.now) c.args.self.now c.in-Distinct.head c.next_distinct.new.head c.in-Distinct.child c.deref_mut-in-Distinct.result.now c.next_distinct.new.child
+    c.next_distinct.result old (g.S.Scorer.state c.next_distinct.new.scorer) c.in-Distinct.is c.deref_mut-in-Distinct.ensures.value c.next_distinct.ensures
+
+pub distinct::next_distinct-loop-row-init : goal.distinct::next_distinct-loop-row-init
+distinct::next_distinct-loop-row-init g t c =
+    drops_turn-start c.args.catalog.now c.args.query.now c.args.head.now c.args.child.now (g.S.Scorer.state c.args.scorer.now)
+    c.requires.can c.requires.head c.requires.child c.ask.new.self c.ask.ensures
+
+pub distinct::next_distinct-next-requires : goal.distinct::next_distinct-next-requires
+distinct::next_distinct-next-requires g t c κs within =
+    let less = c.decreases in
+    let same = ap height c.loop-row.invariant.tree_is in
+    (omega arith, (within, (drops_turn-can c.loop-row.invariant c.requires.can, drops_turn-stands c.loop-row.invariant c.requires.can)))
+
+pub distinct::next_distinct-returns-in_err-row : goal.distinct::next_distinct-returns-in_err-row
+distinct::next_distinct-returns-in_err-row g t c =
+    drops_turn-failed c.loop-row.invariant c.requires.can _ c.in_err-row.field-0.0 c.from_residual.result (g.S.Scorer.state c.next.new.scorer)
+    (given-err c.from_residual.result c.in_err-row.field-0.0 c.from_residual.ensures) c.in_err-row.ensures.inquires
+
+pub distinct::next_distinct-feed-requires-clause-row : goal.distinct::next_distinct-feed-requires-clause-row
+distinct::next_distinct-feed-requires-clause-row g t c =
+    drops_turn-puts c.loop-row.invariant c.requires.can c.in-Some.row c.in_ok-row.field-0 c.in-Some.is (g.S.Scorer.state c.next.new.scorer) c.in_ok-row.ensures.inquires
+
+pub distinct::next_distinct-returns-in_err-given : goal.distinct::next_distinct-returns-in_err-given
+distinct::next_distinct-returns-in_err-given g t c =
+    drops_turn-stopped c.loop-row.invariant c.requires.can c.in-Some.row c.in_ok-row.field-0 c.in-Some.is (g.S.Scorer.state c.next.new.scorer) c.in_ok-row.ensures.inquires
+    _ c.from_residual-in_err-given.result (given-err c.from_residual-in_err-given.result Memory c.from_residual-in_err-given.ensures)
+
+pub distinct::next_distinct-returns-then-is_some : goal.distinct::next_distinct-returns-then-is_some
+distinct::next_distinct-returns-then-is_some g t c =
+    drops_turn-given c.loop-row.invariant c.requires.can c.in-Some.row c.in_ok-row.field-0 c.in-Some.is (g.S.Scorer.state c.next.new.scorer) c.in_ok-row.ensures.inquires
+    c.feed.new.self c.in_ok-given.given c.in_ok-given.ensures.row c.in_ok-given.ensures.after c.next.new.self (c.in_ok-row.ensures.leaves refl)
+    (sym c.is_some.ensures ∙ c.if-is_some.true)
+
+pub distinct::next_distinct-loop-row-preserved : goal.distinct::next_distinct-loop-row-preserved
+distinct::next_distinct-loop-row-preserved g t c =
+    drops_turn-dropped c.loop-row.invariant c.requires.can c.in-Some.row c.in_ok-row.field-0 c.in-Some.is (g.S.Scorer.state c.next.new.scorer) c.in_ok-row.ensures.inquires
+    c.feed.new.self c.in_ok-given.given c.in_ok-given.ensures.row c.in_ok-given.ensures.after c.next.new.self (c.in_ok-row.ensures.leaves refl)
+    (sym c.is_some.ensures ∙ c.if-is_some.false)
+
+pub distinct::next_distinct-returns : goal.distinct::next_distinct-returns
+distinct::next_distinct-returns g t c =
+    drops_turn-over c.loop-row.invariant c.requires.can c.in_ok-row.field-0 c.in_default.is (g.S.Scorer.state c.next.new.scorer) c.next.new.self
+    c.in_ok-row.ensures.inquires (c.in_ok-row.ensures.leaves refl)

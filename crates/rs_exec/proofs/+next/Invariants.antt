@@ -1,10 +1,12 @@
-use Rattle.std.proofs.Common.{◌+◌, ◌-◌, ◌*◌, suc, max}
+use Rattle.std.proofs.Common.{◌+◌, ◌-◌, ◌*◌, suc, max, length}
 use Rattle.rs_order.specs.Schedule.{Left, Right}
 use Rattle.rs_plan.specs.Counts.{asked_of}
+use Rattle.rs_plan.specs.Lists.{list_of}
 use Rattle.rs_plan.specs.Trees.{NestedJoin, Rank}
 use Rattle.rs_exec.specs.Asking.{world_of}
 use Rattle.rs_exec.specs.Nodes.{asked_in, number_in, tree_in}
 use Rattle.rs_exec.proofs.CycleFacts.{Turn, height}
+use Rattle.rs_exec.proofs.DistinctCycleFacts.{DropsTurn}
 use Rattle.rs_exec.proofs.JoinCycleFacts.{JoinTurn}
 use Rattle.rs_exec.proofs.+next.Given as goal
 
@@ -31,10 +33,23 @@ decreases-join::next_joined g l = 2 * max (height (tree_in l.left.now)) (height 
 -- the join stands between two asks of its sides, which stand too and are of the same plan
 abbrev pub invariant-join::next_joined-loop-left : goal.invariant-join::next_joined-loop-left
 invariant-join::next_joined-loop-left g l =
-    JoinTurn l.catalog l.query l.fn.head.block (tree_in l.fn.left) (tree_in l.fn.right) l.fn.head.tally.asked (g.S.Scorer.state l.fn.scorer) l.head l.left l.right (g.S.Scorer.state l.scorer)
+    JoinTurn l.catalog l.query l.fn.head.block l.fn.head.core (tree_in l.fn.left) (tree_in l.fn.right) l.fn.head.tally.asked (g.S.Scorer.state l.fn.scorer) l.head l.left l.right (g.S.Scorer.state l.scorer)
 
 -- the asks of both sides that are left
 abbrev pub decreases-join::next_joined-loop-left : goal.decreases-join::next_joined-loop-left
 decreases-join::next_joined-loop-left g l =
     (asked_of (world_of l.catalog (g.S.Scorer.state l.fn.scorer).answer l.query) l.fn.head.block (NestedJoin (tree_in l.fn.left) (tree_in l.fn.right)) (suc l.fn.head.tally.asked) Left - asked_in l.left)
     + (asked_of (world_of l.catalog (g.S.Scorer.state l.fn.scorer).answer l.query) l.fn.head.block (NestedJoin (tree_in l.fn.left) (tree_in l.fn.right)) (suc l.fn.head.tally.asked) Right - asked_in l.right)
+
+abbrev pub decreases-distinct::next_distinct : goal.decreases-distinct::next_distinct
+decreases-distinct::next_distinct g l = 2 * height (tree_in l.child.now) + 1
+
+-- the operator stands between two asks of its input, which stands too and is of the same plan
+abbrev pub invariant-distinct::next_distinct-loop-row : goal.invariant-distinct::next_distinct-loop-row
+invariant-distinct::next_distinct-loop-row g l =
+    DropsTurn l.catalog l.query (number_in l.fn.child) (tree_in l.fn.child) l.fn.head.tally.asked (g.S.Scorer.state l.fn.scorer) l.head l.child (g.S.Scorer.state l.scorer)
+
+-- the rows of the input that are left, and its end
+abbrev pub decreases-distinct::next_distinct-loop-row : goal.decreases-distinct::next_distinct-loop-row
+decreases-distinct::next_distinct-loop-row g l =
+    suc (length (list_of (world_of l.catalog (g.S.Scorer.state l.fn.scorer).answer l.query) (number_in l.fn.child) (tree_in l.fn.child))) - asked_in l.child

@@ -1,4 +1,4 @@
-use Rattle.std.proofs.Common.{◌≡◌, false, sym, subst}
+use Rattle.std.proofs.Common.{sym, subst}
 use Rattle.rs_expr.specs.MemScorer.{scorer_state}
 use Rattle.rs_expr.specs.Scoring.{Answering}
 use Rattle.rs_exec.specs.Cursors.{CanGo}

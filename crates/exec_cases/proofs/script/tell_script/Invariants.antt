@@ -1,4 +1,3 @@
-use Rattle.std.proofs.Common.{◌≡◌}
 use Rattle.rs_expr.specs.MemScorer.{answered_score}
 use Rattle.rs_exec.specs.Indexes.{AreHeld}
 use Rattle.exec_cases.proofs.script.tell_script.Given as goal

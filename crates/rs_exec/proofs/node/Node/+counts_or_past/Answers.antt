@@ -7,14 +7,14 @@ use Rattle.rs_exec.proofs.node.Node.+counts_or_past.Goals as goal
 
 pub returns-in-Ok-counts_or_past : goal.returns-in-Ok-counts_or_past
 returns-in-Ok-counts_or_past t c =
-    join-counts c.args.self.now c.in-NestedJoin.head c.in-NestedJoin.left c.in-NestedJoin.right c.counts-in-NestedJoin.result c.deref-in-Err-counts_or_next.result.now
-    c.args.place c.in-Err-counts_or_next.place (Ok c.in-Ok-counts_or_past.counts) c.in-NestedJoin.is c.counts-in-NestedJoin.ensures c.in-Err-counts_or_next.ensures
+    join-counts c.args.self.now c.in-Join.head c.in-Join.left c.in-Join.right c.counts-in-Join.result c.deref-in-Err-counts_or_next.result.now
+    c.args.place c.in-Err-counts_or_next.place (Ok c.in-Ok-counts_or_past.counts) c.in-Join.is c.counts-in-Join.ensures c.in-Err-counts_or_next.ensures
     c.deref-in-Err-counts_or_next.ensures c.in-Ok-counts_or_past.ensures
 
 pub returns-in-Err-counts_or_past : goal.returns-in-Err-counts_or_past
 returns-in-Err-counts_or_past t c =
     c.counts_or_past-in-Err-counts_or_past.ensures
     ∙ ap (λ (n : Node). at_or_past (counts_in n) c.in-Err-counts_or_past.place) c.deref-in-Err-counts_or_past.ensures
-    ∙ join-counts c.args.self.now c.in-NestedJoin.head c.in-NestedJoin.left c.in-NestedJoin.right c.counts-in-NestedJoin.result c.deref-in-Err-counts_or_next.result.now
-    c.args.place c.in-Err-counts_or_next.place (Err c.in-Err-counts_or_past.place) c.in-NestedJoin.is c.counts-in-NestedJoin.ensures c.in-Err-counts_or_next.ensures
+    ∙ join-counts c.args.self.now c.in-Join.head c.in-Join.left c.in-Join.right c.counts-in-Join.result c.deref-in-Err-counts_or_next.result.now
+    c.args.place c.in-Err-counts_or_next.place (Err c.in-Err-counts_or_past.place) c.in-Join.is c.counts-in-Join.ensures c.in-Err-counts_or_next.ensures
     c.deref-in-Err-counts_or_next.ensures c.in-Err-counts_or_past.ensures

@@ -45,6 +45,6 @@ returns g c = λ term e.
     let head = c.args.self.now in
     let gave = asked-worth c.args.catalog.now c.args.query.now c.args.row term head old new c.block_of-block.result.now c.block_of-block.ensures c.in_ok-worth.worth
     (c.in_ok-worth.ensures term (term-in c.block_of-block.result.now (block_in c.args.query.now c.args.row.ids.block) (head.term - 1) term c.block_of-block.ensures e)) in
-    let node : Mu → RankNode = λ core. record { core = core; term = head.term; tally = head.tally; calls = head.calls + 1 } in
+    let node : Mu → RankNode = λ core. record { core = core; term = head.term; args = tt; tally = head.tally; calls = head.calls + 1 } in
     feed-done c.args.catalog.now c.args.query.now c.args.row term head old new (node c.feed.new.self)
     (ap node c.in_ok-feed.ensures.ok ∙ ap (λ worth. node (fed c.args.row worth head.core)) gave.is_value) gave.asked

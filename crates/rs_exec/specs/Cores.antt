@@ -1,0 +1,49 @@
+-- The core of a join as a node: what it keeps of the rows of its sides, without how it finds those that match.
+use Rattle.std.specs.Prelude.{ℕ, ◌≡◌, List, map}
+use Rattle.rs_catalog.specs.Catalogue.{Catalogue}
+use Rattle.rs_filter.specs.JoinValues.{left_values, right_values}
+use Rattle.rs_hrjn.specs.Drawn.{DrawnRow}
+use Rattle.rs_hrjn.specs.Hashed.{Hashed, joined_of}
+use Rattle.rs_plan.specs.Trees.{HashJoin, NestedJoin, PlanTree}
+use Rattle.rs_query.specs.declared.block.Block.{Block}
+use Rattle.rs_rank.specs.declared.row.RankRow.{RankRow}
+use Rattle.rs_ripple.specs.Joined.{Joined}
+use Rattle.rs_ripple.specs.Ripple.{Ripple}
+use Rattle.rs_value.specs.declared.value.Value.{Value}
+use Rattle.rs_exec.specs.declared.join_core.JoinCore.{JoinCore}
+use Rattle.rs_exec.specs.declared.join_core.JoinCore.TheVariants.{Hash, Nested}
+
+-- the rows without their join values
+abbrev pub joined_in : JoinCore → Joined
+joined_in (Nested joined) = joined
+joined_in (Hash hashed) = joined_of hashed
+
+-- the tree of a join with this core
+abbrev pub tree_with : JoinCore → PlanTree → PlanTree → PlanTree
+tree_with (Nested joined) left right = NestedJoin left right
+tree_with (Hash hashed) left right = HashJoin left right
+
+-- rows with their join values
+abbrev pub with_values : (List ℕ → List Value) → List RankRow → List DrawnRow
+with_values values rows = map (λ (row : RankRow). record { row = row; values = values row.ids.rows }) rows
+
+abbrev pub hashed_with : Catalogue → Block → ℕ → ℕ → Joined → Hashed
+hashed_with catalogue block left right joined = record {
+  ripple = joined.ripple;
+  lefts = with_values (left_values catalogue block left right) joined.lefts;
+  rights = with_values (right_values catalogue block left right) joined.rights;
+}
+
+-- a core of the same kind that keeps these rows; a hash join keeps them with their join values
+abbrev pub core_like : JoinCore → Catalogue → Block → ℕ → ℕ → Joined → JoinCore
+core_like (Nested other) catalogue block left right joined = Nested joined
+core_like (Hash other) catalogue block left right joined = Hash (hashed_with catalogue block left right joined)
+
+-- the rows of a hash join have their own join values
+abbrev pub HasValues : Catalogue → Block → ℕ → ℕ → JoinCore → Type 0
+HasValues catalogue block left right core = core ≡ core_like core catalogue block left right (joined_in core)
+
+-- the same rows, where the state of the join is this one
+abbrev pub core_with : JoinCore → Ripple → JoinCore
+core_with (Nested joined) ripple = Nested (record joined { ripple = ripple })
+core_with (Hash hashed) ripple = Hash (record hashed { ripple = ripple })

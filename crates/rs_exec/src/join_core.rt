@@ -1,0 +1,136 @@
+//! How a join finds the pairs that match.
+
+ghost use Rattle.std.specs.Prelude.{◌≡◌, OnOk, false};
+ghost use Rattle.rs_filter.specs.Matching.{joins};
+ghost use Rattle.rs_query.specs.Tables.{HasRows};
+ghost use Rattle.rs_query.specs.WellFormed.{IsBlock};
+ghost use Rattle.rs_rank.specs.Masks.{AreDisjoint};
+ghost use Rattle.rs_rank.specs.declared.ask.JoinAsk.TheVariants.{NeedLeft, NeedRight};
+ghost use Rattle.rs_ripple.specs.Joined.{CanFeedLeft, CanFeedRight, Fits, fed_left, fed_right};
+ghost use Rattle.rs_ripple.specs.Ripple.{CanEnd, ask_of, left_ended, left_for, right_ended, taken_for};
+ghost use Rattle.rs_exec.specs.Cores.{HasValues, core_like, core_with, joined_in};
+
+use rs_catalog::Catalog;
+use rs_filter::{BlockMatch, left_values, right_values};
+use rs_hrjn::Hrjn;
+use rs_nrjn::Nrjn;
+use rs_query::Block;
+use rs_rank::{JoinAsk, RankRow};
+use rs_value::Memory;
+use std::alloc::Global;
+
+/// The core of a join of two sides of a block. Each kind gives the same rows after the same asks.
+#[derive(Drop)]
+pub(crate) enum JoinCore {
+    /// A new row is tried against all rows drawn of the other side.
+    Nested(Nrjn),
+    /// A new row is tried against those of them that have its join values.
+    Hash(Hrjn),
+}
+
+impl JoinCore {
+    /// What the join does next.
+    pub(crate) fn ask(&self) -> JoinAsk
+        requires { (joined_in self.now).ripple.spent ≡ false }
+        ensures { result ≡ ask_of (joined_in self.now).ripple }
+    {
+        match self {
+            JoinCore::Nested(core) => core.ask(),
+            JoinCore::Hash(core) => core.ask(),
+        }
+    }
+
+    /// Takes the left side's next row, and finds the right rows drawn so far that it matches. The sides have the entries of
+    /// these masks.
+    pub(crate) fn feed_left(
+        &mut self,
+        row: RankRow,
+        alloc: Global,
+        catalog: &Catalog,
+        block: &Block,
+        left: u8,
+        right: u8,
+    ) -> Result<(), Memory>
+        requires block { IsBlock catalog.now block.now }
+        requires apart { AreDisjoint left right }
+        requires values { HasValues catalog.now block.now left right self.old }
+        requires row { CanFeedLeft row (joined_in self.old) }
+        requires rows { HasRows catalog.now block.now left row.ids.rows }
+        requires fits { Fits (joins catalog.now block.now left right) (joined_in self.old) }
+        ensures { OnOk result (self.new ≡ core_like self.old catalog.now block.now left right
+            (fed_left (joins catalog.now block.now left right) row (joined_in self.old))) }
+    {
+        let mut matcher = BlockMatch::new(alloc, catalog, block, left, right);
+        match self {
+            JoinCore::Nested(core) => core.feed_left(row, &mut matcher),
+            JoinCore::Hash(core) => {
+                let values = left_values(alloc, catalog, block, left, right, &row.ids)?;
+                core.feed_left(row, values, &mut matcher)
+            }
+        }
+    }
+
+    /// Takes the right side's next row, and finds the left rows drawn so far that it matches. The sides have the entries of
+    /// these masks.
+    pub(crate) fn feed_right(
+        &mut self,
+        row: RankRow,
+        alloc: Global,
+        catalog: &Catalog,
+        block: &Block,
+        left: u8,
+        right: u8,
+    ) -> Result<(), Memory>
+        requires block { IsBlock catalog.now block.now }
+        requires apart { AreDisjoint left right }
+        requires values { HasValues catalog.now block.now left right self.old }
+        requires row { CanFeedRight row (joined_in self.old) }
+        requires rows { HasRows catalog.now block.now right row.ids.rows }
+        requires fits { Fits (joins catalog.now block.now left right) (joined_in self.old) }
+        ensures { OnOk result (self.new ≡ core_like self.old catalog.now block.now left right
+            (fed_right (joins catalog.now block.now left right) row (joined_in self.old))) }
+    {
+        let mut matcher = BlockMatch::new(alloc, catalog, block, left, right);
+        match self {
+            JoinCore::Nested(core) => core.feed_right(row, &mut matcher),
+            JoinCore::Hash(core) => {
+                let values = right_values(alloc, catalog, block, left, right, &row.ids)?;
+                core.feed_right(row, values, &mut matcher)
+            }
+        }
+    }
+
+    /// The left side has no row more.
+    pub(crate) fn end_left(&mut self)
+        requires { CanEnd NeedLeft (joined_in self.old).ripple }
+        ensures { self.new ≡ core_with self.old (left_ended (joined_in self.old).ripple) }
+    {
+        match self {
+            JoinCore::Nested(core) => core.left_ended(),
+            JoinCore::Hash(core) => core.left_ended(),
+        }
+    }
+
+    /// The right side has no row more.
+    pub(crate) fn end_right(&mut self)
+        requires { CanEnd NeedRight (joined_in self.old).ripple }
+        ensures { self.new ≡ core_with self.old (right_ended (joined_in self.old).ripple) }
+    {
+        match self {
+            JoinCore::Nested(core) => core.right_ended(),
+            JoinCore::Hash(core) => core.right_ended(),
+        }
+    }
+
+    /// The first held pair, where the join is ready.
+    pub(crate) fn take(&mut self) -> Option<RankRow>
+        requires { (joined_in self.old).ripple.spent ≡ false }
+        ensures row { result ≡ taken_for (ask_of (joined_in self.old).ripple) (joined_in self.old).ripple }
+        ensures after { self.new ≡ core_with self.old (left_for (ask_of (joined_in self.old).ripple) (joined_in self.old).ripple) }
+    {
+        match self {
+            JoinCore::Nested(core) => core.take(),
+            JoinCore::Hash(core) => core.take(),
+        }
+    }
+}

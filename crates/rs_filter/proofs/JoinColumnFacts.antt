@@ -1,0 +1,143 @@
+-- The columns that a conjunct equates across two sides, and the join values of the first conjuncts.
+use Rattle.std.proofs.Common.{◌≡◌, ◌∙◌, ℕ, ◌+◌, ◌++◌, ◌&&◌, ◌⊎◌, inl, inr, Bool, true, false, cond, List, [], ◌∷◌, map, take, Option, Some, None, sym, ap, subst, append-nil, refl}
+use Rattle.std.specs.List.{flat_map}
+use Rattle.std.specs.Prelude.{slice_get}
+use Rattle.std.proofs.lemmas.Bool.{true≢false}
+use Rattle.std.proofs.lemmas.Grind.{flat_map-append}
+use Rattle.rs_order.proofs.EachFacts.{each-slice_get}
+use Rattle.rs_rank.specs.Masks.{has_number}
+use Rattle.rs_value.specs.Value.{fits}
+use Rattle.rs_value.specs.declared.kind.Kind.{Kind}
+use Rattle.rs_value.specs.declared.kind.Kind.TheVariants as kind
+use Rattle.rs_value.specs.declared.rel.Rel.TheVariants.{Eq}
+use Rattle.rs_value.specs.declared.value.Value.{Value}
+use Rattle.rs_value.specs.declared.value.Value.TheVariants as value
+use Rattle.rs_expr.specs.Formulas.{Argument, Condition, Numbers, Texts}
+use Rattle.rs_expr.specs.Meaning.{argument_number, argument_text}
+use Rattle.rs_expr.specs.Uses.{condition_uses}
+use Rattle.rs_expr.specs.declared.expr.TextSide.TheVariants as side
+use Rattle.rs_catalog.specs.Catalogue.{Catalogue}
+use Rattle.rs_query.specs.declared.block.Block.{Block}
+use Rattle.rs_query.specs.Conjuncts.{ConjunctDef}
+use Rattle.rs_query.specs.Meaning.{column_value}
+use Rattle.rs_query.specs.WellFormed.{IsColumn, IsConjunct, column_kind, equated, has_kind}
+use Rattle.rs_query.proofs.CellFacts.{kind_there}
+use Rattle.rs_query.proofs.ListFacts.{take-slice_get}
+use Rattle.rs_filter.specs.JoinValues.{compared, equated_across, in_sides}
+use Rattle.rs_filter.specs.Matching.{is_across}
+use Rattle.rs_filter.proofs.JoinValueFacts.{equality-back}
+use Rattle.rs_filter.proofs.SideFacts.{and-first, and-second}
+
+-- the join values of one conjunct, of the columns of one side
+abbrev pub values_of : Catalogue → Block → ℕ → ℕ → List ℕ → ((ℕ × ℕ) × (ℕ × ℕ) → ℕ × ℕ) → ConjunctDef → List Value
+values_of catalogue block left right rows own c =
+    map (λ (pair : (ℕ × ℕ) × (ℕ × ℕ)). compared c.condition (column_value catalogue block rows (own pair))) (equated_across left right c)
+
+-- those of one conjunct more
+pub values-more : {A B : Type 0} (f : A → List B) (xs : List A) (i : ℕ) (x : A) (made piece after : List B) → slice_get xs i ≡ Some x
+    → made ≡ flat_map f (take i xs) → piece ≡ f x → after ≡ made ++ piece → after ≡ flat_map f (take (i + 1) xs)
+values-more f xs i x made piece after there made_is piece_is after_is =
+    after_is ∙ ap (λ m. m ++ piece) made_is ∙ ap (λ p. flat_map f (take i xs) ++ p) (piece_is ∙ sym (append-nil (f x)))
+    ∙ sym (ap (flat_map f) (take-slice_get xs i x there) ∙ flat_map-append f (take i xs) (x ∷ []))
+
+-- two columns, where each side has one of them
+record AreInSides (left right : ℕ) (o : Option ((ℕ × ℕ) × (ℕ × ℕ))) (pair : (ℕ × ℕ) × (ℕ × ℕ)) : Type 0 where
+  on_left : has_number left pair.0.0 ≡ true
+  on_right : has_number right pair.1.0 ≡ true
+  either : (o ≡ Some pair) ⊎ (o ≡ Some (pair.1, pair.0))
+
+in_sides-back : (left right : ℕ) (o : Option ((ℕ × ℕ) × (ℕ × ℕ))) (pair : (ℕ × ℕ) × (ℕ × ℕ)) → in_sides left right o ≡ pair ∷ [] → AreInSides left right o pair
+in_sides-back left right None pair e = absurd (cc)
+in_sides-back left right (Some p) pair e =
+    go (has_number left p.0.0) (has_number right p.1.0) (has_number right p.0.0) (has_number left p.1.0) refl refl refl refl e
+  where
+    first : p ≡ pair → has_number left p.0.0 ≡ true → has_number right p.1.0 ≡ true → AreInSides left right (Some p) pair
+    first same a b = subst (AreInSides left right (Some p)) same (record { on_left = a; on_right = b; either = inl refl })
+
+    second : (p.1, p.0) ≡ pair → has_number right p.0.0 ≡ true → has_number left p.1.0 ≡ true → AreInSides left right (Some p) pair
+    second same s t = subst (AreInSides left right (Some p)) same (record { on_left = t; on_right = s; either = inr refl })
+
+    go : (x y u v : Bool) → has_number left p.0.0 ≡ x → has_number right p.1.0 ≡ y → has_number right p.0.0 ≡ u → has_number left p.1.0 ≡ v
+        → cond (x && y) (p ∷ []) (cond (u && v) ((p.1, p.0) ∷ []) []) ≡ pair ∷ [] → AreInSides left right (Some p) pair
+    go true true u v a b s t f = first (cc) a b
+    go true false true true a b s t f = second (cc) s t
+    go false y true true a b s t f = second (cc) s t
+    go true false true false a b s t f = absurd (cc)
+    go true false false v a b s t f = absurd (cc)
+    go false y true false a b s t f = absurd (cc)
+    go false y false v a b s t f = absurd (cc)
+
+-- what is compared of a value of the right kind is the value
+int-self : (v : Value) → fits kind.Int v ≡ true → value.Int (argument_number (Some v)) ≡ v
+int-self (value.Int n) is = refl
+int-self (value.Text t) is = absurd (true≢false (sym is))
+
+text-self : (v : Value) → fits kind.Text v ≡ true → value.Text (argument_text (Some v)) ≡ v
+text-self (value.Int n) is = absurd (true≢false (sym is))
+text-self (value.Text t) is = refl
+
+module _ (catalogue : Catalogue) (block : Block) where
+  -- a value has the kind of its column
+  abbrev pub HasKindOf : ℕ × ℕ → Value → Type 0
+  HasKindOf column v = (k : Kind) → column_kind catalogue block column ≡ Some k → fits k v ≡ true
+
+  kind-at : (columns : List (ℕ × ℕ)) (k : Kind) (i : ℕ) (column : ℕ × ℕ) → slice_get columns i ≡ Some column → has_kind catalogue block columns k i ≡ true
+      → column_kind catalogue block column ≡ Some k
+  kind-at columns k i column there is = kind_there catalogue block k (column_kind catalogue block column) (rw there at is)
+
+  compared-self : (condition : Condition) (columns : List (ℕ × ℕ)) (i j : ℕ) (a b : ℕ × ℕ) → equated condition ≡ Some (i, j) → slice_get columns i ≡ Some a → slice_get columns j ≡ Some b
+      → condition_uses (has_kind catalogue block columns) condition ≡ true
+      → ((v : Value) → HasKindOf a v → compared condition v ≡ v) × ((v : Value) → HasKindOf b v → compared condition v ≡ v)
+  compared-self (Numbers Eq (Argument k) (Argument l)) columns i j a b is at_a at_b uses =
+      let pair : (k, l) ≡ (i, j) = cc in
+      let first : slice_get columns k ≡ Some a = ap (λ (p : ℕ × ℕ). slice_get columns p.0) pair ∙ at_a in
+      let second : slice_get columns l ≡ Some b = ap (λ (p : ℕ × ℕ). slice_get columns p.1) pair ∙ at_b in
+      let on_first = and-first (has_kind catalogue block columns kind.Int k) (has_kind catalogue block columns kind.Int l) uses in
+      let on_second = and-second (has_kind catalogue block columns kind.Int k) (has_kind catalogue block columns kind.Int l) uses in (
+        λ v has. int-self v (has kind.Int (kind-at columns kind.Int k a first on_first)),
+        λ v has. int-self v (has kind.Int (kind-at columns kind.Int l b second on_second)),
+      )
+  compared-self (Texts Eq (side.Arg k) (side.Arg l)) columns i j a b is at_a at_b uses =
+      let pair : (k, l) ≡ (i, j) = cc in
+      let first : slice_get columns k ≡ Some a = ap (λ (p : ℕ × ℕ). slice_get columns p.0) pair ∙ at_a in
+      let second : slice_get columns l ≡ Some b = ap (λ (p : ℕ × ℕ). slice_get columns p.1) pair ∙ at_b in
+      let on_first = and-first (has_kind catalogue block columns kind.Text k) (has_kind catalogue block columns kind.Text l) uses in
+      let on_second = and-second (has_kind catalogue block columns kind.Text k) (has_kind catalogue block columns kind.Text l) uses in (
+        λ v has. text-self v (has kind.Text (kind-at columns kind.Text k a first on_first)),
+        λ v has. text-self v (has kind.Text (kind-at columns kind.Text l b second on_second)),
+      )
+  compared-self condition columns i j a b is at_a at_b uses = absurd (cc)
+
+  -- what is known of each of two columns that a conjunct equates
+  pub record IsOne (c : ConjunctDef) (column : ℕ × ℕ) : Type 0 where
+    pub is_column : IsColumn catalogue block column
+    pub self : (v : Value) → HasKindOf column v → compared c.condition v ≡ v
+
+  pub equality-columns : (c : ConjunctDef) → IsConjunct catalogue block c → (a b : ℕ × ℕ) → c.equality ≡ Some (a, b) → IsOne c a × IsOne c b
+  equality-columns c is a b e =
+      let back = equality-back c.condition c.columns a b (sym is.equality ∙ e) in
+      let both = compared-self c.condition c.columns back.left back.right a b back.is_equated back.left_there back.right_there is.uses in (
+        record { is_column = each-slice_get (IsColumn catalogue block) c.columns back.left a is.columns back.left_there; self = both.0 },
+        record { is_column = each-slice_get (IsColumn catalogue block) c.columns back.right b is.columns back.right_there; self = both.1 },
+      )
+
+  -- two columns that it equates across the sides, that of the left side first
+  pub record AreAcross (left right : ℕ) (c : ConjunctDef) (pair : (ℕ × ℕ) × (ℕ × ℕ)) : Type 0 where
+    pub on_left : has_number left pair.0.0 ≡ true
+    pub on_right : has_number right pair.1.0 ≡ true
+    pub left_column : IsOne c pair.0
+    pub right_column : IsOne c pair.1
+
+  pub across-columns : (left right : ℕ) (c : ConjunctDef) → IsConjunct catalogue block c → (pair : (ℕ × ℕ) × (ℕ × ℕ)) → equated_across left right c ≡ pair ∷ [] → AreAcross left right c pair
+  across-columns left right c is pair e = go (is_across left right c) e where
+    sides : in_sides left right c.equality ≡ pair ∷ [] → AreAcross left right c pair
+    sides f = let back = in_sides-back left right c.equality pair f in
+        let both = elim back.either as (λ _. IsOne c pair.0 × IsOne c pair.1) [
+          | inl same ↦ equality-columns c is pair.0 pair.1 same
+          | inr same ↦ (let turned = equality-columns c is pair.1 pair.0 same in (turned.1, turned.0))
+        ] in
+        record { on_left = back.on_left; on_right = back.on_right; left_column = both.0; right_column = both.1 }
+
+    go : (b : Bool) → cond b (in_sides left right c.equality) [] ≡ pair ∷ [] → AreAcross left right c pair
+    go true f = sides f
+    go false f = absurd (cc)
