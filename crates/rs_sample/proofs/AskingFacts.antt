@@ -1,5 +1,5 @@
 -- Questions that are all asked, whatever their numbers are.
-use Rattle.std.proofs.Common.{ℕ, ℤ, ◌≡◌, ◌∙◌, ◌++◌, List, [], ◌∷◌, map, pos, negsuc, refl, sym, ap, subst, inl, inr, append_assoc}
+use Rattle.std.proofs.Common.{ℕ, ℤ, ◌≡◌, ◌∙◌, ◌++◌, List, [], ◌∷◌, map, refl, sym, ap, subst, inl, inr, append_assoc}
 use Rattle.std.specs.Prelude.{Some, Result, Ok, Err, slice_get}
 use Rattle.std.proofs.lemmas.List.{map-append}
 use Rattle.rs_value.specs.declared.value.Value.{Value}
@@ -9,7 +9,7 @@ use Rattle.rs_expr.specs.Predicates.{PredicateDef}
 use Rattle.rs_expr.specs.Scoring.{Answering, KeepsScorer, Made, ScorerState, call_of}
 use Rattle.rs_expr.specs.declared.scorer.ScorerFault.{ScorerFault}
 use Rattle.rs_expr.specs.declared.scorer.ScorerFault.TheVariants as call_fault
-use Rattle.rs_expr.proofs.InOrderFacts.{Begins, InquiryEnds-ok, Inquires-begun, Inquires-behind, Inquires-failed, Inquires-one, Inquires-stopped, Inquires-uncalled, behind}
+use Rattle.rs_expr.proofs.InOrderFacts.{InquiryEnds-ok, Inquires-begun, Inquires-behind, Inquires-failed, Inquires-one, Inquires-stopped, Inquires-uncalled, behind}
 use Rattle.rs_expr.proofs.ScoringFacts.{KeepsScorer-refl, KeepsScorer-then, Made-append, Made-none, Scored}
 use Rattle.rs_catalog.specs.Catalogue.{Catalogue}
 use Rattle.rs_query.specs.Answers.{clamped, predicate_at, scorer_answer, worth_of}
@@ -18,7 +18,7 @@ use Rattle.rs_query.specs.Questions.{Question, call_for, question_of, request_fo
 use Rattle.rs_query.specs.declared.block.Block.{Block}
 use Rattle.rs_query.specs.declared.term.Term.{Term}
 use Rattle.rs_query.proofs.AskFacts.{predicate_at-is}
-use Rattle.rs_sample.specs.Sampling.{asking_all, done_of, sample_faults}
+use Rattle.rs_sample.specs.Sampling.{asking_all, sample_faults}
 use Rattle.rs_sample.specs.declared.fault.SampleFault.{SampleFault}
 use Rattle.rs_sample.specs.declared.fault.SampleFault.TheVariants.{Memory, Probe}
 

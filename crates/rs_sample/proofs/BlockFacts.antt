@@ -1,5 +1,5 @@
 -- The questions of a block, by the samples that were drawn.
-use Rattle.std.proofs.Common.{ℕ, ◌≡◌, ◌∙◌, List, [], ◌++◌, refl, sym, ap, subst, append-nil}
+use Rattle.std.proofs.Common.{ℕ, ◌≡◌, ◌∙◌, List, [], refl, sym, ap, append-nil}
 use Rattle.std.specs.Prelude.{Result, Ok, Err}
 use Rattle.rs_expr.specs.InOrder.{Inquires}
 use Rattle.rs_expr.specs.Scoring.{ScorerState}

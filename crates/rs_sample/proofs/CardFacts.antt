@@ -1,22 +1,23 @@
 -- The numbers that are kept are those of the definitions.
-use Rattle.std.proofs.Common.{ℕ, zero, suc, ◌≡◌, ◌∙◌, ◌+◌, ◌-◌, ◌*◌, ◌/◌, ◌%◌, ◌^◌, ◌<◌, ◌≤◌, Bool, true, false, cond, eqb, List, [], ◌∷◌, Some, length, map, get_or, nat_le, refl, sym, ap, ap₂, subst, arith}
+use Rattle.std.proofs.Common.{ℕ, zero, suc, ◌≡◌, ◌∙◌, ◌+◌, ◌-◌, ◌*◌, ◌/◌, ◌^◌, ◌<◌, ◌≤◌, cond, eqb, List, [], ◌∷◌, Some, length, map, get_or, nat_le, refl, sym, ap, subst, arith}
 use Rattle.std.specs.Int.{div_ceil}
 use Rattle.std.specs.List.{filter}
 use Rattle.std.specs.Prelude.{Option, slice_get}
 use Rattle.std.proofs.lemmas.List.{length-map}
 use Rattle.rs_rank.specs.Masks.{mask_of}
-use Rattle.rs_rank.specs.Weights.{bound, rest, sum_inside}
+use Rattle.rs_rank.specs.Weights.{rest, sum_inside}
 use Rattle.rs_rank.proofs.MaskFacts.{even-power, half-power}
 use Rattle.rs_expr.specs.Scoring.{Answering}
 use Rattle.rs_catalog.specs.Catalogue.{Catalogue}
-use Rattle.rs_query.specs.Answers.{padded, weights_of, worth_of, worths_of}
+use Rattle.rs_query.specs.Answers.{padded, weights_of, worth_of}
 use Rattle.rs_query.specs.declared.block.Block.{Block}
 use Rattle.rs_query.specs.declared.term.Term.{Term}
 use Rattle.rs_sample.specs.Choosing.{sampled_choices}
 use Rattle.rs_sample.specs.Estimates.{cutoff_of, estimate_of, index_estimate_of, reaches}
 use Rattle.rs_sample.specs.Finding.{known_estimate}
 use Rattle.rs_sample.specs.Quotients.{expected, number_at, product_inside}
-use Rattle.rs_sample.specs.Sampling.{AreCards, AreRead, worths_by_term}
+use Rattle.rs_sample.specs.Cards.{AreRead}
+use Rattle.rs_sample.specs.Sampling.{AreCards, worths_by_term}
 use Rattle.rs_sample.proofs.CountFacts.{filter-map, filter-same, known-estimate}
 
 -- no term gives anything

@@ -10,14 +10,14 @@ use Rattle.rs_rank.proofs.MaskFacts.{half-behind}
 use Rattle.rs_rank.specs.Weights.{rest, sum_inside}
 use Rattle.rs_expr.specs.Scoring.{Answering}
 use Rattle.rs_catalog.specs.Catalogue.{Catalogue}
-use Rattle.rs_query.specs.Answers.{weights_of, worth_of, worths_of}
+use Rattle.rs_query.specs.Answers.{weights_of, worth_of}
 use Rattle.rs_query.specs.Meaning.{is_inside}
 use Rattle.rs_query.specs.declared.block.Block.{Block}
 use Rattle.rs_query.specs.declared.term.Term.{Term}
 use Rattle.rs_sample.specs.Estimates.{estimate_of, reaches, sampled_combinations}
 use Rattle.rs_sample.specs.Finding.{known_estimate, known_reaches, known_worth}
 use Rattle.rs_sample.specs.Quotients.{expected}
-use Rattle.rs_sample.specs.Sampling.{AreRead}
+use Rattle.rs_sample.specs.Cards.{AreRead}
 
 -- tests that agree
 pub filter-same : {X : Type 0} (p q : X → Bool) → ((x : X) → p x ≡ q x) → (xs : List X) → filter p xs ≡ filter q xs

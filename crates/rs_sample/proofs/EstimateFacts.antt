@@ -1,5 +1,5 @@
 -- What is kept of a block is its cards.
-use Rattle.std.proofs.Common.{ℕ, ◌≡◌, ◌-◌, ◌^◌, ◌<◌, ◌≤◌, List, [], Some, length, map, get_or, sym, subst}
+use Rattle.std.proofs.Common.{ℕ, ◌≡◌, ◌^◌, ◌<◌, ◌≤◌, List, Some, length, map, get_or, sym, subst}
 use Rattle.std.specs.Prelude.{IfOk, Option, Result, Ok, Err, slice_get}
 use Rattle.std.specs.declared.alloc.Global.{Global}
 use Rattle.std.specs.declared.vec.Vec.{Vec}

@@ -1,5 +1,6 @@
 mod AskingFacts
 mod BlockFacts
+mod BoundFacts
 mod CardFacts
 mod ChoiceFacts
 mod CountFacts
@@ -11,8 +12,9 @@ mod FindFacts
 mod GridFacts
 mod IndexFacts
 mod ListFacts
-mod MapFacts
 mod MemberFacts
+mod NameFacts
+mod PlaceFacts
 mod QueryFacts
 mod QuotientFacts
 mod ReachFacts

@@ -1,6 +1,6 @@
 -- Which choices there are among samples.
-use Rattle.std.proofs.Common.{ℕ, zero, suc, ◌≡◌, ◌∙◌, ◌+◌, ◌*◌, ◌/◌, ◌%◌, ◌<◌, ◌≤◌, Bool, true, false, cond, eqb, List, [], ◌∷◌, ◌++◌, length, map, bit_and, refl, sym, ap, subst, inl, inr, arith}
-use Rattle.std.specs.List.{AllByRecursion, filter, flat_map}
+use Rattle.std.proofs.Common.{ℕ, ◌≡◌, ◌∙◌, ◌+◌, ◌*◌, ◌/◌, ◌%◌, ◌≤◌, Bool, true, false, cond, eqb, List, [], ◌∷◌, length, map, bit_and, refl, sym, ap, subst, inl, inr, arith}
+use Rattle.std.specs.List.{AllByRecursion, flat_map}
 use Rattle.std.proofs.lemmas.Bool.{eqb-true, eqb-false, eq-eqb}
 use Rattle.std.proofs.lemmas.List.{length-append, length-map}
 use lib.Bits.{and_self}
@@ -21,11 +21,11 @@ use Rattle.rs_sample.specs.Quotients.{product_inside}
 use Rattle.rs_sample.specs.Samples.{AreBlockSamples, AreSamples, IsSample, most_sampled}
 
 -- a row number before others
-abbrev before : ℕ → List ℕ → List ℕ
+abbrev pub before : ℕ → List ℕ → List ℕ
 before row = λ rows. row ∷ rows
 
 -- the rows of one entry
-abbrev rows_of : Bool → List ℕ → List ℕ
+abbrev pub rows_of : Bool → List ℕ → List ℕ
 rows_of outside sample = cond outside (0 ∷ []) sample
 
 -- they are row numbers of its table
@@ -45,7 +45,7 @@ IsChoice-sampled most mask (size ∷ sizes) (sample ∷ samples) rows are h =
     (row-number most size (eqb (mask % 2) 0) sample made.source are.0 made.is_in, IsChoice-sampled most (mask / 2) sizes samples image.source are.1 image.is_in)
 
 -- the first of two masks of which one is inside the other, and the others
-inside-first : (entries mask : ℕ) → is_inside entries mask ≡ true → entries % 2 ≡ 1 → mask % 2 ≡ 1
+pub inside-first : (entries mask : ℕ) → is_inside entries mask ≡ true → entries % 2 ≡ 1 → mask % 2 ≡ 1
 inside-first entries mask inside one =
     let same = eqb-true (bit_and entries mask) entries inside in
     let first = bit_and-first entries mask in

@@ -1,12 +1,11 @@
 -- Lists of six numbers, one number for each entry.
-use Rattle.std.proofs.Common.{ℕ, zero, suc, ◌≡◌, ◌∙◌, ◌+◌, ◌-◌, ◌<◌, ◌≤◌, Bool, true, false, cond, ltb, List, [], ◌∷◌, Some, None, length, map, get_or, set, refl, sym, ap, ap₂, subst, ◌⊎◌, inl, inr, arith}
+use Rattle.std.proofs.Common.{ℕ, zero, suc, ◌≡◌, ◌∙◌, ◌+◌, ◌-◌, ◌<◌, ◌≤◌, List, [], ◌∷◌, Some, None, length, map, get_or, set, refl, sym, ap, ap₂, ◌⊎◌, inl, inr, arith}
 use Rattle.std.specs.List.{AllByRecursion}
 use Rattle.std.specs.Prelude.{option_and_then, option_map, slice_get, unwrap_or}
-use Rattle.std.proofs.lemmas.Bool.{cases_lt}
 use Rattle.rs_catalog.specs.Catalogue.{Catalogue}
 use Rattle.rs_table.specs.Relation.{Relation}
 use Rattle.rs_query.specs.declared.block.Block.{Block}
-use Rattle.rs_query.specs.Tables.{entry_table, size_of, sizes_of}
+use Rattle.rs_query.specs.Tables.{size_of, sizes_of}
 
 -- the number at a place of a list that another one was put into
 pub set-here : (numbers : List ℕ) (place number : ℕ) → place < length numbers → get_or (set numbers place number) place 0 ≡ number

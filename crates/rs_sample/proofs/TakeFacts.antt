@@ -1,5 +1,5 @@
 -- Algorithm S by the words of a generator, one word at a time.
-use Rattle.std.proofs.Common.{ℕ, zero, suc, ◌≡◌, ◌∙◌, ◌+◌, ◌-◌, ◌%◌, ◌<◌, ◌≤◌, Bool, true, false, List, [], ◌∷◌, ◌++◌, length, nat_lt, refl, sym, ap, ap₂, subst, append_assoc, append-nil, arith}
+use Rattle.std.proofs.Common.{ℕ, zero, suc, ◌≡◌, ◌∙◌, ◌+◌, ◌-◌, ◌%◌, ◌<◌, ◌≤◌, Bool, true, false, List, [], ◌∷◌, ◌++◌, length, nat_lt, refl, sym, ap, ap₂, append_assoc, arith}
 use Rattle.std.specs.List.{AllByRecursion}
 use Rattle.rand_core.specs.Steps.{first_words}
 use Rattle.rs_order.proofs.EachFacts.{each-weaker}

@@ -1,5 +1,5 @@
 -- Samples, worked by hand.
-use Rattle.std.proofs.Common.{◌≡◌, ℕ, List, [], ◌∷◌, refl}
+use Rattle.std.proofs.Common.{◌≡◌, [], ◌∷◌, refl}
 use Rattle.rand_core.specs.Pcg32Seed.{pcg32_seed}
 use Rattle.rand_core.specs.Steps.{first_words, u32_at, word_bytes}
 use Rattle.rs_sample.specs.Choosing.{sampled_choices}

@@ -1,10 +1,6 @@
--- Worths of terms on sampled rows, found by the rows of their entries.
-use Rattle.std.specs.Prelude.{ℕ, ◌≡◌, Bool, List, [], ◌∷◌, Some, length, map, nat_le, if◌then◌else◌}
-use Rattle.std.specs.BTreeMap.{BTreeMap, get}
-use Rattle.std.specs.Cmp.Lexicographic.{slice_cmp}
+-- Worths of terms on sampled rows, found by the places of the rows in their samples.
+use Rattle.std.specs.Prelude.{ℕ, suc, ◌+◌, ◌*◌, ◌/◌, ◌%◌, ◌==◌, Bool, List, [], ◌∷◌, length, map, nat_le, if◌then◌else◌}
 use Rattle.std.specs.List.{filter}
-use Rattle.std.specs.Ordering.{nat_cmp}
-use Rattle.rs_order.specs.Climbing.{In}
 use Rattle.rs_rank.specs.Weights.{bound}
 use Rattle.rs_expr.specs.Scoring.{Answering}
 use Rattle.rs_catalog.specs.Catalogue.{Catalogue}
@@ -12,20 +8,29 @@ use Rattle.rs_query.specs.Answers.{weights_of, worth_of}
 use Rattle.rs_query.specs.Meaning.{is_inside}
 use Rattle.rs_query.specs.declared.block.Block.{Block}
 use Rattle.rs_query.specs.declared.term.Term.{Term}
-use Rattle.rs_sample.specs.Choosing.{sampled_choices}
 use Rattle.rs_sample.specs.Estimates.{sampled_combinations}
-use Rattle.rs_sample.specs.Quotients.{expected}
+use Rattle.rs_sample.specs.Quotients.{expected, product_inside}
+
+-- the place of a row in a sample, where the first one is 0; a row that isn't there stands behind the last one
+abbrev pub place_in : ℕ → List ℕ → ℕ
+place_in row [] = 0
+place_in row (other ∷ sample) = if other == row then 0 else suc (place_in row sample)
+
+-- the places of rows in the samples of their entries
+abbrev pub places_in : List (List ℕ) → List ℕ → List ℕ
+places_in [] rows = []
+places_in (sample ∷ samples) [] = []
+places_in (sample ∷ samples) (row ∷ rows) = place_in row sample ∷ places_in samples rows
+
+-- the place of a choice among all choices for the entries in a mask, in lexicographic order: its rows stand at these places of samples of
+-- these sizes
+abbrev pub choice_place : ℕ → List ℕ → List ℕ → ℕ
+choice_place mask [] places = 0
+choice_place mask (size ∷ sizes) [] = 0
+choice_place mask (size ∷ sizes) (place ∷ places) =
+    (if mask % 2 == 0 then 0 else place * product_inside (mask / 2) sizes) + choice_place (mask / 2) sizes places
 
 module _ (answer : Answering) (catalogue : Catalogue) (block : Block) where
-  -- the map of each of these terms has its worth at each choice among the samples of its entries
-  abbrev pub FindsWorths : List (List ℕ) → List (BTreeMap (List ℕ) ℕ) → List Term → Type 0
-  FindsWorths samples [] [] = Unit {0}
-  FindsWorths samples [] (term ∷ terms) = ⊥
-  FindsWorths samples (found ∷ maps) [] = ⊥
-  FindsWorths samples (found ∷ maps) (term ∷ terms) =
-      ((rows : List ℕ) → In rows (sampled_choices term.entries samples) → get (slice_cmp nat_cmp) found rows ≡ Some (worth_of answer catalogue block rows term))
-      × FindsWorths samples maps terms
-
   -- the worth of a term for rows of the entries in a mask, where it reads these alone, or else 0
   abbrev pub known_worth : ℕ → List ℕ → Term → ℕ
   known_worth mask rows term = if is_inside term.entries mask then worth_of answer catalogue block rows term else 0

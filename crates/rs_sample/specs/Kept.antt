@@ -1,5 +1,5 @@
 -- The cards that an object keeps.
-use Rattle.std.specs.Prelude.{ℕ, ◌-◌, List, get_or, map}
+use Rattle.std.specs.Prelude.{◌-◌, List, get_or, map}
 use Rattle.rs_sample.specs.Cards.{BlockCards}
 use Rattle.rs_sample.specs.Quotients.{number_at}
 use Rattle.rs_sample.specs.declared.cards.Cards.{Cards}

@@ -1,21 +1,19 @@
 -- What taking a sample asks the scorer, and which cards it gives.
-use Rattle.std.specs.Prelude.{ℕ, ◌≡◌, ◌<◌, ◌≤◌, ◌+◌, ◌^◌, ◌/◌, ◌%◌, ◌-◌, true, List, [], ◌∷◌, ◌++◌, length, map, sum, Option, Some, slice_get, Result, Ok, Err}
+use Rattle.std.specs.Prelude.{ℕ, ◌<◌, ◌+◌, List, [], ◌∷◌, ◌++◌, length, map, sum, Option, Result, Ok, Err}
 use Rattle.std.specs.List.{flat_map}
 use Rattle.std.specs.declared.alloc.Global.{Global}
 use Rattle.std.specs.declared.vec.Vec.{Vec}
-use Rattle.rs_rank.specs.Masks.{mask_of}
 use Rattle.rs_expr.specs.InOrder.{Inquiry}
 use Rattle.rs_expr.specs.Scoring.{Answering}
 use Rattle.rs_catalog.specs.Catalogue.{Catalogue}
 use Rattle.rs_query.specs.Answers.{worth_of}
-use Rattle.rs_query.specs.Meaning.{is_inside}
 use Rattle.rs_query.specs.Questions.{Faults, Question, question_of, request_for}
 use Rattle.rs_query.specs.Views.{View}
 use Rattle.rs_query.specs.declared.block.Block.{Block}
 use Rattle.rs_query.specs.declared.term.Term.{Term}
 use Rattle.rs_query.specs.declared.query.Query.{Query}
 use Rattle.rs_query.specs.declared.query.Query.TheVariants.{One, Set}
-use Rattle.rs_sample.specs.Cards.{BlockCards}
+use Rattle.rs_sample.specs.Cards.{BlockCards, SayTheSame}
 use Rattle.rs_sample.specs.Choosing.{sampled_choices}
 use Rattle.rs_sample.specs.Estimates.{cutoff_of, estimate_of, index_estimate_of}
 use Rattle.rs_sample.specs.Samples.{samples_from}
@@ -53,6 +51,11 @@ questions_of (Set op left right limit) view seed =
 abbrev pub sample_faults : Faults SampleFault
 sample_faults = record { failed = λ predicate. Probe predicate; bad = λ predicate ids got max. Memory }
 
+-- the predicate that a fault names is one of the catalogue
+abbrev pub NamesPredicate : Catalogue → SampleFault → Type 0
+NamesPredicate catalogue (Probe predicate) = predicate < length catalogue.predicates
+NamesPredicate catalogue Memory = Unit {0}
+
 -- all these questions are asked in order, whatever their numbers are, and then there is this value
 abbrev pub asking_all : {A : Type 0} → Catalogue → List Question → A → Inquiry A SampleFault
 asking_all catalogue questions value = record { requests = map (request_for sample_faults catalogue) questions; outcome = Ok value }
@@ -76,42 +79,26 @@ abbrev pub worths_by_term : Answering → Catalogue → Block → List (List ℕ
 worths_by_term answer catalogue block samples =
     map (λ (t : Term). map (λ rows. worth_of answer catalogue block rows t) (sampled_choices t.entries samples)) block.terms
 
--- the numbers for which a block's cards are asked: a mask of its entries, and one of its terms, of which each reads entries in that mask
-abbrev pub AreRead : ℕ → ℕ → List ℕ → Type 0
-AreRead terms mask [] = Unit {0}
-AreRead terms mask (read ∷ reads) = (terms % 2 ≡ 1 → is_inside read mask ≡ true) × AreRead (terms / 2) mask reads
-
-pub record IsEstimated (cards : BlockCards) (mask terms : ℕ) : Type 0 where
-  pub entries : mask < 2 ^ cards.entries
-  pub terms_are : terms < 2 ^ length cards.reads
-  pub read : AreRead terms mask cards.reads
-
--- one of its entries, and one of its terms that reads this entry alone, each counted from 1
-pub record IsIndexed (cards : BlockCards) (entry term : ℕ) : Type 0 where
-  pub some_entry : 1 ≤ entry
-  pub most_entry : entry ≤ cards.entries
-  pub some_term : 1 ≤ term
-  pub reads : slice_get cards.reads (term - 1) ≡ Some (mask_of entry)
-
 module _ (answer : Answering) (catalogue : Catalogue) where
   -- the cards of a block whose entries have so many rows, by its samples
-  pub record AreCards (block : Block) (sizes : List ℕ) (samples : List (List ℕ)) (limit : Option ℕ) (cards : BlockCards) : Type 0 where
-    pub entries : cards.entries ≡ length block.from
-    pub reads : cards.reads ≡ map (λ (t : Term). t.entries) block.terms
-    pub estimate : (mask terms : ℕ) → IsEstimated cards mask terms
-        → cards.estimate mask terms ≡ estimate_of answer catalogue block sizes samples (cutoff_of answer catalogue block sizes samples limit) mask terms
-    pub index_estimate : (entry term : ℕ) → IsIndexed cards entry term
-        → cards.index_estimate entry term ≡ index_estimate_of answer catalogue block sizes samples (cutoff_of answer catalogue block sizes samples limit) entry term
+  abbrev pub sampled_cards : Block → List ℕ → List (List ℕ) → Option ℕ → BlockCards
+  sampled_cards block sizes samples limit =
+      let cutoff = cutoff_of answer catalogue block sizes samples limit in
+      record {
+        entries = length block.from;
+        reads = map (λ (t : Term). t.entries) block.terms;
+        estimate = estimate_of answer catalogue block sizes samples cutoff;
+        index_estimate = index_estimate_of answer catalogue block sizes samples cutoff;
+      }
 
-  -- the cards of the blocks of a query
-  abbrev pub AreQueryCards : Query → View → ℕ → List BlockCards → Type 0
-  AreQueryCards (One block limit) view seed [] = ⊥
-  AreQueryCards (One block limit) view seed (first ∷ []) =
-      AreCards block view.first (block_samples block view.first (words_of seed (sum view.first))).0 limit first
-  AreQueryCards (One block limit) view seed (first ∷ second ∷ more) = ⊥
-  AreQueryCards (Set op left right limit) view seed [] = ⊥
-  AreQueryCards (Set op left right limit) view seed (first ∷ []) = ⊥
-  AreQueryCards (Set op left right limit) view seed (first ∷ second ∷ []) =
+  -- the cards of the blocks of a query, by a seed
+  abbrev pub query_cards : Query → View → ℕ → List BlockCards
+  query_cards (One block limit) view seed =
+      sampled_cards block view.first (block_samples block view.first (words_of seed (sum view.first))).0 limit ∷ []
+  query_cards (Set op left right limit) view seed =
       let drawn = block_samples left view.first (words_of seed (sum view.first + sum view.second)) in
-      AreCards left view.first drawn.0 limit first × AreCards right view.second (block_samples right view.second drawn.1).0 limit second
-  AreQueryCards (Set op left right limit) view seed (first ∷ second ∷ third ∷ more) = ⊥
+      sampled_cards left view.first drawn.0 limit ∷ sampled_cards right view.second (block_samples right view.second drawn.1).0 limit ∷ []
+
+  -- cards that say what those of a block say
+  abbrev pub AreCards : Block → List ℕ → List (List ℕ) → Option ℕ → BlockCards → Type 0
+  AreCards block sizes samples limit cards = SayTheSame cards (sampled_cards block sizes samples limit)

@@ -17,7 +17,7 @@ use rs_catalog::Catalog;
 use rs_expr::{Scorer, ScorerFault};
 use rs_query::Block;
 use rs_rank::Ids;
-use rs_value::List;
+use rs_value::{List, Value};
 use std::alloc::Global;
 
 /// What each term of the block of this number is worth on each choice among the samples of its entries.
@@ -37,6 +37,7 @@ pub(crate) fn ask_terms<S: Scorer>(
         (as_list result) (S.state scorer.old) (S.state scorer.new) }
 {
     let mut worths = Vec::new(alloc);
+    let mut args = Vec::new(alloc);
     for (place, term) in block.terms.items().iter().enumerate() {
         let choices = choices(alloc, samples, term.entries)?;
         let asked = ask_choices(
@@ -46,6 +47,7 @@ pub(crate) fn ask_terms<S: Scorer>(
             number,
             place as u8 + 1,
             &choices,
+            &mut args,
             scorer,
         )?;
         worths.push(List::of(asked))?;
@@ -61,6 +63,7 @@ fn ask_choices<S: Scorer>(
     number: u8,
     term: u8,
     choices: &[[u32; 6]],
+    args: &mut Vec<Value>,
     scorer: &mut S,
 ) -> Result<Vec<u32>, SampleFault>
     requires block { IsBlock catalog.now block.now }
@@ -81,18 +84,19 @@ fn ask_choices<S: Scorer>(
             mask: block.terms.items()[term as usize - 1].entries,
             rows: *rows,
         };
-        worths.push(ask_term(alloc, catalog, block, term, &ids, scorer)?)?;
+        worths.push(ask_term(catalog, block, term, &ids, args, scorer)?)?;
     }
     Ok(worths)
 }
 
-/// What a term, counted from 1, is worth for the rows of its entries. The scorer is called once.
+/// What a term, counted from 1, is worth for the rows of its entries. The scorer is called once, with its arguments in a list
+/// that is kept from call to call.
 fn ask_term<S: Scorer>(
-    alloc: Global,
     catalog: &Catalog,
     block: &Block,
     number: u8,
     ids: &Ids,
+    args: &mut Vec<Value>,
     scorer: &mut S,
 ) -> Result<u32, SampleFault>
     requires block { IsBlock catalog.now block.now }
@@ -106,10 +110,10 @@ fn ask_term<S: Scorer>(
         (worth_of (S.state scorer.old).answer catalog.now block.now ids.now.rows term))
         result (S.state scorer.old) (S.state scorer.new) }
 {
-    let args = block.args(alloc, catalog, number, ids)?;
+    block.args(catalog, number, ids, args)?;
     let term = &block.terms.items()[number as usize - 1];
     let predicate = catalog.predicate(term.predicate);
-    match scorer.score(predicate, &args) {
+    match scorer.score(predicate, args) {
         Ok(got) => Ok(clamped(got, predicate.max())),
         Err(ScorerFault::Failed) => Err(SampleFault::Probe {
             predicate: term.predicate,

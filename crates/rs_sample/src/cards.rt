@@ -1,11 +1,11 @@
-ghost use Rattle.std.specs.Prelude.{ℕ, ◌≡◌, ◌≤◌, ◌-◌, ◌^◌, IfOk, Some, length, slice_get};
+ghost use Rattle.std.specs.Prelude.{ℕ, ◌≡◌, ◌≤◌, ◌-◌, ◌^◌, IfErr, IfOk, Some, length, slice_get};
 ghost use Rattle.rs_expr.specs.InOrder.{Inquires};
 ghost use Rattle.rs_query.specs.Views.{all_rows};
 ghost use Rattle.rs_query.specs.WellFormed.{IsQuery};
-ghost use Rattle.rs_sample.specs.Cards.{BlockCards};
+ghost use Rattle.rs_sample.specs.Cards.{AllSayTheSame, BlockCards, IsEstimated, IsIndexed};
 ghost use Rattle.rs_sample.specs.Kept.{cards_of};
 ghost use Rattle.rs_sample.specs.Quotients.{most_expected};
-ghost use Rattle.rs_sample.specs.Sampling.{AreQueryCards, IsEstimated, IsIndexed, asking_all, done, done_of, questions_of};
+ghost use Rattle.rs_sample.specs.Sampling.{NamesPredicate, asking_all, done, done_of, query_cards, questions_of};
 
 use crate::estimates::Estimates;
 use crate::fault::SampleFault;
@@ -41,8 +41,9 @@ impl Cards {
         ensures asks { Inquires SampleFault.Memory
             (asking_all catalog.now (questions_of query.now (all_rows catalog.now query.now) seed) done)
             (done_of result) (S.state scorer.old) (S.state scorer.new) }
-        ensures cards { IfOk result (λ cards. AreQueryCards (S.state scorer.old).answer catalog.now query.now
-            (all_rows catalog.now query.now) seed (cards_of cards)) }
+        ensures cards { IfOk result (λ cards. AllSayTheSame (cards_of cards)
+            (query_cards (S.state scorer.old).answer catalog.now query.now (all_rows catalog.now query.now) seed)) }
+        ensures names_predicate { IfErr result (NamesPredicate catalog.now) }
     {
         let mut words = Pcg32::seed_from_u64(seed);
         let mut blocks = Vec::new(alloc);

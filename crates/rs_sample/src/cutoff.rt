@@ -1,6 +1,6 @@
 //! The cutoff of a block: the score of the last sampled row that is planned for.
 
-ghost use Rattle.std.specs.Prelude.{ℕ, ◌≡◌, ◌≤◌, ◌*◌, ◌-◌, List, IfOk, IfSome, length, map, max, slice_get, unwrap_or};
+ghost use Rattle.std.specs.Prelude.{ℕ, ◌≡◌, ◌≤◌, ◌*◌, ◌-◌, IfOk, IfSome, length, map, max, slice_get, unwrap_or};
 ghost use Rattle.std.specs.Int.{div_ceil};
 ghost use Rattle.std.specs.List.{AllByRecursion};
 ghost use Rattle.rs_expr.specs.Scoring.{Answering};
@@ -10,8 +10,8 @@ ghost use Rattle.rs_query.specs.Tables.{all_entries};
 ghost use Rattle.rs_query.specs.WellFormed.{IsBlock, IsLimit};
 ghost use Rattle.rs_sample.specs.Choosing.{sampled_choices};
 ghost use Rattle.rs_sample.specs.Estimates.{nth_greatest, planned_rows};
-ghost use Rattle.rs_sample.specs.Finding.{FindsWorths};
 ghost use Rattle.rs_sample.specs.Quotients.{product_inside};
+ghost use Rattle.rs_sample.specs.Sampling.{worths_by_term};
 ghost use Rattle.rs_order.specs.Climbing.{In};
 
 use crate::bound::evaluated;
@@ -19,9 +19,8 @@ use crate::lookup::worths_for;
 use crate::quotient::product_inside;
 use rs_query::Block;
 use rs_rank::{Scored, sort_stably};
-use rs_value::Memory;
+use rs_value::{List, Memory};
 use std::alloc::Global;
-use std::collections::BTreeMap;
 use std::marker::Model;
 
 /// A score alone.
@@ -48,24 +47,29 @@ impl Scored for Score {
 pub(crate) fn cutoff(
     alloc: Global,
     block: &Block,
-    found: &[BTreeMap<[u32; 6], u32>],
+    samples: &[List<u32>],
+    sampled: &[u32; 6],
+    worths: &[List<u32>],
     combinations: &[[u32; 6]],
     place: u128,
 ) -> Result<u64, Memory>
     requires some { 1 ≤ place }
-    requires found { length found.now ≡ length block.now.terms }
+    requires six { length samples.now ≡ 6 }
+    requires few_rows { AllByRecursion (λ sample. length sample ≤ 256) samples.now }
+    requires sampled { sampled.now ≡ map length samples.now }
+    requires worths { length worths.now ≡ length block.now.terms }
     requires entries { (1 ≤ length block.now.from) × (length block.now.from ≤ 6) }
     requires few_terms { length block.now.terms ≤ 8 }
     requires limits { AllByRecursion (λ t. t.weight ≤ 1000000) block.now.terms }
-    ensures { (answer : Answering) (catalogue : Catalogue) (samples : List (List ℕ)) → IsBlock catalogue block.now
-        → FindsWorths answer catalogue block.now samples found.now block.now.terms
-        → AllByRecursion (λ rows. In rows (sampled_choices (all_entries block.now) samples)) combinations.now
+    ensures { (answer : Answering) (catalogue : Catalogue) → IsBlock catalogue block.now
+        → worths.now ≡ worths_by_term answer catalogue block.now samples.now
+        → AllByRecursion (λ rows. In rows (sampled_choices (all_entries block.now) samples.now)) combinations.now
         → IfOk result (λ cutoff. cutoff ≡ nth_greatest place (map (λ rows. score_of answer catalogue block.now rows block.now.terms) combinations.now)) }
 {
     let weights = block.weights();
     let mut scores = Vec::new(alloc);
     for rows in combinations {
-        let worths = worths_for(alloc, block, found, block.all_entries(), rows)?;
+        let worths = worths_for(block, samples, sampled, worths, block.all_entries(), rows);
         scores.push(Score {
             score: evaluated(&weights, &worths, all_terms(block)),
         })?;

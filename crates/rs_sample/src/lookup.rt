@@ -1,100 +1,112 @@
-//! What terms are worth on sampled rows, found by the rows of their entries.
+//! What terms are worth on sampled rows, found by the places of the rows in their samples.
 
-ghost use Rattle.std.specs.Prelude.{ℕ, ◌≡◌, ◌<◌, List, IfOk, Some, get_or, length, map, unwrap_or, if◌then◌else◌};
-ghost use Rattle.std.specs.BTreeMap.{get};
-ghost use Rattle.std.specs.Cmp.Lexicographic.{slice_cmp};
-ghost use Rattle.std.specs.Ordering.{nat_cmp};
-ghost use Rattle.rs_rank.specs.Ids.{rows_inside};
+ghost use Rattle.std.specs.Prelude.{ℕ, ◌≡◌, ◌≤◌, List, get_or, length, map, if◌then◌else◌};
+ghost use Rattle.std.specs.List.{AllByRecursion};
 ghost use Rattle.rs_order.specs.Climbing.{In};
 ghost use Rattle.rs_expr.specs.Scoring.{Answering};
 ghost use Rattle.rs_catalog.specs.Catalogue.{Catalogue};
-ghost use Rattle.rs_query.specs.Answers.{worth_of};
+ghost use Rattle.rs_query.specs.Answers.{padded};
 ghost use Rattle.rs_query.specs.Meaning.{is_inside};
 ghost use Rattle.rs_query.specs.WellFormed.{IsBlock};
 ghost use Rattle.rs_sample.specs.Choosing.{sampled_choices};
-ghost use Rattle.rs_sample.specs.Finding.{FindsWorths, known_worth};
+ghost use Rattle.rs_sample.specs.Finding.{choice_place, known_worth, place_in, places_in};
 ghost use Rattle.rs_sample.specs.Sampling.{worths_by_term};
 
-use crate::choices::choices;
 use rs_query::Block;
-use rs_rank::Ids;
-use rs_value::{List, Memory};
-use std::alloc::Global;
-use std::collections::BTreeMap;
+use rs_value::List;
 
-/// What each term is worth on each choice among the samples of its entries, found by the choice.
-pub(crate) fn find_worths(
-    alloc: Global,
+/// What each term is worth for a choice among the samples of the entries in a mask, and 0 for a term of other entries and
+/// past the last term. The worths are those of each term on the choices among the samples of its entries.
+pub(crate) fn worths_for(
     block: &Block,
     samples: &[List<u32>],
+    sampled: &[u32; 6],
     worths: &[List<u32>],
-) -> Result<Vec<BTreeMap<[u32; 6], u32>>, Memory>
-    requires samples { length samples.now ≡ 6 }
-    requires worths { map length worths.now ≡ map (λ t. length (sampled_choices t.entries samples.now)) block.now.terms }
-    ensures { (answer : Answering) (catalogue : Catalogue) → worths.now ≡ worths_by_term answer catalogue block.now samples.now
-        → IfOk result (λ found. FindsWorths answer catalogue block.now samples.now found.items block.now.terms) }
-{
-    let mut found = Vec::new(alloc);
-    for (place, term) in block.terms.items().iter().enumerate() {
-        let choices = choices(alloc, samples, term.entries)?;
-        found.push(find_each(alloc, &choices, worths[place].items())?)?;
-    }
-    Ok(found)
-}
-
-/// A map of choices to their worths.
-fn find_each(
-    alloc: Global,
-    choices: &[[u32; 6]],
-    worths: &[u32],
-) -> Result<BTreeMap<[u32; 6], u32>, Memory>
-    requires { length worths.now ≡ length choices.now }
-    ensures { (worth : List ℕ → ℕ) → worths.now ≡ map worth choices.now
-        → IfOk result (λ found. (rows : List ℕ) → In rows choices.now → get (slice_cmp nat_cmp) found rows ≡ Some (worth rows)) }
-{
-    let mut found = BTreeMap::new(alloc);
-    for (place, rows) in choices.iter().enumerate() {
-        found.insert(*rows, worths[place])?;
-    }
-    Ok(found)
-}
-
-/// What each term is worth for a choice among the samples of the entries in a mask, and 0 for a term of other entries.
-pub(crate) fn worths_for(
-    alloc: Global,
-    block: &Block,
-    found: &[BTreeMap<[u32; 6], u32>],
     mask: u8,
     rows: &[u32; 6],
-) -> Result<Vec<u32>, Memory>
-    requires { length found.now ≡ length block.now.terms }
-    ensures { (answer : Answering) (catalogue : Catalogue) (samples : List (List ℕ)) → IsBlock catalogue block.now
-        → FindsWorths answer catalogue block.now samples found.now block.now.terms
-        → In rows.now (sampled_choices mask samples)
-        → IfOk result (λ worths. worths.items ≡ map (known_worth answer catalogue block.now mask rows.now) block.now.terms) }
+) -> [u32; 8]
+    requires terms { length block.now.terms ≤ 8 }
+    requires six { length samples.now ≡ 6 }
+    requires few { AllByRecursion (λ sample. length sample ≤ 256) samples.now }
+    requires sampled { sampled.now ≡ map length samples.now }
+    requires worths { length worths.now ≡ length block.now.terms }
+    ensures { (answer : Answering) (catalogue : Catalogue) → IsBlock catalogue block.now
+        → worths.now ≡ worths_by_term answer catalogue block.now samples.now
+        → In rows.now (sampled_choices mask samples.now)
+        → result ≡ padded 8 (map (known_worth answer catalogue block.now mask rows.now) block.now.terms) }
 {
-    let mut worths = Vec::new(alloc);
+    let places = places_of(samples, rows);
+    let mut known = [0; 8];
     for (place, term) in block.terms.items().iter().enumerate() {
-        let worth = worth_if_inside(&found[place], term.entries, mask, rows);
-        worths.push(worth)?;
+        known[place] = worth_if_inside(term.entries, mask, sampled, &places, worths[place].items());
     }
-    Ok(worths)
+    known
 }
 
-/// The worth that stands at the rows of these entries, where they are in the mask, or else 0.
-fn worth_if_inside(found: &BTreeMap<[u32; 6], u32>, entries: u8, mask: u8, rows: &[u32; 6]) -> u32
-    ensures { result ≡ (if is_inside entries mask then unwrap_or (get (slice_cmp nat_cmp) found.now (rows_inside entries rows.now)) 0 else 0) }
+/// The worth of the choice of rows at these places, where the entries of the worths are in the mask, or else 0.
+fn worth_if_inside(
+    entries: u8,
+    mask: u8,
+    sampled: &[u32; 6],
+    places: &[u32; 6],
+    worths: &[u32],
+) -> u32
+    requires sampled { AllByRecursion (λ size. size ≤ 256) sampled.now }
+    requires places { AllByRecursion (λ place. place ≤ 256) places.now }
+    ensures { result ≡ (if is_inside entries mask then get_or worths.now (choice_place entries sampled.now places.now) 0 else 0) }
 {
     if entries & mask != entries {
         return 0;
     }
-    let ids = Ids {
-        block: 1,
-        mask,
-        rows: *rows,
-    };
-    match found.get(&ids.inside(entries).rows) {
+    match worths.get(choice_place(entries, sampled, places)) {
         Some(worth) => *worth,
         None => 0,
     }
+}
+
+/// The place of the choice of rows of the entries in a mask among all such choices, in lexicographic order. The rows stand
+/// at these places of samples of these sizes.
+fn choice_place(mask: u8, sampled: &[u32; 6], places: &[u32; 6]) -> usize
+    requires sampled { AllByRecursion (λ size. size ≤ 256) sampled.now }
+    requires places { AllByRecursion (λ place. place ≤ 256) places.now }
+    ensures { result ≡ choice_place mask sampled.now places.now }
+{
+    let mut at = 0;
+    let mut choices = 1;
+    for behind in 0..6 {
+        let place = 5 - behind;
+        if (mask >> place) % 2 == 0 {
+            continue;
+        }
+        at += places[place] as usize * choices;
+        choices *= sampled[place] as usize;
+    }
+    at
+}
+
+/// The places of rows in the samples of their entries. A row that isn't there stands behind the last one.
+fn places_of(samples: &[List<u32>], rows: &[u32; 6]) -> [u32; 6]
+    requires six { length samples.now ≡ 6 }
+    requires few { AllByRecursion (λ sample. length sample ≤ 256) samples.now }
+    ensures value { result ≡ places_in samples.now rows.now }
+    ensures few { AllByRecursion (λ place. place ≤ 256) result }
+{
+    let mut places = [0; 6];
+    for place in 0..6 {
+        places[place] = place_of(samples[place].items(), rows[place]);
+    }
+    places
+}
+
+/// The place of a row in a sample, or behind the last one.
+fn place_of(sample: &[u32], row: u32) -> u32
+    requires { length sample.now ≤ 256 }
+    ensures { result ≡ place_in row sample.now }
+{
+    for (place, other) in sample.iter().enumerate() {
+        if *other == row {
+            return place as u32;
+        }
+    }
+    sample.len() as u32
 }

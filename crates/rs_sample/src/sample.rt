@@ -14,7 +14,7 @@ ghost use Rattle.rs_query.specs.declared.term.Term.{Term as BoundTerm};
 ghost use Rattle.rs_query.specs.WellFormed.{IsBlock, IsLimit};
 ghost use Rattle.rs_sample.specs.Drawing.{Draws};
 ghost use Rattle.rs_sample.specs.Kept.{block_cards};
-ghost use Rattle.rs_sample.specs.Finding.{FindsWorths, known_estimate};
+ghost use Rattle.rs_sample.specs.Finding.{known_estimate};
 ghost use Rattle.rs_sample.specs.Choosing.{sampled_choices};
 ghost use Rattle.rs_sample.specs.Estimates.{cutoff_of};
 ghost use Rattle.rs_sample.specs.Quotients.{most_expected, number_at, product_inside};
@@ -29,14 +29,12 @@ use crate::draw::take_samples;
 use crate::estimates::Estimates;
 use crate::fault::SampleFault;
 use crate::index::index_estimates;
-use crate::lookup::find_worths;
 use rand_pcg::Pcg32;
 use rs_catalog::Catalog;
 use rs_expr::Scorer;
 use rs_query::Block;
 use rs_value::{List, Memory};
 use std::alloc::Global;
-use std::collections::BTreeMap;
 
 /// Takes a sample of each table of the block of this number, by the next words of the generator, asks the scorer, and reckons
 /// what is expected of the block.
@@ -102,10 +100,8 @@ fn estimate_block(
     ensures { (answer : Answering) → worths.now ≡ worths_by_term answer catalog.now block.now samples.now
         → IfOk result (λ e. AreCards answer catalog.now block.now sizes.now samples.now limit (block_cards e)) }
 {
-    let found = find_worths(alloc, block, samples, worths)?;
-    let cutoff = block_cutoff(alloc, catalog, block, sizes, samples, &found, limit)?;
-    let numbers = all_estimates(alloc, catalog, block, sizes, samples, &found, cutoff)?;
-    drop(found);
+    let cutoff = block_cutoff(alloc, catalog, block, sizes, samples, worths, limit)?;
+    let numbers = all_estimates(alloc, catalog, block, sizes, samples, worths, cutoff)?;
     estimates_of(alloc, block, sizes, samples, worths, cutoff, numbers)
 }
 
@@ -116,22 +112,23 @@ fn block_cutoff(
     block: &Block,
     sizes: &[u32; 6],
     samples: &[List<u32>],
-    found: &[BTreeMap<[u32; 6], u32>],
+    worths: &[List<u32>],
     limit: Option<u32>,
 ) -> Result<u64, Memory>
     requires block { IsBlock catalog.now block.now }
     requires sizes { sizes.now ≡ sizes_of catalog.now block.now }
     requires rows { AllByRecursion (λ size. size ≤ 131072) sizes.now }
     requires samples { AreBlockSamples (length block.now.from) sizes.now samples.now }
-    requires found { length found.now ≡ length block.now.terms }
+    requires worths { length worths.now ≡ length block.now.terms }
     requires limit { IsLimit limit }
-    ensures { (answer : Answering) → FindsWorths answer catalog.now block.now samples.now found.now block.now.terms
+    ensures { (answer : Answering) → worths.now ≡ worths_by_term answer catalog.now block.now samples.now
         → IfOk result (λ cutoff. cutoff ≡ cutoff_of answer catalog.now block.now sizes.now samples.now limit) }
 {
     let entries = block.all_entries();
     let rows = combinations(alloc, catalog, block, samples, entries)?;
-    let place = cutoff_place(limit, entries, sizes, &sample_sizes(samples));
-    cutoff(alloc, block, found, &rows, place)
+    let sampled = sample_sizes(samples);
+    let place = cutoff_place(limit, entries, sizes, &sampled);
+    cutoff(alloc, block, samples, &sampled, worths, &rows, place)
 }
 
 /// What is kept of a block, of these numbers.
@@ -210,18 +207,18 @@ fn all_estimates(
     block: &Block,
     sizes: &[u32; 6],
     samples: &[List<u32>],
-    found: &[BTreeMap<[u32; 6], u32>],
+    worths: &[List<u32>],
     cutoff: u64,
 ) -> Result<Vec<List<u128>>, Memory>
     requires block { IsBlock catalog.now block.now }
     requires sizes { sizes.now ≡ sizes_of catalog.now block.now }
     requires rows { AllByRecursion (λ size. size ≤ 131072) sizes.now }
     requires samples { AreBlockSamples (length block.now.from) sizes.now samples.now }
-    requires found { length found.now ≡ length block.now.terms }
+    requires worths { length worths.now ≡ length block.now.terms }
     ensures length { IfOk result (λ numbers. length numbers.items ≡ 2 ^ length block.now.from) }
     ensures lengths { IfOk result (λ numbers. AllByRecursion (λ row. length row ≡ 2 ^ length block.now.terms) numbers.items) }
     ensures limits { IfOk result (λ numbers. (mask terms : ℕ) → number_at numbers.items mask terms ≤ most_expected mask) }
-    ensures value { (answer : Answering) → FindsWorths answer catalog.now block.now samples.now found.now block.now.terms
+    ensures value { (answer : Answering) → worths.now ≡ worths_by_term answer catalog.now block.now samples.now
         → IfOk result (λ numbers. (mask terms : ℕ) → mask < 2 ^ length block.now.from → terms < 2 ^ length block.now.terms
         → number_at numbers.items mask terms
         ≡ known_estimate answer catalog.now block.now sizes.now samples.now cutoff mask terms) }
@@ -230,7 +227,7 @@ fn all_estimates(
     let mut numbers = Vec::new(alloc);
     for mask in 0..1u8 << block.from.len() {
         let row = estimates_for(
-            alloc, catalog, block, sizes, samples, &sampled, found, cutoff, mask,
+            alloc, catalog, block, sizes, samples, &sampled, worths, cutoff, mask,
         )?;
         numbers.push(row)?;
     }

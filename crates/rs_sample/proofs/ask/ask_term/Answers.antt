@@ -81,8 +81,8 @@ returns-in-Err-Failed g c = λ term e.
     (subst (λ f. Scored (call_of c.predicate-predicate.result.now c.deref.result.now) (Err f) old new) c.in-Err-Failed.field-0-is
     (record { same = c.in-Err-Failed.ensures.same; told = c.in-Err-Failed.ensures.told; calls = c.in-Err-Failed.ensures.calls; counts = c.in-Err-Failed.ensures.counts })))
 
-pub returns : goal.returns
-returns g c = λ term e.
+pub returns-in-Err-Memory : goal.returns-in-Err-Memory
+returns-in-Err-Memory g c = λ term e.
     let is : c.index-term.result.now ≡ get_or c.args.block.now.terms (c.args.number - 1) c.index-term.result.now =
     subst (λ terms. c.index-term.result.now ≡ get_or terms (c.args.number - 1) c.index-term.result.now) c.items.ensures c.index-term.ensures in
     let within : c.args.number - 1 < length c.args.block.now.terms = omega arith in

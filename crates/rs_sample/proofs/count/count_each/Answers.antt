@@ -1,10 +1,12 @@
-use Rattle.std.proofs.Common.{◌∙◌, ◌+◌, ◌<◌, ◌≤◌, Bool, true, false, [], cond, get_or, length, nat_le, take, sym, ap, ap₂, arith}
+use Rattle.std.proofs.Common.{◌≡◌, ◌∙◌, ◌+◌, ◌<◌, ◌≤◌, Bool, true, false, [], cond, get_or, length, map, nat_le, take, sym, ap, ap₂, arith}
 use Rattle.std.specs.List.{filter}
-use Rattle.std.proofs.lemmas.List.{take_all}
+use Rattle.std.proofs.lemmas.List.{length-map, take_all}
 use Rattle.rs_order.specs.Climbing.{In}
-use Rattle.rs_rank.specs.Weights.{bound}
+use Rattle.rs_rank.specs.Weights.{bound, rest}
+use Rattle.rs_query.specs.Answers.{weights_of}
 use Rattle.rs_sample.specs.Choosing.{sampled_choices}
-use Rattle.rs_sample.specs.Finding.{known_reaches}
+use Rattle.rs_sample.specs.Finding.{known_reaches, known_worth}
+use Rattle.rs_sample.proofs.BoundFacts.{sum-padded}
 use Rattle.rs_sample.proofs.CountFacts.{count-more}
 use Rattle.rs_sample.proofs.ListFacts.{each-at, get_or-other}
 use Rattle.rs_sample.proofs.SixFacts.{each-number}
@@ -34,16 +36,21 @@ loop-rows-preserved c =
           let before : k < length c.loop-rows.counts.items = omega arith in
           let few = c.loop-rows.invariant.few k before in
           let each = c.count_reached.ensures.each k before in
-          let one = at-most-one (nat_le c.args.cutoff (bound c.weights-weights.result k c.deref.result.now)) in
+          let one = at-most-one (nat_le c.args.cutoff (bound c.weights-weights.result k c.worths_for-worths.result)) in
           omega arith;
-      value = λ answer catalogue samples formed finds all k less.
+      value = λ answer catalogue formed are all k less.
           let before : k < length c.loop-rows.counts.items = omega arith in
-          let known = c.deref.ensures.value ∙ c.in_ok-worths.ensures answer catalogue samples formed finds
-          (each-at (λ rs. In rs (sampled_choices c.args.mask samples)) choices i rows all within (get_or-other choices i [] within)) in
+          let block = c.args.block.now in
+          let known = c.worths_for-worths.ensures answer catalogue formed are
+          (each-at (λ rs. In rs (sampled_choices c.args.mask c.args.samples.now)) choices i rows all within (get_or-other choices i [] within)) in
+          let long = length-map block.terms (known_worth answer catalogue block c.args.mask rows) in
+          let few_terms = c.requires.few_terms in
+          let same_bound : bound c.weights-weights.result k c.worths_for-worths.result ≡ bound (weights_of block) k (map (known_worth answer catalogue block c.args.mask rows) block.terms) =
+          ap₂ (λ ws vs. bound ws k vs) c.weights-weights.ensures.value known
+          ∙ ap (λ sum. sum + rest (weights_of block) k) (sum-padded k 8 (weights_of block).weight (map (known_worth answer catalogue block c.args.mask rows) block.terms) (omega arith)) in
           c.count_reached.ensures.each k before
-          ∙ ap (λ n. n + cond (nat_le c.args.cutoff (bound c.weights-weights.result k c.deref.result.now)) 1 0) (c.loop-rows.invariant.value answer catalogue samples formed finds all k before)
-          ∙ ap₂ (λ ws vs. length (filter (known_reaches answer catalogue c.args.block.now c.args.cutoff c.args.mask k) (take i choices)) + cond (nat_le c.args.cutoff (bound ws k vs)) 1 0)
-          c.weights-weights.ensures.value known
+          ∙ ap (λ n. n + cond (nat_le c.args.cutoff (bound c.weights-weights.result k c.worths_for-worths.result)) 1 0) (c.loop-rows.invariant.value answer catalogue formed are all k before)
+          ∙ ap (λ n. length (filter (known_reaches answer catalogue block c.args.cutoff c.args.mask k) (take i choices)) + cond (nat_le c.args.cutoff n) 1 0) same_bound
           ∙ sym (count-more (known_reaches answer catalogue c.args.block.now c.args.cutoff c.args.mask k) choices i rows within (get_or-other choices i [] within));
     }
 
@@ -55,7 +62,7 @@ returns-clause-limit c =
     omega arith)
 
 pub returns-clause-value : goal.returns-clause-value
-returns-clause-value c = λ answer catalogue samples formed finds all k less.
+returns-clause-value c = λ answer catalogue formed are all k less.
     let count = c.loop-rows.invariant.count in
-    c.loop-rows.invariant.value answer catalogue samples formed finds all k (omega arith)
+    c.loop-rows.invariant.value answer catalogue formed are all k (omega arith)
     ∙ ap (λ cs. length (filter (known_reaches answer catalogue c.args.block.now c.args.cutoff c.args.mask k) cs)) (take_all c.loop-rows.rows-index c.args.choices.now c.loop-rows-test.false)

@@ -12,8 +12,10 @@ use Rattle.rs_query.specs.declared.term.Term.{Term}
 use Rattle.rs_sample.specs.Choosing.{sampled_choices}
 use Rattle.rs_sample.specs.Finding.{known_reaches}
 use Rattle.rs_sample.specs.Quotients.{most_expected, product_inside}
+use Rattle.rs_sample.specs.Samples.{most_sampled}
 use Rattle.rs_sample.proofs.CountFacts.{filter-few}
-use Rattle.rs_sample.proofs.FewFacts.{product-small}
+use Rattle.rs_sample.proofs.DrawFacts.{length-samples}
+use Rattle.rs_sample.proofs.FewFacts.{product-small, samples-small}
 use Rattle.rs_sample.proofs.GridFacts.{each-within}
 use Rattle.rs_sample.proofs.ListFacts.{get_or-other, map-with}
 use Rattle.rs_sample.proofs.MemberFacts.{length-choices}
@@ -31,6 +33,14 @@ count_each-requires-clause-few c =
 pub count_each-requires-clause-limits : goal.count_each-requires-clause-limits
 count_each-requires-clause-limits c =
     each-weaker (IsTerm c.args.catalog.now c.args.block.now) (λ (t : Term). t.weight ≤ 1000000) (λ t is. is.most_weight) c.args.block.now.terms c.requires.block.terms
+
+pub count_each-requires-clause-six : goal.count_each-requires-clause-six
+count_each-requires-clause-six c =
+    length-samples (most_sampled (length c.args.block.now.from)) c.args.sizes.now c.args.samples.now c.requires.samples ∙ ap length c.requires.sizes
+
+pub count_each-requires-clause-few_rows : goal.count_each-requires-clause-few_rows
+count_each-requires-clause-few_rows c =
+    samples-small (length c.args.block.now.from) c.args.sizes.now c.args.samples.now c.requires.block.some_entries c.requires.block.most_entries c.requires.samples
 
 pub expected-requires-clause-few : goal.expected-requires-clause-few
 expected-requires-clause-few c =
@@ -81,7 +91,7 @@ pub returns-clause-limit : goal.returns-clause-limit
 returns-clause-limit c = subst (AllByRecursion (λ n. n ≤ most_expected c.args.mask)) (sym c.of.ensures) c.loop-count.invariant.limit
 
 pub returns-clause-value : goal.returns-clause-value
-returns-clause-value c = λ answer finds k less.
+returns-clause-value c = λ answer are k less.
     let samples = c.args.samples.now in
     let counts = c.in_ok-counts.counts.items in
     let combos = c.deref.ensures.value ∙ c.in_ok-rows.ensures in
@@ -95,7 +105,7 @@ returns-clause-value c = λ answer finds k less.
     (take_all c.loop-count.count-index c.deref-count-items.result.now c.loop-count-test.false ∙ c.deref-count-items.ensures.value))
     ∙ get_or-map (λ n. div_ceil (n * product_inside c.args.mask c.args.sizes.now) (product_inside c.args.mask c.args.sampled.now)) counts k 0 0 within
     ∙ ap (λ n. div_ceil (n * product_inside c.args.mask c.args.sizes.now) (product_inside c.args.mask c.args.sampled.now))
-    (c.in_ok-counts.ensures.value answer c.args.catalog.now samples c.requires.block finds each k less
+    (c.in_ok-counts.ensures.value answer c.args.catalog.now c.requires.block are each k less
     ∙ ap (λ all. length (filter (known_reaches answer c.args.catalog.now c.args.block.now c.args.cutoff c.args.mask k) all)) combos)
     ∙ ap (λ all. div_ceil (length (filter (known_reaches answer c.args.catalog.now c.args.block.now c.args.cutoff c.args.mask k)
     (filter (satisfies c.args.catalog.now c.args.block.now c.args.mask) (sampled_choices c.args.mask samples))) * product_inside c.args.mask c.args.sizes.now) (product_inside c.args.mask all)) c.requires.sampled

@@ -1,9 +1,8 @@
-use Rattle.std.proofs.Common.{ℕ, ◌≡◌, ◌∙◌, ◌-◌, ◌<◌, Some, length, map, refl, sym, ap, arith}
-use Rattle.std.specs.Prelude.{slice_get}
+use Rattle.std.proofs.Common.{◌≡◌, ◌∙◌, ◌-◌, ◌<◌, Some, length, refl, sym, ap, arith}
 use Rattle.std.proofs.lemmas.List.{length-map}
 use Rattle.std.proofs.lemmas.Option.{slice_get_read}
 use Rattle.rs_sample.specs.Cards.{BlockCards}
-use Rattle.rs_sample.specs.Kept.{block_cards, cards_of}
+use Rattle.rs_sample.specs.Kept.{block_cards}
 use Rattle.rs_sample.proofs.ListFacts.{slice-map}
 use Rattle.rs_sample.proofs.cards.Cards.est.Goals as goal
 

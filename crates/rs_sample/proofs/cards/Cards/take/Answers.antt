@@ -8,10 +8,12 @@ use Rattle.rs_query.specs.Tables.{sizes_of}
 use Rattle.rs_query.specs.Views.{all_rows}
 use Rattle.rs_query.specs.declared.query.Query.TheVariants.{One, Set}
 use Rattle.rs_sample.specs.Kept.{block_cards}
-use Rattle.rs_sample.specs.Sampling.{AreCards, AreQueryCards, asking_all, block_questions, block_samples, done, done_of, questions_of}
+use Rattle.rs_sample.specs.Cards.{AllSayTheSame}
+use Rattle.rs_sample.specs.Sampling.{AreCards, asking_all, block_questions, block_samples, done, done_of, query_cards, questions_of}
 use Rattle.rs_sample.specs.Words.{words_of}
 use Rattle.rs_sample.specs.declared.estimates.Estimates.{Estimates}
 use Rattle.rs_sample.specs.declared.fault.SampleFault.TheVariants.{Memory}
+use Rattle.rs_sample.proofs.NameFacts.{names-asks}
 use Rattle.rs_sample.proofs.QueryFacts.{both-ended, both_rows, first-faulted, first-stopped, left-enough, second-faulted, second-stopped, words-left}
 use Rattle.rs_value.proofs.ResultFacts.{given-err}
 use Rattle.rs_sample.proofs.cards.Cards.take.Goals.{in-One+in_ok-first-in-One+in_ok-push-in-One, in-Set+in_ok-first-in-Set+in_ok-push-in-Set+in_ok-second-in-Set+in_ok-push-in-Set-2}
@@ -216,8 +218,8 @@ returns-clause-cards g c =
           (w.in_ok-first-in-One.ensures.cards count all) in
           let kept : c.match-query.blocks.items ≡ first ∷ [] =
           ap (λ (v : Vec Estimates Global). v.items) w.blocks-is ∙ w.in_ok-push-in-One.ensures.items ∙ ap (λ es. es ++ first ∷ []) c.new-blocks.ensures.items in
-          subst (λ query. AreQueryCards old.answer catalogue query (all_rows catalogue query) seed (map block_cards c.match-query.blocks.items)) (sym w.in-One.is)
-          (subst (λ es. AreQueryCards old.answer catalogue (One block limit) (all_rows catalogue (One block limit)) seed (map block_cards es)) (sym kept) cards)
+          subst (λ query. AllSayTheSame (map block_cards c.match-query.blocks.items) (query_cards old.answer catalogue query (all_rows catalogue query) seed)) (sym w.in-One.is)
+          (subst (λ es. AllSayTheSame (map block_cards es) (query_cards old.answer catalogue (One block limit) (all_rows catalogue (One block limit)) seed)) (sym kept) (cards, tt))
       | in-Set+in_ok-first-in-Set+in_ok-push-in-Set+in_ok-second-in-Set+in_ok-push-in-Set-2 w ↦
           let left = w.in-Set.left in
           let right = w.in-Set.right in
@@ -242,6 +244,36 @@ returns-clause-cards g c =
           let kept : c.match-query.blocks.items ≡ first ∷ second ∷ [] =
           ap (λ (v : Vec Estimates Global). v.items) w.blocks-is ∙ w.in_ok-push-in-Set-2.ensures.items
           ∙ ap (λ es. es ++ second ∷ []) (w.in_ok-push-in-Set.ensures.items ∙ ap (λ es. es ++ first ∷ []) c.new-blocks.ensures.items) in
-          subst (λ query. AreQueryCards old.answer catalogue query (all_rows catalogue query) seed (map block_cards c.match-query.blocks.items)) (sym w.in-Set.is)
-          (subst (λ es. AreQueryCards old.answer catalogue (Set op left right limit) (all_rows catalogue (Set op left right limit)) seed (map block_cards es)) (sym kept) (one, two))
+          subst (λ query. AllSayTheSame (map block_cards c.match-query.blocks.items) (query_cards old.answer catalogue query (all_rows catalogue query) seed)) (sym w.in-Set.is)
+          (subst (λ es. AllSayTheSame (map block_cards es) (query_cards old.answer catalogue (Set op left right limit) (all_rows catalogue (Set op left right limit)) seed)) (sym kept) (one, (two, tt)))
     ]
+
+pub returns-in_err-first-in-One-clause-names_predicate : goal.returns-in_err-first-in-One-clause-names_predicate
+returns-in_err-first-in-One-clause-names_predicate g c =
+    names-asks c.args.catalog.now c.args.query.now (all_rows c.args.catalog.now c.args.query.now) c.args.seed c.from_residual.result
+    (g.S.Scorer.state c.args.scorer.now) (g.S.Scorer.state c.sample_block.new.scorer) c.requires (returns-in_err-first-in-One-clause-asks g c)
+
+pub returns-in_err-push-in-One-clause-names_predicate : goal.returns-in_err-push-in-One-clause-names_predicate
+returns-in_err-push-in-One-clause-names_predicate g c =
+    names-asks c.args.catalog.now c.args.query.now (all_rows c.args.catalog.now c.args.query.now) c.args.seed c.from_residual-in_err-push-in-One.result
+    (g.S.Scorer.state c.args.scorer.now) (g.S.Scorer.state c.sample_block.new.scorer) c.requires (returns-in_err-push-in-One-clause-asks g c)
+
+pub returns-in_err-first-in-Set-clause-names_predicate : goal.returns-in_err-first-in-Set-clause-names_predicate
+returns-in_err-first-in-Set-clause-names_predicate g c =
+    names-asks c.args.catalog.now c.args.query.now (all_rows c.args.catalog.now c.args.query.now) c.args.seed c.from_residual-in_err-first-in-Set.result
+    (g.S.Scorer.state c.args.scorer.now) (g.S.Scorer.state c.sample_block-in-Set.new.scorer) c.requires (returns-in_err-first-in-Set-clause-asks g c)
+
+pub returns-in_err-push-in-Set-clause-names_predicate : goal.returns-in_err-push-in-Set-clause-names_predicate
+returns-in_err-push-in-Set-clause-names_predicate g c =
+    names-asks c.args.catalog.now c.args.query.now (all_rows c.args.catalog.now c.args.query.now) c.args.seed c.from_residual-in_err-push-in-Set.result
+    (g.S.Scorer.state c.args.scorer.now) (g.S.Scorer.state c.sample_block-in-Set.new.scorer) c.requires (returns-in_err-push-in-Set-clause-asks g c)
+
+pub returns-in_err-second-in-Set-clause-names_predicate : goal.returns-in_err-second-in-Set-clause-names_predicate
+returns-in_err-second-in-Set-clause-names_predicate g c =
+    names-asks c.args.catalog.now c.args.query.now (all_rows c.args.catalog.now c.args.query.now) c.args.seed c.from_residual-in_err-second-in-Set.result
+    (g.S.Scorer.state c.args.scorer.now) (g.S.Scorer.state c.sample_block-in-Set-2.new.scorer) c.requires (returns-in_err-second-in-Set-clause-asks g c)
+
+pub returns-in_err-push-in-Set-2-clause-names_predicate : goal.returns-in_err-push-in-Set-2-clause-names_predicate
+returns-in_err-push-in-Set-2-clause-names_predicate g c =
+    names-asks c.args.catalog.now c.args.query.now (all_rows c.args.catalog.now c.args.query.now) c.args.seed c.from_residual-in_err-push-in-Set-2.result
+    (g.S.Scorer.state c.args.scorer.now) (g.S.Scorer.state c.sample_block-in-Set-2.new.scorer) c.requires (returns-in_err-push-in-Set-2-clause-asks g c)

@@ -1,6 +1,6 @@
-use Rattle.std.proofs.Common.{ℕ, ◌≡◌, ◌∙◌, ◌^◌, ◌<◌, ◌≤◌, [], get_or, length, sym, ap, subst, arith}
+use Rattle.std.proofs.Common.{◌≡◌, ◌∙◌, ◌^◌, ◌<◌, ◌≤◌, [], get_or, length, sym, ap, subst, arith}
 use Rattle.rs_order.proofs.EachFacts.{each-get_or}
-use Rattle.rs_sample.specs.Quotients.{most_expected, number_at}
+use Rattle.rs_sample.specs.Quotients.{most_expected}
 use Rattle.rs_sample.proofs.ListFacts.{get_or-any}
 use Rattle.rs_sample.proofs.estimates.Estimates.est.Goals as goal
 

@@ -1,0 +1,2 @@
+mod ReadFacts
+mod ShapeFacts
