@@ -1,0 +1,9 @@
+use Rattle.std.proofs.Common.{◌≡◌, length}
+use Rattle.rs_sample.specs.Kept.{cards_of}
+use Rattle.rs_enum.specs.declared.extent.Extent.TheVariants as whole
+use Rattle.rs_enum.specs.Tops.{AreBases}
+use Rattle.rs_enum.proofs.bases.dropped.Given as goal
+
+-- as many are kept as were counted
+abbrev pub invariant-loop-place : goal.invariant-loop-place
+invariant-loop-place l = AreBases l.catalog l.query (cards_of l.cards) (whole.Block l.number) l.bases.items × (length l.bases.items ≡ l.place)

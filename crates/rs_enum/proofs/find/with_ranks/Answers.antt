@@ -1,0 +1,32 @@
+-- Each step tries the plan whose code starts next.
+use Rattle.std.proofs.Common.{◌≡◌, ◌∙◌, ◌+◌, ◌*◌, ◌≤◌, sym, ap, subst₂, arith, length}
+use Rattle.rs_query.specs.declared.block.Block.{Block}
+use Rattle.rs_sample.specs.Kept.{cards_of}
+use Rattle.rs_plan.specs.Lists.{block_in}
+use Rattle.rs_enum.specs.QueryCards.{alone, alone_cards}
+use Rattle.rs_enum.specs.Places.{IsTheFirst}
+use Rattle.rs_enum.proofs.CostFacts.{block-formed}
+use Rattle.rs_enum.proofs.SearchFacts.{first-ranks, first-scans}
+use Rattle.rs_enum.proofs.StartFacts.{IsTheFirst-cheaper}
+use Rattle.rs_enum.proofs.find.with_ranks.Goals as goal
+
+pub loop-place-init : goal.loop-place-init
+loop-place-init c = first-scans c.args.catalog.now (alone c.args.query.now c.args.number) (alone_cards (cards_of c.args.cards.now) c.args.number) (block-formed c.args.catalog.now c.args.query.now c.args.number c.requires.query)
+    c.args.places.now c.args.of.entries c.args.of.terms c.args.found c.requires.found
+
+pub loop-place-preserved : goal.loop-place-preserved
+loop-place-preserved c =
+    let next : 3 * 256 + (c.loop-place.place + 1) + 1 ≡ 3 * 256 + (c.loop-place.place + 1 + 1) = omega arith in
+    subst₂ (IsTheFirst c.args.catalog.now (alone c.args.query.now c.args.number) (alone_cards (cards_of c.args.cards.now) c.args.number) c.args.places.now c.args.of.entries c.args.of.terms) next (sym c.cheaper-best.ensures)
+    (IsTheFirst-cheaper c.args.catalog.now (alone c.args.query.now c.args.number) (alone_cards (cards_of c.args.cards.now) c.args.number) (block-formed c.args.catalog.now c.args.query.now c.args.number c.requires.query)
+    c.args.places.now c.args.of.entries c.args.of.terms (3 * 256 + (c.loop-place.place + 1)) c.loop-place.best c.rank.result c.loop-place.invariant c.rank.ensures)
+
+pub returns : goal.returns
+returns c =
+    let formed = block-formed c.args.catalog.now c.args.query.now c.args.number c.requires.query in
+    let few : length (block_in c.args.query.now c.args.number).terms ≤ 8 = formed.most_terms in
+    let count : c.len-count.result ≡ length (block_in c.args.query.now c.args.number).terms = c.len-count.ensures ∙ ap (λ (b : Block). length b.terms) c.block_in.ensures in
+    let within = c.loop-place.auto.place-end in
+    let done = c.loop-place-test.false in
+    first-ranks c.args.catalog.now (alone c.args.query.now c.args.number) (alone_cards (cards_of c.args.cards.now) c.args.number) formed c.args.places.now c.args.of.entries c.args.of.terms
+    c.loop-place.place c.loop-place.best (omega arith) (omega arith) c.loop-place.invariant

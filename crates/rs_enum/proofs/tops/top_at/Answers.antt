@@ -1,0 +1,19 @@
+-- What stands at the place.
+use Rattle.std.proofs.Common.{◌≡◌, ◌∙◌, refl, sym, ap, arith, length}
+use Rattle.std.specs.Prelude.{Option, Some, option_and_then, slice_get}
+use Rattle.std.proofs.lemmas.Option.{slice_get_past, slice_get_read}
+use Rattle.rs_enum.specs.declared.kept.Kept.{Kept}
+use Rattle.rs_enum.proofs.tops.top_at.Goals as goal
+
+pub returns-in-Some : goal.returns-in-Some
+returns-in-Some c =
+    let own = c.in-Some.ensures.lookup in
+    let there : slice_get c.args.tops.now c.args.evaluated ≡ Some c.in-Some.kept.now =
+    slice_get_read c.args.tops.now (length c.args.tops.now) c.args.evaluated c.in-Some.kept.now refl own.3.0 (own.4 (omega arith) c.in-Some.kept.now) in
+    c.as_ref.ensures.value
+    ∙ ap (option_and_then (λ (kept : Option Kept). kept)) (sym there)
+
+pub returns-in-None : goal.returns-in-None
+returns-in-None c =
+    let past = slice_get_past c.args.tops.now c.args.evaluated c.in-None.ensures.lookup.3 in
+    ap (option_and_then (λ (kept : Option Kept). kept)) (sym past)

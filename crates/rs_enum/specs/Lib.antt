@@ -1,0 +1,11 @@
+pub mod AllPlans
+pub mod Bounds
+pub mod Candidates
+pub mod Costs
+pub mod Least
+pub mod Made
+pub mod Places
+pub mod QueryCards
+pub mod Texts
+pub mod Tops
+pub mod Within

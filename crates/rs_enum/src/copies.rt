@@ -1,0 +1,131 @@
+//! Plans that are made of copies of other plans.
+
+ghost use Rattle.std.specs.Prelude.{◌≡◌, IfOk};
+ghost use Rattle.rs_plan.specs.Shapes.{tree_of};
+ghost use Rattle.rs_plan.specs.Trees.{Distinct, HashJoin, NestedJoin, Rank, SetOperator};
+
+use rs_plan::Plan;
+use rs_value::Memory;
+use std::alloc::Global;
+
+/// A copy of a plan.
+pub(crate) fn copy(alloc: Global, plan: &Plan) -> Result<Plan, Memory>
+    ensures { IfOk result (λ copied. tree_of copied ≡ tree_of plan.now) }
+{
+    match plan {
+        Plan::SeqScan { entry } => Ok(Plan::SeqScan { entry: *entry }),
+        Plan::RankScan { entry, term, index } => Ok(Plan::RankScan {
+            entry: *entry,
+            term: *term,
+            index: *index,
+        }),
+        Plan::Rank { term, child } => {
+            let child = &**child;
+            let child = copy(alloc, child)?;
+            ranked(alloc, *term, child)
+        }
+        Plan::HashJoin { left, right } => {
+            let left = &**left;
+            let right = &**right;
+            let left = copy(alloc, left)?;
+            match copy(alloc, right) {
+                Ok(right) => hash_joined(alloc, left, right),
+                Err(Memory) => {
+                    drop(left);
+                    Err(Memory)
+                }
+            }
+        }
+        Plan::NestedJoin { left, right } => {
+            let left = &**left;
+            let right = &**right;
+            let left = copy(alloc, left)?;
+            match copy(alloc, right) {
+                Ok(right) => nested_joined(alloc, left, right),
+                Err(Memory) => {
+                    drop(left);
+                    Err(Memory)
+                }
+            }
+        }
+        Plan::Distinct { child } => {
+            let child = &**child;
+            let child = copy(alloc, child)?;
+            distinct(alloc, child)
+        }
+        Plan::SetOperator { left, right } => {
+            let left = &**left;
+            let right = &**right;
+            let left = copy(alloc, left)?;
+            match copy(alloc, right) {
+                Ok(right) => set_operator(alloc, left, right),
+                Err(Memory) => {
+                    drop(left);
+                    Err(Memory)
+                }
+            }
+        }
+    }
+}
+
+/// An operator for a term over a plan.
+pub(crate) fn ranked(alloc: Global, term: u8, child: Plan) -> Result<Plan, Memory>
+    ensures { IfOk result (λ plan. tree_of plan ≡ Rank term (tree_of child)) }
+{
+    let child = Box::new(alloc, child)?;
+    Ok(Plan::Rank { term, child })
+}
+
+/// A hash join of two plans.
+pub(crate) fn hash_joined(alloc: Global, left: Plan, right: Plan) -> Result<Plan, Memory>
+    ensures { IfOk result (λ plan. tree_of plan ≡ HashJoin (tree_of left) (tree_of right)) }
+{
+    let (left, right) = boxed(alloc, left, right)?;
+    Ok(Plan::HashJoin { left, right })
+}
+
+/// A nested join of two plans.
+pub(crate) fn nested_joined(alloc: Global, left: Plan, right: Plan) -> Result<Plan, Memory>
+    ensures { IfOk result (λ plan. tree_of plan ≡ NestedJoin (tree_of left) (tree_of right)) }
+{
+    let (left, right) = boxed(alloc, left, right)?;
+    Ok(Plan::NestedJoin { left, right })
+}
+
+/// A plan whose duplicates are dropped.
+pub(crate) fn distinct(alloc: Global, child: Plan) -> Result<Plan, Memory>
+    ensures { IfOk result (λ plan. tree_of plan ≡ Distinct (tree_of child)) }
+{
+    let child = Box::new(alloc, child)?;
+    Ok(Plan::Distinct { child })
+}
+
+/// The set operator of two plans.
+pub(crate) fn set_operator(alloc: Global, left: Plan, right: Plan) -> Result<Plan, Memory>
+    ensures { IfOk result (λ plan. tree_of plan ≡ SetOperator (tree_of left) (tree_of right)) }
+{
+    let (left, right) = boxed(alloc, left, right)?;
+    Ok(Plan::SetOperator { left, right })
+}
+
+/// Two plans, each in a place of its own.
+fn boxed(alloc: Global, left: Plan, right: Plan) -> Result<(Box<Plan>, Box<Plan>), Memory>
+    ensures { IfOk result (λ made. (made.0.value ≡ left) × (made.1.value ≡ right)) }
+{
+    let left = match Box::new(alloc, left) {
+        Ok(left) => left,
+        Err(failed) => {
+            drop(failed);
+            drop(right);
+            return Err(Memory);
+        }
+    };
+    match Box::new(alloc, right) {
+        Ok(right) => Ok((left, right)),
+        Err(failed) => {
+            drop(failed);
+            drop(left);
+            Err(Memory)
+        }
+    }
+}

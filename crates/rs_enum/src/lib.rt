@@ -1,0 +1,23 @@
+//! The least plan of a query: what plans cost, in which order they come, and their text.
+#![tactic(auto)]
+
+mod bases;
+mod candidate;
+mod copies;
+mod costs;
+mod extent;
+mod find;
+mod kept;
+mod laws;
+mod made;
+mod optimiser;
+mod text;
+mod tops;
+
+pub use costs::cost;
+pub use laws::{
+    cards_decide_the_plan, cards_decide_the_text, each_query_has_a_plan, plan_order_is_total,
+    sampled_cards_are_those_of_the_query, there_is_one_least_plan,
+};
+pub use optimiser::best;
+pub use text::{explain, nodes_of};

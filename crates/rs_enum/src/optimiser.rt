@@ -1,0 +1,262 @@
+//! The least plan of a query. For each signature of a block, those of lesser masks first, the first of all plans is kept that
+//! can be made of what is kept already.
+
+ghost use Rattle.std.specs.Prelude.{◌≡◌, ◌≤◌, ◌<◌, ◌*◌, ◌/◌, ◌%◌, ◌^◌, IfOk, length, true};
+ghost use Rattle.rs_query.specs.WellFormed.{IsQuery};
+ghost use Rattle.rs_sample.specs.Kept.{cards_of};
+ghost use Rattle.rs_plan.specs.Lists.{block_in};
+ghost use Rattle.rs_plan.specs.Shapes.{tree_of};
+ghost use Rattle.rs_enum.specs.declared.extent.Extent.TheVariants as whole;
+ghost use Rattle.rs_enum.specs.Least.{IsLeast};
+ghost use Rattle.rs_enum.specs.Made.{IsFound};
+ghost use Rattle.rs_enum.specs.Places.{AreKept, IsFilled};
+ghost use Rattle.rs_enum.specs.QueryCards.{AreCards, IsBlockNumber, alone, alone_cards};
+ghost use Rattle.rs_enum.specs.Tops.{AreLower, AreTops, IsExtent, extent_of};
+
+use crate::bases::{dropped, last_row, set_bases};
+use crate::costs::block_in;
+use crate::extent::Extent;
+use crate::find::first_candidate;
+use crate::kept::Kept;
+use crate::made::made;
+use crate::tops::ranked_tops;
+use rs_catalog::Catalog;
+use rs_plan::{Plan, Signature};
+use rs_query::Query;
+use rs_sample::Cards;
+use rs_value::Memory;
+use std::alloc::Global;
+
+/// The plan of least cost, and of least code among those, of a query.
+pub fn best(alloc: Global, catalog: &Catalog, query: &Query, cards: &Cards) -> Result<Plan, Memory>
+    requires query { IsQuery catalog.now query.now }
+    requires cards { AreCards query.now (cards_of cards.now) }
+    ensures { IfOk result (λ plan. IsLeast catalog.now query.now (cards_of cards.now) (tree_of plan)) }
+{
+    let mut tops = all_tops(alloc, catalog, query, cards)?;
+    let last = tops.pop().unwrap();
+    let Kept { cost: _, plan } = last.unwrap();
+    Ok(plan)
+}
+
+/// What is kept of the plans of a query, for each mask of evaluated terms.
+fn all_tops(
+    alloc: Global,
+    catalog: &Catalog,
+    query: &Query,
+    cards: &Cards,
+) -> Result<Vec<Option<Kept>>, Memory>
+    requires query { IsQuery catalog.now query.now }
+    requires cards { AreCards query.now (cards_of cards.now) }
+    ensures tops { IfOk result (λ tops. AreTops catalog.now query.now (cards_of cards.now) (extent_of query.now) tops.items) }
+    ensures all { IfOk result (λ tops. length tops.items ≡ 2 ^ length (block_in query.now 1).terms) }
+{
+    match query {
+        Query::One(_, _) => block_tops(alloc, catalog, query, cards, 1),
+        Query::Set(_, _, _, _) => set_tops(alloc, catalog, query, cards),
+    }
+}
+
+/// What is kept of the set operator of both blocks, and of operators for terms above it.
+fn set_tops(
+    alloc: Global,
+    catalog: &Catalog,
+    query: &Query,
+    cards: &Cards,
+) -> Result<Vec<Option<Kept>>, Memory>
+    requires query { IsQuery catalog.now query.now }
+    requires cards { AreCards query.now (cards_of cards.now) }
+    requires both { IsExtent query.now (cards_of cards.now) whole.Both }
+    ensures tops { IfOk result (λ tops. AreTops catalog.now query.now (cards_of cards.now) whole.Both tops.items) }
+    ensures all { IfOk result (λ tops. length tops.items ≡ 2 ^ length (block_in query.now 1).terms) }
+{
+    let left = block_tops(alloc, catalog, query, cards, 1)?;
+    let right = block_tops(alloc, catalog, query, cards, 2)?;
+    let tops = over_both(alloc, catalog, query, cards, &left, &right)?;
+    Ok(tops)
+}
+
+/// The same, where this is what is kept of both blocks.
+fn over_both(
+    alloc: Global,
+    catalog: &Catalog,
+    query: &Query,
+    cards: &Cards,
+    left: &[Option<Kept>],
+    right: &[Option<Kept>],
+) -> Result<Vec<Option<Kept>>, Memory>
+    requires query { IsQuery catalog.now query.now }
+    requires cards { AreCards query.now (cards_of cards.now) }
+    requires both { IsExtent query.now (cards_of cards.now) whole.Both }
+    requires left { AreTops catalog.now query.now (cards_of cards.now) (whole.Block 1) left.now }
+    requires right { AreTops catalog.now query.now (cards_of cards.now) (whole.Block 2) right.now }
+    requires left_all { length left.now ≡ 2 ^ length (block_in query.now 1).terms }
+    requires right_all { length right.now ≡ 2 ^ length (block_in query.now 2).terms }
+    ensures tops { IfOk result (λ tops. AreTops catalog.now query.now (cards_of cards.now) whole.Both tops.items) }
+    ensures all { IfOk result (λ tops. length tops.items ≡ 2 ^ length (block_in query.now 1).terms) }
+{
+    let bases = set_bases(alloc, catalog, query, cards, left, right)?;
+    let tops = ranked_tops(alloc, catalog, query, cards, Extent::Both, &bases)?;
+    Ok(tops)
+}
+
+/// What is kept of the plans of a block, for each mask of evaluated terms.
+fn block_tops(
+    alloc: Global,
+    catalog: &Catalog,
+    query: &Query,
+    cards: &Cards,
+    number: u8,
+) -> Result<Vec<Option<Kept>>, Memory>
+    requires query { IsQuery catalog.now query.now }
+    requires cards { AreCards query.now (cards_of cards.now) }
+    requires number { IsBlockNumber (cards_of cards.now) number }
+    ensures tops { IfOk result (λ tops. AreTops catalog.now query.now (cards_of cards.now) (whole.Block number) tops.items) }
+    ensures all { IfOk result (λ tops. length tops.items ≡ 2 ^ length (block_in query.now number).terms) }
+{
+    let lower = lower_tops(alloc, catalog, query, cards, number)?;
+    let wanted = block_in(query, number).distinct;
+    if !wanted {
+        return Ok(lower);
+    }
+    let tops = without(alloc, catalog, query, cards, number, &lower)?;
+    Ok(tops)
+}
+
+/// The same, where duplicates are to be dropped of this.
+fn without(
+    alloc: Global,
+    catalog: &Catalog,
+    query: &Query,
+    cards: &Cards,
+    number: u8,
+    lower: &[Option<Kept>],
+) -> Result<Vec<Option<Kept>>, Memory>
+    requires query { IsQuery catalog.now query.now }
+    requires cards { AreCards query.now (cards_of cards.now) }
+    requires number { IsBlockNumber (cards_of cards.now) number }
+    requires wanted { (block_in query.now number).distinct ≡ true }
+    requires lower { AreLower catalog.now query.now (cards_of cards.now) number lower.now }
+    requires all { length lower.now ≡ 2 ^ length (block_in query.now number).terms }
+    ensures tops { IfOk result (λ tops. AreTops catalog.now query.now (cards_of cards.now) (whole.Block number) tops.items) }
+    ensures all { IfOk result (λ tops. length tops.items ≡ 2 ^ length (block_in query.now number).terms) }
+{
+    let bases = dropped(alloc, catalog, query, cards, number, lower)?;
+    let tops = ranked_tops(
+        alloc,
+        catalog,
+        query,
+        cards,
+        Extent::Block { number },
+        &bases,
+    )?;
+    Ok(tops)
+}
+
+/// What is kept of all entries of a block, where no duplicates are dropped.
+fn lower_tops(
+    alloc: Global,
+    catalog: &Catalog,
+    query: &Query,
+    cards: &Cards,
+    number: u8,
+) -> Result<Vec<Option<Kept>>, Memory>
+    requires query { IsQuery catalog.now query.now }
+    requires cards { AreCards query.now (cards_of cards.now) }
+    requires number { IsBlockNumber (cards_of cards.now) number }
+    ensures lower { IfOk result (λ tops. AreLower catalog.now query.now (cards_of cards.now) number tops.items) }
+    ensures all { IfOk result (λ tops. length tops.items ≡ 2 ^ length (block_in query.now number).terms) }
+{
+    let places = filled(alloc, catalog, query, cards, number)?;
+    let tops = last_row(alloc, block_in(query, number), &places)?;
+    Ok(tops)
+}
+
+/// What is kept of each signature: of lesser entries first, and of equal entries those of lesser terms.
+fn filled(
+    alloc: Global,
+    catalog: &Catalog,
+    query: &Query,
+    cards: &Cards,
+    number: u8,
+) -> Result<Vec<Option<Kept>>, Memory>
+    requires query { IsQuery catalog.now query.now }
+    requires cards { AreCards query.now (cards_of cards.now) }
+    requires number { IsBlockNumber (cards_of cards.now) number }
+    ensures filled { IfOk result (λ places. IsFilled catalog.now (alone query.now number) (alone_cards (cards_of cards.now) number) places.items) }
+    ensures all { IfOk result (λ places. length places.items
+        ≡ 2 ^ length (block_in query.now number).from * 2 ^ length (block_in query.now number).terms) }
+{
+    let block = block_in(query, number);
+    let rows = masks(block.from.len() as u8);
+    let columns = masks(block.terms.len() as u8);
+    let all = product(rows, columns);
+    let mut places = Vec::new(alloc);
+    for place in 0..all {
+        let of = signature_at(place, columns);
+        let kept = keep(alloc, catalog, query, cards, number, &places, of)?;
+        places.push(kept)?;
+    }
+    Ok(places)
+}
+
+/// How many masks there are of so many numbers.
+pub(crate) fn masks(count: u8) -> u32
+    requires { count ≤ 8 }
+    ensures { result ≡ 2 ^ count }
+{
+    1 << count
+}
+
+/// The number of pairs.
+fn product(rows: u32, columns: u32) -> u32
+    requires rows { rows ≤ 256 }
+    requires columns { columns ≤ 256 }
+    ensures { result ≡ rows * columns }
+{
+    rows * columns
+}
+
+/// The signature of a place, where each mask of entries has so many places.
+fn signature_at(place: u32, columns: u32) -> Signature
+    requires some { 1 ≤ columns }
+    requires few { columns ≤ 256 }
+    requires row { place / columns < 256 }
+    ensures entries { result.entries ≡ place / columns }
+    ensures terms { result.terms ≡ place % columns }
+{
+    Signature {
+        entries: (place / columns) as u8,
+        terms: (place % columns) as u8,
+    }
+}
+
+/// What is to be kept of a signature.
+fn keep(
+    alloc: Global,
+    catalog: &Catalog,
+    query: &Query,
+    cards: &Cards,
+    number: u8,
+    places: &[Option<Kept>],
+    of: Signature,
+) -> Result<Option<Kept>, Memory>
+    requires query { IsQuery catalog.now query.now }
+    requires cards { AreCards query.now (cards_of cards.now) }
+    requires number { IsBlockNumber (cards_of cards.now) number }
+    requires kept { AreKept catalog.now (alone query.now number) (alone_cards (cards_of cards.now) number) places.now }
+    requires entries { of.entries < 2 ^ length (block_in query.now number).from }
+    requires terms { of.terms < 2 ^ length (block_in query.now number).terms }
+    ensures { IfOk result (λ kept. IsFound catalog.now (alone query.now number) (alone_cards (cards_of cards.now) number) places.now of.entries of.terms kept) }
+{
+    match first_candidate(catalog, query, cards, number, places, of) {
+        None => Ok(None),
+        Some(found) => {
+            let plan = made(alloc, query, number, places, of, found.choice)?;
+            Ok(Some(Kept {
+                cost: found.cost,
+                plan,
+            }))
+        }
+    }
+}

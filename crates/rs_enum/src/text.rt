@@ -1,0 +1,432 @@
+//! The text that shows a plan.
+
+ghost use Rattle.std.specs.Prelude.{◌≡◌, ◌≤◌, ◌+◌, ◌*◌, ◌++◌, ◌∷◌, [], IfOk, OnOk, IfSome, length, option_map, replicate, codes};
+ghost use Rattle.std.specs.Fmt.{decimal};
+ghost use Rattle.rs_query.specs.WellFormed.{IsBlock, IsQuery};
+ghost use Rattle.rs_sample.specs.Kept.{cards_of};
+ghost use Rattle.rs_plan.specs.Lists.{block_in};
+ghost use Rattle.rs_plan.specs.Plans.{IsEntryNumber, IsPart, IsPlan};
+ghost use Rattle.rs_plan.specs.Shapes.{tree_of};
+ghost use Rattle.rs_enum.specs.Bounds.{IsSetPart};
+ghost use Rattle.rs_enum.specs.QueryCards.{AreCards, IsBlockNumber};
+ghost use Rattle.rs_enum.specs.Texts.{HasEntry, alias_of, behind, counted, done_by, first_of, name_of, nodes_of, operator_of, plan_lines, table_of, text_of};
+
+use crate::costs::{block_in, has_set_operator, part_cost, part_rows, set_cost, set_rows};
+use rs_catalog::Catalog;
+use rs_plan::{Counts, Plan};
+use rs_query::{Block, Query};
+use rs_sample::Cards;
+use rs_value::{Memory, SetOp};
+use std::alloc::Global;
+
+/// What the line of a node says besides its name.
+#[derive(Clone, Copy)]
+struct Line {
+    /// How many levels the node stands below the root.
+    level: u8,
+    rows: u128,
+    cost: u128,
+    done: Option<Counts>,
+}
+
+/// The text of a plan: a line for each node, with how many rows are expected of it and what it costs. With counts each line
+/// says what its node has done, too; they are those of all nodes, a node before its children and the left one before the right
+/// one.
+pub fn explain(
+    alloc: Global,
+    catalog: &Catalog,
+    query: &Query,
+    cards: &Cards,
+    plan: &Plan,
+    counts: Option<&[Counts]>,
+) -> Result<Vec<u8>, Memory>
+    requires query { IsQuery catalog.now query.now }
+    requires cards { AreCards query.now (cards_of cards.now) }
+    requires plan { IsPlan catalog.now query.now (tree_of plan.now) }
+    requires counts { IfSome counts (λ told. length told.now ≡ nodes_of (tree_of plan.now)) }
+    ensures { IfOk result (λ text. text.items ≡ text_of catalog.now query.now (cards_of cards.now) (tree_of plan.now)
+        (option_map (λ told. told.now) counts.entry)) }
+{
+    let mut text = Vec::new(alloc);
+    if has_set_operator(plan) {
+        put_set_lines(alloc, &mut text, catalog, query, cards, 0, plan, counts)?;
+    } else {
+        put_part_lines(alloc, &mut text, catalog, query, cards, 0, 1, plan, counts)?;
+    }
+    Ok(text)
+}
+
+/// Puts the lines of a set operator, or of operators for terms above one, that stands so many levels below the root.
+fn put_set_lines(
+    alloc: Global,
+    text: &mut Vec<u8>,
+    catalog: &Catalog,
+    query: &Query,
+    cards: &Cards,
+    level: u8,
+    plan: &Plan,
+    counts: Option<&[Counts]>,
+) -> Result<(), Memory>
+    requires query { IsQuery catalog.now query.now }
+    requires cards { AreCards query.now (cards_of cards.now) }
+    requires part { IsSetPart catalog.now query.now (tree_of plan.now) }
+    requires few { level + nodes_of (tree_of plan.now) ≤ 255 }
+    requires counts { IfSome counts (λ told. nodes_of (tree_of plan.now) ≤ length told.now) }
+    ensures { OnOk result (text.new.items ≡ text.old.items ++ plan_lines catalog.now query.now (cards_of cards.now) level 1
+        (tree_of plan.now) (option_map (λ told. told.now) counts.entry)) }
+{
+    let line = Line {
+        level,
+        rows: set_rows(catalog, query, cards, plan),
+        cost: set_cost(catalog, query, cards, plan),
+        done: first_of(counts),
+    };
+    put_line(alloc, text, catalog, query, 1, plan, line)?;
+    match plan {
+        Plan::Rank { term: _, child } => {
+            let child = &**child;
+            put_set_lines(
+                alloc,
+                text,
+                catalog,
+                query,
+                cards,
+                level + 1,
+                child,
+                behind(1, counts),
+            )
+        }
+        Plan::SetOperator { left, right } => {
+            let left = &**left;
+            let right = &**right;
+            let right_counts = behind(1 + nodes_of(left), counts);
+            put_part_lines(
+                alloc,
+                text,
+                catalog,
+                query,
+                cards,
+                level + 1,
+                1,
+                left,
+                behind(1, counts),
+            )?;
+            put_part_lines(
+                alloc,
+                text,
+                catalog,
+                query,
+                cards,
+                level + 1,
+                2,
+                right,
+                right_counts,
+            )
+        }
+        _ => Ok(()),
+    }
+}
+
+/// Puts the lines of a part of a plan of the block of this number that stands so many levels below the root.
+fn put_part_lines(
+    alloc: Global,
+    text: &mut Vec<u8>,
+    catalog: &Catalog,
+    query: &Query,
+    cards: &Cards,
+    level: u8,
+    number: u8,
+    plan: &Plan,
+    counts: Option<&[Counts]>,
+) -> Result<(), Memory>
+    requires query { IsQuery catalog.now query.now }
+    requires cards { AreCards query.now (cards_of cards.now) }
+    requires number { IsBlockNumber (cards_of cards.now) number }
+    requires part { IsPart catalog.now (block_in query.now number) (tree_of plan.now) }
+    requires few { level + nodes_of (tree_of plan.now) ≤ 255 }
+    requires counts { IfSome counts (λ told. nodes_of (tree_of plan.now) ≤ length told.now) }
+    ensures { OnOk result (text.new.items ≡ text.old.items ++ plan_lines catalog.now query.now (cards_of cards.now) level number
+        (tree_of plan.now) (option_map (λ told. told.now) counts.entry)) }
+{
+    let line = Line {
+        level,
+        rows: part_rows(catalog, query, cards, number, plan),
+        cost: part_cost(catalog, query, cards, number, plan),
+        done: first_of(counts),
+    };
+    put_line(alloc, text, catalog, query, number, plan, line)?;
+    match plan {
+        Plan::Rank { term: _, child } => {
+            let child = &**child;
+            put_part_lines(
+                alloc,
+                text,
+                catalog,
+                query,
+                cards,
+                level + 1,
+                number,
+                child,
+                behind(1, counts),
+            )
+        }
+        Plan::HashJoin { left, right } => {
+            let left = &**left;
+            let right = &**right;
+            let right_counts = behind(1 + nodes_of(left), counts);
+            put_part_lines(
+                alloc,
+                text,
+                catalog,
+                query,
+                cards,
+                level + 1,
+                number,
+                left,
+                behind(1, counts),
+            )?;
+            put_part_lines(
+                alloc,
+                text,
+                catalog,
+                query,
+                cards,
+                level + 1,
+                number,
+                right,
+                right_counts,
+            )
+        }
+        Plan::NestedJoin { left, right } => {
+            let left = &**left;
+            let right = &**right;
+            let right_counts = behind(1 + nodes_of(left), counts);
+            put_part_lines(
+                alloc,
+                text,
+                catalog,
+                query,
+                cards,
+                level + 1,
+                number,
+                left,
+                behind(1, counts),
+            )?;
+            put_part_lines(
+                alloc,
+                text,
+                catalog,
+                query,
+                cards,
+                level + 1,
+                number,
+                right,
+                right_counts,
+            )
+        }
+        Plan::Distinct { child } => {
+            let child = &**child;
+            put_part_lines(
+                alloc,
+                text,
+                catalog,
+                query,
+                cards,
+                level + 1,
+                number,
+                child,
+                behind(1, counts),
+            )
+        }
+        Plan::SeqScan { entry: _ } => Ok(()),
+        Plan::RankScan {
+            entry: _,
+            term: _,
+            index: _,
+        } => Ok(()),
+        Plan::SetOperator { left: _, right: _ } => Ok(()),
+    }
+}
+
+/// How many nodes a plan has. It is at most 255 of each plan of a query.
+pub fn nodes_of(plan: &Plan) -> u8
+    requires { nodes_of (tree_of plan.now) ≤ 255 }
+    ensures { result ≡ nodes_of (tree_of plan.now) }
+{
+    match plan {
+        Plan::SeqScan { entry: _ } => 1,
+        Plan::RankScan {
+            entry: _,
+            term: _,
+            index: _,
+        } => 1,
+        Plan::Rank { term: _, child } => 1 + nodes_of(child),
+        Plan::HashJoin { left, right } => 1 + nodes_of(left) + nodes_of(right),
+        Plan::NestedJoin { left, right } => 1 + nodes_of(left) + nodes_of(right),
+        Plan::Distinct { child } => 1 + nodes_of(child),
+        Plan::SetOperator { left, right } => 1 + nodes_of(left) + nodes_of(right),
+    }
+}
+
+/// The counts of the first node.
+fn first_of(counts: Option<&[Counts]>) -> Option<Counts>
+    ensures { result ≡ first_of (option_map (λ told. told.now) counts.entry) }
+{
+    match counts {
+        Some(told) => told.first().copied(),
+        None => None,
+    }
+}
+
+/// The counts behind those of so many nodes.
+fn behind(nodes: u8, counts: Option<&[Counts]>) -> Option<&[Counts]>
+    requires { IfSome counts (λ told. nodes ≤ length told.now) }
+    ensures { option_map (λ told. told.now) result ≡ behind nodes (option_map (λ told. told.now) counts.entry) }
+{
+    match counts {
+        Some(told) => Some(&told[nodes as usize..]),
+        None => None,
+    }
+}
+
+/// Puts the line of a node of a plan of the block of this number.
+fn put_line(
+    alloc: Global,
+    text: &mut Vec<u8>,
+    catalog: &Catalog,
+    query: &Query,
+    number: u8,
+    plan: &Plan,
+    line: Line,
+) -> Result<(), Memory>
+    requires block { IsBlock catalog.now (block_in query.now number) }
+    requires entry { HasEntry (block_in query.now number) (tree_of plan.now) }
+    ensures { OnOk result (text.new.items ≡ text.old.items ++ (replicate (2 * line.level) 32
+        ++ name_of catalog.now query.now number (tree_of plan.now)
+        ++ codes " est=" ++ decimal line.rows ++ codes " cost=" ++ decimal line.cost
+        ++ done_by (tree_of plan.now) line.done ++ 10 ∷ [])) }
+{
+    put_indent(text, line.level)?;
+    put_name(alloc, text, catalog, query, number, plan)?;
+    put_number(alloc, text, b" est=", line.rows)?;
+    put_number(alloc, text, b" cost=", line.cost)?;
+    put_done(alloc, text, plan, line.done)?;
+    text.push(b'\n')?;
+    Ok(())
+}
+
+/// Puts two spaces for each level.
+fn put_indent(text: &mut Vec<u8>, level: u8) -> Result<(), Memory>
+    ensures { OnOk result (text.new.items ≡ text.old.items ++ replicate (2 * level) 32) }
+{
+    for _below in 0..level {
+        text.extend_from_slice(b"  ")?;
+    }
+    Ok(())
+}
+
+/// Puts what a node is.
+fn put_name(
+    alloc: Global,
+    text: &mut Vec<u8>,
+    catalog: &Catalog,
+    query: &Query,
+    number: u8,
+    plan: &Plan,
+) -> Result<(), Memory>
+    requires block { IsBlock catalog.now (block_in query.now number) }
+    requires entry { HasEntry (block_in query.now number) (tree_of plan.now) }
+    ensures { OnOk result (text.new.items ≡ text.old.items ++ name_of catalog.now query.now number (tree_of plan.now)) }
+{
+    match plan {
+        Plan::SeqScan { entry } => {
+            text.extend_from_slice(b"SeqScan ")?;
+            put_entry(text, catalog, block_in(query, number), *entry)?;
+        }
+        Plan::RankScan {
+            entry,
+            term,
+            index: _,
+        } => {
+            text.extend_from_slice(b"RankScan ")?;
+            put_entry(text, catalog, block_in(query, number), *entry)?;
+            put_number(alloc, text, b" term ", *term as u128)?;
+        }
+        Plan::Rank { term, child: _ } => put_number(alloc, text, b"Rank term ", *term as u128)?,
+        Plan::HashJoin { left: _, right: _ } => text.extend_from_slice(b"HashRankJoin")?,
+        Plan::NestedJoin { left: _, right: _ } => text.extend_from_slice(b"NestedRankJoin")?,
+        Plan::Distinct { child: _ } => text.extend_from_slice(b"Distinct")?,
+        Plan::SetOperator { left: _, right: _ } => text.extend_from_slice(operator_name(query))?,
+    }
+    Ok(())
+}
+
+/// The name of the operator of a query of two blocks.
+fn operator_name(query: &Query) -> &'static [u8]
+    ensures { result.now ≡ operator_of query.now }
+{
+    match query {
+        Query::One(_, _) => b"",
+        Query::Set(op, _, _, _) => match op {
+            SetOp::UnionAll => b"UnionAll",
+            SetOp::Union => b"Union",
+            SetOp::Intersect => b"Intersect",
+            SetOp::Except => b"Except",
+        },
+    }
+}
+
+/// Puts the name of the table of an entry, and its alias.
+fn put_entry(text: &mut Vec<u8>, catalog: &Catalog, block: &Block, entry: u8) -> Result<(), Memory>
+    requires block { IsBlock catalog.now block.now }
+    requires entry { IsEntryNumber block.now entry }
+    ensures { OnOk result (text.new.items ≡ text.old.items ++ (table_of catalog.now block.now entry ++ codes " " ++ alias_of block.now entry)) }
+{
+    let from = &block.from.items()[entry as usize - 1];
+    text.extend_from_slice(catalog.table_name(from.0).bytes())?;
+    text.push(b' ')?;
+    text.extend_from_slice(from.1.bytes())?;
+    Ok(())
+}
+
+/// Puts what a node has done.
+fn put_done(
+    alloc: Global,
+    text: &mut Vec<u8>,
+    plan: &Plan,
+    done: Option<Counts>,
+) -> Result<(), Memory>
+    ensures { OnOk result (text.new.items ≡ text.old.items ++ done_by (tree_of plan.now) done) }
+{
+    let Some(counts) = done else {
+        return Ok(());
+    };
+    put_number(alloc, text, b" asked=", counts.asked)?;
+    put_number(alloc, text, b" gave=", counts.gave)?;
+    put_counted(alloc, text, plan, counts)
+}
+
+/// Puts the calls of a rank operator, or how far a scan has drawn.
+fn put_counted(alloc: Global, text: &mut Vec<u8>, plan: &Plan, counts: Counts) -> Result<(), Memory>
+    ensures { OnOk result (text.new.items ≡ text.old.items ++ counted (tree_of plan.now) counts) }
+{
+    match plan {
+        Plan::SeqScan { entry: _ } => put_number(alloc, text, b" drawn=", counts.drawn as u128),
+        Plan::RankScan {
+            entry: _,
+            term: _,
+            index: _,
+        } => put_number(alloc, text, b" drawn=", counts.drawn as u128),
+        Plan::Rank { term: _, child: _ } => put_number(alloc, text, b" calls=", counts.calls),
+        _ => Ok(()),
+    }
+}
+
+/// Puts a label and a number.
+fn put_number(alloc: Global, text: &mut Vec<u8>, label: &[u8], number: u128) -> Result<(), Memory>
+    ensures { OnOk result (text.new.items ≡ text.old.items ++ (label.now ++ decimal number)) }
+{
+    text.extend_from_slice(label)?;
+    text.extend_from_slice(number.to_string(alloc)?.as_bytes())?;
+    Ok(())
+}
