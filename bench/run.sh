@@ -5,8 +5,8 @@
 # counts. The time of the query is what it adds to the time of the same script without it, which reads the file and makes
 # the index.
 # The calls of the scorer are counted by the program count_calls, less those of the index. They have to be what the
-# definition says: `plain` calls each predicate once for each row; `run` calls the second predicate for each row of the index
-# whose bound comes before the score of the last row that is printed, and for one more.
+# definition says: `plain` calls each predicate once for each row; `run` calls both on each row of its sample, and then the
+# second one for each row of the index whose bound comes before the score of the last row that is printed, and for one more.
 # The programs are those that ./ranksql and `rt run` build, or those that the variables RANKSQL and COUNT_CALLS name.
 # shellcheck source=bench/functions.sh
 . "$(dirname "$0")/functions.sh"
@@ -34,6 +34,8 @@ import time
 program, counter, folder, rows, runs = *sys.argv[1:4], int(sys.argv[4]), int(sys.argv[5])
 LIMITS = [1, 10, 100, 1000]
 NO_QUERY = 0
+# Of one table so many rows are sampled, and each of both terms is scored on them.
+SAMPLED = 2 * 256
 MOST_RATED, MOST_RECENT = 999, 75
 
 # Films with a rating from 0 to 999 and a year from 1950 to 2024. The numbers are those of the generator
@@ -102,7 +104,7 @@ bounds = [(-2 * rating - MOST_RECENT, row) for row, (rating, _) in enumerate(fil
 
 
 def calls_needed(limit):
-    return min(rows, 1 + sum(bound < scores[limit - 1] for bound in bounds))
+    return SAMPLED + min(rows, 1 + sum(bound < scores[limit - 1] for bound in bounds))
 
 
 sides = ["run", "plain", "sqlite3"]

@@ -307,13 +307,63 @@ while IFS= read -r script; do
         failed "the example $script has no file ${script%.sql}.out of what it prints"
         continue
     fi
-    (cd "$root" && timeout 60 "$program" plain "$script" >"$work/said/out" 2>"$work/said/err" </dev/null)
+    words=(plain "$script")
+    # Only `run` says something of a plan.
+    case $script in */plans.sql) words=(run "$script" 1) ;; esac
+    (cd "$root" && timeout 60 "$program" "${words[@]}" >"$work/said/out" 2>"$work/said/err" </dev/null)
     echo $? >"$work/said/status"
     # The command gives no line feeds at the end, so a mark goes behind them.
     text=$(cat "$wanted" && echo .)
     compare "the example $script" 0 "${text%.}" ''
 done < <(cd "$root" && find examples -name '*.sql' | sort)
 [ "$scripts" -gt 0 ] || failed 'there are no examples'
+
+# docs/PLANS.md shows what that script prints, and its queries.
+while IFS= read -r line; do
+    grep -qxF -e "    $line" "$root/docs/PLANS.md" || failed "PLANS.md doesn't have the line: $line"
+done < <(cat "$root/examples/travel/plans.out" && sed -n '/^EXPLAIN/,/;$/p' "$root/examples/travel/plans.sql")
+
+# The queries of the program enum_cases, with tables in files: EXPLAIN has to print the text that stands there, and `run` the
+# rows of `plain`.
+mkdir planned
+awk '
+    $0 == "front" { front = "" }
+    /^front ./ { front = front substr($0, 7) "\n" }
+    /^(plan|counted) / { number = 0 }
+    /^plan / && !/ DISTINCT | UNION | INTERSECT | EXCEPT / {
+        number = ++count
+        script = ""
+        rest = front
+        for (table = 1; match(rest, /FROM \047[^\047]*\047/); table++) {
+            file = "planned/" number "-" table ".csv"
+            text = substr(rest, RSTART + 6, RLENGTH - 7)
+            gsub(/\\n/, "\n", text)
+            printf "%s", text >file
+            close(file)
+            script = script substr(rest, 1, RSTART - 1) "FROM \047" file "\047"
+            rest = substr(rest, RSTART + RLENGTH)
+        }
+        query = $0
+        sub(/^plan [0-9]+ /, "", query)
+        print $2 >("planned/" number ".seed")
+        print script rest query ";" >("planned/" number ".sql")
+        print script rest "EXPLAIN " query ";" >("planned/" number "-explain.sql")
+        printf "" >("planned/" number ".plan")
+    }
+    /^  / && number { print substr($0, 3) >>("planned/" number ".plan") }
+' "$root/crates/enum_cases/stdout"
+queries=0
+while [ -e "planned/$((queries + 1)).sql" ]; do
+    queries=$((queries + 1))
+    seed=$(cat "planned/$queries.seed")
+    timeout 60 "$program" run "planned/$queries-explain.sql" "$seed" >"$work/said/out" 2>&1 </dev/null
+    cmp -s "$work/said/out" "planned/$queries.plan" || failed "EXPLAIN under run of the query $(tail -n 1 "planned/$queries.sql")"
+    timeout 60 "$program" plain "planned/$queries.sql" >"$work/said/out.wanted" 2>&1 </dev/null
+    timeout 60 "$program" run "planned/$queries.sql" "$seed" >"$work/said/out" 2>&1 </dev/null
+    cmp -s "$work/said/out" "$work/said/out.wanted" || failed "run and plain print other rows for $(tail -n 1 "planned/$queries.sql")"
+done
+[ "$queries" -ge 50 ] || failed "enum_cases has only $queries queries"
+passed "the plans and the rows of $queries queries"
 
 # The statements that docs/GRAMMAR.md shows in blocks and in its table of statements stand in these scripts, line by line.
 # A statement of a cursor stands in none.
@@ -399,7 +449,8 @@ text=$(cat "$root/examples/travel/evening.out" && echo .)
 compare 'the evenings of the example by a plan' 0 "${text%.}" ''
 script "${base}SELECT x.name, y.name FROM h x, h y WHERE x.city = y.city ORDER BY near(x.price, y.price) LIMIT 3;"
 expect 'a table that is joined with itself by a plan' 0 $'1,100,a,a\n2,100,b,b\n3,100,c,c\n' '' -- run s.sql 1
-# The index of the example calls its predicate for each of the 5,000 films. examples/films/README.md counts the other calls.
+# The index of the example calls its predicate for each of the 5,000 films. examples/films/README.md counts the other calls. Those under
+# `run` are also what checks/runs.py tells.
 # count NAME WANTED WORD..
 count() {
     (cd "$root" && timeout 60 "$counter" "${@:3}" >/dev/null 2>"$work/said/err" </dev/null)
@@ -411,11 +462,11 @@ counter=$root/crates/count_calls/out/count_calls
 if [ -x "$counter" ]; then
     sed 's/^LIMIT 10;/LIMIT 1;/' "$root/examples/films/best.sql" >one.sql
     count 'the calls of the films, plainly' 8680 plain examples/films/best.sql
-    count 'the calls of the films by a plan' 5064 run examples/films/best.sql 1
-    count 'the calls of the first film by a plan' 5022 run "$work/in/one.sql" 1
+    count 'the calls of the films by a plan' 5576 run examples/films/best.sql 1
+    count 'the calls of the first film by a plan' 5534 run "$work/in/one.sql" 1
     # 83 calls make the indexes. 1,260 combinations satisfy the condition, and plainly each has three calls.
     count 'the calls of the evenings, plainly' 3863 plain examples/travel/evening.sql
-    count 'the calls of the evenings by a plan' 2509 run examples/travel/evening.sql 1
+    count 'the calls of the evenings by a plan' 828 run examples/travel/evening.sql 1
 fi
 printf 'x,y\n10,10\n8,99\n' >far.csv
 far="CREATE TABLE t (x INT, y INT) FROM 'far.csv'; CREATE PREDICATE p (v INT) MAX 10 AS v; SELECT x, y FROM t ORDER BY p(x) + p(y)"
@@ -425,10 +476,12 @@ expect 'the same bad score before any row' 7 '' $'score: p rows 2: 99 is not in 
 script "$far LIMIT 1;"
 expect 'a bad score of a row that is not needed' 0 $'1,20,10,10\n' '' -- run s.sql 1
 for query in 'SELECT DISTINCT name FROM h, t ORDER BY p(x)' 'SELECT DISTINCT nope FROM nope, nope ORDER BY nope(x)' 'SELECT DISTINCT city FROM h ORDER BY p(city)' \
-    'SELECT city FROM h UNION SELECT y FROM t ORDER BY p(city)' 'EXPLAIN SELECT x FROM t ORDER BY p(x)' 'EXPLAIN ANALYZE SELECT x FROM t ORDER BY p(x)'; do
+    'SELECT city FROM h UNION SELECT y FROM t ORDER BY p(city)' 'EXPLAIN SELECT DISTINCT nope FROM t ORDER BY p(x)' 'EXPLAIN ANALYZE SELECT x FROM t ORDER BY p(x)'; do
     script "$base$query;"
     expect "no plan is built of '$query'" 5 '' $'script: not built statement 6\n' -- run s.sql 1
 done
+script "${base}EXPLAIN SELECT x.name, y.name FROM h x, h y WHERE x.city = y.city ORDER BY near(x.price, y.price) LIMIT 3;"
+expect 'the plan of a query' 0 $'Rank term 1 est=3 cost=25\n  NestedRankJoin est=5 cost=20\n    SeqScan h x est=3 cost=3\n    SeqScan h y est=3 cost=3\n' '' -- run s.sql 1
 front="${base}SELECT "
 script "${front}z FROM h ORDER BY p(city);"
 expect 'a column that is not there' 5 '' "script: bind NoColumn at ${#front}"$'\n' -- run s.sql 1

@@ -1,6 +1,7 @@
 -- What a call of a cursor that stands asks, and what is left behind it.
 use Rattle.std.proofs.Common.{ℕ, suc, ◌≡◌, ◌∙◌, Bool, true, false, [], ◌∷◌, refl, sym, ap, subst}
-use Rattle.std.specs.Prelude.{Option, Some, None, Result, Ok, Err, if◌then◌else◌}
+use Rattle.std.specs.Prelude.{IfOk, Option, Some, None, Result, Ok, Err, if◌then◌else◌}
+use Rattle.rs_value.specs.declared.memory.Memory as value
 use Rattle.rs_rank.specs.declared.answer.Answer.{Answer}
 use Rattle.rs_lines.specs.Row.{line_of}
 use Rattle.rs_expr.specs.InOrder.{Inquires, Inquiry}
@@ -12,8 +13,9 @@ use Rattle.rs_plan.specs.Counts.{gave_of}
 use Rattle.rs_plan.specs.Lists as plan
 use Rattle.rs_plan.specs.Trees.{PlanTree}
 use Rattle.rs_query.specs.Questions.{is_bad, through_first}
+use Rattle.rs_query.specs.declared.query.Query.{Query}
 use Rattle.rs_exec.specs.Asking.{exec_faults, world_of}
-use Rattle.rs_exec.specs.Cursors.{CursorState, StandsFor, asks_after, asks_of, call_of, is_over, next_answer, next_of, no_question, plan_of}
+use Rattle.rs_exec.specs.Cursors.{CursorState, IsNew, StandsFor, asks_after, asks_of, call_of, is_over, next_answer, next_of, no_question, plan_of}
 use Rattle.rs_exec.specs.declared.fault.ExecFault.{ExecFault}
 use Rattle.rs_exec.specs.declared.fault.ExecFault.TheVariants.{Broken, Memory}
 use Rattle.rs_run.specs.declared.fault.Fault.{Fault}
@@ -25,6 +27,11 @@ use Rattle.rs_run.specs.World.{World}
 use Rattle.rs_run.proofs.InquirySteps.{Probes, Stepped-asked}
 use Rattle.rs_run.proofs.PlanSteps.{asks_after-more, gave-all, given-row, left-ended, left-next}
 use Rattle.rs_run.proofs.QuerySteps.{Probes-questions}
+
+-- a new cursor is one that was asked 0 times
+pub at-started : (query : Query) (own tree : PlanTree) (started : Result CursorState value.Memory) → own ≡ tree → IfOk started (IsNew query own) → IfOk started (IsAt query tree 0)
+at-started query own tree (Ok cursor) is new = record { query_is = new.query_is; plan_is = new.plan_is ∙ is; asks_are = new.unasked }
+at-started query own tree (Err memory) is new = tt
 
 module _ (catalogue : Catalogue) (answer : Answering) (cursor : CursorState) where
   abbrev w : plan.World

@@ -39,10 +39,10 @@ use Rattle.rs_run.specs.declared.evaluating.Evaluating.TheVariants.{Planned, Pla
 use Rattle.rs_run.specs.declared.fault.Fault.{Fault}
 use Rattle.rs_run.specs.Content.{content_of}
 use Rattle.rs_run.specs.Faults.{or_index_fault}
-use Rattle.rs_run.specs.Planned.{ask_count, ask_step, asks_from, plan_for}
+use Rattle.rs_run.specs.Planned.{ask_count, ask_step, asks_from, can_be_planned, plan_for}
 use Rattle.rs_run.specs.Run.{Finds}
 use Rattle.rs_run.specs.Sequence.{Step, then_step}
-use Rattle.rs_run.specs.Statements.{Does, DoesTable, explain_step, index_step, is_built, not_built, or_bind_fault, or_room_fault, predicate_outcome, query_outcome, query_step, refused_or, select_step, table_step, with_room}
+use Rattle.rs_run.specs.Statements.{Does, DoesTable, analyze_step, explain_outcome, explain_step, explained_step, index_step, is_built, not_built, or_bind_fault, or_room_fault, predicate_outcome, query_outcome, query_step, refused_or, select_step, table_step, with_room}
 use Rattle.rs_run.specs.Top.{or_table_fault, table_limit}
 
 -- what a step that went well gave, and what went on from it
@@ -99,13 +99,15 @@ module _ (answer : Answering) (catalogue : Catalogue) (held : AreHeld answer cat
           well (Ok entries) ranking e = let same : entries ≡ ranking = cc in ap Ok same
           well (Err why) ranking e = absurd cc
 
+  leaves-then : (first next : Step Catalogue) → Leaves next.outcome → Leaves (then_step first next).outcome
+  leaves-then first next later = go first.outcome where
+    go : (outcome : Result Catalogue Fault) → Leaves (then_step (record first { outcome = outcome }) next).outcome
+    go (Ok state) = later
+    go (Err fault) = leaves-none fault
+
   leaves-asks : (w : plan.World) (tree : PlanTree) (n count : ℕ) → w.catalogue ≡ catalogue → Leaves (asks_from w tree n count).outcome
   leaves-asks w tree n zero is = λ next e. let same : catalogue ≡ next = cc in subst (AreHeld answer) same held
-  leaves-asks w tree n (suc count) is = go (leaves-asks w tree (suc n) count is) (ask_step w tree n).outcome where
-    go : Leaves (asks_from w tree (suc n) count).outcome → (outcome : Result Catalogue Fault)
-        → Leaves (then_step (record (ask_step w tree n) { outcome = outcome }) (asks_from w tree (suc n) count)).outcome
-    go later (Ok state) = later
-    go later (Err fault) = leaves-none fault
+  leaves-asks w tree n (suc count) is = leaves-then (ask_step w tree n) (asks_from w tree (suc n) count) (leaves-asks w tree (suc n) count is)
 
   leaves-query : (evaluating : Evaluating) (query : Query) → Leaves (query_step evaluating answer catalogue query).outcome
   leaves-query Plainly query = go (evaluation_of answer catalogue query (all_rows catalogue query)).outcome where
@@ -114,7 +116,7 @@ module _ (answer : Answering) (catalogue : Catalogue) (held : AreHeld answer cat
     go (Err fault) = λ next e. absurd cc
   leaves-query (Planned seed) query =
       let w = world_of catalogue answer query in
-      leaves-asks w (plan_for catalogue query) 0 (ask_count (limit_of query) (length (list_of_plan w (plan_for catalogue query)))) refl
+      leaves-asks w (plan_for answer catalogue seed query) 0 (ask_count (limit_of query) (length (list_of_plan w (plan_for answer catalogue seed query)))) refl
 
   leaves-select : (evaluating : Evaluating) (number : ℕ) (query : syntax.Query) → Leaves (select_step evaluating answer number catalogue query).outcome
   leaves-select evaluating number query = go (is_built evaluating query) (or_bind_fault (bound_query catalogue query)) where
@@ -123,11 +125,22 @@ module _ (answer : Answering) (catalogue : Catalogue) (held : AreHeld answer cat
     go true (Err fault) = leaves-none fault
     go false bound = λ next e. absurd cc
 
-  leaves-explain : (evaluating : Evaluating) (number : ℕ) (query : syntax.Query) → Leaves (explain_step evaluating number catalogue query).outcome
-  leaves-explain Plainly number query = λ next e.
+  leaves-bound : (query : syntax.Query) → Leaves (explain_outcome catalogue query)
+  leaves-bound query = λ next e.
       let made = Ok-then (or_bind_fault (bound_query catalogue query)) _ next e in
       leaves-same next made.2
-  leaves-explain (Planned seed) number query = λ next e. absurd cc
+
+  leaves-explain : (evaluating : Evaluating) (number : ℕ) (query : syntax.Query) → Leaves (explain_step evaluating answer number catalogue query).outcome
+  leaves-explain Plainly number query = leaves-bound query
+  leaves-explain (Planned seed) number query = go (can_be_planned query) (or_bind_fault (bound_query catalogue query)) where
+    go : (built : Bool) (bound : Result Query Fault) → Leaves (if built then refused_or (explained_step answer catalogue seed) bound else not_built number).outcome
+    go true (Ok bound) = leaves-same
+    go true (Err fault) = leaves-none fault
+    go false bound = λ next e. absurd cc
+
+  leaves-analyze : (evaluating : Evaluating) (number : ℕ) (query : syntax.Query) → Leaves (analyze_step evaluating number catalogue query).outcome
+  leaves-analyze Plainly number query = leaves-bound query
+  leaves-analyze (Planned seed) number query = λ next e. absurd cc
 
   pub held-step : (finds : Finds) (evaluating : Evaluating) (number : ℕ) (command : Command) (step : Step Catalogue) (next : Catalogue) → IsWritten command
       → Does finds answer evaluating number catalogue command step → step.outcome ≡ Ok next → AreHeld answer next
@@ -142,4 +155,4 @@ module _ (answer : Answering) (catalogue : Catalogue) (held : AreHeld answer cat
   held-step finds evaluating number (Fetch count name) step next written does = λ e. absurd (let none = ap (λ (s : Step Catalogue). s.outcome) does in cc)
   held-step finds evaluating number (Close name) step next written does = λ e. absurd (let none = ap (λ (s : Step Catalogue). s.outcome) does in cc)
   held-step finds evaluating number (Explain query) step next written does = subst (λ (s : Step Catalogue). Leaves s.outcome) (sym does) (leaves-explain evaluating number query) next
-  held-step finds evaluating number (ExplainAnalyze query) step next written does = subst (λ (s : Step Catalogue). Leaves s.outcome) (sym does) (leaves-explain evaluating number query) next
+  held-step finds evaluating number (ExplainAnalyze query) step next written does = subst (λ (s : Step Catalogue). Leaves s.outcome) (sym does) (leaves-analyze evaluating number query) next

@@ -4,14 +4,18 @@ use Rattle.std.specs.Prelude.{Result, Ok, Err}
 use Rattle.rs_expr.specs.Scoring.{Answering}
 use Rattle.rs_catalog.specs.Catalogue.{Catalogue}
 use Rattle.rs_plan.specs.Lists.{list_of_plan}
+use Rattle.rs_plan.specs.Trees.{PlanTree}
+use Rattle.rs_query.specs.declared.query.Query.{Query}
 use Rattle.rs_exec.specs.Asking.{world_of}
 use Rattle.rs_exec.specs.Cursors.{CursorState, StandsFor, asks_after, asks_of, plan_of}
 use Rattle.rs_run.specs.declared.fault.Fault.{Fault}
 use Rattle.rs_run.specs.Parts.Asks.{IsAt, asks_left, call_step, left_of}
 use Rattle.rs_run.specs.Parts.Steps.{Stepped}
+use Rattle.rs_run.specs.Planned.{planned_step}
 use Rattle.rs_run.specs.Sequence.{Step, then_step}
 use Rattle.rs_run.specs.World.{World}
 use Rattle.rs_run.proofs.CursorSteps.{left-call}
+use Rattle.rs_run.proofs.PlanSteps.{left-start}
 use Rattle.rs_run.proofs.SoFar.{SoFar, SoFar-ends, SoFar-more, Stepped-broken}
 
 module _ (catalogue : Catalogue) (answer : Answering) (whole : Step Catalogue) (cursor : CursorState) (old middle new : World)
@@ -47,6 +51,16 @@ module _ (catalogue : Catalogue) (answer : Answering) (whole : Step Catalogue) (
       SoFar-ends whole old middle new (left_of catalogue answer cursor) catalogue (Ok tt) so_far
       (subst (λ left. Stepped (λ step. step ≡ left) catalogue (Ok tt) middle new) (sym (subst (λ a. left_of catalogue a cursor ≡ call_step catalogue a cursor) at end))
       (here (Ok tt) stepped))
+
+-- of a new cursor all asks of its plan are left, whose calls were made over the answers that the scorer had at first
+pub Left-new : (catalogue : Catalogue) (answer : Answering) (query : Query) (tree : PlanTree) (cursor : CursorState) (result : Result (Unit {0}) Fault) (old new : World)
+    → IsAt query tree 0 cursor → old.scorer.answer ≡ answer → Stepped (λ step. step ≡ left_of catalogue old.scorer.answer cursor) catalogue result old new
+    → Stepped (λ step. step ≡ planned_step (world_of catalogue answer query) tree) catalogue result old new
+Left-new catalogue answer query tree cursor result old new at same stepped =
+    let w = world_of catalogue answer query in
+    subst (λ whole. Stepped (λ step. step ≡ whole) catalogue result old new)
+    (ap (λ a. left_of catalogue a cursor) same ∙ ap (λ q. asks_left (world_of catalogue answer q) (plan_of cursor) (asks_of cursor)) at.query_is
+    ∙ ap (λ own. asks_left w own (asks_of cursor)) at.plan_is ∙ ap (asks_left w tree) at.asks_are ∙ left-start w tree) stepped
 
 -- behind each call that gave a row fewer asks are left
 pub fewer-asks : (catalogue : Catalogue) (answer : Answering) (cursor next : CursorState) → IsAt cursor.query (plan_of cursor) (suc (asks_of cursor)) next → StandsFor catalogue answer next

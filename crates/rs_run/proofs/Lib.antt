@@ -13,12 +13,14 @@ pub mod IndexSteps
 pub mod QuerySteps
 pub mod LoopFacts
 pub mod SoFar
+pub mod SampleSteps
 pub mod PlanSteps
 pub mod NamedFacts
 pub mod CursorSteps
 pub mod LeftSteps
 pub mod HeldSteps
-pub mod FixedPlanFacts
+pub mod OneBlockFacts
+pub mod PlanningFacts
 pub mod StatementFacts
 pub mod TextFacts
 pub mod OwnFaults

@@ -54,13 +54,13 @@ use Rattle.rs_run.specs.Plain.{ScriptRuns, TextRuns, unlexed, unparsed, runs, un
 use Rattle.rs_expr.specs.Scoring.{Answering}
 use Rattle.rs_run.specs.Run.{Event, Finds, Run, fetch_then}
 use Rattle.rs_run.specs.Running.{IsRun, IsRunOf, IsCut}
-use Rattle.rs_run.specs.Planned.{ask_count, ask_outcome, ask_step, asks_from, plan_for}
+use Rattle.rs_run.specs.Planned.{ask_count, ask_outcome, ask_step, asks_from, can_be_planned, plan_for}
 use Rattle.rs_run.specs.Sequence.{RunOf, RunsOn, Step, then_step}
 use Rattle.rs_run.specs.Faults.{or_index_fault}
 use Rattle.rs_run.specs.Lines.{rank_lines}
 use Rattle.rs_run.specs.declared.evaluating.Evaluating.{Evaluating}
 use Rattle.rs_run.specs.declared.evaluating.Evaluating.TheVariants.{Planned, Plainly}
-use Rattle.rs_run.specs.Statements.{Does, DoesTable, StatementsRun, explain_outcome, explain_step, index_step, is_built, not_built, or_bind_fault, or_room_fault, query_outcome, query_step, refused_or, select_step, table_step, with_room}
+use Rattle.rs_run.specs.Statements.{Does, DoesTable, StatementsRun, analyze_step, explain_outcome, explain_step, explained_step, index_step, is_built, not_built, or_bind_fault, or_room_fault, query_outcome, query_step, refused_or, select_step, table_step, with_room}
 
 -- the faults of `top` and of `plain`
 IsOwn : Fault → Type 0
@@ -235,23 +235,31 @@ Own-query_step Plainly answer catalogue query =
     Own-query catalogue (evaluation_of answer catalogue query (all_rows catalogue query)).outcome (OwnAnswer-evaluation answer catalogue query (all_rows catalogue query))
 Own-query_step (Planned seed) answer catalogue query =
     let w = world_of catalogue answer query in
-    let tree = plan_for catalogue query in
+    let tree = plan_for answer catalogue seed query in
     Own-asks w tree 0 (ask_count (limit_of query) (length (list_of_plan w tree)))
 
 Own-explain : (catalogue : Catalogue) (query : syntax.Query) → Own (explain_outcome catalogue query)
 unfolding Own
 Own-explain catalogue query = Own-then (or_bind_fault (bound_query catalogue query)) (λ bound. Ok catalogue) (Own-bind (bound_query catalogue query)) (λ bound. tt)
 
-Own-explain_step : (evaluating : Evaluating) (number : ℕ) (catalogue : Catalogue) (query : syntax.Query) → Own (explain_step evaluating number catalogue query).outcome
+Own-analyze_step : (evaluating : Evaluating) (number : ℕ) (catalogue : Catalogue) (query : syntax.Query) → Own (analyze_step evaluating number catalogue query).outcome
 unfolding Own IsOwn
-Own-explain_step Plainly number catalogue query = Own-explain catalogue query
-Own-explain_step (Planned seed) number catalogue query = tt
+Own-analyze_step Plainly number catalogue query = Own-explain catalogue query
+Own-analyze_step (Planned seed) number catalogue query = tt
 
 -- a statement
 Own-refused : {A : Type 0} (does : A → Step Catalogue) (r : Result A Fault) → Own r → ((a : A) → Own (does a).outcome) → Own (refused_or does r).outcome
 unfolding Own
 Own-refused does (Ok a) own goes = goes a
 Own-refused does (Err fault) own goes = own
+
+Own-explain_step : (evaluating : Evaluating) (answer : Answering) (number : ℕ) (catalogue : Catalogue) (query : syntax.Query) → Own (explain_step evaluating answer number catalogue query).outcome
+unfolding Own IsOwn
+Own-explain_step Plainly answer number catalogue query = Own-explain catalogue query
+Own-explain_step (Planned seed) answer number catalogue query = go (can_be_planned query) where
+  go : (built : Bool) → Own (if built then refused_or (explained_step answer catalogue seed) (or_bind_fault (bound_query catalogue query)) else not_built number).outcome
+  go true = Own-refused (explained_step answer catalogue seed) _ (Own-bind (bound_query catalogue query)) (λ query. tt)
+  go false = tt
 
 Own-select : (evaluating : Evaluating) (answer : Answering) (number : ℕ) (catalogue : Catalogue) (query : syntax.Query) → Own (select_step evaluating answer number catalogue query).outcome
 unfolding Own IsOwn
@@ -287,8 +295,8 @@ Own-step finds answer evaluating number catalogue (CreateRankIndex name table pr
     (Own-index_step answer catalogue))
 Own-step finds answer evaluating number catalogue (syntax.Ask query) step does =
     subst (λ s. Own s.outcome) (sym does) (Own-select evaluating answer number catalogue query)
-Own-step finds answer evaluating number catalogue (Explain query) step does = subst (λ s. Own s.outcome) (sym does) (Own-explain_step evaluating number catalogue query)
-Own-step finds answer evaluating number catalogue (ExplainAnalyze query) step does = subst (λ s. Own s.outcome) (sym does) (Own-explain_step evaluating number catalogue query)
+Own-step finds answer evaluating number catalogue (Explain query) step does = subst (λ s. Own s.outcome) (sym does) (Own-explain_step evaluating answer number catalogue query)
+Own-step finds answer evaluating number catalogue (ExplainAnalyze query) step does = subst (λ s. Own s.outcome) (sym does) (Own-analyze_step evaluating number catalogue query)
 Own-step finds answer evaluating number catalogue _ step does = subst (λ s. Own s.outcome) (sym does) tt
 
 -- the statements of a script

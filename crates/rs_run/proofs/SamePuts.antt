@@ -1,6 +1,7 @@
 -- A script that ends well both ways puts the same lines: the rows of its plans are the answers of its queries.
 use Rattle.std.proofs.Common.{ℕ, zero, suc, ◌≡◌, ◌∙◌, ◌+◌, ◌++◌, Bool, true, false, List, [], ◌∷◌, length, take, drop, map, min, refl, sym, ap, subst, arith}
 use Rattle.std.specs.Prelude.{Option, Some, None, Result, Ok, Err, nat_le, option_map, slice_get, if◌then◌else◌}
+use Rattle.std.specs.List.{AllByRecursion}
 use Rattle.std.proofs.Math.Seq.{take-nil}
 use Rattle.std.proofs.lemmas.Bool.{leb-false, leb-true}
 use Rattle.std.proofs.lemmas.List.{length-map, take_all}
@@ -24,24 +25,24 @@ use Rattle.rs_plan.specs.Lists as plan
 use Rattle.rs_plan.specs.Lists.{list_of_plan}
 use Rattle.rs_plan.specs.Plans.{IsPlan}
 use Rattle.rs_plan.specs.Trees.{PlanTree}
-use Rattle.rs_plan.proofs.FixedFacts.{fixed-plan}
 use Rattle.rs_exec.specs.Asking.{world_of}
 use Rattle.rs_exec.specs.Cursors.{HasFewTerms, answer_for, answers_of, next_answer}
 use Rattle.rs_exec.specs.declared.fault.ExecFault.{ExecFault}
 use Rattle.rs_run.specs.declared.evaluating.Evaluating.TheVariants.{Planned, Plainly}
 use Rattle.rs_run.specs.declared.fault.Fault.{Fault}
 use Rattle.rs_run.specs.Lines.{rank_lines}
-use Rattle.rs_run.specs.Plain.{TextRuns, read, runs, source_of, unlexed, unparsed, unread}
-use Rattle.rs_run.specs.Planned.{ask_count, ask_outcome, ask_step, asks_from, given_lines, has_fixed_plan, plan_for, planned_step}
+use Rattle.rs_run.specs.Plain.{HasStatements, TextRuns, read, runs, source_of, unlexed, unparsed, unread}
+use Rattle.rs_run.specs.Planned.{ask_count, ask_outcome, ask_step, asks_from, can_be_planned, cards_for, given_lines, plan_for, planned_step}
 use Rattle.rs_run.specs.Run.{Finds, Put, Run, behind, calls_in, puts}
-use Rattle.rs_run.specs.Running.{IsRunOf}
+use Rattle.rs_run.specs.Running.{HasNoExplain, IsNoExplain, IsRunOf}
+use Rattle.rs_run.specs.Sampled.{sample_step, sampling}
 use Rattle.rs_run.specs.Sequence.{RunOf, RunsOn, Step, then_step}
 use Rattle.rs_run.specs.Statements.{Does, StatementsRun, answer_lines, evaluation_step, not_built, or_bind_fault, query_outcome, query_step, refused_or, select_step}
 use Rattle.rs_run.specs.Words.{RunScript}
 use Rattle.rs_run.proofs.OneRun.{Does-one, HasStatements-one, OneFile}
 use Rattle.rs_run.proofs.PlanSteps.{outcome-value, row-given}
 use Rattle.rs_run.proofs.RanFacts.{puts-append, puts-scores}
-use Rattle.rs_run.proofs.FixedPlanFacts.{block-bound}
+use Rattle.rs_run.proofs.OneBlockFacts.{block-bound, least-plan}
 
 -- lines alone
 puts-lines : (lines : List (List ℕ)) → puts (map Put lines) ≡ lines
@@ -154,29 +155,33 @@ module _ (give : GiveAnswers) (finds : Finds) (one : OneFile finds) (answer : An
         )
         go (Err fault) is e = absurd cc
 
+  -- a sample puts nothing
+  puts-behind : (catalogue : Catalogue) (query : Query) (rest : Step Catalogue) → puts (then_step (sample_step catalogue seed query) rest).events ≡ puts rest.events
+  puts-behind catalogue query rest =
+      puts-append (sample_step catalogue seed query).events rest.events ∙ ap (λ lines. lines ++ puts rest.events) (puts-inquiry (sampling catalogue seed query) [])
+
   -- a bound query of one block
-  alike-bound : (catalogue : Catalogue) (query : syntax.Query) (bound : Query) (left right : Catalogue) → IsWrittenQuery query → has_fixed_plan query ≡ true → bound_query catalogue query ≡ Ok bound
+  alike-bound : (catalogue : Catalogue) (query : syntax.Query) (bound : Query) (left right : Catalogue) → IsWrittenQuery query → can_be_planned query ≡ true → bound_query catalogue query ≡ Ok bound
       → (query_step Plainly answer catalogue bound).outcome ≡ Ok left → (query_step (Planned seed) answer catalogue bound).outcome ≡ Ok right
       → Alike (query_step Plainly answer catalogue bound) (query_step (Planned seed) answer catalogue bound) left right
   alike-bound catalogue query bound left right written fixed is la lb =
       let known = block-bound catalogue query bound written fixed is in
       let plainly = puts-plainly catalogue bound left la in
       let w = world_of catalogue answer bound in
-      let tree = plan_for catalogue bound in
+      let tree = plan_for answer catalogue seed bound in
       let planned = puts-planned w tree right lb in
       let few : HasFewTerms bound = subst HasFewTerms (sym known.is) known.few in
-      let plans : IsPlan catalogue bound tree =
-      subst (λ q. IsPlan catalogue q (plan_for catalogue q)) (sym known.is) (fixed-plan catalogue known.block known.some known.most known.few known.terms known.whole known.limit) in
+      let plans = least-plan catalogue bound (cards_for answer catalogue seed bound) known in
       record {
-        lines = plainly.0 ∙ sym (ap (rank_lines 1) (give w tree few plans)) ∙ sym planned.0;
+        lines = plainly.0 ∙ sym (ap (rank_lines 1) (give w tree few plans)) ∙ sym planned.0 ∙ sym (puts-behind catalogue bound (planned_step w tree));
         states = plainly.1 ∙ sym planned.1;
       }
 
   alike-select : (number : ℕ) (catalogue : Catalogue) (query : syntax.Query) (left right : Catalogue) → IsWrittenQuery query
       → (select_step Plainly answer number catalogue query).outcome ≡ Ok left → (select_step (Planned seed) answer number catalogue query).outcome ≡ Ok right
       → Alike (select_step Plainly answer number catalogue query) (select_step (Planned seed) answer number catalogue query) left right
-  alike-select number catalogue query left right written la lb = go (has_fixed_plan query) refl (bound_query catalogue query) refl la lb where
-    go : (fixed : Bool) → has_fixed_plan query ≡ fixed → (bound : Result Query BindFault) → bound_query catalogue query ≡ bound
+  alike-select number catalogue query left right written la lb = go (can_be_planned query) refl (bound_query catalogue query) refl la lb where
+    go : (fixed : Bool) → can_be_planned query ≡ fixed → (bound : Result Query BindFault) → bound_query catalogue query ≡ bound
         → (refused_or (query_step Plainly answer catalogue) (or_bind_fault bound)).outcome ≡ Ok left
         → (if fixed then refused_or (query_step (Planned seed) answer catalogue) (or_bind_fault bound) else not_built number).outcome ≡ Ok right
         → Alike (refused_or (query_step Plainly answer catalogue) (or_bind_fault bound)) (if fixed then refused_or (query_step (Planned seed) answer catalogue) (or_bind_fault bound) else not_built number) left right
@@ -184,21 +189,21 @@ module _ (give : GiveAnswers) (finds : Finds) (one : OneFile finds) (answer : An
     go true fixed (Err why) is la lb = absurd cc
     go false fixed bound is la lb = absurd cc
 
-  alike-step : (number : ℕ) (catalogue : Catalogue) (command : Command) (a b : Step Catalogue) (left right : Catalogue) → IsWritten command
+  alike-step : (number : ℕ) (catalogue : Catalogue) (command : Command) (a b : Step Catalogue) (left right : Catalogue) → IsWritten command → IsNoExplain command
       → Does finds answer Plainly number catalogue command a → Does finds answer (Planned seed) number catalogue command b → a.outcome ≡ Ok left → b.outcome ≡ Ok right
       → Alike a b left right
-  alike-step number catalogue (CreateTable name columns file) a b left right written da db la lb =
+  alike-step number catalogue (CreateTable name columns file) a b left right written silent da db la lb =
       alike-same a b left right (Does-one finds one answer Plainly number catalogue (CreateTable name columns file) a b da db) la lb
-  alike-step number catalogue (CreatePredicate name params max cost formula) a b left right written da db la lb = alike-same a b left right (da ∙ sym db) la lb
-  alike-step number catalogue (CreateRankIndex name table predicate args at) a b left right written da db la lb = alike-same a b left right (da ∙ sym db) la lb
-  alike-step number catalogue (Ask query) a b left right written da db la lb =
+  alike-step number catalogue (CreatePredicate name params max cost formula) a b left right written silent da db la lb = alike-same a b left right (da ∙ sym db) la lb
+  alike-step number catalogue (CreateRankIndex name table predicate args at) a b left right written silent da db la lb = alike-same a b left right (da ∙ sym db) la lb
+  alike-step number catalogue (Ask query) a b left right written silent da db la lb =
       subst (λ a. Alike a b left right) (sym da) (subst (λ b. Alike (select_step Plainly answer number catalogue query) b left right) (sym db)
       (alike-select number catalogue query left right written (sym (ap (λ (s : Step Catalogue). s.outcome) da) ∙ la) (sym (ap (λ (s : Step Catalogue). s.outcome) db) ∙ lb)))
-  alike-step number catalogue (Declare name query) a b left right written da db la lb = alike-same a b left right (da ∙ sym db) la lb
-  alike-step number catalogue (Fetch count name) a b left right written da db la lb = alike-same a b left right (da ∙ sym db) la lb
-  alike-step number catalogue (Close name) a b left right written da db la lb = alike-same a b left right (da ∙ sym db) la lb
-  alike-step number catalogue (Explain query) a b left right written da db la lb = absurd (let none = ap (λ (s : Step Catalogue). s.outcome) db in cc)
-  alike-step number catalogue (ExplainAnalyze query) a b left right written da db la lb = absurd (let none = ap (λ (s : Step Catalogue). s.outcome) db in cc)
+  alike-step number catalogue (Declare name query) a b left right written silent da db la lb = alike-same a b left right (da ∙ sym db) la lb
+  alike-step number catalogue (Fetch count name) a b left right written silent da db la lb = alike-same a b left right (da ∙ sym db) la lb
+  alike-step number catalogue (Close name) a b left right written silent da db la lb = alike-same a b left right (da ∙ sym db) la lb
+  alike-step number catalogue (Explain query) a b left right written silent da db la lb = absurd silent
+  alike-step number catalogue (ExplainAnalyze query) a b left right written silent da db la lb = absurd silent
 
   -- a statement that was run, and those behind it
   record Behind (rest : Catalogue → Run → Type 0) (step : Step Catalogue) (run : Run) : Type 0 where
@@ -215,33 +220,33 @@ module _ (give : GiveAnswers) (finds : Finds) (one : OneFile finds) (answer : An
     go (Ok left) is on = record { left = left; leaves = is; more = on.0; is_more = on.1; is = on.2; well = sym (ap (λ (r : Run). r.fault) on.2) ∙ well }
     go (Err fault) is on = absurd (let ended = ap (λ (r : Run). r.fault) on in cc)
 
-  alike-runs : (number : ℕ) (catalogue : Catalogue) (commands : List Command) (a b : Run) → AreWritten commands → RunOf (Does finds answer Plainly) number catalogue commands a
+  alike-runs : (number : ℕ) (catalogue : Catalogue) (commands : List Command) (a b : Run) → AreWritten commands → AllByRecursion IsNoExplain commands → RunOf (Does finds answer Plainly) number catalogue commands a
       → RunOf (Does finds answer (Planned seed)) number catalogue commands b → a.fault ≡ None → b.fault ≡ None → puts a.events ≡ puts b.events
-  alike-runs number catalogue [] a b written ra rb wa wb = ap (λ (r : Run). puts r.events) (ra ∙ sym rb)
-  alike-runs number catalogue (command ∷ rest) a b written ra rb wa wb =
+  alike-runs number catalogue [] a b written silent ra rb wa wb = ap (λ (r : Run). puts r.events) (ra ∙ sym rb)
+  alike-runs number catalogue (command ∷ rest) a b written silent ra rb wa wb =
       let x = behind-well (λ next more. RunOf (Does finds answer Plainly) (suc number) next rest more) ra.0 a ra.2 wa in
       let y = behind-well (λ next more. RunOf (Does finds answer (Planned seed)) (suc number) next rest more) rb.0 b rb.2 wb in
-      let first = alike-step number catalogue command ra.0 rb.0 x.left y.left written.0 ra.1 rb.1 x.leaves y.leaves in
-      let later = alike-runs (suc number) y.left rest x.more y.more written.1 (subst (λ next. RunOf (Does finds answer Plainly) (suc number) next rest x.more) first.states x.is_more) y.is_more x.well y.well in
+      let first = alike-step number catalogue command ra.0 rb.0 x.left y.left written.0 silent.0 ra.1 rb.1 x.leaves y.leaves in
+      let later = alike-runs (suc number) y.left rest x.more y.more written.1 silent.1 (subst (λ next. RunOf (Does finds answer Plainly) (suc number) next rest x.more) first.states x.is_more) y.is_more x.well y.well in
       ap (λ (r : Run). puts r.events) x.is ∙ puts-append ra.0.events x.more.events
       ∙ ap (λ lines. lines ++ puts x.more.events) first.lines ∙ ap (λ lines. puts rb.0.events ++ lines) later
       ∙ sym (puts-append rb.0.events y.more.events) ∙ sym (ap (λ (r : Run). puts r.events) y.is)
 
   -- texts and scripts
-  alike-texts : (script : List ℕ) (a b : Run) → TextRuns (StatementsRun finds answer Plainly) script a → TextRuns (StatementsRun finds answer (Planned seed)) script b
+  alike-texts : (script : List ℕ) (a b : Run) → ((commands : List Command) → HasStatements script commands → AllByRecursion IsNoExplain commands) → TextRuns (StatementsRun finds answer Plainly) script a → TextRuns (StatementsRun finds answer (Planned seed)) script b
       → a.fault ≡ None → b.fault ≡ None → puts a.events ≡ puts b.events
-  alike-texts script _ b (unlexed fault refuses) rb wa wb = absurd cc
-  alike-texts script _ b (unparsed tokens fault lexed refuses) rb wa wb = absurd cc
-  alike-texts script a _ (runs commands _ made is) (unlexed fault refuses) wa wb = absurd cc
-  alike-texts script a _ (runs commands _ made is) (unparsed tokens fault lexed refuses) wa wb = absurd cc
-  alike-texts script a b (runs commands _ made is) (runs others _ again also) wa wb =
-      alike-runs 1 empty commands a b (AreWritten-parsed script made.tokens commands made.lexed.spells made.parsed) is
+  alike-texts script _ b silent (unlexed fault refuses) rb wa wb = absurd cc
+  alike-texts script _ b silent (unparsed tokens fault lexed refuses) rb wa wb = absurd cc
+  alike-texts script a _ silent (runs commands _ made is) (unlexed fault refuses) wa wb = absurd cc
+  alike-texts script a _ silent (runs commands _ made is) (unparsed tokens fault lexed refuses) wa wb = absurd cc
+  alike-texts script a b silent (runs commands _ made is) (runs others _ again also) wa wb =
+      alike-runs 1 empty commands a b (AreWritten-parsed script made.tokens commands made.lexed.spells made.parsed) (silent commands made) is
       (subst (λ list. StatementsRun finds answer (Planned seed) list b) (sym (HasStatements-one script commands others made again)) also) wa wb
 
-  pub alike-scripts : (name : List ℕ) (a b : Run) → IsRunOf finds answer (RunScript name Plainly) a → IsRunOf finds answer (RunScript name (Planned seed)) b
+  pub alike-scripts : (name : List ℕ) (a b : Run) → HasNoExplain finds name → IsRunOf finds answer (RunScript name Plainly) a → IsRunOf finds answer (RunScript name (Planned seed)) b
       → a.fault ≡ None → b.fault ≡ None → puts a.events ≡ puts b.events
-  alike-scripts name _ b (unread there fault found e) rb wa wb = absurd cc
-  alike-scripts name _ _ (read there script a found e is) (unread other fault again f) wa wb = absurd cc
-  alike-scripts name _ _ (read there script a found e is) (read other text b again f also) wa wb =
+  alike-scripts name _ b silent (unread there fault found e) rb wa wb = absurd cc
+  alike-scripts name _ _ silent (read there script a found e is) (unread other fault again f) wa wb = absurd cc
+  alike-scripts name _ _ silent (read there script a found e is) (read other text b again f also) wa wb =
       let same : script ≡ text = (let source = ap (source_of name) (one name there other found again) in cc) in
-      alike-texts text a b (subst (λ s. TextRuns (StatementsRun finds answer Plainly) s a) same is) also wa wb
+      alike-texts text a b (λ commands made. silent other text commands again f made) (subst (λ s. TextRuns (StatementsRun finds answer Plainly) s a) same is) also wa wb

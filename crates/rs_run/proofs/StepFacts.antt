@@ -1,6 +1,6 @@
 -- What the steps of statements did, from what their parts did.
 use Rattle.std.proofs.Common.{ℕ, ℤ, ◌≡◌, ◌∙◌, List, [], ◌∷◌, Some, None, refl, sym, ap, subst, inl, inr}
-use Rattle.std.specs.Prelude.{Option, Result, Ok, Err, ◌⊎◌}
+use Rattle.std.specs.Prelude.{Option, Result, Ok, Err}
 use Rattle.rs_value.specs.Answer.{Gives}
 use Rattle.rs_value.specs.Outside.{Outside}
 use Rattle.rs_outside.specs.Files.{FilesTold, file_named}
@@ -30,7 +30,7 @@ use Rattle.rs_run.specs.Parts.Steps.{FetchesFile, IsReadTable, Ran, Stepped, run
 use Rattle.rs_run.specs.Run.{Fetch, Finds, finds_in}
 use Rattle.rs_run.specs.Sequence.{Step, still}
 use Rattle.rs_run.specs.declared.evaluating.Evaluating.{Evaluating}
-use Rattle.rs_run.specs.Statements.{Does, DoesTable, explain_step, index_step, predicate_outcome, refused_or, select_step, table_step, with_room}
+use Rattle.rs_run.specs.Statements.{Does, DoesTable, analyze_step, explain_step, index_step, predicate_outcome, refused_or, select_step, table_step, with_room}
 use Rattle.rs_run.specs.Top.{or_table_fault, table_limit}
 use Rattle.rs_run.specs.World.{World}
 use Rattle.rs_run.proofs.FetchFacts.{Ran-unfetched, fault-at, fetched-ok}
@@ -174,11 +174,15 @@ pub Does-query : (finds : Finds) (answer : Answering) (evaluating : Evaluating) 
 Does-query finds answer evaluating number catalogue s select e =
     subst (λ s. Does finds answer evaluating number catalogue (command_of s) (select_step evaluating answer number catalogue (query_of select))) (sym e) refl
 
-pub Does-explain : (finds : Finds) (answer : Answering) (evaluating : Evaluating) (number : ℕ) (catalogue : Catalogue) (s : Statement) (select : Select)
-    → (s ≡ statement.Explain select) ⊎ (s ≡ statement.ExplainAnalyze select)
-    → Does finds answer evaluating number catalogue (command_of s) (explain_step evaluating number catalogue (query_of select))
-Does-explain finds answer evaluating number catalogue s select (inl e) = subst (λ s. Does finds answer evaluating number catalogue (command_of s) (explain_step evaluating number catalogue (query_of select))) (sym e) refl
-Does-explain finds answer evaluating number catalogue s select (inr e) = subst (λ s. Does finds answer evaluating number catalogue (command_of s) (explain_step evaluating number catalogue (query_of select))) (sym e) refl
+pub Does-explain : (finds : Finds) (answer : Answering) (evaluating : Evaluating) (number : ℕ) (catalogue : Catalogue) (s : Statement) (select : Select) → s ≡ statement.Explain select
+    → Does finds answer evaluating number catalogue (command_of s) (explain_step evaluating answer number catalogue (query_of select))
+Does-explain finds answer evaluating number catalogue s select e =
+    subst (λ s. Does finds answer evaluating number catalogue (command_of s) (explain_step evaluating answer number catalogue (query_of select))) (sym e) refl
+
+pub Does-analyze : (finds : Finds) (answer : Answering) (evaluating : Evaluating) (number : ℕ) (catalogue : Catalogue) (s : Statement) (select : Select) → s ≡ statement.ExplainAnalyze select
+    → Does finds answer evaluating number catalogue (command_of s) (analyze_step evaluating number catalogue (query_of select))
+Does-analyze finds answer evaluating number catalogue s select e =
+    subst (λ s. Does finds answer evaluating number catalogue (command_of s) (analyze_step evaluating number catalogue (query_of select))) (sym e) refl
 
 -- what a statement does that makes a predicate
 pub Does-predicate : (finds : Finds) (answer : Answering) (evaluating : Evaluating) (number : ℕ) (catalogue : Catalogue) (s : Statement) (name : Name) (params : List (Name × Kind)) (max : ℤ × Span) (cost : Option (ℤ × Span)) (formula : Node)

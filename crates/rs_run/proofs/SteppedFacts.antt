@@ -1,11 +1,11 @@
 -- Steps, and the states that they leave, whatever the state.
-use Rattle.std.proofs.Common.{◌≡◌, List, [], Some, None, refl, sym, subst, inl, inr}
-use Rattle.std.specs.Prelude.{Option, Result, Ok, Err}
+use Rattle.std.proofs.Common.{ℕ, ◌≡◌, List, [], Some, None, refl, sym, subst, inl, inr}
+use Rattle.std.specs.Prelude.{IfOk, Option, Result, Ok, Err}
 use Rattle.rs_run.specs.declared.fault.Fault.{Fault}
 use Rattle.rs_run.specs.declared.fault.Fault.TheVariants.{Memory}
-use Rattle.rs_run.specs.Parts.Steps.{Leaves, Ran, Stepped, run_of}
+use Rattle.rs_run.specs.Parts.Steps.{Leaves, Ran, Stepped, lines_run, run_of}
 use Rattle.rs_run.specs.Run.{Event}
-use Rattle.rs_run.specs.Sequence.{Step, still}
+use Rattle.rs_run.specs.Sequence.{Step, lines_step, still}
 use Rattle.rs_run.specs.World.{World}
 use Rattle.rs_run.proofs.RanFacts.{HasDone-none, Ran-all, Ran-first}
 
@@ -57,6 +57,14 @@ Stepped-still of outcome left (Err fault) world does (inr e) = record {
       (Ran-all (record { events = []; fault = Some fault }) (Err fault) world world (HasDone-none world) (inl refl));
   leaves = tt;
 }
+
+-- lines were put, all or those before a fault
+pub Stepped-lines : {S : Type 0} (lines : List (List ℕ)) (left : S) (result : Result (Unit {0}) Fault) (old new : World) → Ran (lines_run lines) result old new
+    → Stepped (λ step. step ≡ lines_step lines left) left result old new
+Stepped-lines lines left result old new ran = record { step = lines_step lines left; does = refl; ran = ran; leaves = leaves result } where
+  leaves : (result : Result (Unit {0}) Fault) → IfOk result (λ done. (lines_step lines left).outcome ≡ Ok left)
+  leaves (Ok done) = refl
+  leaves (Err fault) = tt
 
 -- there was no memory for the step
 pub Stepped-no_memory : {S : Type 0} (of : Step S → Type 0) (step : Step S) (left : S) (world : World) → of step → Stepped of left (Err Memory) world world

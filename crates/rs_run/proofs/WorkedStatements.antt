@@ -1,9 +1,11 @@
 -- The runs of statements, computed on examples.
-use Rattle.std.proofs.Common.{ℕ, ℤ, ◌+◌, true, false, List, [], ◌∷◌, Some, None, refl}
-use Rattle.std.specs.Prelude.{Option, codes, pos}
+use Rattle.std.proofs.Common.{ℕ, ℤ, ◌≡◌, ◌+◌, subst, true, false, List, [], ◌∷◌, Some, None, refl}
+use Rattle.std.specs.Prelude.{Option, Result, Ok, Err, codes, pos}
 use Rattle.csv.proofs.OnLiterals.{csv_on_literals}
 use Rattle.csv.specs.Writing.{escaped, fields_text, is_blank}
 use Rattle.std.specs.Fmt.{digits}
+use Rattle.rand_core.specs.Pcg32Seed.{pcg32_seed}
+use Rattle.rand_core.specs.Steps.{first_words, u32_at, word_bytes}
 use Rattle.std.specs.Str.{chars, is_utf8}
 use Rattle.std.specs.Char.{encode_utf8}
 use Rattle.rs_value.specs.declared.kind.Kind.TheVariants as kind
@@ -19,13 +21,26 @@ use Rattle.rs_syntax.specs.declared.name.Arg.TheVariants as arg
 use Rattle.rs_syntax.specs.declared.select.Items.TheVariants as items
 use Rattle.rs_catalog.specs.declared.room.RoomFault.TheVariants as room
 use Rattle.rs_bind.specs.declared.fault.Why.TheVariants as why
+use Rattle.rs_catalog.specs.Catalogue.{Catalogue, empty}
+use Rattle.rs_bind.specs.Indexes.{index_def_of}
+use Rattle.rs_bind.specs.Queries.{bound_query}
+use Rattle.rs_bind.proofs.ResultFacts.{same_Ok}
+use Rattle.rs_query.specs.declared.query.Query.{Query}
+use Rattle.rs_plan.specs.Trees.{NestedJoin, Rank, RankScan, SeqScan}
+use Rattle.rs_exec.specs.Asking.{world_of}
+use Rattle.rs_enum.specs.Texts.{text_of}
+use Rattle.rs_sample.specs.Samples.{samples_from}
+use Rattle.rs_sample.specs.Taking.{taken_from}
+use Rattle.rs_run.specs.declared.fault.Fault.{Fault}
 use Rattle.rs_run.specs.declared.fault.Fault.TheVariants as fault
 use Rattle.rs_run.specs.declared.script_fault.ScriptFault.TheVariants as script
 use Rattle.rs_run.specs.Faults.{only}
 use Rattle.rs_expr.specs.Scoring.{Answering}
 use Rattle.rs_run.specs.Run.{Fetch, Finds, Put, Score, found_in}
 use Rattle.rs_run.specs.declared.evaluating.Evaluating.TheVariants.{Plainly, Planned}
-use Rattle.rs_run.specs.Statements.{StatementsRun}
+use Rattle.rs_run.specs.Planned.{cards_for, planned_step}
+use Rattle.rs_run.specs.Sampled.{sample_step}
+use Rattle.rs_run.specs.Statements.{StatementsRun, index_step, or_bind_fault, predicate_outcome, refused_or, table_step}
 
 -- a name at a place
 abbrev name_at : List ℕ → ℕ → Name
@@ -104,17 +119,33 @@ explains_in_silence : StatementsRun (finds (Some (codes "v\n3\n40\n5\n"))) answe
 unfolding create_table create_predicate select finds answer call csv_on_literals digits chars is_utf8 encode_utf8 escaped fields_text is_blank
 explains_in_silence = (_, (Some (codes "v\n3\n40\n5\n"), refl, refl), (_, (_, refl, (_, (_, refl, (_, (_, refl, (_, refl, refl)), refl)), refl)), refl))
 
+-- the catalogue that is left, where one is
+abbrev left_by : Result Catalogue Fault → Catalogue
+left_by (Ok catalogue) = catalogue
+left_by (Err why) = empty
+
+-- that of the table and the predicate, where the table's file has these bytes; and with the index
+made_of : List ℕ → Catalogue
+made_of bytes = left_by (predicate_outcome (left_by (table_step empty (name_at (codes "t") 13) (codes "f") ((codes "v", kind.Int) ∷ []) (Some bytes)).outcome)
+    (name_at (codes "p") 50) create_predicate)
+
+indexed_of : List ℕ → Catalogue
+indexed_of bytes = left_by (refused_or (index_step answer (made_of bytes)) (or_bind_fault (index_def_of (made_of bytes) create_index))).outcome
+
+-- a table no larger than its sample is sampled whole; no number ends a sample
+samples_each_row : (bound : Query) → bound_query (made_of (codes "v\n10\n40\n5\n")) select ≡ Ok bound → sample_step (made_of (codes "v\n10\n40\n5\n")) 7 bound ≡ record { events = Score (call (pos 10)) ∷ Score (call (pos 40)) ∷ Score (call (pos 5)) ∷ []; outcome = Ok (made_of (codes "v\n10\n40\n5\n")) }
+unfolding create_table create_predicate select answer call csv_on_literals digits chars is_utf8 encode_utf8 escaped fields_text is_blank made_of first_words u32_at pcg32_seed word_bytes taken_from samples_from
+samples_each_row bound is = subst (λ query. sample_step (made_of (codes "v\n10\n40\n5\n")) 7 query ≡ record { events = Score (call (pos 10)) ∷ Score (call (pos 40)) ∷ Score (call (pos 5)) ∷ []; outcome = Ok (made_of (codes "v\n10\n40\n5\n")) }) (same_Ok _ bound is) refl
+
 -- by its plan, the second row is asked for before the first one is put, since its score may be greater than 3
-asks_before_a_row : StatementsRun (finds (Some (codes "v\n3\n10\n"))) answer (Planned 7) (create_table ∷ create_predicate ∷ syntax.Ask select ∷ [])
-    (record { events = Fetch (codes "f") ∷ Score (call (pos 3)) ∷ Score (call (pos 10)) ∷ Put (codes "1,10,10\n") ∷ Put (codes "2,3,3\n") ∷ []; fault = None })
-unfolding create_table create_predicate select finds answer call csv_on_literals digits chars is_utf8 encode_utf8 escaped fields_text is_blank
-asks_before_a_row = (_, (Some (codes "v\n3\n10\n"), refl, refl), (_, (_, refl, (_, (_, refl, (_, refl, refl)), refl)), refl))
+asks_before_a_row : (bound : Query) → bound_query (made_of (codes "v\n3\n10\n")) select ≡ Ok bound → planned_step (world_of (made_of (codes "v\n3\n10\n")) answer bound) (Rank 1 (SeqScan 1)) ≡ record { events = Score (call (pos 3)) ∷ Score (call (pos 10)) ∷ Put (codes "1,10,10\n") ∷ Put (codes "2,3,3\n") ∷ []; outcome = Ok (made_of (codes "v\n3\n10\n")) }
+unfolding create_table create_predicate select answer call csv_on_literals digits chars is_utf8 encode_utf8 escaped fields_text is_blank made_of
+asks_before_a_row bound is = subst (λ query. planned_step (world_of (made_of (codes "v\n3\n10\n")) answer query) (Rank 1 (SeqScan 1)) ≡ record { events = Score (call (pos 3)) ∷ Score (call (pos 10)) ∷ Put (codes "1,10,10\n") ∷ Put (codes "2,3,3\n") ∷ []; outcome = Ok (made_of (codes "v\n3\n10\n")) }) (same_Ok _ bound is) refl
 
 -- no score is greater than 10, so a row of this score is put before the next one is asked for, whose number is no score
-puts_before_an_ask : StatementsRun (finds (Some (codes "v\n10\n40\n5\n"))) answer (Planned 7) (create_table ∷ create_predicate ∷ syntax.Ask select ∷ create_table ∷ [])
-    (record { events = Fetch (codes "f") ∷ Score (call (pos 10)) ∷ Put (codes "1,10,10\n") ∷ Score (call (pos 40)) ∷ []; fault = Some (fault.BadScore (codes "p") (only 2) (pos 40) 10) })
-unfolding create_table create_predicate select finds answer call csv_on_literals digits chars is_utf8 encode_utf8 escaped fields_text is_blank
-puts_before_an_ask = (_, (Some (codes "v\n10\n40\n5\n"), refl, refl), (_, (_, refl, (_, (_, refl, refl), refl)), refl))
+puts_before_an_ask : (bound : Query) → bound_query (made_of (codes "v\n10\n40\n5\n")) select ≡ Ok bound → planned_step (world_of (made_of (codes "v\n10\n40\n5\n")) answer bound) (Rank 1 (SeqScan 1)) ≡ record { events = Score (call (pos 10)) ∷ Put (codes "1,10,10\n") ∷ Score (call (pos 40)) ∷ []; outcome = Err (fault.BadScore (codes "p") (only 2) (pos 40) 10) }
+unfolding create_table create_predicate select answer call csv_on_literals digits chars is_utf8 encode_utf8 escaped fields_text is_blank made_of
+puts_before_an_ask bound is = subst (λ query. planned_step (world_of (made_of (codes "v\n10\n40\n5\n")) answer query) (Rank 1 (SeqScan 1)) ≡ record { events = Score (call (pos 10)) ∷ Put (codes "1,10,10\n") ∷ Score (call (pos 40)) ∷ []; outcome = Err (fault.BadScore (codes "p") (only 2) (pos 40) 10) }) (same_Ok _ bound is) refl
 
 -- SELECT v FROM t ORDER BY p(v) LIMIT 1
 select_one : syntax.Query
@@ -122,16 +153,14 @@ unfolding select
 select_one = record select { limit = Some (pos 1, record { start = 136; end = 137 }) }
 
 -- behind as many rows as LIMIT says nothing is asked
-asks_no_more : StatementsRun (finds (Some (codes "v\n10\n40\n5\n"))) answer (Planned 7) (create_table ∷ create_predicate ∷ syntax.Ask select_one ∷ [])
-    (record { events = Fetch (codes "f") ∷ Score (call (pos 10)) ∷ Put (codes "1,10,10\n") ∷ []; fault = None })
-unfolding create_table create_predicate select select_one finds answer call csv_on_literals digits chars is_utf8 encode_utf8 escaped fields_text is_blank
-asks_no_more = (_, (Some (codes "v\n10\n40\n5\n"), refl, refl), (_, (_, refl, (_, (_, refl, (_, refl, refl)), refl)), refl))
+asks_no_more : (bound : Query) → bound_query (made_of (codes "v\n10\n40\n5\n")) select_one ≡ Ok bound → planned_step (world_of (made_of (codes "v\n10\n40\n5\n")) answer bound) (Rank 1 (SeqScan 1)) ≡ record { events = Score (call (pos 10)) ∷ Put (codes "1,10,10\n") ∷ []; outcome = Ok (made_of (codes "v\n10\n40\n5\n")) }
+unfolding create_table create_predicate select answer call csv_on_literals digits chars is_utf8 encode_utf8 escaped fields_text is_blank select_one made_of
+asks_no_more bound is = subst (λ query. planned_step (world_of (made_of (codes "v\n10\n40\n5\n")) answer query) (Rank 1 (SeqScan 1)) ≡ record { events = Score (call (pos 10)) ∷ Put (codes "1,10,10\n") ∷ []; outcome = Ok (made_of (codes "v\n10\n40\n5\n")) }) (same_Ok _ bound is) refl
 
--- the index makes its calls, and a query whose one term it has makes none
-asks_by_an_index : StatementsRun (finds (Some (codes "v\n3\n10\n"))) answer (Planned 7) (create_table ∷ create_predicate ∷ create_index ∷ syntax.Ask select ∷ [])
-    (record { events = Fetch (codes "f") ∷ Score (call (pos 3)) ∷ Score (call (pos 10)) ∷ Put (codes "1,10,10\n") ∷ Put (codes "2,3,3\n") ∷ []; fault = None })
-unfolding create_table create_predicate create_index select finds answer call csv_on_literals digits chars is_utf8 encode_utf8 escaped fields_text is_blank
-asks_by_an_index = (_, (Some (codes "v\n3\n10\n"), refl, refl), (_, (_, refl, (_, (_, refl, (_, (_, refl, (_, refl, refl)), refl)), refl)), refl))
+-- by the index of its one term a query makes no call but those of its sample
+asks_by_an_index : (bound : Query) → bound_query (indexed_of (codes "v\n3\n10\n")) select ≡ Ok bound → planned_step (world_of (indexed_of (codes "v\n3\n10\n")) answer bound) (RankScan 1 1 0) ≡ record { events = Put (codes "1,10,10\n") ∷ Put (codes "2,3,3\n") ∷ []; outcome = Ok (indexed_of (codes "v\n3\n10\n")) }
+unfolding create_table create_predicate select answer call csv_on_literals digits chars is_utf8 encode_utf8 escaped fields_text is_blank create_index made_of indexed_of
+asks_by_an_index bound is = subst (λ query. planned_step (world_of (indexed_of (codes "v\n3\n10\n")) answer query) (RankScan 1 1 0) ≡ record { events = Put (codes "1,10,10\n") ∷ Put (codes "2,3,3\n") ∷ []; outcome = Ok (indexed_of (codes "v\n3\n10\n")) }) (same_Ok _ bound is) refl
 
 -- SELECT a.v, b.v FROM t a, t b ORDER BY p(b.v)
 select_two : syntax.Query
@@ -151,14 +180,19 @@ select_two = record select {
 }
 
 -- the pairs of two tables are asked for in their order, and no further than a pair could still come before the next one to be put
-asks_of_a_join : StatementsRun (finds (Some (codes "v\n3\n10\n"))) answer (Planned 7) (create_table ∷ create_predicate ∷ syntax.Ask select_two ∷ [])
-    (record {
-      events = Fetch (codes "f") ∷ Score (call (pos 3)) ∷ Score (call (pos 10)) ∷ Put (codes "1,10,3,10\n") ∷ Score (call (pos 3)) ∷ Score (call (pos 10))
-          ∷ Put (codes "2,10,10,10\n") ∷ Put (codes "3,3,3,3\n") ∷ Put (codes "4,3,10,3\n") ∷ [];
-      fault = None;
-    })
-unfolding create_table create_predicate select select_two finds answer call csv_on_literals digits chars is_utf8 encode_utf8 escaped fields_text is_blank
-asks_of_a_join = (_, (Some (codes "v\n3\n10\n"), refl, refl), (_, (_, refl, (_, (_, refl, (_, refl, refl)), refl)), refl))
+asks_of_a_join : (bound : Query) → bound_query (made_of (codes "v\n3\n10\n")) select_two ≡ Ok bound → planned_step (world_of (made_of (codes "v\n3\n10\n")) answer bound) (Rank 1 (NestedJoin (SeqScan 1) (SeqScan 2))) ≡ record { events = Score (call (pos 3)) ∷ Score (call (pos 10)) ∷ Put (codes "1,10,3,10\n") ∷ Score (call (pos 3)) ∷ Score (call (pos 10)) ∷ Put (codes "2,10,10,10\n") ∷ Put (codes "3,3,3,3\n") ∷ Put (codes "4,3,10,3\n") ∷ []; outcome = Ok (made_of (codes "v\n3\n10\n")) }
+unfolding create_table create_predicate select answer call csv_on_literals digits chars is_utf8 encode_utf8 escaped fields_text is_blank select_two made_of
+asks_of_a_join bound is = subst (λ query. planned_step (world_of (made_of (codes "v\n3\n10\n")) answer query) (Rank 1 (NestedJoin (SeqScan 1) (SeqScan 2))) ≡ record { events = Score (call (pos 3)) ∷ Score (call (pos 10)) ∷ Put (codes "1,10,3,10\n") ∷ Score (call (pos 3)) ∷ Score (call (pos 10)) ∷ Put (codes "2,10,10,10\n") ∷ Put (codes "3,3,3,3\n") ∷ Put (codes "4,3,10,3\n") ∷ []; outcome = Ok (made_of (codes "v\n3\n10\n")) }) (same_Ok _ bound is) refl
+
+-- the sample of a term over one of two tables asks for the rows of that table alone
+samples_of_a_join : (bound : Query) → bound_query (made_of (codes "v\n3\n10\n")) select_two ≡ Ok bound → sample_step (made_of (codes "v\n3\n10\n")) 7 bound ≡ record { events = Score (call (pos 3)) ∷ Score (call (pos 10)) ∷ []; outcome = Ok (made_of (codes "v\n3\n10\n")) }
+unfolding create_table create_predicate select answer call csv_on_literals digits chars is_utf8 encode_utf8 escaped fields_text is_blank select_two made_of first_words u32_at pcg32_seed word_bytes taken_from samples_from
+samples_of_a_join bound is = subst (λ query. sample_step (made_of (codes "v\n3\n10\n")) 7 query ≡ record { events = Score (call (pos 3)) ∷ Score (call (pos 10)) ∷ []; outcome = Ok (made_of (codes "v\n3\n10\n")) }) (same_Ok _ bound is) refl
+
+-- the text of a plan: both rows are expected, since there are no more than the ten for which a query without LIMIT is planned
+tells_a_plan : (bound : Query) → bound_query (made_of (codes "v\n3\n10\n")) select ≡ Ok bound → text_of (made_of (codes "v\n3\n10\n")) bound (cards_for answer (made_of (codes "v\n3\n10\n")) 7 bound) (Rank 1 (SeqScan 1)) None ≡ codes "Rank term 1 est=2 cost=4\n  SeqScan t t est=2 cost=2\n"
+unfolding create_table create_predicate select answer call csv_on_literals digits chars is_utf8 encode_utf8 escaped fields_text is_blank made_of first_words u32_at pcg32_seed word_bytes taken_from samples_from
+tells_a_plan bound is = subst (λ query. text_of (made_of (codes "v\n3\n10\n")) query (cards_for answer (made_of (codes "v\n3\n10\n")) 7 query) (Rank 1 (SeqScan 1)) None ≡ codes "Rank term 1 est=2 cost=4\n  SeqScan t t est=2 cost=2\n") (same_Ok _ bound is) refl
 
 -- SELECT DISTINCT v FROM t ORDER BY p(v), which isn't built, whatever its names are
 select_distinct : syntax.Query
@@ -170,11 +204,11 @@ no_plan_with_distinct : StatementsRun (finds None) answer (Planned 7) (create_pr
 unfolding create_table create_predicate select select_distinct finds answer call csv_on_literals digits chars is_utf8 encode_utf8 escaped fields_text is_blank
 no_plan_with_distinct = (_, refl, (_, (_, refl, refl), refl))
 
--- no plan is told of
-explains_no_plan : StatementsRun (finds None) answer (Planned 7) (create_predicate ∷ syntax.ExplainAnalyze select ∷ [])
+-- no counts are told of
+analyzes_nothing : StatementsRun (finds None) answer (Planned 7) (create_predicate ∷ syntax.ExplainAnalyze select ∷ [])
     (record { events = []; fault = Some (fault.Script (script.NotBuilt 2)) })
 unfolding create_table create_predicate select finds answer call csv_on_literals digits chars is_utf8 encode_utf8 escaped fields_text is_blank
-explains_no_plan = (_, refl, (_, (_, refl, refl), refl))
+analyzes_nothing = (_, refl, (_, (_, refl, refl), refl))
 
 -- the first number that is no score ends the run, and no row behind it is asked for
 bad_score : StatementsRun (finds (Some (codes "v\n3\n40\n5\n"))) answer Plainly (create_table ∷ create_predicate ∷ create_index ∷ create_table ∷ [])

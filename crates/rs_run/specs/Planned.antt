@@ -3,13 +3,17 @@ use Rattle.std.specs.Prelude.{ℕ, zero, suc, ◌&&◌, not, min, Bool, is_some,
 use Rattle.rs_rank.specs.declared.answer.Answer.{Answer}
 use Rattle.rs_lines.specs.Row.{line_of}
 use Rattle.rs_expr.specs.InOrder.{Inquiry}
+use Rattle.rs_expr.specs.Scoring.{Answering}
 use Rattle.rs_catalog.specs.Catalogue.{Catalogue}
 use Rattle.rs_syntax.specs.Syntax as syntax
 use Rattle.rs_query.specs.Answers.{limit_of, predicate_at}
+use Rattle.rs_query.specs.Views.{all_rows}
 use Rattle.rs_query.specs.declared.query.Query.{Query}
-use Rattle.rs_plan.specs.Fixed.{fixed_tree}
-use Rattle.rs_plan.specs.Lists.{World, block_in, list_of_plan}
+use Rattle.rs_plan.specs.Lists.{World, list_of_plan}
 use Rattle.rs_plan.specs.Trees.{PlanTree}
+use Rattle.rs_sample.specs.Cards.{BlockCards}
+use Rattle.rs_sample.specs.Sampling.{query_cards}
+use Rattle.rs_enum.specs.Least.{least_plan}
 use Rattle.rs_exec.specs.Cursors.{next_answer}
 use Rattle.rs_exec.specs.declared.fault.ExecFault.{ExecFault}
 use Rattle.rs_exec.specs.declared.fault.ExecFault.TheVariants as exec
@@ -17,13 +21,17 @@ use Rattle.rs_run.specs.declared.fault.Fault.{Fault}
 use Rattle.rs_run.specs.declared.fault.Fault.TheVariants.{BadScore, Memory, Probe}
 use Rattle.rs_run.specs.Sequence.{Step, inquiry_step, still, then_step}
 
--- a query of one block, without DISTINCT: only such queries have plans that are built. Its form alone says so
-abbrev pub has_fixed_plan : syntax.Query → Bool
-has_fixed_plan query = not (is_some query.right) && not query.left.distinct
+-- a query of one block, without DISTINCT: plans of such queries are built. Its form alone says so
+abbrev pub can_be_planned : syntax.Query → Bool
+can_be_planned query = not (is_some query.right) && not query.left.distinct
 
--- the plan of a query until plans are chosen by their cost: that of its one block
-abbrev pub plan_for : Catalogue → Query → PlanTree
-plan_for catalogue query = fixed_tree catalogue (block_in query 1)
+-- what planning knows of a query, by its sample
+abbrev pub cards_for : Answering → Catalogue → ℕ → Query → List BlockCards
+cards_for answer catalogue seed query = query_cards answer catalogue query (all_rows catalogue query) seed
+
+-- the plan of a query: the least one by its sample
+abbrev pub plan_for : Answering → Catalogue → ℕ → Query → PlanTree
+plan_for answer catalogue seed query = least_plan catalogue query (cards_for answer catalogue seed query)
 
 -- the line of the row that an ask gave, at this rank; at the end of the rows, or where a fault came, there is none
 abbrev pub given_lines : ℕ → Result (Option Answer) ExecFault → List (List ℕ)

@@ -13,6 +13,10 @@ pub record Step (S : Type 0) : Type 0 where
 abbrev pub still : {S : Type 0} → Result S Fault → Step S
 still outcome = record { events = []; outcome = outcome }
 
+-- these lines are put, each in one put, and this state is left
+abbrev pub lines_step : {S : Type 0} → List (List ℕ) → S → Step S
+lines_step lines state = record { events = map Put lines; outcome = Ok state }
+
 -- all calls of an inquiry, and then the lines that its outcome gives, each in one put
 abbrev pub inquiry_step : {A F S : Type 0} → (Result A F → List (List ℕ)) → (Result A F → Result S Fault) → Inquiry A F → Step S
 inquiry_step lines outcome inquiry = record { events = calls_in inquiry ++ map Put (lines inquiry.outcome); outcome = outcome inquiry.outcome }

@@ -1,5 +1,5 @@
 -- The statements of a script, one after another: what each does, and the catalogue that it leaves.
-use Rattle.std.specs.Prelude.{ℕ, ◌≡◌, Bool, true, List, [], ◌∷◌, Option, Result, Ok, Err, if◌then◌else◌}
+use Rattle.std.specs.Prelude.{ℕ, ◌≡◌, Bool, true, List, [], ◌∷◌, Option, None, Result, Ok, Err, if◌then◌else◌}
 use Rattle.rs_rank.specs.declared.answer.Answer.{Answer}
 use Rattle.rs_rank.specs.declared.scored_row.ScoredRow.{ScoredRow}
 use Rattle.rs_syntax.specs.declared.name.Name.{Name}
@@ -29,6 +29,7 @@ use Rattle.rs_query.specs.declared.query.Query.{Query}
 use Rattle.rs_plain.specs.Plain.{evaluation_of}
 use Rattle.rs_plain.specs.declared.fault.PlainFault.{PlainFault}
 use Rattle.rs_plain.specs.declared.fault.PlainFault.TheVariants as plain
+use Rattle.rs_enum.specs.Texts.{text_of}
 use Rattle.rs_exec.specs.Asking.{world_of}
 use Rattle.rs_run.specs.declared.evaluating.Evaluating.{Evaluating}
 use Rattle.rs_run.specs.declared.evaluating.Evaluating.TheVariants.{Plainly, Planned}
@@ -38,9 +39,10 @@ use Rattle.rs_run.specs.declared.script_fault.ScriptFault.TheVariants.{Bind, Roo
 use Rattle.rs_run.specs.Content.{content_of}
 use Rattle.rs_run.specs.Lines.{rank_lines}
 use Rattle.rs_run.specs.Faults.{or_index_fault}
-use Rattle.rs_run.specs.Planned.{has_fixed_plan, plan_for, planned_step}
+use Rattle.rs_run.specs.Planned.{can_be_planned, cards_for, plan_for, planned_step}
 use Rattle.rs_run.specs.Run.{Fetch, Finds, Run, calls_in}
-use Rattle.rs_run.specs.Sequence.{RunOf, Step, inquiry_step, still}
+use Rattle.rs_run.specs.Sampled.{sample_step}
+use Rattle.rs_run.specs.Sequence.{RunOf, Step, inquiry_step, lines_step, still, then_step}
 use Rattle.rs_run.specs.Top.{or_table_fault, table_limit}
 
 -- a rule that a statement breaks ends the run
@@ -108,12 +110,14 @@ query_outcome catalogue (Err fault) = Err (query_fault catalogue fault)
 abbrev pub evaluation_step : Catalogue → Inquiry (List Answer) PlainFault → Step Catalogue
 evaluation_step catalogue evaluated = inquiry_step answer_lines (query_outcome catalogue) evaluated
 
--- a query is evaluated plainly, which scores every combination of rows, or by its plan; nothing draws from the seed, since no plan is chosen yet
+-- a query is evaluated plainly, which scores every combination of rows, or by its plan, which its sample decides. Each query takes its sample by the same
+-- seed, so the queries before it change nothing
 abbrev pub query_step : Evaluating → Answering → Catalogue → Query → Step Catalogue
 query_step Plainly answer catalogue query = evaluation_step catalogue (evaluation_of answer catalogue query (all_rows catalogue query))
-query_step (Planned seed) answer catalogue query = planned_step (world_of catalogue answer query) (plan_for catalogue query)
+query_step (Planned seed) answer catalogue query =
+    then_step (sample_step catalogue seed query) (planned_step (world_of catalogue answer query) (plan_for answer catalogue seed query))
 
--- EXPLAIN: the query has to be bound, and nothing is told of it
+-- the query has to be bound, and nothing is told of it
 abbrev pub explain_outcome : Catalogue → syntax.Query → Result Catalogue Fault
 explain_outcome catalogue query = or_bind_fault (bound_query catalogue query) >>= λ bound. Ok catalogue
 
@@ -129,16 +133,28 @@ not_built number = still (Err (Script (NotBuilt number)))
 -- a query counts as built by its form, before its names and types; plainly, each one is
 abbrev pub is_built : Evaluating → syntax.Query → Bool
 is_built Plainly query = true
-is_built (Planned seed) query = has_fixed_plan query
+is_built (Planned seed) query = can_be_planned query
 
 abbrev pub select_step : Evaluating → Answering → ℕ → Catalogue → syntax.Query → Step Catalogue
 select_step evaluating answer number catalogue query =
     if is_built evaluating query then refused_or (query_step evaluating answer catalogue) (or_bind_fault (bound_query catalogue query)) else not_built number
 
--- no plan is told of yet
-abbrev pub explain_step : Evaluating → ℕ → Catalogue → syntax.Query → Step Catalogue
-explain_step Plainly number catalogue query = still (explain_outcome catalogue query)
-explain_step (Planned seed) number catalogue query = not_built number
+-- EXPLAIN of a query that is bound: its sample is taken, and then the text of its plan is put, in one put
+abbrev pub explained_step : Answering → Catalogue → ℕ → Query → Step Catalogue
+explained_step answer catalogue seed query =
+    then_step (sample_step catalogue seed query)
+    (lines_step (text_of catalogue query (cards_for answer catalogue seed query) (plan_for answer catalogue seed query) None ∷ []) catalogue)
+
+-- EXPLAIN: plainly, no plan is told of
+abbrev pub explain_step : Evaluating → Answering → ℕ → Catalogue → syntax.Query → Step Catalogue
+explain_step Plainly answer number catalogue query = still (explain_outcome catalogue query)
+explain_step (Planned seed) answer number catalogue query =
+    if can_be_planned query then refused_or (explained_step answer catalogue seed) (or_bind_fault (bound_query catalogue query)) else not_built number
+
+-- EXPLAIN ANALYZE: no counts are told of yet
+abbrev pub analyze_step : Evaluating → ℕ → Catalogue → syntax.Query → Step Catalogue
+analyze_step Plainly number catalogue query = still (explain_outcome catalogue query)
+analyze_step (Planned seed) number catalogue query = not_built number
 
 -- the fetch of a table's file, where the statement isn't refused before it
 abbrev pub DoesTable : Finds → Catalogue → Name → List ℕ → Result (List Column) Fault → Step Catalogue → Type 0
@@ -154,8 +170,8 @@ Does finds answer evaluating number catalogue (CreatePredicate name params max c
 Does finds answer evaluating number catalogue (CreateRankIndex name table predicate args at) step =
     step ≡ refused_or (index_step answer catalogue) (with_room catalogue what.Index name (index_def_of catalogue (CreateRankIndex name table predicate args at)))
 Does finds answer evaluating number catalogue (syntax.Ask query) step = step ≡ select_step evaluating answer number catalogue query
-Does finds answer evaluating number catalogue (Explain query) step = step ≡ explain_step evaluating number catalogue query
-Does finds answer evaluating number catalogue (ExplainAnalyze query) step = step ≡ explain_step evaluating number catalogue query
+Does finds answer evaluating number catalogue (Explain query) step = step ≡ explain_step evaluating answer number catalogue query
+Does finds answer evaluating number catalogue (ExplainAnalyze query) step = step ≡ analyze_step evaluating number catalogue query
 Does finds answer evaluating number catalogue _ step = step ≡ not_built number
 
 -- the run of the statements of a script, over an empty catalogue

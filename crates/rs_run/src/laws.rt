@@ -6,9 +6,10 @@ ghost use Rattle.rs_outside.specs.Files.{FilesTold};
 ghost use Rattle.rs_expr.specs.Scoring.{Answering};
 ghost use Rattle.rs_run.specs.declared.evaluating.Evaluating.TheVariants.{Plainly, Planned};
 ghost use Rattle.rs_run.specs.Run.{Run, finds_in, found_in, puts};
-ghost use Rattle.rs_run.specs.Running.{IsRun, IsRunOf};
+ghost use Rattle.rs_run.specs.Running.{HasNoExplain, IsRun, IsRunOf};
 ghost use Rattle.rs_run.specs.Words.{RunScript};
 
+use rs_enum::there_is_one_least_plan;
 use rs_exec::plans_give_the_answer;
 
 /// Words have one run at most over the same files and the same answers of a scorer, where the files stay as they are, as
@@ -20,15 +21,18 @@ pub fn one_run()
         → IsRun (finds_in (Some told)) answer words run → IsRun (finds_in (Some told)) answer words other → run ≡ other }
 {}
 
-/// A script that ends without a fault under `plain` and under `run`, whatever the seed, puts the same rows in the same order
+/// A script without EXPLAIN that ends without a fault under `plain` and under `run`, whatever the seed, puts the same rows in the same order
 /// under both, over the same files and the same answers of a scorer.
 pub fn plain_and_run_agree()
     ensures files { (there : List ℕ → Option (List ℕ)) (answer : Answering) (name : List ℕ) (seed : ℕ) (run other : Run)
+        → HasNoExplain (found_in there) name
         → IsRunOf (found_in there) answer (RunScript name Plainly) run → IsRunOf (found_in there) answer (RunScript name (Planned seed)) other
         → run.fault ≡ None → other.fault ≡ None → puts run.events ≡ puts other.events }
     ensures told { (told : FilesTold) (answer : Answering) (name : List ℕ) (seed : ℕ) (run other : Run)
+        → HasNoExplain (finds_in (Some told)) name
         → IsRunOf (finds_in (Some told)) answer (RunScript name Plainly) run → IsRunOf (finds_in (Some told)) answer (RunScript name (Planned seed)) other
         → run.fault ≡ None → other.fault ≡ None → puts run.events ≡ puts other.events }
 {
     plans_give_the_answer();
+    there_is_one_least_plan();
 }

@@ -3,11 +3,13 @@
 
 mod command;
 mod evaluating;
+mod explained;
 mod fault;
 mod fetch;
 mod laws;
 mod plain;
 mod planned;
+mod planning;
 mod put;
 mod query;
 mod report;

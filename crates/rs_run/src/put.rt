@@ -5,7 +5,7 @@ ghost use Rattle.rs_run.specs.Parts.Steps.{Ran, lines_run};
 ghost use Rattle.rs_run.specs.World.{World};
 
 use crate::fault::Fault;
-use rs_lines::row_line;
+use rs_lines::RowLines;
 use rs_outside::{Sink, SinkFault};
 use rs_rank::Answer;
 use std::alloc::Global;
@@ -15,26 +15,32 @@ pub fn put_rows<O: Sink>(alloc: Global, rows: &[Answer], out: &mut O) -> Result<
     ensures { (beside : World) → Ran (lines_run (rank_lines 1 rows.now)) result
         (record beside { out = O.state out.old }) (record beside { out = O.state out.new }) }
 {
+    let mut lines = RowLines::new(alloc);
     for (index, row) in rows.iter().enumerate() {
-        put_row(alloc, index as u128 + 1, row, out)?;
+        put_row(&mut lines, index as u128 + 1, row, out)?;
     }
     Ok(())
 }
 
-/// Puts the line of a row that has this rank.
-pub fn put_row<O: Sink>(alloc: Global, rank: u128, row: &Answer, out: &mut O) -> Result<(), Fault>
+/// Puts the line of a row that has this rank, which `lines` makes. It is kept from row to row.
+pub fn put_row<O: Sink>(
+    lines: &mut RowLines,
+    rank: u128,
+    row: &Answer,
+    out: &mut O,
+) -> Result<(), Fault>
     ensures { (beside : World) → Ran (lines_run (line_of rank row.now.score row.now.values ∷ [])) result
         (record beside { out = O.state out.old }) (record beside { out = O.state out.new }) }
 {
-    let line = row_line(alloc, rank, row.score, row.values.items())?;
-    put_line(&line, out)
+    let line = lines.line(rank, row.score, row.values.items())?;
+    put_text(line, out)
 }
 
-/// Puts a line on standard output.
-fn put_line<O: Sink>(line: &[u8], out: &mut O) -> Result<(), Fault>
-    ensures { (beside : World) → Ran (lines_run (line.now ∷ [])) result (record beside { out = O.state out.old }) (record beside { out = O.state out.new }) }
+/// Puts text on standard output, in one put.
+pub fn put_text<O: Sink>(text: &[u8], out: &mut O) -> Result<(), Fault>
+    ensures { (beside : World) → Ran (lines_run (text.now ∷ [])) result (record beside { out = O.state out.old }) (record beside { out = O.state out.new }) }
 {
-    match out.put(line) {
+    match out.put(text) {
         Ok(()) => Ok(()),
         Err(SinkFault::Failed) => Err(Fault::Write),
         Err(SinkFault::Memory) => Err(Fault::Memory),

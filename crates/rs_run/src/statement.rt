@@ -18,7 +18,7 @@ use crate::evaluating::Evaluating;
 use crate::fault::{Fault, index_fault};
 use crate::fetch::{fetch_file, table_fault};
 use crate::script_fault::ScriptFault;
-use crate::select::{run_explain, run_select};
+use crate::select::{run_analyze, run_explain, run_select};
 use rs_bind::{bind_index, bind_predicate, bind_table};
 use rs_catalog::{Catalog, IndexDef, What};
 use rs_expr::{Predicate, Scorer};
@@ -91,8 +91,10 @@ fn run_statement<F: Files, S: Scorer, O: Sink>(
         Statement::Query(select) => {
             run_select(alloc, evaluating, number, select, catalog, scorer, out)
         }
-        Statement::Explain(select) => run_explain(alloc, evaluating, number, select, catalog),
-        Statement::ExplainAnalyze(select) => run_explain(
+        Statement::Explain(select) => {
+            run_explain(alloc, evaluating, number, select, catalog, scorer, out)
+        }
+        Statement::ExplainAnalyze(select) => run_analyze(
             alloc, evaluating, number, select, catalog,
         ),
         _ => Err(Fault::Script(ScriptFault::NotBuilt { statement: number })),

@@ -1,5 +1,5 @@
 -- What the parts of a query by a plan do.
-use Rattle.std.specs.Prelude.{ℕ, suc, ◌≡◌, ◌<◌, ◌-◌, Bool, false, length, Result, Ok, Err}
+use Rattle.std.specs.Prelude.{ℕ, suc, ◌≡◌, ◌<◌, ◌-◌, false, length, Result, Ok, Err}
 use Rattle.rs_expr.specs.Scoring.{Answering}
 use Rattle.rs_catalog.specs.Catalogue.{Catalogue}
 use Rattle.rs_query.specs.Answers.{limit_of}
@@ -11,6 +11,8 @@ use Rattle.rs_exec.specs.Asking.{world_of}
 use Rattle.rs_exec.specs.Cursors.{CursorState, StandsFor, asks_of, call_of, plan_of}
 use Rattle.rs_exec.specs.declared.fault.ExecFault.{ExecFault}
 use Rattle.rs_exec.specs.declared.fault.ExecFault.TheVariants.{BadScore, Broken, Memory, Probe}
+use Rattle.rs_sample.specs.declared.fault.SampleFault.{SampleFault}
+use Rattle.rs_sample.specs.declared.fault.SampleFault.TheVariants as sample
 use Rattle.rs_run.specs.declared.fault.Fault.{Fault}
 use Rattle.rs_run.specs.Planned.{ask_count, asked_step, asks_from}
 use Rattle.rs_run.specs.Sequence.{Step}
@@ -37,18 +39,13 @@ pub record IsAt (query : Query) (tree : PlanTree) (n : ℕ) (cursor : CursorStat
 abbrev pub StandsSomewhere : CursorState → Type 0
 StandsSomewhere cursor = (catalogue : Catalogue) × (answer : Answering) × StandsFor catalogue answer cursor
 
--- what is bound, of a call that gives a cursor over it
-abbrev pub as_query : Result CursorState Fault → Result Query Fault
-as_query (Ok cursor) = Ok cursor.query
-as_query (Err fault) = Err fault
-
 -- a query of one block, without DISTINCT
-abbrev pub HasFixedPlan : Query → Type 0
-HasFixedPlan (One block limit) = block.distinct ≡ false
-HasFixedPlan (Set op left right limit) = ⊥
+abbrev pub CanBePlanned : Query → Type 0
+CanBePlanned (One block limit) = block.distinct ≡ false
+CanBePlanned (Set op left right limit) = ⊥
 
 -- whether a call went well, without what it answers
-abbrev pub without_value : Result Bool Fault → Result (Unit {0}) Fault
+abbrev pub without_value : {A : Type 0} → Result A Fault → Result (Unit {0}) Fault
 without_value (Ok value) = Ok tt
 without_value (Err fault) = Err fault
 
@@ -58,3 +55,8 @@ NamesPredicate catalogue (BadScore predicate ids got max) = predicate < length c
 NamesPredicate catalogue (Probe predicate) = predicate < length catalogue.predicates
 NamesPredicate catalogue Memory = Unit {0}
 NamesPredicate catalogue Broken = Unit {0}
+
+-- and so is the one that the fault of a sample names
+abbrev pub NamesSampled : Catalogue → SampleFault → Type 0
+NamesSampled catalogue (sample.Probe predicate) = predicate < length catalogue.predicates
+NamesSampled catalogue sample.Memory = Unit {0}

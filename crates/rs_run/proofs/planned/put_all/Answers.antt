@@ -9,8 +9,8 @@ use Rattle.rs_run.proofs.LeftSteps.{Left-broken, Left-ended, Left-more, fewer-as
 use Rattle.rs_run.proofs.SoFar.{SoFar-start}
 use Rattle.rs_run.proofs.planned.put_all.Goals as goal
 
-pub loop-init : goal.loop-init
-loop-init g c = record {
+pub loop-lines-init : goal.loop-lines-init
+loop-lines-init g c = record {
   so_far = λ beside. SoFar-start (left_of c.args.catalog.now (g.S.Scorer.state c.args.scorer.now).answer c.args.cursor.now)
       (record beside { scorer = g.S.Scorer.state c.args.scorer.now; out = g.O.Sink.state c.args.out.now });
   stands = c.requires.stands;
@@ -19,37 +19,37 @@ loop-init g c = record {
 pub put_next-requires : goal.put_next-requires
 put_next-requires g c =
     let at = world (untold 0) (g.S.Scorer.state c.args.scorer.now) (g.O.Sink.state c.args.out.now) (g.O.Sink.state c.args.out.now) in
-    record { stands = subst (λ answer. StandsFor c.args.catalog.now answer c.loop.cursor) (sym (c.loop.invariant.so_far at).has.keeps.scorer.answer) c.loop.invariant.stands }
+    record { stands = subst (λ answer. StandsFor c.args.catalog.now answer c.loop-lines.cursor) (sym (c.loop-lines.invariant.so_far at).has.keeps.scorer.answer) c.loop-lines.invariant.stands }
 
 pub returns-in_err-put_next : goal.returns-in_err-put_next
 returns-in_err-put_next g c = λ beside. rw (given-err c.from_residual.result c.in_err-put_next.field-0.0 c.from_residual.ensures) (
-    Left-broken c.args.catalog.now (g.S.Scorer.state c.args.scorer.now).answer (left_of c.args.catalog.now (g.S.Scorer.state c.args.scorer.now).answer c.args.cursor.now) c.loop.cursor
-    (record beside { scorer = g.S.Scorer.state c.args.scorer.now; out = g.O.Sink.state c.args.out.now }) (record beside { scorer = g.S.Scorer.state c.loop.scorer; out = g.O.Sink.state c.loop.out })
+    Left-broken c.args.catalog.now (g.S.Scorer.state c.args.scorer.now).answer (left_of c.args.catalog.now (g.S.Scorer.state c.args.scorer.now).answer c.args.cursor.now) c.loop-lines.cursor
+    (record beside { scorer = g.S.Scorer.state c.args.scorer.now; out = g.O.Sink.state c.args.out.now }) (record beside { scorer = g.S.Scorer.state c.loop-lines.scorer; out = g.O.Sink.state c.loop-lines.out })
     (record beside { scorer = g.S.Scorer.state c.put_next.new.scorer; out = g.O.Sink.state c.put_next.new.out })
-    (c.loop.invariant.so_far beside) (c.loop.invariant.so_far beside).has.keeps.scorer.answer c.loop.invariant.stands c.in_err-put_next.field-0.0 (c.in_err-put_next.ensures.puts beside))
+    (c.loop-lines.invariant.so_far beside) (c.loop-lines.invariant.so_far beside).has.keeps.scorer.answer c.loop-lines.invariant.stands c.in_err-put_next.field-0.0 (c.in_err-put_next.ensures.puts beside))
 
-pub loop-smaller : goal.loop-smaller
-loop-smaller g c =
+pub loop-lines-smaller : goal.loop-lines-smaller
+loop-lines-smaller g c =
     let at = world (untold 0) (g.S.Scorer.state c.args.scorer.now) (g.O.Sink.state c.args.out.now) (g.O.Sink.state c.args.out.now) in
-    fewer-asks c.args.catalog.now (g.S.Scorer.state c.args.scorer.now).answer c.loop.cursor c.put_next.new.cursor (c.in_ok-put_next.ensures.more (ap Ok c.if-branch.true))
-    (subst (λ answer. StandsFor c.args.catalog.now answer c.put_next.new.cursor) (c.loop.invariant.so_far at).has.keeps.scorer.answer (c.in_ok-put_next.ensures.stands (ap Ok c.if-branch.true)))
+    fewer-asks c.args.catalog.now (g.S.Scorer.state c.args.scorer.now).answer c.loop-lines.cursor c.put_next.new.cursor (c.in_ok-put_next.ensures.more (ap Ok c.if-branch.true))
+    (subst (λ answer. StandsFor c.args.catalog.now answer c.put_next.new.cursor) (c.loop-lines.invariant.so_far at).has.keeps.scorer.answer (c.in_ok-put_next.ensures.stands (ap Ok c.if-branch.true)))
 
-pub loop-preserved : goal.loop-preserved
-loop-preserved g c =
+pub loop-lines-preserved : goal.loop-lines-preserved
+loop-lines-preserved g c =
     let at = world (untold 0) (g.S.Scorer.state c.args.scorer.now) (g.O.Sink.state c.args.out.now) (g.O.Sink.state c.args.out.now) in record {
       so_far = λ beside. Left-more c.args.catalog.now (g.S.Scorer.state c.args.scorer.now).answer (left_of c.args.catalog.now (g.S.Scorer.state c.args.scorer.now).answer c.args.cursor.now)
-          c.loop.cursor (record beside { scorer = g.S.Scorer.state c.args.scorer.now; out = g.O.Sink.state c.args.out.now })
-          (record beside { scorer = g.S.Scorer.state c.loop.scorer; out = g.O.Sink.state c.loop.out })
+          c.loop-lines.cursor (record beside { scorer = g.S.Scorer.state c.args.scorer.now; out = g.O.Sink.state c.args.out.now })
+          (record beside { scorer = g.S.Scorer.state c.loop-lines.scorer; out = g.O.Sink.state c.loop-lines.out })
           (record beside { scorer = g.S.Scorer.state c.put_next.new.scorer; out = g.O.Sink.state c.put_next.new.out })
-          (c.loop.invariant.so_far beside) (c.loop.invariant.so_far beside).has.keeps.scorer.answer c.put_next.new.cursor
+          (c.loop-lines.invariant.so_far beside) (c.loop-lines.invariant.so_far beside).has.keeps.scorer.answer c.put_next.new.cursor
           (c.in_ok-put_next.ensures.left (ap Ok c.if-branch.true)) (c.in_ok-put_next.ensures.puts beside);
-      stands = subst (λ answer. StandsFor c.args.catalog.now answer c.put_next.new.cursor) (c.loop.invariant.so_far at).has.keeps.scorer.answer
+      stands = subst (λ answer. StandsFor c.args.catalog.now answer c.put_next.new.cursor) (c.loop-lines.invariant.so_far at).has.keeps.scorer.answer
           (c.in_ok-put_next.ensures.stands (ap Ok c.if-branch.true));
     }
 
 pub returns : goal.returns
 returns g c = λ beside.
-    Left-ended c.args.catalog.now (g.S.Scorer.state c.args.scorer.now).answer (left_of c.args.catalog.now (g.S.Scorer.state c.args.scorer.now).answer c.args.cursor.now) c.loop.cursor
-    (record beside { scorer = g.S.Scorer.state c.args.scorer.now; out = g.O.Sink.state c.args.out.now }) (record beside { scorer = g.S.Scorer.state c.loop.scorer; out = g.O.Sink.state c.loop.out })
+    Left-ended c.args.catalog.now (g.S.Scorer.state c.args.scorer.now).answer (left_of c.args.catalog.now (g.S.Scorer.state c.args.scorer.now).answer c.args.cursor.now) c.loop-lines.cursor
+    (record beside { scorer = g.S.Scorer.state c.args.scorer.now; out = g.O.Sink.state c.args.out.now }) (record beside { scorer = g.S.Scorer.state c.loop-lines.scorer; out = g.O.Sink.state c.loop-lines.out })
     (record beside { scorer = g.S.Scorer.state c.put_next.new.scorer; out = g.O.Sink.state c.put_next.new.out })
-    (c.loop.invariant.so_far beside) (c.loop.invariant.so_far beside).has.keeps.scorer.answer (c.in_ok-put_next.ensures.end (ap Ok c.if-branch.false)) (c.in_ok-put_next.ensures.puts beside)
+    (c.loop-lines.invariant.so_far beside) (c.loop-lines.invariant.so_far beside).has.keeps.scorer.answer (c.in_ok-put_next.ensures.end (ap Ok c.if-branch.false)) (c.in_ok-put_next.ensures.puts beside)

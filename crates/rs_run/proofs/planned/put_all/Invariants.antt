@@ -8,8 +8,8 @@ use Rattle.rs_run.proofs.SoFar.{SoFar}
 use Rattle.rs_run.proofs.planned.put_all.Given as goal
 
 -- some asks were made and their rows put; the others are left, and the cursor stands
-abbrev pub invariant-loop : goal.invariant-loop
-invariant-loop g l =
+abbrev pub invariant-loop-lines : goal.invariant-loop-lines
+invariant-loop-lines g l =
     let answer = (g.S.Scorer.state l.fn.scorer).answer in record {
       so_far : (beside : World) → SoFar (left_of l.catalog answer l.fn.cursor) (left_of l.catalog answer l.cursor)
           (record beside { scorer = g.S.Scorer.state l.fn.scorer; out = g.O.Sink.state l.fn.out }) (record beside { scorer = g.S.Scorer.state l.scorer; out = g.O.Sink.state l.out });
@@ -17,6 +17,6 @@ invariant-loop g l =
     }
 
 -- the asks that are left
-abbrev pub decreases-loop : goal.decreases-loop
-decreases-loop g l =
+abbrev pub decreases-loop-lines : goal.decreases-loop-lines
+decreases-loop-lines g l =
     suc (length (list_of_plan (world_of l.catalog (g.S.Scorer.state l.fn.scorer).answer l.cursor.query) (plan_of l.cursor))) - asks_of l.cursor

@@ -15,7 +15,7 @@ returns-in_err-line g c = λ beside.
 pub returns : goal.returns
 returns g c = λ beside.
     let row = c.args.row.now in
-    let line : c.deref-2.result.now ≡ line_of c.args.rank row.score row.values =
-    c.deref-2.ensures.value ∙ c.in_ok-line.ensures ∙ ap (λ values. line_of c.args.rank row.score values) (c.deref.ensures.value ∙ c.items.ensures) in
-    subst (λ line. Ran (lines_run (line ∷ [])) c.put_line.result (record beside { out = g.O.Sink.state c.args.out.now }) (record beside { out = g.O.Sink.state c.put_line.new.out })) line
-    (c.put_line.ensures beside)
+    let line : c.in_ok-line.line.now ≡ line_of c.args.rank row.score row.values =
+    c.in_ok-line.ensures ∙ ap (λ values. line_of c.args.rank row.score values) (c.deref.ensures.value ∙ c.items.ensures) in
+    subst (λ line. Ran (lines_run (line ∷ [])) c.put_text.result (record beside { out = g.O.Sink.state c.args.out.now }) (record beside { out = g.O.Sink.state c.put_text.new.out })) line
+    (c.put_text.ensures beside)

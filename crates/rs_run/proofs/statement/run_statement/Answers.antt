@@ -1,4 +1,4 @@
-use Rattle.std.proofs.Common.{◌∙◌, refl, inl, inr}
+use Rattle.std.proofs.Common.{◌∙◌, refl, inr}
 use Rattle.std.specs.Prelude.{Err}
 use Rattle.rs_syntax.specs.Syntax.{command_of, query_of}
 use Rattle.rs_bind.specs.Indexes.{index_def_of}
@@ -7,8 +7,8 @@ use Rattle.rs_catalog.specs.declared.room.What.TheVariants as what
 use Rattle.rs_run.specs.declared.fault.Fault.TheVariants.{Script}
 use Rattle.rs_run.specs.declared.script_fault.ScriptFault.TheVariants.{NotBuilt}
 use Rattle.rs_run.specs.Run.{finds_in}
-use Rattle.rs_run.specs.Statements.{Does, DoesTable, explain_step, index_step, predicate_outcome, refused_or, select_step, with_room}
-use Rattle.rs_run.proofs.StepFacts.{Does-explain, Does-index, Does-not_built, Does-predicate, Does-query, Does-table}
+use Rattle.rs_run.specs.Statements.{Does, DoesTable, analyze_step, explain_step, index_step, predicate_outcome, refused_or, select_step, with_room}
+use Rattle.rs_run.proofs.StepFacts.{Does-analyze, Does-explain, Does-index, Does-not_built, Does-predicate, Does-query, Does-table}
 use Rattle.rs_run.proofs.SteppedFacts.{Stepped-is, Stepped-map, Stepped-still}
 use Rattle.rs_run.proofs.statement.run_statement.Goals as goal
 
@@ -52,19 +52,19 @@ returns-in-Query g c = λ beside. Stepped-is (Does (finds_in (g.F.Files.state c.
 pub run_explain-requires : goal.run_explain-requires
 run_explain-requires g c = record { written = rw c.in-Explain.is at c.requires.written }
 
-pub run_explain-requires-in-ExplainAnalyze : goal.run_explain-requires-in-ExplainAnalyze
-run_explain-requires-in-ExplainAnalyze g c = record { written = rw c.in-ExplainAnalyze.is at c.requires.written }
+pub run_analyze-requires : goal.run_analyze-requires
+run_analyze-requires g c = record { written = rw c.in-ExplainAnalyze.is at c.requires.written }
 
 pub returns-in-Explain : goal.returns-in-Explain
-returns-in-Explain g c = λ beside.
-    let at = record beside { files = g.F.Files.state c.args.files.now; scorer = g.S.Scorer.state c.args.scorer.now; out = g.O.Sink.state c.args.out.now } in
-    Stepped-is (Does (finds_in (g.F.Files.state c.args.files.now).told) (g.S.Scorer.state c.args.scorer.now).answer c.args.evaluating c.args.number c.args.catalog.now (command_of c.args.statement.now))
-    (explain_step c.args.evaluating c.args.number c.args.catalog.now (query_of c.in-Explain.select)) c.args.catalog.now c.run_explain.result at at
-    (Does-explain (finds_in (g.F.Files.state c.args.files.now).told) (g.S.Scorer.state c.args.scorer.now).answer c.args.evaluating c.args.number c.args.catalog.now c.args.statement.now c.in-Explain.select (inl c.in-Explain.is)) (c.run_explain.ensures at)
+returns-in-Explain g c = λ beside. Stepped-is (Does (finds_in (g.F.Files.state c.args.files.now).told) (g.S.Scorer.state c.args.scorer.now).answer c.args.evaluating c.args.number c.args.catalog.now (command_of c.args.statement.now))
+    (explain_step c.args.evaluating (g.S.Scorer.state c.args.scorer.now).answer c.args.number c.args.catalog.now (query_of c.in-Explain.select)) c.args.catalog.now c.run_explain.result
+    (record beside { files = g.F.Files.state c.args.files.now; scorer = g.S.Scorer.state c.args.scorer.now; out = g.O.Sink.state c.args.out.now }) (record beside { files = g.F.Files.state c.args.files.now; scorer = g.S.Scorer.state c.run_explain.new.scorer; out = g.O.Sink.state c.run_explain.new.out })
+    (Does-explain (finds_in (g.F.Files.state c.args.files.now).told) (g.S.Scorer.state c.args.scorer.now).answer c.args.evaluating c.args.number c.args.catalog.now c.args.statement.now c.in-Explain.select c.in-Explain.is)
+    (c.run_explain.ensures (record beside { files = g.F.Files.state c.args.files.now; scorer = g.S.Scorer.state c.args.scorer.now; out = g.O.Sink.state c.args.out.now }))
 
 pub returns-in-ExplainAnalyze : goal.returns-in-ExplainAnalyze
 returns-in-ExplainAnalyze g c = λ beside.
     let at = record beside { files = g.F.Files.state c.args.files.now; scorer = g.S.Scorer.state c.args.scorer.now; out = g.O.Sink.state c.args.out.now } in
     Stepped-is (Does (finds_in (g.F.Files.state c.args.files.now).told) (g.S.Scorer.state c.args.scorer.now).answer c.args.evaluating c.args.number c.args.catalog.now (command_of c.args.statement.now))
-    (explain_step c.args.evaluating c.args.number c.args.catalog.now (query_of c.in-ExplainAnalyze.select)) c.args.catalog.now c.run_explain-in-ExplainAnalyze.result at at
-    (Does-explain (finds_in (g.F.Files.state c.args.files.now).told) (g.S.Scorer.state c.args.scorer.now).answer c.args.evaluating c.args.number c.args.catalog.now c.args.statement.now c.in-ExplainAnalyze.select (inr c.in-ExplainAnalyze.is)) (c.run_explain-in-ExplainAnalyze.ensures at)
+    (analyze_step c.args.evaluating c.args.number c.args.catalog.now (query_of c.in-ExplainAnalyze.select)) c.args.catalog.now c.run_analyze.result at at
+    (Does-analyze (finds_in (g.F.Files.state c.args.files.now).told) (g.S.Scorer.state c.args.scorer.now).answer c.args.evaluating c.args.number c.args.catalog.now c.args.statement.now c.in-ExplainAnalyze.select c.in-ExplainAnalyze.is) (c.run_analyze.ensures at)

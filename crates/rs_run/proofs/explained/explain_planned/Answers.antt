@@ -1,0 +1,96 @@
+use Rattle.std.proofs.Common.{◌≡◌, ◌∙◌, [], ◌∷◌, ap, refl, subst}
+use Rattle.std.specs.Prelude.{Err, None}
+use Rattle.rs_value.proofs.ResultFacts.{given-err}
+use Rattle.rs_syntax.specs.Syntax.{query_of}
+use Rattle.rs_catalog.specs.Catalogue.{Catalogue}
+use Rattle.rs_query.specs.declared.query.Query.{Query}
+use Rattle.rs_bind.specs.Queries.{bound_query}
+use Rattle.rs_plan.specs.Shapes.{tree_of}
+use Rattle.rs_sample.specs.Kept.{cards_of}
+use Rattle.rs_enum.specs.Texts.{text_of}
+use Rattle.rs_run.specs.declared.fault.Fault.TheVariants.{Memory}
+use Rattle.rs_run.specs.Parts.Steps.{Ran, lines_run}
+use Rattle.rs_run.specs.Planned.{cards_for, plan_for}
+use Rattle.rs_run.specs.Sequence.{Step, lines_step}
+use Rattle.rs_run.specs.Statements.{bind_fault, explained_step, or_bind_fault}
+use Rattle.rs_run.proofs.OneBlockFacts.{planned-bound}
+use Rattle.rs_run.proofs.QuerySteps.{Gives-bound, Gives-unbound}
+use Rattle.rs_run.proofs.SampleSteps.{Sampled-broken, Sampled-then}
+use Rattle.rs_run.proofs.StepFacts.{Stepped-refused}
+use Rattle.rs_run.proofs.SteppedFacts.{Stepped-lines, Stepped-no_memory}
+use Rattle.rs_run.proofs.explained.explain_planned.Goals as goal
+
+pub returns-in_err-query : goal.returns-in_err-query
+returns-in_err-query g c = λ beside. rw (given-err c.from_residual.result (bind_fault c.in_err-query.field-0.0) c.from_residual.ensures) (
+    Stepped-refused (explained_step (g.S.Scorer.state c.args.scorer.now).answer c.args.catalog.now c.args.seed)
+    (or_bind_fault (bound_query c.args.catalog.now (query_of c.args.select.now))) (bind_fault c.in_err-query.field-0.0) c.args.catalog.now
+    (record beside { scorer = g.S.Scorer.state c.args.scorer.now; out = g.O.Sink.state c.args.out.now }) (Gives-unbound _ _ _ c.in_err-query.ensures.gives refl))
+
+pub returns-in_err-cards : goal.returns-in_err-cards
+returns-in_err-cards g c = λ beside.
+    let answer = (g.S.Scorer.state c.args.scorer.now).answer in
+    let catalogue = c.args.catalog.now in
+    rw (given-err c.from_residual-in_err-cards.result c.in_err-cards.field-0.0 c.from_residual-in_err-cards.ensures) (
+    Sampled-broken catalogue c.args.seed (λ query. lines_step (text_of catalogue query (cards_for answer catalogue c.args.seed query) (plan_for answer catalogue c.args.seed query) None ∷ []) catalogue)
+    (or_bind_fault (bound_query catalogue (query_of c.args.select.now))) c.in_ok-query.query (Gives-bound _ _ c.in_ok-query.ensures.gives)
+    (record beside { scorer = g.S.Scorer.state c.args.scorer.now; out = g.O.Sink.state c.args.out.now })
+    (record beside { scorer = g.S.Scorer.state c.take_sample.new.scorer; out = g.O.Sink.state c.args.out.now }) c.in_err-cards.field-0.0
+    (c.in_err-cards.ensures.calls (record beside { out = g.O.Sink.state c.args.out.now })))
+
+pub choose_plan-requires : goal.choose_plan-requires
+choose_plan-requires g c = record {
+  formed = c.in_ok-query.ensures.formed;
+  planned = planned-bound c.args.catalog.now (query_of c.args.select.now) c.in_ok-query.query c.requires.written c.requires.planned c.in_ok-query.ensures.gives;
+  cards = c.in_ok-cards.ensures.own;
+}
+
+pub returns-in_err-plan : goal.returns-in_err-plan
+returns-in_err-plan g c = λ beside.
+    let answer = (g.S.Scorer.state c.args.scorer.now).answer in
+    let catalogue = c.args.catalog.now in
+    let query = c.in_ok-query.query in
+    let middle = record beside { scorer = g.S.Scorer.state c.take_sample.new.scorer; out = g.O.Sink.state c.args.out.now } in
+    let rest : Query → Step Catalogue = λ query. lines_step (text_of catalogue query (cards_for answer catalogue c.args.seed query) (plan_for answer catalogue c.args.seed query) None ∷ []) catalogue in
+    rw (given-err c.from_residual-in_err-plan.result Memory c.from_residual-in_err-plan.ensures) (
+    Sampled-then catalogue c.args.seed rest (or_bind_fault (bound_query catalogue (query_of c.args.select.now))) query (Gives-bound _ _ c.in_ok-query.ensures.gives)
+    (record beside { scorer = g.S.Scorer.state c.args.scorer.now; out = g.O.Sink.state c.args.out.now }) middle (Err Memory) middle
+    (c.in_ok-cards.ensures.calls (record beside { out = g.O.Sink.state c.args.out.now }))
+    (Stepped-no_memory (λ step. step ≡ rest query) (rest query) catalogue middle refl))
+
+pub explain-requires : goal.explain-requires
+explain-requires g c = record { query = c.in_ok-query.ensures.formed; cards = c.in_ok-cards.ensures.own; plan = c.in_ok-plan.ensures.plan; counts = tt }
+
+pub returns-in_err-text : goal.returns-in_err-text
+returns-in_err-text g c = λ beside.
+    let answer = (g.S.Scorer.state c.args.scorer.now).answer in
+    let catalogue = c.args.catalog.now in
+    let query = c.in_ok-query.query in
+    let middle = record beside { scorer = g.S.Scorer.state c.take_sample.new.scorer; out = g.O.Sink.state c.args.out.now } in
+    let rest : Query → Step Catalogue = λ query. lines_step (text_of catalogue query (cards_for answer catalogue c.args.seed query) (plan_for answer catalogue c.args.seed query) None ∷ []) catalogue in
+    rw (given-err c.from_residual-in_err-text.result Memory c.from_residual-in_err-text.ensures) (
+    Sampled-then catalogue c.args.seed rest (or_bind_fault (bound_query catalogue (query_of c.args.select.now))) query (Gives-bound _ _ c.in_ok-query.ensures.gives)
+    (record beside { scorer = g.S.Scorer.state c.args.scorer.now; out = g.O.Sink.state c.args.out.now }) middle (Err Memory) middle
+    (c.in_ok-cards.ensures.calls (record beside { out = g.O.Sink.state c.args.out.now }))
+    (Stepped-no_memory (λ step. step ≡ rest query) (rest query) catalogue middle refl))
+
+pub returns : goal.returns
+returns g c = λ beside.
+    let answer = (g.S.Scorer.state c.args.scorer.now).answer in
+    let catalogue = c.args.catalog.now in
+    let query = c.in_ok-query.query in
+    let cards = cards_for answer catalogue c.args.seed query in
+    let plan = plan_for answer catalogue c.args.seed query in
+    let middle = record beside { scorer = g.S.Scorer.state c.take_sample.new.scorer; out = g.O.Sink.state c.args.out.now } in
+    let new = record beside { scorer = g.S.Scorer.state c.take_sample.new.scorer; out = g.O.Sink.state c.put_text.new.out } in
+    let tree = c.in_ok-plan.ensures.tree cards c.in_ok-cards.ensures.cards in
+    let text : c.deref.result.now ≡ text_of catalogue query cards plan None =
+    c.deref.ensures.value ∙ c.in_ok-text.ensures
+    ∙ c.cards_decide_the_text.ensures catalogue query (cards_of c.in_ok-cards.cards) cards (tree_of c.in_ok-plan.plan) None c.in_ok-query.ensures.formed c.in_ok-cards.ensures.own
+    c.in_ok-cards.ensures.cards c.in_ok-plan.ensures.plan
+    ∙ ap (λ t. text_of catalogue query cards t None) tree in
+    Sampled-then catalogue c.args.seed (λ query. lines_step (text_of catalogue query (cards_for answer catalogue c.args.seed query) (plan_for answer catalogue c.args.seed query) None ∷ []) catalogue)
+    (or_bind_fault (bound_query catalogue (query_of c.args.select.now))) query (Gives-bound _ _ c.in_ok-query.ensures.gives)
+    (record beside { scorer = g.S.Scorer.state c.args.scorer.now; out = g.O.Sink.state c.args.out.now }) new c.put_text.result middle
+    (c.in_ok-cards.ensures.calls (record beside { out = g.O.Sink.state c.args.out.now }))
+    (Stepped-lines (text_of catalogue query cards plan None ∷ []) catalogue c.put_text.result middle new
+    (subst (λ t. Ran (lines_run (t ∷ [])) c.put_text.result middle new) text (c.put_text.ensures (record beside { scorer = g.S.Scorer.state c.take_sample.new.scorer }))))
