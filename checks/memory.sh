@@ -108,10 +108,13 @@ cat base - >plan.sql <<'SQL'
 SELECT x, y FROM t ORDER BY p(x) + q(y) LIMIT 9;
 SQL
 printf '1,17,8,9\n2,13,10,3\n3,12,2,10\n4,6,5,1\n' >plan.wanted
-cat >hashed.sql <<'LINES'
+{
+    cat <<'LINES'
 front CREATE TABLE h (name TEXT, price INT, city INT) FROM 'name,price,city\na,40,1\nb,90,1\nc,40,2\n'; CREATE PREDICATE near (a INT, b INT) MAX 100 AS 100 - ABS(a - b);
-ask R1(H(S1,S2)) 3 SELECT x.price, y.price FROM h x, h y WHERE x.city = y.city ORDER BY near(x.price, y.price) LIMIT 3
 LINES
+    printf 'ask R%d(H(S%d,S%d)) 3 ' 1 1 2
+    echo 'SELECT x.price, y.price FROM h x, h y WHERE x.city = y.city ORDER BY near(x.price, y.price) LIMIT 3'
+} >hashed.sql
 cat hashed.sql - >hashed.wanted <<'LINES'
   1 3 [1, 1, 0, 0, 0, 0] 100 [Int(40), Int(40)]; calls near 40 40
   1 3 [2, 2, 0, 0, 0, 0] 100 [Int(90), Int(90)]; calls near 40 90, near 90 40, near 90 90

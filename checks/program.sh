@@ -330,7 +330,7 @@ awk '
     $0 == "front" { front = "" }
     /^front ./ { front = front substr($0, 7) "\n" }
     /^(plan|counted) / { number = 0 }
-    /^plan / && !/ DISTINCT | UNION | INTERSECT | EXCEPT / {
+    /^plan [0-9]+ SELECT / && !/ DISTINCT | UNION | INTERSECT | EXCEPT / {
         number = ++count
         script = ""
         rest = front
