@@ -1,12 +1,14 @@
-//! Tests of single crates that lines of text can't tell: files and sinks, scorers, merged rows, the cores of the rank
-//! operator and of rank joins, rows of a block that no answer has, and a queue for which memory ends. The others are lines
-//! of the programs of cases.
+//! Tests of single crates that lines of text can't tell: files and sinks, generated files, scorers, merged rows, the cores
+//! of the rank operator and of rank joins, rows of a block that no answer has, and a queue for which memory ends. The others
+//! are lines of the programs of cases.
 //!
 //! They show what no clause says: that calls succeed where there is ample memory, and that they mean what a user would
 //! expect. They stand here and not in the crates that they are of, since a crate with tests is proved twice, and together,
 //! since each crate of tests is read once more.
 #![tactic(auto)]
 
+#[cfg(test)]
+mod generated;
 #[cfg(test)]
 mod hashed;
 #[cfg(test)]

@@ -1,0 +1,9 @@
+use Rattle.std.proofs.Common.{◌≡◌}
+use Rattle.std.specs.String.{string_bytes}
+use Rattle.std.specs.Prelude.{codes}
+use Rattle.rs_gen.specs.Tables.{restaurant_line, table}
+use Rattle.rs_gen.proofs.tables.restaurant_table.Given as goal
+
+-- the header and the rows so far
+abbrev pub invariant-loop-place : goal.invariant-loop-place
+invariant-loop-place l = string_bytes l.table ≡ table (codes "name,city,rating\n") (restaurant_line l.number l.cities) l.place

@@ -1,0 +1,3 @@
+pub mod Files
+pub mod Script
+pub mod Tables

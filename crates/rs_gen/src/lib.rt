@@ -1,0 +1,8 @@
+//! A large input that is made from a number: three tables, and a script that searches them.
+#![tactic(auto)]
+
+mod files;
+mod statements;
+mod tables;
+
+pub use files::generate;
