@@ -3,8 +3,9 @@
 
 The tables are small, and most are random. Of one table there are queries of one, two and three terms, and of each query all
 plans. Of two and three tables there are queries with joins of every shape, in which the terms are evaluated at places taken by
-chance. What a plan gives is computed as it is defined, over finished lists: there is no queue and no threshold here. The cases
-are the last part of crates/exec_cases/stdout. This makes them anew, at the top of the repository:
+chance. So there are of DISTINCT and of the four set operators over pairs of tables. What a plan gives is computed as it is
+defined, over finished lists: there is no queue, no threshold and no set of values seen here. The cases are the last part of
+crates/exec_cases/stdout. This makes them anew, at the top of the repository:
 
     cases=crates/exec_cases
     sed -i '/^# Random tables/,$d' $cases/stdout && python3 checks/executor.py >>$cases/stdout
@@ -12,6 +13,7 @@ are the last part of crates/exec_cases/stdout. This makes them anew, at the top 
 """
 
 import collections
+import dataclasses
 import functools
 import itertools
 import operator
@@ -19,6 +21,7 @@ import random
 from dataclasses import dataclass
 
 KINDS = "NH"  # the letters of the joins
+SET_OPERATORS = ("UNION ALL", "UNION", "INTERSECT", "EXCEPT")
 
 
 @dataclass(eq=False)
@@ -54,65 +57,42 @@ class Term:
 
 @dataclass(eq=False)
 class Plan:
-    """A scan of an entry, or of an index for a term; an operator for a term, over a plan; or a join of two."""
+    """A scan of an entry, or of an index for a term; an operator for a term, over a plan; one that drops duplicates; a join, or a
+    set operator, of two plans."""
 
     word: str
     entries: set  # their numbers
     terms: set  # the numbers of those that are evaluated
     term: int = None
     below: tuple = ()
+    block: int = 1  # its number; 0 from a set operator on
+    drops: bool = False  # whether duplicates of its block are dropped there or below
 
 
 def rank(term, plan):
-    return Plan(f"R{term}({plan.word})", plan.entries, plan.terms | {term}, term, (plan,))
+    return dataclasses.replace(plan, word=f"R{term}({plan.word})", terms=plan.terms | {term}, term=term, below=(plan,))
+
+
+def distinct(plan):
+    return dataclasses.replace(plan, word=f"D({plan.word})", term=None, below=(plan,), drops=True)
 
 
 def join(kind, left, right):
     word = f"{kind}({left.word},{right.word})"
-    return Plan(word, left.entries | right.entries, left.terms | right.terms, below=(left, right))
+    return Plan(word, left.entries | right.entries, left.terms | right.terms, below=(left, right), block=left.block)
+
+
+def combined(left, right):
+    """A set operator over plans of both blocks, which evaluate the same terms."""
+    return Plan(f"O({left.word},{right.word})", left.entries, left.terms, below=(left, right), block=0)
 
 
 def entries_of(columns):
     return {entry for entry, _ in columns}
 
 
-@dataclass(eq=False)
-class Query:
-    """A query, whose entries, conditions and terms count from 1.
-
-    A row of it is a row number of each entry, from 1, or 0 where it has none of that entry."""
-
-    tables: list  # one for each entry
-    conditions: list
-    terms: list
-    limit: int  # or None
-
-    def values(self, columns, row):
-        """The values of some columns in a row."""
-        found = [(self.tables[entry - 1], row[entry - 1], letter) for entry, letter in columns]
-        return [table.rows[number - 1][table.columns.index(letter)] for table, number, letter in found]
-
-    def worth(self, term, row):
-        return term.predicate.answer(*self.values(term.columns, row))
-
-    def key(self, terms, row):
-        """The key of a row where terms of these numbers are evaluated. A lesser key comes before a greater one."""
-        pairs = enumerate(self.terms, 1)
-        bounds = [term.weight * (self.worth(term, row) if number in terms else term.predicate.most) for number, term in pairs]
-        return -sum(bounds), row
-
-    @functools.cache
-    def rows(self, plan):
-        """The list of a plan: the rows that satisfy all conditions on its entries alone, in the order of their keys."""
-        numbers = [range(1, len(table.rows) + 1) if entry in plan.entries else [0] for entry, table in enumerate(self.tables, 1)]
-        inside = [condition for condition in self.conditions if entries_of(condition.columns) <= plan.entries]
-        rows = [row for row in itertools.product(*numbers) if all(one.holds(*self.values(one.columns, row)) for one in inside)]
-        return sorted(rows, key=lambda row: self.key(plan.terms, row))
-
-    def are_hashed(self, left, right):
-        """Whether a condition says that a column of one plan equals one of the other."""
-        equalities = [condition.columns for condition in self.conditions if condition.holds == operator.eq]
-        return any(all(len({one, other} & plan.entries) == 1 for plan in (left, right)) for (one, _), (other, _) in equalities)
+class Executed:
+    """What the asks of plans of a query give, whatever the query is: it tells of its plans the rows and their keys."""
 
     def asks_below(self, plan, asks):
         """The plans below, each as often as a plan that is asked so often asks it, in the order of these asks."""
@@ -123,15 +103,7 @@ class Query:
         if len(plan.below) == 1:
             child = plan.below[0]
             return [child] + [child for row in self.rows(child) if self.key(child.terms, row) < bar]
-        left, right = plan.below
-        lefts, rights = self.rows(left), self.rows(right)
-        if not lefts or not rights:
-            return [left, right] if lefts else [left]
-        # A side is asked once more for each of its rows that comes before the bar together with the other side's first row.
-        more = [(self.key(plan.terms, merged(row, rights[0])), left) for row in lefts]
-        more += [(self.key(plan.terms, merged(lefts[0], row)), right) for row in rights]
-        more.sort(key=operator.itemgetter(0))  # of equal keys the left one stays in front
-        return [left, right] + [side for key, side in more if key < bar]
+        return self.asks_of_sides(plan, bar)
 
     @functools.cache
     def calls(self, plan, asks):
@@ -147,16 +119,6 @@ class Query:
         """The calls of one ask alone."""
         return self.calls(plan, ask)[len(self.calls(plan, ask - 1)) :]
 
-    def call(self, number, row):
-        term = self.terms[number - 1]
-        return " ".join([term.predicate.name, *map(str, self.values(term.columns, row))])
-
-    def drawn(self, scan, asks):
-        """How far a scan drew: to the place of the last row that it gave, in the table or the index, or else to the end."""
-        source = Query(self.tables, [], self.terms, None).rows(scan)
-        last = self.rows(scan)[asks - 1 : asks]
-        return 0 if asks == 0 else source.index(last[0]) + 1 if last else len(source)
-
     def counts(self, plan, asks):
         """Of the plan and of each one below: how often it was asked, how many rows it gave, called for, and drew."""
         asked = collections.Counter(self.asks_below(plan, asks))
@@ -164,12 +126,6 @@ class Query:
         calls = gave[plan.below[0]] if plan.term and plan.below and asks else 0
         counts = [f"{asks} {gave[plan]} {calls} {0 if plan.below else self.drawn(plan, asks)}"]
         return sum((self.counts(child, asked[child]) for child in plan.below), counts)
-
-    def answer(self, row):
-        mask = sum(1 << entry for entry, number in enumerate(row) if number)
-        values = [value for table, number in zip(self.tables, row) for value in table.rows[number - 1]]
-        score = -self.key(range(1, len(self.terms) + 1), row)[0]
-        return f"1 {mask} {[*row, *[0] * (6 - len(row))]} {score} [{', '.join(f'Int({value})' for value in values)}]"
 
     def told(self, plan, count):
         """The lines of so many asks of a cursor, and of the counts behind them."""
@@ -183,6 +139,93 @@ class Query:
         limit = f"Some({self.limit})" if self.limit else None
         yield f"  counts {', '.join(self.counts(plan, asks))}; limit {limit}"
 
+    def case(self, plan, count):
+        return "\n".join([f"ask {plan.word} {count} {self.select()}", *self.told(plan, count)])
+
+
+@dataclass(eq=False)
+class Query(Executed):
+    """A query of one block, or a block of one. Its entries, conditions and terms count from 1.
+
+    A row of it is a row number of each entry, from 1, or 0 where it has none of that entry."""
+
+    tables: list  # one for each entry
+    conditions: list
+    terms: list
+    limit: int = None  # or how many rows are wanted at most
+    number: int = 1  # of the block
+    outputs: list = None  # columns; None is all of them
+    distinct: bool = False
+
+    def values(self, columns, row):
+        """The values of some columns in a row."""
+        found = [(self.tables[entry - 1], row[entry - 1], letter) for entry, letter in columns]
+        return [table.rows[number - 1][table.columns.index(letter)] for table, number, letter in found]
+
+    def put_out(self, row):
+        """The output values of a row."""
+        everything = [(entry, letter) for entry, table in enumerate(self.tables, 1) for letter in table.columns]
+        return self.values(self.outputs or everything, row)
+
+    def worth(self, term, row):
+        return term.predicate.answer(*self.values(term.columns, row))
+
+    def key(self, terms, row):
+        """The key of a row where terms of these numbers are evaluated. A lesser key comes before a greater one."""
+        pairs = enumerate(self.terms, 1)
+        bounds = [term.weight * (self.worth(term, row) if number in terms else term.predicate.most) for number, term in pairs]
+        return -sum(bounds), row
+
+    def combinations(self, entries):
+        """The rows that satisfy all conditions on some entries alone, in the order of their numbers."""
+        numbers = [range(1, len(table.rows) + 1) if entry in entries else [0] for entry, table in enumerate(self.tables, 1)]
+        inside = [condition for condition in self.conditions if entries_of(condition.columns) <= entries]
+        return [row for row in itertools.product(*numbers) if all(one.holds(*self.values(one.columns, row)) for one in inside)]
+
+    def base(self):
+        """The rows of the block; with DISTINCT the first one of each list of output values."""
+        rows = self.combinations(set(range(1, len(self.tables) + 1)))
+        return firsts(rows, self.put_out) if self.distinct else rows
+
+    @functools.cache
+    def rows(self, plan):
+        """The list of a plan, in the order of the keys of its rows."""
+        rows = self.base() if plan.drops else self.combinations(plan.entries)
+        return sorted(rows, key=lambda row: self.key(plan.terms, row))
+
+    def are_hashed(self, left, right):
+        """Whether a condition says that a column of one plan equals one of the other."""
+        equalities = [condition.columns for condition in self.conditions if condition.holds == operator.eq]
+        return any(all(len({one, other} & plan.entries) == 1 for plan in (left, right)) for (one, _), (other, _) in equalities)
+
+    def asks_of_sides(self, plan, bar):
+        """The sides of a join, each as often as it is asked up to a bar, in the order of these asks."""
+        left, right = plan.below
+        lefts, rights = self.rows(left), self.rows(right)
+        if not lefts or not rights:
+            return [left, right] if lefts else [left]
+        # A side is asked once more for each of its rows that comes before the bar together with the other side's first row.
+        more = [(self.key(plan.terms, merged(row, rights[0])), left) for row in lefts]
+        more += [(self.key(plan.terms, merged(lefts[0], row)), right) for row in rights]
+        more.sort(key=operator.itemgetter(0))  # of equal keys the left one stays in front
+        return [left, right] + [side for key, side in more if key < bar]
+
+    def call(self, number, row):
+        term = self.terms[number - 1]
+        return " ".join([term.predicate.name, *map(str, self.values(term.columns, row))])
+
+    def drawn(self, scan, asks):
+        """How far a scan drew: to the place of the last row that it gave, in the table or the index, or else to the end."""
+        source = Query(self.tables, [], self.terms).rows(scan)
+        last = self.rows(scan)[asks - 1 : asks]
+        return 0 if asks == 0 else source.index(last[0]) + 1 if last else len(source)
+
+    def answer(self, row):
+        mask = sum(1 << entry for entry, number in enumerate(row) if number)
+        values = ", ".join(f"Int({value})" for value in self.put_out(row))
+        score = -self.key(range(1, len(self.terms) + 1), row)[0]
+        return f"{self.number} {mask} {[*row, *[0] * (6 - len(row))]} {score} [{values}]"
+
     def names(self, columns):
         """Columns as they are written: with the entry's name where there are several."""
         several = len(self.tables) > 1
@@ -193,17 +236,109 @@ class Query:
         table = self.tables[entry - 1]
         return table.name + (str(entry) if table in self.tables[: entry - 1] else "")
 
-    def select(self):
+    def block(self):
+        """The text of the block."""
         aliases = [self.alias(entry) for entry in range(1, len(self.tables) + 1)]
         tables = [table.name if table.name == alias else f"{table.name} {alias}" for table, alias in zip(self.tables, aliases)]
         conditions = " AND ".join(one.text.format(*self.names(one.columns)) for one in self.conditions)
-        terms = " + ".join(f"{term.weight} * {term.predicate.name}({', '.join(self.names(term.columns))})" for term in self.terms)
         where = f" WHERE {conditions}" if conditions else ""
-        limit = f" LIMIT {self.limit}" if self.limit else ""
-        return f"SELECT * FROM {', '.join(tables)}{where} ORDER BY {terms}{limit}"
+        outputs = ("DISTINCT " if self.distinct else "") + (", ".join(self.names(self.outputs)) if self.outputs else "*")
+        return f"SELECT {outputs} FROM {', '.join(tables)}{where}"
 
-    def case(self, plan, count):
-        return "\n".join([f"ask {plan.word} {count} {self.select()}", *self.told(plan, count)])
+    def select(self):
+        return self.block() + ordered(self, self.names)
+
+
+@dataclass(eq=False)
+class SetQuery(Executed):
+    """A set operator over two blocks. A row of it is the number of a block, and a row of that block."""
+
+    operator: str
+    left: Query
+    right: Query
+    limit: int
+    distinct = False  # no duplicates are dropped above the operator
+
+    def __post_init__(self):
+        self.terms = self.left.terms
+
+    def of(self, number):
+        """The block of this number."""
+        return (self.left, self.right)[number - 1]
+
+    def key(self, terms, row):
+        bound, _ = self.of(row[0]).key(terms, row[1])
+        return bound, row
+
+    def put_out(self, row):
+        return self.of(row[0]).put_out(row[1])
+
+    def base(self):
+        """The rows of the query: those that the operator makes of the rows of its blocks."""
+        lefts, rights = ([(block.number, row) for row in block.base()] for block in (self.left, self.right))
+        known = [self.put_out(row) for row in rights]
+        match self.operator:
+            case "UNION ALL":
+                return lefts + rights
+            case "UNION":
+                return firsts(lefts + rights, self.put_out)
+            case "INTERSECT":
+                return [row for row in firsts(lefts, self.put_out) if self.put_out(row) in known]
+            case "EXCEPT":
+                return [row for row in firsts(lefts, self.put_out) if self.put_out(row) not in known]
+
+    @functools.cache
+    def rows(self, plan):
+        if plan.block:
+            return [(plan.block, row) for row in self.of(plan.block).rows(plan)]
+        return sorted(self.base(), key=lambda row: self.key(plan.terms, row))
+
+    def asks_below(self, plan, asks):
+        return self.of(plan.block).asks_below(plan, asks) if plan.block else super().asks_below(plan, asks)
+
+    def asks_of_sides(self, plan, bar):
+        """The sides of the operator, each as often as it is asked up to a bar, in the order of these asks."""
+        left, right = plan.below
+        lefts, rights = ([self.key(side.terms, row) for row in self.rows(side)] for side in plan.below)
+        if self.operator.startswith("UNION"):
+            # A side is asked once more for each of its rows that comes before the bar.
+            more = sorted([(key, left) for key in lefts] + [(key, right) for key in rights], key=operator.itemgetter(0))
+            return [left, right] + [side for key, side in more if key < bar]
+        asks = []
+        for number in range(1 + sum(key < bar for key in lefts)):
+            asks.append(left)
+            # The right side is asked until one of its rows has a lesser bound than the left row, or it has ended.
+            for bound, _ in lefts[number : number + 1]:
+                asks += [right] * (1 + sum(other <= bound for other, _ in rights) - asks.count(right))
+        return asks
+
+    def call(self, number, row):
+        return self.of(row[0]).call(number, row[1])
+
+    def drawn(self, scan, asks):
+        return self.of(scan.block).drawn(scan, asks)
+
+    def answer(self, row):
+        return self.of(row[0]).answer(row[1])
+
+    def select(self):
+        blocks = f"{self.left.block()} {self.operator} {self.right.block()}"
+        return blocks + ordered(self, lambda columns: [letter for _, letter in columns])
+
+
+def ordered(query, names):
+    """The end of a query's text, with the columns as they are written there."""
+    terms = " + ".join(f"{term.weight} * {term.predicate.name}({', '.join(names(term.columns))})" for term in query.terms)
+    limit = f" LIMIT {query.limit}" if query.limit else ""
+    return f" ORDER BY {terms}{limit}"
+
+
+def firsts(rows, values):
+    """The first row of each list of values."""
+    found = {}
+    for row in rows:
+        found.setdefault(tuple(values(row)), row)
+    return list(found.values())
 
 
 def merged(left, right):
@@ -230,11 +365,11 @@ class Script:
 
     def scans(self, query, entry):
         """The scans of an entry: of its table, and of each index that is for a term."""
-        yield Plan(f"S{entry}", {entry}, set())
+        yield Plan(f"S{entry}", {entry}, set(), block=query.number)
         for index, (predicate, table, letter) in enumerate(self.indexes):
             for number, term in enumerate(query.terms, 1):
                 if (term.predicate, term.columns, query.tables[entry - 1]) == (predicate, [(entry, letter)], table):
-                    yield Plan(f"I{entry}:{number}:{index}", {entry}, {number}, number)
+                    yield Plan(f"I{entry}:{number}:{index}", {entry}, {number}, number, block=query.number)
 
     def parts(self, query, shape):
         """All plans of a shape, whatever terms they evaluate. It is an entry's number, or a kind of joins and two shapes."""
@@ -247,13 +382,26 @@ class Script:
         for bottom in bottoms:
             yield from above(query, bottom)
 
+    def complete(self, query, shape):
+        """The plans of a shape that drop duplicates where the query says so, whatever terms they evaluate."""
+        return [plan for plan in self.parts(query, shape) if plan.drops == query.distinct]
+
     def plans(self, query, shape):
-        return [plan for plan in self.parts(query, shape) if len(plan.terms) == len(query.terms)]
+        return [plan for plan in self.complete(query, shape) if len(plan.terms) == len(query.terms)]
+
+    def set_plans(self, query, *shapes):
+        """All plans of a set query whose sides have these shapes."""
+        sides = (self.complete(block, shape) for block, shape in zip((query.left, query.right), shapes))
+        pairs = [pair for pair in itertools.product(*sides) if pair[0].terms == pair[1].terms]
+        plans = itertools.chain.from_iterable(above(query, combined(*pair)) for pair in pairs)
+        return [plan for plan in plans if len(plan.terms) == len(query.terms)]
 
 
 def above(query, plan):
     """A plan, and those with operators above it, in each order."""
     yield plan
+    if query.distinct and not plan.drops and len(plan.entries) == len(query.tables):
+        yield from above(query, distinct(plan))
     for number, term in enumerate(query.terms, 1):
         if number not in plan.terms and entries_of(term.columns) <= plan.entries:
             yield from above(query, rank(number, plan))
@@ -307,6 +455,12 @@ def equality(one, other):
     return Condition("{} = {}", [(one, "g"), (other, "g")], operator.eq)
 
 
+def some_plan(chance, plans):
+    """A plan, taken by how many operators it has on top."""
+    on_top = chance.choice(sorted(set(map(operators_on_top, plans))))
+    return chance.choice([plan for plan in plans if operators_on_top(plan) == on_top])
+
+
 def operators_on_top(plan):
     return 1 + operators_on_top(plan.below[0]) if plan.term and plan.below else 0
 
@@ -329,8 +483,7 @@ def tell_joins(chance, tables, conditions, with_nearness=False, kinds=None):
     for shape in shapes(range(1, len(tables) + 1)):
         of_kinds = [plans for plans in (script.plans(query, one) for one in with_kinds(shape)) if plans]
         for plans in chance.sample(of_kinds, min(kinds or len(of_kinds), len(of_kinds))):
-            on_top = chance.choice(sorted(set(map(operators_on_top, plans))))
-            plan = chance.choice([plan for plan in plans if operators_on_top(plan) == on_top])
+            plan = some_plan(chance, plans)
             count = chance.choice([1, 2, 2, 3, 3, len(query.rows(plan)) + 1])
             print(query.case(plan, min(count, query.limit + 1) if query.limit else count))
 
@@ -378,6 +531,97 @@ def tell_kinds_of_tables(chance):
     tell_joins(chance, [table, table], equal)
 
 
+def tell_distinct(chance):
+    """Queries with DISTINCT, of one table with all plans, and of a join."""
+    print("# Duplicates are dropped: of a table.")
+    table = Table("t", "xyz", [[chance.randint(1, 3), chance.randint(1, 2), chance.randint(0, 9)] for _ in range(8)])
+    predicates = [Predicate(name, 4, "v", same) for name in "pq"]
+    script = Script([table], predicates, [(predicates[0], table, "x")])
+    print("front\nfront", script.text)
+    terms = [Term(weight, predicate, [(1, letter)]) for weight, predicate, letter in zip((2, 3), predicates, "xy")]
+    for terms, limit in ((terms[:1], None), (terms, None), (terms, 2)):
+        query = Query([table], [], terms, limit, outputs=[(1, "x"), (1, "y")], distinct=True)
+        plans = script.plans(query, 1)
+        for plan in chance.sample(plans, 3) if limit else plans:
+            print(query.case(plan, chance.choice([1, 2, 4, len(query.base()) + 1])))
+    print("# Duplicates are dropped: of a join.")
+    tables = [Table("a", "gx", random_rows(chance, [1, 2], 5)), Table("b", "hy", random_rows(chance, [1, 2], 4))]
+    terms = [Term(1, predicate, [(entry, letter)]) for entry, (predicate, letter) in enumerate(zip(predicates, "gh"), 1)]
+    script = Script(tables, predicates, [(predicates[1], tables[1], "h")])
+    print("front\nfront", script.text)
+    for condition in (Condition("{} = {}", [(1, "g"), (2, "h")], operator.eq), Condition("{} > {}", [(1, "x"), (2, "y")], operator.gt)):
+        query = Query(tables, [condition], terms, outputs=[(2, "h"), (1, "g")], distinct=True)
+        for shape in with_kinds((1, 2)):
+            plans = script.plans(query, shape)
+            for plan in chance.sample(plans, min(3, len(plans))):
+                print(query.case(plan, len(query.base()) + 1))
+
+
+def tell_set_operators(chance, what, lefts, rights, conditions=(), wanted=()):
+    """Each operator over two tables of these rows, with conditions on them; and where it is wanted DISTINCT in a block."""
+    print(f"# Set operators over two tables: {what}")
+    tables = [Table("a", "gx", lefts), Table("b", "hy", rights)]
+    predicates = [Predicate(name, 4, "v", same) for name in "pq"]
+    places = [(number, column) for number in (0, 1) for column in (0, 1)]
+    indexes = [(predicates[column], tables[number], tables[number].columns[column]) for number, column in chance.sample(places, 2)]
+    script = Script(tables, predicates, indexes)
+    print("front\nfront", script.text)
+    for one in SET_OPERATORS:
+        weights = chance.choices((1, 2), k=2)
+        blocks = []
+        for number, table in enumerate(tables, 1):
+            terms = [Term(weight, predicate, [(1, letter)]) for weight, predicate, letter in zip(weights, predicates, table.columns)]
+            outputs = [(1, letter) for letter in table.columns] if number in wanted else None
+            inside = [condition for place, condition in conditions if place == number]
+            blocks.append(Query([table], inside, terms, number=number, outputs=outputs, distinct=number in wanted))
+        query = SetQuery(one, *blocks, chance.choice([None, None, 2]))
+        plans = script.set_plans(query, 1, 1)
+        for plan in (some_plan(chance, plans) for _ in range(3)):
+            count = chance.choice([1, 2, 3, len(query.base()) + 1])
+            print(query.case(plan, min(count, query.limit + 1) if query.limit else count))
+
+
+def tell_kinds_of_sides(chance):
+    """Set operators over tables of all kinds."""
+    few = lambda count: [[chance.randint(1, 3), chance.randint(1, 3)] for _ in range(count)]
+    tell = functools.partial(tell_set_operators, chance)
+    lefts, rights = few(6), few(6)
+    both = [lefts[0], lefts[0], rights[0]]
+    tell("duplicates inside and across.", lefts + both, rights + both)
+    tell("the first one has no row.", [], few(4))
+    tell("the second one has no row.", few(4), [])
+    tell("neither has a row.", [], [])
+    tell("all rows are equal.", [[2, 3]] * 3, [[2, 3]] * 2)
+    tell("all scores are equal, and no two rows.", [[1, 3], [3, 1], [2, 2]], [[2, 2], [1, 3], [4, 0]])
+    tell("no row of the one is in the other.", [[1, 1], [3, 3], [1, 1]], [[2, 2], [4, 4], [2, 2]])
+    other = Condition("{} <> 2", [(1, "g")], functools.partial(operator.ne, 2))
+    great = Condition("{} > 1", [(1, "y")], lambda y: y > 1)
+    tell("a condition on each.", few(7), few(7), [(1, other), (2, great)])
+    tell("DISTINCT in both blocks.", few(7), few(7), wanted=(1, 2))
+    tell("DISTINCT in the second block.", few(5), few(7), wanted=(2,))
+
+
+def tell_joined_sides(chance):
+    """Each operator over a join and a table, by plans taken by chance."""
+    print("# Set operators over a join and a table.")
+    some = lambda count: [[chance.randint(1, 2), chance.randint(1, 3)] for _ in range(count)]
+    tables = [Table("a", "gx", some(4)), Table("b", "hy", some(4)), Table("c", "kz", some(5))]
+    predicates = [Predicate(name, 4, "v", same) for name in "pq"]
+    script = Script(tables, predicates, [(predicates[0], tables[0], "g"), (predicates[1], tables[2], "z")])
+    print("front\nfront", script.text)
+    equal = Condition("{} = {}", [(1, "g"), (2, "h")], operator.eq)
+    joined = [(1, "g"), (2, "y")]
+    left_terms = [Term(weight, predicate, [column]) for weight, predicate, column in zip((1, 2), predicates, joined)]
+    right_terms = [Term(weight, predicate, [(1, letter)]) for weight, predicate, letter in zip((1, 2), predicates, "kz")]
+    left = Query(tables[:2], [equal], left_terms, outputs=joined)
+    right = Query(tables[2:], [], right_terms, number=2)
+    for one in SET_OPERATORS:
+        query = SetQuery(one, left, right, None)
+        for kind in KINDS:
+            plan = some_plan(chance, script.set_plans(query, (kind, 1, 2), 1))
+            print(query.case(plan, chance.choice([2, len(query.base()) + 1])))
+
+
 def main():
     print("# Random tables, and all plans of queries of one, two and three terms: see checks/executor.py.")
     chance = random.Random(1)
@@ -391,6 +635,10 @@ def main():
     tell_three_tables(chance, "no row matches two others.", [some([1], 2), some([1, 2], 3), some([2], 2)], [(1, 2), (2, 3)], kinds=1)
     tell_three_tables(chance, "all keys and join values are equal.", [[[1, 5]] * 2] * 3, [(1, 2), (2, 3)], kinds=1)
     tell_three_tables(chance, "no condition.", [some([1], 2), some([1], 2), some([1], 2)], [])
+
+    tell_distinct(chance)
+    tell_kinds_of_sides(chance)
+    tell_joined_sides(chance)
 
 
 if __name__ == "__main__":

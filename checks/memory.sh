@@ -4,8 +4,8 @@
 # and then `memory` with status 1.
 # Before that it counts the allocations of runs over a table of 1,000 rows that print more or fewer rows, or call the scorer
 # more or less often: a printed row takes its values alone, and a call with numbers none.
-# A join by a hash is executed by the program exec_cases, whichever plan `run` would choose. That program tells its
-# input line by line, and names the line at which there is no memory.
+# A join by a hash and a union are executed by the program exec_cases, whichever plan `run` would choose. That program
+# tells its input line by line, and names the line at which there is no memory.
 # The programs are crates/ranksql/out/ranksql and crates/exec_cases/out/exec_cases, or those that the variables RANKSQL and
 # EXEC_CASES name. A C compiler is needed: the allocations fail by a small library in front of the system's.
 set -u -o pipefail
@@ -108,10 +108,11 @@ cat base - >plan.sql <<'SQL'
 SELECT x, y FROM t ORDER BY p(x) + q(y) LIMIT 9;
 SQL
 printf '1,17,8,9\n2,13,10,3\n3,12,2,10\n4,6,5,1\n' >plan.wanted
-{
-    cat <<'LINES'
+cat >front <<'LINES'
 front CREATE TABLE h (name TEXT, price INT, city INT) FROM 'name,price,city\na,40,1\nb,90,1\nc,40,2\n'; CREATE PREDICATE near (a INT, b INT) MAX 100 AS 100 - ABS(a - b);
 LINES
+{
+    cat front
     printf 'ask R%d(H(S%d,S%d)) 3 ' 1 1 2
     echo 'SELECT x.price, y.price FROM h x, h y WHERE x.city = y.city ORDER BY near(x.price, y.price) LIMIT 3'
 } >hashed.sql
@@ -120,6 +121,20 @@ cat hashed.sql - >hashed.wanted <<'LINES'
   1 3 [2, 2, 0, 0, 0, 0] 100 [Int(90), Int(90)]; calls near 40 90, near 90 40, near 90 90
   1 3 [3, 3, 0, 0, 0, 0] 100 [Int(40), Int(40)]; calls near 40 40
   counts 3 3 5 0, 5 5 0 0, 4 3 0 3, 4 3 0 3; limit Some(3)
+LINES
+{
+    cat front
+    # (the operator of term 1, written R and 1, over a union)
+    rank=R
+    echo "ask ${rank}1(O(S1,S1)) 5 SELECT city FROM h UNION SELECT price FROM h ORDER BY near(city, 40)"
+} >united.sql
+cat united.sql - >united.wanted <<'LINES'
+  2 1 [1, 0, 0, 0, 0, 0] 100 [Int(40)]; calls near 1 40, near 2 40, near 40 40
+  1 1 [3, 0, 0, 0, 0, 0] 62 [Int(2)]; calls near 90 40
+  1 1 [1, 0, 0, 0, 0, 0] 61 [Int(1)]
+  2 1 [2, 0, 0, 0, 0, 0] 50 [Int(90)]
+  none
+  counts 5 4 4 0, 5 4 0 0, 4 3 0 3, 4 3 0 3; limit None
 LINES
 : >nothing
 printf 'memory\n' >memory
@@ -130,7 +145,7 @@ run() {
     local words=("$program" plain "$1.sql") input=/dev/null
     case $1 in
         plan | nested | rows | index | calls) words=("$program" run "$1.sql" 1) ;;
-        hashed) words=("$cases") input=hashed.sql ;;
+        hashed | united) words=("$cases") input=$1.sql ;;
     esac
     timeout 60 env LD_PRELOAD="$work/refuse.so" REFUSE_FIRST="$2" ${3:+REFUSE_ALL=1} REFUSE_COUNT="$work/count" \
         "${words[@]}" >out 2>err <"$input"
@@ -146,8 +161,8 @@ are_whole_lines() {
 is_right() {
     case $1.$2 in
         *.0) cmp -s out "$1.wanted" && cmp -s err nothing ;;
-        hashed.1) are_whole_lines "$1" && grep -qx 'line [12]: there is no memory' err ;;
-        hashed.3) are_whole_lines "$1" && grep -qx "line [12]: the line can't be read" err ;;
+        hashed.1 | united.1) are_whole_lines "$1" && grep -qx 'line [12]: there is no memory' err ;;
+        hashed.3 | united.3) are_whole_lines "$1" && grep -qx "line [12]: the line can't be read" err ;;
         *.1) are_whole_lines "$1" && cmp -s err memory ;;
         *) false ;;
     esac
@@ -240,9 +255,9 @@ compare calls '' 'level(rating)' 10 'level(rating) + recent(year)' 10
 
 names=(join union plan nested)
 if [ -x "$cases" ]; then
-    names+=(hashed)
+    names+=(hashed united)
 else
-    echo "there is no program $cases: the join by a hash is left out"
+    echo "there is no program $cases: the join by a hash and the union are left out"
 fi
 for name in "${names[@]}"; do
     try_each "$name"

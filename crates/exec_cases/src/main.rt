@@ -20,7 +20,7 @@
 //! behind it the calls that this ask made, in order. The last line has the counts of each node, a node before its children:
 //! how often it was asked, how many rows it gave, how many calls it made, and how many rows it drew; and the query's LIMIT.
 //! It is left out where an ask had a fault. Where an index can't be made, its fault and the calls are told alone; where the
-//! plan is none of the query `invalid`, and where it is one that can't be executed yet `not built`.
+//! plan is none of the query `invalid`.
 #![tactic(auto)]
 
 mod asks;

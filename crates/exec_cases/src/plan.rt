@@ -1,8 +1,4 @@
-//! The plan that a word stands for, and whether it is one that can be executed.
-
-ghost use Rattle.std.specs.Prelude.{IsTrue};
-ghost use Rattle.rs_plan.specs.Shapes.{tree_of};
-ghost use Rattle.rs_exec.specs.Building.{IsBuilt};
+//! The plan that a word stands for.
 
 use case_lines::{Fault, cut_at, small_number_of};
 use rs_plan::Plan;
@@ -82,19 +78,5 @@ fn child(stack: &mut Vec<Plan>) -> Result<Plan, Fault> {
     match stack.pop() {
         Some(plan) => Ok(plan),
         None => Err(Fault::Form),
-    }
-}
-
-/// Whether a plan is one of scans, rank operators and joins.
-pub fn is_built(plan: &Plan) -> bool
-    ensures { IsTrue result → IsBuilt (tree_of plan.now) }
-{
-    match plan {
-        Plan::SeqScan { entry: _ } => true,
-        Plan::RankScan { .. } => true,
-        Plan::Rank { term: _, child } => is_built(child),
-        Plan::HashJoin { left, right } => is_built(left) && is_built(right),
-        Plan::NestedJoin { left, right } => is_built(left) && is_built(right),
-        _ => false,
     }
 }

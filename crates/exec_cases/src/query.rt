@@ -1,17 +1,12 @@
 //! A query, and a plan of it.
 
-ghost use Rattle.std.specs.Prelude.{◌≡◌, None};
 ghost use Rattle.rs_expr.specs.MemScorer.{answered_score};
 ghost use Rattle.rs_syntax.specs.Syntax.{query_of};
 ghost use Rattle.rs_syntax.specs.Written.{IsWrittenQuery};
 ghost use Rattle.rs_query.specs.WellFormed.{IsQuery};
-ghost use Rattle.rs_plan.specs.Plans.{IsPlan};
-ghost use Rattle.rs_plan.specs.Shapes.{tree_of};
-ghost use Rattle.rs_exec.specs.Building.{IsBuilt};
 ghost use Rattle.rs_exec.specs.Indexes.{AreHeld};
 
 use crate::asks::tell_cursor;
-use crate::plan::is_built;
 use case_lines::Fault;
 use case_scripts::bind_fault;
 use rs_bind::bind;
@@ -41,7 +36,7 @@ pub fn tell_query(
     }
 }
 
-/// Asks for the rows of a query by a plan, or tells why it can't be executed.
+/// Asks for the rows of a query by a plan, or tells that it is no plan of the query.
 fn tell_bound(
     alloc: Global,
     catalog: &Catalog,
@@ -53,29 +48,10 @@ fn tell_bound(
     requires formed { IsQuery catalog.now query }
     requires held { AreHeld (answered_score scorer.old) catalog.now }
 {
-    match refusal(catalog, &query, plan) {
-        Some(word) => {
-            drop(query);
-            Ok(format!(in alloc; "  {word}\n")?)
-        }
-        None => {
-            let mut cursor = Cursor::start(alloc, catalog, query, plan)?;
-            tell_cursor(alloc, catalog, &mut cursor, count, scorer)
-        }
+    if !plan.valid(catalog, &query) {
+        drop(query);
+        return Ok(format!(in alloc; "  invalid\n")?);
     }
-}
-
-/// Why a plan can't be executed, if it can't.
-fn refusal(catalog: &Catalog, query: &Query, plan: &Plan) -> Option<&'static str>
-    requires { IsQuery catalog.now query.now }
-    ensures plan { result ≡ None → IsPlan catalog.now query.now (tree_of plan.now) }
-    ensures built { result ≡ None → IsBuilt (tree_of plan.now) }
-{
-    if !plan.valid(catalog, query) {
-        return Some("invalid");
-    }
-    if !is_built(plan) {
-        return Some("not built");
-    }
-    None
+    let mut cursor = Cursor::start(alloc, catalog, query, plan)?;
+    tell_cursor(alloc, catalog, &mut cursor, count, scorer)
 }

@@ -1,8 +1,7 @@
 -- A cursor that stands and isn't over asks its plan once more.
-use Rattle.std.proofs.Common.{◌≡◌, ◌∙◌, suc, ◌≤◌, true, false, refl, sym, ap, subst}
+use Rattle.std.proofs.Common.{◌≡◌, ◌∙◌, ℕ, suc, ◌≤◌, false, inl, inr, refl, sym, ap, subst}
 use Rattle.std.specs.Prelude.{Option, Some, None, Result, Ok, Err, if◌then◌else◌, option_map, slice_get}
 use Rattle.std.specs.List.{AllByRecursion}
-use Rattle.rs_order.proofs.EachFacts.{each-slice_get}
 use Rattle.rs_expr.specs.InOrder.{Inquires}
 use Rattle.rs_expr.specs.Scoring.{ScorerState}
 use Rattle.rs_rank.specs.Weights.{IsWeights}
@@ -10,36 +9,22 @@ use Rattle.rs_rank.specs.declared.answer.Answer.{Answer}
 use Rattle.rs_rank.specs.declared.row.RankRow.{RankRow}
 use Rattle.rs_catalog.specs.Catalogue.{Catalogue}
 use Rattle.rs_query.specs.Answers.{weights_of}
-use Rattle.rs_query.specs.Meaning.{is_inside}
-use Rattle.rs_query.specs.Tables.{HasRows, all_entries, sizes_of}
-use Rattle.rs_query.specs.WellFormed.{IsBlock, entries_mask}
-use Rattle.rs_query.specs.declared.query.Query.{Query}
-use Rattle.rs_query.specs.declared.query.Query.TheVariants.{One, Set}
-use Rattle.rs_query.proofs.EntryFacts.{items-inside}
+use Rattle.rs_query.specs.Tables.{all_entries, sizes_of}
 use Rattle.rs_query.proofs.QuestionFacts.{Gave-ok, Stopped-behind}
 use Rattle.rs_plan.specs.Calls.{questions_of_ask}
 use Rattle.rs_plan.specs.Lists.{World, block_in, list_of, list_of_plan}
-use Rattle.rs_plan.specs.Plans.{IsPlan}
-use Rattle.rs_plan.specs.Trees.{PlanTree, entries}
 use Rattle.rs_exec.specs.Asked.{CanAsk, NodeAfter}
 use Rattle.rs_exec.specs.Asking.{exec_faults, next_row, world_of}
-use Rattle.rs_exec.specs.Building.{IsBuilt}
 use Rattle.rs_exec.specs.Cursors.{CursorState, StandsFor, answer_for, asks_of, is_over, next_answer, next_of, no_question, plan_of}
 use Rattle.rs_exec.specs.Nodes.{asked_in, number_in, tree_in}
+use Rattle.rs_exec.specs.Outputs.{CanPutOut}
 use Rattle.rs_exec.specs.Standing.{Stands}
 use Rattle.rs_exec.specs.declared.fault.ExecFault.{ExecFault}
 use Rattle.rs_exec.specs.declared.fault.ExecFault.TheVariants.{Memory}
 use Rattle.rs_exec.specs.declared.node.Node.{Node}
 use Rattle.rs_exec.proofs.CursorFacts.{cursor-after, cursor-can, first-block, next-fault, next-given}
 use Rattle.rs_exec.proofs.JoinCycleFacts.{node-number}
-use Rattle.rs_exec.proofs.ListFacts.{IsRow, list-rows}
-use Rattle.rs_exec.proofs.PartFacts.{no-set, part-plan}
-use Rattle.rs_exec.proofs.StepFacts.{block-formed, few-entries, sizes-are}
-
--- a plan that can be executed ranges over all entries
-plan-entries : (catalogue : Catalogue) (query : Query) (tree : PlanTree) → IsPlan catalogue query tree → IsBuilt tree → entries tree ≡ all_entries (block_in query 1)
-plan-entries catalogue (One block limit) tree plan built = plan.0.all
-plan-entries catalogue (Set op left right limit) tree plan built = absurd (no-set catalogue left right tree plan.0 built)
+use Rattle.rs_exec.proofs.PlacesFacts.{can-put_out, plan-entries, plan-part, row-placed}
 
 module _ (catalogue : Catalogue) (cursor : CursorState) (old : ScorerState) (stands : StandsFor catalogue old.answer cursor) where
   abbrev w : World
@@ -48,7 +33,7 @@ module _ (catalogue : Catalogue) (cursor : CursorState) (old : ScorerState) (sta
   root-number : number_in cursor.root ≡ 1
   root-number = node-number w 1 cursor.root stands.nodes
 
-  pub root-can : AllByRecursion (λ size. size ≤ 131072) (sizes_of catalogue (block_in cursor.query 1)) → IsWeights (weights_of (block_in cursor.query 1))
+  pub root-can : ((n : ℕ) → AllByRecursion (λ size. size ≤ 131072) (sizes_of catalogue (block_in cursor.query n))) → IsWeights (weights_of (block_in cursor.query 1))
       → is_over (world_of catalogue old.answer cursor.query) (plan_of cursor) (asks_of cursor) ≡ false
       → CanAsk catalogue old.answer cursor.query (number_in cursor.root) (tree_in cursor.root) (asked_in cursor.root)
   root-can few weights more =
@@ -58,7 +43,7 @@ module _ (catalogue : Catalogue) (cursor : CursorState) (old : ScorerState) (sta
   pub root-stands : Stands (world_of catalogue old.answer cursor.query) (number_in cursor.root) cursor.root
   root-stands = subst (λ n. Stands w n cursor.root) (sym root-number) stands.nodes
 
-  pub root-after : AllByRecursion (λ size. size ≤ 131072) (sizes_of catalogue (block_in cursor.query 1)) → IsWeights (weights_of (block_in cursor.query 1))
+  pub root-after : ((n : ℕ) → AllByRecursion (λ size. size ≤ 131072) (sizes_of catalogue (block_in cursor.query n))) → IsWeights (weights_of (block_in cursor.query 1))
       → is_over (world_of catalogue old.answer cursor.query) (plan_of cursor) (asks_of cursor) ≡ false → (root : Node)
       → NodeAfter (world_of catalogue old.answer cursor.query) (number_in cursor.root) (tree_in cursor.root) (asked_in cursor.root) root
       → StandsFor catalogue old.answer (record cursor { root = root })
@@ -66,29 +51,15 @@ module _ (catalogue : Catalogue) (cursor : CursorState) (old : ScorerState) (sta
       cursor-after catalogue old.answer cursor root stands (cursor-can catalogue old.answer cursor stands few weights more)
       (subst (λ n. NodeAfter w n (tree_in cursor.root) (asked_in cursor.root) root) root-number after)
 
-  -- the rows of its list are of its one block
-  module _ (row : RankRow) (there : slice_get (list_of w 1 (plan_of cursor)) (asks_of cursor) ≡ Some row) where
-    row-is : IsRow w 1 (plan_of cursor) row
-    row-is =
-        each-slice_get (IsRow w 1 (plan_of cursor)) (list_of w 1 (plan_of cursor)) (asks_of cursor) row
-        (list-rows w 1 (few-entries catalogue cursor.query 1 stands.query) (sizes-are catalogue old.answer cursor.query 1 (first-block cursor.query)) (plan_of cursor)
-        (part-plan catalogue cursor.query (plan_of cursor) stands.plan stands.built)) there
-
-    pub row-block : IsBlock catalogue (block_in cursor.query row.ids.block)
-    row-block = block-formed catalogue cursor.query row.ids.block stands.query
-
-    row-mask : row.ids.mask ≡ all_entries (block_in cursor.query row.ids.block)
-    row-mask =
-        row-is.mask ∙ plan-entries catalogue cursor.query (plan_of cursor) stands.plan stands.built
-        ∙ ap (λ n. all_entries (block_in cursor.query n)) (sym row-is.block)
-
-    pub row-inside : is_inside (entries_mask (block_in cursor.query row.ids.block).items) row.ids.mask ≡ true
-    row-inside = ap (is_inside (entries_mask (block_in cursor.query row.ids.block).items)) row-mask ∙ items-inside catalogue (block_in cursor.query row.ids.block) row-block
-
-    pub row-rows : HasRows catalogue (block_in cursor.query row.ids.block) row.ids.mask row.ids.rows
-    row-rows =
-        subst (λ n. HasRows catalogue (block_in cursor.query n) row.ids.mask row.ids.rows) (sym row-is.block)
-        (subst (λ mask. HasRows catalogue (block_in cursor.query 1) mask row.ids.rows) (sym row-is.mask) row-is.rows)
+  -- a row of its list has all entries of its block
+  pub row-puts : (row : RankRow) → slice_get (list_of (world_of catalogue old.answer cursor.query) 1 (plan_of cursor)) (asks_of cursor) ≡ Some row → CanPutOut catalogue cursor.query row
+  row-puts row there =
+      let placed = row-placed catalogue old.answer cursor.query 1 (plan_of cursor) stands.query (first-block cursor.query) (plan-part catalogue cursor.query (plan_of cursor) stands.plan) (asks_of cursor) row there in
+      let mask : row.ids.mask ≡ all_entries (block_in cursor.query row.ids.block) = elim placed.place [
+        | inl at ↦ at.1 ∙ plan-entries catalogue cursor.query (plan_of cursor) stands.plan ∙ ap (λ n. all_entries (block_in cursor.query n)) (sym at.0)
+        | inr all ↦ all
+      ] in
+      can-put_out catalogue cursor.query row stands.query mask placed.rows
 
   module _ (new : ScorerState) (more : is_over (world_of catalogue old.answer cursor.query) (plan_of cursor) (asks_of cursor) ≡ false) where
     goes-on : next_of w (plan_of cursor) (asks_of cursor) ≡ next_answer w (plan_of cursor) (asks_of cursor)

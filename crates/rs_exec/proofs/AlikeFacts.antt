@@ -1,5 +1,5 @@
 -- Rows with the same output values have the same worths: each column of a term is an output column.
-use Rattle.std.proofs.Common.{◌≡◌, ◌∙◌, ℕ, zero, suc, ◌==◌, ◌&&◌, ◌||◌, Bool, true, false, cond, eqb, List, [], ◌∷◌, map, Option, Some, None, refl, sym, ap, ap₂, subst}
+use Rattle.std.proofs.Common.{◌≡◌, ◌∙◌, ℕ, suc, ◌==◌, ◌||◌, Bool, true, false, cond, eqb, List, [], ◌∷◌, map, Some, refl, sym, ap, ap₂}
 use Rattle.std.proofs.lemmas.Bool.{and_parts, eqb-true}
 use Rattle.std.proofs.lemmas.Option.{same_Some, slice_get-map}
 use Rattle.std.specs.List.{AllByRecursion, list_any}
@@ -8,8 +8,8 @@ use Rattle.rs_expr.specs.Scoring.{Answering}
 use Rattle.rs_catalog.specs.Catalogue.{Catalogue}
 use Rattle.rs_catalog.specs.declared.index.BoundArg.{BoundArg}
 use Rattle.rs_catalog.specs.declared.index.BoundArg.TheVariants as arg
-use Rattle.rs_query.specs.Answers.{clamped, predicate_at, worth_of, worths_of}
-use Rattle.rs_query.specs.Meaning.{argument_value, argument_values, column_value, outputs_of}
+use Rattle.rs_query.specs.Answers.{clamped, predicate_at, worth_of}
+use Rattle.rs_query.specs.Meaning.{argument_value, column_value, outputs_of}
 use Rattle.rs_query.specs.WellFormed.{AreSameArg, AreSameArgs, AreSameTerm, AreSameTerms, HasOutputs, IsOutput, IsQuery, argument_columns, same_column}
 use Rattle.rs_query.specs.declared.block.Block.{Block}
 use Rattle.rs_query.specs.declared.query.Query.{Query}
@@ -18,7 +18,7 @@ use Rattle.rs_query.specs.declared.term.Term.{Term}
 use Rattle.rs_rank.specs.Weights.{evaluated}
 use Rattle.rs_rank.specs.declared.ids.Ids.{Ids}
 use Rattle.rs_value.specs.declared.value.Value.{Value}
-use Rattle.rs_plan.specs.Lists.{World, block_in, row_under, weights_in, worths}
+use Rattle.rs_plan.specs.Lists.{World, block_in, row_under, weights_in}
 use Rattle.rs_exec.specs.Outputs.{values_for}
 
 -- the place of an item that passes a test

@@ -1,10 +1,10 @@
 -- What the nodes of a plan that stand count is what the definition says.
-use Rattle.std.proofs.Common.{◌≡◌, ◌∙◌, ℕ, zero, suc, List, [], ◌∷◌, ◌++◌, Box, Global, refl, sym, ap, ap₂}
+use Rattle.std.proofs.Common.{◌≡◌, ◌∙◌, ℕ, zero, suc, List, [], ◌∷◌, ◌++◌, Box, Global, refl, sym, ap, ap₂, subst}
 use Rattle.std.specs.Prelude.{Some, None, Result, Ok, Err, slice_get}
 use Rattle.rs_plan.specs.Counts.{counts, counts_at}
 use Rattle.rs_plan.specs.declared.counts.Counts.{Counts}
 use Rattle.rs_plan.specs.Lists.{World}
-use Rattle.rs_plan.specs.Trees.{Distinct, NestedJoin, Rank, PlanTree}
+use Rattle.rs_plan.specs.Trees.{Distinct, NestedJoin, Rank, SetOperator, PlanTree}
 use Rattle.rs_exec.specs.Cores.{tree_with}
 use Rattle.rs_exec.specs.declared.distinct.DistinctNode.{DistinctNode}
 use Rattle.rs_exec.specs.declared.join.JoinNode.{JoinNode}
@@ -16,6 +16,7 @@ use Rattle.rs_exec.specs.declared.node.Node.TheViews as view
 use Rattle.rs_exec.specs.declared.rank.RankNode.{RankNode}
 use Rattle.rs_exec.specs.declared.scan.IndexNode.{IndexNode}
 use Rattle.rs_exec.specs.declared.scan.TableNode.{TableNode}
+use Rattle.rs_exec.specs.declared.set.SetNode.{SetNode}
 use Rattle.rs_exec.specs.Nodes.{asked_in, at_or_past, counts_in, tree_in}
 use Rattle.rs_exec.specs.Standing.{Stands}
 
@@ -43,6 +44,12 @@ counts-stand w number (node.Distinct' head p child) is =
     ap (λ (n : DistinctNode). record { asked = n.tally.asked; gave = n.tally.gave; calls = 0; drawn = 0 } ∷ counts_in child) is.0.keeps
     ∙ ap (λ (rest : List Counts). counts_at w number (Distinct (tree_in child)) head.tally.asked ∷ rest)
     (counts-stand w number child is.1 ∙ ap (counts w number (tree_in child)) is.0.asked)
+counts-stand w number (node.Set' head p left q right) is =
+    subst (λ n. counts_in (node.Set' head p left q right) ≡ counts w n (SetOperator (tree_in left) (tree_in right)) head.tally.asked) (sym is.0)
+    (ap (λ gave. record { asked = head.tally.asked; gave = gave; calls = 0; drawn = 0 } ∷ counts_in left ++ counts_in right) is.1.gave
+    ∙ ap₂ (λ (on_left on_right : List Counts). counts_at w 1 (SetOperator (tree_in left) (tree_in right)) head.tally.asked ∷ on_left ++ on_right)
+    (counts-stand w 1 left is.2 ∙ ap (counts w 1 (tree_in left)) is.1.left_asked)
+    (counts-stand w 2 right is.3 ∙ ap (counts w 2 (tree_in right)) is.1.right_asked))
 
 -- what is found in a list; past its end, in the next one
 abbrev or_past : {A : Type 0} → Result A ℕ → List A → Result A ℕ
@@ -60,15 +67,27 @@ at_or_past-behind own xs ys (suc place) rest e =
     let same : rest ≡ place = cc in
     at_or_past-append xs ys place ∙ ap (λ n. or_past (at_or_past xs n) ys) (sym same)
 
--- the counts of a join's nodes, where the place isn't its own
+-- the counts of an operator over two sides, where the place isn't its own
+two-counts : (self left right : Node) (own : Counts) (middle : Node) (place rest : ℕ) (found : Result Counts ℕ) → counts_in self ≡ own ∷ counts_in left ++ counts_in right
+    → Err rest ≡ at_or_past (own ∷ []) place → middle ≡ left → found ≡ at_or_past (counts_in middle) rest → or_past found (counts_in right) ≡ at_or_past (counts_in self) place
+two-counts self left right own middle place rest found all next value found_is =
+    ap (λ (f : Result Counts ℕ). or_past f (counts_in right)) (found_is ∙ ap (λ (n : Node). at_or_past (counts_in n) rest) value)
+    ∙ sym (at_or_past-behind own (counts_in left) (counts_in right) place rest next)
+    ∙ ap (λ (rows : List Counts). at_or_past rows place) (sym all)
+
 pub join-counts : (self : Node) (head : JoinNode) (left right : Box Node Global) (own : Counts) (middle : Node) (place rest : ℕ) (found : Result Counts ℕ) → self ≡ view.Join head left right
     → own ≡ record { asked = head.tally.asked; gave = head.tally.gave; calls = 0; drawn = 0 } → Err rest ≡ at_or_past (own ∷ []) place → middle ≡ left.value
     → found ≡ at_or_past (counts_in middle) rest → or_past found (counts_in right.value) ≡ at_or_past (counts_in self) place
 join-counts self head left right own middle place rest found is own_is next value found_is =
-    ap (λ (f : Result Counts ℕ). or_past f (counts_in right.value)) (found_is ∙ ap (λ (n : Node). at_or_past (counts_in n) rest) value)
-    ∙ sym (at_or_past-behind own (counts_in left.value) (counts_in right.value) place rest next)
-    ∙ ap (λ (first : Counts). at_or_past (first ∷ counts_in left.value ++ counts_in right.value) place) own_is
-    ∙ ap (λ (n : Node). at_or_past (counts_in n) place) (sym is)
+    two-counts self left.value right.value own middle place rest found
+    (ap counts_in is ∙ ap (λ (first : Counts). first ∷ counts_in left.value ++ counts_in right.value) (sym own_is)) next value found_is
+
+pub set-counts : (self : Node) (head : SetNode) (left right : Box Node Global) (own : Counts) (middle : Node) (place rest : ℕ) (found : Result Counts ℕ) → self ≡ view.Set head left right
+    → own ≡ record { asked = head.tally.asked; gave = head.tally.gave; calls = 0; drawn = 0 } → Err rest ≡ at_or_past (own ∷ []) place → middle ≡ left.value
+    → found ≡ at_or_past (counts_in middle) rest → or_past found (counts_in right.value) ≡ at_or_past (counts_in self) place
+set-counts self head left right own middle place rest found is own_is next value found_is =
+    two-counts self left.value right.value own middle place rest found
+    (ap counts_in is ∙ ap (λ (first : Counts). first ∷ counts_in left.value ++ counts_in right.value) (sym own_is)) next value found_is
 
 -- what is found is there, and nothing is past the end
 pub at_or_past-found : {A : Type 0} (xs : List A) (place : ℕ) (x : A) → Ok x ≡ at_or_past xs place → Some x ≡ slice_get xs place

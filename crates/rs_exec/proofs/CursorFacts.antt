@@ -24,48 +24,43 @@ use Rattle.rs_exec.specs.Asking.{exec_faults, next_row, world_of}
 use Rattle.rs_exec.specs.Cursors.{CursorState, StandsFor, answer_for, asks_of, is_limit, is_over, next_answer, plan_of}
 use Rattle.rs_exec.specs.declared.fault.ExecFault.{ExecFault}
 use Rattle.rs_exec.specs.declared.fault.ExecFault.TheVariants.{Memory}
-use Rattle.rs_exec.specs.Building.{IsBuilt}
 use Rattle.rs_exec.specs.Indexes.{HoldIndexes}
 use Rattle.rs_exec.specs.Nodes.{tree_in}
-use Rattle.rs_exec.specs.Starting.{IsStart}
+use Rattle.rs_exec.specs.Starting.{IsQueryStart}
 use Rattle.rs_exec.specs.declared.node.Node.{Node}
-use Rattle.rs_exec.proofs.FewFacts.{list-few}
-use Rattle.rs_exec.proofs.PartFacts.{part-plan}
-use Rattle.rs_exec.proofs.StartFacts.{start-asked, start-stands, start-tree}
-use Rattle.rs_exec.proofs.StepFacts.{few-entries, sizes-are}
+use Rattle.rs_exec.proofs.PlacesFacts.{list-few-of, plan-part}
+use Rattle.rs_exec.proofs.SetStartFacts.{query-asked, query-stands, query-tree}
 
 pub first-block : (query : Query) → HasBlock query 1
 first-block (One block limit) = refl
 first-block (Set op left right limit) = inl refl
 
 -- a cursor whose nodes were made for a plan stands
-pub cursor-start : (catalogue : Catalogue) (answer : Answering) (query : Query) (tree : PlanTree) (root : Node) → IsQuery catalogue query → IsPlan catalogue query tree
-    → IsBuilt tree → HoldIndexes answer catalogue tree → IsStart catalogue (block_in query 1) 1 tree root
+pub cursor-start : (catalogue : Catalogue) (answer : Answering) (query : Query) (tree : PlanTree) (root : Node) → IsQuery catalogue query → IsWeights (weights_of (block_in query 1)) → IsPlan catalogue query tree
+    → HoldIndexes answer catalogue tree → IsQueryStart catalogue query tree root
     → StandsFor catalogue answer (record { query = query; root = root; failed = false })
-cursor-start catalogue answer query tree root formed plan built indexes is =
+cursor-start catalogue answer query tree root formed weights plan indexes is =
     let w = world_of catalogue answer query in
-    let number = first-block query in
-    let same = start-tree catalogue (block_in query 1) 1 tree root is in
-    let unasked = start-asked catalogue (block_in query 1) 1 tree root is in
+    let same = query-tree catalogue query tree root is in
+    let unasked = query-asked catalogue query tree root is in
     record {
       sound = refl;
       query = formed;
       plan = subst (IsPlan catalogue query) (sym same) plan;
-      built = subst IsBuilt (sym same) built;
       indexes = subst (HoldIndexes answer catalogue) (sym same) indexes;
-      nodes = start-stands w 1 (few-entries catalogue query 1 formed) (sizes-are catalogue answer query 1 number) refl tree root (part-plan catalogue query tree plan built) is;
+      nodes = query-stands catalogue answer query tree root formed weights plan is;
       asks = omega arith;
     }
 
 -- a cursor that stands and isn't over can ask its plan once more
 pub cursor-can : (catalogue : Catalogue) (answer : Answering) (cursor : CursorState) → StandsFor catalogue answer cursor
-    → AllByRecursion (λ size. size ≤ 131072) (sizes_of catalogue (block_in cursor.query 1)) → IsWeights (weights_of (block_in cursor.query 1))
+    → ((n : ℕ) → AllByRecursion (λ size. size ≤ 131072) (sizes_of catalogue (block_in cursor.query n))) → IsWeights (weights_of (block_in cursor.query 1))
     → is_over (world_of catalogue answer cursor.query) (plan_of cursor) (asks_of cursor) ≡ false
     → CanAsk catalogue answer cursor.query 1 (plan_of cursor) (asks_of cursor)
 cursor-can catalogue answer cursor stands few weights more =
     let w = world_of catalogue answer cursor.query in
     let tree = plan_of cursor in
-    let part = part-plan catalogue cursor.query tree stands.plan stands.built in
+    let part = plan-part catalogue cursor.query tree stands.plan in
     let number = first-block cursor.query in
     record {
       formed = stands.query;
@@ -76,7 +71,7 @@ cursor-can catalogue answer cursor stands few weights more =
       more = ltb-false (length (list_of_plan w tree)) (asks_of cursor)
           (or_parts (is_limit (limit_of cursor.query) (asks_of cursor)) (nat_lt (length (list_of_plan w tree)) (asks_of cursor)) more).1;
       tables = few;
-      few = list-few w 1 (sizes-are catalogue answer cursor.query 1 number) few tree part;
+      few = list-few-of catalogue answer cursor.query 1 tree number few part;
     }
 
 -- and stands after it
@@ -93,7 +88,6 @@ cursor-after catalogue answer cursor root stands can after =
       sound = stands.sound;
       query = stands.query;
       plan = subst (IsPlan catalogue cursor.query) (sym after.tree_is) stands.plan;
-      built = subst IsBuilt (sym after.tree_is) stands.built;
       indexes = subst (HoldIndexes answer catalogue) (sym after.tree_is) stands.indexes;
       nodes = after.stands;
       asks = omega arith;

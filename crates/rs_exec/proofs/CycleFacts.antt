@@ -38,9 +38,10 @@ use Rattle.rs_exec.specs.declared.scan.IndexNode.{IndexNode}
 use Rattle.rs_exec.specs.declared.scan.TableNode.{TableNode}
 use Rattle.rs_exec.specs.declared.tally.Tally.{Tally}
 use Rattle.rs_exec.proofs.IndexTermFacts.{index-for}
+use Rattle.rs_exec.proofs.PlacesFacts.{TermFor}
 use Rattle.rs_exec.proofs.ScanFacts.{index-next, index-then, table-next, table-then}
 use Rattle.rs_exec.proofs.StartFacts.{size-is}
-use Rattle.rs_exec.proofs.StepFacts.{Between, between-can, between-ended, between-fault, between-fed, between-less, between-over, between-own_fault, between-stands, between-take, between-there, few-entries, row-is, sizes-are, slice_get-none, term-at}
+use Rattle.rs_exec.proofs.StepFacts.{Between, between-can, between-ended, between-fault, between-fed, between-less, between-over, between-own_fault, between-stands, between-take, between-there, few-entries, row-has, sizes-are, slice_get-none}
 
 -- how many nodes stand below one another
 abbrev pub height : PlanTree → ℕ
@@ -288,14 +289,15 @@ module _ {catalogue : Catalogue} {query : Query} {number term : ℕ} {tree : Pla
           subst (λ answer. CanTake catalogue answer query row head) (sym below.keeps.answer)
           (between-take catalogue query number term tree a old can head (asked_in child) now row turn.between need there)
 
-      -- what taking the row did speaks of each term that has the operator's number in the row's block: it is the one of the plan
+      -- the term of its block that has the operator's number
+      has : TermFor catalogue query term row.ids
+      has = row-has catalogue query number term tree a old can (asked_in child) row there
+
+      -- what taking the row did speaks of that term
       own : (result : Result RankNode ExecFault) (new : ScorerState)
           → ((t : Term) → slice_get (block_in query row.ids.block).terms (head.term - 1) ≡ Some t → Inquires Memory (feeding asked.answer catalogue query row t head) result asked new)
-          → Inquires Memory (feeding asked.answer catalogue query row (can.part.1.term) head) result asked new
-      own result new taking =
-          taking (can.part.1.term)
-          (ap (λ k. slice_get (block_in query row.ids.block).terms (k - 1)) turn.between.term_is
-          ∙ term-at catalogue query number term tree a old can row (row-is catalogue query number term tree a old can (asked_in child) row there))
+          → Inquires Memory (feeding asked.answer catalogue query row has.term head) result asked new
+      own result new taking = taking has.term (ap (λ k. slice_get (block_in query row.ids.block).terms (k - 1)) turn.between.term_is ∙ has.there)
 
       -- it was taken
       pub row-kept : (taken : RankNode) (new : ScorerState) (next : Node)
@@ -304,14 +306,14 @@ module _ {catalogue : Catalogue} {query : Query} {number term : ℕ} {tree : Pla
           → Turn catalogue query number term tree a old taken next new
       row-kept taken new next taking after =
           next-turn next after taken new
-          (between-fed catalogue query number term tree a old can head taken (asked_in child) now asked new row turn.between need (same (Ok (Some row)) asked below) (own (Ok taken) new taking))
+          (between-fed catalogue query number term tree a old can head taken (asked_in child) now asked new row has.term has.there turn.between need (same (Ok (Some row)) asked below) (own (Ok taken) new taking))
 
       pub row-failed : (After : Type 0) (fault : ExecFault) (result : Result (Option RankRow) ExecFault) (new : ScorerState) → result ≡ Err fault
           → ((t : Term) → slice_get (block_in query row.ids.block).terms (head.term - 1) ≡ Some t → Inquires Memory (feeding asked.answer catalogue query row t head) (Err fault) asked new)
           → Asked (world_of catalogue old.answer query) number (Rank term tree) a After result old new
       row-failed After fault result new is taking =
           ask-failed whole number (Rank term tree) a After result fault old new is
-          (between-own_fault catalogue query number term tree a old can head (asked_in child) fault now asked new row turn.between need (same (Ok (Some row)) asked below) (own (Err fault) new taking))
+          (between-own_fault catalogue query number term tree a old can head (asked_in child) fault now asked new row has.term has.there turn.between need (same (Ok (Some row)) asked below) (own (Err fault) new taking))
 
     -- its end is told
     pub end-kept : (got : Option RankRow) → got ≡ None → (asked : ScorerState) (ended : RankNode) (next : Node) → ended ≡ record head { core = record head.core { ended = true } }

@@ -1,5 +1,5 @@
 -- One ask of an operator that drops duplicates: it goes on from one ask of its input to the next, and gives the next row of its list.
-use Rattle.std.proofs.Common.{ℕ, suc, ◌≡◌, ◌∙◌, ◌+◌, ◌-◌, ◌<◌, ◌≤◌, ◌^◌, true, false, min, Box, Global, length, refl, sym, ap, subst, arith}
+use Rattle.std.proofs.Common.{ℕ, suc, ◌≡◌, ◌∙◌, ◌+◌, ◌-◌, ◌<◌, ◌^◌, true, false, min, Box, Global, length, refl, sym, ap, subst, arith}
 use Rattle.std.specs.Box.{with_value}
 use Rattle.std.specs.Prelude.{Bool, Option, Some, None, Result, Ok, Err, if◌then◌else◌, is_some}
 use Rattle.rs_order.specs.Schedule.{Left}

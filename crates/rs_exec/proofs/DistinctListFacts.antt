@@ -1,21 +1,18 @@
 -- The list of an operator that drops duplicates: of the rows of its input, in the order of their keys, the first one of each list of
 -- output values.
-use Rattle.std.proofs.Common.{◌≡◌, ◌∙◌, ℕ, suc, ◌<◌, ◌&&◌, Bool, true, false, not, cond, ◌++◌, List, [], ◌∷◌, map, refl, sym, ap, ap₂, subst, inl, arith, append-nil}
+use Rattle.std.proofs.Common.{◌≡◌, ◌∙◌, ℕ, suc, ◌&&◌, Bool, true, false, not, cond, ◌++◌, List, [], ◌∷◌, map, refl, sym, ap, ap₂, subst, arith, append-nil}
 use Rattle.std.specs.List.{AllByRecursion, filter}
 use Rattle.rs_order.specs.Climbing.{Climbs, In, Precedes}
 use Rattle.rs_order.specs.Sorting.{sorted}
-use Rattle.rs_order.proofs.ClimbingFacts.{AllByRecursion-from_In}
-use Rattle.rs_order.proofs.EachFacts.{each-map}
-use Rattle.rs_order.proofs.ItemFacts.{In-append, In-map-back}
+use Rattle.rs_order.proofs.ItemFacts.{In-map-back}
 use Rattle.rs_order.proofs.PartFacts.{sorted-map}
 use Rattle.rs_rank.specs.Keys.{ids_cmp, key_cmp}
 use Rattle.rs_rank.specs.Weights.{IsWeights}
 use Rattle.rs_rank.specs.declared.answer.Answer.{Answer}
 use Rattle.rs_rank.specs.declared.ids.Ids.{Ids}
 use Rattle.rs_rank.specs.declared.key.Key.{Key}
-use Rattle.rs_rank.specs.declared.row.RankRow.{RankRow}
 use Rattle.rs_rank.proofs.OrderFacts.{key_cmp-total}
-use Rattle.rs_query.specs.Answers.{answer_row, base_of, distinct_if, firsts, same_value, same_values}
+use Rattle.rs_query.specs.Answers.{answer_row, distinct_if, firsts, same_value, same_values}
 use Rattle.rs_query.specs.Combinations.{combinations}
 use Rattle.rs_query.specs.Tables.{all_entries}
 use Rattle.rs_query.specs.WellFormed.{IsQuery}
@@ -32,12 +29,12 @@ use Rattle.rs_outputs.proofs.ListFacts.{distinct-climbs, sorted-of}
 use Rattle.rs_outputs.proofs.SameFacts.{same_values-itself, same_values-same}
 use Rattle.rs_setop.specs.Sides.{AreBases, IsRowOf, Sides}
 use Rattle.rs_setop.proofs.BaseFacts.{answers-sorted, sides-sorted}
-use Rattle.rs_plan.specs.Lists.{World, block_in, ids_of, key_under, list_of, numbered_block, row_under, sizes_in, sources, weights_in}
+use Rattle.rs_plan.specs.Lists.{World, block_in, ids_of, key_under, numbered_block, row_under, sizes_in, sources, weights_in}
 use Rattle.rs_plan.specs.Plans.{IsPart}
-use Rattle.rs_plan.specs.Trees.{Distinct, PlanTree, entries, terms}
+use Rattle.rs_plan.specs.Trees.{Distinct, PlanTree, terms}
 use Rattle.rs_exec.specs.Outputs.{output_row, outputs_in}
 use Rattle.rs_exec.proofs.AlikeFacts.{IsAlike, same-sums}
-use Rattle.rs_exec.proofs.ListFacts.{sources-rise, unsorted}
+use Rattle.rs_exec.proofs.ListFacts.{sources-rise}
 use Rattle.rs_exec.proofs.SourceFacts.{ids-rows, ids_in, sources-combinations}
 use Rattle.rs_exec.proofs.SumFacts.{row-sum}
 

@@ -1,15 +1,14 @@
 -- One ask of an operator that drops duplicates, in steps: where it stands between two asks of its input, and what each step does.
-use Rattle.std.proofs.Common.{◌≡◌, ◌∙◌, ℕ, zero, suc, ◌+◌, ◌-◌, ◌<◌, ◌≤◌, Bool, true, false, List, [], ◌∷◌, ◌++◌, length, map, take, refl, sym, ap, subst, inl, inr, arith, append_assoc}
+use Rattle.std.proofs.Common.{◌≡◌, ◌∙◌, ℕ, zero, suc, ◌-◌, ◌<◌, ◌≤◌, Bool, true, false, List, [], ◌∷◌, ◌++◌, length, map, take, refl, sym, ap, subst, inl, inr, arith, append_assoc}
 use Rattle.std.proofs.lemmas.Bool.{cases_lt}
 use Rattle.std.proofs.lemmas.List.{length-map, take_all}
 use Rattle.std.proofs.lemmas.Option.{slice_get-map, slice_get_past, slice_get_within}
-use Rattle.std.specs.List.{filter, flat_map}
-use Rattle.std.specs.Ordering.{is_lt}
-use Rattle.std.specs.Prelude.{None, Some, Option, Ok, Err, min, option_map, slice_get}
+use Rattle.std.specs.List.{flat_map}
+use Rattle.std.specs.Prelude.{None, Some, Option, Ok, Err, option_map, slice_get}
 use Rattle.std.specs.declared.cmp.Ordering.{Ordering}
 use Rattle.rs_order.specs.Asks.{asks_for, bar_after, comes_before_bar}
 use Rattle.rs_order.specs.Climbing.{Climbs, Precedes}
-use Rattle.rs_order.specs.Schedule.{Left, SideAsk, is_of_side}
+use Rattle.rs_order.specs.Schedule.{Left, SideAsk}
 use Rattle.rs_order.proofs.EachFacts.{each-map, each-slice_get}
 use Rattle.rs_order.proofs.PartFacts.{bar_after-slice_get}
 use Rattle.rs_rank.specs.Keys.{key_cmp}
@@ -32,7 +31,7 @@ use Rattle.rs_query.specs.WellFormed.{IsQuery, entries_mask}
 use Rattle.rs_query.specs.declared.query.Query.{Query}
 use Rattle.rs_query.proofs.EntryFacts.{items-inside}
 use Rattle.rs_query.proofs.QuestionFacts.{AllAsked, AllAsked-more, AllAsked-none, Ended-behind, Gave, Gave-ok, Inquires-fault, Stopped-within}
-use Rattle.rs_plan.specs.Asks.{asks_alone, asks_from, bar_of, child_asks, keys_of}
+use Rattle.rs_plan.specs.Asks.{asks_from, bar_of, child_asks, keys_of}
 use Rattle.rs_plan.specs.Calls.{part_of, questions, questions_of_ask}
 use Rattle.rs_plan.specs.Counts.{asked_of}
 use Rattle.rs_plan.specs.Lists.{World, block_in, key_under, list_of, numbered_block, weights_in}
@@ -45,13 +44,13 @@ use Rattle.rs_exec.specs.declared.fault.ExecFault.{ExecFault}
 use Rattle.rs_exec.specs.declared.fault.ExecFault.TheVariants.{Memory}
 use Rattle.rs_exec.proofs.AloneFacts.{between, between-more, between-none, between-part, between-split}
 use Rattle.rs_exec.proofs.DistinctListFacts.{distinct-outputs, output_key}
-use Rattle.rs_exec.proofs.FewFacts.{list-few}
+use Rattle.rs_exec.proofs.PlacesFacts.{list-few-of, part-of}
 use Rattle.rs_exec.proofs.ListFacts.{IsRow, list-climbs, list-rows}
 use Rattle.rs_exec.proofs.RankFacts.{bar_after-map, left-asks, length-filter-map}
 use Rattle.rs_exec.proofs.StepFacts.{block-formed, few-entries, sizes-are, slice_get-none}
 
 -- what a function makes of a list that rises
-climbs-map : {X Y K : Type 0} (cmp : K → K → Ordering) (key : Y → K) (f : X → Y) (xs : List X) → Climbs cmp (λ x. key (f x)) xs → Climbs cmp key (map f xs)
+pub climbs-map : {X Y K : Type 0} (cmp : K → K → Ordering) (key : Y → K) (f : X → Y) (xs : List X) → Climbs cmp (λ x. key (f x)) xs → Climbs cmp key (map f xs)
 climbs-map cmp key f [] climbs = tt
 climbs-map cmp key f (x ∷ xs) climbs = (each-map (Precedes cmp key (f x)) f xs climbs.0, climbs-map cmp key f xs climbs.1)
 
@@ -292,12 +291,12 @@ module _ (catalogue : Catalogue) (query : Query) (number : ℕ) (child : PlanTre
         (record {
           formed = can.formed;
           number_is = can.number_is;
-          part = can.part.0;
+          part = part-of catalogue query number child can.part.0;
           indexes = can.indexes;
           weights = can.weights;
           more = inside;
           tables = can.tables;
-          few = list-few world number (sizes-are catalogue old.answer query number can.number_is) can.tables child can.part.0;
+          few = list-few-of catalogue old.answer query number child can.number_is can.tables (part-of catalogue query number child can.part.0);
         })
 
     -- the questions of this ask: those up to here, those of the next ask of the input, and those behind

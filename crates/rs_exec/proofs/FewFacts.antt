@@ -16,10 +16,10 @@ use Rattle.rs_plan.specs.Plans.{IsPart}
 use Rattle.rs_plan.specs.Trees.{Distinct, HashJoin, NestedJoin, Rank, RankScan, SeqScan, SetOperator, PlanTree, entries}
 use Rattle.rs_exec.proofs.ListFacts.{list-length}
 
-filter-less : {A : Type 0} (p : A → Bool) (xs : List A) → length (filter p xs) ≤ length xs
+pub filter-less : {A : Type 0} (p : A → Bool) (xs : List A) → length (filter p xs) ≤ length xs
 filter-less p xs = subst (λ n. n ≤ length xs) (sym (length-filter p xs)) (count_by-le-length p xs)
 
-length-firsts : (rows : List Answer) → length (firsts rows) ≤ length rows
+pub length-firsts : (rows : List Answer) → length (firsts rows) ≤ length rows
 length-firsts [] = omega arith
 length-firsts (row ∷ rows) =
     let rest = length-firsts rows in
@@ -76,7 +76,7 @@ module _ (w : World) (number : ℕ) (sizes : sizes_in w number ≡ sizes_of w.ca
       let all = combinations-few mask in
       omega arith
 
-  base-few : length (base_of w.answer w.catalogue number (numbered_block w number) (sizes_in w number)) ≤ 2 ^ 102
+  pub base-few : length (base_of w.answer w.catalogue number (numbered_block w number) (sizes_in w number)) ≤ 2 ^ 102
   base-few = go (numbered_block w number).distinct where
     go : (distinct : Bool) → length (distinct_if distinct (map (answer_row w.answer w.catalogue (numbered_block w number) number)
         (combinations w.catalogue (numbered_block w number) (sizes_in w number) (all_entries (numbered_block w number))))) ≤ 2 ^ 102
@@ -90,7 +90,7 @@ module _ (w : World) (number : ℕ) (sizes : sizes_in w number ≡ sizes_of w.ca
         let all = combinations-few (all_entries (numbered_block w number)) in
         omega arith
 
-  sources-few : (tree : PlanTree) → IsPart w.catalogue (numbered_block w number) tree → length (sources w number tree) ≤ 2 ^ 102
+  pub sources-few : (tree : PlanTree) → IsPart w.catalogue (numbered_block w number) tree → length (sources w number tree) ≤ 2 ^ 102
   sources-few (SeqScan entry) part = ids-few (mask_of entry)
   sources-few (RankScan entry term index) part = ids-few (mask_of entry)
   sources-few (Rank term child) part = sources-few child part.0

@@ -46,6 +46,7 @@ node-number w number (node.RankScan head) is = ap (λ (h : IndexNode). h.block) 
 node-number w number (node.Rank' head p child) is = node-number w number child is.1
 node-number w number (node.Join' head p left q right) is = ap (λ (h : JoinNode). h.block) is.0.keeps
 node-number w number (node.Distinct' head p child) is = node-number w number child is.1
+node-number w number (node.Set' head p left q right) is = sym is.0
 
 -- what an ask gives is the same whichever way the join is done
 next_row-with : (w : World) (number : ℕ) (core : JoinCore) (l r : PlanTree) (a : ℕ) → next_row w number (tree_with core l r) a ≡ next_row w number (NestedJoin l r) a

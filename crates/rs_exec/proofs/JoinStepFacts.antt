@@ -43,7 +43,7 @@ use Rattle.rs_exec.specs.Indexes.{HoldIndexes}
 use Rattle.rs_exec.specs.Joining.{join_for}
 use Rattle.rs_exec.specs.declared.fault.ExecFault.{ExecFault}
 use Rattle.rs_exec.specs.declared.fault.ExecFault.TheVariants.{Memory}
-use Rattle.rs_exec.proofs.FewFacts.{list-few}
+use Rattle.rs_exec.proofs.PlacesFacts.{list-few-of, part-of}
 use Rattle.rs_exec.proofs.ListFacts.{IsRow, list-rows}
 use Rattle.rs_exec.proofs.JoinListFacts.{CanJoinParts, join-list, join-sides}
 use Rattle.rs_exec.proofs.RankFacts.{bar_after-map, drop-front}
@@ -182,11 +182,11 @@ module _ (catalogue : Catalogue) (query : Query) (number : ℕ) (left right : Pl
       (record {
         formed = can.formed;
         number_is = can.number_is;
-        part = part;
+        part = part-of catalogue query number side part;
         indexes = indexes;
         weights = can.weights;
         more = most;
-        few = list-few world number (sizes-are catalogue old.answer query number can.number_is) can.tables side part;
+        few = list-few-of catalogue old.answer query number side can.number_is can.tables (part-of catalogue query number side part);
         tables = can.tables;
       })
 

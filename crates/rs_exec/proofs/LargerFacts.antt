@@ -228,7 +228,7 @@ module _ (catalogue more : Catalogue) where
     }
 
     -- a term is worth the same for each row
-    argument-same : (rows : List ℕ) (a : BoundArg) → argument_value larger block rows a ≡ argument_value catalogue block rows a
+    pub argument-same : (rows : List ℕ) (a : BoundArg) → argument_value larger block rows a ≡ argument_value catalogue block rows a
     argument-same rows (arg.Column entry column) = λ i. value-same i rows (entry, column)
     argument-same rows (arg.Int n) = refl
     argument-same rows (arg.Text t) = refl

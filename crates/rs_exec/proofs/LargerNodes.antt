@@ -3,7 +3,7 @@ use Rattle.std.proofs.Common.{◌≡◌, ◌∙◌, ℕ, zero, suc, ◌-◌, ◌
 use Rattle.std.specs.Prelude.{if◌then◌else◌, min, nat_le, slice_get, slice_index, unwrap_or}
 use Rattle.std.specs.List.{filter}
 use Rattle.rs_order.specs.Asks.{bar_after}
-use Rattle.rs_order.specs.Schedule.{JoinSide, Left, Right, is_of_side}
+use Rattle.rs_order.specs.Schedule.{JoinSide, Left, Right, SideAsk, is_of_side}
 use Rattle.rs_order.specs.Sorting.{sorted}
 use Rattle.rs_rank.specs.Keys.{key_cmp}
 use Rattle.rs_rank.specs.Masks.{mask_of}
@@ -15,21 +15,21 @@ use Rattle.rs_rank.specs.declared.scored_row.ScoredRow.{ScoredRow}
 use Rattle.rs_expr.specs.Scoring.{Answering}
 use Rattle.rs_mu.specs.Stands.{state_after}
 use Rattle.rs_catalog.specs.Catalogue.{Catalogue}
+use Rattle.rs_query.specs.Answers.{rows_of, set_base}
 use Rattle.rs_query.specs.Views.{all_rows}
 use Rattle.rs_query.specs.WellFormed.{IsBlock, IsQuery}
 use Rattle.rs_query.specs.declared.block.Block.{Block}
 use Rattle.rs_query.specs.declared.query.Query.{Query}
 use Rattle.rs_query.specs.declared.query.Query.TheVariants.{One, Set}
-use Rattle.rs_plan.specs.Asks.{asks_alone}
+use Rattle.rs_plan.specs.Asks.{asks_alone, child_asks, query_schedule}
 use Rattle.rs_plan.specs.Counts.{asked_of, drawn_to, gave_of, place_in_index, place_in_table, size_at}
 use Rattle.rs_plan.specs.Lists.{World, block_in, ids_of, key_under, list_of, row_under, sizes_in, sources, weights_in, worths}
 use Rattle.rs_plan.specs.Plans.{IsPart, IsRankScan}
 use Rattle.rs_plan.specs.Trees.{Distinct, HashJoin, NestedJoin, Rank, RankScan, SeqScan, SetOperator, PlanTree, entries, terms}
 use Rattle.rs_exec.specs.Asking.{world_of}
-use Rattle.rs_exec.specs.Building.{IsBuilt}
 use Rattle.rs_exec.specs.Distincts.{distinct_node_after}
-use Rattle.rs_exec.specs.Outputs.{output_row}
-use Rattle.rs_outputs.specs.Rows.{lists_of}
+use Rattle.rs_exec.specs.Outputs.{output_row, outputs_in}
+use Rattle.rs_outputs.specs.Rows.{OutputRow, lists_of}
 use Rattle.rs_rank.specs.declared.answer.Answer.{Answer}
 use Rattle.rs_exec.specs.Cursors.{CursorState, StandsFor, asks_of, plan_of}
 use Rattle.rs_rank.specs.Merging.{merge_key}
@@ -38,14 +38,19 @@ use Rattle.rs_ripple.specs.After.{joined_after}
 use Rattle.rs_ripple.specs.Joined.{Joined}
 use Rattle.rs_exec.specs.Cores.{core_like, tree_with, with_values}
 use Rattle.rs_exec.specs.Joining.{side_for}
-use Rattle.rs_exec.specs.Nodes.{tree_in}
+use Rattle.rs_exec.specs.Indexes.{HoldIndexes}
+use Rattle.rs_exec.specs.Nodes.{asked_in, tree_in}
+use Rattle.rs_exec.specs.Parts.{IsPartOf}
+use Rattle.rs_exec.specs.SetCores.{CoreStands}
+use Rattle.rs_exec.specs.SetNodes.{SetStands, operator_of, sides_for}
+use Rattle.rs_exec.specs.declared.set.SetNode.{SetNode}
 use Rattle.rs_exec.specs.Standing.{Stands, index_node_after, join_node_after, joined_from, rank_node_after, table_node_after}
 use Rattle.rs_exec.specs.declared.join_core.JoinCore.{JoinCore}
 use Rattle.rs_exec.specs.declared.join_core.JoinCore.TheVariants.{Hash, Nested}
 use Rattle.rs_exec.specs.declared.node.Node.{Node}
 use Rattle.rs_exec.specs.declared.node.Node.TheVariants as node
 use Rattle.rs_exec.proofs.LargerFacts.{base-same, combinations-same, indexes-larger, joined, joins-same, left_values-same, outputs-same, plan-larger, query-larger, ranking-same, right_values-same, size-same, worths-same}
-use Rattle.rs_exec.proofs.PartFacts.{part-plan}
+use Rattle.rs_exec.proofs.PlacesFacts.{part-of, plan-part}
 use Rattle.rs_exec.proofs.StepFacts.{block-formed}
 
 -- a query sees the same rows of its tables
@@ -56,14 +61,49 @@ view-same catalogue more (Set op left right limit) is = λ i. record {
   second = map (size-same catalogue more right is.0.right_block i) (1 ∷ 2 ∷ 3 ∷ 4 ∷ 5 ∷ 6 ∷ []);
 }
 
--- the sides of a join are parts of a plan, and can be executed, whichever way it is done
+-- the sides of a join are parts of a plan, whichever way it is done
 part-with : (catalogue : Catalogue) (block : Block) (core : JoinCore) (l r : PlanTree) → IsPart catalogue block (tree_with core l r) → IsPart catalogue block l × IsPart catalogue block r
 part-with catalogue block (Nested joined) l r part = (part.0, part.1)
 part-with catalogue block (Hash hashed) l r part = (part.0, part.1)
 
-built-with : (core : JoinCore) (l r : PlanTree) → IsBuilt (tree_with core l r) → IsBuilt l × IsBuilt r
-built-with (Nested joined) l r built = built
-built-with (Hash hashed) l r built = built
+-- and has the same rows
+rows-same : (catalogue more : Catalogue) (answer : Answering) (query : Query) → IsQuery catalogue query
+    → rows_of answer (joined catalogue more) query (all_rows (joined catalogue more) query) ≡ rows_of answer catalogue query (all_rows catalogue query)
+rows-same catalogue more answer (One block limit) is = λ i. base-same catalogue more block is.0 answer 1 i (view-same catalogue more (One block limit) is i).first
+rows-same catalogue more answer (Set op left right limit) is = λ i.
+    set_base op (base-same catalogue more left is.0.left_block answer 1 i (view-same catalogue more (Set op left right limit) is i).first)
+    (base-same catalogue more right is.0.right_block answer 2 i (view-same catalogue more (Set op left right limit) is i).second)
+
+-- a join's part of a plan is one of a block
+part-joined : (catalogue : Catalogue) (query : Query) (number : ℕ) (core : JoinCore) (left right : PlanTree) → IsPartOf catalogue query number (tree_with core left right)
+    → IsPart catalogue (block_in query number) (tree_with core left right)
+part-joined catalogue query number (Nested other) left right part = part
+part-joined catalogue query number (Hash other) left right part = part
+
+-- the sides of a set operator are plans of both blocks
+side-parts : (catalogue : Catalogue) (query : Query) (number : ℕ) (left right : PlanTree) → IsPartOf catalogue query number (SetOperator left right)
+    → IsPart catalogue (block_in query 1) left × IsPart catalogue (block_in query 2) right
+side-parts catalogue (One block limit) number left right part = absurd part
+side-parts catalogue (Set op l r limit) number left right part = (part.1.part, part.2.part)
+
+-- the indexes of a part of a plan go on to hold the answers
+indexes_of-larger : (catalogue more : Catalogue) (query : Query) (number : ℕ) → IsQuery catalogue query → (answer : Answering) (tree : PlanTree) → IsPartOf catalogue query number tree
+    → HoldIndexes answer catalogue tree → HoldIndexes answer (joined catalogue more) tree
+indexes_of-larger catalogue more query number formed answer (SeqScan entry) part holds = holds
+indexes_of-larger catalogue more query number formed answer (RankScan entry term index) part holds =
+    indexes-larger catalogue more (block_in query number) (block-formed catalogue query number formed) answer (RankScan entry term index) part holds
+indexes_of-larger catalogue more query number formed answer (Rank term child) part holds = indexes_of-larger catalogue more query number formed answer child part.0 holds
+indexes_of-larger catalogue more query number formed answer (HashJoin left right) part holds =
+    indexes-larger catalogue more (block_in query number) (block-formed catalogue query number formed) answer (HashJoin left right) part holds
+indexes_of-larger catalogue more query number formed answer (NestedJoin left right) part holds =
+    indexes-larger catalogue more (block_in query number) (block-formed catalogue query number formed) answer (NestedJoin left right) part holds
+indexes_of-larger catalogue more query number formed answer (Distinct child) part holds =
+    indexes-larger catalogue more (block_in query number) (block-formed catalogue query number formed) answer (Distinct child) part holds
+indexes_of-larger catalogue more query number formed answer (SetOperator left right) part holds =
+    let parts = side-parts catalogue query number left right part in (
+      indexes-larger catalogue more (block_in query 1) (block-formed catalogue query 1 formed) answer left parts.0 holds.0,
+      indexes-larger catalogue more (block_in query 2) (block-formed catalogue query 2 formed) answer right parts.1 holds.1,
+    )
 
 module _ (catalogue more : Catalogue) (answer : Answering) (query : Query) (formed : IsQuery catalogue query) where
   abbrev small : World
@@ -90,44 +130,54 @@ module _ (catalogue more : Catalogue) (answer : Answering) (query : Query) (form
       (combinations-same catalogue more (block_in query number) (block-is number) i (sizes-same number i) mask)
 
   -- so the lists of its plans are the same
-  sources-same : (number : ℕ) (tree : PlanTree) → IsBuilt tree → sources large number tree ≡ sources small number tree
-  sources-same number (SeqScan entry) built = ids-same number (mask_of entry)
-  sources-same number (RankScan entry term index) built = ids-same number (mask_of entry)
-  sources-same number (Rank term child) built = sources-same number child built
-  sources-same number (HashJoin left right) built = ids-same number (bit_or (entries left) (entries right))
-  sources-same number (NestedJoin left right) built = ids-same number (bit_or (entries left) (entries right))
-  sources-same number (Distinct child) built = λ i.
+  sources-same : (number : ℕ) (tree : PlanTree) → sources large number tree ≡ sources small number tree
+  sources-same number (SeqScan entry) = ids-same number (mask_of entry)
+  sources-same number (RankScan entry term index) = ids-same number (mask_of entry)
+  sources-same number (Rank term child) = sources-same number child
+  sources-same number (HashJoin left right) = ids-same number (bit_or (entries left) (entries right))
+  sources-same number (NestedJoin left right) = ids-same number (bit_or (entries left) (entries right))
+  sources-same number (Distinct child) = λ i.
       map (λ (row : Answer). row.ids) (base-same catalogue more (block_in query number) (block-is number) answer number i (sizes-same number i))
-  sources-same number (SetOperator left right) built = absurd built
+  sources-same number (SetOperator left right) = λ i. map (λ (row : Answer). row.ids) (rows-same catalogue more answer query formed i)
 
   row-same : (mask : ℕ) → row_under large mask ≡ row_under small mask
   row-same mask = λ i ids. record { ids = ids; sum = evaluated (weights_in small) mask (worth-is ids i) }
 
-  list-same : (number : ℕ) (tree : PlanTree) → IsBuilt tree → list_of large number tree ≡ list_of small number tree
-  list-same number tree built = λ i. sorted key_cmp (key_under small (terms tree)) (map (row-same (terms tree) i) (sources-same number tree built i))
+  pub list-same : (number : ℕ) (tree : PlanTree) → list_of large number tree ≡ list_of small number tree
+  list-same number tree = λ i. sorted key_cmp (key_under small (terms tree)) (map (row-same (terms tree) i) (sources-same number tree i))
 
-  gave-same : (number : ℕ) (tree : PlanTree) → IsBuilt tree → (a : ℕ) → gave_of large number tree a ≡ gave_of small number tree a
-  gave-same number tree built a = λ i. min a (length (list-same number tree built i))
+  gave-same : (number : ℕ) (tree : PlanTree) → (a : ℕ) → gave_of large number tree a ≡ gave_of small number tree a
+  gave-same number tree a = λ i. min a (length (list-same number tree i))
 
-  asked-same : (number term : ℕ) (child : PlanTree) → IsBuilt child → (a : ℕ) → asked_of large number (Rank term child) a Left ≡ asked_of small number (Rank term child) a Left
-  asked-same number term child built zero = refl
-  asked-same number term child built (suc n) = λ i.
-      length (filter (is_of_side Left) (asks_alone (map (key_under small (terms child)) (list-same number child built i))
-      (bar_after (λ (key : Key). key) (map (key_under small (terms (Rank term child))) (list-same number (Rank term child) built i)) n)))
+  asked-same : (number term : ℕ) (child : PlanTree) → (a : ℕ) → asked_of large number (Rank term child) a Left ≡ asked_of small number (Rank term child) a Left
+  asked-same number term child zero = refl
+  asked-same number term child (suc n) = λ i.
+      length (filter (is_of_side Left) (asks_alone (map (key_under small (terms child)) (list-same number child i))
+      (bar_after (λ (key : Key). key) (map (key_under small (terms (Rank term child))) (list-same number (Rank term child) i)) n)))
 
-  join_asked-same : (number : ℕ) (left right : PlanTree) → IsBuilt left → IsBuilt right → (a : ℕ) (side : JoinSide)
+  join_asked-same : (number : ℕ) (left right : PlanTree) → (a : ℕ) (side : JoinSide)
       → asked_of large number (NestedJoin left right) a side ≡ asked_of small number (NestedJoin left right) a side
-  join_asked-same number left right on_left on_right zero side = refl
-  join_asked-same number left right on_left on_right (suc n) side = λ i.
+  join_asked-same number left right zero side = refl
+  join_asked-same number left right (suc n) side = λ i.
       length (filter (is_of_side side) (join_schedule key_cmp (merge_key (weights_in small) (terms left) (terms right))
-      (map (key_under small (terms left)) (list-same number left on_left i)) (map (key_under small (terms right)) (list-same number right on_right i))
-      (bar_after (λ (key : Key). key) (map (key_under small (terms (NestedJoin left right))) (list-same number (NestedJoin left right) (on_left, on_right) i)) n)))
+      (map (key_under small (terms left)) (list-same number left i)) (map (key_under small (terms right)) (list-same number right i))
+      (bar_after (λ (key : Key). key) (map (key_under small (terms (NestedJoin left right))) (list-same number (NestedJoin left right) i)) n)))
 
-  distinct_asked-same : (number : ℕ) (child : PlanTree) → IsBuilt child → (a : ℕ) → asked_of large number (Distinct child) a Left ≡ asked_of small number (Distinct child) a Left
-  distinct_asked-same number child built zero = refl
-  distinct_asked-same number child built (suc n) = λ i.
-      length (filter (is_of_side Left) (asks_alone (map (key_under small (terms child)) (list-same number child built i))
-      (bar_after (λ (key : Key). key) (map (key_under small (terms (Distinct child))) (list-same number (Distinct child) built i)) n)))
+  distinct_asked-same : (number : ℕ) (child : PlanTree) → (a : ℕ) → asked_of large number (Distinct child) a Left ≡ asked_of small number (Distinct child) a Left
+  distinct_asked-same number child zero = refl
+  distinct_asked-same number child (suc n) = λ i.
+      length (filter (is_of_side Left) (asks_alone (map (key_under small (terms child)) (list-same number child i))
+      (bar_after (λ (key : Key). key) (map (key_under small (terms (Distinct child))) (list-same number (Distinct child) i)) n)))
+
+  set_asks-same : (left right : PlanTree) → (a : ℕ) → child_asks large 1 (SetOperator left right) a ≡ child_asks small 1 (SetOperator left right) a
+  set_asks-same left right zero = refl
+  set_asks-same left right (suc n) = λ i.
+      query_schedule query (map (key_under small (terms left)) (list-same 1 left i)) (map (key_under small (terms right)) (list-same 2 right i))
+      (bar_after (λ (key : Key). key) (map (key_under small (terms left)) (list-same 1 (SetOperator left right) i)) n)
+
+  set_asked-same : (left right : PlanTree) → (a : ℕ) (side : JoinSide)
+      → asked_of large 1 (SetOperator left right) a side ≡ asked_of small 1 (SetOperator left right) a side
+  set_asked-same left right a side = λ i. length (filter (is_of_side side) (set_asks-same left right a i))
 
   output-same : output_row large ≡ output_row small
   output-same = λ i row. record { row = row; values = outputs-same catalogue more (block_in query row.ids.block) (block-is row.ids.block) i row.ids.rows }
@@ -139,11 +189,11 @@ module _ (catalogue more : Catalogue) (answer : Answering) (query : Query) (form
       entry = entry;
       block = number;
       rows = size_at-same number entry i;
-      drawn = drawn_to (place_in_table entry) (size_at-same number entry i) (list-same number (SeqScan entry) tt i) a;
+      drawn = drawn_to (place_in_table entry) (size_at-same number entry i) (list-same number (SeqScan entry) i) a;
     };
     block = number;
     entry = entry;
-    tally = record { asked = a; gave = gave-same number (SeqScan entry) tt a i };
+    tally = record { asked = a; gave = gave-same number (SeqScan entry) a i };
   }
 
   index-same : (number entry term index : ℕ) → IsRankScan catalogue (block_in query number) entry term index → (a : ℕ)
@@ -158,41 +208,41 @@ module _ (catalogue more : Catalogue) (answer : Answering) (query : Query) (form
           weight = slice_index (weights_in small).weight (term - 1);
           rows = size_at-same number entry i;
           drawn = drawn_to (place_in_index (filter (λ (e : ScoredRow). nat_le e.row (size_at-same number entry i)) (ranking i)) entry) (size_at-same number entry i)
-              (list-same number (RankScan entry term index) tt i) a;
+              (list-same number (RankScan entry term index) i) a;
         };
         block = number;
         entry = entry;
         term = term;
-        tally = record { asked = a; gave = gave-same number (RankScan entry term index) tt a i };
+        tally = record { asked = a; gave = gave-same number (RankScan entry term index) a i };
       }
 
-  rank-same : (number term : ℕ) (child : PlanTree) → IsBuilt child → (a : ℕ) → rank_node_after large number term child a ≡ rank_node_after small number term child a
-  rank-same number term child built a = λ i. record {
+  rank-same : (number term : ℕ) (child : PlanTree) → (a : ℕ) → rank_node_after large number term child a ≡ rank_node_after small number term child a
+  rank-same number term child a = λ i. record {
     core = state_after (record {
       weights = weights_in small;
       terms = terms child;
       term = term;
       worth = λ (row : RankRow). slice_index (worth-is row.ids i) (term - 1);
-    }) (list-same number child built i) (asked-same number term child built a i) (gave-same number (Rank term child) built a i);
+    }) (list-same number child i) (asked-same number term child a i) (gave-same number (Rank term child) a i);
     term = term;
     args = tt;
-    tally = record { asked = a; gave = gave-same number (Rank term child) built a i };
-    calls = min (asked-same number term child built a i) (length (list-same number child built i));
+    tally = record { asked = a; gave = gave-same number (Rank term child) a i };
+    calls = min (asked-same number term child a i) (length (list-same number child i));
   }
 
-  joined-same : (number : ℕ) (left right : PlanTree) → IsBuilt left → IsBuilt right → (a : ℕ)
+  joined-same : (number : ℕ) (left right : PlanTree) → (a : ℕ)
       → joined_from large number left right (asked_of large number (NestedJoin left right) a Left) (asked_of large number (NestedJoin left right) a Right) (gave_of large number (NestedJoin left right) a)
       ≡ joined_from small number left right (asked_of small number (NestedJoin left right) a Left) (asked_of small number (NestedJoin left right) a Right) (gave_of small number (NestedJoin left right) a)
-  joined-same number left right on_left on_right a = λ i.
+  joined-same number left right a = λ i.
       joined_after (record {
         weights = weights_in small;
         block = number;
         left = side_for left;
         right = side_for right;
         matches = joins-same catalogue more (block_in query number) (block-is number) i (entries left) (entries right);
-      }) (list-same number left on_left i) (list-same number right on_right i)
-      (join_asked-same number left right on_left on_right a Left i) (join_asked-same number left right on_left on_right a Right i)
-      (gave-same number (NestedJoin left right) (on_left, on_right) a i)
+      }) (list-same number left i) (list-same number right i)
+      (join_asked-same number left right a Left i) (join_asked-same number left right a Right i)
+      (gave-same number (NestedJoin left right) a i)
 
   core-same : (number : ℕ) (core : JoinCore) (left right : ℕ) (large_rows small_rows : Joined) → large_rows ≡ small_rows
       → core_like core (joined catalogue more) (block_in query number) left right large_rows ≡ core_like core catalogue (block_in query number) left right small_rows
@@ -203,67 +253,92 @@ module _ (catalogue more : Catalogue) (answer : Answering) (query : Query) (form
     rights = with_values (right_values-same catalogue more (block_in query number) (block-is number) i left right) (same i).rights;
   })
 
-  join-same : (number : ℕ) (core : JoinCore) (left right : PlanTree) → IsBuilt left → IsBuilt right → (a : ℕ)
+  join-same : (number : ℕ) (core : JoinCore) (left right : PlanTree) → (a : ℕ)
       → join_node_after large number core left right a ≡ join_node_after small number core left right a
-  join-same number core left right on_left on_right a =
+  join-same number core left right a =
       let kept = core-same number core (entries left) (entries right)
       (joined_from large number left right (asked_of large number (NestedJoin left right) a Left) (asked_of large number (NestedJoin left right) a Right) (gave_of large number (NestedJoin left right) a))
       (joined_from small number left right (asked_of small number (NestedJoin left right) a Left) (asked_of small number (NestedJoin left right) a Right) (gave_of small number (NestedJoin left right) a))
-      (joined-same number left right on_left on_right a) in
+      (joined-same number left right a) in
       λ i. record {
         core = kept i;
         block = number;
         left = entries left;
         right = entries right;
-        tally = record { asked = a; gave = gave-same number (NestedJoin left right) (on_left, on_right) a i };
+        tally = record { asked = a; gave = gave-same number (NestedJoin left right) a i };
       }
 
-  distinct-same : (number : ℕ) (child : PlanTree) → IsBuilt child → (a : ℕ) → distinct_node_after large number child a ≡ distinct_node_after small number child a
-  distinct-same number child built a = λ i. record {
-    core = record { lists = lists_of (take (distinct_asked-same number child built a i) (map (output-same i) (list-same number child built i))); spent = false };
-    tally = record { asked = a; gave = gave-same number (Distinct child) built a i };
+  distinct-same : (number : ℕ) (child : PlanTree) → (a : ℕ) → distinct_node_after large number child a ≡ distinct_node_after small number child a
+  distinct-same number child a = λ i. record {
+    core = record { lists = lists_of (take (distinct_asked-same number child a i) (map (output-same i) (list-same number child i))); spent = false };
+    tally = record { asked = a; gave = gave-same number (Distinct child) a i };
   }
 
-  stands-larger : (number : ℕ) (n : Node) → IsPart catalogue (block_in query number) (tree_in n) → IsBuilt (tree_in n) → Stands small number n → Stands large number n
-  stands-larger number (node.SeqScan head) part built is = is ∙ sym (table-same number head.entry head.tally.asked)
-  stands-larger number (node.RankScan head) part built is = is ∙ sym (index-same number head.entry head.term head.scan.index part head.tally.asked)
-  stands-larger number (node.Rank' head p child) part built is = (
+  set-stands : (head : SetNode) (left right : PlanTree) (left_asks right_asks : ℕ) → SetStands small head left right left_asks right_asks
+      → SetStands large head left right left_asks right_asks
+  set-stands head left right left_asks right_asks is =
+      let tree = SetOperator left right in
+      let a = head.tally.asked in
+      let gave = gave-same 1 tree a in
+      let outputs : (number : ℕ) (side : PlanTree) → outputs_in large number side ≡ outputs_in small number side = λ number side i. map (output-same i) (list-same number side i) in
+      record {
+        core = subst (λ (rows : List OutputRow). CoreStands (sides_for large left) (operator_of query) rows (outputs_in large 2 right) (child_asks large 1 tree a) (gave_of large 1 tree a) head.core)
+            (sym (outputs 1 left))
+            (subst (λ (rows : List OutputRow). CoreStands (sides_for large left) (operator_of query) (outputs_in small 1 left) rows (child_asks large 1 tree a) (gave_of large 1 tree a) head.core)
+            (sym (outputs 2 right))
+            (subst (λ (asks : List SideAsk). CoreStands (sides_for large left) (operator_of query) (outputs_in small 1 left) (outputs_in small 2 right) asks (gave_of large 1 tree a) head.core)
+            (sym (set_asks-same left right a))
+            (subst (λ n. CoreStands (sides_for large left) (operator_of query) (outputs_in small 1 left) (outputs_in small 2 right) (child_asks small 1 tree a) n head.core) (sym gave) is.core)));
+        gave = is.gave ∙ sym gave;
+        left_asked = is.left_asked ∙ sym (set_asked-same left right a Left);
+        right_asked = is.right_asked ∙ sym (set_asked-same left right a Right);
+      }
+
+  stands-larger : (number : ℕ) (n : Node) → IsPartOf catalogue query number (tree_in n) → Stands small number n → Stands large number n
+  stands-larger number (node.SeqScan head) part is = is ∙ sym (table-same number head.entry head.tally.asked)
+  stands-larger number (node.RankScan head) part is = is ∙ sym (index-same number head.entry head.term head.scan.index part head.tally.asked)
+  stands-larger number (node.Rank' head p child) part is = (
     record {
-      keeps = is.0.keeps ∙ sym (rank-same number head.term (tree_in child) built head.tally.asked);
-      asked = is.0.asked ∙ sym (asked-same number head.term (tree_in child) built head.tally.asked);
+      keeps = is.0.keeps ∙ sym (rank-same number head.term (tree_in child) head.tally.asked);
+      asked = is.0.asked ∙ sym (asked-same number head.term (tree_in child) head.tally.asked);
     },
-    stands-larger number child part.0 built is.1,
+    stands-larger number child part.0 is.1,
   )
-  stands-larger number (node.Join' head p left q right) part built is =
-      let parts = part-with catalogue (block_in query number) head.core (tree_in left) (tree_in right) part in
-      let sides = built-with head.core (tree_in left) (tree_in right) built in (
+  stands-larger number (node.Join' head p left q right) part is =
+      let parts = part-with catalogue (block_in query number) head.core (tree_in left) (tree_in right) (part-joined catalogue query number head.core (tree_in left) (tree_in right) part) in (
         record {
-          keeps = is.0.keeps ∙ sym (join-same number head.core (tree_in left) (tree_in right) sides.0 sides.1 head.tally.asked);
-          left_asked = is.0.left_asked ∙ sym (join_asked-same number (tree_in left) (tree_in right) sides.0 sides.1 head.tally.asked Left);
-          right_asked = is.0.right_asked ∙ sym (join_asked-same number (tree_in left) (tree_in right) sides.0 sides.1 head.tally.asked Right);
+          keeps = is.0.keeps ∙ sym (join-same number head.core (tree_in left) (tree_in right) head.tally.asked);
+          left_asked = is.0.left_asked ∙ sym (join_asked-same number (tree_in left) (tree_in right) head.tally.asked Left);
+          right_asked = is.0.right_asked ∙ sym (join_asked-same number (tree_in left) (tree_in right) head.tally.asked Right);
         },
-        stands-larger number left parts.0 sides.0 is.1,
-        stands-larger number right parts.1 sides.1 is.2,
+        stands-larger number left (part-of catalogue query number (tree_in left) parts.0) is.1,
+        stands-larger number right (part-of catalogue query number (tree_in right) parts.1) is.2,
       )
-  stands-larger number (node.Distinct' head p child) part built is = (
+  stands-larger number (node.Distinct' head p child) part is = (
     record {
-      keeps = is.0.keeps ∙ sym (distinct-same number (tree_in child) built head.tally.asked);
-      asked = is.0.asked ∙ sym (distinct_asked-same number (tree_in child) built head.tally.asked);
+      keeps = is.0.keeps ∙ sym (distinct-same number (tree_in child) head.tally.asked);
+      asked = is.0.asked ∙ sym (distinct_asked-same number (tree_in child) head.tally.asked);
     },
-    stands-larger number child part.0 built is.1,
+    stands-larger number child (part-of catalogue query number (tree_in child) part.0) is.1,
   )
+  stands-larger number (node.Set' head p left q right) part is =
+      let parts = side-parts catalogue query number (tree_in left) (tree_in right) part in (
+        is.0,
+        set-stands head (tree_in left) (tree_in right) (asked_in left) (asked_in right) is.1,
+        stands-larger 1 left (part-of catalogue query 1 (tree_in left) parts.0) is.2,
+        stands-larger 2 right (part-of catalogue query 2 (tree_in right) parts.1) is.3,
+      )
 
 pub cursor-larger : (catalogue more : Catalogue) (answer : Answering) (cursor : CursorState) → StandsFor catalogue answer cursor → StandsFor (joined catalogue more) answer cursor
 cursor-larger catalogue more answer cursor stands =
     let query = cursor.query in
     let tree = plan_of cursor in
-    let part = part-plan catalogue query tree stands.plan stands.built in
+    let part = plan-part catalogue query tree stands.plan in
     record {
       sound = stands.sound;
       query = query-larger catalogue more query stands.query;
       plan = plan-larger catalogue more query tree stands.plan;
-      built = stands.built;
-      indexes = indexes-larger catalogue more (block_in query 1) (block-formed catalogue query 1 stands.query) answer tree part stands.indexes;
-      nodes = stands-larger catalogue more answer query stands.query 1 cursor.root part stands.built stands.nodes;
-      asks = subst (λ (rows : List RankRow). asks_of cursor ≤ suc (length rows)) (sym (list-same catalogue more answer query stands.query 1 tree stands.built)) stands.asks;
+      indexes = indexes_of-larger catalogue more query 1 stands.query answer tree part stands.indexes;
+      nodes = stands-larger catalogue more answer query stands.query 1 cursor.root part stands.nodes;
+      asks = subst (λ (rows : List RankRow). asks_of cursor ≤ suc (length rows)) (sym (list-same catalogue more answer query stands.query 1 tree)) stands.asks;
     }

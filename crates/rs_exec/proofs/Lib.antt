@@ -3,6 +3,7 @@ mod AloneFacts
 mod AlikeFacts
 mod AnswerFacts
 mod FeedFacts
+mod BlockFacts
 mod CoreFacts
 mod CountFacts
 mod CursorFacts
@@ -14,6 +15,7 @@ mod DrawFacts
 mod FewFacts
 pub mod HeldFacts
 mod IndexTermFacts
+mod LargerAnswers
 mod LargerFacts
 mod LargerNodes
 mod IndexListFacts
@@ -25,8 +27,18 @@ mod MakingFacts
 mod NextFacts
 mod PartFacts
 mod PartMaskFacts
+mod PlacesFacts
 mod RankFacts
 mod ScanFacts
+mod SetAskFacts
+mod SetCoreFacts
+mod SetCycleFacts
+mod SetListFacts
+mod SetMoreFacts
+mod SetOpenFacts
+mod SetPlanFacts
+mod SetStartFacts
+mod SetStepFacts
 mod SourceFacts
 mod StartFacts
 mod StepFacts

@@ -144,10 +144,10 @@ pub record IsRow (w : World) (number : ℕ) (tree : PlanTree) (row : RankRow) : 
   pub rows : HasRows w.catalogue (numbered_block w number) (entries tree) row.ids.rows
 
 -- the same of ids
-record IsOf (w : World) (number mask : ℕ) (ids : Ids) : Type 0 where
-  block : ids.block ≡ number
-  mask_is : ids.mask ≡ mask
-  rows : HasRows w.catalogue (numbered_block w number) mask ids.rows
+pub record IsOf (w : World) (number mask : ℕ) (ids : Ids) : Type 0 where
+  pub block : ids.block ≡ number
+  pub mask_is : ids.mask ≡ mask
+  pub rows : HasRows w.catalogue (numbered_block w number) mask ids.rows
 
 module _ (w : World) (number : ℕ) (few : length (numbered_block w number).from ≤ 6) (sizes : sizes_in w number ≡ sizes_of w.catalogue (numbered_block w number)) where
   choice-of : (mask : ℕ) (rows : List ℕ) → In rows (combinations w.catalogue (numbered_block w number) (sizes_in w number) mask)
@@ -170,7 +170,7 @@ module _ (w : World) (number : ℕ) (few : length (numbered_block w number).from
   abbrev RowIsOf : ℕ → Answer → Type 0
   RowIsOf mask row = IsOf w number mask row.ids
 
-  each-base : AllByRecursion (RowIsOf (all_entries (numbered_block w number))) (base_of w.answer w.catalogue number (numbered_block w number) (sizes_in w number))
+  pub each-base : AllByRecursion (λ (row : Answer). IsOf w number (all_entries (numbered_block w number)) row.ids) (base_of w.answer w.catalogue number (numbered_block w number) (sizes_in w number))
   each-base = go (numbered_block w number).distinct where
     all : AllByRecursion (RowIsOf (all_entries (numbered_block w number)))
         (map (answer_row w.answer w.catalogue (numbered_block w number) number) (combinations w.catalogue (numbered_block w number) (sizes_in w number) (all_entries (numbered_block w number))))
@@ -187,7 +187,7 @@ module _ (w : World) (number : ℕ) (few : length (numbered_block w number).from
         (map (answer_row w.answer w.catalogue (numbered_block w number) number) (combinations w.catalogue (numbered_block w number) (sizes_in w number) (all_entries (numbered_block w number)))) all
     go false = all
 
-  each-source : (tree : PlanTree) → IsPart w.catalogue (numbered_block w number) tree → AllByRecursion (IsOf w number (entries tree)) (sources w number tree)
+  pub each-source : (tree : PlanTree) → IsPart w.catalogue (numbered_block w number) tree → AllByRecursion (IsOf w number (entries tree)) (sources w number tree)
   each-source (SeqScan entry) part = each-ids_of (mask_of entry)
   each-source (RankScan entry term index) part = each-ids_of (mask_of entry)
   each-source (Rank term child) part = each-source child part.0

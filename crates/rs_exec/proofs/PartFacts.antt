@@ -6,28 +6,30 @@ use Rattle.std.specs.List.{flat_map}
 use Rattle.rs_order.specs.Schedule.{Left, SideAsk, numbers_from}
 use Rattle.rs_rank.specs.Weights.{IsWeights}
 use Rattle.rs_expr.specs.declared.scorer.Call.{Call}
-use Rattle.rs_catalog.specs.Catalogue.{Catalogue}
 use Rattle.rs_query.specs.Questions.{Question, call_for}
 use Rattle.rs_query.specs.Tables.{sizes_of}
 use Rattle.rs_query.specs.WellFormed.{IsQuery}
-use Rattle.rs_query.specs.declared.block.Block.{Block}
-use Rattle.rs_query.specs.declared.query.Query.{Query}
-use Rattle.rs_query.specs.declared.query.Query.TheVariants.{One, Set}
 use Rattle.rs_plan.specs.Asks.{asks_from}
 use Rattle.rs_plan.specs.Calls.{calls_of_plan, part_of, part_of_plan, questions, questions_of_ask, rank_part, side_part}
 use Rattle.rs_plan.specs.Counts.{asked_of}
-use Rattle.rs_plan.specs.Lists.{World, block_in, numbered_block, list_of, sizes_in, weights_in}
-use Rattle.rs_plan.specs.Plans.{IsPart, IsPlan, IsSetPlan}
+use Rattle.rs_plan.specs.Lists.{World, numbered_block, list_of, sizes_in, weights_in}
+use Rattle.rs_plan.specs.Plans.{IsPart, IsPlan}
 use Rattle.rs_plan.specs.Trees.{Distinct, HashJoin, NestedJoin, Rank, RankScan, SeqScan, SetOperator, PlanTree}
 use Rattle.rs_filter.specs.Matching.{IsView}
 use Rattle.rs_ripple.specs.Stands.{BeginsWith, schedule_of}
 use Rattle.rs_ripple.proofs.ScheduleFacts.{schedule_of-more}
-use Rattle.rs_exec.specs.Building.{IsBuilt}
 use Rattle.rs_exec.specs.Joining.{join_for}
+use Rattle.rs_exec.specs.Outputs.{outputs_in}
+use Rattle.rs_exec.specs.Parts.{IsPartOf}
+use Rattle.rs_exec.specs.SetNodes.{operator_of, sides_for}
+use Rattle.rs_setop.specs.Sides as setop
 use Rattle.rs_exec.proofs.AloneFacts.{between, between-behind}
 use Rattle.rs_exec.proofs.DistinctStepFacts.{distinct-child_asks, distinct-grows}
 use Rattle.rs_exec.proofs.JoinListFacts.{CanJoinParts, join-sides}
 use Rattle.rs_exec.proofs.JoinStepFacts.{join-schedule}
+use Rattle.rs_exec.proofs.PlacesFacts.{plan-part}
+use Rattle.rs_exec.proofs.SetMoreFacts.{schedule_of-goes_on}
+use Rattle.rs_exec.proofs.SetStepFacts.{set-facts}
 use Rattle.rs_exec.proofs.RankFacts.{asks-more, asks_from-split, drop-front, rank-questions}
 
 -- what is a list and others behind it is that list and what is left without it
@@ -60,11 +62,11 @@ join-grows w number left right a formed view part weights =
     ∙ ap (λ (asks : List SideAsk). flat_map step asks ++ flat_map step (drop (length before) after)) (sym (join-schedule w number left right parts a)))
 
 pub grows : (w : World) (number : ℕ) (tree : PlanTree) (a : ℕ) → IsQuery w.catalogue w.query → IsView (sizes_in w number) (sizes_of w.catalogue (numbered_block w number))
-    → IsPart w.catalogue (numbered_block w number) tree → IsWeights (weights_in w) → IsBuilt tree
+    → IsPartOf w.catalogue w.query number tree → IsWeights (weights_in w)
     → questions w number tree (suc a) ≡ questions w number tree a ++ questions_of_ask w number tree (suc a)
-grows w number (SeqScan entry) a formed view part weights built = refl
-grows w number (RankScan entry term index) a formed view part weights built = refl
-grows w number (Rank term child) a formed view part weights built =
+grows w number (SeqScan entry) a formed view part weights = refl
+grows w number (RankScan entry term index) a formed view part weights = refl
+grows w number (Rank term child) a formed view part weights =
     let first = asked_of w number (Rank term child) a Left in
     let last = asked_of w number (Rank term child) (suc a) Left in
     let le = asks-more w number term child formed part weights a (suc a) (omega arith) in
@@ -74,9 +76,9 @@ grows w number (Rank term child) a formed view part weights built =
     ∙ ap (flat_map step) (asks_from-split Left 1 first (last - first) last (omega arith))
     ∙ flat_map-append step (asks_from Left 1 first) (asks_from Left (1 + first) (last - first))
     ∙ ap (λ (qs : List Question). qs ++ flat_map step (asks_from Left (1 + first) (last - first))) (sym (rank-questions w number term child a)))
-grows w number (HashJoin left right) a formed view part weights built = join-grows w number left right a formed view (part.0, part.1, part.2) weights
-grows w number (NestedJoin left right) a formed view part weights built = join-grows w number left right a formed view part weights
-grows w number (Distinct child) a formed view part weights built =
+grows w number (HashJoin left right) a formed view part weights = join-grows w number left right a formed view (part.0, part.1, part.2) weights
+grows w number (NestedJoin left right) a formed view part weights = join-grows w number left right a formed view part weights
+grows w number (Distinct child) a formed view part weights =
     let first = asked_of w number (Distinct child) a Left in
     let last = asked_of w number (Distinct child) (suc a) Left in
     let step : SideAsk → List Question = λ ask. part_of (questions w number child) ask.number in
@@ -84,21 +86,15 @@ grows w number (Distinct child) a formed view part weights built =
     (ap (flat_map step) (distinct-child_asks w number child (suc a))
     ∙ between-behind step first last (distinct-grows w number child formed part weights a)
     ∙ ap (λ (asks : List SideAsk). flat_map step asks ++ between step first last) (sym (distinct-child_asks w number child a)))
-grows w number (SetOperator left right) a formed view part weights built = absurd built
-
--- a plan that can be executed is a part of a plan of the one block
-pub no-set : (catalogue : Catalogue) (left right : Block) (tree : PlanTree) → IsSetPlan catalogue left right tree → IsBuilt tree → ⊥
-no-set catalogue left right (SeqScan entry) plan built = plan
-no-set catalogue left right (RankScan entry term index) plan built = plan
-no-set catalogue left right (Rank term child) plan built = no-set catalogue left right child plan.0 built
-no-set catalogue left right (HashJoin l r) plan built = plan
-no-set catalogue left right (NestedJoin l r) plan built = plan
-no-set catalogue left right (Distinct child) plan built = plan
-no-set catalogue left right (SetOperator l r) plan built = built
-
-pub part-plan : (catalogue : Catalogue) (query : Query) (tree : PlanTree) → IsPlan catalogue query tree → IsBuilt tree → IsPart catalogue (block_in query 1) tree
-part-plan catalogue (One block limit) tree plan built = plan.0.part
-part-plan catalogue (Set op left right limit) tree plan built = absurd (no-set catalogue left right tree plan.0 built)
+grows w number (SetOperator left right) a formed view part weights =
+    let facts = set-facts w.catalogue w.answer w.view w.query number left right formed weights part in
+    let s = sides_for w left in
+    let on = schedule_of-goes_on s (operator_of w.query) (outputs_in w 1 left) (outputs_in w 2 right) facts.sides a in
+    let step = side_part (questions w 1 left) (questions w 2 right) in
+    behind-front (questions w number (SetOperator left right) a) (questions w number (SetOperator left right) (suc a)) (flat_map step on.more)
+    (ap (flat_map step) (facts.asks (suc a) ∙ on.split)
+    ∙ flat_map-append step (setop.schedule_of s (operator_of w.query) (outputs_in w 1 left) (outputs_in w 2 right) a) on.more
+    ∙ ap (λ (asks : List SideAsk). flat_map step asks ++ flat_map step on.more) (sym (facts.asks a)))
 
 -- the numbers up to the next one
 pub numbers-next : (first n : ℕ) → numbers_from first (suc n) ≡ numbers_from first n ++ (first + n) ∷ []
@@ -107,23 +103,23 @@ numbers-next first (suc n) =
     let same : suc first + n ≡ first + suc n = omega arith in
     ap (λ (rest : List ℕ). first ∷ rest) (numbers-next (suc first) n) ∙ ap (λ k. numbers_from first (suc n) ++ k ∷ []) same
 
-pub parts-in-turn : (w : World) (tree : PlanTree) (n : ℕ) → IsQuery w.catalogue w.query → IsView (sizes_in w 1) (sizes_of w.catalogue (numbered_block w 1)) → IsWeights (weights_in w) → IsPlan w.catalogue w.query tree → IsBuilt tree
+pub parts-in-turn : (w : World) (tree : PlanTree) (n : ℕ) → IsQuery w.catalogue w.query → IsView (sizes_in w 1) (sizes_of w.catalogue (numbered_block w 1)) → IsWeights (weights_in w) → IsPlan w.catalogue w.query tree
     → flat_map (part_of_plan w tree) (numbers_from 1 n) ≡ calls_of_plan w tree n
-parts-in-turn w tree zero formed view weights plan built = sym (ap (map (call_for w.catalogue)) (none tree built)) where
-  none : (tree : PlanTree) → IsBuilt tree → questions w 1 tree 0 ≡ []
-  none (SeqScan entry) built = refl
-  none (RankScan entry term index) built = refl
-  none (Rank term child) built = refl
-  none (HashJoin left right) built = refl
-  none (NestedJoin left right) built = refl
-  none (Distinct child) built = refl
-  none (SetOperator left right) built = absurd built
-parts-in-turn w tree (suc n) formed view weights plan built =
+parts-in-turn w tree zero formed view weights plan = sym (ap (map (call_for w.catalogue)) (none tree)) where
+  none : (tree : PlanTree) → questions w 1 tree 0 ≡ []
+  none (SeqScan entry) = refl
+  none (RankScan entry term index) = refl
+  none (Rank term child) = refl
+  none (HashJoin left right) = refl
+  none (NestedJoin left right) = refl
+  none (Distinct child) = refl
+  none (SetOperator left right) = refl
+parts-in-turn w tree (suc n) formed view weights plan =
     let call = call_for w.catalogue in
     let same : 1 + n ≡ suc n = omega arith in
     ap (flat_map (part_of_plan w tree)) (numbers-next 1 n)
     ∙ flat_map-append (part_of_plan w tree) (numbers_from 1 n) ((1 + n) ∷ [])
-    ∙ ap (λ (calls : List Call). calls ++ flat_map (part_of_plan w tree) ((1 + n) ∷ [])) (parts-in-turn w tree n formed view weights plan built)
+    ∙ ap (λ (calls : List Call). calls ++ flat_map (part_of_plan w tree) ((1 + n) ∷ [])) (parts-in-turn w tree n formed view weights plan)
     ∙ ap (λ (calls : List Call). calls_of_plan w tree n ++ calls) (append-nil (part_of_plan w tree (1 + n)) ∙ ap (part_of_plan w tree) same)
     ∙ sym (map-append call (questions w 1 tree n) (questions_of_ask w 1 tree (suc n)))
-    ∙ ap (map call) (sym (grows w 1 tree n formed view (part-plan w.catalogue w.query tree plan built) weights built))
+    ∙ ap (map call) (sym (grows w 1 tree n formed view (plan-part w.catalogue w.query tree plan) weights))

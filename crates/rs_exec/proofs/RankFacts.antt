@@ -31,10 +31,10 @@ use Rattle.rs_plan.specs.Asks.{asks_from, bar_of, keys_of}
 use Rattle.rs_plan.specs.Calls.{questions, questions_of_ask, rank_part}
 use Rattle.rs_plan.specs.Counts.{asked_of}
 use Rattle.rs_plan.specs.Lists.{World, block_in, numbered_block, key_under, list_of, row_under, sources, weights_in, worths}
-use Rattle.rs_plan.specs.Plans.{IsPart}
 use Rattle.rs_plan.specs.Trees.{Rank, PlanTree, terms}
+use Rattle.rs_exec.specs.Parts.{IsPartOf}
 use Rattle.rs_exec.specs.Standing.{evaluation_for}
-use Rattle.rs_exec.proofs.AnswerFacts.{same-count}
+use Rattle.rs_exec.proofs.BlockFacts.{same-counts}
 use Rattle.rs_exec.proofs.ListFacts.{keys-of, list-climbs, list-others, unsorted, unsorted-others}
 use Rattle.rs_exec.proofs.SumFacts.{list-sums, worth-within}
 
@@ -73,16 +73,6 @@ bar_after-map key [] n = refl
 bar_after-map key (x ∷ xs) zero = refl
 bar_after-map key (x ∷ xs) (suc n) = bar_after-map key xs n
 
--- each block of a query has as many terms
-same-terms : (catalogue : Catalogue) (query : Query) (number other : ℕ) → IsQuery catalogue query
-    → length (block_in query number).terms ≡ length (block_in query other).terms
-same-terms catalogue (One block limit) number other formed = refl
-same-terms catalogue (Set op left right limit) number other formed =
-    let same = same-count left right formed.0.terms in
-    let left_as : (b : Bool) → length (cond b left right).terms ≡ length left.terms =
-    λ b. elim b as (λ b. length (cond b left right).terms ≡ length left.terms) [ true ↦ refl | false ↦ sym same ] in
-    left_as (eqb number 1) ∙ sym (left_as (eqb other 1))
-
 module _ (w : World) (number term : ℕ) (child : PlanTree) where
   abbrev e : Evaluation
   e = evaluation_for w term child
@@ -110,7 +100,7 @@ module _ (w : World) (number term : ℕ) (child : PlanTree) where
       asks_from-split Left (suc first) (last - first) 1 (suc last - first) (omega arith)
       ∙ ap (λ k. asks_between first last ++ record { side = Left; number = k } ∷ []) place
 
-  module _ (formed : IsQuery w.catalogue w.query) (part : IsPart w.catalogue (numbered_block w number) (Rank term child)) (weights : IsWeights (weights_in w)) where
+  module _ (formed : IsQuery w.catalogue w.query) (part : IsPartOf w.catalogue w.query number (Rank term child)) (weights : IsWeights (weights_in w)) where
     new-term : IsNewTerm (terms child) term
     new-term =
         let is = part.1.is_term in
@@ -145,7 +135,7 @@ module _ (w : World) (number term : ℕ) (child : PlanTree) where
     with-term ids =
         let within = slice_get_within (numbered_block w number).terms (term - 1) part.1.term part.1.is_term.there in
         let count : length (worths w ids) ≡ length (numbered_block w number).terms =
-        length-map (numbered_block w ids.block).terms (worth_of w.answer w.catalogue (numbered_block w ids.block) ids.rows) ∙ same-terms w.catalogue w.query ids.block number formed in
+        length-map (numbered_block w ids.block).terms (worth_of w.answer w.catalogue (numbered_block w ids.block) ids.rows) ∙ same-counts w.catalogue w.query ids.block number formed in
         let most = new-term.most in
         let eight = weights.weight_count in
         let some = part.1.is_term.some in

@@ -71,7 +71,8 @@ module _ (w : World) where
   ids-rows number [] = refl
   ids-rows number (rows ∷ rest) = ap (λ (ids : List Ids). record { block = number; mask = all_entries (numbered_block w number); rows = rows } ∷ ids) (ids-rows number rest)
 
-  sources-complete : (number : ℕ) (tree : PlanTree) → IsComplete w.catalogue (numbered_block w number) tree → sources w number tree ≡ ids_in (base number)
+  pub sources-complete : (number : ℕ) (tree : PlanTree) → IsComplete w.catalogue (numbered_block w number) tree
+      → sources w number tree ≡ ids_in (base_of w.answer w.catalogue number (numbered_block w number) (sizes_in w number))
   sources-complete number tree complete = go (numbered_block w number).distinct refl where
     go : (b : Bool) → (numbered_block w number).distinct ≡ b → sources w number tree ≡ ids_in (base number)
     go true wanted = sources-dropped (numbered_block w number) number tree complete.part (complete.drops wanted)

@@ -40,22 +40,26 @@ start-tree catalogue block number (SeqScan entry) (node.SeqScan head) is = ap (�
 start-tree catalogue block number (SeqScan entry) (node.RankScan head) is = absurd is
 start-tree catalogue block number (SeqScan entry) (node.Rank' head p below) is = absurd is
 start-tree catalogue block number (SeqScan entry) (node.Join' head p l q r) is = absurd is
+start-tree catalogue block number (SeqScan entry) (node.Set' head p l q r) is = absurd is
 start-tree catalogue block number (SeqScan entry) (node.Distinct' head p below) is = absurd is
 start-tree catalogue block number (RankScan entry term index) (node.SeqScan head) is = absurd is
 start-tree catalogue block number (RankScan entry term index) (node.RankScan head) is = ap (λ (h : IndexNode). RankScan h.entry h.term h.scan.index) is
 start-tree catalogue block number (RankScan entry term index) (node.Rank' head p below) is = absurd is
 start-tree catalogue block number (RankScan entry term index) (node.Join' head p l q r) is = absurd is
+start-tree catalogue block number (RankScan entry term index) (node.Set' head p l q r) is = absurd is
 start-tree catalogue block number (RankScan entry term index) (node.Distinct' head p below) is = absurd is
 start-tree catalogue block number (Rank term child) (node.SeqScan head) is = absurd is
 start-tree catalogue block number (Rank term child) (node.RankScan head) is = absurd is
 start-tree catalogue block number (Rank term child) (node.Rank' head p below) is =
     ap (λ (h : RankNode). Rank h.term (tree_in below)) is.0 ∙ ap (Rank term) (start-tree catalogue block number child below is.1)
 start-tree catalogue block number (Rank term child) (node.Join' head p l q r) is = absurd is
+start-tree catalogue block number (Rank term child) (node.Set' head p l q r) is = absurd is
 start-tree catalogue block number (Rank term child) (node.Distinct' head p below) is = absurd is
 start-tree catalogue block number (HashJoin left right) (node.SeqScan head) is = absurd is
 start-tree catalogue block number (HashJoin left right) (node.RankScan head) is = absurd is
 start-tree catalogue block number (HashJoin left right) (node.Rank' head p below) is = absurd is
 start-tree catalogue block number (HashJoin left right) (node.Distinct' head p below) is = absurd is
+start-tree catalogue block number (HashJoin left right) (node.Set' head p l q r) is = absurd is
 start-tree catalogue block number (HashJoin left right) (node.Join' head p l q r) is =
     ap (λ (h : JoinNode). tree_with h.core (tree_in l) (tree_in r)) is.0
     ∙ ap₂ HashJoin (start-tree catalogue block number left l is.1) (start-tree catalogue block number right r is.2)
@@ -63,6 +67,7 @@ start-tree catalogue block number (NestedJoin left right) (node.SeqScan head) is
 start-tree catalogue block number (NestedJoin left right) (node.RankScan head) is = absurd is
 start-tree catalogue block number (NestedJoin left right) (node.Rank' head p below) is = absurd is
 start-tree catalogue block number (NestedJoin left right) (node.Distinct' head p below) is = absurd is
+start-tree catalogue block number (NestedJoin left right) (node.Set' head p l q r) is = absurd is
 start-tree catalogue block number (NestedJoin left right) (node.Join' head p l q r) is =
     ap (λ (h : JoinNode). tree_with h.core (tree_in l) (tree_in r)) is.0
     ∙ ap₂ NestedJoin (start-tree catalogue block number left l is.1) (start-tree catalogue block number right r is.2)
@@ -70,6 +75,7 @@ start-tree catalogue block number (Distinct child) (node.SeqScan head) is = absu
 start-tree catalogue block number (Distinct child) (node.RankScan head) is = absurd is
 start-tree catalogue block number (Distinct child) (node.Rank' head p below) is = absurd is
 start-tree catalogue block number (Distinct child) (node.Join' head p l q r) is = absurd is
+start-tree catalogue block number (Distinct child) (node.Set' head p l q r) is = absurd is
 start-tree catalogue block number (Distinct child) (node.Distinct' head p below) is = ap Distinct (start-tree catalogue block number child below is.1)
 start-tree catalogue block number (SetOperator left right) n is = absurd is
 
@@ -79,31 +85,37 @@ start-asked catalogue block number (SeqScan entry) (node.SeqScan head) is = ap (
 start-asked catalogue block number (SeqScan entry) (node.RankScan head) is = absurd is
 start-asked catalogue block number (SeqScan entry) (node.Rank' head p below) is = absurd is
 start-asked catalogue block number (SeqScan entry) (node.Join' head p l q r) is = absurd is
+start-asked catalogue block number (SeqScan entry) (node.Set' head p l q r) is = absurd is
 start-asked catalogue block number (SeqScan entry) (node.Distinct' head p below) is = absurd is
 start-asked catalogue block number (RankScan entry term index) (node.SeqScan head) is = absurd is
 start-asked catalogue block number (RankScan entry term index) (node.RankScan head) is = ap (λ (h : IndexNode). h.tally.asked) is
 start-asked catalogue block number (RankScan entry term index) (node.Rank' head p below) is = absurd is
 start-asked catalogue block number (RankScan entry term index) (node.Join' head p l q r) is = absurd is
+start-asked catalogue block number (RankScan entry term index) (node.Set' head p l q r) is = absurd is
 start-asked catalogue block number (RankScan entry term index) (node.Distinct' head p below) is = absurd is
 start-asked catalogue block number (Rank term child) (node.SeqScan head) is = absurd is
 start-asked catalogue block number (Rank term child) (node.RankScan head) is = absurd is
 start-asked catalogue block number (Rank term child) (node.Rank' head p below) is = ap (λ (h : RankNode). h.tally.asked) is.0
 start-asked catalogue block number (Rank term child) (node.Join' head p l q r) is = absurd is
+start-asked catalogue block number (Rank term child) (node.Set' head p l q r) is = absurd is
 start-asked catalogue block number (Rank term child) (node.Distinct' head p below) is = absurd is
 start-asked catalogue block number (HashJoin left right) (node.SeqScan head) is = absurd is
 start-asked catalogue block number (HashJoin left right) (node.RankScan head) is = absurd is
 start-asked catalogue block number (HashJoin left right) (node.Rank' head p below) is = absurd is
 start-asked catalogue block number (HashJoin left right) (node.Distinct' head p below) is = absurd is
+start-asked catalogue block number (HashJoin left right) (node.Set' head p l q r) is = absurd is
 start-asked catalogue block number (HashJoin left right) (node.Join' head p l q r) is = ap (λ (h : JoinNode). h.tally.asked) is.0
 start-asked catalogue block number (NestedJoin left right) (node.SeqScan head) is = absurd is
 start-asked catalogue block number (NestedJoin left right) (node.RankScan head) is = absurd is
 start-asked catalogue block number (NestedJoin left right) (node.Rank' head p below) is = absurd is
 start-asked catalogue block number (NestedJoin left right) (node.Distinct' head p below) is = absurd is
+start-asked catalogue block number (NestedJoin left right) (node.Set' head p l q r) is = absurd is
 start-asked catalogue block number (NestedJoin left right) (node.Join' head p l q r) is = ap (λ (h : JoinNode). h.tally.asked) is.0
 start-asked catalogue block number (Distinct child) (node.SeqScan head) is = absurd is
 start-asked catalogue block number (Distinct child) (node.RankScan head) is = absurd is
 start-asked catalogue block number (Distinct child) (node.Rank' head p below) is = absurd is
 start-asked catalogue block number (Distinct child) (node.Join' head p l q r) is = absurd is
+start-asked catalogue block number (Distinct child) (node.Set' head p l q r) is = absurd is
 start-asked catalogue block number (Distinct child) (node.Distinct' head p below) is = ap (λ (h : DistinctNode). h.tally.asked) is.0
 start-asked catalogue block number (SetOperator left right) n is = absurd is
 
@@ -119,7 +131,7 @@ of-six f (suc (suc (suc (suc (suc (suc zero)))))) some few = refl
 of-six f (suc (suc (suc (suc (suc (suc (suc n))))))) some few = absurd (omega arith)
 
 -- no row is given before any ask
-none-given : (n : ℕ) → 0 ≡ min 0 n
+pub none-given : (n : ℕ) → 0 ≡ min 0 n
 none-given n = omega arith
 
 none-less : (n : ℕ) → false ≡ nat_lt n 0
@@ -128,7 +140,7 @@ none-less n = grind (arith, nat_tests)
 tally-none : (w : World) (number : ℕ) (tree : PlanTree) → no_tally ≡ tally_after w number tree 0
 tally-none w number tree = ap (λ (gave : ℕ). record { asked = 0; gave = gave }) (none-given (length (list_of w number tree)))
 
-rank-none : (w : World) (number term : ℕ) (child : PlanTree)
+pub rank-none : (w : World) (number term : ℕ) (child : PlanTree)
     → record { core = new_mu (weights_in w) (terms child) term; term = term; args = tt; tally = no_tally; calls = 0 } ≡ rank_node_after w number term child 0
 rank-none w number term child =
     let gave = none-given (length (list_of w number (Rank term child))) in
@@ -211,6 +223,7 @@ module _ (w : World) (number : ℕ) (most : length (numbered_block w number).fro
     start-stands (SeqScan entry) (node.RankScan head) part is = absurd is
     start-stands (SeqScan entry) (node.Rank' head p below) part is = absurd is
     start-stands (SeqScan entry) (node.Join' head p l q r) part is = absurd is
+    start-stands (SeqScan entry) (node.Set' head p l q r) part is = absurd is
     start-stands (SeqScan entry) (node.Distinct' head p below) part is = absurd is
     start-stands (RankScan entry term index) (node.SeqScan head) part is = absurd is
     start-stands (RankScan entry term index) (node.RankScan head) part is =
@@ -238,6 +251,7 @@ module _ (w : World) (number : ℕ) (most : length (numbered_block w number).fro
         }) (tally-none w number (RankScan entry term index)))
     start-stands (RankScan entry term index) (node.Rank' head p below) part is = absurd is
     start-stands (RankScan entry term index) (node.Join' head p l q r) part is = absurd is
+    start-stands (RankScan entry term index) (node.Set' head p l q r) part is = absurd is
     start-stands (RankScan entry term index) (node.Distinct' head p below) part is = absurd is
     start-stands (Rank term child) (node.SeqScan head) part is = absurd is
     start-stands (Rank term child) (node.RankScan head) part is = absurd is
@@ -252,11 +266,13 @@ module _ (w : World) (number : ℕ) (most : length (numbered_block w number).fro
           start-stands child below part.0 is.1,
         )
     start-stands (Rank term child) (node.Join' head p l q r) part is = absurd is
+    start-stands (Rank term child) (node.Set' head p l q r) part is = absurd is
     start-stands (Rank term child) (node.Distinct' head p below) part is = absurd is
     start-stands (HashJoin left right) (node.SeqScan head) part is = absurd is
     start-stands (HashJoin left right) (node.RankScan head) part is = absurd is
     start-stands (HashJoin left right) (node.Rank' head p below) part is = absurd is
     start-stands (HashJoin left right) (node.Distinct' head p below) part is = absurd is
+    start-stands (HashJoin left right) (node.Set' head p l q r) part is = absurd is
     start-stands (HashJoin left right) (node.Join' head p l q r) part is = (
       join-starts values left right l r head is.0 (start-tree w.catalogue (numbered_block w number) number left l is.1) (start-tree w.catalogue (numbered_block w number) number right r is.2)
           (start-asked w.catalogue (numbered_block w number) number left l is.1) (start-asked w.catalogue (numbered_block w number) number right r is.2),
@@ -267,6 +283,7 @@ module _ (w : World) (number : ℕ) (most : length (numbered_block w number).fro
     start-stands (NestedJoin left right) (node.RankScan head) part is = absurd is
     start-stands (NestedJoin left right) (node.Rank' head p below) part is = absurd is
     start-stands (NestedJoin left right) (node.Distinct' head p below) part is = absurd is
+    start-stands (NestedJoin left right) (node.Set' head p l q r) part is = absurd is
     start-stands (NestedJoin left right) (node.Join' head p l q r) part is = (
       join-starts pairs left right l r head is.0 (start-tree w.catalogue (numbered_block w number) number left l is.1) (start-tree w.catalogue (numbered_block w number) number right r is.2)
           (start-asked w.catalogue (numbered_block w number) number left l is.1) (start-asked w.catalogue (numbered_block w number) number right r is.2),
@@ -277,6 +294,7 @@ module _ (w : World) (number : ℕ) (most : length (numbered_block w number).fro
     start-stands (Distinct child) (node.RankScan head) part is = absurd is
     start-stands (Distinct child) (node.Rank' head p below) part is = absurd is
     start-stands (Distinct child) (node.Join' head p l q r) part is = absurd is
+    start-stands (Distinct child) (node.Set' head p l q r) part is = absurd is
     start-stands (Distinct child) (node.Distinct' head p below) part is = (
       subst (λ (h : DistinctNode). DropsStand w number h (tree_in below) (asked_in below)) (sym is.0) (record {
         keeps = distinct-none w number (tree_in below);

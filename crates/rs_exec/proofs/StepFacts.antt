@@ -1,10 +1,9 @@
 -- One ask of a rank operator, in steps: where it stands between two asks of its input, and what each step does.
-use Rattle.std.proofs.Common.{◌≡◌, ◌∙◌, ℕ, zero, suc, ◌≤◌, ◌<◌, ◌+◌, ◌-◌, true, false, List, [], ◌∷◌, ◌++◌, length, map, get_or, cond, eqb, refl, sym, ap, subst, inl, inr, arith, append-nil, append_assoc}
+use Rattle.std.proofs.Common.{◌≡◌, ◌∙◌, ℕ, suc, ◌≤◌, ◌<◌, ◌+◌, ◌-◌, true, List, [], ◌∷◌, ◌++◌, length, map, get_or, refl, sym, ap, subst, arith, append-nil, append_assoc}
 use Rattle.std.specs.List.{flat_map}
 use Rattle.std.proofs.lemmas.Grind.{flat_map-append}
 use Rattle.std.proofs.lemmas.List.{get_or-map}
 use Rattle.std.proofs.lemmas.Option.{get_or_from_slice_get, slice_get_past, slice_get_within}
-use Rattle.rs_order.proofs.EachFacts.{each-slice_get}
 use Rattle.rs_order.specs.Sorting.{sorted}
 use Rattle.rs_order.proofs.ReorderFacts.{asks_upto-none}
 use Rattle.rs_rank.specs.Keys.{key_cmp}
@@ -12,7 +11,7 @@ use Rattle.rs_rank.specs.declared.ask.Ask.{Ask}
 use Rattle.std.specs.Prelude.{min, None, Some, Option, Ok, Err, slice_get}
 use Rattle.rs_order.specs.Schedule.{Left, SideAsk}
 use Rattle.rs_expr.specs.InOrder.{Inquires}
-use Rattle.rs_expr.specs.Scoring.{Answering, ScorerState}
+use Rattle.rs_expr.specs.Scoring.{ScorerState}
 use Rattle.rs_rank.specs.Weights.{IsWeights}
 use Rattle.rs_rank.specs.declared.ask.Ask.TheVariants.{End, Need, Ready}
 use Rattle.rs_rank.specs.declared.row.RankRow.{RankRow}
@@ -23,19 +22,16 @@ use Rattle.rs_mu.proofs.StandFacts.{Tells, asks-grow, asks-most, asks_of-upto, l
 use Rattle.rs_mu.proofs.StepFacts.{ended-can, ended-stands, fed-can, fed-stands, taken-stands}
 use Rattle.rs_catalog.specs.Catalogue.{Catalogue}
 use Rattle.rs_query.specs.Answers.{worth_of}
-use Rattle.rs_query.specs.Meaning.{is_inside}
 use Rattle.rs_query.specs.Questions.{Question, question_of}
-use Rattle.rs_query.specs.Tables.{HasRows, sizes_of}
-use Rattle.rs_query.specs.WellFormed.{IsBlock, IsQuery}
-use Rattle.rs_query.specs.declared.query.Query.TheVariants.{One, Set}
 use Rattle.rs_query.specs.declared.query.Query.{Query}
+use Rattle.rs_query.specs.declared.term.Term.{Term}
 use Rattle.rs_query.proofs.QuestionFacts.{AllAsked, AllAsked-more, AllAsked-none, Ended-behind, Gave-ok, Inquires-fault}
 use Rattle.rs_plan.specs.Asks.{asks_from}
 use Rattle.rs_plan.specs.Calls.{own_question, questions, questions_of_ask, rank_part}
 use Rattle.rs_plan.specs.Counts.{asked_of}
-use Rattle.rs_plan.specs.Lists.{World, block_in, numbered_block, list_of, sizes_in, weights_in}
+use Rattle.rs_plan.specs.Lists.{World, block_in, numbered_block, list_of, weights_in}
 use Rattle.rs_plan.specs.Trees.{Rank, PlanTree, entries}
-use Rattle.rs_exec.specs.Asked.{CanAsk, HasBlock}
+use Rattle.rs_exec.specs.Asked.{CanAsk}
 use Rattle.rs_exec.specs.Asking.{exec_faults, next_row, world_of}
 use Rattle.rs_exec.specs.Feeding.{CanTake, feeding, with_row}
 use Rattle.rs_exec.specs.Standing.{HeadStands, evaluation_for, rank_node_after}
@@ -43,14 +39,9 @@ use Rattle.rs_exec.specs.declared.fault.ExecFault.{ExecFault}
 use Rattle.rs_exec.specs.declared.fault.ExecFault.TheVariants.{Memory}
 use Rattle.rs_exec.specs.declared.rank.RankNode.{RankNode}
 use Rattle.rs_exec.specs.declared.tally.Tally.{Tally}
-use Rattle.rs_exec.proofs.ListFacts.{IsRow, list-rows}
+pub use Rattle.rs_exec.proofs.BlockFacts.{block-formed, few-entries, sizes-are, slice_get-none}
+use Rattle.rs_exec.proofs.PlacesFacts.{IsPlaced, TermFor, row-placed, row-term}
 use Rattle.rs_exec.proofs.RankFacts.{asks_between, asks_from-split, asks_between-more, rank-asks, rank-input, rank-list, rank-questions_of_ask}
-
--- a list without an item at a place is no longer than that
-pub slice_get-none : {A : Type 0} (xs : List A) (i : ℕ) → slice_get xs i ≡ None → length xs ≤ i
-slice_get-none [] i e = omega arith
-slice_get-none (x ∷ xs) zero e = absurd (let f : Some x ≡ None = e in cc)
-slice_get-none (x ∷ xs) (suc i) e = let rest = slice_get-none xs i e in omega arith
 
 module _ (w : World) (number term : ℕ) (child : PlanTree) (a : ℕ) where
   abbrev first : ℕ
@@ -116,27 +107,6 @@ all-asks e rows n past =
 -- what a function gives of the item at a place
 pub get_or-map-at : {A : Type 0} (f : A → ℕ) (xs : List A) (i : ℕ) (x : A) → slice_get xs i ≡ Some x → get_or (map f xs) i 0 ≡ f x
 get_or-map-at f xs i x there = get_or-map f xs i x 0 (slice_get_within xs i x there) ∙ ap f (get_or_from_slice_get xs i x x there)
-
--- each block of a query is well formed
-pub block-formed : (catalogue : Catalogue) (query : Query) (number : ℕ) → IsQuery catalogue query → IsBlock catalogue (block_in query number)
-block-formed catalogue (One block limit) number formed = formed.0
-block-formed catalogue (Set op left right limit) number formed =
-    elim (eqb number 1) as (λ b. IsBlock catalogue (cond b left right)) [ true ↦ formed.0.left_block | false ↦ formed.0.right_block ]
-
-pub few-entries : (catalogue : Catalogue) (query : Query) (number : ℕ) → IsQuery catalogue query → length (block_in query number).from ≤ 6
-few-entries catalogue query number formed = let is = block-formed catalogue query number formed in is.most_entries
-
--- a query sees all rows of its tables
-pub sizes-are : (catalogue : Catalogue) (answer : Answering) (query : Query) (number : ℕ) → HasBlock query number
-    → sizes_in (world_of catalogue answer query) number ≡ sizes_of catalogue (block_in query number)
-sizes-are catalogue answer (One block limit) number is =
-    subst (λ n. sizes_in (world_of catalogue answer (One block limit)) n ≡ sizes_of catalogue (block_in (One block limit) n)) (sym is) refl
-sizes-are catalogue answer (Set op left right limit) number is =
-    let w = world_of catalogue answer (Set op left right limit) in
-    elim is [
-      | inl one ↦ subst (λ n. sizes_in w n ≡ sizes_of catalogue (block_in (Set op left right limit) n)) (sym one) refl
-      | inr two ↦ subst (λ n. sizes_in w n ≡ sizes_of catalogue (block_in (Set op left right limit) n)) (sym two) refl
-    ]
 
 -- a tally, and a rank operator, by their parts
 tally-is : (t : Tally) (asked gave : ℕ) → t.asked ≡ asked → t.gave ≡ gave → t ≡ record { asked = asked; gave = gave }
@@ -210,30 +180,28 @@ module _ (catalogue : Catalogue) (query : Query) (number term : ℕ) (child : Pl
       subst (λ answer. CanAsk catalogue answer query number child asks) (sym between.all_asked.keeps.answer)
       (record { formed = can.formed; number_is = can.number_is; part = can.part.0; indexes = can.indexes; weights = can.weights; more = omega arith; tables = can.tables; few = omega arith })
 
-  -- a row of the input is one of its part of the plan, and the term is one of its block
-  pub row-is : (asks : ℕ) (row : RankRow) → slice_get (list_of w number child) asks ≡ Some row → IsRow w number child row
-  row-is asks row there =
-      each-slice_get (IsRow w number child) (list_of w number child) asks row (list-rows w number (few-entries catalogue query number can.formed) (sizes-are catalogue old.answer query number can.number_is) child can.part.0) there
+  -- a row of the input has the entries of the term of its block
+  pub row-is : (asks : ℕ) (row : RankRow) → slice_get (list_of w number child) asks ≡ Some row → IsPlaced w number (entries child) row.ids
+  row-is asks row there = row-placed catalogue old.answer query number child can.formed can.number_is can.part.0 asks row there
 
-  pub term-at : (row : RankRow) → IsRow w number child row → slice_get (numbered_block w row.ids.block).terms (term - 1) ≡ Some ((can.part.1).term)
-  term-at row is = subst (λ b. slice_get (numbered_block w b).terms (term - 1) ≡ Some ((can.part.1).term)) (sym is.block) can.part.1.is_term.there
+  pub row-has : (asks : ℕ) (row : RankRow) → slice_get (list_of w number child) asks ≡ Some row → TermFor catalogue query term row.ids
+  row-has asks row there = row-term catalogue old.answer query number term child row.ids can.formed can.part.1 (row-is asks row there)
 
-  worth-at : (row : RankRow) (is : IsRow w number child row)
-      → e.worth row ≡ worth_of old.answer catalogue (numbered_block w row.ids.block) row.ids.rows ((can.part.1).term)
-  worth-at row is =
-      get_or-map-at (worth_of old.answer catalogue (numbered_block w row.ids.block) row.ids.rows) (numbered_block w row.ids.block).terms (term - 1) ((can.part.1).term) (term-at row is)
+  worth-at : (row : RankRow) (t : Term) → slice_get (numbered_block w row.ids.block).terms (term - 1) ≡ Some t
+      → e.worth row ≡ worth_of old.answer catalogue (numbered_block w row.ids.block) row.ids.rows t
+  worth-at row t named =
+      get_or-map-at (worth_of old.answer catalogue (numbered_block w row.ids.block) row.ids.rows) (numbered_block w row.ids.block).terms (term - 1) t named
 
-  own-at : (row : RankRow) → IsRow w number child row
-      → own_question w term (Some row) ≡ question_of row.ids.block (numbered_block w row.ids.block) row.ids.rows ((can.part.1).term) ∷ []
-  own-at row is = rw (term-at row is) refl
+  own-at : (row : RankRow) (t : Term) → slice_get (numbered_block w row.ids.block).terms (term - 1) ≡ Some t
+      → own_question w term (Some row) ≡ question_of row.ids.block (numbered_block w row.ids.block) row.ids.rows t ∷ []
+  own-at row t named = rw named refl
 
   -- a row of the input can be taken; once it is, the operator stands at one ask more
   pub between-take : (head : RankNode) (asks : ℕ) (now : ScorerState) (row : RankRow) → Between w number term child a asks head old now → ask_of head.core ≡ Need
       → slice_get (list_of w number child) asks ≡ Some row → CanTake catalogue now.answer query row head
   between-take head asks now row between need there =
-      let is = row-is asks row there in
-      let t = can.part.1.term in
-      let named = term-at row is in
+      let placed = row-is asks row there in
+      let has = row-has asks row there in
       let calls = between.calls_are in
       let few = can.few in
       let size = same-length in
@@ -242,28 +210,25 @@ module _ (catalogue : Catalogue) (query : Query) (number term : ℕ) (child : Pl
       subst (λ answer. CanTake catalogue answer query row head) (sym between.all_asked.keeps.answer) (record {
         block = block-formed catalogue query row.ids.block can.formed;
         least = omega arith;
-        term = t;
-        is_term = subst (λ k. slice_get (numbered_block w row.ids.block).terms (k - 1) ≡ Some t) (sym term_is) named;
-        inside = ap (is_inside t.entries) is.mask ∙ can.part.1.there;
-        rows = subst (λ mask. HasRows catalogue (numbered_block w row.ids.block) mask row.ids.rows) (sym is.mask)
-            (subst (λ b. HasRows catalogue (numbered_block w b) (entries child) row.ids.rows) (sym is.block) is.rows);
+        term = has.term;
+        is_term = subst (λ k. slice_get (numbered_block w row.ids.block).terms (k - 1) ≡ Some has.term) (sym term_is) has.there;
+        inside = has.inside;
+        rows = placed.rows;
         few = omega arith;
-        feeds = subst (λ worth. CanFeed row worth head.core) (worth-at row is) (fed-can e (list_of w number child) asks a head.core row between.core need there);
+        feeds = subst (λ worth. CanFeed row worth head.core) (worth-at row has.term has.there) (fed-can e (list_of w number child) asks a head.core row between.core need there);
       })
 
-  pub between-fed : (head taken : RankNode) (asks : ℕ) (now asked new : ScorerState) (row : RankRow)
-      → Between w number term child a asks head old now → ask_of head.core ≡ Need
+  pub between-fed : (head taken : RankNode) (asks : ℕ) (now asked new : ScorerState) (row : RankRow) (t : Term)
+      → slice_get (block_in query row.ids.block).terms (term - 1) ≡ Some t → Between w number term child a asks head old now → ask_of head.core ≡ Need
       → Inquires Memory (next_row (world_of catalogue now.answer query) number child asks) (Ok (Some row)) now asked
-      → Inquires Memory (feeding asked.answer catalogue query row ((can.part.1).term) head) (Ok taken) asked new
+      → Inquires Memory (feeding asked.answer catalogue query row t head) (Ok taken) asked new
       → Between w number term child a (suc asks) taken old new
-  between-fed head taken asks now asked new row between need below own =
+  between-fed head taken asks now asked new row t named between need below own =
       let rows = list_of w number child in
       let part = questions_of_ask w number child (suc asks) in
-      let t = (can.part.1).term in
       let gave = Gave-ok exec_faults Memory old.answer catalogue {A = Option RankRow} part (slice_get rows asks) (Some row) now asked
       (subst (λ answer. Inquires Memory (next_row (world_of catalogue answer query) number child asks) (Ok (Some row)) now asked) between.all_asked.keeps.answer below) in
       let there : slice_get rows asks ≡ Some row = sym gave.is_value in
-      let is = row-is asks row there in
       let same : asked.answer ≡ old.answer = gave.asked.keeps.answer ∙ between.all_asked.keeps.answer in
       let question = question_of row.ids.block (numbered_block w row.ids.block) row.ids.rows t in
       let took = Gave-ok exec_faults Memory old.answer catalogue {A = RankNode} (question ∷ [])
@@ -275,11 +240,11 @@ module _ (catalogue : Catalogue) (query : Query) (number term : ℕ) (child : Pl
       let all : done w number term child a (suc asks) ≡ (done w number term child a asks ++ part) ++ question ∷ [] =
       done-more w number term child a asks between.least
       ∙ ap (λ (r : Option RankRow). done w number term child a asks ++ (part ++ own_question w term r)) there
-      ∙ ap (λ (qs : List Question). done w number term child a asks ++ (part ++ qs)) (own-at row is)
+      ∙ ap (λ (qs : List Question). done w number term child a asks ++ (part ++ qs)) (own-at row t named)
       ∙ sym (append_assoc (done w number term child a asks) part (question ∷ [])) in
       let made : head.calls + 1 ≡ min (suc asks) (length rows) = omega arith in
       record {
-        core = subst (λ mu. MuStands e rows (suc asks) a mu) (ap (λ worth. fed row worth head.core) (worth-at row is) ∙ sym (ap (λ (n : RankNode). n.core) took.is_value))
+        core = subst (λ mu. MuStands e rows (suc asks) a mu) (ap (λ worth. fed row worth head.core) (worth-at row t named) ∙ sym (ap (λ (n : RankNode). n.core) took.is_value))
             (fed-stands e rows asks a head.core row between.core need there);
         term_is = ap (λ (n : RankNode). n.term) took.is_value ∙ between.term_is;
         asked_is = ap (λ (n : RankNode). n.tally.asked) took.is_value ∙ between.asked_is;
@@ -417,19 +382,17 @@ module _ (catalogue : Catalogue) (query : Query) (number term : ℕ) (child : Pl
       (subst (λ answer. Inquires Memory (next_row (world_of catalogue answer query) number child asks) (Err fault) now new) between.all_asked.keeps.answer below)
 
   -- and so does one of the operator's own question
-  pub between-own_fault : (head : RankNode) (asks : ℕ) (fault : ExecFault) (now asked new : ScorerState) (row : RankRow)
-      → Between w number term child a asks head old now → ask_of head.core ≡ Need
+  pub between-own_fault : (head : RankNode) (asks : ℕ) (fault : ExecFault) (now asked new : ScorerState) (row : RankRow) (t : Term)
+      → slice_get (block_in query row.ids.block).terms (term - 1) ≡ Some t → Between w number term child a asks head old now → ask_of head.core ≡ Need
       → Inquires Memory (next_row (world_of catalogue now.answer query) number child asks) (Ok (Some row)) now asked
-      → Inquires Memory (feeding asked.answer catalogue query row ((can.part.1).term) head) (Err fault) asked new
+      → Inquires Memory (feeding asked.answer catalogue query row t head) (Err fault) asked new
       → Inquires Memory (next_row w number (Rank term child) a) (Err fault) old new
-  between-own_fault head asks fault now asked new row between need below own =
+  between-own_fault head asks fault now asked new row t named between need below own =
       let rows = list_of w number child in
       let part = questions_of_ask w number child (suc asks) in
-      let t = (can.part.1).term in
       let gave = Gave-ok exec_faults Memory old.answer catalogue {A = Option RankRow} part (slice_get rows asks) (Some row) now asked
       (subst (λ answer. Inquires Memory (next_row (world_of catalogue answer query) number child asks) (Ok (Some row)) now asked) between.all_asked.keeps.answer below) in
       let there : slice_get rows asks ≡ Some row = sym gave.is_value in
-      let is = row-is asks row there in
       let same : asked.answer ≡ old.answer = gave.asked.keeps.answer ∙ between.all_asked.keeps.answer in
       let question = question_of row.ids.block (numbered_block w row.ids.block) row.ids.rows t in
       let less = subst (Tells e rows asks a) need (stands-tells e rows asks a head.core between.core) in
@@ -443,7 +406,7 @@ module _ (catalogue : Catalogue) (query : Query) (number term : ℕ) (child : Pl
       (rank-questions_of_ask w number term child can.formed can.part weights a
       ∙ done-split w number term child a asks (asked_of w number (Rank term child) (suc a) Left) between.least (omega arith)
       ∙ ap (λ (r : Option RankRow). done w number term child a asks ++ (part ++ (own_question w term r ++ tail))) there
-      ∙ ap (λ (qs : List Question). done w number term child a asks ++ (part ++ (qs ++ tail))) (own-at row is)
+      ∙ ap (λ (qs : List Question). done w number term child a asks ++ (part ++ (qs ++ tail))) (own-at row t named)
       ∙ sym (append_assoc (done w number term child a asks) part (question ∷ tail)))
       (AllAsked-more old.answer catalogue (done w number term child a asks) part old now asked between.all_asked gave.asked)
       (subst (λ answer. Inquires Memory (feeding answer catalogue query row t head) (Err fault) asked new) same own)

@@ -11,8 +11,7 @@ use Rattle.rs_query.specs.WellFormed.{IsQuery}
 use Rattle.rs_query.specs.declared.query.Query.{Query}
 use Rattle.rs_query.specs.declared.query.Query.TheVariants.{One, Set}
 use Rattle.rs_plan.specs.Lists.{World, block_in, list_of, weights_in}
-use Rattle.rs_plan.specs.Plans.{IsPart}
-use Rattle.rs_plan.specs.Trees.{Distinct, NestedJoin, Rank, PlanTree}
+use Rattle.rs_plan.specs.Trees.{Distinct, NestedJoin, Rank, SetOperator, PlanTree}
 use Rattle.rs_exec.specs.declared.distinct.DistinctNode.{DistinctNode}
 use Rattle.rs_exec.specs.declared.fault.ExecFault.{ExecFault}
 use Rattle.rs_exec.specs.declared.fault.ExecFault.TheVariants.{Memory}
@@ -20,11 +19,14 @@ use Rattle.rs_exec.specs.declared.join.JoinNode.{JoinNode}
 use Rattle.rs_exec.specs.declared.join_core.JoinCore.{JoinCore}
 use Rattle.rs_exec.specs.declared.node.Node.{Node}
 use Rattle.rs_exec.specs.declared.rank.RankNode.{RankNode}
+use Rattle.rs_exec.specs.declared.set.SetNode.{SetNode}
 use Rattle.rs_exec.specs.Asking.{next_row, world_of}
 use Rattle.rs_exec.specs.Cores.{tree_with}
 use Rattle.rs_exec.specs.Distincts.{DropsStand}
 use Rattle.rs_exec.specs.Indexes.{HoldIndexes}
 use Rattle.rs_exec.specs.Nodes.{asked_in, number_in, tree_in}
+use Rattle.rs_exec.specs.Parts.{IsPartOf}
+use Rattle.rs_exec.specs.SetNodes.{SetStands}
 use Rattle.rs_exec.specs.Standing.{HeadStands, JoinStands, Stands}
 
 -- the number of a block of a query
@@ -37,12 +39,12 @@ HasBlock (Set op left right limit) number = (number ≡ 1) ⊎ (number ≡ 2)
 pub record CanAsk (catalogue : Catalogue) (answer : Answering) (query : Query) (number : ℕ) (tree : PlanTree) (asked : ℕ) : Type 0 where
   pub formed : IsQuery catalogue query
   pub number_is : HasBlock query number
-  pub part : IsPart catalogue (block_in query number) tree
+  pub part : IsPartOf catalogue query number tree
   pub indexes : HoldIndexes answer catalogue tree
   pub weights : IsWeights (weights_in (world_of catalogue answer query))
   pub more : asked ≤ length (list_of (world_of catalogue answer query) number tree)
-  pub tables : AllByRecursion (λ size. size ≤ 131072) (sizes_of catalogue (block_in query number))
-  pub few : length (list_of (world_of catalogue answer query) number tree) ≤ 2 ^ 102
+  pub tables : (n : ℕ) → AllByRecursion (λ size. size ≤ 131072) (sizes_of catalogue (block_in query n))
+  pub few : length (list_of (world_of catalogue answer query) number tree) ≤ 2 ^ 103
 
 -- what holds of a node after an ask that was answered: it is of the same tree and block, was asked once more, and stands
 pub record NodeAfter (w : World) (number : ℕ) (tree : PlanTree) (asked : ℕ) (node : Node) : Type 0 where
@@ -76,6 +78,14 @@ pub record DistinctAfter (w : World) (number : ℕ) (tree : PlanTree) (asked : �
   pub asked_is : head.tally.asked ≡ suc asked
   pub operator : DropsStand w number head (tree_in child) (asked_in child)
   pub input : Stands w number child
+
+-- the same of a set operator and its sides
+pub record SetAfter (w : World) (tree : PlanTree) (asked : ℕ) (head : SetNode) (left right : Node) : Type 0 where
+  pub tree_is : SetOperator (tree_in left) (tree_in right) ≡ tree
+  pub asked_is : head.tally.asked ≡ suc asked
+  pub operator : SetStands w head (tree_in left) (tree_in right) (asked_in left) (asked_in right)
+  pub left_side : Stands w 1 left
+  pub right_side : Stands w 2 right
 
 -- an ask of a node of this tree, which was asked so often: it made the calls of this ask, in order, and gave the next row; and
 -- where it was answered, this holds after it

@@ -19,7 +19,6 @@ use Rattle.rs_exec.specs.declared.fault.ExecFault.{ExecFault}
 use Rattle.rs_exec.specs.declared.fault.ExecFault.TheVariants.{Broken}
 use Rattle.rs_exec.specs.declared.node.Node.{Node}
 use Rattle.rs_exec.specs.Asking.{exec_faults, world_of}
-use Rattle.rs_exec.specs.Building.{IsBuilt}
 use Rattle.rs_exec.specs.Indexes.{HoldIndexes}
 use Rattle.rs_exec.specs.Nodes.{asked_in, tree_in}
 use Rattle.rs_exec.specs.Standing.{Stands}
@@ -50,6 +49,12 @@ is_over w tree n = is_limit (limit_of w.query) n || nat_lt (length (list_of_plan
 abbrev pub next_answer : World → PlanTree → ℕ → Inquiry (Option Answer) ExecFault
 next_answer w tree n =
     asking exec_faults w.answer w.catalogue (questions_of_ask w 1 tree (suc n)) (option_map (answer_for w) (slice_get (list_of_plan w tree) n))
+
+-- two worlds give the same rows by a plan, and each ask of it makes the same calls and comes to the same
+pub record SameAsks (w other : World) (tree : PlanTree) : Type 0 where
+  pub list : list_of_plan w tree ≡ list_of_plan other tree
+  pub rows : answers_of w tree ≡ answers_of other tree
+  pub asks : (n : ℕ) → next_answer w tree n ≡ next_answer other tree n
 
 -- nothing is asked
 abbrev pub no_question : {A : Type 0} → Result A ExecFault → Inquiry A ExecFault
@@ -89,7 +94,6 @@ pub record StandsFor (catalogue : Catalogue) (answer : Answering) (cursor : Curs
   pub sound : cursor.failed ≡ false
   pub query : IsQuery catalogue cursor.query
   pub plan : IsPlan catalogue cursor.query (plan_of cursor)
-  pub built : IsBuilt (plan_of cursor)
   pub indexes : HoldIndexes answer catalogue (plan_of cursor)
   pub nodes : Stands (world_of catalogue answer cursor.query) 1 cursor.root
   pub asks : asks_of cursor ≤ suc (length (list_of_plan (world_of catalogue answer cursor.query) (plan_of cursor)))

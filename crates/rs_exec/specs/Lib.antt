@@ -1,6 +1,5 @@
 pub mod Asked
 pub mod Asking
-pub mod Building
 pub mod Cores
 pub mod Cursors
 pub mod Distincts
@@ -10,6 +9,9 @@ pub mod Indexes
 pub mod Joining
 pub mod Nodes
 pub mod Outputs
+pub mod Parts
+pub mod SetCores
+pub mod SetNodes
 pub mod Standing
 pub mod Starting
 pub mod Stored

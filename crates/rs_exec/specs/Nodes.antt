@@ -1,7 +1,7 @@
 -- The nodes of a plan that is executed: which tree they are, and what they count.
 use Rattle.std.specs.Prelude.{ℕ, zero, suc, List, [], ◌∷◌, ◌++◌, Result, Ok, Err}
 use Rattle.rs_plan.specs.declared.counts.Counts.{Counts}
-use Rattle.rs_plan.specs.Trees.{Distinct, Rank, RankScan, SeqScan, PlanTree}
+use Rattle.rs_plan.specs.Trees.{Distinct, Rank, RankScan, SeqScan, SetOperator, PlanTree}
 use Rattle.rs_exec.specs.Cores.{tree_with}
 use Rattle.rs_exec.specs.declared.node.Node.{Node}
 use Rattle.rs_exec.specs.declared.node.Node.TheVariants as node
@@ -14,14 +14,16 @@ tree_in (node.RankScan head) = RankScan head.entry head.term head.scan.index
 tree_in (node.Rank' head p child) = Rank head.term (tree_in child)
 tree_in (node.Join' head p left q right) = tree_with head.core (tree_in left) (tree_in right)
 tree_in (node.Distinct' head p child) = Distinct (tree_in child)
+tree_in (node.Set' head p left q right) = SetOperator (tree_in left) (tree_in right)
 
--- the number of the block whose rows it gives
+-- the number of the block whose rows it gives; from a set operator on that of the first block
 abbrev pub number_in : Node → ℕ
 number_in (node.SeqScan head) = head.block
 number_in (node.RankScan head) = head.block
 number_in (node.Rank' head p child) = number_in child
 number_in (node.Join' head p left q right) = head.block
 number_in (node.Distinct' head p child) = number_in child
+number_in (node.Set' head p left q right) = 1
 
 -- how often it was asked, and how many rows it gave
 abbrev pub tally_in : Node → Tally
@@ -30,6 +32,7 @@ tally_in (node.RankScan head) = head.tally
 tally_in (node.Rank' head p child) = head.tally
 tally_in (node.Join' head p left q right) = head.tally
 tally_in (node.Distinct' head p child) = head.tally
+tally_in (node.Set' head p left q right) = head.tally
 
 abbrev pub asked_in : Node → ℕ
 asked_in n = (tally_in n).asked
@@ -43,6 +46,8 @@ counts_in (node.Rank' head p child) =
 counts_in (node.Join' head p left q right) =
     record { asked = head.tally.asked; gave = head.tally.gave; calls = 0; drawn = 0 } ∷ counts_in left ++ counts_in right
 counts_in (node.Distinct' head p child) = record { asked = head.tally.asked; gave = head.tally.gave; calls = 0; drawn = 0 } ∷ counts_in child
+counts_in (node.Set' head p left q right) =
+    record { asked = head.tally.asked; gave = head.tally.gave; calls = 0; drawn = 0 } ∷ counts_in left ++ counts_in right
 
 -- the item at a place; past the last one, by how many places
 abbrev pub at_or_past : {A : Type 0} → List A → ℕ → Result A ℕ

@@ -22,6 +22,7 @@ use Rattle.rs_exec.specs.Cores.{core_like}
 use Rattle.rs_exec.specs.Distincts.{DropsStand}
 use Rattle.rs_exec.specs.Joining.{join_for}
 use Rattle.rs_exec.specs.Nodes.{asked_in, tree_in}
+use Rattle.rs_exec.specs.SetNodes.{SetStands}
 
 -- so many asks, and a row for each as long as the list has more
 abbrev pub tally_after : World → ℕ → PlanTree → ℕ → Tally
@@ -112,3 +113,5 @@ Stands w number (node.Rank' head p child) = HeadStands w number head (tree_in ch
 Stands w number (node.Join' head p left q right) =
     JoinStands w number head (tree_in left) (tree_in right) (asked_in left) (asked_in right) × Stands w number left × Stands w number right
 Stands w number (node.Distinct' head p child) = DropsStand w number head (tree_in child) (asked_in child) × Stands w number child
+Stands w number (node.Set' head p left q right) =
+    (number ≡ 1) × SetStands w head (tree_in left) (tree_in right) (asked_in left) (asked_in right) × Stands w 1 left × Stands w 2 right

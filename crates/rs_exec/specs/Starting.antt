@@ -6,8 +6,11 @@ use Rattle.rs_mu.specs.Mu.{new_mu}
 use Rattle.rs_query.specs.Answers.{weights_of}
 use Rattle.rs_query.specs.Tables.{size_of}
 use Rattle.rs_query.specs.declared.block.Block.{Block}
+use Rattle.rs_query.specs.declared.query.Query.{Query}
+use Rattle.rs_query.specs.declared.query.Query.TheVariants.{One, Set}
+use Rattle.rs_value.specs.declared.set_op.SetOp.{SetOp}
 use Rattle.rs_scan.specs.Scans.{new_index_scan, new_table_scan}
-use Rattle.rs_plan.specs.Trees.{Distinct, HashJoin, NestedJoin, Rank, RankScan, SeqScan, PlanTree, entries, terms}
+use Rattle.rs_plan.specs.Trees.{Distinct, HashJoin, NestedJoin, Rank, RankScan, SeqScan, SetOperator, PlanTree, entries, terms}
 use Rattle.rs_hrjn.specs.Hashed.{new_hashed}
 use Rattle.rs_ripple.specs.Joined.{new_joined}
 use Rattle.rs_exec.specs.declared.join_core.JoinCore.TheVariants.{Hash, Nested}
@@ -17,7 +20,9 @@ use Rattle.rs_exec.specs.declared.node.Node.{Node}
 use Rattle.rs_exec.specs.declared.node.Node.TheVariants as node
 use Rattle.rs_exec.specs.declared.rank.RankNode.{RankNode}
 use Rattle.rs_exec.specs.declared.tally.Tally.{Tally}
+use Rattle.rs_exec.specs.declared.set.SetNode.{SetNode}
 use Rattle.rs_exec.specs.Joining.{side_for}
+use Rattle.rs_exec.specs.SetCores.{new_core}
 
 abbrev pub no_tally : Tally
 no_tally = record { asked = 0; gave = 0 }
@@ -59,6 +64,21 @@ IsStart catalogue block number (Distinct child) (node.Distinct' head p below) =
     (head ≡ record { core = new_distinct; tally = no_tally }) × IsStart catalogue block number child below
 IsStart catalogue block number tree nodes = ⊥
 
+-- the nodes of this tree, of a plan of a set query of these blocks, before any ask
+abbrev pub IsSetStart : Catalogue → SetOp → Block → Block → PlanTree → Node → Type 0
+IsSetStart catalogue op left_block right_block (Rank term child) (node.Rank' head p below) =
+    (head ≡ record { core = new_mu (weights_of left_block) (terms child) term; term = term; args = tt; tally = no_tally; calls = 0 })
+    × IsSetStart catalogue op left_block right_block child below
+IsSetStart catalogue op left_block right_block (SetOperator left right) (node.Set' head p on_left q on_right) =
+    (head ≡ record { core = new_core op (weights_of left_block) (terms left); tally = no_tally })
+    × IsStart catalogue left_block 1 left on_left × IsStart catalogue right_block 2 right on_right
+IsSetStart catalogue op left_block right_block tree nodes = ⊥
+
+-- those of a plan of a query
+abbrev pub IsQueryStart : Catalogue → Query → PlanTree → Node → Type 0
+IsQueryStart catalogue (One block limit) tree nodes = IsStart catalogue block 1 tree nodes
+IsQueryStart catalogue (Set op left right limit) tree nodes = IsSetStart catalogue op left right tree nodes
+
 -- an operator over these nodes
 abbrev pub IsRankOver : RankNode → Node → Node → Type 0
 IsRankOver head below (node.Rank' top p child) = (top ≡ head) × (child ≡ below)
@@ -66,6 +86,7 @@ IsRankOver head below (node.SeqScan top) = ⊥
 IsRankOver head below (node.RankScan top) = ⊥
 IsRankOver head below (node.Join' top p left q right) = ⊥
 IsRankOver head below (node.Distinct' top p child) = ⊥
+IsRankOver head below (node.Set' top p left q right) = ⊥
 
 -- a join over these nodes
 abbrev pub IsJoinOver : JoinNode → Node → Node → Node → Type 0
@@ -74,6 +95,7 @@ IsJoinOver head on_left on_right (node.SeqScan top) = ⊥
 IsJoinOver head on_left on_right (node.RankScan top) = ⊥
 IsJoinOver head on_left on_right (node.Rank' top p child) = ⊥
 IsJoinOver head on_left on_right (node.Distinct' top p child) = ⊥
+IsJoinOver head on_left on_right (node.Set' top p left q right) = ⊥
 
 -- an operator that drops duplicates over these nodes
 abbrev pub IsDistinctOver : DistinctNode → Node → Node → Type 0
@@ -82,3 +104,13 @@ IsDistinctOver head below (node.SeqScan top) = ⊥
 IsDistinctOver head below (node.RankScan top) = ⊥
 IsDistinctOver head below (node.Rank' top p child) = ⊥
 IsDistinctOver head below (node.Join' top p left q right) = ⊥
+IsDistinctOver head below (node.Set' top p left q right) = ⊥
+
+-- a set operator over these nodes
+abbrev pub IsSetOver : SetNode → Node → Node → Node → Type 0
+IsSetOver head on_left on_right (node.Set' top p left q right) = (top ≡ head) × (left ≡ on_left) × (right ≡ on_right)
+IsSetOver head on_left on_right (node.SeqScan top) = ⊥
+IsSetOver head on_left on_right (node.RankScan top) = ⊥
+IsSetOver head on_left on_right (node.Rank' top p child) = ⊥
+IsSetOver head on_left on_right (node.Join' top p left q right) = ⊥
+IsSetOver head on_left on_right (node.Distinct' top p child) = ⊥

@@ -1,4 +1,4 @@
-ghost use Rattle.std.specs.Prelude.{◌≡◌, ◌≤◌, IfOk, None, Ok, is_err, slice_get, true, false};
+ghost use Rattle.std.specs.Prelude.{◌≡◌, ◌≤◌, ℕ, IfOk, None, Ok, is_err, slice_get, false};
 ghost use Rattle.std.specs.List.{AllByRecursion};
 ghost use Rattle.rs_expr.specs.InOrder.{Inquires};
 ghost use Rattle.rs_expr.specs.Scoring.{Answering};
@@ -9,20 +9,18 @@ ghost use Rattle.rs_plan.specs.Plans.{IsPlan};
 ghost use Rattle.rs_plan.specs.Shapes.{tree_of};
 ghost use Rattle.rs_query.specs.Answers.{limit_of, weights_of};
 ghost use Rattle.rs_rank.specs.Weights.{IsWeights};
-ghost use Rattle.rs_query.specs.Meaning.{is_inside, outputs_of};
-ghost use Rattle.rs_query.specs.Tables.{HasRows, sizes_of};
-ghost use Rattle.rs_query.specs.WellFormed.{IsBlock, IsQuery, entries_mask};
+ghost use Rattle.rs_query.specs.Tables.{sizes_of};
+ghost use Rattle.rs_query.specs.WellFormed.{IsBlock, IsQuery};
 ghost use Rattle.rs_exec.specs.Asking.{world_of};
-ghost use Rattle.rs_exec.specs.Building.{IsBuilt};
 ghost use Rattle.rs_exec.specs.Cursors.{CanGo, IsNew, IsOver, StandsFor, asks_after, asks_of, call_of, is_limit, is_over, next_of, plan_of};
 ghost use Rattle.rs_exec.specs.Indexes.{HoldIndexes};
+ghost use Rattle.rs_exec.specs.Outputs.{CanPutOut, values_for};
 
-use crate::block::block_of;
 use crate::fault::ExecFault;
 use crate::node::Node;
+use crate::output::outputs;
 use rs_catalog::Catalog;
 use rs_expr::Scorer;
-use rs_filter::project;
 use rs_plan::{Counts, Plan};
 use rs_query::{Block, Query};
 use rs_rank::{Answer, RankRow};
@@ -64,12 +62,11 @@ impl Cursor {
     ) -> Result<Cursor, Memory>
         requires query { IsQuery catalog.now query }
         requires plan { IsPlan catalog.now query (tree_of plan.now) }
-        // Set operators can't be executed yet.
-        requires built { IsBuilt (tree_of plan.now) }
         ensures new { IfOk result (IsNew query (tree_of plan.now)) }
         ensures stands { (answer : Answering) → HoldIndexes answer catalog.now (tree_of plan.now) → IfOk result (StandsFor catalog.now answer) }
     {
-        match Node::start(alloc, catalog, block_of(&query, 1), 1, plan) {
+        limits_hold(catalog, &query);
+        match Node::of_plan(alloc, catalog, &query, plan) {
             Ok(root) => Ok(Cursor {
                 alloc,
                 query,
@@ -148,7 +145,7 @@ impl Cursor {
             return Ok(None);
         }
         // So no count and no sum can pass its type.
-        limits_hold(catalog, block_of(&self.query, 1));
+        limits_hold(catalog, &self.query);
         match self.root.next(self.alloc, catalog, &self.query, scorer)? {
             Some(row) => Ok(Some(answer_for(self.alloc, catalog, &self.query, &row)?)),
             None => Ok(None),
@@ -192,17 +189,14 @@ fn answer_for(
     query: &Query,
     row: &RankRow,
 ) -> Result<Answer, Memory>
-    requires block { IsBlock catalog.now (block_in query.now row.now.ids.block) }
-    requires inside { is_inside (entries_mask (block_in query.now row.now.ids.block).items) row.now.ids.mask ≡ true }
-    requires rows { HasRows catalog.now (block_in query.now row.now.ids.block) row.now.ids.mask row.now.ids.rows }
+    requires { CanPutOut catalog.now query.now row.now }
     ensures { IfOk result (λ answer. answer ≡ record {
       ids = row.now.ids;
       score = row.now.sum;
-      values = outputs_of catalog.now (block_in query.now row.now.ids.block) row.now.ids.rows;
+      values = values_for catalog.now query.now row.now;
     }) }
 {
-    let block = block_of(query, row.ids.block);
-    let values = project(alloc, catalog, block, row)?;
+    let values = outputs(alloc, catalog, query, row)?;
     Ok(Answer {
         ids: row.ids,
         score: row.sum,
@@ -210,9 +204,24 @@ fn answer_for(
     })
 }
 
-/// No table has more rows than a table may have, and weights and maxima are within their limits. The function changes nothing;
-/// it is called for its contract.
-fn limits_hold(catalog: &Catalog, block: &Block)
+/// No table of a query has more rows than a table may have, and weights and maxima are within their limits. The function changes
+/// nothing; it is called for its contract.
+fn limits_hold(catalog: &Catalog, query: &Query)
+    requires { IsQuery catalog.now query.now }
+    ensures rows { (number : ℕ) → AllByRecursion (λ size. size ≤ 131072) (sizes_of catalog.now (block_in query.now number)) }
+    ensures weights { IsWeights (weights_of (block_in query.now 1)) }
+{
+    match query {
+        Query::One(block, _) => block_limits_hold(catalog, block),
+        Query::Set(_, left, right, _) => {
+            block_limits_hold(catalog, left);
+            block_limits_hold(catalog, right);
+        }
+    }
+}
+
+/// The same of one block.
+fn block_limits_hold(catalog: &Catalog, block: &Block)
     requires { IsBlock catalog.now block.now }
     ensures rows { AllByRecursion (λ size. size ≤ 131072) (sizes_of catalog.now block.now) }
     ensures weights { IsWeights (weights_of block.now) }

@@ -20,8 +20,9 @@ ghost use Rattle.rs_filter.specs.Matching.{IsView};
 ghost use Rattle.rs_plan.specs.Lists.{World, list_of_plan, numbered_block, sizes_in, weights_in};
 ghost use Rattle.rs_plan.specs.Plans.{IsPlan};
 ghost use Rattle.rs_plan.specs.Trees.{PlanTree};
-ghost use Rattle.rs_exec.specs.Building.{IsBuilt};
-ghost use Rattle.rs_exec.specs.Cursors.{CursorState, HasFewTerms, StandsFor, answers_of};
+ghost use Rattle.rs_exec.specs.Cursors.{CursorState, HasFewTerms, SameAsks, StandsFor, answers_of};
+ghost use Rattle.rs_exec.specs.Asking.{world_of};
+ghost use Rattle.rs_query.specs.declared.query.Query.{Query};
 
 /// The rows of a plan are those of the query in the stable order of their scores. Cut to LIMIT they are its answer.
 pub fn plans_give_the_answer()
@@ -42,7 +43,7 @@ pub fn plans_give_the_same_rows()
 pub fn rows_give_the_parts_in_turn()
     ensures { (w : World) (tree : PlanTree) (n : ℕ) → IsQuery w.catalogue w.query
         → IsView (sizes_in w 1) (sizes_of w.catalogue (numbered_block w 1)) → IsWeights (weights_in w)
-        → IsPlan w.catalogue w.query tree → IsBuilt tree
+        → IsPlan w.catalogue w.query tree
         → flat_map (part_of_plan w tree) (numbers_from 1 n) ≡ calls_of_plan w tree n }
 {}
 
@@ -54,4 +55,14 @@ pub fn cursors_stand_in_larger_catalogues()
         → StandsFor catalogue answer cursor → StandsFor (with_predicate predicate catalogue) answer cursor }
     ensures indexes { (catalogue : Catalogue) (answer : Answering) (cursor : CursorState) (def : IndexDef) (ranking : List ScoredRow)
         → StandsFor catalogue answer cursor → StandsFor (with_index def ranking catalogue) answer cursor }
+{}
+
+/// What joins the catalogue changes nothing of what the asks of a plan give, and of the calls that they make.
+pub fn plans_ask_the_same_in_larger_catalogues()
+    ensures tables { (catalogue : Catalogue) (answer : Answering) (query : Query) (tree : PlanTree) (name : List ℕ) (table : Relation)
+        → IsQuery catalogue query → SameAsks (world_of (with_table name table catalogue) answer query) (world_of catalogue answer query) tree }
+    ensures predicates { (catalogue : Catalogue) (answer : Answering) (query : Query) (tree : PlanTree) (predicate : PredicateDef)
+        → IsQuery catalogue query → SameAsks (world_of (with_predicate predicate catalogue) answer query) (world_of catalogue answer query) tree }
+    ensures indexes { (catalogue : Catalogue) (answer : Answering) (query : Query) (tree : PlanTree) (def : IndexDef) (ranking : List ScoredRow)
+        → IsQuery catalogue query → SameAsks (world_of (with_index def ranking catalogue) answer query) (world_of catalogue answer query) tree }
 {}

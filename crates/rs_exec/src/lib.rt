@@ -1,6 +1,5 @@
 //! The executor. A cursor gives the rows of a query's answer one after another, in the order of a plan: each is asked for only
-//! once it is wanted, and the scorer is called only where the plan's operators need it. Plans of scans, rank operators, joins
-//! and DISTINCT are executed; set operators are not built yet.
+//! once it is wanted, and the scorer is called only where the plan's operators need it. It executes each valid plan.
 #![tactic(auto)]
 
 mod block;
@@ -18,6 +17,9 @@ mod output;
 mod rank;
 mod scan;
 mod score;
+mod set;
+mod set_core;
+mod set_laws;
 mod start;
 mod tally;
 
@@ -27,6 +29,7 @@ pub use fault::ExecFault;
 pub use held::indexes_go_on_to_hold_answers;
 pub use join_laws::joins_give_the_pairs_that_match;
 pub use laws::{
-    cursors_stand_in_larger_catalogues, plans_give_the_answer, plans_give_the_same_rows,
-    rows_give_the_parts_in_turn,
+    cursors_stand_in_larger_catalogues, plans_ask_the_same_in_larger_catalogues,
+    plans_give_the_answer, plans_give_the_same_rows, rows_give_the_parts_in_turn,
 };
+pub use set_laws::{set_operators_ask_their_sides, set_operators_give_the_rows_of_both_sides};

@@ -9,6 +9,7 @@ use crate::fault::ExecFault;
 use crate::join::{JoinNode, next_joined};
 use crate::rank::{RankNode, next_ranked};
 use crate::scan::{IndexNode, TableNode};
+use crate::set::{SetNode, next_combined};
 use crate::tally::Tally;
 use rs_catalog::Catalog;
 use rs_expr::Scorer;
@@ -25,6 +26,7 @@ pub(crate) enum Node {
     Rank(RankNode, Box<Node>),
     Join(JoinNode, Box<Node>, Box<Node>),
     Distinct(DistinctNode, Box<Node>),
+    Set(SetNode, Box<Node>, Box<Node>),
 }
 
 impl Node {
@@ -54,6 +56,9 @@ impl Node {
             Node::Distinct(head, child) => {
                 next_distinct(head, child, alloc, catalog, query, scorer)
             }
+            Node::Set(head, left, right) => {
+                next_combined(head, left, right, alloc, catalog, query, scorer)
+            }
         }
     }
 
@@ -67,6 +72,7 @@ impl Node {
             Node::Rank(head, _) => head.tally,
             Node::Join(head, _, _) => head.tally,
             Node::Distinct(head, _) => head.tally,
+            Node::Set(head, _, _) => head.tally,
         }
     }
 
@@ -102,6 +108,13 @@ impl Node {
             Node::Distinct(head, child) => match counts_or_next(place, head.counts()) {
                 Ok(counts) => Ok(counts),
                 Err(place) => child.counts_or_past(place),
+            },
+            Node::Set(head, left, right) => match counts_or_next(place, head.counts()) {
+                Ok(counts) => Ok(counts),
+                Err(place) => match left.counts_or_past(place) {
+                    Ok(counts) => Ok(counts),
+                    Err(place) => right.counts_or_past(place),
+                },
             },
         }
     }

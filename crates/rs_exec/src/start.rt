@@ -2,28 +2,88 @@
 
 ghost use Rattle.std.specs.Prelude.{◌≡◌, ◌≤◌, IfOk, length};
 ghost use Rattle.rs_plan.specs.Lists.{block_in};
-ghost use Rattle.rs_plan.specs.Plans.{IsEntryNumber, IsPart};
+ghost use Rattle.rs_plan.specs.Plans.{IsEntryNumber, IsPart, IsPlan, IsSetPlan};
 ghost use Rattle.rs_plan.specs.Shapes.{tree_of};
 ghost use Rattle.rs_query.specs.Tables.{size_of};
-ghost use Rattle.rs_query.specs.WellFormed.{IsBlock};
+ghost use Rattle.rs_query.specs.WellFormed.{AreSetSides, IsBlock, IsQuery};
 ghost use Rattle.rs_plan.specs.Numbers.{HasNumbers};
-ghost use Rattle.rs_exec.specs.Building.{IsBuilt};
 ghost use Rattle.rs_exec.specs.Joining.{side_for};
-ghost use Rattle.rs_exec.specs.Starting.{IsDistinctOver, IsJoinOver, IsRankOver, IsStart};
+ghost use Rattle.rs_exec.specs.Starting.{IsDistinctOver, IsJoinOver, IsQueryStart, IsRankOver, IsSetOver, IsSetStart, IsStart};
 
 use crate::distinct::DistinctNode;
 use crate::join::JoinNode;
 use crate::node::Node;
 use crate::rank::RankNode;
 use crate::scan::{IndexNode, TableNode};
+use crate::set::SetNode;
 use rs_catalog::Catalog;
 use rs_plan::Plan;
-use rs_query::Block;
+use rs_query::{Block, Query};
 use rs_ripple::Side;
-use rs_value::Memory;
+use rs_value::{Memory, SetOp};
 use std::alloc::Global;
 
 impl Node {
+    /// The nodes of a plan of a query. Nothing is asked.
+    pub(crate) fn of_plan(
+        alloc: Global,
+        catalog: &Catalog,
+        query: &Query,
+        plan: &Plan,
+    ) -> Result<Node, Memory>
+        requires query { IsQuery catalog.now query.now }
+        requires plan { IsPlan catalog.now query.now (tree_of plan.now) }
+        ensures { IfOk result (IsQueryStart catalog.now query.now (tree_of plan.now)) }
+    {
+        match query {
+            Query::One(block, _) => Node::start(alloc, catalog, block, 1, plan),
+            Query::Set(op, left, right, _) => {
+                Node::combined(alloc, catalog, *op, left, right, plan)
+            }
+        }
+    }
+
+    /// The nodes of a plan of a set query of these blocks, or of what stands below a rank operator in one.
+    fn combined(
+        alloc: Global,
+        catalog: &Catalog,
+        op: SetOp,
+        left_block: &Block,
+        right_block: &Block,
+        plan: &Plan,
+    ) -> Result<Node, Memory>
+        requires sides { AreSetSides catalog.now left_block.now right_block.now }
+        requires plan { IsSetPlan catalog.now left_block.now right_block.now (tree_of plan.now) }
+        ensures { IfOk result (IsSetStart catalog.now op left_block.now right_block.now (tree_of plan.now)) }
+    {
+        match plan {
+            Plan::SeqScan { entry: _ } => unreachable!(),
+            Plan::RankScan {
+                entry: _,
+                term: _,
+                index: _,
+            } => unreachable!(),
+            Plan::Rank { term, child } => {
+                let below = Node::combined(alloc, catalog, op, left_block, right_block, child)?;
+                let below = boxed(alloc, below)?;
+                let weights = left_block.weights();
+                let head = RankNode::new(alloc, weights, child.signature().terms, *term);
+                Ok(over(head, below))
+            }
+            Plan::HashJoin { left: _, right: _ } => unreachable!(),
+            Plan::NestedJoin { left: _, right: _ } => unreachable!(),
+            Plan::Distinct { child: _ } => unreachable!(),
+            Plan::SetOperator { left, right } => {
+                let weights = left_block.weights();
+                let terms = left.signature().terms;
+                let on_left = boxed(alloc, Node::start(alloc, catalog, left_block, 1, left)?)?;
+                let on_right = boxed(alloc, Node::start(alloc, catalog, right_block, 2, right)?)?;
+                let head = SetNode::new(alloc, op, weights, terms);
+                Ok(set_over(head, on_left, on_right))
+            }
+        }
+    }
+
     /// The nodes of a part of a plan of a block, which has this number. Nothing is asked.
     pub(crate) fn start(
         alloc: Global,
@@ -34,7 +94,6 @@ impl Node {
     ) -> Result<Node, Memory>
         requires block { IsBlock catalog.now block.now }
         requires part { IsPart catalog.now block.now (tree_of plan.now) }
-        requires built { IsBuilt (tree_of plan.now) }
         ensures { IfOk result (IsStart catalog.now block.now number (tree_of plan.now)) }
     {
         match plan {
@@ -49,37 +108,31 @@ impl Node {
                 Ok(Node::RankScan(head))
             }
             Plan::Rank { term, child } => {
-                let below = Node::start(alloc, catalog, block, number, child)?;
+                let below = boxed(alloc, Node::start(alloc, catalog, block, number, child)?)?;
                 let head = RankNode::new(alloc, block.weights(), child.signature().terms, *term);
-                over(alloc, head, below)
+                Ok(over(head, below))
             }
             Plan::HashJoin { left, right } => {
-                let head = JoinNode::hash(
-                    alloc,
-                    block.weights(),
-                    number,
-                    side_of(left),
-                    side_of(right),
-                );
-                let on_left = Node::start(alloc, catalog, block, number, left)?;
-                let on_right = Node::start(alloc, catalog, block, number, right)?;
-                join_over(alloc, head, on_left, on_right)
+                let weights = block.weights();
+                let left_side = side_of(left);
+                let right_side = side_of(right);
+                let on_left = boxed(alloc, Node::start(alloc, catalog, block, number, left)?)?;
+                let on_right = boxed(alloc, Node::start(alloc, catalog, block, number, right)?)?;
+                let head = JoinNode::hash(alloc, weights, number, left_side, right_side);
+                Ok(join_over(head, on_left, on_right))
             }
             Plan::NestedJoin { left, right } => {
-                let head = JoinNode::nested(
-                    alloc,
-                    block.weights(),
-                    number,
-                    side_of(left),
-                    side_of(right),
-                );
-                let on_left = Node::start(alloc, catalog, block, number, left)?;
-                let on_right = Node::start(alloc, catalog, block, number, right)?;
-                join_over(alloc, head, on_left, on_right)
+                let weights = block.weights();
+                let left_side = side_of(left);
+                let right_side = side_of(right);
+                let on_left = boxed(alloc, Node::start(alloc, catalog, block, number, left)?)?;
+                let on_right = boxed(alloc, Node::start(alloc, catalog, block, number, right)?)?;
+                let head = JoinNode::nested(alloc, weights, number, left_side, right_side);
+                Ok(join_over(head, on_left, on_right))
             }
             Plan::Distinct { child } => {
-                let below = Node::start(alloc, catalog, block, number, child)?;
-                distinct_over(alloc, DistinctNode::new(alloc), below)
+                let below = boxed(alloc, Node::start(alloc, catalog, block, number, child)?)?;
+                Ok(distinct_over(DistinctNode::new(alloc), below))
             }
             Plan::SetOperator { left: _, right: _ } => unreachable!(),
         }
@@ -87,29 +140,31 @@ impl Node {
 }
 
 /// A rank operator over its input.
-fn over(alloc: Global, head: RankNode, below: Node) -> Result<Node, Memory>
-    ensures { IfOk result (IsRankOver head below) }
+fn over(head: RankNode, below: Box<Node>) -> Node
+    ensures { IsRankOver head below.value result }
 {
-    match Box::new(alloc, below) {
-        Ok(below) => Ok(Node::Rank(head, below)),
-        Err(_) => {
-            drop(head);
-            Err(Memory)
-        }
-    }
+    Node::Rank(head, below)
 }
 
 /// An operator that drops duplicates over its input.
-fn distinct_over(alloc: Global, head: DistinctNode, below: Node) -> Result<Node, Memory>
-    ensures { IfOk result (IsDistinctOver head below) }
+fn distinct_over(head: DistinctNode, below: Box<Node>) -> Node
+    ensures { IsDistinctOver head below.value result }
 {
-    match Box::new(alloc, below) {
-        Ok(below) => Ok(Node::Distinct(head, below)),
-        Err(_) => {
-            drop(head);
-            Err(Memory)
-        }
-    }
+    Node::Distinct(head, below)
+}
+
+/// A node in memory of its own.
+fn boxed(alloc: Global, node: Node) -> Result<Box<Node>, Memory>
+    ensures { IfOk result (λ held. held.value ≡ node) }
+{
+    Ok(Box::new(alloc, node)?)
+}
+
+/// A set operator over its sides.
+fn set_over(head: SetNode, left: Box<Node>, right: Box<Node>) -> Node
+    ensures { IsSetOver head left.value right.value result }
+{
+    Node::Set(head, left, right)
 }
 
 /// A side of a join.
@@ -125,12 +180,10 @@ fn side_of(plan: &Plan) -> Side
 }
 
 /// A join over its sides.
-fn join_over(alloc: Global, head: JoinNode, left: Node, right: Node) -> Result<Node, Memory>
-    ensures { IfOk result (IsJoinOver head left right) }
+fn join_over(head: JoinNode, left: Box<Node>, right: Box<Node>) -> Node
+    ensures { IsJoinOver head left.value right.value result }
 {
-    let left = Box::new(alloc, left)?;
-    let right = Box::new(alloc, right)?;
-    Ok(Node::Join(head, left, right))
+    Node::Join(head, left, right)
 }
 
 /// How many rows the table of an entry has.

@@ -2,12 +2,13 @@ use Rattle.std.proofs.Common.{◌+◌, ◌-◌, ◌*◌, suc, max, length}
 use Rattle.rs_order.specs.Schedule.{Left, Right}
 use Rattle.rs_plan.specs.Counts.{asked_of}
 use Rattle.rs_plan.specs.Lists.{list_of}
-use Rattle.rs_plan.specs.Trees.{NestedJoin, Rank}
+use Rattle.rs_plan.specs.Trees.{NestedJoin, Rank, SetOperator}
 use Rattle.rs_exec.specs.Asking.{world_of}
 use Rattle.rs_exec.specs.Nodes.{asked_in, number_in, tree_in}
 use Rattle.rs_exec.proofs.CycleFacts.{Turn, height}
 use Rattle.rs_exec.proofs.DistinctCycleFacts.{DropsTurn}
 use Rattle.rs_exec.proofs.JoinCycleFacts.{JoinTurn}
+use Rattle.rs_exec.proofs.SetCycleFacts.{SetTurn}
 use Rattle.rs_exec.proofs.+next.Given as goal
 
 -- each call goes one node down
@@ -53,3 +54,17 @@ invariant-distinct::next_distinct-loop-row g l =
 abbrev pub decreases-distinct::next_distinct-loop-row : goal.decreases-distinct::next_distinct-loop-row
 decreases-distinct::next_distinct-loop-row g l =
     suc (length (list_of (world_of l.catalog (g.S.Scorer.state l.fn.scorer).answer l.query) (number_in l.fn.child) (tree_in l.fn.child))) - asked_in l.child
+
+abbrev pub decreases-set::next_combined : goal.decreases-set::next_combined
+decreases-set::next_combined g l = 2 * max (height (tree_in l.left.now)) (height (tree_in l.right.now)) + 1
+
+-- the set operator stands between two asks of its sides, which stand too and are of the same plan
+abbrev pub invariant-set::next_combined-loop-left : goal.invariant-set::next_combined-loop-left
+invariant-set::next_combined-loop-left g l =
+    SetTurn l.catalog l.query (tree_in l.fn.left) (tree_in l.fn.right) l.fn.head.tally.asked (g.S.Scorer.state l.fn.scorer) l.head l.left l.right (g.S.Scorer.state l.scorer)
+
+-- the asks of both sides that are left
+abbrev pub decreases-set::next_combined-loop-left : goal.decreases-set::next_combined-loop-left
+decreases-set::next_combined-loop-left g l =
+    (asked_of (world_of l.catalog (g.S.Scorer.state l.fn.scorer).answer l.query) 1 (SetOperator (tree_in l.fn.left) (tree_in l.fn.right)) (suc l.fn.head.tally.asked) Left - asked_in l.left)
+    + (asked_of (world_of l.catalog (g.S.Scorer.state l.fn.scorer).answer l.query) 1 (SetOperator (tree_in l.fn.left) (tree_in l.fn.right)) (suc l.fn.head.tally.asked) Right - asked_in l.right)

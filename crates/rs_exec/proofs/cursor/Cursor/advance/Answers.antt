@@ -1,17 +1,12 @@
 -- What the plan gives is what the cursor gives, and it stands one ask further.
-use Rattle.std.proofs.Common.{◌∙◌, ◌≤◌, Some, None, refl, sym, ap, subst}
+use Rattle.std.proofs.Common.{◌∙◌, Some, None, refl, sym, ap, subst}
 use Rattle.std.specs.Prelude.{option_map}
-use Rattle.std.specs.List.{AllByRecursion}
 use Rattle.rs_expr.specs.InOrder.{Inquires}
-use Rattle.rs_rank.specs.Weights.{IsWeights}
 use Rattle.rs_value.proofs.ResultFacts.{given-err}
-use Rattle.rs_query.specs.Answers.{weights_of}
-use Rattle.rs_query.specs.Tables.{sizes_of}
-use Rattle.rs_query.specs.declared.block.Block.{Block}
 use Rattle.rs_exec.specs.Asking.{world_of}
 use Rattle.rs_exec.specs.Cursors.{CursorState, StandsFor, answer_for, asks_of, is_over, next_of, plan_of}
 use Rattle.rs_exec.specs.declared.fault.ExecFault.TheVariants.{Memory}
-use Rattle.rs_exec.proofs.AdvanceFacts.{advance-failed, advance-gave, advance-stopped, advance-there, root-after, root-can, root-stands, row-block, row-inside, row-rows}
+use Rattle.rs_exec.proofs.AdvanceFacts.{advance-failed, advance-gave, advance-stopped, advance-there, root-after, root-can, root-stands, row-puts}
 use Rattle.rs_exec.proofs.cursor.Cursor.advance.Goals as goal
 use Rattle.rs_exec.proofs.cursor.Cursor.advance.Goals.{in-Some+in_ok-answer_for-in-Some, in-None}
 
@@ -23,8 +18,7 @@ next-requires-clause-can g c =
     let stands = subst (StandsFor catalogue old.answer) (sym c.self.view_is) c.requires in
     let more = sym (c.is_over.ensures catalogue old.answer c.requires) ∙ c.if-is_over.false in
     root-can catalogue cursor old stands
-    (subst (λ (b : Block). AllByRecursion (λ size. size ≤ 131072) (sizes_of catalogue b)) c.block_of.ensures c.limits_hold.ensures.rows)
-    (subst (λ (b : Block). IsWeights (weights_of b)) c.block_of.ensures c.limits_hold.ensures.weights)
+    c.limits_hold.ensures.rows c.limits_hold.ensures.weights
     (ap (λ (k : CursorState). is_over (world_of catalogue old.answer k.query) (plan_of k) (asks_of k)) c.self.view_is ∙ more)
 
 pub next-requires-clause-stands : goal.next-requires-clause-stands
@@ -46,8 +40,8 @@ returns-in_err-row-clause-asks g c =
     (ap (λ (k : CursorState). is_over (world_of catalogue old.answer k.query) (plan_of k) (asks_of k)) c.self.view_is ∙ more)
     c.in_err-row.field-0.0 c.from_residual.result (given-err c.from_residual.result c.in_err-row.field-0.0 c.from_residual.ensures) c.in_err-row.ensures.inquires)
 
-pub answer_for-requires-clause-block : goal.answer_for-requires-clause-block
-answer_for-requires-clause-block g c =
+pub answer_for-requires : goal.answer_for-requires
+answer_for-requires g c =
     let old = g.S.Scorer.state c.args.scorer.now in
     let new = g.S.Scorer.state c.next.new.scorer in
     let catalogue = c.args.catalog.now in
@@ -56,31 +50,7 @@ answer_for-requires-clause-block g c =
     let more = ap (λ (k : CursorState). is_over (world_of catalogue old.answer k.query) (plan_of k) (asks_of k)) c.self.view_is
     ∙ sym (c.is_over.ensures catalogue old.answer c.requires) ∙ c.if-is_over.false in
     let there = advance-there catalogue cursor old stands new more c.in_ok-row.field-0 c.in_ok-row.ensures.inquires ∙ c.in-Some.is in
-    row-block catalogue cursor old stands c.in-Some.row there
-
-pub answer_for-requires-clause-inside : goal.answer_for-requires-clause-inside
-answer_for-requires-clause-inside g c =
-    let old = g.S.Scorer.state c.args.scorer.now in
-    let new = g.S.Scorer.state c.next.new.scorer in
-    let catalogue = c.args.catalog.now in
-    let cursor : CursorState = record { query = c.self.inside.query; root = c.self.inside.root; failed = c.self.inside.failed } in
-    let stands = subst (StandsFor catalogue old.answer) (sym c.self.view_is) c.requires in
-    let more = ap (λ (k : CursorState). is_over (world_of catalogue old.answer k.query) (plan_of k) (asks_of k)) c.self.view_is
-    ∙ sym (c.is_over.ensures catalogue old.answer c.requires) ∙ c.if-is_over.false in
-    let there = advance-there catalogue cursor old stands new more c.in_ok-row.field-0 c.in_ok-row.ensures.inquires ∙ c.in-Some.is in
-    row-inside catalogue cursor old stands c.in-Some.row there
-
-pub answer_for-requires-clause-rows : goal.answer_for-requires-clause-rows
-answer_for-requires-clause-rows g c =
-    let old = g.S.Scorer.state c.args.scorer.now in
-    let new = g.S.Scorer.state c.next.new.scorer in
-    let catalogue = c.args.catalog.now in
-    let cursor : CursorState = record { query = c.self.inside.query; root = c.self.inside.root; failed = c.self.inside.failed } in
-    let stands = subst (StandsFor catalogue old.answer) (sym c.self.view_is) c.requires in
-    let more = ap (λ (k : CursorState). is_over (world_of catalogue old.answer k.query) (plan_of k) (asks_of k)) c.self.view_is
-    ∙ sym (c.is_over.ensures catalogue old.answer c.requires) ∙ c.if-is_over.false in
-    let there = advance-there catalogue cursor old stands new more c.in_ok-row.field-0 c.in_ok-row.ensures.inquires ∙ c.in-Some.is in
-    row-rows catalogue cursor old stands c.in-Some.row there
+    row-puts catalogue cursor old stands c.in-Some.row there
 
 pub returns-in_err-answer_for-in-Some-clause-asks : goal.returns-in_err-answer_for-in-Some-clause-asks
 returns-in_err-answer_for-in-Some-clause-asks g c =
@@ -123,8 +93,7 @@ returns-clause-stands g c =
     let more = ap (λ (k : CursorState). is_over (world_of catalogue old.answer k.query) (plan_of k) (asks_of k)) c.self.view_is
     ∙ sym (c.is_over.ensures catalogue old.answer c.requires) ∙ c.if-is_over.false in
     let after = root-after catalogue cursor old stands
-    (subst (λ (b : Block). AllByRecursion (λ size. size ≤ 131072) (sizes_of catalogue b)) c.block_of.ensures c.limits_hold.ensures.rows)
-    (subst (λ (b : Block). IsWeights (weights_of b)) c.block_of.ensures c.limits_hold.ensures.weights) more c.next.new.self (c.in_ok-row.ensures.leaves refl) in
+    c.limits_hold.ensures.rows c.limits_hold.ensures.weights more c.next.new.self (c.in_ok-row.ensures.leaves refl) in
     elim c.match-branch-2.branch [
       | in-Some+in_ok-answer_for-in-Some b ↦ rw b.result-is after
       | in-None b ↦ rw b.result-is after

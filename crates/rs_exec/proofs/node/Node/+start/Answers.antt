@@ -13,6 +13,7 @@ use Rattle.rs_plan.proofs.DecidingFacts.{part-numbers}
 use Rattle.rs_ripple.specs.Ripple.{CanJoin}
 use Rattle.rs_ripple.specs.declared.side.Side.{Side}
 use Rattle.rs_exec.specs.Joining.{side_for}
+use Rattle.rs_exec.proofs.BlockFacts.{light-terms}
 use Rattle.rs_exec.proofs.PartMaskFacts.{can-join}
 use Rattle.rs_exec.proofs.node.Node.+start.Goals as goal
 
@@ -43,14 +44,14 @@ new-head-requires-in-Rank-clause-term t c =
     let part = subst (IsPart c.args.catalog.now c.args.block.now) is c.requires.part in
     new-term c.args.catalog.now c.args.block.now c.in-Rank.term (tree_of c.deref-in-Rank.result.now) c.requires.block part c.signature.result.terms c.signature.ensures.terms
 
-pub side_of-requires : goal.side_of-requires
-side_of-requires t c =
+pub side_of-left_side-requires : goal.side_of-left_side-requires
+side_of-left_side-requires t c =
     let part = subst (IsPart c.args.catalog.now c.args.block.now) (ap tree_of c.in-HashJoin.is) c.requires.part in
     subst (λ (plan : Plan). HasNumbers (tree_of plan)) (sym c.deref-in-HashJoin.ensures)
     (numbers c.args.catalog.now c.args.block.now (tree_of c.in-HashJoin.left.value) c.requires.block part.0)
 
-pub side_of-requires-in-HashJoin : goal.side_of-requires-in-HashJoin
-side_of-requires-in-HashJoin t c =
+pub side_of-right_side-requires : goal.side_of-right_side-requires
+side_of-right_side-requires t c =
     let part = subst (IsPart c.args.catalog.now c.args.block.now) (ap tree_of c.in-HashJoin.is) c.requires.part in
     subst (λ (plan : Plan). HasNumbers (tree_of plan)) (sym c.deref-in-HashJoin-2.ensures)
     (numbers c.args.catalog.now c.args.block.now (tree_of c.in-HashJoin.right.value) c.requires.block part.1)
@@ -58,21 +59,24 @@ side_of-requires-in-HashJoin t c =
 pub hash-head-requires : goal.hash-head-requires
 hash-head-requires t c =
     let part = subst (IsPart c.args.catalog.now c.args.block.now) (ap tree_of c.in-HashJoin.is) c.requires.part in
-    let left = c.side_of.ensures ∙ ap (λ (plan : Plan). side_for (tree_of plan)) c.deref-in-HashJoin.ensures in
-    let right = c.side_of-in-HashJoin.ensures ∙ ap (λ (plan : Plan). side_for (tree_of plan)) c.deref-in-HashJoin-2.ensures in
-    subst (λ (side : Side). CanJoin c.weights-in-HashJoin.result side c.side_of-in-HashJoin.result) (sym left)
-    (subst (λ (side : Side). CanJoin c.weights-in-HashJoin.result (side_for (tree_of c.in-HashJoin.left.value)) side) (sym right)
-    (can-join c.args.catalog.now c.args.block.now c.weights-in-HashJoin.result (tree_of c.in-HashJoin.left.value) (tree_of c.in-HashJoin.right.value)
-    c.requires.block part.0 part.1 part.2 c.weights-in-HashJoin.ensures.limits))
+    let left = c.side_of-left_side.ensures ∙ ap (λ (plan : Plan). side_for (tree_of plan)) c.deref-in-HashJoin.ensures in
+    let right = c.side_of-right_side.ensures ∙ ap (λ (plan : Plan). side_for (tree_of plan)) c.deref-in-HashJoin-2.ensures in
+    subst (λ (side : Side). CanJoin c.weights-weights.result side c.side_of-right_side.result) (sym left)
+    (subst (λ (side : Side). CanJoin c.weights-weights.result (side_for (tree_of c.in-HashJoin.left.value)) side) (sym right)
+    (can-join c.args.catalog.now c.args.block.now c.weights-weights.result (tree_of c.in-HashJoin.left.value) (tree_of c.in-HashJoin.right.value)
+    c.requires.block part.0 part.1 part.2 c.weights-weights.ensures.limits))
 
-pub side_of-requires-in-NestedJoin : goal.side_of-requires-in-NestedJoin
-side_of-requires-in-NestedJoin t c =
+pub weights-weights-requires-in-NestedJoin-clause-limits : goal.weights-weights-requires-in-NestedJoin-clause-limits
+weights-weights-requires-in-NestedJoin-clause-limits t c = light-terms c.args.catalog.now c.args.block.now c.requires.block
+
+pub side_of-left_side-requires-in-NestedJoin : goal.side_of-left_side-requires-in-NestedJoin
+side_of-left_side-requires-in-NestedJoin t c =
     let part = subst (IsPart c.args.catalog.now c.args.block.now) (ap tree_of c.in-NestedJoin.is) c.requires.part in
     subst (λ (plan : Plan). HasNumbers (tree_of plan)) (sym c.deref-in-NestedJoin.ensures)
     (numbers c.args.catalog.now c.args.block.now (tree_of c.in-NestedJoin.left.value) c.requires.block part.0)
 
-pub side_of-requires-in-NestedJoin-2 : goal.side_of-requires-in-NestedJoin-2
-side_of-requires-in-NestedJoin-2 t c =
+pub side_of-right_side-requires-in-NestedJoin : goal.side_of-right_side-requires-in-NestedJoin
+side_of-right_side-requires-in-NestedJoin t c =
     let part = subst (IsPart c.args.catalog.now c.args.block.now) (ap tree_of c.in-NestedJoin.is) c.requires.part in
     subst (λ (plan : Plan). HasNumbers (tree_of plan)) (sym c.deref-in-NestedJoin-2.ensures)
     (numbers c.args.catalog.now c.args.block.now (tree_of c.in-NestedJoin.right.value) c.requires.block part.1)
@@ -80,9 +84,9 @@ side_of-requires-in-NestedJoin-2 t c =
 pub nested-head-requires : goal.nested-head-requires
 nested-head-requires t c =
     let part = subst (IsPart c.args.catalog.now c.args.block.now) (ap tree_of c.in-NestedJoin.is) c.requires.part in
-    let left = c.side_of-in-NestedJoin.ensures ∙ ap (λ (plan : Plan). side_for (tree_of plan)) c.deref-in-NestedJoin.ensures in
-    let right = c.side_of-in-NestedJoin-2.ensures ∙ ap (λ (plan : Plan). side_for (tree_of plan)) c.deref-in-NestedJoin-2.ensures in
-    subst (λ (side : Side). CanJoin c.weights-in-NestedJoin.result side c.side_of-in-NestedJoin-2.result) (sym left)
-    (subst (λ (side : Side). CanJoin c.weights-in-NestedJoin.result (side_for (tree_of c.in-NestedJoin.left.value)) side) (sym right)
-    (can-join c.args.catalog.now c.args.block.now c.weights-in-NestedJoin.result (tree_of c.in-NestedJoin.left.value) (tree_of c.in-NestedJoin.right.value)
-    c.requires.block part.0 part.1 part.2 c.weights-in-NestedJoin.ensures.limits))
+    let left = c.side_of-left_side-in-NestedJoin.ensures ∙ ap (λ (plan : Plan). side_for (tree_of plan)) c.deref-in-NestedJoin.ensures in
+    let right = c.side_of-right_side-in-NestedJoin.ensures ∙ ap (λ (plan : Plan). side_for (tree_of plan)) c.deref-in-NestedJoin-2.ensures in
+    subst (λ (side : Side). CanJoin c.weights-weights-in-NestedJoin.result side c.side_of-right_side-in-NestedJoin.result) (sym left)
+    (subst (λ (side : Side). CanJoin c.weights-weights-in-NestedJoin.result (side_for (tree_of c.in-NestedJoin.left.value)) side) (sym right)
+    (can-join c.args.catalog.now c.args.block.now c.weights-weights-in-NestedJoin.result (tree_of c.in-NestedJoin.left.value) (tree_of c.in-NestedJoin.right.value)
+    c.requires.block part.0 part.1 part.2 c.weights-weights-in-NestedJoin.ensures.limits))

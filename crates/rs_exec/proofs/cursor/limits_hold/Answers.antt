@@ -1,0 +1,1 @@
+-- It is one of the two blocks.
