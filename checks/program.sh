@@ -255,13 +255,13 @@ refused 'a word out of the language' 'parse NotInProfile at 34'
 repeated 1001 'CLOSE a;' >s.sql
 refused '1,001 statements' 'parse TooManyStatements at 8000'
 repeated 1000 'CLOSE a;' >s.sql
-refused '1,000 statements' 'not built statement 1'
+expect '1,000 statements' 9 '' $'session: Unknown a\n' -- plain s.sql
 { printf 'CREATE PREDICATE p (v INT) MAX 10 AS ' && repeated 255 '(' && printf v && repeated 255 ')' && printf ';'; } >s.sql
 expect 'a formula as deep as may be' 0 '' '' -- plain s.sql
 { printf 'CREATE PREDICATE p (v INT) MAX 10 AS ' && repeated 256 '(' && printf v && repeated 256 ')' && printf ';'; } >s.sql
 refused 'a formula that is too deep' 'parse TooDeep at 292'
 script 'CLOSE a;'
-refused 'a statement' 'not built statement 1'
+expect 'a name under which no cursor is open' 9 '' $'session: Unknown a\n' -- plain s.sql
 
 # ---- tables, predicates and rank indexes
 printf 'x,y\n10,3\n8,9\n5,1\n2,10\n' >t.csv
@@ -307,21 +307,36 @@ while IFS= read -r script; do
         failed "the example $script has no file ${script%.sql}.out of what it prints"
         continue
     fi
-    words=(plain "$script")
-    # Only `run` says something of a plan.
-    case $script in */plans.sql) words=(run "$script" 1) ;; esac
-    (cd "$root" && timeout 60 "$program" "${words[@]}" >"$work/said/out" 2>"$work/said/err" </dev/null)
-    echo $? >"$work/said/status"
+    # Only `run` says something of a plan. All else is the same under both words.
+    words=(plain run)
+    case $script in
+        */plans.sql | */analyzed.sql) words=(run) ;;
+        *) ! grep -q '^EXPLAIN' "$root/$script" || words=(plain) ;;
+    esac
     # The command gives no line feeds at the end, so a mark goes behind them.
     text=$(cat "$wanted" && echo .)
-    compare "the example $script" 0 "${text%.}" ''
+    for word in "${words[@]}"; do
+        seed=()
+        [ "$word" = plain ] || seed=(1)
+        (cd "$root" && timeout 60 "$program" "$word" "$script" "${seed[@]}" >"$work/said/out" 2>"$work/said/err" </dev/null)
+        echo $? >"$work/said/status"
+        compare "the example $script under $word" 0 "${text%.}" ''
+    done
 done < <(cd "$root" && find examples -name '*.sql' | sort)
 [ "$scripts" -gt 0 ] || failed 'there are no examples'
 
-# docs/PLANS.md shows what that script prints, and its queries.
+# docs/PLANS.md shows what these scripts print, and their queries.
 while IFS= read -r line; do
     grep -qxF -e "    $line" "$root/docs/PLANS.md" || failed "PLANS.md doesn't have the line: $line"
-done < <(cat "$root/examples/travel/plans.out" && sed -n '/^EXPLAIN/,/;$/p' "$root/examples/travel/plans.sql")
+done < <(cd "$root/examples/travel" && cat plans.out analyzed.out && sed -s -n '/^EXPLAIN/,/;$/p' plans.sql analyzed.sql)
+while IFS= read -r line; do
+    grep -qxF -e "    $line" "$root/README.md" || failed "README.md doesn't have the line: $line"
+done < <(head -n 6 "$root/examples/travel/analyzed.out")
+
+# docs/GRAMMAR.md shows what guides.sql prints.
+while IFS= read -r line; do
+    grep -qxF -e "    $line" "$root/docs/GRAMMAR.md" || failed "GRAMMAR.md doesn't have the line: $line"
+done <"$root/examples/travel/guides.out"
 
 # The queries of the program enum_cases, with tables in files: EXPLAIN has to print the text that stands there, and `run` the
 # rows of `plain`.
@@ -432,8 +447,20 @@ refused 'a text and a number in a query' "bind WrongKind at ${#front}"
 front="${base}EXPLAIN SELECT "
 script "${front}z FROM h ORDER BY p(city);"
 refused 'a column that is not there in a plan' "bind NoColumn at ${#front}"
-script "${base}SELECT x FROM t ORDER BY p(x); DECLARE c CURSOR FOR SELECT x FROM t ORDER BY p(x);"
-expect 'a cursor behind a query' 5 $'1,10,10\n2,8,8\n3,5,5\n4,2,2\n' $'script: not built statement 7\n' -- plain s.sql
+# Cursors: the rows come in parts, and the ranks go on.
+script "${base}DECLARE c CURSOR FOR SELECT x FROM t ORDER BY p(x); FETCH 1 FROM c; SELECT y FROM t ORDER BY p(x) LIMIT 1; FETCH 2 FROM c; FETCH 9 FROM c; CLOSE c;"
+expect 'a cursor and a query' 0 $'1,10,10\n1,10,3\n2,8,8\n3,5,5\n4,2,2\n' '' -- plain s.sql
+expect 'a cursor and a query by plans' 0 $'1,10,10\n1,10,3\n2,8,8\n3,5,5\n4,2,2\n' '' -- run s.sql 1
+script "${base}DECLARE c CURSOR FOR SELECT x FROM t ORDER BY p(x); FETCH 1 FROM c; DECLARE c CURSOR FOR SELECT y FROM t ORDER BY p(x);"
+expect 'a cursor whose name is taken' 9 $'1,10,10\n' $'session: NameTaken c\n' -- run s.sql 1
+for number in $(seq 65); do echo "DECLARE c$number CURSOR FOR SELECT x FROM t ORDER BY p(x);"; done >many.sql
+script "$base"
+cat many.sql >>s.sql
+expect 'a cursor more than may be open' 9 '' $'session: Full c65\n' -- run s.sql 1
+script "${base}DECLARE c CURSOR FOR SELECT DISTINCT city FROM h ORDER BY p(city); FETCH 1 FROM c; FETCH 9 FROM c;"
+expect 'a cursor over DISTINCT' 0 $'1,2,2\n2,1,1\n' '' -- run s.sql 1
+script "${base}DECLARE c CURSOR FOR SELECT x FROM t ORDER BY p(x); FETCH 1 FROM c; CREATE TABLE n (x INT) FROM 'nope.csv'; FETCH 1 FROM c;"
+expect 'a missing table between two FETCHes' 3 $'1,10,10\n' $'read: nope.csv: missing\n' -- run s.sql 1
 
 # ---- queries by plans
 script "${base}SELECT x, y FROM t WHERE y < 9 ORDER BY p(y) + 2 * p(x) LIMIT 1; SELECT x FROM t ORDER BY p(x);"
@@ -475,13 +502,21 @@ expect 'a bad score behind the first row of a plan' 7 $'1,20,10,10\n' $'score: p
 expect 'the same bad score before any row' 7 '' $'score: p rows 2: 99 is not in 0..10\n' -- plain s.sql
 script "$far LIMIT 1;"
 expect 'a bad score of a row that is not needed' 0 $'1,20,10,10\n' '' -- run s.sql 1
-for query in 'SELECT DISTINCT name FROM h, t ORDER BY p(x)' 'SELECT DISTINCT nope FROM nope, nope ORDER BY nope(x)' 'SELECT DISTINCT city FROM h ORDER BY p(city)' \
-    'SELECT city FROM h UNION SELECT y FROM t ORDER BY p(city)' 'EXPLAIN SELECT DISTINCT nope FROM t ORDER BY p(x)' 'EXPLAIN ANALYZE SELECT x FROM t ORDER BY p(x)'; do
-    script "$base$query;"
-    expect "no plan is built of '$query'" 5 '' $'script: not built statement 6\n' -- run s.sql 1
-done
+script "${base}SELECT DISTINCT city, x FROM h, t ORDER BY p(x) LIMIT 3; SELECT DISTINCT city FROM h ORDER BY p(city);"
+expect 'DISTINCT by plans' 0 $'1,10,1,10\n2,10,2,10\n3,8,1,8\n1,2,2\n2,1,1\n' '' -- run s.sql 1
+script "${base}SELECT city FROM h UNION SELECT y FROM t ORDER BY p(city); SELECT x FROM t EXCEPT SELECT city FROM h ORDER BY p(x);"
+expect 'set operators by plans' 0 $'1,10,10\n2,9,9\n3,3,3\n4,2,2\n5,1,1\n1,10,10\n2,8,8\n3,5,5\n' '' -- run s.sql 1
+script "${base}EXPLAIN ANALYZE SELECT x FROM t INTERSECT SELECT y FROM t ORDER BY p(x);"
+expect 'the plan of a set operator, and what it did' 0 $'Rank term 1 est=8 cost=24 asked=2 gave=1 calls=1\n  Intersect est=8 cost=16 asked=2 gave=1\n    SeqScan t t est=4 cost=4 asked=5 gave=4 drawn=4\n    SeqScan t t est=4 cost=4 asked=5 gave=4 drawn=4\n' '' -- run s.sql 1
+front="${base}EXPLAIN ANALYZE SELECT DISTINCT "
+script "${front}nope FROM t ORDER BY p(x);"
+expect 'a column that is not there in a plan of DISTINCT' 5 '' "script: bind NoColumn at ${#front}"$'\n' -- run s.sql 1
 script "${base}EXPLAIN SELECT x.name, y.name FROM h x, h y WHERE x.city = y.city ORDER BY near(x.price, y.price) LIMIT 3;"
 expect 'the plan of a query' 0 $'Rank term 1 est=3 cost=25\n  NestedRankJoin est=5 cost=20\n    SeqScan h x est=3 cost=3\n    SeqScan h y est=3 cost=3\n' '' -- run s.sql 1
+script "${base}EXPLAIN ANALYZE SELECT x.name, y.name FROM h x, h y WHERE x.city = y.city ORDER BY near(x.price, y.price) LIMIT 3;"
+expect 'the plan of a query, and what it did' 0 $'Rank term 1 est=3 cost=25 asked=3 gave=3 calls=5\n  NestedRankJoin est=5 cost=20 asked=5 gave=5\n    SeqScan h x est=3 cost=3 asked=4 gave=3 drawn=3\n    SeqScan h y est=3 cost=3 asked=4 gave=3 drawn=3\n' '' -- run s.sql 1
+script "$far LIMIT 1; EXPLAIN ANALYZE ${far##*; };"
+expect 'a bad score of a plan that is analyzed' 7 $'1,20,10,10\n' $'score: p rows 2: 99 is not in 0..10\n' -- run s.sql 1
 front="${base}SELECT "
 script "${front}z FROM h ORDER BY p(city);"
 expect 'a column that is not there' 5 '' "script: bind NoColumn at ${#front}"$'\n' -- run s.sql 1

@@ -34,6 +34,6 @@ WHERE h.rating > 0
 ORDER BY cheap(h.price) + 3 * liked(h.rating) DESC
 LIMIT 10;
 
--- EXPLAIN and EXPLAIN ANALYZE look for what is wrong in a query, and print nothing today.
+-- Under `plain` EXPLAIN and EXPLAIN ANALYZE look for what is wrong in a query, and print nothing.
 EXPLAIN SELECT name, city, price FROM hotels ORDER BY cheap(price) LIMIT 5;
 EXPLAIN ANALYZE SELECT name, city, price FROM hotels ORDER BY cheap(price) LIMIT 5;

@@ -1,6 +1,6 @@
 -- What a call of a cursor that stands asks, and what is left behind it.
 use Rattle.std.proofs.Common.{ℕ, suc, ◌≡◌, ◌∙◌, Bool, true, false, [], ◌∷◌, refl, sym, ap, subst}
-use Rattle.std.specs.Prelude.{IfOk, Option, Some, None, Result, Ok, Err, if◌then◌else◌}
+use Rattle.std.specs.Prelude.{IfOk, is_some, Option, Some, None, Result, Ok, Err, if◌then◌else◌}
 use Rattle.rs_value.specs.declared.memory.Memory as value
 use Rattle.rs_rank.specs.declared.answer.Answer.{Answer}
 use Rattle.rs_lines.specs.Row.{line_of}
@@ -15,7 +15,7 @@ use Rattle.rs_plan.specs.Trees.{PlanTree}
 use Rattle.rs_query.specs.Questions.{is_bad, through_first}
 use Rattle.rs_query.specs.declared.query.Query.{Query}
 use Rattle.rs_exec.specs.Asking.{exec_faults, world_of}
-use Rattle.rs_exec.specs.Cursors.{CursorState, IsNew, StandsFor, asks_after, asks_of, call_of, is_over, next_answer, next_of, no_question, plan_of}
+use Rattle.rs_exec.specs.Cursors.{CursorState, IsNew, IsOver, StandsFor, asks_after, asks_of, call_of, is_over, next_answer, next_of, no_question, plan_of}
 use Rattle.rs_exec.specs.declared.fault.ExecFault.{ExecFault}
 use Rattle.rs_exec.specs.declared.fault.ExecFault.TheVariants.{Broken, Memory}
 use Rattle.rs_run.specs.declared.fault.Fault.{Fault}
@@ -25,7 +25,7 @@ use Rattle.rs_run.specs.Planned.{ask_fault, ask_outcome, asked_step, given_lines
 use Rattle.rs_run.specs.Sequence.{then_step}
 use Rattle.rs_run.specs.World.{World}
 use Rattle.rs_run.proofs.InquirySteps.{Probes, Stepped-asked}
-use Rattle.rs_run.proofs.PlanSteps.{asks_after-more, gave-all, given-row, left-ended, left-next}
+use Rattle.rs_run.proofs.PlanSteps.{asks_after-more, gave-all, given-row, left-ended, left-next, over-ended}
 use Rattle.rs_run.proofs.QuerySteps.{Probes-questions}
 
 -- a new cursor is one that was asked 0 times
@@ -61,7 +61,7 @@ module _ (catalogue : Catalogue) (answer : Answering) (cursor : CursorState) whe
       (subst (λ r. Ran (lines_run (line_of r row.score row.values ∷ [])) result (record world { scorer = scorer }) new) is puts)
 
   module _ (stands : StandsFor catalogue answer cursor) where
-    call-next : call_of catalogue answer cursor ≡ next_of w tree n
+    pub call-next : call_of catalogue answer cursor ≡ next_of w tree n
     call-next = ap (λ b. if b then no_question (Err Broken) else next_of w tree n) stands.sound
 
     -- what is left is the call, and what is left behind it
@@ -71,6 +71,26 @@ module _ (catalogue : Catalogue) (answer : Answering) (cursor : CursorState) whe
     outcome-next : (given : Option Answer) (old new : ScorerState) → Inquires Memory (call_of catalogue answer cursor) (Ok given) old new → (next_of w tree n).outcome ≡ Ok given
     outcome-next given old new asks =
         ap (λ (i : Inquiry (Option Answer) ExecFault). i.outcome) (sym call-next) ∙ sym (InquiryEnds-ok Memory (call_of catalogue answer cursor) given old new asks).gives
+
+    -- a call that gave a row was an ask, and behind one that gave none the plan is asked no more
+    pub record Answered (some : Bool) : Type 0 where
+      pub before : some ≡ true → is_over w tree n ≡ false
+      pub ended : some ≡ false → is_over w tree (asks_after w tree n) ≡ true
+
+    pub answered : (given : Option Answer) (some : Bool) (old new : ScorerState) → some ≡ is_some given → Inquires Memory (call_of catalogue answer cursor) (Ok given) old new
+        → Answered some
+    answered None some old new is asks = record { before = λ e. absurd cc; ended = λ e. over-ended w tree n (outcome-next None old new asks) }
+    answered (Some row) some old new is asks =
+        record { before = λ e. (given-row w tree n row (outcome-next (Some row) old new asks)).more; ended = λ e. absurd cc }
+
+    -- the cursor behind it is over
+    pub over-call : (next : CursorState) (old new : ScorerState) → Inquires Memory (call_of catalogue answer cursor) (Ok None) old new → IsAt cursor.query tree (asks_after w tree n) next
+        → StandsFor catalogue answer next → IsOver catalogue answer next
+    over-call next old new asks at stand = (
+      stand.sound,
+      ap (λ query. is_over (world_of catalogue answer query) (plan_of next) (asks_of next)) at.query_is ∙ ap (λ plan. is_over w plan (asks_of next)) at.plan_is
+          ∙ ap (is_over w tree) at.asks_are ∙ over-ended w tree n (outcome-next None old new asks),
+    )
 
     -- behind a call that gave no row nothing is left
     pub ended-call : (old new : ScorerState) → Inquires Memory (call_of catalogue answer cursor) (Ok None) old new

@@ -1,5 +1,6 @@
--- The rank indexes of a script's catalogue hold the scorer's answers, from statement to statement.
-use Rattle.std.proofs.Common.{ℕ, ◌≡◌, Bool, true, false, List, length, refl, sym, ap, subst, inl}
+-- What is so of a catalogue and stays so behind what joins it is so from statement to statement: its rank indexes hold the scorer's answers, and the open cursors
+-- stand for it.
+use Rattle.std.proofs.Common.{ℕ, ◌≡◌, Bool, true, false, List, [], ◌∷◌, length, refl, sym, ap, subst, inl}
 use Rattle.std.specs.Prelude.{Option, Result, Ok, Err, zero, suc, if◌then◌else◌}
 use Rattle.rs_value.specs.Results.{◌>>=◌}
 use Rattle.rs_expr.specs.Scoring.{Answering}
@@ -7,8 +8,10 @@ use Rattle.rs_rank.specs.declared.answer.Answer.{Answer}
 use Rattle.rs_rank.specs.declared.scored_row.ScoredRow.{ScoredRow}
 use Rattle.rs_table.specs.Column.{Column}
 use Rattle.rs_table.specs.Reading.{table_of}
+use Rattle.rs_table.specs.Relation.{Relation}
+use Rattle.rs_expr.specs.Predicates.{PredicateDef}
 use Rattle.rs_catalog.specs.Catalogue.{Catalogue, room_for, with_index, with_predicate, with_table}
-use Rattle.rs_catalog.specs.Indexes.{making, predicate_for}
+use Rattle.rs_catalog.specs.Indexes.{IsIndex, making, predicate_for}
 use Rattle.rs_catalog.specs.declared.index.IndexDef.{IndexDef}
 use Rattle.rs_catalog.specs.declared.index.IndexFault.{IndexFault}
 use Rattle.rs_catalog.specs.declared.room.What.{What}
@@ -32,6 +35,7 @@ use Rattle.rs_plan.specs.Lists as plan
 use Rattle.rs_plan.specs.Lists.{list_of_plan}
 use Rattle.rs_plan.specs.Trees.{PlanTree}
 use Rattle.rs_exec.specs.Asking.{world_of}
+use Rattle.rs_exec.specs.Cursors.{CursorState, StandsFor}
 use Rattle.rs_exec.specs.Indexes.{AreHeld}
 use Rattle.rs_exec.proofs.HeldFacts.{held-with_index, held-with_predicate, held-with_table}
 use Rattle.rs_run.specs.declared.evaluating.Evaluating.{Evaluating}
@@ -39,24 +43,31 @@ use Rattle.rs_run.specs.declared.evaluating.Evaluating.TheVariants.{Planned, Pla
 use Rattle.rs_run.specs.declared.fault.Fault.{Fault}
 use Rattle.rs_run.specs.Content.{content_of}
 use Rattle.rs_run.specs.Faults.{or_index_fault}
-use Rattle.rs_run.specs.Planned.{ask_count, ask_step, asks_from, can_be_planned, plan_for}
+use Rattle.rs_run.specs.declared.session.Held.{Held}
+use Rattle.rs_run.specs.declared.session.Held.TheVariants as held
+use Rattle.rs_run.specs.Parts.Session.{CanAllBeAsked, CanBeAsked}
+use Rattle.rs_run.specs.Planned.{ask_count, ask_step, asks_from, plan_for, planned_step}
 use Rattle.rs_run.specs.Run.{Finds}
-use Rattle.rs_run.specs.Sequence.{Step, then_step}
-use Rattle.rs_run.specs.Statements.{Does, DoesTable, analyze_step, explain_outcome, explain_step, explained_step, index_step, is_built, not_built, or_bind_fault, or_room_fault, predicate_outcome, query_outcome, query_step, refused_or, select_step, table_step, with_room}
+use Rattle.rs_run.specs.Sequence.{Step, silent, then_step}
+use Rattle.rs_run.specs.Statements.{Does, DoesTable, analyze_step, analyzed_step, explain_outcome, explain_step, explained_step, index_step, or_bind_fault, or_room_fault, predicate_outcome, query_outcome, query_step, refused_or, select_step, table_step, with_room}
 use Rattle.rs_run.specs.Top.{or_table_fault, table_limit}
+use Rattle.rs_run.proofs.AnalyzeSteps.{analyzed_lines}
 
 -- what a step that went well gave, and what went on from it
 pub Ok-then : {A B E : Type 0} (first : Result A E) (next : A → Result B E) (b : B) → (first >>= next) ≡ Ok b → (a : A) × (first ≡ Ok a) × (next a ≡ Ok b)
 Ok-then (Ok a) next b e = (a, refl, e)
 Ok-then (Err fault) next b e = absurd cc
 
-module _ (answer : Answering) (catalogue : Catalogue) (held : AreHeld answer catalogue) where
+module _ (answer : Answering) (catalogue : Catalogue) (P : Catalogue → Type 0) (here : P catalogue)
+    (tables : (name : List ℕ) (table : Relation) → P (with_table name table catalogue))
+    (predicates : (predicate : PredicateDef) → P (with_predicate predicate catalogue))
+    (indexes : (def : IndexDef) (ranking : List ScoredRow) → IsIndex catalogue def → (making answer catalogue def).outcome ≡ Ok ranking → P (with_index def ranking catalogue)) where
   -- what a statement leaves
   abbrev Leaves : Result Catalogue Fault → Type 0
-  Leaves outcome = (next : Catalogue) → outcome ≡ Ok next → AreHeld answer next
+  Leaves outcome = (next : Catalogue) → outcome ≡ Ok next → P next
 
   leaves-same : Leaves (Ok catalogue)
-  leaves-same next e = let same : catalogue ≡ next = cc in subst (AreHeld answer) same held
+  leaves-same next e = let same : catalogue ≡ next = cc in subst P same here
 
   leaves-none : (fault : Fault) → Leaves (Err fault)
   leaves-none fault next e = absurd cc
@@ -66,7 +77,7 @@ module _ (answer : Answering) (catalogue : Catalogue) (held : AreHeld answer cat
       let read = Ok-then (content_of table_limit file there) _ next e in
       let made = Ok-then (or_table_fault file (table_of columns read.0)) _ next read.2 in
       let same : with_table name.text made.0 catalogue ≡ next = (let last = made.2 in cc) in
-      subst (AreHeld answer) same (held-with_table catalogue answer name.text made.0 held)
+      subst P same (tables name.text made.0)
 
   leaves-table : (finds : Finds) (name : Name) (file : List ℕ) (bound : Result (List Column) Fault) (step : Step Catalogue) → DoesTable finds catalogue name file bound step → Leaves step.outcome
   leaves-table finds name file (Err fault) step does = subst (λ (s : Step Catalogue). Leaves s.outcome) (sym does) (leaves-none fault)
@@ -76,7 +87,7 @@ module _ (answer : Answering) (catalogue : Catalogue) (held : AreHeld answer cat
   leaves-predicate name command next e =
       let made = Ok-then (with_room catalogue what.Predicate name (predicate_of command)) _ next e in
       let same : with_predicate made.0 catalogue ≡ next = (let last = made.2 in cc) in
-      subst (AreHeld answer) same (held-with_predicate catalogue answer made.0 held)
+      subst P same (predicates made.0)
 
   roomy : {A : Type 0} (w : What) (name : Name) (bound : Result A BindFault) (a : A) → with_room catalogue w name bound ≡ Ok a → bound ≡ Ok a
   roomy w name (Ok b) a e =
@@ -92,9 +103,9 @@ module _ (answer : Answering) (catalogue : Catalogue) (held : AreHeld answer cat
     go (Ok def) is = λ next e.
         let made = Ok-then (or_index_fault (predicate_for catalogue def).name (making answer catalogue def).outcome) _ next e in
         let same : with_index def made.0 catalogue ≡ next = (let last = made.2 in cc) in
-        subst (AreHeld answer) same
-        (held-with_index catalogue answer def made.0 (IsIndex-given catalogue command def written (inl (sym (roomy what.Index name (index_def_of catalogue command) def is))))
-        (well (making answer catalogue def).outcome made.0 made.1) held) where
+        subst P same
+        (indexes def made.0 (IsIndex-given catalogue command def written (inl (sym (roomy what.Index name (index_def_of catalogue command) def is))))
+        (well (making answer catalogue def).outcome made.0 made.1)) where
           well : (outcome : Result (List ScoredRow) IndexFault) (ranking : List ScoredRow) → or_index_fault (predicate_for catalogue def).name outcome ≡ Ok ranking → outcome ≡ Ok ranking
           well (Ok entries) ranking e = let same : entries ≡ ranking = cc in ap Ok same
           well (Err why) ranking e = absurd cc
@@ -106,7 +117,7 @@ module _ (answer : Answering) (catalogue : Catalogue) (held : AreHeld answer cat
     go (Err fault) = leaves-none fault
 
   leaves-asks : (w : plan.World) (tree : PlanTree) (n count : ℕ) → w.catalogue ≡ catalogue → Leaves (asks_from w tree n count).outcome
-  leaves-asks w tree n zero is = λ next e. let same : catalogue ≡ next = cc in subst (AreHeld answer) same held
+  leaves-asks w tree n zero is = λ next e. let same : catalogue ≡ next = cc in subst P same here
   leaves-asks w tree n (suc count) is = leaves-then (ask_step w tree n) (asks_from w tree (suc n) count) (leaves-asks w tree (suc n) count is)
 
   leaves-query : (evaluating : Evaluating) (query : Query) → Leaves (query_step evaluating answer catalogue query).outcome
@@ -118,41 +129,80 @@ module _ (answer : Answering) (catalogue : Catalogue) (held : AreHeld answer cat
       let w = world_of catalogue answer query in
       leaves-asks w (plan_for answer catalogue seed query) 0 (ask_count (limit_of query) (length (list_of_plan w (plan_for answer catalogue seed query)))) refl
 
-  leaves-select : (evaluating : Evaluating) (number : ℕ) (query : syntax.Query) → Leaves (select_step evaluating answer number catalogue query).outcome
-  leaves-select evaluating number query = go (is_built evaluating query) (or_bind_fault (bound_query catalogue query)) where
-    go : (built : Bool) (bound : Result Query Fault) → Leaves (if built then refused_or (query_step evaluating answer catalogue) bound else not_built number).outcome
-    go true (Ok bound) = leaves-query evaluating bound
-    go true (Err fault) = leaves-none fault
-    go false bound = λ next e. absurd cc
+  leaves-select : (evaluating : Evaluating) (query : syntax.Query) → Leaves (select_step evaluating answer catalogue query).outcome
+  leaves-select evaluating query = go (or_bind_fault (bound_query catalogue query)) where
+    go : (bound : Result Query Fault) → Leaves (refused_or (query_step evaluating answer catalogue) bound).outcome
+    go (Ok bound) = leaves-query evaluating bound
+    go (Err fault) = leaves-none fault
 
   leaves-bound : (query : syntax.Query) → Leaves (explain_outcome catalogue query)
   leaves-bound query = λ next e.
       let made = Ok-then (or_bind_fault (bound_query catalogue query)) _ next e in
       leaves-same next made.2
 
-  leaves-explain : (evaluating : Evaluating) (number : ℕ) (query : syntax.Query) → Leaves (explain_step evaluating answer number catalogue query).outcome
-  leaves-explain Plainly number query = leaves-bound query
-  leaves-explain (Planned seed) number query = go (can_be_planned query) (or_bind_fault (bound_query catalogue query)) where
-    go : (built : Bool) (bound : Result Query Fault) → Leaves (if built then refused_or (explained_step answer catalogue seed) bound else not_built number).outcome
-    go true (Ok bound) = leaves-same
-    go true (Err fault) = leaves-none fault
-    go false bound = λ next e. absurd cc
+  leaves-explain : (evaluating : Evaluating) (query : syntax.Query) → Leaves (explain_step evaluating answer catalogue query).outcome
+  leaves-explain Plainly query = leaves-bound query
+  leaves-explain (Planned seed) query = go (or_bind_fault (bound_query catalogue query)) where
+    go : (bound : Result Query Fault) → Leaves (refused_or (explained_step answer catalogue seed) bound).outcome
+    go (Ok bound) = leaves-same
+    go (Err fault) = leaves-none fault
 
-  leaves-analyze : (evaluating : Evaluating) (number : ℕ) (query : syntax.Query) → Leaves (analyze_step evaluating number catalogue query).outcome
-  leaves-analyze Plainly number query = leaves-bound query
-  leaves-analyze (Planned seed) number query = λ next e. absurd cc
+  leaves-analyzed : (seed : ℕ) (query : Query) → Leaves (analyzed_step answer catalogue seed query).outcome
+  leaves-analyzed seed query =
+      let w = world_of catalogue answer query in
+      let tree = plan_for answer catalogue seed query in
+      leaves-then (silent (planned_step w tree)) (analyzed_lines answer catalogue seed query) leaves-same
 
-  pub held-step : (finds : Finds) (evaluating : Evaluating) (number : ℕ) (command : Command) (step : Step Catalogue) (next : Catalogue) → IsWritten command
-      → Does finds answer evaluating number catalogue command step → step.outcome ≡ Ok next → AreHeld answer next
-  held-step finds evaluating number (CreateTable name columns file) step next written does =
+  leaves-analyze : (evaluating : Evaluating) (query : syntax.Query) → Leaves (analyze_step evaluating answer catalogue query).outcome
+  leaves-analyze Plainly query = leaves-bound query
+  leaves-analyze (Planned seed) query = go (or_bind_fault (bound_query catalogue query)) where
+    go : (bound : Result Query Fault) → Leaves (refused_or (analyzed_step answer catalogue seed) bound).outcome
+    go (Ok bound) = leaves-analyzed seed bound
+    go (Err fault) = leaves-none fault
+
+  pub kept-step : (finds : Finds) (evaluating : Evaluating) (command : Command) (step : Step Catalogue) (next : Catalogue) → IsWritten command
+      → Does finds answer evaluating catalogue command step → step.outcome ≡ Ok next → P next
+  kept-step finds evaluating (CreateTable name columns file) step next written does =
       leaves-table finds name file (with_room catalogue what.Table name (columns_of columns)) step does next
-  held-step finds evaluating number (CreatePredicate name params max cost formula) step next written does =
+  kept-step finds evaluating (CreatePredicate name params max cost formula) step next written does =
       subst (λ (s : Step Catalogue). Leaves s.outcome) (sym does) (leaves-predicate name (CreatePredicate name params max cost formula)) next
-  held-step finds evaluating number (CreateRankIndex name table predicate args at) step next written does =
+  kept-step finds evaluating (CreateRankIndex name table predicate args at) step next written does =
       subst (λ (s : Step Catalogue). Leaves s.outcome) (sym does) (leaves-index name (CreateRankIndex name table predicate args at) written) next
-  held-step finds evaluating number (Ask query) step next written does = subst (λ (s : Step Catalogue). Leaves s.outcome) (sym does) (leaves-select evaluating number query) next
-  held-step finds evaluating number (Declare name query) step next written does = λ e. absurd (let none = ap (λ (s : Step Catalogue). s.outcome) does in cc)
-  held-step finds evaluating number (Fetch count name) step next written does = λ e. absurd (let none = ap (λ (s : Step Catalogue). s.outcome) does in cc)
-  held-step finds evaluating number (Close name) step next written does = λ e. absurd (let none = ap (λ (s : Step Catalogue). s.outcome) does in cc)
-  held-step finds evaluating number (Explain query) step next written does = subst (λ (s : Step Catalogue). Leaves s.outcome) (sym does) (leaves-explain evaluating number query) next
-  held-step finds evaluating number (ExplainAnalyze query) step next written does = subst (λ (s : Step Catalogue). Leaves s.outcome) (sym does) (leaves-analyze evaluating number query) next
+  kept-step finds evaluating (Ask query) step next written does = subst (λ (s : Step Catalogue). Leaves s.outcome) (sym does) (leaves-select evaluating query) next
+  kept-step finds evaluating (Declare name query) step next written does = absurd does
+  kept-step finds evaluating (Fetch count name) step next written does = absurd does
+  kept-step finds evaluating (Close name) step next written does = absurd does
+  kept-step finds evaluating (Explain query) step next written does = subst (λ (s : Step Catalogue). Leaves s.outcome) (sym does) (leaves-explain evaluating query) next
+  kept-step finds evaluating (ExplainAnalyze query) step next written does = subst (λ (s : Step Catalogue). Leaves s.outcome) (sym does) (leaves-analyze evaluating query) next
+
+-- the rank indexes hold the scorer's answers
+pub held-step : (answer : Answering) (catalogue : Catalogue) (finds : Finds) (evaluating : Evaluating) (command : Command) (step : Step Catalogue) (next : Catalogue)
+    → AreHeld answer catalogue → IsWritten command → Does finds answer evaluating catalogue command step → step.outcome ≡ Ok next → AreHeld answer next
+held-step answer catalogue finds evaluating command step next held =
+    kept-step answer catalogue (AreHeld answer) held (λ name table. held-with_table catalogue answer name table held) (λ predicate. held-with_predicate catalogue answer predicate held)
+    (λ def ranking fits made. held-with_index catalogue answer def ranking fits made held) finds evaluating command step next
+
+-- where cursors go on to stand, so do all that are open
+asked-larger : (answer : Answering) (small large : Catalogue) → ((cursor : CursorState) → StandsFor small answer cursor → StandsFor large answer cursor) → (entries : List (List ℕ × Held))
+    → CanAllBeAsked answer small entries → CanAllBeAsked answer large entries
+asked-larger answer small large stands [] all = tt
+asked-larger answer small large stands ((name, kept) ∷ entries) all = (one kept all.0, asked-larger answer small large stands entries all.1) where
+  one : (kept : Held) → CanBeAsked answer small kept → CanBeAsked answer large kept
+  one (held.Asked cursor) is = stands cursor is
+  one (held.Ready rows given) is = is
+
+-- a cursor that stands for a catalogue stands for what it becomes
+pub record StandOn (answer : Answering) (catalogue : Catalogue) : Type 0 where
+  pub tables : (cursor : CursorState) (name : List ℕ) (table : Relation) → StandsFor catalogue answer cursor → StandsFor (with_table name table catalogue) answer cursor
+  pub predicates : (cursor : CursorState) (predicate : PredicateDef) → StandsFor catalogue answer cursor → StandsFor (with_predicate predicate catalogue) answer cursor
+  pub indexes : (cursor : CursorState) (def : IndexDef) (ranking : List ScoredRow) → StandsFor catalogue answer cursor → StandsFor (with_index def ranking catalogue) answer cursor
+
+pub asked-step : (answer : Answering) (catalogue : Catalogue) (finds : Finds) (evaluating : Evaluating) (command : Command) (step : Step Catalogue) (next : Catalogue)
+    (entries : List (List ℕ × Held)) → StandOn answer catalogue → CanAllBeAsked answer catalogue entries → IsWritten command
+    → Does finds answer evaluating catalogue command step → step.outcome ≡ Ok next → CanAllBeAsked answer next entries
+asked-step answer catalogue finds evaluating command step next entries on all =
+    kept-step answer catalogue (λ c. CanAllBeAsked answer c entries) all
+    (λ name table. asked-larger answer catalogue (with_table name table catalogue) (λ cursor. on.tables cursor name table) entries all)
+    (λ predicate. asked-larger answer catalogue (with_predicate predicate catalogue) (λ cursor. on.predicates cursor predicate) entries all)
+    (λ def ranking fits made. asked-larger answer catalogue (with_index def ranking catalogue) (λ cursor. on.indexes cursor def ranking) entries all)
+    finds evaluating command step next

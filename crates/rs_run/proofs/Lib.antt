@@ -1,5 +1,6 @@
 pub mod Worked
 mod WorkedStatements
+mod WorkedSession
 pub mod RanFacts
 pub mod FetchFacts
 pub mod RunFacts
@@ -18,8 +19,11 @@ pub mod PlanSteps
 pub mod NamedFacts
 pub mod CursorSteps
 pub mod LeftSteps
+pub mod WantedSteps
+pub mod AnalyzeSteps
+pub mod CountSteps
 pub mod HeldSteps
-pub mod OneBlockFacts
+pub mod UnfilteredFacts
 pub mod PlanningFacts
 pub mod StatementFacts
 pub mod TextFacts
@@ -27,3 +31,6 @@ pub mod OwnFaults
 pub mod OutcomeFacts
 pub mod OneRun
 pub mod SamePuts
+pub mod LargerRows
+pub mod SessionFacts
+pub mod SessionSteps

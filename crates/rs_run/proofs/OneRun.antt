@@ -7,12 +7,13 @@ use Rattle.rs_lex.specs.declared.fault.LexFault.{LexFault}
 use Rattle.rs_lex.specs.declared.token.Token.{Token}
 use Rattle.rs_outside.specs.Files.{FilesTold}
 use Rattle.rs_syntax.specs.Scripts.{IsSound, Parses, Refuses}
-use Rattle.rs_syntax.specs.Syntax.{Command, CreateTable, CreatePredicate, CreateRankIndex}
+use Rattle.rs_syntax.specs.Syntax.{Command, CreateTable, CreatePredicate, CreateRankIndex, Ask, Declare, Close, Explain, ExplainAnalyze}
+use Rattle.rs_syntax.specs.Syntax as syntax
 use Rattle.rs_syntax.specs.declared.fault.SyntaxFault.{SyntaxFault}
 use Rattle.rs_syntax.specs.declared.name.Name.{Name}
 use Rattle.rs_syntax.proofs.ScriptFacts.{Parses-one, Refuses-one, IsSound-not_refused}
 use Rattle.rs_table.specs.Column.{Column}
-use Rattle.rs_catalog.specs.Catalogue.{Catalogue, empty}
+use Rattle.rs_catalog.specs.Catalogue.{Catalogue}
 use Rattle.rs_catalog.specs.declared.room.What.TheVariants as what
 use Rattle.rs_bind.specs.Names.{columns_of}
 use Rattle.rs_run.specs.declared.fault.Fault.{Fault}
@@ -26,7 +27,8 @@ use Rattle.rs_run.specs.Run.{Event, Fetch, Finds, Run, behind, fails, fetch_then
 use Rattle.rs_run.specs.Running.{IsRun, IsRunOf}
 use Rattle.rs_run.specs.Sequence.{RunOf, RunsOn, Step}
 use Rattle.rs_run.specs.declared.evaluating.Evaluating.{Evaluating}
-use Rattle.rs_run.specs.Statements.{Does, DoesTable, StatementsRun, table_step, with_room}
+use Rattle.rs_run.specs.Statements.{Does, DoesTable, table_step, with_room}
+use Rattle.rs_run.specs.Session.{DoesInSession, State, StatementsRun, beside_cursors, nothing}
 
 -- a script has one list of tokens at most, and isn't refused by the lexer where it has one
 HasTokens-one : (script : List ℕ) (a b : List Token) → HasTokens script a → HasTokens script b → a ≡ b
@@ -55,13 +57,36 @@ DoesTable-one : (finds : Finds) → OneFile finds → (catalogue : Catalogue) (n
 DoesTable-one finds one catalogue name file (Err fault) a b p q = p ∙ sym q
 DoesTable-one finds one catalogue name file (Ok columns) a b p q = p.2 ∙ ap (table_step catalogue name file columns) (one file p.0 q.0 p.1 q.1) ∙ sym q.2
 
-pub Does-one : (finds : Finds) → OneFile finds → (answer : Answering) (evaluating : Evaluating) (number : ℕ) (catalogue : Catalogue) (command : Command) (a b : Step Catalogue)
-    → Does finds answer evaluating number catalogue command a → Does finds answer evaluating number catalogue command b → a ≡ b
-Does-one finds one answer evaluating number catalogue (CreateTable name columns file) a b p q =
+pub Does-one : (finds : Finds) → OneFile finds → (answer : Answering) (evaluating : Evaluating) (catalogue : Catalogue) (command : Command) (a b : Step Catalogue)
+    → Does finds answer evaluating catalogue command a → Does finds answer evaluating catalogue command b → a ≡ b
+Does-one finds one answer evaluating catalogue (CreateTable name columns file) a b p q =
     DoesTable-one finds one catalogue name file (with_room catalogue what.Table name (columns_of columns)) a b p q
-Does-one finds one answer evaluating number catalogue (CreatePredicate name params max cost formula) a b p q = p ∙ sym q
-Does-one finds one answer evaluating number catalogue (CreateRankIndex name table predicate args at) a b p q = p ∙ sym q
-Does-one finds one answer evaluating number catalogue _ a b p q = p ∙ sym q
+Does-one finds one answer evaluating catalogue (CreatePredicate name params max cost formula) a b p q = p ∙ sym q
+Does-one finds one answer evaluating catalogue (CreateRankIndex name table predicate args at) a b p q = p ∙ sym q
+Does-one finds one answer evaluating catalogue (Ask query) a b p q = p ∙ sym q
+Does-one finds one answer evaluating catalogue (Declare name query) a b p q = absurd p
+Does-one finds one answer evaluating catalogue (syntax.Fetch count name) a b p q = absurd p
+Does-one finds one answer evaluating catalogue (Close name) a b p q = absurd p
+Does-one finds one answer evaluating catalogue (Explain query) a b p q = p ∙ sym q
+Does-one finds one answer evaluating catalogue (ExplainAnalyze query) a b p q = p ∙ sym q
+
+pub DoesInSession-one : (finds : Finds) → OneFile finds → (answer : Answering) (evaluating : Evaluating) (state : State) (command : Command) (a b : Step State)
+    → DoesInSession finds answer evaluating state command a → DoesInSession finds answer evaluating state command b → a ≡ b
+DoesInSession-one finds one answer evaluating state command a b p q = go command p q where
+  same : (command : Command) (own other : Step Catalogue) → Does finds answer evaluating state.catalogue command own → Does finds answer evaluating state.catalogue command other
+      → a ≡ beside_cursors state.cursors own → b ≡ beside_cursors state.cursors other → a ≡ b
+  same command own other x y is also = is ∙ ap (beside_cursors state.cursors) (Does-one finds one answer evaluating state.catalogue command own other x y) ∙ sym also
+
+  go : (command : Command) → DoesInSession finds answer evaluating state command a → DoesInSession finds answer evaluating state command b → a ≡ b
+  go (Declare name query) p q = p ∙ sym q
+  go (syntax.Fetch count name) p q = p ∙ sym q
+  go (Close name) p q = p ∙ sym q
+  go (CreateTable name columns file) p q = same (CreateTable name columns file) p.0 q.0 p.1 q.1 p.2 q.2
+  go (CreatePredicate name params max cost formula) p q = same (CreatePredicate name params max cost formula) p.0 q.0 p.1 q.1 p.2 q.2
+  go (CreateRankIndex name table predicate args at) p q = same (CreateRankIndex name table predicate args at) p.0 q.0 p.1 q.1 p.2 q.2
+  go (Ask query) p q = same (Ask query) p.0 q.0 p.1 q.1 p.2 q.2
+  go (Explain query) p q = same (Explain query) p.0 q.0 p.1 q.1 p.2 q.2
+  go (ExplainAnalyze query) p q = same (ExplainAnalyze query) p.0 q.0 p.1 q.1 p.2 q.2
 
 -- statements have one run at most, where each does one thing at most
 RunsOn-one : {S : Type 0} (rest : S → Run → Type 0) → ((next : S) (a b : Run) → rest next a → rest next b → a ≡ b) → (events : List Event) (outcome : Result S Fault) (a b : Run)
@@ -69,12 +94,12 @@ RunsOn-one : {S : Type 0} (rest : S → Run → Type 0) → ((next : S) (a b : R
 RunsOn-one rest one events (Err fault) a b p q = p ∙ sym q
 RunsOn-one rest one events (Ok next) a b p q = p.2 ∙ ap (behind events) (one next p.0 q.0 p.1 q.1) ∙ sym q.2
 
-RunOf-one : {S C : Type 0} (does : ℕ → S → C → Step S → Type 0) → ((number : ℕ) (state : S) (command : C) (a b : Step S) → does number state command a → does number state command b → a ≡ b)
-    → (number : ℕ) (state : S) (commands : List C) (a b : Run) → RunOf does number state commands a → RunOf does number state commands b → a ≡ b
-RunOf-one does one number state [] a b p q = p ∙ sym q
-RunOf-one does one number state (command ∷ rest) a b p q =
-    RunsOn-one (λ next more. RunOf does (suc number) next rest more) (λ next. RunOf-one does one (suc number) next rest) q.0.events q.0.outcome a b
-    (subst (λ step. RunsOn (λ next more. RunOf does (suc number) next rest more) step.events step.outcome a) (one number state command p.0 q.0 p.1 q.1) p.2) q.2
+RunOf-one : {S C : Type 0} (does : S → C → Step S → Type 0) → ((state : S) (command : C) (a b : Step S) → does state command a → does state command b → a ≡ b)
+    → (state : S) (commands : List C) (a b : Run) → RunOf does state commands a → RunOf does state commands b → a ≡ b
+RunOf-one does one state [] a b p q = p ∙ sym q
+RunOf-one does one state (command ∷ rest) a b p q =
+    RunsOn-one (λ next more. RunOf does next rest more) (λ next. RunOf-one does one next rest) q.0.events q.0.outcome a b
+    (subst (λ step. RunsOn (λ next more. RunOf does next rest more) step.events step.outcome a) (one state command p.0 q.0 p.1 q.1) p.2) q.2
 
 -- the statements of a script have one run at most
 abbrev pub OneRun : (List Command → Run → Type 0) → Type 0
@@ -82,7 +107,7 @@ OneRun statements = (commands : List Command) (a b : Run) → statements command
 
 Statements-one : (finds : Finds) → OneFile finds → (answer : Answering) (evaluating : Evaluating) → OneRun (StatementsRun finds answer evaluating)
 Statements-one finds one answer evaluating commands a b p q =
-    RunOf-one (Does finds answer evaluating) (λ number catalogue command a b p q. Does-one finds one answer evaluating number catalogue command a b p q) 1 empty commands a b p q
+    RunOf-one (DoesInSession finds answer evaluating) (λ state command a b p q. DoesInSession-one finds one answer evaluating state command a b p q) nothing commands a b p q
 
 -- a text has one run at most
 TextRuns-one : (statements : List Command → Run → Type 0) → OneRun statements → (script : List ℕ) (a b : Run) → TextRuns statements script a → TextRuns statements script b → a ≡ b

@@ -4,7 +4,7 @@ use Rattle.std.specs.Prelude.{Option, Ok, Err, ◌⊎◌}
 use Rattle.rs_value.specs.Outside.{Faulted, Keeps, Outside}
 use Rattle.rs_outside.specs.declared.files.FetchFault.TheVariants.{Failed}
 use Rattle.rs_run.specs.declared.fault.Fault.{Fault}
-use Rattle.rs_run.specs.declared.fault.Fault.TheVariants.{Memory, Usage, Write, Read, Table, BadScore, Probe, Script}
+use Rattle.rs_run.specs.declared.fault.Fault.TheVariants.{Memory, Usage, Write, Read, Table, BadScore, Probe, Script, Session}
 use Rattle.rs_run.specs.declared.status.Status.{Status}
 use Rattle.rs_run.specs.declared.status.Status.TheVariants as status
 use Rattle.rs_run.specs.Faults.{status_of}
@@ -50,6 +50,7 @@ is_usage (Some (Table name why)) s (inl e) usage = cc
 is_usage (Some (BadScore predicate row got max)) s (inl e) usage = cc
 is_usage (Some (Probe predicate)) s (inl e) usage = cc
 is_usage (Some (Script why)) s (inl e) usage = cc
+is_usage (Some (Session why name)) s (inl e) usage = cc
 
 is_write : (fault : Option Fault) (s : Status) → (s ≡ status_of fault) ⊎ (s ≡ status.Memory) → s ≡ status.Write → fault ≡ Some Write
 is_write fault s (inr e) write = cc
@@ -62,6 +63,7 @@ is_write (Some (Table name why)) s (inl e) write = cc
 is_write (Some (BadScore predicate row got max)) s (inl e) write = cc
 is_write (Some (Probe predicate)) s (inl e) write = cc
 is_write (Some (Script why)) s (inl e) write = cc
+is_write (Some (Session why name)) s (inl e) write = cc
 
 is_probe : (fault : Option Fault) (s : Status) → (s ≡ status_of fault) ⊎ (s ≡ status.Memory) → s ≡ status.Probe → (predicate : List ℕ) × (fault ≡ Some (Probe predicate))
 is_probe fault s (inr e) probe = absurd cc
@@ -74,6 +76,7 @@ is_probe (Some (Table name why)) s (inl e) probe = absurd cc
 is_probe (Some (BadScore predicate row got max)) s (inl e) probe = absurd cc
 is_probe (Some (Probe predicate)) s (inl e) probe = (predicate, refl)
 is_probe (Some (Script why)) s (inl e) probe = absurd cc
+is_probe (Some (Session why name)) s (inl e) probe = absurd cc
 
 -- what follows of the outcome of a run of these words
 module _ (words : List (List ℕ)) (run : Run) (s : Status) (old new : World)

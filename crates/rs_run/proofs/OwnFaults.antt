@@ -2,6 +2,8 @@
 use Rattle.std.proofs.Common.{ℕ, ℤ, ◌≡◌, ◌+◌, List, [], ◌∷◌, Some, None, Bool, true, false, refl, sym, subst, inl, inr, nat_le, length, if◌then◌else◌}
 use Rattle.std.specs.Prelude.{zero, suc, Option, Result, Ok, Err, unwrap_or, ◌⊎◌}
 use Rattle.rs_value.specs.Text.{text_of}
+use Rattle.std.specs.Str.{bytes_eq}
+use Rattle.rs_lex.specs.declared.token.Span.{Span}
 use Rattle.rs_value.specs.declared.text.TextFault.{TextFault}
 use Rattle.rs_value.specs.declared.text.TextFault.TheVariants as text
 use Rattle.rs_value.specs.declared.value.Value.{Value}
@@ -15,7 +17,7 @@ use Rattle.rs_expr.specs.Scores.{is_score}
 use Rattle.rs_syntax.specs.Syntax.{Command, CreateTable, CreatePredicate, CreateRankIndex, Explain, ExplainAnalyze}
 use Rattle.rs_syntax.specs.Syntax as syntax
 use Rattle.rs_syntax.specs.declared.name.Name.{Name}
-use Rattle.rs_catalog.specs.Catalogue.{Catalogue, empty, room_for, with_index, with_predicate, with_table}
+use Rattle.rs_catalog.specs.Catalogue.{Catalogue, room_for, with_index, with_predicate, with_table}
 use Rattle.rs_catalog.specs.Indexes as indexes
 use Rattle.rs_catalog.specs.declared.index.IndexDef.{IndexDef}
 use Rattle.rs_catalog.specs.declared.index.IndexFault.{IndexFault}
@@ -26,7 +28,7 @@ use Rattle.rs_catalog.specs.declared.room.What.TheVariants as what
 use Rattle.rs_bind.specs.Indexes.{index_def_of}
 use Rattle.rs_bind.specs.Names.{columns_of}
 use Rattle.rs_bind.specs.Predicates.{predicate_of}
-use Rattle.rs_bind.specs.Queries.{bound_query}
+use Rattle.rs_bind.specs.Queries.{bound_query, count_of}
 use Rattle.rs_query.specs.declared.query.Query.{Query}
 use Rattle.rs_query.specs.Views.{View, all_rows}
 use Rattle.rs_query.specs.Questions.{Question, first_of, is_bad}
@@ -46,7 +48,7 @@ use Rattle.rs_exec.specs.declared.fault.ExecFault.TheVariants as exec
 use Rattle.rs_bind.specs.declared.fault.BindFault.{BindFault}
 use Rattle.rs_bind.specs.declared.fault.BindFault.TheVariants as bind
 use Rattle.rs_run.specs.declared.fault.Fault.{Fault}
-use Rattle.rs_run.specs.declared.fault.Fault.TheVariants.{Memory, Usage, Write, Read, Table, BadScore, Probe, Script}
+use Rattle.rs_run.specs.declared.fault.Fault.TheVariants.{Memory, Usage, Write, Read, Table, BadScore, Probe, Script, Session}
 use Rattle.rs_run.specs.Words.{Form, NoForm, RunScript, Top, TopWords, form_of}
 use Rattle.rs_run.specs.Content.{content_of}
 use Rattle.rs_run.specs.Top.{best_rows, named_table, number_at, or_table_fault, ranked_lines, scored_rows, table_limit, top_lines, top_table}
@@ -54,13 +56,15 @@ use Rattle.rs_run.specs.Plain.{ScriptRuns, TextRuns, unlexed, unparsed, runs, un
 use Rattle.rs_expr.specs.Scoring.{Answering}
 use Rattle.rs_run.specs.Run.{Event, Finds, Run, fetch_then}
 use Rattle.rs_run.specs.Running.{IsRun, IsRunOf, IsCut}
-use Rattle.rs_run.specs.Planned.{ask_count, ask_outcome, ask_step, asks_from, can_be_planned, plan_for}
-use Rattle.rs_run.specs.Sequence.{RunOf, RunsOn, Step, then_step}
+use Rattle.rs_run.specs.Planned.{ask_count, ask_outcome, ask_step, asks_from, asks_in_all, next_asks, plan_for, planned_step}
+use Rattle.rs_run.specs.Sequence.{RunOf, RunsOn, Step, silent, still, then_step}
 use Rattle.rs_run.specs.Faults.{or_index_fault}
 use Rattle.rs_run.specs.Lines.{rank_lines}
 use Rattle.rs_run.specs.declared.evaluating.Evaluating.{Evaluating}
 use Rattle.rs_run.specs.declared.evaluating.Evaluating.TheVariants.{Planned, Plainly}
-use Rattle.rs_run.specs.Statements.{Does, DoesTable, StatementsRun, analyze_step, explain_outcome, explain_step, explained_step, index_step, is_built, not_built, or_bind_fault, or_room_fault, query_outcome, query_step, refused_or, select_step, table_step, with_room}
+use Rattle.rs_run.specs.Statements.{Does, DoesTable, analyze_step, analyzed_step, explain_outcome, explain_step, explained_step, index_step, or_bind_fault, or_room_fault, query_outcome, query_step, refused_or, select_step, table_step, with_room}
+use Rattle.rs_run.specs.Session.{ByPlan, DoesInSession, OpenCursor, Ready, Source, State, StatementsRun, beside_cursors, cursor_named, declare_step, declared_query, fetch_step, fetched_cursor, fetched_from, fetched_step, nothing, opened_step, or_session_fault, ready_outcome, room_for_cursor, with_asks, without_cursor}
+use Rattle.rs_run.proofs.AnalyzeSteps.{analyzed_lines}
 
 -- the faults of `top` and of `plain`
 IsOwn : Fault → Type 0
@@ -72,6 +76,7 @@ IsOwn (Table name why) = Unit {0}
 IsOwn (BadScore predicate row got max) = Unit {0}
 IsOwn (Probe predicate) = ⊥
 IsOwn (Script why) = Unit {0}
+IsOwn (Session why name) = Unit {0}
 
 -- something, or a fault of their own
 Own : {A : Type 0} → Result A Fault → Type 0
@@ -242,31 +247,34 @@ Own-explain : (catalogue : Catalogue) (query : syntax.Query) → Own (explain_ou
 unfolding Own
 Own-explain catalogue query = Own-then (or_bind_fault (bound_query catalogue query)) (λ bound. Ok catalogue) (Own-bind (bound_query catalogue query)) (λ bound. tt)
 
-Own-analyze_step : (evaluating : Evaluating) (number : ℕ) (catalogue : Catalogue) (query : syntax.Query) → Own (analyze_step evaluating number catalogue query).outcome
-unfolding Own IsOwn
-Own-analyze_step Plainly number catalogue query = Own-explain catalogue query
-Own-analyze_step (Planned seed) number catalogue query = tt
-
 -- a statement
-Own-refused : {A : Type 0} (does : A → Step Catalogue) (r : Result A Fault) → Own r → ((a : A) → Own (does a).outcome) → Own (refused_or does r).outcome
+Own-refused : {A S : Type 0} (does : A → Step S) (r : Result A Fault) → Own r → ((a : A) → Own (does a).outcome) → Own (refused_or does r).outcome
 unfolding Own
 Own-refused does (Ok a) own goes = goes a
 Own-refused does (Err fault) own goes = own
 
-Own-explain_step : (evaluating : Evaluating) (answer : Answering) (number : ℕ) (catalogue : Catalogue) (query : syntax.Query) → Own (explain_step evaluating answer number catalogue query).outcome
+Own-explain_step : (evaluating : Evaluating) (answer : Answering) (catalogue : Catalogue) (query : syntax.Query) → Own (explain_step evaluating answer catalogue query).outcome
 unfolding Own IsOwn
-Own-explain_step Plainly answer number catalogue query = Own-explain catalogue query
-Own-explain_step (Planned seed) answer number catalogue query = go (can_be_planned query) where
-  go : (built : Bool) → Own (if built then refused_or (explained_step answer catalogue seed) (or_bind_fault (bound_query catalogue query)) else not_built number).outcome
-  go true = Own-refused (explained_step answer catalogue seed) _ (Own-bind (bound_query catalogue query)) (λ query. tt)
-  go false = tt
+Own-explain_step Plainly answer catalogue query = Own-explain catalogue query
+Own-explain_step (Planned seed) answer catalogue query = Own-refused (explained_step answer catalogue seed) _ (Own-bind (bound_query catalogue query)) (λ query. tt)
 
-Own-select : (evaluating : Evaluating) (answer : Answering) (number : ℕ) (catalogue : Catalogue) (query : syntax.Query) → Own (select_step evaluating answer number catalogue query).outcome
+Own-analyzed : (answer : Answering) (catalogue : Catalogue) (seed : ℕ) (query : Query) → Own (analyzed_step answer catalogue seed query).outcome
+unfolding Own
+Own-analyzed answer catalogue seed query =
+    let w = world_of catalogue answer query in
+    let tree = plan_for answer catalogue seed query in
+    Own-then_step (silent (planned_step w tree)) (analyzed_lines answer catalogue seed query) (Own-asks w tree 0 (asks_in_all w tree)) tt
+
+Own-analyze_step : (evaluating : Evaluating) (answer : Answering) (catalogue : Catalogue) (query : syntax.Query) → Own (analyze_step evaluating answer catalogue query).outcome
 unfolding Own IsOwn
-Own-select evaluating answer number catalogue query = go (is_built evaluating query) where
-  go : (built : Bool) → Own (if built then refused_or (query_step evaluating answer catalogue) (or_bind_fault (bound_query catalogue query)) else not_built number).outcome
-  go true = Own-refused (query_step evaluating answer catalogue) _ (Own-bind (bound_query catalogue query)) (Own-query_step evaluating answer catalogue)
-  go false = tt
+Own-analyze_step Plainly answer catalogue query = Own-explain catalogue query
+Own-analyze_step (Planned seed) answer catalogue query =
+    Own-refused (analyzed_step answer catalogue seed) _ (Own-bind (bound_query catalogue query)) (Own-analyzed answer catalogue seed)
+
+Own-select : (evaluating : Evaluating) (answer : Answering) (catalogue : Catalogue) (query : syntax.Query) → Own (select_step evaluating answer catalogue query).outcome
+unfolding Own IsOwn
+Own-select evaluating answer catalogue query =
+    Own-refused (query_step evaluating answer catalogue) _ (Own-bind (bound_query catalogue query)) (Own-query_step evaluating answer catalogue)
 
 Own-table_step : (catalogue : Catalogue) (name : Name) (file : List ℕ) (columns : List Column) (there : Option (List ℕ)) → Own (table_step catalogue name file columns there).outcome
 unfolding Own
@@ -281,43 +289,113 @@ unfolding Own
 Own-does_table finds catalogue name file (Err fault) step own does = subst (λ s. Own s.outcome) (sym does) own
 Own-does_table finds catalogue name file (Ok columns) step own does = subst (λ s. Own s.outcome) (sym does.2) (Own-table_step catalogue name file columns does.0)
 
-Own-step : (finds : Finds) (answer : Answering) (evaluating : Evaluating) (number : ℕ) (catalogue : Catalogue) (command : Command) (step : Step Catalogue) → Does finds answer evaluating number catalogue command step → Own step.outcome
+Own-step : (finds : Finds) (answer : Answering) (evaluating : Evaluating) (catalogue : Catalogue) (command : Command) (step : Step Catalogue) → Does finds answer evaluating catalogue command step → Own step.outcome
 unfolding Own IsOwn
-Own-step finds answer evaluating number catalogue (CreateTable name columns file) step does =
+Own-step finds answer evaluating catalogue (CreateTable name columns file) step does =
     Own-does_table finds catalogue name file (with_room catalogue what.Table name (columns_of columns)) step (Own-with_room catalogue what.Table name (columns_of columns)) does
-Own-step finds answer evaluating number catalogue (CreatePredicate name params max cost formula) step does =
+Own-step finds answer evaluating catalogue (CreatePredicate name params max cost formula) step does =
     subst (λ s. Own s.outcome) (sym does)
     (Own-then _ (λ predicate. Ok (with_predicate predicate catalogue))
     (Own-with_room catalogue what.Predicate name (predicate_of (CreatePredicate name params max cost formula))) (λ predicate. tt))
-Own-step finds answer evaluating number catalogue (CreateRankIndex name table predicate args at) step does =
+Own-step finds answer evaluating catalogue (CreateRankIndex name table predicate args at) step does =
     subst (λ s. Own s.outcome) (sym does)
     (Own-refused (index_step answer catalogue) _ (Own-with_room catalogue what.Index name (index_def_of catalogue (CreateRankIndex name table predicate args at)))
     (Own-index_step answer catalogue))
-Own-step finds answer evaluating number catalogue (syntax.Ask query) step does =
-    subst (λ s. Own s.outcome) (sym does) (Own-select evaluating answer number catalogue query)
-Own-step finds answer evaluating number catalogue (Explain query) step does = subst (λ s. Own s.outcome) (sym does) (Own-explain_step evaluating answer number catalogue query)
-Own-step finds answer evaluating number catalogue (ExplainAnalyze query) step does = subst (λ s. Own s.outcome) (sym does) (Own-analyze_step evaluating number catalogue query)
-Own-step finds answer evaluating number catalogue _ step does = subst (λ s. Own s.outcome) (sym does) tt
+Own-step finds answer evaluating catalogue (syntax.Ask query) step does =
+    subst (λ s. Own s.outcome) (sym does) (Own-select evaluating answer catalogue query)
+Own-step finds answer evaluating catalogue (Explain query) step does = subst (λ s. Own s.outcome) (sym does) (Own-explain_step evaluating answer catalogue query)
+Own-step finds answer evaluating catalogue (ExplainAnalyze query) step does = subst (λ s. Own s.outcome) (sym does) (Own-analyze_step evaluating answer catalogue query)
+Own-step finds answer evaluating catalogue (syntax.Declare name query) step does = absurd does
+Own-step finds answer evaluating catalogue (syntax.Fetch count name) step does = absurd does
+Own-step finds answer evaluating catalogue (syntax.Close name) step does = absurd does
+
+-- a statement of a cursor
+Own-room_for_cursor : (name : List ℕ) (room : Result (Unit {0}) RoomFault) → Own (or_session_fault name room)
+unfolding Own IsOwn
+Own-room_for_cursor name (Ok room) = tt
+Own-room_for_cursor name (Err why) = tt
+
+Own-named : (name : List ℕ) (cursors : List OpenCursor) → Own (cursor_named name cursors)
+unfolding Own IsOwn
+Own-named name [] = tt
+Own-named name (cursor ∷ rest) = go (bytes_eq cursor.name name) (Own-named name rest) where
+  go : (b : Bool) → Own (cursor_named name rest) → Own (if b then Ok cursor else cursor_named name rest)
+  go true own = tt
+  go false own = own
+
+Own-declare : (evaluating : Evaluating) (answer : Answering) (state : State) (name : Name) (query : syntax.Query) → Own (declare_step evaluating answer state name query).outcome
+unfolding Own IsOwn
+Own-declare evaluating answer state name query =
+    Own-refused (opened_step evaluating answer name.text state) (declared_query state name query)
+    (Own-then (or_bind_fault (bound_query state.catalogue query)) (λ bound. room_for_cursor name.text state.cursors >>= (λ room. Ok bound)) (Own-bind (bound_query state.catalogue query))
+    (λ bound. Own-then (room_for_cursor name.text state.cursors) (λ room. Ok bound) (Own-room_for_cursor name.text _) (λ room. tt))) (opens evaluating) where
+      ready : (outcome : Result (List Answer) PlainFault) → OwnAnswer outcome → Own (ready_outcome name.text state outcome)
+      ready (Ok rows) own = tt
+      ready (Err (plain.BadScore predicate ids got max)) own = tt
+      ready (Err (plain.Probe predicate)) own = own
+      ready (Err plain.Memory) own = tt
+
+      opens : (evaluating : Evaluating) (bound : Query) → Own (opened_step evaluating answer name.text state bound).outcome
+      opens Plainly bound = ready (evaluation_of answer state.catalogue bound (all_rows state.catalogue bound)).outcome (OwnAnswer-evaluation answer state.catalogue bound (all_rows state.catalogue bound))
+      opens (Planned seed) bound = tt
+
+Own-fetch : (answer : Answering) (state : State) (count : ℤ × Span) (name : Name) → Own (fetch_step answer state count name).outcome
+unfolding Own
+Own-fetch answer state count name =
+    Own-refused (fetched_step answer state) (fetched_cursor state count name)
+    (Own-then (or_bind_fault (count_of count)) (λ wanted. cursor_named name.text state.cursors >>= (λ cursor. Ok (cursor, wanted))) (Own-bind (count_of count))
+    (λ wanted. Own-then (cursor_named name.text state.cursors) (λ cursor. Ok (cursor, wanted)) (Own-named name.text state.cursors) (λ cursor. tt)))
+    (λ wanted. fetches wanted.0.name wanted.0.asked wanted.1 wanted.0.source) where
+      fetches : (own : List ℕ) (asked wanted : ℕ) (source : Source) → Own (fetched_from answer state own asked wanted source).outcome
+      fetches own asked wanted (ByPlan query tree) =
+          let w = world_of state.catalogue answer query in
+          Own-then_step (asks_from w tree asked (next_asks w tree asked wanted)) (still (Ok (with_asks own (next_asks w tree asked wanted) state)))
+          (Own-asks w tree asked (next_asks w tree asked wanted)) tt
+      fetches own asked wanted (Ready rows) = tt
+
+Own-beside : (cursors : List OpenCursor) (step : Step Catalogue) → Own step.outcome → Own (beside_cursors cursors step).outcome
+unfolding Own
+Own-beside cursors step own = Own-then step.outcome (λ catalogue. Ok (record { catalogue = catalogue; cursors = cursors })) own (λ catalogue. tt)
+
+Own-in_session : (finds : Finds) (answer : Answering) (evaluating : Evaluating) (state : State) (command : Command) (step : Step State)
+    → DoesInSession finds answer evaluating state command step → Own step.outcome
+unfolding Own
+Own-in_session finds answer evaluating state command step = go command where
+  own : (command : Command) → (made : Step Catalogue) × Does finds answer evaluating state.catalogue command made × (step ≡ beside_cursors state.cursors made) → Own step.outcome
+  own command does =
+      subst (λ (s : Step State). Own s.outcome) (sym does.2) (Own-beside state.cursors does.0 (Own-step finds answer evaluating state.catalogue command does.0 does.1))
+
+  go : (command : Command) → DoesInSession finds answer evaluating state command step → Own step.outcome
+  go (syntax.Declare name query) does = subst (λ (s : Step State). Own s.outcome) (sym does) (Own-declare evaluating answer state name query)
+  go (syntax.Fetch count name) does = subst (λ (s : Step State). Own s.outcome) (sym does) (Own-fetch answer state count name)
+  go (syntax.Close name) does = subst (λ (s : Step State). Own s.outcome) (sym does)
+      (Own-then (cursor_named name.text state.cursors) (λ cursor. Ok (without_cursor name.text state)) (Own-named name.text state.cursors) (λ cursor. tt))
+  go (CreateTable name columns file) does = own (CreateTable name columns file) does
+  go (CreatePredicate name params max cost formula) does = own (CreatePredicate name params max cost formula) does
+  go (CreateRankIndex name table predicate args at) does = own (CreateRankIndex name table predicate args at) does
+  go (syntax.Ask query) does = own (syntax.Ask query) does
+  go (Explain query) does = own (Explain query) does
+  go (ExplainAnalyze query) does = own (ExplainAnalyze query) does
 
 -- the statements of a script
-Own-behind : (rest : Catalogue → Run → Type 0) (events : List Event) (outcome : Result Catalogue Fault) (run : Run) → Own outcome
-    → ((next : Catalogue) (more : Run) → rest next more → OwnEnd more.fault) → RunsOn rest events outcome run → OwnEnd run.fault
+Own-behind : (rest : State → Run → Type 0) (events : List Event) (outcome : Result State Fault) (run : Run) → Own outcome
+    → ((next : State) (more : Run) → rest next more → OwnEnd more.fault) → RunsOn rest events outcome run → OwnEnd run.fault
 unfolding Own OwnEnd
 Own-behind rest events (Err fault) run own goes on = subst (λ r. OwnEnd r.fault) (sym on) own
 Own-behind rest events (Ok next) run own goes on = subst (λ r. OwnEnd r.fault) (sym on.2) (goes next on.0 on.1)
 
-Own-statements : (finds : Finds) (answer : Answering) (evaluating : Evaluating) (number : ℕ) (catalogue : Catalogue) (commands : List Command) (run : Run) → RunOf (Does finds answer evaluating) number catalogue commands run → OwnEnd run.fault
+Own-statements : (finds : Finds) (answer : Answering) (evaluating : Evaluating) (state : State) (commands : List Command) (run : Run) → RunOf (DoesInSession finds answer evaluating) state commands run → OwnEnd run.fault
 unfolding OwnEnd
-Own-statements finds answer evaluating number catalogue [] run is = subst (λ r. OwnEnd r.fault) (sym is) tt
-Own-statements finds answer evaluating number catalogue (command ∷ rest) run is =
-    Own-behind (λ next more. RunOf (Does finds answer evaluating) (suc number) next rest more) is.0.events is.0.outcome run
-    (Own-step finds answer evaluating number catalogue command is.0 is.1) (λ next more. Own-statements finds answer evaluating (suc number) next rest more) is.2
+Own-statements finds answer evaluating state [] run is = subst (λ r. OwnEnd r.fault) (sym is) tt
+Own-statements finds answer evaluating state (command ∷ rest) run is =
+    Own-behind (λ next more. RunOf (DoesInSession finds answer evaluating) next rest more) is.0.events is.0.outcome run
+    (Own-in_session finds answer evaluating state command is.0 is.1) (λ next more. Own-statements finds answer evaluating next rest more) is.2
 
 Own-runs : (finds : Finds) (answer : Answering) (evaluating : Evaluating) (script : List ℕ) (run : Run) → TextRuns (StatementsRun finds answer evaluating) script run → OwnEnd run.fault
 unfolding OwnEnd IsOwn
 Own-runs finds answer evaluating script _ (unlexed fault refuses) = tt
 Own-runs finds answer evaluating script _ (unparsed tokens fault lexed refuses) = tt
-Own-runs finds answer evaluating script run (runs commands _ made is) = Own-statements finds answer evaluating 1 empty commands run is
+Own-runs finds answer evaluating script run (runs commands _ made is) = Own-statements finds answer evaluating nothing commands run is
 
 Own-script : (finds : Finds) (answer : Answering) (evaluating : Evaluating) (name : List ℕ) (run : Run) → ScriptRuns finds (StatementsRun finds answer evaluating) name run → OwnEnd run.fault
 unfolding Own OwnEnd
@@ -335,6 +413,7 @@ OwnFault words (Some (Table name why)) = Unit {0}
 OwnFault words (Some (BadScore predicate row got max)) = Unit {0}
 OwnFault words (Some (Probe predicate)) = ⊥
 OwnFault words (Some (Script why)) = Unit {0}
+OwnFault words (Some (Session why name)) = Unit {0}
 
 OwnFault-end : (words : List (List ℕ)) (fault : Option Fault) → OwnEnd fault → OwnFault words fault
 unfolding OwnFault OwnEnd IsOwn
@@ -347,6 +426,7 @@ OwnFault-end words (Some (Table name why)) own = tt
 OwnFault-end words (Some (BadScore predicate row got max)) own = tt
 OwnFault-end words (Some (Probe predicate)) own = own
 OwnFault-end words (Some (Script why)) own = tt
+OwnFault-end words (Some (Session why name)) own = tt
 
 OwnEnd-lines : (name : List ℕ) (lines : Result (List (List ℕ)) Fault) → Own lines → OwnEnd (fetch_then name lines).fault
 unfolding Own OwnEnd

@@ -16,7 +16,7 @@ use Rattle.rs_plan.specs.Trees.{Distinct, HashJoin, NestedJoin, Rank, RankScan, 
 use Rattle.rs_exec.specs.Asking.{exec_faults}
 use Rattle.rs_exec.specs.Cursors.{answer_for, asks_after, is_limit, is_over, next_answer, next_of, no_question}
 use Rattle.rs_run.specs.Parts.Asks.{asks_left}
-use Rattle.rs_run.specs.Planned.{ask_count, ask_outcome, asked_step, asks_from, planned_step}
+use Rattle.rs_run.specs.Planned.{ask_count, ask_outcome, asked_step, asks_from, asks_in_all, planned_step}
 use Rattle.rs_run.specs.Sequence.{Step, still, then_step}
 use Rattle.rs_run.specs.declared.fault.Fault.{Fault}
 
@@ -30,7 +30,7 @@ count-more None rows n more = grind (arith, nat_tests)
 count-more (Some limit) rows n more = grind (arith, nat_tests)
 
 -- a list has no item at a place behind its last one
-none-behind : {A : Type 0} (xs : List A) (n : ℕ) → slice_get xs n ≡ None → length xs ≤ n
+pub none-behind : {A : Type 0} (xs : List A) (n : ℕ) → slice_get xs n ≡ None → length xs ≤ n
 none-behind [] n none = omega arith
 none-behind (x ∷ xs) zero none = absurd cc
 none-behind (x ∷ xs) (suc n) none = let rest = none-behind xs n none in omega arith
@@ -48,7 +48,7 @@ or-true true = refl
 or-true false = refl
 
 -- a step with nothing behind it
-then-still : {S : Type 0} (step : Step S) (state : S) → step.outcome ≡ Ok state → then_step step (still (Ok state)) ≡ step
+pub then-still : {S : Type 0} (step : Step S) (state : S) → step.outcome ≡ Ok state → then_step step (still (Ok state)) ≡ step
 then-still {S} step state ends = go step.outcome ends where
   go : (outcome : Result S Fault) → outcome ≡ Ok state → then_step (record step { outcome = outcome }) (still (Ok state)) ≡ record step { outcome = outcome }
   go (Ok other) e = (ap (λ events. record step { events = events; outcome = Ok state }) (append-nil step.events)) ∙ ap (λ o. record step { outcome = o }) (sym e)
@@ -68,7 +68,7 @@ module _ (w : World) (tree : PlanTree) where
       (first_of (is_bad w.answer w.catalogue) (questions_of_ask w 1 tree (suc n))) e
 
   -- where LIMIT rows were given, or an ask met the end, nothing is left
-  left-over : (n : ℕ) → is_over w tree n ≡ true → asks_left w tree n ≡ still (Ok w.catalogue)
+  pub left-over : (n : ℕ) → is_over w tree n ≡ true → asks_left w tree n ≡ still (Ok w.catalogue)
   left-over n over =
       let all = count-over (limit_of w.query) (length (list_of_plan w tree)) n over in
       ap (asks_from w tree n) (let none : ask_count (limit_of w.query) (length (list_of_plan w tree)) - n ≡ 0 = omega arith in none)
@@ -84,17 +84,27 @@ module _ (w : World) (tree : PlanTree) where
         ap (asks_from w tree n)
         (let one : ask_count (limit_of w.query) (length (list_of_plan w tree)) - n ≡ suc (ask_count (limit_of w.query) (length (list_of_plan w tree)) - suc n) = omega arith in one)
 
-  -- behind an ask that gave no row nothing is left
+  -- behind an ask that gave no row the plan is asked no more
+  pub over-ended : (n : ℕ) → (next_of w tree n).outcome ≡ Ok None → is_over w tree (asks_after w tree n) ≡ true
+  over-ended n none = go (is_over w tree n) refl none where
+    go : (b : Bool) → is_over w tree n ≡ b → (if b then no_question (Ok None) else next_answer w tree n).outcome ≡ Ok None → is_over w tree (if b then n else suc n) ≡ true
+    go true over none = over
+    go false more none =
+        let all = none-behind (list_of_plan w tree) n (map-none (answer_for w) (slice_get (list_of_plan w tree) n) (row-given n None none)) in
+        ap (λ b. is_limit (limit_of w.query) (suc n) || b) (lt-ltb (length (list_of_plan w tree)) (suc n) (omega arith)) ∙ or-true (is_limit (limit_of w.query) (suc n))
+
+  -- so nothing is left
   pub left-ended : (n : ℕ) → (next_of w tree n).outcome ≡ Ok None → asks_left w tree n ≡ asked_step w.catalogue (suc n) (next_of w tree n)
   left-ended n none =
-      left-next n ∙ ap (then_step (asked_step w.catalogue (suc n) (next_of w tree n))) (left-over (asks_after w tree n) (go (is_over w tree n) refl none))
+      left-next n ∙ ap (then_step (asked_step w.catalogue (suc n) (next_of w tree n))) (left-over (asks_after w tree n) (over-ended n none))
       ∙ then-still (asked_step w.catalogue (suc n) (next_of w tree n)) w.catalogue (ap (ask_outcome w.catalogue) none)
-    where
-      go : (b : Bool) → is_over w tree n ≡ b → (if b then no_question (Ok None) else next_answer w tree n).outcome ≡ Ok None → is_over w tree (if b then n else suc n) ≡ true
-      go true over none = over
-      go false more none =
-          let all = none-behind (list_of_plan w tree) n (map-none (answer_for w) (slice_get (list_of_plan w tree) n) (row-given n None none)) in
-          ap (λ b. is_limit (limit_of w.query) (suc n) || b) (lt-ltb (length (list_of_plan w tree)) (suc n) (omega arith)) ∙ or-true (is_limit (limit_of w.query) (suc n))
+
+  -- a plan that is asked no more was asked for all, and one that is asked on wasn't
+  pub over-all : (n : ℕ) → is_over w tree n ≡ true → asks_in_all w tree ≤ n
+  over-all n over = count-over (limit_of w.query) (length (list_of_plan w tree)) n over
+
+  pub more-all : (n : ℕ) → is_over w tree n ≡ false → n < asks_in_all w tree
+  more-all n more = count-more (limit_of w.query) (length (list_of_plan w tree)) n more
 
   -- an ask that gave a row is one more, and its row is the one at its place
   pub record Given (n : ℕ) : Type 0 where

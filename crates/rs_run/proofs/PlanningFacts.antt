@@ -1,17 +1,15 @@
 -- The cards of a query's sample, and the plan that is chosen by them.
-use Rattle.std.proofs.Common.{ℕ, ◌≡◌, ◌∙◌, false, List}
+use Rattle.std.proofs.Common.{ℕ, ◌≡◌, ◌∙◌, List}
 use Rattle.std.specs.Prelude.{IfOk, Result, Ok, Err}
 use Rattle.rs_value.specs.declared.memory.Memory as value
 use Rattle.rs_expr.specs.Scoring.{Answering}
 use Rattle.rs_catalog.specs.Catalogue.{Catalogue}
 use Rattle.rs_query.specs.Views.{View, all_rows}
 use Rattle.rs_query.specs.WellFormed.{IsQuery}
-use Rattle.rs_query.specs.declared.block.Block.{Block}
 use Rattle.rs_query.specs.declared.query.Query.{Query}
-use Rattle.rs_query.specs.declared.query.Query.TheVariants.{One, Set}
-use Rattle.rs_plan.specs.Plans.{IsPart, IsPlan}
+use Rattle.rs_plan.specs.Plans.{IsPlan}
 use Rattle.rs_plan.specs.Shapes.{tree_of}
-use Rattle.rs_plan.specs.Trees.{Distinct, HashJoin, NestedJoin, Rank, RankScan, SeqScan, SetOperator, PlanTree}
+use Rattle.rs_plan.specs.Trees.{PlanTree}
 use Rattle.rs_plan.specs.declared.plan.Plan.{Plan}
 use Rattle.rs_sample.specs.Cards.{AllSayTheSame, BlockCards}
 use Rattle.rs_sample.specs.Kept.{cards_of}
@@ -19,9 +17,7 @@ use Rattle.rs_sample.specs.Sampling.{query_cards}
 use Rattle.rs_sample.specs.declared.cards.Cards.{Cards}
 use Rattle.rs_enum.specs.Least.{IsLeast, least_plan}
 use Rattle.rs_enum.specs.QueryCards.{AreCards}
-use Rattle.rs_exec.specs.Building.{IsBuilt}
 use Rattle.rs_run.specs.declared.fault.Fault.{Fault}
-use Rattle.rs_run.specs.Parts.Asks.{CanBePlanned}
 use Rattle.rs_run.specs.Planned.{cards_for}
 
 -- cards that say what the sample says are cards of its query
@@ -33,20 +29,6 @@ pub own-cards : AreOfQuery → (answer : Answering) (catalogue : Catalogue) (see
     → IfOk taken (λ cards. AllSayTheSame (cards_of cards) (cards_for answer catalogue seed query)) → IfOk taken (λ cards. AreCards query (cards_of cards))
 own-cards are answer catalogue seed query (Ok cards) same = are answer catalogue query (all_rows catalogue query) seed (cards_of cards) same
 own-cards are answer catalogue seed query (Err fault) same = tt
-
--- a query of one block, without DISTINCT, has plans without them
-built-part : (catalogue : Catalogue) (block : Block) (tree : PlanTree) → block.distinct ≡ false → IsPart catalogue block tree → IsBuilt tree
-built-part catalogue block (SeqScan entry) whole part = tt
-built-part catalogue block (RankScan entry term index) whole part = tt
-built-part catalogue block (Rank term child) whole part = built-part catalogue block child whole part.0
-built-part catalogue block (HashJoin left right) whole part = (built-part catalogue block left whole part.0, built-part catalogue block right whole part.1)
-built-part catalogue block (NestedJoin left right) whole part = (built-part catalogue block left whole part.0, built-part catalogue block right whole part.1)
-built-part catalogue block (Distinct child) whole part = absurd (let wanted = part.1.wanted in cc)
-built-part catalogue block (SetOperator left right) whole part = absurd part
-
-pub built-plan : (catalogue : Catalogue) (query : Query) (tree : PlanTree) → CanBePlanned query → IsPlan catalogue query tree → IsBuilt tree
-built-plan catalogue (One block limit) tree whole plan = built-part catalogue block tree whole plan.0.part
-built-plan catalogue (Set op left right limit) tree whole plan = absurd whole
 
 -- the laws of the least plan
 abbrev pub OneLeast : Type 0

@@ -19,19 +19,23 @@ rank_lines-at rank zero (first ∷ rest) row within is =
 rank_lines-at rank (suc i) (first ∷ rest) row within is =
     rank_lines-at (rank + 1) i rest row (omega arith) is ∙ ap (λ n. line_of n row.score row.values) (let same : rank + 1 + i ≡ rank + suc i = omega arith in same)
 
-module _ (rows : List Answer) (i : ℕ) (row : Answer) (line : List ℕ) (within : i < length rows) (is : row ≡ get_or rows i row) (line_is : line ≡ line_of (i + 1) row.score row.values) where
-  within_lines : i < length (rank_lines 1 rows)
-  within_lines = omega (arith, length-rank_lines 1 rows)
+-- behind so many rows that were given
+module _ (given : ℕ) (rows : List Answer) (i : ℕ) (row : Answer) (line : List ℕ) (within : i < length rows) (is : row ≡ get_or rows i row)
+    (line_is : line ≡ line_of (given + i + 1) row.score row.values) where
+  abbrev lines : List (List ℕ)
+  lines = rank_lines (suc given) rows
 
-  line_at : get_or (rank_lines 1 rows) i [] ≡ line
-  line_at = rank_lines-at 1 i rows row within is ∙ ap (λ n. line_of n row.score row.values) (let same : 1 + i ≡ i + 1 = omega arith in same) ∙ sym line_is
+  within_lines : i < length lines
+  within_lines = omega (arith, length-rank_lines (suc given) rows)
+
+  line_at : get_or lines i [] ≡ line
+  line_at = rank_lines-at (suc given) i rows row within is ∙ ap (λ n. line_of n row.score row.values) (let same : suc given + i ≡ given + i + 1 = omega arith in same) ∙ sym line_is
 
   -- the first lines with one more
-  pub rank_lines-more : take (i + 1) (rank_lines 1 rows) ≡ take i (rank_lines 1 rows) ++ line ∷ []
-  rank_lines-more = take_more (rank_lines 1 rows) i [] within_lines ∙ ap (λ line. take i (rank_lines 1 rows) ++ line ∷ []) line_at
+  pub rank_lines-more : take (i + 1) lines ≡ take i lines ++ line ∷ []
+  rank_lines-more = take_more lines i [] within_lines ∙ ap (λ line. take i lines ++ line ∷ []) line_at
 
   -- the first lines, the next one and the others
-  pub rank_lines-next : rank_lines 1 rows ≡ take i (rank_lines 1 rows) ++ (line ∷ [] ++ drop (i + 1) (rank_lines 1 rows))
+  pub rank_lines-next : lines ≡ take i lines ++ (line ∷ [] ++ drop (i + 1) lines)
   rank_lines-next =
-      sym (take-append-drop i (rank_lines 1 rows))
-      ∙ ap (λ rest. take i (rank_lines 1 rows) ++ rest) (drop_more (rank_lines 1 rows) i [] within_lines ∙ ap (λ line. line ∷ drop (i + 1) (rank_lines 1 rows)) line_at)
+      sym (take-append-drop i lines) ∙ ap (λ rest. take i lines ++ rest) (drop_more lines i [] within_lines ∙ ap (λ line. line ∷ drop (i + 1) lines) line_at)

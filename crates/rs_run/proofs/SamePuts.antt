@@ -8,7 +8,7 @@ use Rattle.std.proofs.lemmas.List.{length-map, take_all}
 use Rattle.rs_rank.specs.declared.answer.Answer.{Answer}
 use Rattle.rs_expr.specs.InOrder.{Inquiry, calls_of}
 use Rattle.rs_expr.specs.Scoring.{Answering}
-use Rattle.rs_catalog.specs.Catalogue.{Catalogue, empty}
+use Rattle.rs_catalog.specs.Catalogue.{Catalogue}
 use Rattle.rs_syntax.specs.Syntax.{Command, CreateTable, CreatePredicate, CreateRankIndex, Ask, Declare, Fetch, Close, Explain, ExplainAnalyze}
 use Rattle.rs_syntax.specs.Syntax as syntax
 use Rattle.rs_syntax.specs.Written.{AreWritten, IsWritten, IsWrittenQuery}
@@ -32,17 +32,19 @@ use Rattle.rs_run.specs.declared.evaluating.Evaluating.TheVariants.{Planned, Pla
 use Rattle.rs_run.specs.declared.fault.Fault.{Fault}
 use Rattle.rs_run.specs.Lines.{rank_lines}
 use Rattle.rs_run.specs.Plain.{HasStatements, TextRuns, read, runs, source_of, unlexed, unparsed, unread}
-use Rattle.rs_run.specs.Planned.{ask_count, ask_outcome, ask_step, asks_from, can_be_planned, cards_for, given_lines, plan_for, planned_step}
+use Rattle.rs_run.specs.Planned.{ask_count, ask_outcome, ask_step, asks_from, cards_for, given_lines, plan_for, planned_step}
 use Rattle.rs_run.specs.Run.{Finds, Put, Run, behind, calls_in, puts}
-use Rattle.rs_run.specs.Running.{HasNoExplain, IsNoExplain, IsRunOf}
+use Rattle.rs_run.specs.Running.{HasCreatesAndQueries, IsCreateOrQuery, IsRunOf}
 use Rattle.rs_run.specs.Sampled.{sample_step, sampling}
 use Rattle.rs_run.specs.Sequence.{RunOf, RunsOn, Step, then_step}
-use Rattle.rs_run.specs.Statements.{Does, StatementsRun, answer_lines, evaluation_step, not_built, or_bind_fault, query_outcome, query_step, refused_or, select_step}
+use Rattle.rs_run.specs.Statements.{Does, answer_lines, evaluation_step, or_bind_fault, query_outcome, query_step, refused_or, select_step}
+use Rattle.rs_run.specs.Session.{DoesInSession, State, StatementsRun, beside_cursors, nothing}
 use Rattle.rs_run.specs.Words.{RunScript}
+use Rattle.rs_run.proofs.HeldSteps.{Ok-then}
 use Rattle.rs_run.proofs.OneRun.{Does-one, HasStatements-one, OneFile}
 use Rattle.rs_run.proofs.PlanSteps.{outcome-value, row-given}
 use Rattle.rs_run.proofs.RanFacts.{puts-append, puts-scores}
-use Rattle.rs_run.proofs.OneBlockFacts.{block-bound, least-plan}
+use Rattle.rs_run.proofs.UnfilteredFacts.{few-terms, least-plan, unfiltered-formed}
 
 -- lines alone
 puts-lines : (lines : List (List ℕ)) → puts (map Put lines) ≡ lines
@@ -160,90 +162,124 @@ module _ (give : GiveAnswers) (finds : Finds) (one : OneFile finds) (answer : An
   puts-behind catalogue query rest =
       puts-append (sample_step catalogue seed query).events rest.events ∙ ap (λ lines. lines ++ puts rest.events) (puts-inquiry (sampling catalogue seed query) [])
 
-  -- a bound query of one block
-  alike-bound : (catalogue : Catalogue) (query : syntax.Query) (bound : Query) (left right : Catalogue) → IsWrittenQuery query → can_be_planned query ≡ true → bound_query catalogue query ≡ Ok bound
+  -- a bound query
+  alike-bound : (catalogue : Catalogue) (query : syntax.Query) (bound : Query) (left right : Catalogue) → IsWrittenQuery query → bound_query catalogue query ≡ Ok bound
       → (query_step Plainly answer catalogue bound).outcome ≡ Ok left → (query_step (Planned seed) answer catalogue bound).outcome ≡ Ok right
       → Alike (query_step Plainly answer catalogue bound) (query_step (Planned seed) answer catalogue bound) left right
-  alike-bound catalogue query bound left right written fixed is la lb =
-      let known = block-bound catalogue query bound written fixed is in
+  alike-bound catalogue query bound left right written is la lb =
+      let formed = unfiltered-formed catalogue query bound written is in
       let plainly = puts-plainly catalogue bound left la in
       let w = world_of catalogue answer bound in
       let tree = plan_for answer catalogue seed bound in
       let planned = puts-planned w tree right lb in
-      let few : HasFewTerms bound = subst HasFewTerms (sym known.is) known.few in
-      let plans = least-plan catalogue bound (cards_for answer catalogue seed bound) known in
+      let plans = least-plan catalogue bound (cards_for answer catalogue seed bound) formed in
       record {
-        lines = plainly.0 ∙ sym (ap (rank_lines 1) (give w tree few plans)) ∙ sym planned.0 ∙ sym (puts-behind catalogue bound (planned_step w tree));
+        lines = plainly.0 ∙ sym (ap (rank_lines 1) (give w tree (few-terms catalogue bound formed) plans)) ∙ sym planned.0 ∙ sym (puts-behind catalogue bound (planned_step w tree));
         states = plainly.1 ∙ sym planned.1;
       }
 
-  alike-select : (number : ℕ) (catalogue : Catalogue) (query : syntax.Query) (left right : Catalogue) → IsWrittenQuery query
-      → (select_step Plainly answer number catalogue query).outcome ≡ Ok left → (select_step (Planned seed) answer number catalogue query).outcome ≡ Ok right
-      → Alike (select_step Plainly answer number catalogue query) (select_step (Planned seed) answer number catalogue query) left right
-  alike-select number catalogue query left right written la lb = go (can_be_planned query) refl (bound_query catalogue query) refl la lb where
-    go : (fixed : Bool) → can_be_planned query ≡ fixed → (bound : Result Query BindFault) → bound_query catalogue query ≡ bound
+  alike-select : (catalogue : Catalogue) (query : syntax.Query) (left right : Catalogue) → IsWrittenQuery query
+      → (select_step Plainly answer catalogue query).outcome ≡ Ok left → (select_step (Planned seed) answer catalogue query).outcome ≡ Ok right
+      → Alike (select_step Plainly answer catalogue query) (select_step (Planned seed) answer catalogue query) left right
+  alike-select catalogue query left right written la lb = go (bound_query catalogue query) refl la lb where
+    go : (bound : Result Query BindFault) → bound_query catalogue query ≡ bound
         → (refused_or (query_step Plainly answer catalogue) (or_bind_fault bound)).outcome ≡ Ok left
-        → (if fixed then refused_or (query_step (Planned seed) answer catalogue) (or_bind_fault bound) else not_built number).outcome ≡ Ok right
-        → Alike (refused_or (query_step Plainly answer catalogue) (or_bind_fault bound)) (if fixed then refused_or (query_step (Planned seed) answer catalogue) (or_bind_fault bound) else not_built number) left right
-    go true fixed (Ok bound) is la lb = alike-bound catalogue query bound left right written fixed is la lb
-    go true fixed (Err why) is la lb = absurd cc
-    go false fixed bound is la lb = absurd cc
+        → (refused_or (query_step (Planned seed) answer catalogue) (or_bind_fault bound)).outcome ≡ Ok right
+        → Alike (refused_or (query_step Plainly answer catalogue) (or_bind_fault bound)) (refused_or (query_step (Planned seed) answer catalogue) (or_bind_fault bound)) left right
+    go (Ok bound) is la lb = alike-bound catalogue query bound left right written is la lb
+    go (Err why) is la lb = absurd cc
 
-  alike-step : (number : ℕ) (catalogue : Catalogue) (command : Command) (a b : Step Catalogue) (left right : Catalogue) → IsWritten command → IsNoExplain command
-      → Does finds answer Plainly number catalogue command a → Does finds answer (Planned seed) number catalogue command b → a.outcome ≡ Ok left → b.outcome ≡ Ok right
+  alike-step : (catalogue : Catalogue) (command : Command) (a b : Step Catalogue) (left right : Catalogue) → IsWritten command → IsCreateOrQuery command
+      → Does finds answer Plainly catalogue command a → Does finds answer (Planned seed) catalogue command b → a.outcome ≡ Ok left → b.outcome ≡ Ok right
       → Alike a b left right
-  alike-step number catalogue (CreateTable name columns file) a b left right written silent da db la lb =
-      alike-same a b left right (Does-one finds one answer Plainly number catalogue (CreateTable name columns file) a b da db) la lb
-  alike-step number catalogue (CreatePredicate name params max cost formula) a b left right written silent da db la lb = alike-same a b left right (da ∙ sym db) la lb
-  alike-step number catalogue (CreateRankIndex name table predicate args at) a b left right written silent da db la lb = alike-same a b left right (da ∙ sym db) la lb
-  alike-step number catalogue (Ask query) a b left right written silent da db la lb =
-      subst (λ a. Alike a b left right) (sym da) (subst (λ b. Alike (select_step Plainly answer number catalogue query) b left right) (sym db)
-      (alike-select number catalogue query left right written (sym (ap (λ (s : Step Catalogue). s.outcome) da) ∙ la) (sym (ap (λ (s : Step Catalogue). s.outcome) db) ∙ lb)))
-  alike-step number catalogue (Declare name query) a b left right written silent da db la lb = alike-same a b left right (da ∙ sym db) la lb
-  alike-step number catalogue (Fetch count name) a b left right written silent da db la lb = alike-same a b left right (da ∙ sym db) la lb
-  alike-step number catalogue (Close name) a b left right written silent da db la lb = alike-same a b left right (da ∙ sym db) la lb
-  alike-step number catalogue (Explain query) a b left right written silent da db la lb = absurd silent
-  alike-step number catalogue (ExplainAnalyze query) a b left right written silent da db la lb = absurd silent
+  alike-step catalogue (CreateTable name columns file) a b left right written of da db la lb =
+      alike-same a b left right (Does-one finds one answer Plainly catalogue (CreateTable name columns file) a b da db) la lb
+  alike-step catalogue (CreatePredicate name params max cost formula) a b left right written of da db la lb = alike-same a b left right (da ∙ sym db) la lb
+  alike-step catalogue (CreateRankIndex name table predicate args at) a b left right written of da db la lb = alike-same a b left right (da ∙ sym db) la lb
+  alike-step catalogue (Ask query) a b left right written of da db la lb =
+      subst (λ a. Alike a b left right) (sym da) (subst (λ b. Alike (select_step Plainly answer catalogue query) b left right) (sym db)
+      (alike-select catalogue query left right written (sym (ap (λ (s : Step Catalogue). s.outcome) da) ∙ la) (sym (ap (λ (s : Step Catalogue). s.outcome) db) ∙ lb)))
+  alike-step catalogue (Declare name query) a b left right written of da db la lb = absurd of
+  alike-step catalogue (Fetch count name) a b left right written of da db la lb = absurd of
+  alike-step catalogue (Close name) a b left right written of da db la lb = absurd of
+  alike-step catalogue (Explain query) a b left right written of da db la lb = absurd of
+  alike-step catalogue (ExplainAnalyze query) a b left right written of da db la lb = absurd of
+
+  -- the same in a session, whose cursors stay as they are
+  record AlikeStates (a b : Step State) (left right : State) : Type 0 where
+    lines : puts a.events ≡ puts b.events
+    states : left ≡ right
+
+  alike-beside : (state : State) (command : Command) (a b : Step State) (left right : State) → IsWritten command → IsCreateOrQuery command → (x y : Step Catalogue)
+      → Does finds answer Plainly state.catalogue command x → Does finds answer (Planned seed) state.catalogue command y
+      → a ≡ beside_cursors state.cursors x → b ≡ beside_cursors state.cursors y → a.outcome ≡ Ok left → b.outcome ≡ Ok right → AlikeStates a b left right
+  alike-beside state command a b left right written of x y dx dy is also la lb =
+      let with_cursors : Catalogue → State = λ catalogue. record { catalogue = catalogue; cursors = state.cursors } in
+      let first = Ok-then x.outcome (λ catalogue. Ok (with_cursors catalogue)) left (sym (ap (λ (s : Step State). s.outcome) is) ∙ la) in
+      let second = Ok-then y.outcome (λ catalogue. Ok (with_cursors catalogue)) right (sym (ap (λ (s : Step State). s.outcome) also) ∙ lb) in
+      let alike = alike-step state.catalogue command x y first.0 second.0 written of dx dy first.1 second.1 in
+      let left_is : with_cursors first.0 ≡ left = (let e = first.2 in cc) in
+      let right_is : with_cursors second.0 ≡ right = (let e = second.2 in cc) in record {
+        lines = ap (λ (s : Step State). puts s.events) is ∙ alike.lines ∙ sym (ap (λ (s : Step State). puts s.events) also);
+        states = sym left_is ∙ ap with_cursors alike.states ∙ right_is;
+      }
+
+  alike-in_session : (state : State) (command : Command) (a b : Step State) (left right : State) → IsWritten command → IsCreateOrQuery command
+      → DoesInSession finds answer Plainly state command a → DoesInSession finds answer (Planned seed) state command b → a.outcome ≡ Ok left → b.outcome ≡ Ok right
+      → AlikeStates a b left right
+  alike-in_session state (CreateTable name columns file) a b left right written of da db la lb =
+      alike-beside state (CreateTable name columns file) a b left right written of da.0 db.0 da.1 db.1 da.2 db.2 la lb
+  alike-in_session state (CreatePredicate name params max cost formula) a b left right written of da db la lb =
+      alike-beside state (CreatePredicate name params max cost formula) a b left right written of da.0 db.0 da.1 db.1 da.2 db.2 la lb
+  alike-in_session state (CreateRankIndex name table predicate args at) a b left right written of da db la lb =
+      alike-beside state (CreateRankIndex name table predicate args at) a b left right written of da.0 db.0 da.1 db.1 da.2 db.2 la lb
+  alike-in_session state (Ask query) a b left right written of da db la lb =
+      alike-beside state (Ask query) a b left right written of da.0 db.0 da.1 db.1 da.2 db.2 la lb
+  alike-in_session state (Declare name query) a b left right written of da db la lb = absurd of
+  alike-in_session state (Fetch count name) a b left right written of da db la lb = absurd of
+  alike-in_session state (Close name) a b left right written of da db la lb = absurd of
+  alike-in_session state (Explain query) a b left right written of da db la lb = absurd of
+  alike-in_session state (ExplainAnalyze query) a b left right written of da db la lb = absurd of
 
   -- a statement that was run, and those behind it
-  record Behind (rest : Catalogue → Run → Type 0) (step : Step Catalogue) (run : Run) : Type 0 where
-    left : Catalogue
+  record Behind (rest : State → Run → Type 0) (step : Step State) (run : Run) : Type 0 where
+    left : State
     leaves : step.outcome ≡ Ok left
     more : Run
     is_more : rest left more
     is : run ≡ behind step.events more
     well : more.fault ≡ None
 
-  behind-well : (rest : Catalogue → Run → Type 0) (step : Step Catalogue) (run : Run) → RunsOn rest step.events step.outcome run → run.fault ≡ None → Behind rest step run
+  behind-well : (rest : State → Run → Type 0) (step : Step State) (run : Run) → RunsOn rest step.events step.outcome run → run.fault ≡ None → Behind rest step run
   behind-well rest step run on well = go step.outcome refl on where
-    go : (outcome : Result Catalogue Fault) → step.outcome ≡ outcome → RunsOn rest step.events outcome run → Behind rest step run
+    go : (outcome : Result State Fault) → step.outcome ≡ outcome → RunsOn rest step.events outcome run → Behind rest step run
     go (Ok left) is on = record { left = left; leaves = is; more = on.0; is_more = on.1; is = on.2; well = sym (ap (λ (r : Run). r.fault) on.2) ∙ well }
     go (Err fault) is on = absurd (let ended = ap (λ (r : Run). r.fault) on in cc)
 
-  alike-runs : (number : ℕ) (catalogue : Catalogue) (commands : List Command) (a b : Run) → AreWritten commands → AllByRecursion IsNoExplain commands → RunOf (Does finds answer Plainly) number catalogue commands a
-      → RunOf (Does finds answer (Planned seed)) number catalogue commands b → a.fault ≡ None → b.fault ≡ None → puts a.events ≡ puts b.events
-  alike-runs number catalogue [] a b written silent ra rb wa wb = ap (λ (r : Run). puts r.events) (ra ∙ sym rb)
-  alike-runs number catalogue (command ∷ rest) a b written silent ra rb wa wb =
-      let x = behind-well (λ next more. RunOf (Does finds answer Plainly) (suc number) next rest more) ra.0 a ra.2 wa in
-      let y = behind-well (λ next more. RunOf (Does finds answer (Planned seed)) (suc number) next rest more) rb.0 b rb.2 wb in
-      let first = alike-step number catalogue command ra.0 rb.0 x.left y.left written.0 silent.0 ra.1 rb.1 x.leaves y.leaves in
-      let later = alike-runs (suc number) y.left rest x.more y.more written.1 silent.1 (subst (λ next. RunOf (Does finds answer Plainly) (suc number) next rest x.more) first.states x.is_more) y.is_more x.well y.well in
+  alike-runs : (state : State) (commands : List Command) (a b : Run) → AreWritten commands → AllByRecursion IsCreateOrQuery commands → RunOf (DoesInSession finds answer Plainly) state commands a
+      → RunOf (DoesInSession finds answer (Planned seed)) state commands b → a.fault ≡ None → b.fault ≡ None → puts a.events ≡ puts b.events
+  alike-runs state [] a b written of ra rb wa wb = ap (λ (r : Run). puts r.events) (ra ∙ sym rb)
+  alike-runs state (command ∷ rest) a b written of ra rb wa wb =
+      let x = behind-well (λ next more. RunOf (DoesInSession finds answer Plainly) next rest more) ra.0 a ra.2 wa in
+      let y = behind-well (λ next more. RunOf (DoesInSession finds answer (Planned seed)) next rest more) rb.0 b rb.2 wb in
+      let first = alike-in_session state command ra.0 rb.0 x.left y.left written.0 of.0 ra.1 rb.1 x.leaves y.leaves in
+      let later = alike-runs y.left rest x.more y.more written.1 of.1 (subst (λ next. RunOf (DoesInSession finds answer Plainly) next rest x.more) first.states x.is_more) y.is_more x.well y.well in
       ap (λ (r : Run). puts r.events) x.is ∙ puts-append ra.0.events x.more.events
       ∙ ap (λ lines. lines ++ puts x.more.events) first.lines ∙ ap (λ lines. puts rb.0.events ++ lines) later
       ∙ sym (puts-append rb.0.events y.more.events) ∙ sym (ap (λ (r : Run). puts r.events) y.is)
 
   -- texts and scripts
-  alike-texts : (script : List ℕ) (a b : Run) → ((commands : List Command) → HasStatements script commands → AllByRecursion IsNoExplain commands) → TextRuns (StatementsRun finds answer Plainly) script a → TextRuns (StatementsRun finds answer (Planned seed)) script b
+  alike-texts : (script : List ℕ) (a b : Run) → ((commands : List Command) → HasStatements script commands → AllByRecursion IsCreateOrQuery commands) → TextRuns (StatementsRun finds answer Plainly) script a → TextRuns (StatementsRun finds answer (Planned seed)) script b
       → a.fault ≡ None → b.fault ≡ None → puts a.events ≡ puts b.events
   alike-texts script _ b silent (unlexed fault refuses) rb wa wb = absurd cc
   alike-texts script _ b silent (unparsed tokens fault lexed refuses) rb wa wb = absurd cc
   alike-texts script a _ silent (runs commands _ made is) (unlexed fault refuses) wa wb = absurd cc
   alike-texts script a _ silent (runs commands _ made is) (unparsed tokens fault lexed refuses) wa wb = absurd cc
   alike-texts script a b silent (runs commands _ made is) (runs others _ again also) wa wb =
-      alike-runs 1 empty commands a b (AreWritten-parsed script made.tokens commands made.lexed.spells made.parsed) (silent commands made) is
+      alike-runs nothing commands a b (AreWritten-parsed script made.tokens commands made.lexed.spells made.parsed) (silent commands made) is
       (subst (λ list. StatementsRun finds answer (Planned seed) list b) (sym (HasStatements-one script commands others made again)) also) wa wb
 
-  pub alike-scripts : (name : List ℕ) (a b : Run) → HasNoExplain finds name → IsRunOf finds answer (RunScript name Plainly) a → IsRunOf finds answer (RunScript name (Planned seed)) b
+  pub alike-scripts : (name : List ℕ) (a b : Run) → HasCreatesAndQueries finds name → IsRunOf finds answer (RunScript name Plainly) a → IsRunOf finds answer (RunScript name (Planned seed)) b
       → a.fault ≡ None → b.fault ≡ None → puts a.events ≡ puts b.events
   alike-scripts name _ b silent (unread there fault found e) rb wa wb = absurd cc
   alike-scripts name _ _ silent (read there script a found e is) (unread other fault again f) wa wb = absurd cc

@@ -12,8 +12,7 @@ use Rattle.rs_expr.specs.Scoring.{Answering}
 use Rattle.rs_catalog.specs.Catalogue.{Catalogue, with_table}
 use Rattle.rs_syntax.specs.declared.name.Name.{Name}
 use Rattle.rs_run.specs.declared.fault.Fault.{Fault}
-use Rattle.rs_run.specs.declared.fault.Fault.TheVariants.{Memory, Script}
-use Rattle.rs_run.specs.declared.script_fault.ScriptFault.TheVariants.{NotBuilt}
+use Rattle.rs_run.specs.declared.fault.Fault.TheVariants.{Memory}
 use Rattle.rs_lex.specs.declared.token.Span.{Span}
 use Rattle.rs_value.specs.declared.kind.Kind.{Kind}
 use Rattle.rs_syntax.specs.Syntax.{command_of, query_of}
@@ -26,6 +25,7 @@ use Rattle.rs_bind.specs.Indexes.{index_def_of}
 use Rattle.rs_bind.specs.Names.{columns_of}
 use Rattle.rs_catalog.specs.declared.room.What.TheVariants as what
 use Rattle.rs_run.specs.Content.{content_of}
+use Rattle.rs_run.specs.Parts.Session.{IsOfNoCursor}
 use Rattle.rs_run.specs.Parts.Steps.{FetchesFile, IsReadTable, Ran, Stepped, run_of}
 use Rattle.rs_run.specs.Run.{Fetch, Finds, finds_in}
 use Rattle.rs_run.specs.Sequence.{Step, still}
@@ -151,55 +151,55 @@ module _ (catalogue : Catalogue) (name : Name) (file : List ℕ) (bound : Result
         leaves = made ∙ ap Ok (sym joins);
       }
 
--- what a statement does that isn't built
-pub Does-not_built : (finds : Finds) (answer : Answering) (evaluating : Evaluating) (number : ℕ) (catalogue : Catalogue) (s : Statement)
+-- a statement that is of no cursor is one of six kinds
+pub of_a_kind : (s : Statement)
     → ((name : Name) (columns : List (Name × Kind)) (file : List ℕ) → s ≡ statement.CreateTable name columns file → ⊥)
     → ((name : Name) (params : List (Name × Kind)) (max : ℤ × Span) (cost : Option (ℤ × Span)) (formula : Node) → s ≡ statement.CreatePredicate name params max cost formula → ⊥)
     → ((name table predicate : Name) (args : List Arg) (at : Span) → s ≡ statement.CreateRankIndex name table predicate args at → ⊥)
     → ((select : Select) → s ≡ statement.Query select → ⊥) → ((select : Select) → s ≡ statement.Explain select → ⊥) → ((select : Select) → s ≡ statement.ExplainAnalyze select → ⊥)
-    → Does finds answer evaluating number catalogue (command_of s) (still (Err (Script (NotBuilt number))))
-Does-not_built finds answer evaluating number catalogue (statement.CreateTable name columns file) a b c d e f = absurd (a name columns file refl)
-Does-not_built finds answer evaluating number catalogue (statement.CreatePredicate name params max cost formula) a b c d e f = absurd (b name params max cost formula refl)
-Does-not_built finds answer evaluating number catalogue (statement.CreateRankIndex name table predicate args at) a b c d e f = absurd (c name table predicate args at refl)
-Does-not_built finds answer evaluating number catalogue (statement.Query select) a b c d e f = absurd (d select refl)
-Does-not_built finds answer evaluating number catalogue (statement.Declare name select) a b c d e f = refl
-Does-not_built finds answer evaluating number catalogue (statement.Fetch count name) a b c d e f = refl
-Does-not_built finds answer evaluating number catalogue (statement.Close name) a b c d e f = refl
-Does-not_built finds answer evaluating number catalogue (statement.Explain select) a b c d e f = absurd (e select refl)
-Does-not_built finds answer evaluating number catalogue (statement.ExplainAnalyze select) a b c d e f = absurd (f select refl)
+    → IsOfNoCursor (command_of s) → ⊥
+of_a_kind (statement.CreateTable name columns file) a b c d e f of = absurd (a name columns file refl)
+of_a_kind (statement.CreatePredicate name params max cost formula) a b c d e f of = absurd (b name params max cost formula refl)
+of_a_kind (statement.CreateRankIndex name table predicate args at) a b c d e f of = absurd (c name table predicate args at refl)
+of_a_kind (statement.Query select) a b c d e f of = absurd (d select refl)
+of_a_kind (statement.Declare name select) a b c d e f of = of
+of_a_kind (statement.Fetch count name) a b c d e f of = of
+of_a_kind (statement.Close name) a b c d e f of = of
+of_a_kind (statement.Explain select) a b c d e f of = absurd (e select refl)
+of_a_kind (statement.ExplainAnalyze select) a b c d e f of = absurd (f select refl)
 
 -- what a query does, and what the two forms of EXPLAIN do
-pub Does-query : (finds : Finds) (answer : Answering) (evaluating : Evaluating) (number : ℕ) (catalogue : Catalogue) (s : Statement) (select : Select) → s ≡ statement.Query select
-    → Does finds answer evaluating number catalogue (command_of s) (select_step evaluating answer number catalogue (query_of select))
-Does-query finds answer evaluating number catalogue s select e =
-    subst (λ s. Does finds answer evaluating number catalogue (command_of s) (select_step evaluating answer number catalogue (query_of select))) (sym e) refl
+pub Does-query : (finds : Finds) (answer : Answering) (evaluating : Evaluating) (catalogue : Catalogue) (s : Statement) (select : Select) → s ≡ statement.Query select
+    → Does finds answer evaluating catalogue (command_of s) (select_step evaluating answer catalogue (query_of select))
+Does-query finds answer evaluating catalogue s select e =
+    subst (λ s. Does finds answer evaluating catalogue (command_of s) (select_step evaluating answer catalogue (query_of select))) (sym e) refl
 
-pub Does-explain : (finds : Finds) (answer : Answering) (evaluating : Evaluating) (number : ℕ) (catalogue : Catalogue) (s : Statement) (select : Select) → s ≡ statement.Explain select
-    → Does finds answer evaluating number catalogue (command_of s) (explain_step evaluating answer number catalogue (query_of select))
-Does-explain finds answer evaluating number catalogue s select e =
-    subst (λ s. Does finds answer evaluating number catalogue (command_of s) (explain_step evaluating answer number catalogue (query_of select))) (sym e) refl
+pub Does-explain : (finds : Finds) (answer : Answering) (evaluating : Evaluating) (catalogue : Catalogue) (s : Statement) (select : Select) → s ≡ statement.Explain select
+    → Does finds answer evaluating catalogue (command_of s) (explain_step evaluating answer catalogue (query_of select))
+Does-explain finds answer evaluating catalogue s select e =
+    subst (λ s. Does finds answer evaluating catalogue (command_of s) (explain_step evaluating answer catalogue (query_of select))) (sym e) refl
 
-pub Does-analyze : (finds : Finds) (answer : Answering) (evaluating : Evaluating) (number : ℕ) (catalogue : Catalogue) (s : Statement) (select : Select) → s ≡ statement.ExplainAnalyze select
-    → Does finds answer evaluating number catalogue (command_of s) (analyze_step evaluating number catalogue (query_of select))
-Does-analyze finds answer evaluating number catalogue s select e =
-    subst (λ s. Does finds answer evaluating number catalogue (command_of s) (analyze_step evaluating number catalogue (query_of select))) (sym e) refl
+pub Does-analyze : (finds : Finds) (answer : Answering) (evaluating : Evaluating) (catalogue : Catalogue) (s : Statement) (select : Select) → s ≡ statement.ExplainAnalyze select
+    → Does finds answer evaluating catalogue (command_of s) (analyze_step evaluating answer catalogue (query_of select))
+Does-analyze finds answer evaluating catalogue s select e =
+    subst (λ s. Does finds answer evaluating catalogue (command_of s) (analyze_step evaluating answer catalogue (query_of select))) (sym e) refl
 
 -- what a statement does that makes a predicate
-pub Does-predicate : (finds : Finds) (answer : Answering) (evaluating : Evaluating) (number : ℕ) (catalogue : Catalogue) (s : Statement) (name : Name) (params : List (Name × Kind)) (max : ℤ × Span) (cost : Option (ℤ × Span)) (formula : Node)
-    → s ≡ statement.CreatePredicate name params max cost formula → Does finds answer evaluating number catalogue (command_of s) (still (predicate_outcome catalogue name (command_of s)))
-Does-predicate finds answer evaluating number catalogue s name params max cost formula e =
-    subst (λ s. Does finds answer evaluating number catalogue (command_of s) (still (predicate_outcome catalogue name (command_of s)))) (sym e) refl
+pub Does-predicate : (finds : Finds) (answer : Answering) (evaluating : Evaluating) (catalogue : Catalogue) (s : Statement) (name : Name) (params : List (Name × Kind)) (max : ℤ × Span) (cost : Option (ℤ × Span)) (formula : Node)
+    → s ≡ statement.CreatePredicate name params max cost formula → Does finds answer evaluating catalogue (command_of s) (still (predicate_outcome catalogue name (command_of s)))
+Does-predicate finds answer evaluating catalogue s name params max cost formula e =
+    subst (λ s. Does finds answer evaluating catalogue (command_of s) (still (predicate_outcome catalogue name (command_of s)))) (sym e) refl
 
 -- what one does that makes a rank index
-pub Does-index : (finds : Finds) (answer : Answering) (evaluating : Evaluating) (number : ℕ) (catalogue : Catalogue) (s : Statement) (name table predicate : Name) (args : List Arg) (at : Span)
+pub Does-index : (finds : Finds) (answer : Answering) (evaluating : Evaluating) (catalogue : Catalogue) (s : Statement) (name table predicate : Name) (args : List Arg) (at : Span)
     → s ≡ statement.CreateRankIndex name table predicate args at
-    → Does finds answer evaluating number catalogue (command_of s) (refused_or (index_step answer catalogue) (with_room catalogue what.Index name (index_def_of catalogue (command_of s))))
-Does-index finds answer evaluating number catalogue s name table predicate args at e =
-    subst (λ s. Does finds answer evaluating number catalogue (command_of s) (refused_or (index_step answer catalogue) (with_room catalogue what.Index name (index_def_of catalogue (command_of s))))) (sym e) refl
+    → Does finds answer evaluating catalogue (command_of s) (refused_or (index_step answer catalogue) (with_room catalogue what.Index name (index_def_of catalogue (command_of s))))
+Does-index finds answer evaluating catalogue s name table predicate args at e =
+    subst (λ s. Does finds answer evaluating catalogue (command_of s) (refused_or (index_step answer catalogue) (with_room catalogue what.Index name (index_def_of catalogue (command_of s))))) (sym e) refl
 
 -- and one that makes a table, of columns that were handed on as a slice
-pub Does-table : (finds : Finds) (answer : Answering) (evaluating : Evaluating) (number : ℕ) (catalogue : Catalogue) (s : Statement) (name : Name) (columns slice : List (Name × Kind)) (file : List ℕ)
+pub Does-table : (finds : Finds) (answer : Answering) (evaluating : Evaluating) (catalogue : Catalogue) (s : Statement) (name : Name) (columns slice : List (Name × Kind)) (file : List ℕ)
     → s ≡ statement.CreateTable name columns file → slice ≡ columns → (step : Step Catalogue) → DoesTable finds catalogue name file (with_room catalogue what.Table name (columns_of slice)) step
-    → Does finds answer evaluating number catalogue (command_of s) step
-Does-table finds answer evaluating number catalogue s name columns slice file e same step does =
-    subst (λ s. Does finds answer evaluating number catalogue (command_of s) step) (sym e) (subst (λ columns. DoesTable finds catalogue name file (with_room catalogue what.Table name (columns_of columns)) step) same does)
+    → Does finds answer evaluating catalogue (command_of s) step
+Does-table finds answer evaluating catalogue s name columns slice file e same step does =
+    subst (λ s. Does finds answer evaluating catalogue (command_of s) step) (sym e) (subst (λ columns. DoesTable finds catalogue name file (with_room catalogue what.Table name (columns_of columns)) step) same does)

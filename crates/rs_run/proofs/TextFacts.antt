@@ -13,7 +13,6 @@ use Rattle.rs_syntax.specs.Scripts.{IsSound, Parses, Refuses}
 use Rattle.rs_syntax.specs.Syntax.{Command}
 use Rattle.rs_syntax.specs.declared.fault.SyntaxFault.{SyntaxFault}
 use Rattle.rs_syntax.specs.declared.fault.SyntaxFault.TheVariants as syntax
-use Rattle.rs_catalog.specs.Catalogue.{Catalogue, empty}
 use Rattle.rs_run.specs.declared.fault.Fault.{Fault}
 use Rattle.rs_run.specs.declared.fault.Fault.TheVariants.{Memory}
 use Rattle.rs_run.specs.Faults.{lex_fault, parse_fault}
@@ -23,12 +22,12 @@ use Rattle.rs_run.specs.Run.{Event, Fetch, Finds, Run, behind, fails, fetch_then
 use Rattle.rs_run.specs.Running.{IsCut, IsRunOf}
 use Rattle.rs_run.specs.Sequence.{RunOf, RunsOn}
 use Rattle.rs_run.specs.declared.evaluating.Evaluating.{Evaluating}
-use Rattle.rs_run.specs.Statements.{Does, StatementsRun}
+use Rattle.rs_run.specs.Session.{DoesInSession, State, StatementsRun, nothing}
 use Rattle.rs_run.specs.Words.{RunScript}
 use Rattle.rs_run.specs.World.{World}
 use Rattle.rs_run.proofs.FetchFacts.{Ran-unfetched, fetched-ok}
 use Rattle.rs_run.proofs.RanFacts.{HasDone-none, Ran-all, Ran-behind}
-use Rattle.rs_run.proofs.StatementFacts.{Does-finds, finds-after}
+use Rattle.rs_run.proofs.StatementFacts.{DoesInSession-finds, finds-after}
 
 -- the lexer refuses the text
 unlexed-runs : (statements : List Command → Run → Type 0) (script : List ℕ) (why : LexFault) → (why ≡ lex.Memory) ⊎ spelling.RefusesBytes 0 0 script why
@@ -91,17 +90,17 @@ pub HasTokens-slice : (script : List ℕ) (made slice : List Token) → Spells 0
 HasTokens-slice script made slice spells few same = subst (HasTokens script) (sym same) (record { spells = spells; few = few })
 
 -- runs where files hold as much
-RunOf-finds : (a b : Finds) → ((name : List ℕ) (there : Option (List ℕ)) → a name there → b name there) → (answer : Answering) (evaluating : Evaluating) (number : ℕ) (catalogue : Catalogue) (commands : List Command) (run : Run)
-    → RunOf (Does a answer evaluating) number catalogue commands run → RunOf (Does b answer evaluating) number catalogue commands run
-RunOf-finds a b more answer evaluating number catalogue [] run is = is
-RunOf-finds a b more answer evaluating number catalogue (command ∷ rest) run is = (
+RunOf-finds : (a b : Finds) → ((name : List ℕ) (there : Option (List ℕ)) → a name there → b name there) → (answer : Answering) (evaluating : Evaluating) (state : State) (commands : List Command) (run : Run)
+    → RunOf (DoesInSession a answer evaluating) state commands run → RunOf (DoesInSession b answer evaluating) state commands run
+RunOf-finds a b more answer evaluating state [] run is = is
+RunOf-finds a b more answer evaluating state (command ∷ rest) run is = (
   is.0,
-  Does-finds a b more answer evaluating number catalogue command is.0 is.1,
-  on is.0.events is.0.outcome (λ next later r. RunOf-finds a b more answer evaluating (suc number) next rest later r) is.2,
+  DoesInSession-finds a b more answer evaluating state command is.0 is.1,
+  on is.0.events is.0.outcome (λ next later r. RunOf-finds a b more answer evaluating next rest later r) is.2,
 ) where
-  on : (events : List Event) (outcome : Result Catalogue Fault)
-      → ((next : Catalogue) (later : Run) → RunOf (Does a answer evaluating) (suc number) next rest later → RunOf (Does b answer evaluating) (suc number) next rest later)
-      → RunsOn (λ next more. RunOf (Does a answer evaluating) (suc number) next rest more) events outcome run → RunsOn (λ next more. RunOf (Does b answer evaluating) (suc number) next rest more) events outcome run
+  on : (events : List Event) (outcome : Result State Fault)
+      → ((next : State) (later : Run) → RunOf (DoesInSession a answer evaluating) next rest later → RunOf (DoesInSession b answer evaluating) next rest later)
+      → RunsOn (λ next more. RunOf (DoesInSession a answer evaluating) next rest more) events outcome run → RunsOn (λ next more. RunOf (DoesInSession b answer evaluating) next rest more) events outcome run
   on events (Err fault) turn r = r
   on events (Ok next) turn r = (r.0, turn next r.0 r.1, r.2)
 
@@ -150,7 +149,7 @@ module _ (answer : Answering) (evaluating : Evaluating) (name : List ℕ) (world
         is = elim text.is [
           | inl is ↦ inl (read f.there script text.run f.is_told (sym source.given)
               (TextRuns-turn (StatementsRun (finds_in files.told) answer evaluating) (StatementsRun (finds_in world.files.told) answer evaluating)
-              (λ commands run. RunOf-finds (finds_in files.told) (finds_in world.files.told) (finds-after world.files.told files.told (name ∷ []) source.has.all.fetched) answer evaluating 1 empty commands run)
+              (λ commands run. RunOf-finds (finds_in files.told) (finds_in world.files.told) (finds-after world.files.told files.told (name ∷ []) source.has.all.fetched) answer evaluating nothing commands run)
               script text.run is))
           | inr e ↦ inr (ap (behind (Fetch name ∷ [])) e)
         ];

@@ -471,13 +471,8 @@ line_of_name_taken : fault_line (fault.Script (script.Room room.NameTaken 13)) �
 unfolding digits
 line_of_name_taken = refl
 
--- of a statement that isn't there yet
-line_of_not_built : fault_line (fault.Script (script.NotBuilt 1)) ≡ codes "script: not built statement 1\n"
-unfolding digits
-line_of_not_built = refl
-
 -- the status of each
-status_of_script : status_of (Some (fault.Script (script.NotBuilt 1))) ≡ status.Script
+status_of_script : status_of (Some (fault.Script (script.NotUtf8 0))) ≡ status.Script
 status_of_script = refl
 
 status_of_probe : status_of (Some (fault.Probe (codes "q"))) ≡ status.Probe

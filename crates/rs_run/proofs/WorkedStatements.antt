@@ -26,6 +26,7 @@ use Rattle.rs_bind.specs.Indexes.{index_def_of}
 use Rattle.rs_bind.specs.Queries.{bound_query}
 use Rattle.rs_bind.proofs.ResultFacts.{same_Ok}
 use Rattle.rs_query.specs.declared.query.Query.{Query}
+use Rattle.rs_plan.specs.Counts.{counts_of_plan}
 use Rattle.rs_plan.specs.Trees.{NestedJoin, Rank, RankScan, SeqScan}
 use Rattle.rs_exec.specs.Asking.{world_of}
 use Rattle.rs_enum.specs.Texts.{text_of}
@@ -33,14 +34,17 @@ use Rattle.rs_sample.specs.Samples.{samples_from}
 use Rattle.rs_sample.specs.Taking.{taken_from}
 use Rattle.rs_run.specs.declared.fault.Fault.{Fault}
 use Rattle.rs_run.specs.declared.fault.Fault.TheVariants as fault
+use Rattle.rs_run.specs.declared.fault.SessionFault.TheVariants as session
 use Rattle.rs_run.specs.declared.script_fault.ScriptFault.TheVariants as script
 use Rattle.rs_run.specs.Faults.{only}
 use Rattle.rs_expr.specs.Scoring.{Answering}
 use Rattle.rs_run.specs.Run.{Fetch, Finds, Put, Score, found_in}
 use Rattle.rs_run.specs.declared.evaluating.Evaluating.TheVariants.{Plainly, Planned}
-use Rattle.rs_run.specs.Planned.{cards_for, planned_step}
+use Rattle.rs_run.specs.Planned.{asks_in_all, cards_for, planned_step}
 use Rattle.rs_run.specs.Sampled.{sample_step}
-use Rattle.rs_run.specs.Statements.{StatementsRun, index_step, or_bind_fault, predicate_outcome, refused_or, table_step}
+use Rattle.rs_run.specs.Sequence.{silent}
+use Rattle.rs_run.specs.Statements.{index_step, or_bind_fault, predicate_outcome, refused_or, table_step}
+use Rattle.rs_run.specs.Session.{StatementsRun}
 
 -- a name at a place
 abbrev name_at : List ℕ → ℕ → Name
@@ -75,7 +79,7 @@ call n = record { predicate = codes "p"; args = value.Int n ∷ [] }
 makes_all : StatementsRun (finds (Some (codes "v\n3\n10\n"))) answer Plainly (create_table ∷ create_predicate ∷ create_index ∷ [])
     (record { events = Fetch (codes "f") ∷ Score (call (pos 3)) ∷ Score (call (pos 10)) ∷ []; fault = None })
 unfolding create_table create_predicate create_index finds answer call csv_on_literals digits chars is_utf8 encode_utf8
-makes_all = (_, (Some (codes "v\n3\n10\n"), refl, refl), (_, (_, refl, (_, (_, refl, (_, refl, refl)), refl)), refl))
+makes_all = (_, (_, (Some (codes "v\n3\n10\n"), refl, refl), refl), (_, (_, (_, refl, refl), (_, (_, (_, refl, refl), (_, refl, refl)), refl)), refl))
 
 -- SELECT v FROM t ORDER BY p(v), from byte 100 on
 select : syntax.Query
@@ -100,24 +104,24 @@ select = record {
 prints_a_query : StatementsRun (finds (Some (codes "v\n3\n10\n"))) answer Plainly (create_table ∷ create_predicate ∷ syntax.Ask select ∷ [])
     (record { events = Fetch (codes "f") ∷ Score (call (pos 3)) ∷ Score (call (pos 10)) ∷ Put (codes "1,10,10\n") ∷ Put (codes "2,3,3\n") ∷ []; fault = None })
 unfolding create_table create_predicate select finds answer call csv_on_literals digits chars is_utf8 encode_utf8 escaped fields_text is_blank
-prints_a_query = (_, (Some (codes "v\n3\n10\n"), refl, refl), (_, (_, refl, (_, (_, refl, (_, refl, refl)), refl)), refl))
+prints_a_query = (_, (_, (Some (codes "v\n3\n10\n"), refl, refl), refl), (_, (_, (_, refl, refl), (_, (_, (_, refl, refl), (_, refl, refl)), refl)), refl))
 
 -- a number that is no score ends the run before any row of the query is put
 prints_nothing : StatementsRun (finds (Some (codes "v\n3\n40\n5\n"))) answer Plainly (create_table ∷ create_predicate ∷ syntax.Ask select ∷ create_table ∷ [])
     (record { events = Fetch (codes "f") ∷ Score (call (pos 3)) ∷ Score (call (pos 40)) ∷ []; fault = Some (fault.BadScore (codes "p") (only 2) (pos 40) 10) })
 unfolding create_table create_predicate select finds answer call csv_on_literals digits chars is_utf8 encode_utf8 escaped fields_text is_blank
-prints_nothing = (_, (Some (codes "v\n3\n40\n5\n"), refl, refl), (_, (_, refl, (_, (_, refl, refl), refl)), refl))
+prints_nothing = (_, (_, (Some (codes "v\n3\n40\n5\n"), refl, refl), refl), (_, (_, (_, refl, refl), (_, (_, (_, refl, refl), refl), refl)), refl))
 
 -- EXPLAIN is bound, and asks for nothing and puts nothing
 explains : StatementsRun (finds None) answer Plainly (create_predicate ∷ syntax.Explain select ∷ [])
     (record { events = []; fault = Some (fault.Script (script.Bind why.NoTable 114)) })
 unfolding create_table create_predicate select finds answer call csv_on_literals digits chars is_utf8 encode_utf8 escaped fields_text is_blank
-explains = (_, refl, (_, (_, refl, refl), refl))
+explains = (_, (_, refl, refl), (_, (_, (_, refl, refl), refl), refl))
 
 explains_in_silence : StatementsRun (finds (Some (codes "v\n3\n40\n5\n"))) answer Plainly (create_table ∷ create_predicate ∷ syntax.Explain select ∷ syntax.ExplainAnalyze select ∷ [])
     (record { events = Fetch (codes "f") ∷ []; fault = None })
 unfolding create_table create_predicate select finds answer call csv_on_literals digits chars is_utf8 encode_utf8 escaped fields_text is_blank
-explains_in_silence = (_, (Some (codes "v\n3\n40\n5\n"), refl, refl), (_, (_, refl, (_, (_, refl, (_, (_, refl, (_, refl, refl)), refl)), refl)), refl))
+explains_in_silence = (_, (_, (Some (codes "v\n3\n40\n5\n"), refl, refl), refl), (_, (_, (_, refl, refl), (_, (_, (_, refl, refl), (_, (_, (_, refl, refl), (_, refl, refl)), refl)), refl)), refl))
 
 -- the catalogue that is left, where one is
 abbrev left_by : Result Catalogue Fault → Catalogue
@@ -146,6 +150,18 @@ asks_before_a_row bound is = subst (λ query. planned_step (world_of (made_of (c
 puts_before_an_ask : (bound : Query) → bound_query (made_of (codes "v\n10\n40\n5\n")) select ≡ Ok bound → planned_step (world_of (made_of (codes "v\n10\n40\n5\n")) answer bound) (Rank 1 (SeqScan 1)) ≡ record { events = Score (call (pos 10)) ∷ Put (codes "1,10,10\n") ∷ Score (call (pos 40)) ∷ []; outcome = Err (fault.BadScore (codes "p") (only 2) (pos 40) 10) }
 unfolding create_table create_predicate select answer call csv_on_literals digits chars is_utf8 encode_utf8 escaped fields_text is_blank made_of
 puts_before_an_ask bound is = subst (λ query. planned_step (world_of (made_of (codes "v\n10\n40\n5\n")) answer query) (Rank 1 (SeqScan 1)) ≡ record { events = Score (call (pos 10)) ∷ Put (codes "1,10,10\n") ∷ Score (call (pos 40)) ∷ []; outcome = Err (fault.BadScore (codes "p") (only 2) (pos 40) 10) }) (same_Ok _ bound is) refl
+
+-- EXPLAIN ANALYZE makes these calls too, and puts no row
+asks_in_silence : (bound : Query) → bound_query (made_of (codes "v\n3\n10\n")) select ≡ Ok bound → silent (planned_step (world_of (made_of (codes "v\n3\n10\n")) answer bound) (Rank 1 (SeqScan 1))) ≡ record { events = Score (call (pos 3)) ∷ Score (call (pos 10)) ∷ []; outcome = Ok (made_of (codes "v\n3\n10\n")) }
+unfolding create_table create_predicate select answer call csv_on_literals digits chars is_utf8 encode_utf8 escaped fields_text is_blank made_of
+asks_in_silence bound is = subst (λ query. silent (planned_step (world_of (made_of (codes "v\n3\n10\n")) answer query) (Rank 1 (SeqScan 1))) ≡ record { events = Score (call (pos 3)) ∷ Score (call (pos 10)) ∷ []; outcome = Ok (made_of (codes "v\n3\n10\n")) }) (same_Ok _ bound is) refl
+
+-- it tells that the plan was asked three times and gave two rows, for which it made two calls, and that the scan was asked as often and has drawn both rows
+counts_all_asks : (bound : Query) → bound_query (made_of (codes "v\n3\n10\n")) select ≡ Ok bound → counts_of_plan (world_of (made_of (codes "v\n3\n10\n")) answer bound) (Rank 1 (SeqScan 1)) (asks_in_all (world_of (made_of (codes "v\n3\n10\n")) answer bound) (Rank 1 (SeqScan 1)))
+    ≡ record { asked = 3; gave = 2; calls = 2; drawn = 0 } ∷ record { asked = 3; gave = 2; calls = 0; drawn = 2 } ∷ []
+unfolding create_table create_predicate select answer call csv_on_literals digits chars is_utf8 encode_utf8 escaped fields_text is_blank made_of
+counts_all_asks bound is = subst (λ query. counts_of_plan (world_of (made_of (codes "v\n3\n10\n")) answer query) (Rank 1 (SeqScan 1)) (asks_in_all (world_of (made_of (codes "v\n3\n10\n")) answer query) (Rank 1 (SeqScan 1)))
+    ≡ record { asked = 3; gave = 2; calls = 2; drawn = 0 } ∷ record { asked = 3; gave = 2; calls = 0; drawn = 2 } ∷ []) (same_Ok _ bound is) refl
 
 -- SELECT v FROM t ORDER BY p(v) LIMIT 1
 select_one : syntax.Query
@@ -194,63 +210,63 @@ tells_a_plan : (bound : Query) → bound_query (made_of (codes "v\n3\n10\n")) se
 unfolding create_table create_predicate select answer call csv_on_literals digits chars is_utf8 encode_utf8 escaped fields_text is_blank made_of first_words u32_at pcg32_seed word_bytes taken_from samples_from
 tells_a_plan bound is = subst (λ query. text_of (made_of (codes "v\n3\n10\n")) query (cards_for answer (made_of (codes "v\n3\n10\n")) 7 query) (Rank 1 (SeqScan 1)) None ≡ codes "Rank term 1 est=2 cost=4\n  SeqScan t t est=2 cost=2\n") (same_Ok _ bound is) refl
 
--- SELECT DISTINCT v FROM t ORDER BY p(v), which isn't built, whatever its names are
+-- SELECT DISTINCT v FROM t ORDER BY p(v), which is bound first too
 select_distinct : syntax.Query
 unfolding select
 select_distinct = record select { left = record select.left { distinct = true } }
 
-no_plan_with_distinct : StatementsRun (finds None) answer (Planned 7) (create_predicate ∷ syntax.Ask select_distinct ∷ create_table ∷ [])
-    (record { events = []; fault = Some (fault.Script (script.NotBuilt 2)) })
+no_plan_without_a_table : StatementsRun (finds None) answer (Planned 7) (create_predicate ∷ syntax.Ask select_distinct ∷ create_table ∷ [])
+    (record { events = []; fault = Some (fault.Script (script.Bind why.NoTable 114)) })
 unfolding create_table create_predicate select select_distinct finds answer call csv_on_literals digits chars is_utf8 encode_utf8 escaped fields_text is_blank
-no_plan_with_distinct = (_, refl, (_, (_, refl, refl), refl))
+no_plan_without_a_table = (_, (_, refl, refl), (_, (_, (_, refl, refl), refl), refl))
 
--- no counts are told of
+-- EXPLAIN ANALYZE is bound first
 analyzes_nothing : StatementsRun (finds None) answer (Planned 7) (create_predicate ∷ syntax.ExplainAnalyze select ∷ [])
-    (record { events = []; fault = Some (fault.Script (script.NotBuilt 2)) })
+    (record { events = []; fault = Some (fault.Script (script.Bind why.NoTable 114)) })
 unfolding create_table create_predicate select finds answer call csv_on_literals digits chars is_utf8 encode_utf8 escaped fields_text is_blank
-analyzes_nothing = (_, refl, (_, (_, refl, refl), refl))
+analyzes_nothing = (_, (_, refl, refl), (_, (_, (_, refl, refl), refl), refl))
 
 -- the first number that is no score ends the run, and no row behind it is asked for
 bad_score : StatementsRun (finds (Some (codes "v\n3\n40\n5\n"))) answer Plainly (create_table ∷ create_predicate ∷ create_index ∷ create_table ∷ [])
     (record { events = Fetch (codes "f") ∷ Score (call (pos 3)) ∷ Score (call (pos 40)) ∷ []; fault = Some (fault.BadScore (codes "p") (only 2) (pos 40) 10) })
 unfolding create_table create_predicate create_index finds answer call csv_on_literals digits chars is_utf8 encode_utf8
-bad_score = (_, (Some (codes "v\n3\n40\n5\n"), refl, refl), (_, (_, refl, (_, (_, refl, refl), refl)), refl))
+bad_score = (_, (_, (Some (codes "v\n3\n40\n5\n"), refl, refl), refl), (_, (_, (_, refl, refl), (_, (_, (_, refl, refl), refl), refl)), refl))
 
 -- a name that is taken ends the run before the fetch
 name_taken : StatementsRun (finds (Some (codes "v\n3\n"))) answer Plainly (create_table ∷ create_table ∷ [])
     (record { events = Fetch (codes "f") ∷ []; fault = Some (fault.Script (script.Room room.NameTaken 13)) })
 unfolding create_table create_predicate create_index finds answer call csv_on_literals digits chars is_utf8 encode_utf8
-name_taken = (_, (Some (codes "v\n3\n"), refl, refl), (_, (_, refl, refl), refl))
+name_taken = (_, (_, (Some (codes "v\n3\n"), refl, refl), refl), (_, (_, (_, refl, refl), refl), refl))
 
 -- the file isn't there
 missing : StatementsRun (finds None) answer Plainly (create_table ∷ create_predicate ∷ [])
     (record { events = Fetch (codes "f") ∷ []; fault = Some (fault.Read (codes "f") fetch.Missing) })
 unfolding create_table create_predicate create_index finds answer call csv_on_literals digits chars is_utf8 encode_utf8
-missing = (_, (None, refl, refl), refl)
+missing = (_, (_, (None, refl, refl), refl), refl)
 
 -- the file is no table
 no_table_file : StatementsRun (finds (Some (codes "v\nx\n"))) answer Plainly (create_table ∷ create_predicate ∷ [])
     (record { events = Fetch (codes "f") ∷ []; fault = Some (fault.Table (codes "f") (table.NotInt 1 1)) })
 unfolding create_table create_predicate create_index finds answer call csv_on_literals digits chars is_utf8 encode_utf8
-no_table_file = (_, (Some (codes "v\nx\n"), refl, refl), refl)
+no_table_file = (_, (_, (Some (codes "v\nx\n"), refl, refl), refl), refl)
 
 -- an index of a table that isn't there
 no_table : StatementsRun (finds None) answer Plainly (create_predicate ∷ create_index ∷ [])
     (record { events = []; fault = Some (fault.Script (script.Bind why.NoTable 85)) })
 unfolding create_table create_predicate create_index finds answer call csv_on_literals digits chars is_utf8 encode_utf8
-no_table = (_, refl, (_, (_, refl, refl), refl))
+no_table = (_, (_, refl, refl), (_, (_, (_, refl, refl), refl), refl))
 
 -- an index of a predicate that isn't there
 no_predicate : StatementsRun (finds (Some (codes "v\n3\n"))) answer Plainly (create_table ∷ create_index ∷ [])
     (record { events = Fetch (codes "f") ∷ []; fault = Some (fault.Script (script.Bind why.NoPredicate 92)) })
 unfolding create_table create_predicate create_index finds answer call csv_on_literals digits chars is_utf8 encode_utf8
-no_predicate = (_, (Some (codes "v\n3\n"), refl, refl), (_, (_, refl, refl), refl))
+no_predicate = (_, (_, (Some (codes "v\n3\n"), refl, refl), refl), (_, (_, (_, refl, refl), refl), refl))
 
--- a statement of a kind that isn't there yet, with its number
-not_built : StatementsRun (finds None) answer Plainly (create_predicate ∷ Close (name_at (codes "c") 70) ∷ create_table ∷ [])
-    (record { events = []; fault = Some (fault.Script (script.NotBuilt 2)) })
+-- a name under which no cursor is open ends the run
+no_cursor : StatementsRun (finds None) answer Plainly (create_predicate ∷ Close (name_at (codes "c") 70) ∷ create_table ∷ [])
+    (record { events = []; fault = Some (fault.Session session.Unknown (codes "c")) })
 unfolding create_table create_predicate create_index finds answer call csv_on_literals digits chars is_utf8 encode_utf8
-not_built = (_, refl, (_, (_, refl, refl), refl))
+no_cursor = (_, (_, refl, refl), (_, (_, refl, refl), refl))
 
 -- no statement
 no_statement : StatementsRun (finds None) answer Plainly []

@@ -20,6 +20,8 @@ use Rattle.rs_run.specs.declared.status.Status.{Status}
 use Rattle.rs_run.specs.declared.status.Status.TheVariants as status
 use Rattle.rs_run.specs.declared.fault.Fault.{Fault}
 use Rattle.rs_run.specs.declared.fault.Fault.TheVariants as fault
+use Rattle.rs_run.specs.declared.fault.SessionFault.{SessionFault}
+use Rattle.rs_run.specs.declared.fault.SessionFault.TheVariants as session
 use Rattle.rs_run.specs.declared.script_fault.ScriptFault.{ScriptFault}
 use Rattle.rs_run.specs.declared.script_fault.ScriptFault.TheVariants as script
 
@@ -34,6 +36,7 @@ status_of (Some (fault.Table name why)) = status.Table
 status_of (Some (fault.BadScore predicate rows got max)) = status.BadScore
 status_of (Some (fault.Probe predicate)) = status.Probe
 status_of (Some (fault.Script why)) = status.Script
+status_of (Some (fault.Session why name)) = status.Session
 
 -- the fault of a run whose script the lexer refuses, or the parser
 abbrev pub lex_fault : LexFault → Fault
@@ -120,6 +123,12 @@ abbrev pub room_text : RoomFault → List ℕ
 room_text room.NameTaken = codes "NameTaken"
 room_text room.Full = codes "Full"
 
+-- why a session refuses the name of a cursor
+abbrev pub session_text : SessionFault → List ℕ
+session_text session.NameTaken = codes "NameTaken"
+session_text session.Unknown = codes "Unknown"
+session_text session.Full = codes "Full"
+
 -- why a script ends
 abbrev pub script_text : ScriptFault → List ℕ
 script_text (script.NotUtf8 at) = codes "NotUtf8 at " ++ decimal at
@@ -127,7 +136,6 @@ script_text (script.Lex why) = codes "lex " ++ lex_text why
 script_text (script.Parse why) = codes "parse " ++ parse_text why
 script_text (script.Bind why at) = codes "bind " ++ why_text why ++ codes " at " ++ decimal at
 script_text (script.Room why at) = codes "catalogue " ++ room_text why ++ codes " at " ++ decimal at
-script_text (script.NotBuilt statement) = codes "not built statement " ++ decimal statement
 
 -- the row numbers without the zeros, which stand for no row
 abbrev pub numbers_of : List ℕ → List ℕ
@@ -150,6 +158,7 @@ fault_text (fault.BadScore predicate rows got max) =
     codes "score: " ++ predicate ++ codes " rows " ++ spaced (numbers_of rows) ++ codes ": " ++ signed_decimal got ++ codes " is not in 0.." ++ decimal max
 fault_text (fault.Probe predicate) = codes "probe: " ++ predicate
 fault_text (fault.Script why) = codes "script: " ++ script_text why
+fault_text (fault.Session why name) = codes "session: " ++ session_text why ++ codes " " ++ name
 
 -- the line of a fault
 abbrev pub fault_line : Fault → List ℕ

@@ -1,4 +1,5 @@
 -- Definitions that serve the contracts of private functions alone.
 pub mod Command
+pub mod Session
 pub mod Steps
 pub mod Asks

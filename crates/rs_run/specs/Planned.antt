@@ -1,11 +1,10 @@
 -- A query by a plan: its rows are asked for one after another, and each is put before the next one is asked for.
-use Rattle.std.specs.Prelude.{ℕ, zero, suc, ◌&&◌, not, min, Bool, is_some, List, [], ◌∷◌, length, Option, Some, None, Result, Ok, Err}
+use Rattle.std.specs.Prelude.{ℕ, zero, suc, ◌-◌, min, List, [], ◌∷◌, length, Option, Some, None, Result, Ok, Err}
 use Rattle.rs_rank.specs.declared.answer.Answer.{Answer}
 use Rattle.rs_lines.specs.Row.{line_of}
 use Rattle.rs_expr.specs.InOrder.{Inquiry}
 use Rattle.rs_expr.specs.Scoring.{Answering}
 use Rattle.rs_catalog.specs.Catalogue.{Catalogue}
-use Rattle.rs_syntax.specs.Syntax as syntax
 use Rattle.rs_query.specs.Answers.{limit_of, predicate_at}
 use Rattle.rs_query.specs.Views.{all_rows}
 use Rattle.rs_query.specs.declared.query.Query.{Query}
@@ -20,10 +19,6 @@ use Rattle.rs_exec.specs.declared.fault.ExecFault.TheVariants as exec
 use Rattle.rs_run.specs.declared.fault.Fault.{Fault}
 use Rattle.rs_run.specs.declared.fault.Fault.TheVariants.{BadScore, Memory, Probe}
 use Rattle.rs_run.specs.Sequence.{Step, inquiry_step, still, then_step}
-
--- a query of one block, without DISTINCT: plans of such queries are built. Its form alone says so
-abbrev pub can_be_planned : syntax.Query → Bool
-can_be_planned query = not (is_some query.right) && not query.left.distinct
 
 -- what planning knows of a query, by its sample
 abbrev pub cards_for : Answering → Catalogue → ℕ → Query → List BlockCards
@@ -69,5 +64,13 @@ abbrev pub ask_count : Option ℕ → ℕ → ℕ
 ask_count None rows = suc rows
 ask_count (Some limit) rows = min limit (suc rows)
 
+-- how often it is asked for all that its query wants
+abbrev pub asks_in_all : World → PlanTree → ℕ
+asks_in_all w tree = ask_count (limit_of w.query) (length (list_of_plan w tree))
+
 abbrev pub planned_step : World → PlanTree → Step Catalogue
-planned_step w tree = asks_from w tree 0 (ask_count (limit_of w.query) (length (list_of_plan w tree)))
+planned_step w tree = asks_from w tree 0 (asks_in_all w tree)
+
+-- of a plan that was asked so often, the asks that come next where so many are wanted
+abbrev pub next_asks : World → PlanTree → ℕ → ℕ → ℕ
+next_asks w tree asked wanted = min wanted (asks_in_all w tree - asked)

@@ -1,8 +1,8 @@
 -- Steps one after another, each from the state that the one before it leaves.
-use Rattle.std.specs.Prelude.{ℕ, suc, ◌≡◌, List, [], ◌∷◌, ◌++◌, map, Some, None, Result, Ok, Err}
+use Rattle.std.specs.Prelude.{ℕ, ◌≡◌, List, [], ◌∷◌, ◌++◌, map, Some, None, Result, Ok, Err}
 use Rattle.rs_expr.specs.InOrder.{Inquiry}
 use Rattle.rs_run.specs.declared.fault.Fault.{Fault}
-use Rattle.rs_run.specs.Run.{Event, Put, Run, behind, calls_in}
+use Rattle.rs_run.specs.Run.{Event, Put, Run, Score, behind, calls, calls_in}
 
 -- what a statement does: its events, and the state that it leaves, or the fault that ends the run
 pub record Step (S : Type 0) : Type 0 where
@@ -28,14 +28,17 @@ then_step {S} {T} first next = of first.outcome where
   of (Ok state) = record { events = first.events ++ next.events; outcome = next.outcome }
   of (Err fault) = record { events = first.events; outcome = Err fault }
 
+-- the calls of a step, without its puts
+abbrev pub silent : {S : Type 0} → Step S → Step S
+silent step = record { events = map Score (calls step.events); outcome = step.outcome }
+
 -- the run of a step and those behind it, which only go on where it ends without a fault
 abbrev pub RunsOn : {S : Type 0} → (S → Run → Type 0) → List Event → Result S Fault → Run → Type 0
 RunsOn rest events (Err fault) run = run ≡ record { events = events; fault = Some fault }
 RunsOn rest events (Ok next) run = (more : Run) × rest next more × (run ≡ behind events more)
 
--- the run of statements one after another, the first of this number and from this state, up to the first fault; what each does depends on its
--- number and on the state before it
-abbrev pub RunOf : {S C : Type 0} → (ℕ → S → C → Step S → Type 0) → ℕ → S → List C → Run → Type 0
-RunOf does number state [] run = run ≡ record { events = []; fault = None }
-RunOf {S} does number state (command ∷ rest) run =
-    (step : Step S) × does number state command step × RunsOn (λ next more. RunOf does (suc number) next rest more) step.events step.outcome run
+-- the run of statements one after another, from this state on, up to the first fault; what each does depends on the state before it
+abbrev pub RunOf : {S C : Type 0} → (S → C → Step S → Type 0) → S → List C → Run → Type 0
+RunOf does state [] run = run ≡ record { events = []; fault = None }
+RunOf {S} does state (command ∷ rest) run =
+    (step : Step S) × does state command step × RunsOn (λ next more. RunOf does next rest more) step.events step.outcome run

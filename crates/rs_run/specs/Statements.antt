@@ -1,5 +1,5 @@
--- The statements of a script, one after another: what each does, and the catalogue that it leaves.
-use Rattle.std.specs.Prelude.{ℕ, ◌≡◌, Bool, true, List, [], ◌∷◌, Option, None, Result, Ok, Err, if◌then◌else◌}
+-- The statements of a script that are of no cursor: what each does, and the catalogue that it leaves.
+use Rattle.std.specs.Prelude.{ℕ, ◌≡◌, List, [], ◌∷◌, Option, Some, None, Result, Ok, Err}
 use Rattle.rs_rank.specs.declared.answer.Answer.{Answer}
 use Rattle.rs_rank.specs.declared.scored_row.ScoredRow.{ScoredRow}
 use Rattle.rs_syntax.specs.declared.name.Name.{Name}
@@ -10,7 +10,7 @@ use Rattle.rs_value.specs.Results.{◌>>=◌}
 use Rattle.rs_table.specs.Reading.{table_of}
 use Rattle.rs_expr.specs.InOrder.{Inquiry}
 use Rattle.rs_expr.specs.Scoring.{Answering}
-use Rattle.rs_catalog.specs.Catalogue.{Catalogue, empty, room_for, with_index, with_predicate, with_table}
+use Rattle.rs_catalog.specs.Catalogue.{Catalogue, room_for, with_index, with_predicate, with_table}
 use Rattle.rs_catalog.specs.Indexes.{making, predicate_for}
 use Rattle.rs_catalog.specs.declared.index.IndexDef.{IndexDef}
 use Rattle.rs_catalog.specs.declared.index.IndexFault.{IndexFault}
@@ -29,20 +29,21 @@ use Rattle.rs_query.specs.declared.query.Query.{Query}
 use Rattle.rs_plain.specs.Plain.{evaluation_of}
 use Rattle.rs_plain.specs.declared.fault.PlainFault.{PlainFault}
 use Rattle.rs_plain.specs.declared.fault.PlainFault.TheVariants as plain
+use Rattle.rs_plan.specs.Counts.{counts_of_plan}
 use Rattle.rs_enum.specs.Texts.{text_of}
 use Rattle.rs_exec.specs.Asking.{world_of}
 use Rattle.rs_run.specs.declared.evaluating.Evaluating.{Evaluating}
 use Rattle.rs_run.specs.declared.evaluating.Evaluating.TheVariants.{Plainly, Planned}
 use Rattle.rs_run.specs.declared.fault.Fault.{Fault}
 use Rattle.rs_run.specs.declared.fault.Fault.TheVariants.{BadScore, Memory, Probe, Script}
-use Rattle.rs_run.specs.declared.script_fault.ScriptFault.TheVariants.{Bind, Room, NotBuilt}
+use Rattle.rs_run.specs.declared.script_fault.ScriptFault.TheVariants.{Bind, Room}
 use Rattle.rs_run.specs.Content.{content_of}
 use Rattle.rs_run.specs.Lines.{rank_lines}
 use Rattle.rs_run.specs.Faults.{or_index_fault}
-use Rattle.rs_run.specs.Planned.{can_be_planned, cards_for, plan_for, planned_step}
-use Rattle.rs_run.specs.Run.{Fetch, Finds, Run, calls_in}
+use Rattle.rs_run.specs.Planned.{asks_in_all, cards_for, plan_for, planned_step}
+use Rattle.rs_run.specs.Run.{Fetch, Finds, calls_in}
 use Rattle.rs_run.specs.Sampled.{sample_step}
-use Rattle.rs_run.specs.Sequence.{RunOf, Step, inquiry_step, lines_step, still, then_step}
+use Rattle.rs_run.specs.Sequence.{Step, inquiry_step, lines_step, silent, still, then_step}
 use Rattle.rs_run.specs.Top.{or_table_fault, table_limit}
 
 -- a rule that a statement breaks ends the run
@@ -126,18 +127,9 @@ abbrev pub refused_or : {A S : Type 0} → (A → Step S) → Result A Fault →
 refused_or does (Ok a) = does a
 refused_or does (Err fault) = still (Err fault)
 
--- the statement of this number is of a form that isn't built
-abbrev pub not_built : {S : Type 0} → ℕ → Step S
-not_built number = still (Err (Script (NotBuilt number)))
-
--- a query counts as built by its form, before its names and types; plainly, each one is
-abbrev pub is_built : Evaluating → syntax.Query → Bool
-is_built Plainly query = true
-is_built (Planned seed) query = can_be_planned query
-
-abbrev pub select_step : Evaluating → Answering → ℕ → Catalogue → syntax.Query → Step Catalogue
-select_step evaluating answer number catalogue query =
-    if is_built evaluating query then refused_or (query_step evaluating answer catalogue) (or_bind_fault (bound_query catalogue query)) else not_built number
+abbrev pub select_step : Evaluating → Answering → Catalogue → syntax.Query → Step Catalogue
+select_step evaluating answer catalogue query =
+    refused_or (query_step evaluating answer catalogue) (or_bind_fault (bound_query catalogue query))
 
 -- EXPLAIN of a query that is bound: its sample is taken, and then the text of its plan is put, in one put
 abbrev pub explained_step : Answering → Catalogue → ℕ → Query → Step Catalogue
@@ -146,34 +138,42 @@ explained_step answer catalogue seed query =
     (lines_step (text_of catalogue query (cards_for answer catalogue seed query) (plan_for answer catalogue seed query) None ∷ []) catalogue)
 
 -- EXPLAIN: plainly, no plan is told of
-abbrev pub explain_step : Evaluating → Answering → ℕ → Catalogue → syntax.Query → Step Catalogue
-explain_step Plainly answer number catalogue query = still (explain_outcome catalogue query)
-explain_step (Planned seed) answer number catalogue query =
-    if can_be_planned query then refused_or (explained_step answer catalogue seed) (or_bind_fault (bound_query catalogue query)) else not_built number
+abbrev pub explain_step : Evaluating → Answering → Catalogue → syntax.Query → Step Catalogue
+explain_step Plainly answer catalogue query = still (explain_outcome catalogue query)
+explain_step (Planned seed) answer catalogue query =
+    refused_or (explained_step answer catalogue seed) (or_bind_fault (bound_query catalogue query))
 
--- EXPLAIN ANALYZE: no counts are told of yet
-abbrev pub analyze_step : Evaluating → ℕ → Catalogue → syntax.Query → Step Catalogue
-analyze_step Plainly number catalogue query = still (explain_outcome catalogue query)
-analyze_step (Planned seed) number catalogue query = not_built number
+-- EXPLAIN ANALYZE of a query that is bound: its sample is taken, its plan is asked as the query's would be, but no row is put, and then the text of the
+-- plan is put, with what each node has done by then
+abbrev pub analyzed_step : Answering → Catalogue → ℕ → Query → Step Catalogue
+analyzed_step answer catalogue seed query =
+    let w = world_of catalogue answer query in
+    let tree = plan_for answer catalogue seed query in
+    then_step (sample_step catalogue seed query)
+    (then_step (silent (planned_step w tree))
+    (lines_step (text_of catalogue query (cards_for answer catalogue seed query) tree (Some (counts_of_plan w tree (asks_in_all w tree))) ∷ []) catalogue))
+
+-- EXPLAIN ANALYZE: plainly, no plan is told of
+abbrev pub analyze_step : Evaluating → Answering → Catalogue → syntax.Query → Step Catalogue
+analyze_step Plainly answer catalogue query = still (explain_outcome catalogue query)
+analyze_step (Planned seed) answer catalogue query =
+    refused_or (analyzed_step answer catalogue seed) (or_bind_fault (bound_query catalogue query))
 
 -- the fetch of a table's file, where the statement isn't refused before it
 abbrev pub DoesTable : Finds → Catalogue → Name → List ℕ → Result (List Column) Fault → Step Catalogue → Type 0
 DoesTable finds catalogue name file (Err fault) step = step ≡ still (Err fault)
 DoesTable finds catalogue name file (Ok columns) step = (there : Option (List ℕ)) × finds file there × (step ≡ table_step catalogue name file columns there)
 
--- what a statement of this number does: first its names and types count, then whether there is room for its name, and then what it does
-abbrev pub Does : Finds → Answering → Evaluating → ℕ → Catalogue → Command → Step Catalogue → Type 0
-Does finds answer evaluating number catalogue (CreateTable name columns file) step =
+-- what a statement does that is of no cursor: first its names and types count, then whether there is room for its name, and then what it
+-- does. Those that are of a cursor are none of these
+abbrev pub Does : Finds → Answering → Evaluating → Catalogue → Command → Step Catalogue → Type 0
+Does finds answer evaluating catalogue (CreateTable name columns file) step =
     DoesTable finds catalogue name file (with_room catalogue what.Table name (columns_of columns)) step
-Does finds answer evaluating number catalogue (CreatePredicate name params max cost formula) step =
+Does finds answer evaluating catalogue (CreatePredicate name params max cost formula) step =
     step ≡ still (predicate_outcome catalogue name (CreatePredicate name params max cost formula))
-Does finds answer evaluating number catalogue (CreateRankIndex name table predicate args at) step =
+Does finds answer evaluating catalogue (CreateRankIndex name table predicate args at) step =
     step ≡ refused_or (index_step answer catalogue) (with_room catalogue what.Index name (index_def_of catalogue (CreateRankIndex name table predicate args at)))
-Does finds answer evaluating number catalogue (syntax.Ask query) step = step ≡ select_step evaluating answer number catalogue query
-Does finds answer evaluating number catalogue (Explain query) step = step ≡ explain_step evaluating answer number catalogue query
-Does finds answer evaluating number catalogue (ExplainAnalyze query) step = step ≡ analyze_step evaluating number catalogue query
-Does finds answer evaluating number catalogue _ step = step ≡ not_built number
-
--- the run of the statements of a script, over an empty catalogue
-abbrev pub StatementsRun : Finds → Answering → Evaluating → List Command → Run → Type 0
-StatementsRun finds answer evaluating commands run = RunOf (Does finds answer evaluating) 1 empty commands run
+Does finds answer evaluating catalogue (syntax.Ask query) step = step ≡ select_step evaluating answer catalogue query
+Does finds answer evaluating catalogue (Explain query) step = step ≡ explain_step evaluating answer catalogue query
+Does finds answer evaluating catalogue (ExplainAnalyze query) step = step ≡ analyze_step evaluating answer catalogue query
+Does finds answer evaluating catalogue _ step = ⊥

@@ -1,11 +1,10 @@
 //! EXPLAIN: the text of the plan of a query.
 
-ghost use Rattle.std.specs.Prelude.{◌≡◌, true};
+ghost use Rattle.std.specs.Prelude.{◌≡◌};
 ghost use Rattle.rs_syntax.specs.Syntax.{query_of};
 ghost use Rattle.rs_syntax.specs.Written.{IsWrittenQuery};
 ghost use Rattle.rs_bind.specs.Queries.{bound_query};
 ghost use Rattle.rs_run.specs.Parts.Steps.{Stepped};
-ghost use Rattle.rs_run.specs.Planned.{can_be_planned};
 ghost use Rattle.rs_run.specs.Statements.{explained_step, or_bind_fault, refused_or};
 ghost use Rattle.rs_run.specs.World.{World};
 
@@ -30,7 +29,6 @@ pub fn explain_planned<S: Scorer, O: Sink>(
     out: &mut O,
 ) -> Result<(), Fault>
     requires written { IsWrittenQuery (query_of select.now) }
-    requires planned { can_be_planned (query_of select.now) ≡ true }
     ensures { (beside : World) → Stepped
         (λ step. step ≡ refused_or (explained_step (S.state scorer.old).answer catalog.now seed) (or_bind_fault (bound_query catalog.now (query_of select.now))))
         catalog.now result

@@ -1,6 +1,6 @@
 ghost use Rattle.std.specs.Prelude.{◌≡◌, Some, IfOk};
 ghost use Rattle.std.specs.String.{string_bytes};
-ghost use Rattle.rs_run.specs.Faults.{fault_line, fetch_text, index_fault, numbers_of, only, spaced, status_of, table_text};
+ghost use Rattle.rs_run.specs.Faults.{fault_line, fetch_text, index_fault, numbers_of, only, session_text, spaced, status_of, table_text};
 
 use crate::script_fault::ScriptFault;
 use crate::status::Status;
@@ -48,6 +48,22 @@ pub enum Fault {
     },
     /// The script has a fault.
     Script(ScriptFault),
+    /// A statement names a cursor that it can't have.
+    Session {
+        why: SessionFault,
+        name: Text,
+    },
+}
+
+/// Why a statement can't have the cursor that it names.
+#[derive(Clone, Copy, Debug, PartialEq, Eq)]
+pub enum SessionFault {
+    /// A cursor of the name is open.
+    NameTaken,
+    /// No cursor of the name is open.
+    Unknown,
+    /// As many cursors are open as may be.
+    Full,
 }
 
 impl From<Memory> for Fault {
@@ -123,6 +139,7 @@ impl Fault {
             Fault::BadScore { .. } => Status::BadScore,
             Fault::Probe { .. } => Status::Probe,
             Fault::Script(_) => Status::Script,
+            Fault::Session { .. } => Status::Session,
         }
     }
 
@@ -152,6 +169,7 @@ impl Fault {
                 Ok(format!(in alloc; "probe: {predicate}\n")?)
             }
             Fault::Script(why) => script_line(alloc, why),
+            Fault::Session { why, name } => session_line(alloc, *why, name),
         }
     }
 }
@@ -233,6 +251,25 @@ fn script_line(alloc: Global, why: &ScriptFault) -> Result<String, Memory>
     let why = why.text(alloc)?;
     let why = why.as_str();
     Ok(format!(in alloc; "script: {why}\n")?)
+}
+
+/// The line of a statement that can't have the cursor that it names.
+fn session_line(alloc: Global, why: SessionFault, name: &Text) -> Result<String, Memory>
+    ensures { IfOk result (λ line. string_bytes line ≡ fault_line (Fault.Session why name.now)) }
+{
+    let why = session_text(why);
+    let name = name.as_str();
+    Ok(format!(in alloc; "session: {why} {name}\n")?)
+}
+
+fn session_text(why: SessionFault) -> &'static str
+    ensures { result.now ≡ session_text why }
+{
+    match why {
+        SessionFault::NameTaken => "NameTaken",
+        SessionFault::Unknown => "Unknown",
+        SessionFault::Full => "Full",
+    }
 }
 
 fn table_text(alloc: Global, why: &TableFault) -> Result<String, Memory>

@@ -3,14 +3,20 @@
 
 ghost use Rattle.std.specs.Prelude.{◌≡◌, ℕ, List, Option, None, Some};
 ghost use Rattle.rs_outside.specs.Files.{FilesTold};
+ghost use Rattle.rs_rank.specs.declared.scored_row.ScoredRow.{ScoredRow};
+ghost use Rattle.rs_expr.specs.Predicates.{PredicateDef};
 ghost use Rattle.rs_expr.specs.Scoring.{Answering};
+ghost use Rattle.rs_table.specs.Relation.{Relation};
+ghost use Rattle.rs_catalog.specs.Catalogue.{with_index, with_predicate, with_table};
+ghost use Rattle.rs_catalog.specs.declared.index.IndexDef.{IndexDef};
 ghost use Rattle.rs_run.specs.declared.evaluating.Evaluating.TheVariants.{Plainly, Planned};
 ghost use Rattle.rs_run.specs.Run.{Run, finds_in, found_in, puts};
-ghost use Rattle.rs_run.specs.Running.{HasNoExplain, IsRun, IsRunOf};
+ghost use Rattle.rs_run.specs.Running.{HasCreatesAndQueries, IsRun, IsRunOf};
+ghost use Rattle.rs_run.specs.Session.{IsCursorOf, OpenCursor, State, fetched_step};
 ghost use Rattle.rs_run.specs.Words.{RunScript};
 
 use rs_enum::there_is_one_least_plan;
-use rs_exec::plans_give_the_answer;
+use rs_exec::{plans_ask_the_same_in_larger_catalogues, plans_give_the_answer};
 
 /// Words have one run at most over the same files and the same answers of a scorer, where the files stay as they are, as
 /// those do that are told.
@@ -21,18 +27,34 @@ pub fn one_run()
         → IsRun (finds_in (Some told)) answer words run → IsRun (finds_in (Some told)) answer words other → run ≡ other }
 {}
 
-/// A script without EXPLAIN that ends without a fault under `plain` and under `run`, whatever the seed, puts the same rows in the same order
-/// under both, over the same files and the same answers of a scorer.
+/// A script of CREATE statements and queries that ends without a fault under `plain` and under `run`, whatever the seed, puts the same rows in
+/// the same order under both, over the same files and the same answers of a scorer.
 pub fn plain_and_run_agree()
     ensures files { (there : List ℕ → Option (List ℕ)) (answer : Answering) (name : List ℕ) (seed : ℕ) (run other : Run)
-        → HasNoExplain (found_in there) name
+        → HasCreatesAndQueries (found_in there) name
         → IsRunOf (found_in there) answer (RunScript name Plainly) run → IsRunOf (found_in there) answer (RunScript name (Planned seed)) other
         → run.fault ≡ None → other.fault ≡ None → puts run.events ≡ puts other.events }
     ensures told { (told : FilesTold) (answer : Answering) (name : List ℕ) (seed : ℕ) (run other : Run)
-        → HasNoExplain (finds_in (Some told)) name
+        → HasCreatesAndQueries (finds_in (Some told)) name
         → IsRunOf (finds_in (Some told)) answer (RunScript name Plainly) run → IsRunOf (finds_in (Some told)) answer (RunScript name (Planned seed)) other
         → run.fault ≡ None → other.fault ≡ None → puts run.events ≡ puts other.events }
 {
     plans_give_the_answer();
     there_is_one_least_plan();
+}
+
+/// The rows of a cursor depend on the catalogue of its DECLARE and on its own query alone: what joins the catalogue later changes no
+/// event of a FETCH.
+pub fn cursors_keep_their_rows()
+    ensures tables { (answer : Answering) (state : State) (cursor : OpenCursor) (wanted : ℕ) (name : List ℕ) (table : Relation) → IsCursorOf state.catalogue cursor
+        → (fetched_step answer (record state { catalogue = with_table name table state.catalogue }) (cursor, wanted)).events
+        ≡ (fetched_step answer state (cursor, wanted)).events }
+    ensures predicates { (answer : Answering) (state : State) (cursor : OpenCursor) (wanted : ℕ) (predicate : PredicateDef) → IsCursorOf state.catalogue cursor
+        → (fetched_step answer (record state { catalogue = with_predicate predicate state.catalogue }) (cursor, wanted)).events
+        ≡ (fetched_step answer state (cursor, wanted)).events }
+    ensures indexes { (answer : Answering) (state : State) (cursor : OpenCursor) (wanted : ℕ) (def : IndexDef) (ranking : List ScoredRow) → IsCursorOf state.catalogue cursor
+        → (fetched_step answer (record state { catalogue = with_index def ranking state.catalogue }) (cursor, wanted)).events
+        ≡ (fetched_step answer state (cursor, wanted)).events }
+{
+    plans_ask_the_same_in_larger_catalogues();
 }

@@ -6,7 +6,7 @@ ghost use Rattle.rs_run.specs.Parts.Steps.{FetchesFile, IsSource, Runs};
 ghost use Rattle.rs_run.specs.Plain.{TextRuns, or_text_fault, without_mark};
 ghost use Rattle.rs_run.specs.Run.{fails, finds_in};
 ghost use Rattle.rs_run.specs.Running.{IsCut, IsRunOf};
-ghost use Rattle.rs_run.specs.Statements.{StatementsRun};
+ghost use Rattle.rs_run.specs.Session.{StatementsRun};
 ghost use Rattle.rs_run.specs.Words.{RunScript};
 ghost use Rattle.rs_run.specs.World.{World};
 

@@ -1,6 +1,6 @@
 //! Queries by their plans: rows are asked for one after another.
 
-ghost use Rattle.std.specs.Prelude.{ℕ, ◌≡◌, ◌≤◌, ◌⊎◌, Err, IfErr, Ok, false, length, suc, true};
+ghost use Rattle.std.specs.Prelude.{ℕ, ◌≡◌, ◌≤◌, ◌⊎◌, Err, IfErr, IfOk, Ok, false, length, suc, true};
 ghost use Rattle.rs_syntax.specs.Syntax.{query_of};
 ghost use Rattle.rs_syntax.specs.Written.{IsWrittenQuery};
 ghost use Rattle.rs_expr.specs.Scoring.{Answering};
@@ -8,11 +8,11 @@ ghost use Rattle.rs_catalog.specs.Catalogue.{Catalogue};
 ghost use Rattle.rs_bind.specs.Queries.{bound_query};
 ghost use Rattle.rs_plan.specs.Counts.{gave_of};
 ghost use Rattle.rs_exec.specs.Asking.{world_of};
-ghost use Rattle.rs_exec.specs.Cursors.{StandsFor, asks_of, plan_of};
+ghost use Rattle.rs_exec.specs.Cursors.{IsOver, StandsFor, asks_after, asks_of, plan_of};
 ghost use Rattle.rs_exec.specs.Indexes.{AreHeld};
 ghost use Rattle.rs_run.specs.Parts.Asks.{IsAt, NamesPredicate, StandsSomewhere, call_step, left_of, without_value};
 ghost use Rattle.rs_run.specs.Parts.Steps.{Stepped};
-ghost use Rattle.rs_run.specs.Planned.{ask_fault, can_be_planned};
+ghost use Rattle.rs_run.specs.Planned.{ask_fault};
 ghost use Rattle.rs_run.specs.Sequence.{then_step};
 ghost use Rattle.rs_run.specs.Statements.{or_bind_fault, query_step, refused_or};
 ghost use Rattle.rs_run.specs.declared.evaluating.Evaluating.TheVariants.{Planned};
@@ -31,13 +31,6 @@ use rs_outside::Sink;
 use rs_syntax::Select;
 use std::alloc::Global;
 
-/// Whether a query is of one block, without DISTINCT: plans of such queries are built. Its form alone says so.
-pub fn can_be_planned(select: &Select) -> bool
-    ensures { result ≡ can_be_planned (query_of select.now) }
-{
-    select.right.is_none() && !select.left.distinct
-}
-
 /// Prints the rows of a query: takes its sample, asks its least plan for one row after another, and puts each before it asks for
 /// the next one.
 pub fn run_planned<S: Scorer, O: Sink>(
@@ -49,7 +42,6 @@ pub fn run_planned<S: Scorer, O: Sink>(
     out: &mut O,
 ) -> Result<(), Fault>
     requires written { IsWrittenQuery (query_of select.now) }
-    requires planned { can_be_planned (query_of select.now) ≡ true }
     requires held { AreHeld (S.state scorer.old).answer catalog.now }
     ensures { (beside : World) → Stepped
         (λ step. step ≡ refused_or (query_step (Planned seed) (S.state scorer.old).answer catalog.now) (or_bind_fault (bound_query catalog.now (query_of select.now))))
@@ -81,7 +73,7 @@ fn put_all<S: Scorer, O: Sink>(
 }
 
 /// Asks for the next row of a cursor and puts it. Answers whether there was one.
-fn put_next<S: Scorer, O: Sink>(
+pub fn put_next<S: Scorer, O: Sink>(
     lines: &mut RowLines,
     catalog: &Catalog,
     cursor: &mut Cursor,
@@ -92,7 +84,10 @@ fn put_next<S: Scorer, O: Sink>(
     ensures puts { (beside : World) → Stepped (λ step. step ≡ call_step catalog.now (S.state scorer.old).answer cursor.old) catalog.now (without_value result)
         (record beside { scorer = S.state scorer.old; out = O.state out.old }) (record beside { scorer = S.state scorer.new; out = O.state out.new }) }
     ensures more { result ≡ Ok true → IsAt cursor.old.query (plan_of cursor.old) (suc (asks_of cursor.old)) cursor.new }
-    ensures stands { result ≡ Ok true → StandsFor catalog.now (S.state scorer.old).answer cursor.new }
+    ensures count { IfOk result (λ _. IsAt cursor.old.query (plan_of cursor.old)
+        (asks_after (world_of catalog.now (S.state scorer.old).answer cursor.old.query) (plan_of cursor.old) (asks_of cursor.old)) cursor.new) }
+    ensures over { result ≡ Ok false → IsOver catalog.now (S.state scorer.old).answer cursor.new }
+    ensures stands { IfOk result (λ _. StandsFor catalog.now (S.state scorer.old).answer cursor.new) }
     ensures left { result ≡ Ok true → left_of catalog.now (S.state scorer.old).answer cursor.old
         ≡ then_step (call_step catalog.now (S.state scorer.old).answer cursor.old) (left_of catalog.now (S.state scorer.old).answer cursor.new) }
     ensures end { result ≡ Ok false → left_of catalog.now (S.state scorer.old).answer cursor.old ≡ call_step catalog.now (S.state scorer.old).answer cursor.old }
@@ -120,7 +115,7 @@ fn rank_of(cursor: &Cursor) -> u128
 }
 
 /// The fault of a cursor that gave no row, with the name of the predicate.
-fn ask_fault(catalog: &Catalog, why: ExecFault) -> Fault
+pub fn ask_fault(catalog: &Catalog, why: ExecFault) -> Fault
     requires { NamesPredicate catalog.now why }
     ensures { (result ≡ ask_fault catalog.now why) ⊎ (result ≡ Fault.Memory) }
 {

@@ -8,7 +8,7 @@ ghost use Rattle.rs_sample.specs.Cards.{AllSayTheSame, BlockCards};
 ghost use Rattle.rs_sample.specs.Kept.{cards_of};
 ghost use Rattle.rs_enum.specs.Least.{least_plan};
 ghost use Rattle.rs_enum.specs.QueryCards.{AreCards};
-ghost use Rattle.rs_run.specs.Parts.Asks.{CanBePlanned, NamesSampled, without_value};
+ghost use Rattle.rs_run.specs.Parts.Asks.{NamesSampled, without_value};
 ghost use Rattle.rs_run.specs.Parts.Steps.{Stepped};
 ghost use Rattle.rs_run.specs.Planned.{cards_for};
 ghost use Rattle.rs_run.specs.Sampled.{sample_fault, sample_step};
@@ -67,7 +67,6 @@ pub fn choose_plan(
     cards: &Cards,
 ) -> Result<Plan, Memory>
     requires formed { IsQuery catalog.now query.now }
-    requires planned { CanBePlanned query.now }
     requires cards { AreCards query.now (cards_of cards.now) }
     ensures tree { (sampled : List BlockCards) → AllSayTheSame (cards_of cards.now) sampled
         → IfOk result (λ plan. tree_of plan ≡ least_plan catalog.now query.now sampled) }

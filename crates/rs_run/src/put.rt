@@ -1,4 +1,4 @@
-ghost use Rattle.std.specs.Prelude.{[], ◌∷◌};
+ghost use Rattle.std.specs.Prelude.{[], ◌∷◌, suc};
 ghost use Rattle.rs_lines.specs.Row.{line_of};
 ghost use Rattle.rs_run.specs.Lines.{rank_lines};
 ghost use Rattle.rs_run.specs.Parts.Steps.{Ran, lines_run};
@@ -10,14 +10,19 @@ use rs_outside::{Sink, SinkFault};
 use rs_rank::Answer;
 use std::alloc::Global;
 
-/// Puts the lines of rows, ranked from 1, each in one put before the next row is looked at.
-pub fn put_rows<O: Sink>(alloc: Global, rows: &[Answer], out: &mut O) -> Result<(), Fault>
-    ensures { (beside : World) → Ran (lines_run (rank_lines 1 rows.now)) result
+/// Puts the lines of rows, ranked behind so many that were given before them, each in one put before the next row is looked at.
+pub fn put_rows<O: Sink>(
+    alloc: Global,
+    given: usize,
+    rows: &[Answer],
+    out: &mut O,
+) -> Result<(), Fault>
+    ensures { (beside : World) → Ran (lines_run (rank_lines (suc given) rows.now)) result
         (record beside { out = O.state out.old }) (record beside { out = O.state out.new }) }
 {
     let mut lines = RowLines::new(alloc);
     for (index, row) in rows.iter().enumerate() {
-        put_row(&mut lines, index as u128 + 1, row, out)?;
+        put_row(&mut lines, given as u128 + index as u128 + 1, row, out)?;
     }
     Ok(())
 }

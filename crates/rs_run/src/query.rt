@@ -40,7 +40,7 @@ pub fn run_query<S: Scorer, O: Sink>(
         Ok(rows) => rows,
         Err(why) => return Err(query_fault(catalog, why)),
     };
-    put_rows(alloc, &rows, out)
+    put_rows(alloc, 0, &rows, out)
 }
 
 /// Binds the query of an EXPLAIN. Nothing is told of it, and no scorer is called.
@@ -53,7 +53,7 @@ pub fn explain_query(alloc: Global, select: &Select, catalog: &Catalog) -> Resul
 }
 
 /// The fault of a query that has no answer, with the name of the predicate.
-fn query_fault(catalog: &Catalog, why: PlainFault) -> Fault
+pub fn query_fault(catalog: &Catalog, why: PlainFault) -> Fault
     requires { (query : Query) × NamesCalled catalog.now query why }
     ensures { (result ≡ query_fault catalog.now why) ⊎ (result ≡ Fault.Memory) }
 {

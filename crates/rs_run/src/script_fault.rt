@@ -22,8 +22,6 @@ pub enum ScriptFault {
     Bind { why: Why, at: u32 },
     /// The catalogue has no room for a statement's name, which stands at this place.
     Room { why: RoomFault, at: u32 },
-    /// The statement is of a kind that isn't there yet. Statements count from 1.
-    NotBuilt { statement: usize },
 }
 
 impl ScriptFault {
@@ -50,9 +48,6 @@ impl ScriptFault {
             ScriptFault::Room { why, at } => {
                 let why = room_text(*why);
                 Ok(format!(in alloc; "catalogue {why} at {at}")?)
-            }
-            ScriptFault::NotBuilt { statement } => {
-                Ok(format!(in alloc; "not built statement {statement}")?)
             }
         }
     }

@@ -11,7 +11,9 @@ ghost use Rattle.rs_catalog.specs.declared.room.What.TheVariants as what;
 ghost use Rattle.rs_exec.specs.Indexes.{AreHeld};
 ghost use Rattle.rs_run.specs.Parts.Steps.{FetchesFile, IsIndexNamed, IsPredicateNamed, IsReadTable, Leaves, Runs, Stepped};
 ghost use Rattle.rs_run.specs.Run.{finds_in};
-ghost use Rattle.rs_run.specs.Statements.{Does, DoesTable, StatementsRun, index_step, or_room_fault, predicate_outcome, refused_or, with_room};
+ghost use Rattle.rs_run.specs.Statements.{Does, DoesTable, index_step, or_room_fault, predicate_outcome, refused_or, with_room};
+ghost use Rattle.rs_run.specs.Session.{DoesInSession, StatementsRun};
+ghost use Rattle.rs_run.specs.Parts.Session.{CanAllBeAsked, IsOfNoCursor, state_of};
 ghost use Rattle.rs_run.specs.World.{World};
 
 use crate::evaluating::Evaluating;
@@ -19,8 +21,10 @@ use crate::fault::{Fault, index_fault};
 use crate::fetch::{fetch_file, table_fault};
 use crate::script_fault::ScriptFault;
 use crate::select::{run_analyze, run_explain, run_select};
+use crate::session::{Session, close, declare, fetch};
 use rs_bind::{bind_index, bind_predicate, bind_table};
 use rs_catalog::{Catalog, IndexDef, What};
+use rs_exec::cursors_stand_in_larger_catalogues;
 use rs_expr::{Predicate, Scorer};
 use rs_outside::{Files, Sink};
 use rs_syntax::{Name, Statement};
@@ -28,7 +32,7 @@ use rs_table::{Schema, TABLE_LIMIT, Table};
 use rs_value::{Kind, Text};
 use std::alloc::Global;
 
-/// Runs the statements of a script one after another, up to the first fault, over an empty catalogue.
+/// Runs the statements of a script one after another, up to the first fault, over an empty catalogue and without a cursor.
 pub fn run_statements<F: Files, S: Scorer, O: Sink>(
     alloc: Global,
     evaluating: Evaluating,
@@ -43,13 +47,14 @@ pub fn run_statements<F: Files, S: Scorer, O: Sink>(
         (record beside { files = F.state files.new; scorer = S.state scorer.new; out = O.state out.new }) }
 {
     let mut catalog = Catalog::new(alloc);
-    for (index, statement) in statements.iter().enumerate() {
+    let mut session = Session::new(alloc);
+    for statement in statements {
         run_statement(
             alloc,
             evaluating,
-            index + 1,
             statement,
             &mut catalog,
+            &mut session,
             files,
             scorer,
             out,
@@ -58,21 +63,58 @@ pub fn run_statements<F: Files, S: Scorer, O: Sink>(
     Ok(())
 }
 
-/// Runs a statement, which counts from 1 in its script.
+/// Runs a statement.
 fn run_statement<F: Files, S: Scorer, O: Sink>(
     alloc: Global,
     evaluating: Evaluating,
-    number: usize,
     statement: &Statement,
     catalog: &mut Catalog,
+    session: &mut Session,
     files: &mut F,
     scorer: &mut S,
     out: &mut O,
 ) -> Result<(), Fault>
     requires written { IsWritten (command_of statement.now) }
     requires held { AreHeld (S.state scorer.old).answer catalog.old }
+    requires asked { CanAllBeAsked (S.state scorer.old).answer catalog.old session.old.cursors.entries }
+    ensures does { (beside : World) → Stepped
+        (DoesInSession (finds_in (F.state files.old).told) (S.state scorer.old).answer evaluating
+        (state_of catalog.old session.old.cursors.entries) (command_of statement.now)) (state_of catalog.new session.new.cursors.entries) result
+        (record beside { files = F.state files.old; scorer = S.state scorer.old; out = O.state out.old })
+        (record beside { files = F.state files.new; scorer = S.state scorer.new; out = O.state out.new }) }
+    ensures held { IfOk result (λ _. AreHeld (S.state scorer.old).answer catalog.new) }
+    ensures asked { IfOk result (λ _. CanAllBeAsked (S.state scorer.old).answer catalog.new session.new.cursors.entries) }
+{
+    match statement {
+        Statement::Declare { name, select } => declare(
+            alloc, evaluating, name, select, catalog, session, scorer,
+        ),
+        Statement::Fetch { count, name } => {
+            fetch(alloc, count, name, catalog, session, scorer, out)
+        }
+        Statement::Close { name } => close(name, session),
+        _ => {
+            cursors_stand_in_larger_catalogues();
+            run_without_cursor(alloc, evaluating, statement, catalog, files, scorer, out)
+        }
+    }
+}
+
+/// Runs a statement that is of no cursor.
+fn run_without_cursor<F: Files, S: Scorer, O: Sink>(
+    alloc: Global,
+    evaluating: Evaluating,
+    statement: &Statement,
+    catalog: &mut Catalog,
+    files: &mut F,
+    scorer: &mut S,
+    out: &mut O,
+) -> Result<(), Fault>
+    requires form { IsOfNoCursor (command_of statement.now) }
+    requires written { IsWritten (command_of statement.now) }
+    requires held { AreHeld (S.state scorer.old).answer catalog.old }
     ensures { (beside : World) → Stepped
-        (Does (finds_in (F.state files.old).told) (S.state scorer.old).answer evaluating number catalog.old (command_of statement.now)) catalog.new result
+        (Does (finds_in (F.state files.old).told) (S.state scorer.old).answer evaluating catalog.old (command_of statement.now)) catalog.new result
         (record beside { files = F.state files.old; scorer = S.state scorer.old; out = O.state out.old })
         (record beside { files = F.state files.new; scorer = S.state scorer.new; out = O.state out.new }) }
 {
@@ -88,16 +130,14 @@ fn run_statement<F: Files, S: Scorer, O: Sink>(
         Statement::CreateRankIndex { name, .. } => {
             create_index(alloc, name, statement, catalog, scorer)
         }
-        Statement::Query(select) => {
-            run_select(alloc, evaluating, number, select, catalog, scorer, out)
-        }
+        Statement::Query(select) => { run_select(alloc, evaluating, select, catalog, scorer, out) }
         Statement::Explain(select) => {
-            run_explain(alloc, evaluating, number, select, catalog, scorer, out)
+            run_explain(alloc, evaluating, select, catalog, scorer, out)
         }
-        Statement::ExplainAnalyze(select) => run_analyze(
-            alloc, evaluating, number, select, catalog,
-        ),
-        _ => Err(Fault::Script(ScriptFault::NotBuilt { statement: number })),
+        Statement::ExplainAnalyze(select) => {
+            run_analyze(alloc, evaluating, select, catalog, scorer, out)
+        }
+        _ => unreachable!(),
     }
 }
 

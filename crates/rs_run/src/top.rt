@@ -39,7 +39,7 @@ pub fn top<F: Files, O: Sink>(
 {
     let table = fetch_table(alloc, file, column, files)?;
     let rows = best_rows(alloc, &table, column, max, count)?;
-    put_rows(alloc, &rows, out)
+    put_rows(alloc, 0, &rows, out)
 }
 
 /// Fetches a file and reads its table, in which the column is of numbers.

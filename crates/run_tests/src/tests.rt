@@ -47,7 +47,7 @@ struct Case {
     calls: &'static [&'static str],
 }
 
-const CASES: [Case; 6] = [
+const CASES: [Case; 7] = [
     Case {
         words: &["top", "h.csv", "price", "100", "2"],
         script: &[],
@@ -59,9 +59,9 @@ const CASES: [Case; 6] = [
     Case {
         words: &["plain", "s.sql"],
         script: &[EVERY_FORM],
-        status: Status::Script,
+        status: Status::Session,
         out: "",
-        err: "script: not built statement 1\n",
+        err: "session: Unknown k\n",
         calls: &[],
     },
     Case {
@@ -103,6 +103,23 @@ const CASES: [Case; 6] = [
         calls: &[
             "p 10", "p 8", "p 5", "p 2", "p 10", "p 8", "p 5", "p 2", "q 3", "q 9", "q 1", "q 10",
             "q 3", "q 9", "q 1", "q 10", "p 2", "p 8", "p 10", "p 5",
+        ],
+    },
+    Case {
+        words: &["run", "s.sql", "1"],
+        script: &[
+            BASE,
+            "DECLARE k CURSOR FOR SELECT x FROM t ORDER BY p(x) + q(y); DECLARE d CURSOR FOR SELECT x FROM t ORDER BY q(y); ",
+            "FETCH 2 FROM k; FETCH 1 FROM d; FETCH 2 FROM k; FETCH 5 FROM k; CLOSE k;",
+        ],
+        status: Status::Done,
+        out: "1,17,8\n2,13,10\n1,10,2\n3,12,2\n4,6,5\n",
+        err: "",
+        // Behind the calls of the index come those of two samples, and then those of each FETCH in turn.
+        calls: &[
+            "p 10", "p 8", "p 5", "p 2", "p 10", "p 8", "p 5", "p 2", "q 3", "q 9", "q 1", "q 10",
+            "q 3", "q 9", "q 1", "q 10", "q 3", "q 9", "q 1", "q 10", "p 2", "p 8", "p 10", "q 3",
+            "q 9", "q 1", "q 10", "p 5",
         ],
     },
     Case {

@@ -13,7 +13,6 @@ use Rattle.rs_run.specs.Parts.Steps.{Ran, lines_run}
 use Rattle.rs_run.specs.Planned.{cards_for, plan_for}
 use Rattle.rs_run.specs.Sequence.{Step, lines_step}
 use Rattle.rs_run.specs.Statements.{bind_fault, explained_step, or_bind_fault}
-use Rattle.rs_run.proofs.OneBlockFacts.{planned-bound}
 use Rattle.rs_run.proofs.QuerySteps.{Gives-bound, Gives-unbound}
 use Rattle.rs_run.proofs.SampleSteps.{Sampled-broken, Sampled-then}
 use Rattle.rs_run.proofs.StepFacts.{Stepped-refused}
@@ -40,7 +39,6 @@ returns-in_err-cards g c = λ beside.
 pub choose_plan-requires : goal.choose_plan-requires
 choose_plan-requires g c = record {
   formed = c.in_ok-query.ensures.formed;
-  planned = planned-bound c.args.catalog.now (query_of c.args.select.now) c.in_ok-query.query c.requires.written c.requires.planned c.in_ok-query.ensures.gives;
   cards = c.in_ok-cards.ensures.own;
 }
 

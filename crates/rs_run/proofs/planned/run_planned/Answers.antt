@@ -16,9 +16,7 @@ use Rattle.rs_run.specs.Planned.{cards_for, plan_for, planned_step}
 use Rattle.rs_run.specs.Sequence.{Step}
 use Rattle.rs_run.specs.Statements.{bind_fault, or_bind_fault, query_step}
 use Rattle.rs_run.specs.World.{world}
-use Rattle.rs_run.proofs.OneBlockFacts.{planned-bound}
-use Rattle.rs_run.proofs.LeftSteps.{Left-new}
-use Rattle.rs_run.proofs.PlanningFacts.{built-plan}
+use Rattle.rs_run.proofs.LeftSteps.{Left-new, as_they_are}
 use Rattle.rs_run.proofs.QuerySteps.{Gives-bound, Gives-unbound}
 use Rattle.rs_run.proofs.SampleSteps.{Sampled-broken, Sampled-then}
 use Rattle.rs_run.proofs.StepFacts.{Stepped-refused}
@@ -45,7 +43,6 @@ returns-in_err-cards g c = λ beside.
 pub choose_plan-requires : goal.choose_plan-requires
 choose_plan-requires g c = record {
   formed = c.in_ok-query.ensures.formed;
-  planned = planned-bound c.args.catalog.now (query_of c.args.select.now) c.in_ok-query.query c.requires.written c.requires.planned c.in_ok-query.ensures.gives;
   cards = c.in_ok-cards.ensures.own;
 }
 
@@ -66,8 +63,6 @@ pub start-requires : goal.start-requires
 start-requires g c = record {
   query = c.in_ok-query.ensures.formed;
   plan = c.in_ok-plan.ensures.plan;
-  built = built-plan c.args.catalog.now c.in_ok-query.query (tree_of c.in_ok-plan.plan)
-      (planned-bound c.args.catalog.now (query_of c.args.select.now) c.in_ok-query.query c.requires.written c.requires.planned c.in_ok-query.ensures.gives) c.in_ok-plan.ensures.plan;
 }
 
 pub returns-in_err-cursor : goal.returns-in_err-cursor
@@ -106,5 +101,5 @@ returns g c = λ beside.
     Sampled-then catalogue c.args.seed (λ query. planned_step (world_of catalogue answer query) (plan_for answer catalogue c.args.seed query))
     (or_bind_fault (bound_query catalogue (query_of c.args.select.now))) query (Gives-bound _ _ c.in_ok-query.ensures.gives)
     (record beside { scorer = g.S.Scorer.state c.args.scorer.now; out = g.O.Sink.state c.args.out.now }) new c.put_all.result middle sampled
-    (Left-new catalogue answer query (plan_for answer catalogue c.args.seed query) cursor c.put_all.result middle new
+    (Left-new as_they_are (λ first rest. refl) catalogue answer query (plan_for answer catalogue c.args.seed query) cursor c.put_all.result middle new
     (record { query_is = started.query_is; plan_is = started.plan_is ∙ tree; asks_are = started.unasked }) sampled.ran.keeps.scorer.answer (c.put_all.ensures beside))

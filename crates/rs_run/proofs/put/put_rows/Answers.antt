@@ -1,4 +1,4 @@
-use Rattle.std.proofs.Common.{◌≤◌, ◌+◌, take, drop, length, map, refl, sym, subst, arith}
+use Rattle.std.proofs.Common.{◌≤◌, ◌+◌, suc, take, drop, length, map, refl, sym, subst, arith}
 use Rattle.std.specs.Prelude.{Ok}
 use Rattle.std.proofs.lemmas.List.{take_all}
 use Rattle.rs_value.proofs.ResultFacts.{given-err}
@@ -18,29 +18,29 @@ returns-in_err-put_row g c = λ beside.
     let rows = c.args.rows.now in
     let i = c.loop-index.index in
     let row = c.index-rows-index.result in
-    let lines = rank_lines 1 rows in
+    let lines = rank_lines (suc c.args.given) rows in
     let old = record beside { out = g.O.Sink.state c.args.out.now } in
     let new = record beside { out = g.O.Sink.state c.put_row.new.out } in
     subst (λ result. Ran (lines_run lines) result old new) (sym (given-err c.from_residual.result c.in_err-put_row.field-0.0 c.from_residual.ensures))
-    (Ran-lines lines (take i lines) (drop (i + 1) lines) (line_of (i + 1) row.score row.values) c.in_err-put_row.field-0.0 old (record beside { out = g.O.Sink.state c.loop-index.out }) new
-    (rank_lines-next rows i row _ c.loop-index-test.true c.index-rows-index.is refl) (c.loop-index.invariant.has beside) (c.in_err-put_row.ensures beside))
+    (Ran-lines lines (take i lines) (drop (i + 1) lines) (line_of (c.args.given + i + 1) row.score row.values) c.in_err-put_row.field-0.0 old (record beside { out = g.O.Sink.state c.loop-index.out }) new
+    (rank_lines-next c.args.given rows i row _ c.loop-index-test.true c.index-rows-index.is refl) (c.loop-index.invariant.has beside) (c.in_err-put_row.ensures beside))
 
 pub loop-index-preserved : goal.loop-index-preserved
 loop-index-preserved g c =
     let rows = c.args.rows.now in
     let i = c.loop-index.index in
     let row = c.index-rows-index.result in
-    let lines = rank_lines 1 rows in record {
-      has = λ beside. HasDone-line (take (i + 1) lines) (take i lines) (line_of (i + 1) row.score row.values)
+    let lines = rank_lines (suc c.args.given) rows in record {
+      has = λ beside. HasDone-line (take (i + 1) lines) (take i lines) (line_of (c.args.given + i + 1) row.score row.values)
           (record beside { out = g.O.Sink.state c.args.out.now }) (record beside { out = g.O.Sink.state c.loop-index.out }) (record beside { out = g.O.Sink.state c.put_row.new.out })
-          (rank_lines-more rows i row _ c.loop-index-test.true c.index-rows-index.is refl) (c.loop-index.invariant.has beside) (c.in_ok-put_row.ensures beside);
+          (rank_lines-more c.args.given rows i row _ c.loop-index-test.true c.index-rows-index.is refl) (c.loop-index.invariant.has beside) (c.in_ok-put_row.ensures beside);
       rows_same = refl;
     }
 
 pub returns : goal.returns
 returns g c = λ beside.
-    let lines = rank_lines 1 c.args.rows.now in
-    let all : length lines ≤ c.loop-index.index = omega (arith, length-rank_lines 1 c.args.rows.now, c.loop-index-test.false) in
+    let lines = rank_lines (suc c.args.given) c.args.rows.now in
+    let all : length lines ≤ c.loop-index.index = omega (arith, length-rank_lines (suc c.args.given) c.args.rows.now, c.loop-index-test.false) in
     let old = record beside { out = g.O.Sink.state c.args.out.now } in
     let new = record beside { out = g.O.Sink.state c.loop-index.out } in
     Ran-all (lines_run lines) (Ok tt) old new

@@ -1,70 +1,95 @@
-use Rattle.std.proofs.Common.{◌∙◌, refl, inr}
-use Rattle.std.specs.Prelude.{Err}
 use Rattle.rs_syntax.specs.Syntax.{command_of, query_of}
-use Rattle.rs_bind.specs.Indexes.{index_def_of}
-use Rattle.rs_bind.specs.Names.{columns_of}
-use Rattle.rs_catalog.specs.declared.room.What.TheVariants as what
-use Rattle.rs_run.specs.declared.fault.Fault.TheVariants.{Script}
-use Rattle.rs_run.specs.declared.script_fault.ScriptFault.TheVariants.{NotBuilt}
+use Rattle.rs_exec.specs.Indexes.{AreHeld}
+use Rattle.rs_run.specs.Parts.Session.{CanAllBeAsked, state_of}
 use Rattle.rs_run.specs.Run.{finds_in}
-use Rattle.rs_run.specs.Statements.{Does, DoesTable, analyze_step, explain_step, index_step, predicate_outcome, refused_or, select_step, with_room}
-use Rattle.rs_run.proofs.StepFacts.{Does-analyze, Does-explain, Does-index, Does-not_built, Does-predicate, Does-query, Does-table}
-use Rattle.rs_run.proofs.SteppedFacts.{Stepped-is, Stepped-map, Stepped-still}
+use Rattle.rs_run.specs.Session.{DoesInSession, close_outcome, declare_step, fetch_step}
+use Rattle.rs_run.specs.Statements.{Does}
+use Rattle.rs_run.specs.World.{world}
+use Rattle.rs_run.proofs.HeldSteps.{asked-step, held-step}
+use Rattle.rs_run.proofs.SessionSteps.{Stepped-beside, does-close, does-declare, does-fetch, if-ok, if-stepped, of_no_cursor}
+use Rattle.rs_run.proofs.SteppedFacts.{Stepped-is, Stepped-still}
 use Rattle.rs_run.proofs.statement.run_statement.Goals as goal
 
-pub returns-in-CreateTable : goal.returns-in-CreateTable
-returns-in-CreateTable g c = λ beside. Stepped-map
-    (DoesTable (finds_in (g.F.Files.state c.args.files.now).told) c.args.catalog.now c.in-CreateTable.name c.in-CreateTable.file (with_room c.args.catalog.now what.Table c.in-CreateTable.name (columns_of c.deref.result.now)))
-    (Does (finds_in (g.F.Files.state c.args.files.now).told) (g.S.Scorer.state c.args.scorer.now).answer c.args.evaluating c.args.number c.args.catalog.now (command_of c.args.statement.now)) c.create_table.new.catalog c.create_table.result
-    (record beside { files = g.F.Files.state c.args.files.now; scorer = g.S.Scorer.state c.args.scorer.now; out = g.O.Sink.state c.args.out.now }) (record beside { files = g.F.Files.state c.create_table.new.files; scorer = g.S.Scorer.state c.args.scorer.now; out = g.O.Sink.state c.args.out.now })
-    (Does-table (finds_in (g.F.Files.state c.args.files.now).told) (g.S.Scorer.state c.args.scorer.now).answer c.args.evaluating c.args.number c.args.catalog.now c.args.statement.now c.in-CreateTable.name c.in-CreateTable.columns c.deref.result.now c.in-CreateTable.file c.in-CreateTable.is
-    (c.deref.ensures.value ∙ c.items.ensures))
-    (c.create_table.ensures (record beside { files = g.F.Files.state c.args.files.now; scorer = g.S.Scorer.state c.args.scorer.now; out = g.O.Sink.state c.args.out.now }))
+pub declare-requires : goal.declare-requires
+declare-requires g c = record { written = rw c.in-Declare.is at c.requires.written; held = c.requires.held; asked = c.requires.asked }
 
-pub returns-in-CreateRankIndex : goal.returns-in-CreateRankIndex
-returns-in-CreateRankIndex g c = λ beside. Stepped-is (Does (finds_in (g.F.Files.state c.args.files.now).told) (g.S.Scorer.state c.args.scorer.now).answer c.args.evaluating c.args.number c.args.catalog.now (command_of c.args.statement.now))
-    (refused_or (index_step (g.S.Scorer.state c.args.scorer.now).answer c.args.catalog.now) (with_room c.args.catalog.now what.Index c.in-CreateRankIndex.name (index_def_of c.args.catalog.now (command_of c.args.statement.now))))
-    c.create_index.new.catalog c.create_index.result
-    (record beside { files = g.F.Files.state c.args.files.now; scorer = g.S.Scorer.state c.args.scorer.now; out = g.O.Sink.state c.args.out.now }) (record beside { files = g.F.Files.state c.args.files.now; scorer = g.S.Scorer.state c.create_index.new.scorer; out = g.O.Sink.state c.args.out.now })
-    (Does-index (finds_in (g.F.Files.state c.args.files.now).told) (g.S.Scorer.state c.args.scorer.now).answer c.args.evaluating c.args.number c.args.catalog.now c.args.statement.now _ _ _ _ _ c.in-CreateRankIndex.is)
-    (c.create_index.ensures (record beside { files = g.F.Files.state c.args.files.now; scorer = g.S.Scorer.state c.args.scorer.now; out = g.O.Sink.state c.args.out.now }))
+pub returns-in-Declare : goal.returns-in-Declare
+returns-in-Declare g c =
+    let finds = finds_in (g.F.Files.state c.args.files.now).told in
+    let answer = (g.S.Scorer.state c.args.scorer.now).answer in
+    let state = state_of c.args.catalog.now c.args.session.now.cursors.entries in record {
+      does = λ beside. Stepped-is (DoesInSession finds answer c.args.evaluating state (command_of c.args.statement.now))
+          (declare_step c.args.evaluating answer state c.in-Declare.name (query_of c.in-Declare.select))
+          (state_of c.args.catalog.now c.declare.new.session.cursors.entries) c.declare.result
+          (record beside { files = g.F.Files.state c.args.files.now; scorer = g.S.Scorer.state c.args.scorer.now; out = g.O.Sink.state c.args.out.now })
+          (record beside { files = g.F.Files.state c.args.files.now; scorer = g.S.Scorer.state c.declare.new.scorer; out = g.O.Sink.state c.args.out.now })
+          (does-declare finds answer c.args.evaluating state c.args.statement.now c.in-Declare.name c.in-Declare.select c.in-Declare.is)
+          (c.declare.ensures.opens (record beside { files = g.F.Files.state c.args.files.now; out = g.O.Sink.state c.args.out.now }));
+      held = if-ok c.declare.result _ c.requires.held;
+      asked = c.declare.ensures.asked;
+    }
 
-pub returns-in-CreatePredicate : goal.returns-in-CreatePredicate
-returns-in-CreatePredicate g c = λ beside. Stepped-still (Does (finds_in (g.F.Files.state c.args.files.now).told) (g.S.Scorer.state c.args.scorer.now).answer c.args.evaluating c.args.number c.args.catalog.now (command_of c.args.statement.now)) (predicate_outcome c.args.catalog.now c.in-CreatePredicate.name (command_of c.args.statement.now))
-    c.create_predicate.new.catalog c.create_predicate.result (record beside { files = g.F.Files.state c.args.files.now; scorer = g.S.Scorer.state c.args.scorer.now; out = g.O.Sink.state c.args.out.now })
-    (Does-predicate (finds_in (g.F.Files.state c.args.files.now).told) (g.S.Scorer.state c.args.scorer.now).answer c.args.evaluating c.args.number c.args.catalog.now c.args.statement.now _ _ _ _ _ c.in-CreatePredicate.is) c.create_predicate.ensures
+pub fetch-requires : goal.fetch-requires
+fetch-requires g c = c.requires.asked
+
+pub returns-in-Fetch : goal.returns-in-Fetch
+returns-in-Fetch g c =
+    let finds = finds_in (g.F.Files.state c.args.files.now).told in
+    let answer = (g.S.Scorer.state c.args.scorer.now).answer in
+    let state = state_of c.args.catalog.now c.args.session.now.cursors.entries in record {
+      does = λ beside. Stepped-is (DoesInSession finds answer c.args.evaluating state (command_of c.args.statement.now))
+          (fetch_step answer state c.in-Fetch.count c.in-Fetch.name)
+          (state_of c.args.catalog.now c.fetch.new.session.cursors.entries) c.fetch.result
+          (record beside { files = g.F.Files.state c.args.files.now; scorer = g.S.Scorer.state c.args.scorer.now; out = g.O.Sink.state c.args.out.now })
+          (record beside { files = g.F.Files.state c.args.files.now; scorer = g.S.Scorer.state c.fetch.new.scorer; out = g.O.Sink.state c.fetch.new.out })
+          (does-fetch finds answer c.args.evaluating state c.args.statement.now c.in-Fetch.count c.in-Fetch.name c.in-Fetch.is)
+          (c.fetch.ensures.puts (record beside { files = g.F.Files.state c.args.files.now }));
+      held = if-ok c.fetch.result _ c.requires.held;
+      asked = c.fetch.ensures.asked;
+    }
+
+pub returns-in-Close : goal.returns-in-Close
+returns-in-Close g c =
+    let finds = finds_in (g.F.Files.state c.args.files.now).told in
+    let answer = (g.S.Scorer.state c.args.scorer.now).answer in
+    let state = state_of c.args.catalog.now c.args.session.now.cursors.entries in record {
+      does = λ beside. Stepped-still (DoesInSession finds answer c.args.evaluating state (command_of c.args.statement.now))
+          (close_outcome state c.in-Close.name) (state_of c.args.catalog.now c.close.new.session.cursors.entries) c.close.result
+          (record beside { files = g.F.Files.state c.args.files.now; scorer = g.S.Scorer.state c.args.scorer.now; out = g.O.Sink.state c.args.out.now })
+          (does-close finds answer c.args.evaluating state c.args.statement.now c.in-Close.name c.in-Close.is)
+          (c.close.ensures.closes c.args.catalog.now);
+      held = if-ok c.close.result _ c.requires.held;
+      asked = if-ok c.close.result _ (c.close.ensures.asked answer c.args.catalog.now c.requires.asked);
+    }
+
+pub run_without_cursor-requires : goal.run_without_cursor-requires
+run_without_cursor-requires g c = record {
+  form = of_no_cursor c.args.statement.now c.in_default.not-Declare c.in_default.not-Fetch c.in_default.not-Close;
+  written = c.requires.written;
+  held = c.requires.held;
+}
 
 pub returns-in_default : goal.returns-in_default
-returns-in_default g c = λ beside. Stepped-still (Does (finds_in (g.F.Files.state c.args.files.now).told) (g.S.Scorer.state c.args.scorer.now).answer c.args.evaluating c.args.number c.args.catalog.now (command_of c.args.statement.now)) (Err (Script (NotBuilt c.args.number))) c.args.catalog.now _ (record beside { files = g.F.Files.state c.args.files.now; scorer = g.S.Scorer.state c.args.scorer.now; out = g.O.Sink.state c.args.out.now })
-    (Does-not_built (finds_in (g.F.Files.state c.args.files.now).told) (g.S.Scorer.state c.args.scorer.now).answer c.args.evaluating c.args.number c.args.catalog.now c.args.statement.now c.in_default.not-CreateTable c.in_default.not-CreatePredicate c.in_default.not-CreateRankIndex c.in_default.not-Query c.in_default.not-Explain c.in_default.not-ExplainAnalyze)
-    (inr refl)
-
-pub run_select-requires : goal.run_select-requires
-run_select-requires g c = record { written = rw c.in-Query.is at c.requires.written; held = c.requires.held }
-
-pub returns-in-Query : goal.returns-in-Query
-returns-in-Query g c = λ beside. Stepped-is (Does (finds_in (g.F.Files.state c.args.files.now).told) (g.S.Scorer.state c.args.scorer.now).answer c.args.evaluating c.args.number c.args.catalog.now (command_of c.args.statement.now))
-    (select_step c.args.evaluating (g.S.Scorer.state c.args.scorer.now).answer c.args.number c.args.catalog.now (query_of c.in-Query.select)) c.args.catalog.now c.run_select.result
-    (record beside { files = g.F.Files.state c.args.files.now; scorer = g.S.Scorer.state c.args.scorer.now; out = g.O.Sink.state c.args.out.now }) (record beside { files = g.F.Files.state c.args.files.now; scorer = g.S.Scorer.state c.run_select.new.scorer; out = g.O.Sink.state c.run_select.new.out })
-    (Does-query (finds_in (g.F.Files.state c.args.files.now).told) (g.S.Scorer.state c.args.scorer.now).answer c.args.evaluating c.args.number c.args.catalog.now c.args.statement.now c.in-Query.select c.in-Query.is)
-    (c.run_select.ensures (record beside { files = g.F.Files.state c.args.files.now; scorer = g.S.Scorer.state c.args.scorer.now; out = g.O.Sink.state c.args.out.now }))
-
-pub run_explain-requires : goal.run_explain-requires
-run_explain-requires g c = record { written = rw c.in-Explain.is at c.requires.written }
-
-pub run_analyze-requires : goal.run_analyze-requires
-run_analyze-requires g c = record { written = rw c.in-ExplainAnalyze.is at c.requires.written }
-
-pub returns-in-Explain : goal.returns-in-Explain
-returns-in-Explain g c = λ beside. Stepped-is (Does (finds_in (g.F.Files.state c.args.files.now).told) (g.S.Scorer.state c.args.scorer.now).answer c.args.evaluating c.args.number c.args.catalog.now (command_of c.args.statement.now))
-    (explain_step c.args.evaluating (g.S.Scorer.state c.args.scorer.now).answer c.args.number c.args.catalog.now (query_of c.in-Explain.select)) c.args.catalog.now c.run_explain.result
-    (record beside { files = g.F.Files.state c.args.files.now; scorer = g.S.Scorer.state c.args.scorer.now; out = g.O.Sink.state c.args.out.now }) (record beside { files = g.F.Files.state c.args.files.now; scorer = g.S.Scorer.state c.run_explain.new.scorer; out = g.O.Sink.state c.run_explain.new.out })
-    (Does-explain (finds_in (g.F.Files.state c.args.files.now).told) (g.S.Scorer.state c.args.scorer.now).answer c.args.evaluating c.args.number c.args.catalog.now c.args.statement.now c.in-Explain.select c.in-Explain.is)
-    (c.run_explain.ensures (record beside { files = g.F.Files.state c.args.files.now; scorer = g.S.Scorer.state c.args.scorer.now; out = g.O.Sink.state c.args.out.now }))
-
-pub returns-in-ExplainAnalyze : goal.returns-in-ExplainAnalyze
-returns-in-ExplainAnalyze g c = λ beside.
-    let at = record beside { files = g.F.Files.state c.args.files.now; scorer = g.S.Scorer.state c.args.scorer.now; out = g.O.Sink.state c.args.out.now } in
-    Stepped-is (Does (finds_in (g.F.Files.state c.args.files.now).told) (g.S.Scorer.state c.args.scorer.now).answer c.args.evaluating c.args.number c.args.catalog.now (command_of c.args.statement.now))
-    (analyze_step c.args.evaluating c.args.number c.args.catalog.now (query_of c.in-ExplainAnalyze.select)) c.args.catalog.now c.run_analyze.result at at
-    (Does-analyze (finds_in (g.F.Files.state c.args.files.now).told) (g.S.Scorer.state c.args.scorer.now).answer c.args.evaluating c.args.number c.args.catalog.now c.args.statement.now c.in-ExplainAnalyze.select c.in-ExplainAnalyze.is) (c.run_analyze.ensures at)
+returns-in_default g c =
+    let finds = finds_in (g.F.Files.state c.args.files.now).told in
+    let answer = (g.S.Scorer.state c.args.scorer.now).answer in
+    let catalogue = c.args.catalog.now in
+    let entries = c.args.session.now.cursors.entries in
+    let command = command_of c.args.statement.now in
+    let next = c.run_without_cursor.new.catalog in
+    let at = world (g.F.Files.state c.args.files.now) (g.S.Scorer.state c.args.scorer.now) (g.O.Sink.state c.args.out.now) (g.O.Sink.state c.args.out.now) in
+    let then = world (g.F.Files.state c.run_without_cursor.new.files) (g.S.Scorer.state c.run_without_cursor.new.scorer) (g.O.Sink.state c.run_without_cursor.new.out) (g.O.Sink.state c.args.out.now) in
+    let larger = c.cursors_stand_in_larger_catalogues.ensures in record {
+      does = λ beside. Stepped-beside finds answer c.args.evaluating (state_of catalogue entries) command next c.run_without_cursor.result
+          (record beside { files = g.F.Files.state c.args.files.now; scorer = g.S.Scorer.state c.args.scorer.now; out = g.O.Sink.state c.args.out.now })
+          (record beside { files = g.F.Files.state c.run_without_cursor.new.files; scorer = g.S.Scorer.state c.run_without_cursor.new.scorer; out = g.O.Sink.state c.run_without_cursor.new.out })
+          (of_no_cursor c.args.statement.now c.in_default.not-Declare c.in_default.not-Fetch c.in_default.not-Close) (c.run_without_cursor.ensures beside);
+      held = if-stepped (Does finds answer c.args.evaluating catalogue command) next c.run_without_cursor.result at then (AreHeld answer next) (c.run_without_cursor.ensures at)
+          (λ step does leaves. held-step answer catalogue finds c.args.evaluating command step next c.requires.held c.requires.written does leaves);
+      asked = if-stepped (Does finds answer c.args.evaluating catalogue command) next c.run_without_cursor.result at then (CanAllBeAsked answer next entries) (c.run_without_cursor.ensures at)
+          (λ step does leaves. asked-step answer catalogue finds c.args.evaluating command step next entries (record {
+            tables = λ cursor name table. larger.tables catalogue answer cursor name table;
+            predicates = λ cursor predicate. larger.predicates catalogue answer cursor predicate;
+            indexes = λ cursor def ranking. larger.indexes catalogue answer cursor def ranking;
+          }) c.requires.asked c.requires.written does leaves);
+    }
