@@ -118,8 +118,9 @@ class Run:
         for ask in range(begun + 1, end + 1):
             row = self.row_of(query, ask)
             if row is not None:
-                values = [str(cell) for cell in query.outputs(row)]
-                self.write(",".join([str(ask), str(query.score(row)), *values]) + "\n")
+                line = io.StringIO()
+                csv.writer(line, lineterminator="\n").writerow([ask, query.score(row), *query.outputs(row)])
+                self.write(line.getvalue())
         return end
 
     def statement(self, words, number):
