@@ -3,7 +3,7 @@
 # scattered keys, and then takes a pair out and puts one in 100,000 times. A new key lies somewhere among those that are
 # held. The time of an operation, one of each, is what these add to the time of a run without them. Beside it, in the
 # same run, python3's heapq does the same with the same keys. Each runs five times, in turn, and the shortest time
-# counts. A push of rs_queue moves the pairs that come before its own, so its time grows with the pairs that are held.
+# counts. Both are binary heaps, so the time of an operation grows with the logarithm of the number of pairs held.
 # The program is the one that `rt run` builds, or the one that the variable QUEUE_SPEED names.
 # shellcheck source=bench/functions.sh
 . "$(dirname "$0")/functions.sh"

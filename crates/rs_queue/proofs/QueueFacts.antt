@@ -1,183 +1,147 @@
--- Pairs in order: putting one in, finding its place by halving, and the same pairs the other way round.
-use Rattle.std.proofs.Common.{◌≡◌, ℕ, zero, suc, ◌+◌, ◌<◌, ◌≤◌, Bool, true, false, cond, ◌||◌, List, [], ◌∷◌, ◌++◌, length, get_or, take, drop, reverse, refl, sym, ◌∙◌, ap, subst, arith, append_assoc}
-use Rattle.std.proofs.lemmas.Bool.{or_parts, true≢false}
-use Rattle.std.proofs.lemmas.List.{take-append-drop, reverse-append, drop_more, drop_all}
-use Rattle.std.proofs.Math.Bool.{or_comm}
-use Rattle.std.specs.Cmp.{IsTotalOrder, tied_back}
-use Rattle.std.specs.List.{AllByRecursion, insert}
-use Rattle.std.specs.Ordering.{is_eq, is_lt, is_gt, ordering_reverse}
+-- The pairs of a heap in the order of their keys: what a push puts among them, and which one comes first.
+use Rattle.std.proofs.Common.{◌≡◌, ◌↔◌, ◌==◌, ◌<◌, IsTrue, true, false, ◌||◌, List, [], ◌∷◌, ◌++◌, length, get_or, Some, refl, sym, ◌∙◌, ap, subst, arith}
+use Rattle.std.proofs.lemmas.Bool.{eq-eqb, eqb-true, true≢false}
+use Rattle.std.proofs.lemmas.List.Elements.{All-from_recursion, recursion_from_All}
+use Rattle.std.proofs.lemmas.List.Sorted.{All-permutation, IsPermutation-refl, IsPermutation-sym, IsPermutation-to_front, IsPermutation-trans, length_permutation, list_any-IsPermutation}
+use Rattle.std.proofs.lemmas.Map.Keys.{IsDistinct-head, IsDistinct-tail, IsDistinct-push, IsDistinct-IsPermutation}
+use Rattle.std.specs.BinaryHeap.{IsUpperBound}
+use Rattle.std.specs.Cmp.{IsEquivalence, IsTotalOrder, back_total, eq_by_cmp_equiv, on_total, tied_back}
+use Rattle.std.specs.List.{IsDistinct, list_any, slice_get}
+use Rattle.std.specs.List.Sorted.{IsPermutation}
+use Rattle.std.specs.Ordering.{is_eq, is_lt, eq_by_cmp, ordering_reverse}
 use Rattle.std.specs.declared.cmp.Ordering.{Ordering}
 use Rattle.std.specs.declared.cmp.Ordering.TheVariants.{Less, Equal, Greater}
-use Rattle.rs_order.specs.Climbing.{Climbs, Differs, Precedes}
-use Rattle.rs_order.specs.Sorting.{put}
-use Rattle.rs_order.proofs.EachFacts.{each-behind, each-front, each-get_or, each-reverse, each-reversed, each-weaker}
-use Rattle.rs_order.proofs.PartFacts.{cmp-Less-behind}
-use Rattle.rs_order.proofs.SortingFacts.{Climbs-put, put-split}
-use Rattle.rs_queue.specs.Queue.{has_key}
+use Rattle.rs_order.specs.Climbing.{Climbs, Differs, HasDistinctKeys, In}
+use Rattle.rs_order.specs.Sorting.{put, sorted}
+use Rattle.rs_order.proofs.ClimbingFacts.{AllByRecursion-In, AllByRecursion-from_In, Climbs-same}
+use Rattle.rs_order.proofs.EachFacts.{each-weaker}
+use Rattle.rs_order.proofs.PartFacts.{sorted-snoc}
+use Rattle.rs_order.proofs.SortingFacts.{Climbs-sorted, In-sorted, In-sorted-back, IsPermutation-sorted, put-split}
+use Rattle.rs_queue.specs.Queue.{by_falling_key, has_key}
 
--- a list with one element more in front, the other way round
-reverse-cons : {T : Type 0} (x : T) (xs : List T) → reverse (x ∷ xs) ≡ reverse xs ++ x ∷ []
-reverse-cons x xs = reverse-append (x ∷ []) xs
-
--- a list in two parts, of which the first is turned round behind the second
-reverse-insert : {T : Type 0} (xs : List T) (place : ℕ) (x : T) → reverse (insert xs place x) ≡ reverse (drop place xs) ++ x ∷ reverse (take place xs)
-reverse-insert xs place x =
-    reverse-append (take place xs) (x ∷ drop place xs)
-    ∙ ap (λ front. front ++ reverse (take place xs)) (reverse-cons x (drop place xs))
-    ∙ append_assoc (reverse (drop place xs)) (x ∷ []) (reverse (take place xs))
-
-reverse-parts : {T : Type 0} (xs : List T) (place : ℕ) → reverse xs ≡ reverse (drop place xs) ++ reverse (take place xs)
-reverse-parts xs place = ap reverse (sym (take-append-drop place xs)) ∙ reverse-append (take place xs) (drop place xs)
+-- what a list has, it has in another order
+In-permutation : {X : Type 0} (xs ys : List X) → IsPermutation xs ys → (z : X) → In z xs → In z ys
+In-permutation xs ys moved z h =
+    AllByRecursion-In (λ w. In w ys) xs
+    (recursion_from_All (λ w. In w ys) xs
+    (All-permutation (λ w. In w ys) ys xs (IsPermutation-sym xs ys moved)
+    (All-from_recursion (λ w. In w ys) ys (AllByRecursion-from_In (λ w. In w ys) ys (λ w k. k)))))
+    z h
 
 -- answers of an order by their tests
-gt-Greater : (o : Ordering) → is_gt o ≡ true → o ≡ Greater
-gt-Greater Less e = absurd (true≢false (sym e))
-gt-Greater Equal e = absurd (true≢false (sym e))
-gt-Greater Greater e = refl
-
-is_gt-turned : (o : Ordering) → is_lt (ordering_reverse o) ≡ is_gt o
-is_gt-turned Less = refl
-is_gt-turned Equal = refl
-is_gt-turned Greater = refl
-
-module _ {K : Type 0} {cmp : K → K → Ordering} (total : IsTotalOrder cmp) where
-  -- what comes after a key is what the key comes before
-  Greater-Less : (x y : K) → cmp x y ≡ Greater → cmp y x ≡ Less
-  Greater-Less x y e = total.antisymm y x ∙ ap ordering_reverse e
-
-  Less-Greater : (x y : K) → cmp x y ≡ Less → cmp y x ≡ Greater
-  Less-Greater x y e = total.antisymm y x ∙ ap ordering_reverse e
-
-  lt-turned : (x y : K) → is_lt (cmp x y) ≡ is_gt (cmp y x)
-  lt-turned x y = ap is_lt (total.antisymm x y) ∙ is_gt-turned (cmp y x)
-
-  -- what comes before a key that isn't after another one comes before that one
-  Less-not_gt : (x y z : K) → cmp x y ≡ Less → is_gt (cmp y z) ≡ false → cmp x z ≡ Less
-  Less-not_gt x y z below most = cmp-Less-behind cmp total x y z below (lt-turned z y ∙ most)
+not_lt-not_eq : (o : Ordering) → is_lt o ≡ false → is_eq o ≡ false → o ≡ Greater
+not_lt-not_eq Less lt eq = absurd (true≢false lt)
+not_lt-not_eq Equal lt eq = absurd (true≢false eq)
+not_lt-not_eq Greater lt eq = refl
 
 -- the key of a pair
-abbrev key_of : {K V : Type 0} → K × V → K
+abbrev pub key_of : {K V : Type 0} → K × V → K
 key_of pair = pair.0
 
 module _ {K V : Type 0} (cmp : K → K → Ordering) where
-  -- each key comes after the keys of all pairs behind it
-  abbrev pub Falls : List (K × V) → Type 0
-  Falls [] = Unit {0}
-  Falls (pair ∷ rest) = AllByRecursion (λ later. cmp later.0 pair.0 ≡ Less) rest × Falls rest
+  -- no two pairs have equal keys
+  abbrev pub AreApart : List (K × V) → Type 0
+  AreApart pairs = IsDistinct (eq_by_cmp (by_falling_key cmp)) pairs
 
-  -- without the last pair
-  Climbs-last : (pairs : List (K × V)) (last : K × V) → Climbs cmp key_of (pairs ++ last ∷ []) → AllByRecursion (λ pair. cmp pair.0 last.0 ≡ Less) pairs × Climbs cmp key_of pairs
-  Climbs-last [] last climbs = (tt, tt)
-  Climbs-last (pair ∷ rest) last climbs =
-      let inner = Climbs-last rest last climbs.1 in
-      (((each-behind (Precedes cmp key_of pair) rest (last ∷ []) climbs.0).0, inner.0), (each-front (Precedes cmp key_of pair) rest (last ∷ []) climbs.0, inner.1))
+  has_key-list_any : (key : K) (pairs : List (K × V)) → has_key cmp key pairs ≡ list_any (λ pair. is_eq (cmp pair.0 key)) pairs
+  has_key-list_any key [] = refl
+  has_key-list_any key (pair ∷ rest) = ap (λ b. is_eq (cmp pair.0 key) || b) (has_key-list_any key rest)
 
-  -- a list that climbs falls the other way round
-  pub Falls-reverse : (pairs : List (K × V)) → Climbs cmp key_of (reverse pairs) → Falls pairs
-  Falls-reverse [] climbs = tt
-  Falls-reverse (pair ∷ rest) climbs =
-      let parts = Climbs-last (reverse rest) pair (subst (Climbs cmp key_of) (reverse-cons pair rest) climbs) in
-      (each-reversed (λ later. cmp later.0 pair.0 ≡ Less) rest parts.0, Falls-reverse rest parts.1)
+  -- a key is in the queue where it is in the heap
+  pub has_key-sorted : (key : K) (pairs : List (K × V)) → has_key cmp key (sorted cmp key_of pairs) ≡ list_any (λ pair. is_eq (cmp pair.0 key)) pairs
+  has_key-sorted key pairs =
+      has_key-list_any key (sorted cmp key_of pairs)
+      ∙ sym (list_any-IsPermutation (λ pair. is_eq (cmp pair.0 key)) pairs (sorted cmp key_of pairs) (IsPermutation-sorted cmp key_of pairs))
 
-  has_key-append : (key : K) (xs ys : List (K × V)) → has_key cmp key (xs ++ ys) ≡ (has_key cmp key xs || has_key cmp key ys)
-  has_key-append key [] ys = refl
-  has_key-append key (pair ∷ xs) ys = rw (has_key-append key xs ys) (or_assoc (is_eq (cmp pair.0 key)) (has_key cmp key xs) (has_key cmp key ys))
-    where
-      or_assoc : (a b c : Bool) → (a || (b || c)) ≡ ((a || b) || c)
-      or_assoc true b c = refl
-      or_assoc false b c = refl
-
-  -- a key is there the other way round too
-  pub has_key-reverse : (key : K) (pairs : List (K × V)) → has_key cmp key (reverse pairs) ≡ has_key cmp key pairs
-  has_key-reverse key [] = refl
-  has_key-reverse key (pair ∷ rest) =
-      ap (has_key cmp key) (reverse-cons pair rest)
-      ∙ has_key-append key (reverse rest) (pair ∷ [])
-      ∙ ap (λ b. b || (is_eq (cmp pair.0 key) || false)) (has_key-reverse key rest)
-      ∙ or_comm (has_key cmp key rest) (is_eq (cmp pair.0 key) || false)
-      ∙ flat (is_eq (cmp pair.0 key)) (has_key cmp key rest)
-    where
-      flat : (a b : Bool) → ((a || false) || b) ≡ (a || b)
-      flat true b = refl
-      flat false b = refl
-
-  -- a key isn't there where no pair has it
-  has_key-none : (key : K) (pairs : List (K × V)) → AllByRecursion (λ pair. is_eq (cmp pair.0 key) ≡ false) pairs → has_key cmp key pairs ≡ false
-  has_key-none key [] all = refl
-  has_key-none key (pair ∷ rest) all = rw (all.0, has_key-none key rest all.1) refl
+  -- the queue has as many pairs as the heap
+  pub length-sorted : (pairs : List (K × V)) → length (sorted cmp key_of pairs) ≡ length pairs
+  length-sorted pairs = length_permutation pairs (sorted cmp key_of pairs) (IsPermutation-sorted cmp key_of pairs)
 
   module _ (total : IsTotalOrder cmp) where
-    -- and where it isn't, the keys of all pairs differ from it
-    Differs-has_key : (key : K) (item : V) (pairs : List (K × V)) → has_key cmp key pairs ≡ false → AllByRecursion (Differs cmp key_of (key, item)) pairs
-    Differs-has_key key item [] free = tt
-    Differs-has_key key item (pair ∷ rest) free =
-        let parts = or_parts (is_eq (cmp pair.0 key)) (has_key cmp key rest) free in
-        (λ tied. true≢false (sym (ap is_eq (tied_back total key pair.0 tied)) ∙ parts.0), Differs-has_key key item rest parts.1)
+    same_key-equivalence : IsEquivalence {K = K × V} (eq_by_cmp (by_falling_key cmp))
+    same_key-equivalence = eq_by_cmp_equiv (back_total (on_total (λ (pair : K × V). pair.0) total))
 
-    -- where a key of a list that falls comes after another one, so do all in front of it
-    pub All-front : (key : K) (pairs : List (K × V)) (i : ℕ) (d : K × V) → Falls pairs → i < length pairs → is_gt (cmp (get_or pairs i d).0 key) ≡ true → AllByRecursion (λ pair. is_gt (cmp pair.0 key) ≡ true) (take (suc i) pairs)
-    All-front key [] i d falls within after = absurd (omega arith)
-    All-front key (pair ∷ rest) zero d falls within after = (after, tt)
-    All-front key (pair ∷ rest) (suc i) d falls within after =
-        let inner : i < length rest = omega arith in
-        let below = each-get_or (λ later. cmp later.0 pair.0 ≡ Less) rest i d falls.0 inner in
-        let least = Greater-Less total (get_or rest i d).0 key (gt-Greater (cmp (get_or rest i d).0 key) after) in
-        (ap is_gt (Less-Greater total key pair.0 (total.trans key (get_or rest i d).0 pair.0 least below)), All-front key rest i d falls.1 inner after)
+    -- keys that are apart differ
+    HasDistinctKeys-apart : (pairs : List (K × V)) → AreApart pairs → HasDistinctKeys cmp key_of pairs
+    HasDistinctKeys-apart [] apart = tt
+    HasDistinctKeys-apart (pair ∷ rest) apart = (
+      each-weaker (λ other. is_eq (cmp other.0 pair.0) ≡ false) (Differs cmp key_of pair) (λ other differs tied. true≢false (sym (ap is_eq (tied_back total pair.0 other.0 tied)) ∙ differs)) rest
+          (IsDistinct-head (eq_by_cmp (by_falling_key cmp)) pair rest apart),
+      HasDistinctKeys-apart rest (IsDistinct-tail (eq_by_cmp (by_falling_key cmp)) pair rest apart),
+    )
 
-    -- where it doesn't come after the other one, neither do all behind it
-    pub All-back : (key : K) (pairs : List (K × V)) (i : ℕ) (d : K × V) → Falls pairs → i < length pairs → is_gt (cmp (get_or pairs i d).0 key) ≡ false → AllByRecursion (λ pair. is_gt (cmp pair.0 key) ≡ false) (drop i pairs)
-    All-back key [] i d falls within most = absurd (omega arith)
-    All-back key (pair ∷ rest) zero d falls within most =
-        (most, each-weaker (λ later. cmp later.0 pair.0 ≡ Less) (λ later. is_gt (cmp later.0 key) ≡ false) (λ later below. ap is_gt (Less-not_gt total later.0 pair.0 key below most)) rest falls.0)
-    All-back key (pair ∷ rest) (suc i) d falls within most = All-back key rest i d falls.1 (omega arith) most
+    -- the keys of a queue rise
+    pub Climbs-queue : (pairs : List (K × V)) → AreApart pairs → Climbs cmp key_of (sorted cmp key_of pairs)
+    Climbs-queue pairs apart = Climbs-sorted cmp total key_of pairs (HasDistinctKeys-apart pairs apart)
 
-    -- a pair that is put in at its place, the other way round
-    pub put-reverse : (key : K) (item : V) (pairs : List (K × V)) (place : ℕ) → AllByRecursion (λ pair. is_gt (cmp pair.0 key) ≡ true) (take place pairs) → AllByRecursion (λ pair. is_gt (cmp pair.0 key) ≡ false) (drop place pairs) → reverse (insert pairs place (key, item)) ≡ put cmp key_of (key, item) (reverse pairs)
-    put-reverse key item pairs place after rest =
-        reverse-insert pairs place (key, item)
-        ∙ sym (put-split cmp key_of (key, item) (reverse (drop place pairs)) (reverse (take place pairs))
-        (turned false (drop place pairs) rest) (turned true (take place pairs) after))
-        ∙ ap (put cmp key_of (key, item)) (sym (reverse-parts pairs place))
-      where
-        turned : (b : Bool) (xs : List (K × V)) → AllByRecursion (λ pair. is_gt (cmp pair.0 key) ≡ b) xs → AllByRecursion (λ pair. is_lt (cmp key pair.0) ≡ b) (reverse xs)
-        turned b xs all =
-            each-reverse (λ pair. is_lt (cmp key pair.0) ≡ b) xs
-            (each-weaker (λ pair. is_gt (cmp pair.0 key) ≡ b) (λ pair. is_lt (cmp key pair.0) ≡ b) (λ pair e. lt-turned total key pair.0 ∙ e) xs all)
+    -- pairs in another order are as far apart, and make the same queue
+    pub AreApart-moved : (xs ys : List (K × V)) → IsPermutation xs ys → AreApart xs → AreApart ys
+    AreApart-moved xs ys moved apart = IsDistinct-IsPermutation (eq_by_cmp (by_falling_key cmp)) same_key-equivalence.symm xs ys moved apart
 
-    -- no key behind one that doesn't come after another is equal to that one
-    has_key-back : (key : K) (pair : K × V) (rest : List (K × V)) → Falls (pair ∷ rest) → is_gt (cmp pair.0 key) ≡ false → has_key cmp key rest ≡ false
-    has_key-back key pair rest falls most =
-        has_key-none key rest (each-weaker (λ later. cmp later.0 pair.0 ≡ Less) (λ later. is_eq (cmp later.0 key) ≡ false) (λ later below. ap is_eq (Less-not_gt total later.0 pair.0 key below most)) rest falls.0)
+    sorted-moved : (xs ys : List (K × V)) → IsPermutation xs ys → AreApart xs → sorted cmp key_of xs ≡ sorted cmp key_of ys
+    sorted-moved xs ys moved apart =
+        Climbs-same cmp total key_of (sorted cmp key_of xs) (sorted cmp key_of ys)
+        (Climbs-queue xs apart)
+        (Climbs-queue ys (AreApart-moved xs ys moved apart))
+        (λ z h. In-sorted cmp key_of ys z (In-permutation xs ys moved z (In-sorted-back cmp key_of xs z h)))
+        (λ z h. In-sorted cmp key_of xs z (In-permutation ys xs (IsPermutation-sym xs ys moved) z (In-sorted-back cmp key_of ys z h)))
 
-    Falls-drop : (pairs : List (K × V)) (place : ℕ) → Falls pairs → Falls (drop place pairs)
-    Falls-drop pairs zero falls = falls
-    Falls-drop [] (suc place) falls = tt
-    Falls-drop (pair ∷ rest) (suc place) falls = Falls-drop rest place falls.1
+    -- a pair whose key is new, behind the others
+    AreApart-push : (pair : K × V) (xs : List (K × V)) → has_key cmp pair.0 (sorted cmp key_of xs) ≡ false → AreApart xs → AreApart (xs ++ pair ∷ [])
+    AreApart-push pair xs free apart = IsDistinct-push same_key-equivalence xs pair apart (sym (has_key-sorted pair.0 xs) ∙ free)
 
-    -- whether a key is there shows at its place
-    has_key-front : (key : K) (pairs : List (K × V)) (place : ℕ) → AllByRecursion (λ pair. is_gt (cmp pair.0 key) ≡ true) (take place pairs) → has_key cmp key (reverse pairs) ≡ has_key cmp key (drop place pairs)
-    has_key-front key pairs place after =
-        has_key-reverse key pairs
-        ∙ ap (has_key cmp key) (sym (take-append-drop place pairs))
-        ∙ has_key-append key (take place pairs) (drop place pairs)
-        ∙ ap (λ b. b || has_key cmp key (drop place pairs)) (has_key-none key (take place pairs) (each-weaker (λ pair. is_gt (cmp pair.0 key) ≡ true) (λ pair. is_eq (cmp pair.0 key) ≡ false) (λ pair e. ap is_eq (gt-Greater (cmp pair.0 key) e)) (take place pairs) after))
+    last-moved : (pair : K × V) (xs ys : List (K × V)) → IsPermutation (pair ∷ xs) ys → IsPermutation (xs ++ pair ∷ []) ys
+    last-moved pair xs ys moved = IsPermutation-trans (xs ++ pair ∷ []) (pair ∷ xs) ys (IsPermutation-to_front xs pair) moved
 
-    pub has_key-at : (key : K) (pairs : List (K × V)) (place : ℕ) (d : K × V) → Climbs cmp key_of (reverse pairs) → AllByRecursion (λ pair. is_gt (cmp pair.0 key) ≡ true) (take place pairs) → AllByRecursion (λ pair. is_gt (cmp pair.0 key) ≡ false) (drop place pairs) → place < length pairs → is_eq (cmp (get_or pairs place d).0 key) ≡ has_key cmp key (reverse pairs)
-    has_key-at key pairs place d climbs after rest within =
-        sym (has_key-front key pairs place after ∙ ap (has_key cmp key) here ∙ ap (λ b. is_eq (cmp (get_or pairs place d).0 key) || b) none ∙ or_comm (is_eq (cmp (get_or pairs place d).0 key)) false)
-      where
-        here : drop place pairs ≡ get_or pairs place d ∷ drop (place + 1) pairs
-        here = drop_more pairs place d within
+    -- pairs that a pair with a new key has joined
+    pub AreApart-pushed : (pair : K × V) (xs ys : List (K × V)) → IsPermutation (pair ∷ xs) ys → has_key cmp pair.0 (sorted cmp key_of xs) ≡ false → AreApart xs → AreApart ys
+    AreApart-pushed pair xs ys moved free apart = AreApart-moved (xs ++ pair ∷ []) ys (last-moved pair xs ys moved) (AreApart-push pair xs free apart)
 
-        none : has_key cmp key (drop (place + 1) pairs) ≡ false
-        none = has_key-back key (get_or pairs place d) (drop (place + 1) pairs) (subst Falls here (Falls-drop pairs place (Falls-reverse pairs climbs))) (subst (AllByRecursion (λ pair. is_gt (cmp pair.0 key) ≡ false)) here rest).0
+    pub sorted-pushed : (pair : K × V) (xs ys : List (K × V)) → IsPermutation (pair ∷ xs) ys → has_key cmp pair.0 (sorted cmp key_of xs) ≡ false → AreApart xs → sorted cmp key_of ys ≡ put cmp key_of pair (sorted cmp key_of xs)
+    sorted-pushed pair xs ys moved free apart =
+        sym (sorted-moved (xs ++ pair ∷ []) ys (last-moved pair xs ys moved) (AreApart-push pair xs free apart)) ∙ sorted-snoc cmp key_of xs pair
 
-    pub has_key-past : (key : K) (pairs : List (K × V)) (place : ℕ) → AllByRecursion (λ pair. is_gt (cmp pair.0 key) ≡ true) (take place pairs) → length pairs ≤ place → has_key cmp key (reverse pairs) ≡ false
-    has_key-past key pairs place after past = has_key-front key pairs place after ∙ ap (has_key cmp key) (drop_all place pairs past)
+    -- a pair that is not less than another one, whose key isn't equal, comes before it
+    comes_first : (pair other : K × V) → is_lt (cmp other.0 pair.0) ≡ false → is_eq (cmp other.0 pair.0) ≡ false → is_lt (cmp pair.0 other.0) ≡ true
+    comes_first pair other most differs = ap is_lt (total.antisymm pair.0 other.0 ∙ ap ordering_reverse (not_lt-not_eq (cmp other.0 pair.0) most differs))
 
-    -- a push, of which the list of the pairs tells whether it went well
-    pub Climbs-push : (key : K) (item : V) (pairs new : List (K × V)) (place : ℕ) (done : Bool) → new ≡ cond done (insert pairs place (key, item)) pairs → Climbs cmp key_of (reverse pairs) → AllByRecursion (λ pair. is_gt (cmp pair.0 key) ≡ true) (take place pairs) → AllByRecursion (λ pair. is_gt (cmp pair.0 key) ≡ false) (drop place pairs) → has_key cmp key (reverse pairs) ≡ false → Climbs cmp key_of (reverse new)
-    Climbs-push key item pairs new place true is climbs after rest free =
-        subst (Climbs cmp key_of) (sym (ap reverse is ∙ put-reverse key item pairs place after rest))
-        (Climbs-put cmp total key_of (key, item) (reverse pairs) (Differs-has_key key item (reverse pairs) free) climbs)
-    Climbs-push key item pairs new place false is climbs after rest free = subst (λ xs. Climbs cmp key_of (reverse xs)) (sym is) climbs
+    -- the rest of the pairs without the greatest one
+    pub AreApart-rest : (pair : K × V) (xs rest : List (K × V)) → IsPermutation xs (pair ∷ rest) → AreApart xs → AreApart rest
+    AreApart-rest pair xs rest moved apart = IsDistinct-tail (eq_by_cmp (by_falling_key cmp)) pair rest (AreApart-moved xs (pair ∷ rest) moved apart)
+
+    -- the greatest pair is the first of the queue
+    pub sorted-first : (pair : K × V) (xs rest : List (K × V)) → IsPermutation xs (pair ∷ rest) → AreApart xs → IsUpperBound (by_falling_key cmp) pair rest → sorted cmp key_of xs ≡ pair ∷ sorted cmp key_of rest
+    sorted-first pair xs rest moved apart most =
+        sorted-moved xs (rest ++ pair ∷ []) (IsPermutation-trans xs (pair ∷ rest) (rest ++ pair ∷ []) moved (IsPermutation-sym (rest ++ pair ∷ []) (pair ∷ rest) (IsPermutation-to_front rest pair))) apart
+        ∙ sorted-snoc cmp key_of rest pair
+        ∙ put-split cmp key_of pair [] (sorted cmp key_of rest) tt
+        (AllByRecursion-from_In (λ other. is_lt (cmp pair.0 other.0) ≡ true) (sorted cmp key_of rest)
+        (λ other h.
+        let behind = In-sorted-back cmp key_of rest other h in
+        let differs = IsDistinct-head (eq_by_cmp (by_falling_key cmp)) pair rest (AreApart-moved xs (pair ∷ rest) moved apart) in
+        comes_first pair other
+        (AllByRecursion-In (λ other. is_lt (cmp other.0 pair.0) ≡ false) rest most other behind)
+        (AllByRecursion-In (λ other. is_eq (cmp other.0 pair.0) ≡ false) rest differs other behind)))
+
+    -- so it is where it stands first in the heap
+    pub sorted-top : (pair : K × V) (xs : List (K × V)) → 0 < length xs → pair ≡ get_or xs 0 pair → AreApart xs → IsUpperBound (by_falling_key cmp) pair xs → slice_get (sorted cmp key_of xs) 0 ≡ Some pair
+    sorted-top pair [] some top apart most = absurd (omega arith)
+    sorted-top pair (first ∷ rest) some top apart most =
+        ap (λ pairs. slice_get pairs 0) (sorted-first first (first ∷ rest) rest (IsPermutation-refl (first ∷ rest)) apart (subst (λ one. IsUpperBound (by_falling_key cmp) one rest) top most.1))
+        ∙ ap Some (sym top)
+
+  -- a heap without a pair is a queue without one
+  pub sorted-none : (pairs : List (K × V)) → length pairs ≡ 0 → sorted cmp key_of pairs ≡ []
+  sorted-none [] none = refl
+  sorted-none (pair ∷ rest) none = absurd (omega arith)
+
+  -- and has no first pair
+  pub sorted-no_top : (pairs : List (K × V)) → (0 < length pairs → false ≡ true) → sorted cmp key_of pairs ≡ []
+  sorted-no_top [] none = refl
+  sorted-no_top (pair ∷ rest) none = absurd (true≢false (sym (none (omega arith))))
+
+  pub sorted-empty : (pairs : List (K × V)) → IsTrue (length pairs == 0) ↔ (sorted cmp key_of pairs ≡ [])
+  sorted-empty pairs = (
+    λ test. sorted-none pairs (eqb-true (length pairs) 0 test),
+    λ same. eq-eqb (length pairs) 0 (sym (length-sorted pairs) ∙ ap length same),
+  )

@@ -2,10 +2,11 @@
 use Rattle.std.proofs.Common.{◌≡◌, ℕ, Bool, true, false, List, [], ◌∷◌, refl, ap}
 use Rattle.std.proofs.lemmas.Bool.{true≢false}
 use Rattle.std.specs.Ordering.{nat_cmp, on, flip_args, is_eq}
-use Rattle.std.specs.declared.cmp.Ordering.TheVariants.{Less, Equal}
+use Rattle.std.specs.declared.cmp.Ordering.{Ordering}
+use Rattle.std.specs.declared.cmp.Ordering.TheVariants.{Less, Equal, Greater}
 use Rattle.rs_order.specs.Climbing.{Climbs}
 use Rattle.rs_order.specs.Sorting.{put}
-use Rattle.rs_queue.specs.Queue.{has_key}
+use Rattle.rs_queue.specs.Queue.{by_falling_key, has_key}
 
 -- by rising keys
 abbrev put_rising : ℕ → ℕ → List (ℕ × ℕ) → List (ℕ × ℕ)
@@ -68,3 +69,13 @@ equal_keys rises = equal_is_not_less rises.0.0
   where
     equal_is_not_less : Equal ≡ Less → ⊥
     equal_is_not_less e = true≢false (ap is_eq e)
+
+-- pairs by falling keys, whatever their items are
+abbrev falling_cmp : ℕ × ℕ → ℕ × ℕ → Ordering
+falling_cmp = by_falling_key nat_cmp
+
+lesser_key_is_greater : falling_cmp (3, 70) (7, 30) ≡ Greater
+lesser_key_is_greater = refl
+
+items_tell_nothing_apart : falling_cmp (3, 70) (3, 30) ≡ Equal
+items_tell_nothing_apart = refl

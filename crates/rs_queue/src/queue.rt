@@ -1,28 +1,31 @@
-ghost use Rattle.std.specs.Prelude.{◌≡◌, ◌≤◌, ◌↔◌, true, false, List, [], length, take, drop, reverse, IsTrue, OnOk, OnErr, IfErr};
-ghost use Rattle.std.specs.List.{AllByRecursion, slice_get};
+ghost use Rattle.std.specs.Prelude.{◌≡◌, ◌↔◌, false, List, [], length, drop, IsTrue, OnOk, OnErr, IfErr};
+ghost use Rattle.std.specs.BinaryHeap.{IsHeap, heap_items};
+ghost use Rattle.std.specs.List.{IsDistinct, list_any, slice_get};
 ghost use Rattle.std.specs.Option.{option_map};
-ghost use Rattle.std.specs.Ordering.{is_gt};
+ghost use Rattle.std.specs.Ordering.{eq_by_cmp, is_eq};
 ghost use Rattle.rs_order.specs.Climbing.{Climbs};
-ghost use Rattle.rs_order.specs.Sorting.{put};
-ghost use Rattle.rs_queue.specs.Queue.{has_key};
+ghost use Rattle.rs_order.specs.Sorting.{put, sorted};
+ghost use Rattle.rs_queue.specs.Queue.{by_falling_key, has_key};
 
+use crate::entry::Entry;
 use std::alloc::Global;
+use std::collections::BinaryHeap;
 use std::marker::Model;
 
 /// Pairs of a key and an item, which contracts see as a list in the order of the keys. No two keys are equal by
-/// that order. A push finds its place by halving and moves the pairs that come before its own; a pop moves none.
+/// that order. A push and a pop go along one path of a heap, so their time grows with the logarithm of the number of
+/// pairs.
 #[derive(Drop)]
 pub struct Queue<K: Ord, V> {
-    // The first pair stands last.
-    pairs: Vec<(K, V)>,
+    entries: BinaryHeap<Entry<K, V>>,
 }
 
 impl<K: Ord, V> Model for Queue<K, V> {
     ghost Value = { List (K × V) };
 
-    ghost view = { λ q. reverse q.pairs.items };
+    ghost view = { λ q. sorted K.cmp (λ pair. pair.0) (heap_items q.entries) };
 
-    ghost invariant = { λ q. Climbs K.cmp (λ pair. pair.0) (reverse q.pairs.items) };
+    ghost invariant = { λ q. IsHeap (by_falling_key K.cmp) (heap_items q.entries) × IsDistinct (eq_by_cmp (by_falling_key K.cmp)) (heap_items q.entries) };
 }
 
 impl<K: Ord, V> Queue<K, V> {
@@ -31,7 +34,7 @@ impl<K: Ord, V> Queue<K, V> {
         ensures { result ≡ [] }
     {
         Queue {
-            pairs: Vec::new(alloc),
+            entries: BinaryHeap::new(alloc),
         }
     }
 
@@ -39,22 +42,21 @@ impl<K: Ord, V> Queue<K, V> {
     pub fn len(&self) -> usize
         ensures { result ≡ length self.now }
     {
-        self.pairs.len()
+        self.entries.len()
     }
 
     /// Whether the queue has no pair.
     pub fn is_empty(&self) -> bool
         ensures { IsTrue result ↔ (self.now ≡ []) }
     {
-        self.pairs.is_empty()
+        self.entries.is_empty()
     }
 
-    /// Whether a pair has a key that is equal to this one.
+    /// Whether a pair has a key that is equal to this one. It looks at all pairs.
     pub fn has_key(&self, key: &K) -> bool
         ensures { result ≡ has_key K.cmp key.now self.now }
     {
-        let place = place_of(&self.pairs, key);
-        place < self.pairs.len() && self.pairs[place].0.cmp(key).is_eq()
+        has_entry(self.entries.as_slice(), key)
     }
 
     /// Puts a pair in at the place of its key. Where there is no memory for it, the pair comes back.
@@ -64,10 +66,9 @@ impl<K: Ord, V> Queue<K, V> {
         ensures err { OnErr result (self.new ≡ self.old) }
         ensures pair { IfErr result (λ pair. pair ≡ (key, item)) }
     {
-        let place = place_of(&self.pairs, &key);
-        match self.pairs.insert(place, (key, item)) {
+        match self.entries.push(Entry::new(key, item)) {
             Ok(()) => Ok(()),
-            Err(failed) => Err(failed.value),
+            Err(failed) => Err(failed.value.into_pair()),
         }
     }
 
@@ -76,8 +77,8 @@ impl<K: Ord, V> Queue<K, V> {
         ensures first { option_map (λ key. key.now) result ≡ option_map (λ pair. pair.0) (slice_get self.now 0) }
         ensures ordered { Climbs K.cmp (λ pair. pair.0) self.now }
     {
-        match self.pairs.last() {
-            Some((key, _)) => Some(key),
+        match self.entries.peek() {
+            Some(entry) => Some(entry.key()),
             None => None,
         }
     }
@@ -88,26 +89,16 @@ impl<K: Ord, V> Queue<K, V> {
         ensures rest { self.new ≡ drop 1 self.old }
         ensures ordered { Climbs K.cmp (λ pair. pair.0) self.old }
     {
-        self.pairs.pop()
+        match self.entries.pop() {
+            Some(entry) => Some(entry.into_pair()),
+            None => None,
+        }
     }
 }
 
-/// How many pairs at the front have a key that comes after this one, where keys fall.
-fn place_of<K: Ord, V>(pairs: &[(K, V)], key: &K) -> usize
-    requires { Climbs K.cmp (λ pair. pair.0) (reverse pairs.now) }
-    ensures within { result ≤ length pairs.now }
-    ensures after { AllByRecursion (λ pair. is_gt (K.cmp pair.0 key.now) ≡ true) (take result pairs.now) }
-    ensures rest { AllByRecursion (λ pair. is_gt (K.cmp pair.0 key.now) ≡ false) (drop result pairs.now) }
+/// Whether an entry has a key that is equal to this one.
+fn has_entry<K: Ord, V>(entries: &[Entry<K, V>], key: &K) -> bool
+    ensures { result ≡ list_any (λ pair. is_eq (K.cmp pair.0 key.now)) entries.now }
 {
-    let mut low = 0;
-    let mut high = pairs.len();
-    while low < high {
-        let middle = low + (high - low) / 2;
-        if pairs[middle].0.cmp(key).is_gt() {
-            low = middle + 1;
-        } else {
-            high = middle;
-        }
-    }
-    low
+    entries.iter().any(|entry| entry.key().cmp(key).is_eq())
 }
