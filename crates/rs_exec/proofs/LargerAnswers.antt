@@ -1,15 +1,13 @@
 -- What the asks of a plan give, and what they ask of the scorer, is the same in a larger catalogue.
-use Rattle.std.proofs.Common.{◌≡◌, ◌∙◌, ℕ, zero, suc, ◌-◌, Bool, true, false, List, [], ◌∷◌, ◌++◌, length, map, Some, None, refl, sym, ap}
-use Rattle.std.specs.Prelude.{Option, Result, Err, if◌then◌else◌, not, option_map, slice_get}
+use Rattle.std.proofs.Common.{◌≡◌, ◌∙◌, ℕ, zero, suc, ◌-◌, Bool, true, false, List, [], ◌∷◌, length, map, Some, None, refl, ap}
+use Rattle.std.specs.Prelude.{Option, Err, if◌then◌else◌, not, option_map, slice_get}
 use Rattle.std.specs.List.{AllByRecursion, flat_map}
-use Rattle.std.proofs.lemmas.Option.{slice_get_within}
 use Rattle.rs_order.specs.Asks.{bar_after}
-use Rattle.rs_order.specs.Schedule.{JoinSide, Left, Right, SideAsk}
+use Rattle.rs_order.specs.Schedule.{Left, Right, SideAsk}
 use Rattle.rs_order.proofs.EachFacts.{each-append, each-drop, each-slice_get}
 use Rattle.rs_rank.specs.Keys.{key_cmp}
 use Rattle.rs_rank.specs.Merging.{merge_key}
 use Rattle.rs_rank.specs.Turns.{join_schedule}
-use Rattle.rs_rank.specs.declared.answer.Answer.{Answer}
 use Rattle.rs_rank.specs.declared.key.Key.{Key}
 use Rattle.rs_rank.specs.declared.row.RankRow.{RankRow}
 use Rattle.rs_expr.specs.Scores.{is_score}
@@ -17,8 +15,7 @@ use Rattle.rs_expr.specs.Scoring.{Answering, call_of}
 use Rattle.rs_catalog.specs.Catalogue.{Catalogue}
 use Rattle.rs_catalog.specs.declared.index.BoundArg.{BoundArg}
 use Rattle.rs_query.specs.Answers.{predicate_at}
-use Rattle.rs_query.specs.Questions.{Question, asking, bad_score, call_for, first_of, got_for, ids_for, is_bad, max_for, outcome_for, request_for, through_first}
-use Rattle.rs_query.specs.WellFormed.{IsBlock, IsQuery, IsTerm}
+use Rattle.rs_query.specs.Questions.{Question, asking, call_for, first_of, got_for, ids_for, is_bad, outcome_for, request_for, through_first}
 use Rattle.rs_query.specs.declared.query.Query.{Query}
 use Rattle.rs_query.specs.declared.term.Term.{Term}
 use Rattle.rs_plan.specs.Asks.{asks_alone, child_asks, query_schedule}
@@ -26,11 +23,11 @@ use Rattle.rs_plan.specs.Calls.{own_question, part_of, questions, questions_of_a
 use Rattle.rs_plan.specs.Lists.{World, block_in, key_under, list_of, list_of_plan, weights_in}
 use Rattle.rs_plan.specs.Trees.{Distinct, HashJoin, NestedJoin, Rank, RankScan, SeqScan, SetOperator, PlanTree, terms}
 use Rattle.rs_exec.specs.Asking.{exec_faults, world_of}
-use Rattle.rs_exec.specs.Cursors.{SameAsks, answer_for, answers_of, next_answer}
-use Rattle.rs_exec.specs.declared.fault.ExecFault.{ExecFault}
+use Rattle.rs_exec.specs.Covering.{Covers, CoversBlock, HasPredicate}
+use Rattle.rs_exec.specs.Cursors.{SameAsks, answer_for}
+use Rattle.rs_exec.proofs.CoversFacts.{block-covered}
 use Rattle.rs_exec.proofs.LargerFacts.{argument-same, joined, outputs-same, predicate-same}
 use Rattle.rs_exec.proofs.LargerNodes.{list-same}
-use Rattle.rs_exec.proofs.StepFacts.{block-formed}
 
 each-flat_map : {X Y : Type 0} (P : Y → Type 0) (f : X → List Y) (xs : List X) → ((x : X) → AllByRecursion P (f x)) → AllByRecursion P (flat_map f xs)
 each-flat_map P f [] all = tt
@@ -40,7 +37,7 @@ each-part : {Y : Type 0} (P : Y → Type 0) (f : ℕ → List Y) (n : ℕ) → (
 each-part P f zero all = tt
 each-part P f (suc n) all = each-drop P (length (f n)) (f (suc n)) (all (suc n))
 
-module _ (catalogue more : Catalogue) (answer : Answering) (query : Query) (formed : IsQuery catalogue query) where
+module _ (catalogue more : Catalogue) (answer : Answering) (query : Query) (covered : Covers catalogue query) where
   abbrev small : World
   small = world_of catalogue answer query
 
@@ -48,7 +45,7 @@ module _ (catalogue more : Catalogue) (answer : Answering) (query : Query) (form
   large = world_of (joined catalogue more) answer query
 
   abbrev list-is : (number : ℕ) (tree : PlanTree) → list_of large number tree ≡ list_of small number tree
-  list-is number tree = list-same catalogue more answer query formed number tree
+  list-is number tree = list-same catalogue more answer query covered number tree
 
   -- the children of a node are asked in the same order
   child_asks-same : (number : ℕ) (tree : PlanTree) → (a : ℕ) → child_asks large number tree a ≡ child_asks small number tree a
@@ -88,61 +85,60 @@ module _ (catalogue more : Catalogue) (answer : Answering) (query : Query) (form
   questions-same number (SetOperator left right) a = λ i.
       flat_map (side_part (λ b. questions-same 1 left b i) (λ b. questions-same 2 right b i)) (child_asks-same number (SetOperator left right) a i)
 
-  -- each is of a block of the query and a term of it
-  abbrev IsFormed : Question → Type 0
-  IsFormed q = IsBlock catalogue q.block × IsTerm catalogue q.block q.term
+  -- each is of a block that is covered and a term whose predicate is one of the catalogue
+  abbrev IsCovered : Question → Type 0
+  IsCovered q = CoversBlock catalogue q.block × HasPredicate catalogue q.term
 
-  formed-own : (term : ℕ) (row : Option RankRow) → AllByRecursion IsFormed (own_question small term row)
-  formed-own term None = tt
-  formed-own term (Some row) = go (slice_get (block_in query row.ids.block).terms (term - 1)) refl where
-    go : (t : Option Term) → slice_get (block_in query row.ids.block).terms (term - 1) ≡ t → AllByRecursion IsFormed (own_question small term (Some row))
+  covered-own : (term : ℕ) (row : Option RankRow) → AllByRecursion IsCovered (own_question small term row)
+  covered-own term None = tt
+  covered-own term (Some row) = go (slice_get (block_in query row.ids.block).terms (term - 1)) refl where
+    go : (t : Option Term) → slice_get (block_in query row.ids.block).terms (term - 1) ≡ t → AllByRecursion IsCovered (own_question small term (Some row))
     go None e = rw e tt
     go (Some t) e =
-        let block = block-formed catalogue query row.ids.block formed in
-        rw e ((block, each-slice_get (IsTerm catalogue (block_in query row.ids.block)) (block_in query row.ids.block).terms (term - 1) t block.terms e), tt)
+        let block = block-covered catalogue query row.ids.block covered in
+        rw e ((block, each-slice_get (HasPredicate catalogue) (block_in query row.ids.block).terms (term - 1) t block.terms e), tt)
 
-  formed-side : (left right : ℕ → List Question) → ((a : ℕ) → AllByRecursion IsFormed (left a)) → ((a : ℕ) → AllByRecursion IsFormed (right a)) → (ask : SideAsk)
-      → AllByRecursion IsFormed (side_part left right ask)
-  formed-side left right on_left on_right ask = elim ask.side as (λ side. AllByRecursion IsFormed (side_part left right (record ask { side = side }))) [
-    | Left ↦ each-part IsFormed left ask.number on_left
-    | Right ↦ each-part IsFormed right ask.number on_right
+  covered-side : (left right : ℕ → List Question) → ((a : ℕ) → AllByRecursion IsCovered (left a)) → ((a : ℕ) → AllByRecursion IsCovered (right a)) → (ask : SideAsk)
+      → AllByRecursion IsCovered (side_part left right ask)
+  covered-side left right on_left on_right ask = elim ask.side as (λ side. AllByRecursion IsCovered (side_part left right (record ask { side = side }))) [
+    | Left ↦ each-part IsCovered left ask.number on_left
+    | Right ↦ each-part IsCovered right ask.number on_right
   ]
 
-  formed-questions : (number : ℕ) (tree : PlanTree) → (a : ℕ) → AllByRecursion IsFormed (questions small number tree a)
-  formed-questions number (SeqScan entry) a = tt
-  formed-questions number (RankScan entry term index) a = tt
-  formed-questions number (Rank term child) a =
-      each-flat_map IsFormed (rank_part small term (list_of small number child) (questions small number child)) (child_asks small number (Rank term child) a)
-      (λ ask. each-append IsFormed (part_of (questions small number child) ask.number) (own_question small term (slice_get (list_of small number child) (ask.number - 1)))
-      (each-part IsFormed (questions small number child) ask.number (formed-questions number child)) (formed-own term (slice_get (list_of small number child) (ask.number - 1))))
-  formed-questions number (Distinct child) a =
-      each-flat_map IsFormed (λ (ask : SideAsk). part_of (questions small number child) ask.number) (child_asks small number (Distinct child) a)
-      (λ ask. each-part IsFormed (questions small number child) ask.number (formed-questions number child))
-  formed-questions number (HashJoin left right) a =
-      each-flat_map IsFormed (side_part (questions small number left) (questions small number right)) (child_asks small number (HashJoin left right) a)
-      (formed-side (questions small number left) (questions small number right) (formed-questions number left) (formed-questions number right))
-  formed-questions number (NestedJoin left right) a =
-      each-flat_map IsFormed (side_part (questions small number left) (questions small number right)) (child_asks small number (NestedJoin left right) a)
-      (formed-side (questions small number left) (questions small number right) (formed-questions number left) (formed-questions number right))
-  formed-questions number (SetOperator left right) a =
-      each-flat_map IsFormed (side_part (questions small 1 left) (questions small 2 right)) (child_asks small number (SetOperator left right) a)
-      (formed-side (questions small 1 left) (questions small 2 right) (formed-questions 1 left) (formed-questions 2 right))
+  covered-questions : (number : ℕ) (tree : PlanTree) → (a : ℕ) → AllByRecursion IsCovered (questions small number tree a)
+  covered-questions number (SeqScan entry) a = tt
+  covered-questions number (RankScan entry term index) a = tt
+  covered-questions number (Rank term child) a =
+      each-flat_map IsCovered (rank_part small term (list_of small number child) (questions small number child)) (child_asks small number (Rank term child) a)
+      (λ ask. each-append IsCovered (part_of (questions small number child) ask.number) (own_question small term (slice_get (list_of small number child) (ask.number - 1)))
+      (each-part IsCovered (questions small number child) ask.number (covered-questions number child)) (covered-own term (slice_get (list_of small number child) (ask.number - 1))))
+  covered-questions number (Distinct child) a =
+      each-flat_map IsCovered (λ (ask : SideAsk). part_of (questions small number child) ask.number) (child_asks small number (Distinct child) a)
+      (λ ask. each-part IsCovered (questions small number child) ask.number (covered-questions number child))
+  covered-questions number (HashJoin left right) a =
+      each-flat_map IsCovered (side_part (questions small number left) (questions small number right)) (child_asks small number (HashJoin left right) a)
+      (covered-side (questions small number left) (questions small number right) (covered-questions number left) (covered-questions number right))
+  covered-questions number (NestedJoin left right) a =
+      each-flat_map IsCovered (side_part (questions small number left) (questions small number right)) (child_asks small number (NestedJoin left right) a)
+      (covered-side (questions small number left) (questions small number right) (covered-questions number left) (covered-questions number right))
+  covered-questions number (SetOperator left right) a =
+      each-flat_map IsCovered (side_part (questions small 1 left) (questions small 2 right)) (child_asks small number (SetOperator left right) a)
+      (covered-side (questions small 1 left) (questions small 2 right) (covered-questions 1 left) (covered-questions 2 right))
 
   -- so the calls are the same, and what is told of their answers
-  predicate-is : (q : Question) → IsFormed q → predicate_at (joined catalogue more) q.term.predicate ≡ predicate_at catalogue q.term.predicate
-  predicate-is q is =
-      predicate-same catalogue more q.term.predicate (slice_get_within catalogue.predicates q.term.predicate is.1.predicate is.1.has_predicate)
+  predicate-is : (q : Question) → IsCovered q → predicate_at (joined catalogue more) q.term.predicate ≡ predicate_at catalogue q.term.predicate
+  predicate-is q is = predicate-same catalogue more q.term.predicate is.1
 
-  call-same : (q : Question) → IsFormed q → call_for (joined catalogue more) q ≡ call_for catalogue q
+  call-same : (q : Question) → IsCovered q → call_for (joined catalogue more) q ≡ call_for catalogue q
   call-same q is = λ i. call_of (predicate-is q is i) (map (λ (a : BoundArg). argument-same catalogue more q.block is.0 q.rows a i) q.term.args)
 
-  got-same : (q : Question) → IsFormed q → got_for answer (joined catalogue more) q ≡ got_for answer catalogue q
+  got-same : (q : Question) → IsCovered q → got_for answer (joined catalogue more) q ≡ got_for answer catalogue q
   got-same q is = λ i. answer (predicate-is q is i) (map (λ (a : BoundArg). argument-same catalogue more q.block is.0 q.rows a i) q.term.args)
 
-  bad-same : (q : Question) → IsFormed q → is_bad answer (joined catalogue more) q ≡ is_bad answer catalogue q
+  bad-same : (q : Question) → IsCovered q → is_bad answer (joined catalogue more) q ≡ is_bad answer catalogue q
   bad-same q is = λ i. not (is_score (predicate-is q is i).max (got-same q is i))
 
-  requests-same : (qs : List Question) → AllByRecursion IsFormed qs
+  requests-same : (qs : List Question) → AllByRecursion IsCovered qs
       → map (request_for exec_faults (joined catalogue more)) (through_first (is_bad answer (joined catalogue more)) qs) ≡ map (request_for exec_faults catalogue) (through_first (is_bad answer catalogue) qs)
   requests-same [] each = refl
   requests-same (q ∷ qs) each =
@@ -155,7 +151,7 @@ module _ (catalogue more : Catalogue) (answer : Answering) (query : Query) (form
         go rest true = refl
         go rest false = ap (λ others. request_for exec_faults catalogue q ∷ others) rest
 
-  outcome-same : {A : Type 0} (qs : List Question) → AllByRecursion IsFormed qs → (value : A)
+  outcome-same : {A : Type 0} (qs : List Question) → AllByRecursion IsCovered qs → (value : A)
       → outcome_for exec_faults answer (joined catalogue more) (first_of (is_bad answer (joined catalogue more)) qs) value ≡ outcome_for exec_faults answer catalogue (first_of (is_bad answer catalogue) qs) value
   outcome-same [] each value = refl
   outcome-same {A} (q ∷ qs) each value =
@@ -171,7 +167,7 @@ module _ (catalogue more : Catalogue) (answer : Answering) (query : Query) (form
   answer_for-same = λ i row. record {
     ids = row.ids;
     score = row.sum;
-    values = outputs-same catalogue more (block_in query row.ids.block) (block-formed catalogue query row.ids.block formed) i row.ids.rows;
+    values = outputs-same catalogue more (block_in query row.ids.block) (block-covered catalogue query row.ids.block covered) i row.ids.rows;
   }
 
   pub asks-larger : (tree : PlanTree) → SameAsks large small tree
@@ -179,7 +175,7 @@ module _ (catalogue more : Catalogue) (answer : Answering) (query : Query) (form
     list = list-is 1 tree;
     rows = λ i. map (answer_for-same i) (list-is 1 tree i);
     asks = λ n.
-        let each = each-part IsFormed (questions small 1 tree) (suc n) (formed-questions 1 tree) in
+        let each = each-part IsCovered (questions small 1 tree) (suc n) (covered-questions 1 tree) in
         let qs = questions_of_ask small 1 tree (suc n) in
         let value = option_map (answer_for small) (slice_get (list_of_plan small tree) n) in
         (λ i. asking exec_faults answer (joined catalogue more) (part_of (λ b. questions-same 1 tree b i) (suc n))

@@ -41,7 +41,9 @@ use Rattle.rs_query.specs.declared.term.Term.{Term}
 use Rattle.rs_order.proofs.EachFacts.{each-slice_get, each-weaker}
 use Rattle.rs_plan.specs.Plans.{IsComplete, IsPart, IsPlan, IsRankScan, IsSetPlan}
 use Rattle.rs_plan.specs.Trees.{Distinct, HashJoin, NestedJoin, Rank, RankScan, SeqScan, SetOperator, PlanTree}
+use Rattle.rs_exec.specs.Covering.{CoversBlock, HasPredicate}
 use Rattle.rs_exec.specs.Indexes.{HoldIndexes, Holds}
+use Rattle.rs_exec.proofs.CoversFacts.{covers-block}
 
 -- a catalogue with the tables, predicates and indexes of another one behind its own
 abbrev pub joined : Catalogue → Catalogue → Catalogue
@@ -122,9 +124,9 @@ module _ (catalogue more : Catalogue) where
       ap (λ (found : Option PredicateDef). unwrap_or found (record { name = []; params = []; max = 0; cost = 0; formula = Constant (pos 0) }))
       (slice_get-front catalogue.predicates more.predicates number within)
 
-  module _ (block : Block) (is : IsBlock catalogue block) where
+  module _ (block : Block) (covered : CoversBlock catalogue block) where
     tables-same : entry_table larger block ≡ entry_table catalogue block
-    tables-same = λ i entry. tables-at block.from (entry - 1) is.entries i
+    tables-same = λ i entry. tables-at block.from (entry - 1) covered.entries i
 
     -- so all that is read of them is the same
     pub size-same : size_of larger block ≡ size_of catalogue block
@@ -214,8 +216,8 @@ module _ (catalogue more : Catalogue) where
       max = t.max;
     }
 
-    block-larger : IsBlock larger block
-    block-larger = record {
+    block-larger : IsBlock catalogue block → IsBlock larger block
+    block-larger is = record {
       some_entries = is.some_entries;
       most_entries = is.most_entries;
       entries = each-weaker (IsFromEntry catalogue) (IsFromEntry larger) entry-larger block.from is.entries;
@@ -233,24 +235,24 @@ module _ (catalogue more : Catalogue) where
     argument-same rows (arg.Int n) = refl
     argument-same rows (arg.Text t) = refl
 
-    worth-same : (answer : Answering) (rows : List ℕ) (term : Term) → IsTerm catalogue block term → worth_of answer larger block rows term ≡ worth_of answer catalogue block rows term
-    worth-same answer rows term t =
-        let predicate = predicate-same term.predicate (slice_get_within catalogue.predicates term.predicate t.predicate t.has_predicate) in
+    worth-same : (answer : Answering) (rows : List ℕ) (term : Term) → HasPredicate catalogue term → worth_of answer larger block rows term ≡ worth_of answer catalogue block rows term
+    worth-same answer rows term has =
+        let predicate = predicate-same term.predicate has in
         λ i. clamped (predicate i).max (answer (predicate i) (map (λ (a : BoundArg). argument-same rows a i) term.args))
 
-    worths-of : (answer : Answering) (rows : List ℕ) (terms : List Term) → AllByRecursion (IsTerm catalogue block) terms
+    worths-of : (answer : Answering) (rows : List ℕ) (terms : List Term) → AllByRecursion (HasPredicate catalogue) terms
         → map (worth_of answer larger block rows) terms ≡ map (worth_of answer catalogue block rows) terms
     worths-of answer rows [] are = refl
     worths-of answer rows (term ∷ terms) are = λ i. worth-same answer rows term are.0 i ∷ worths-of answer rows terms are.1 i
 
     pub worths-same : (answer : Answering) (rows : List ℕ) → worths_of answer larger block rows ≡ worths_of answer catalogue block rows
-    worths-same answer rows = worths-of answer rows block.terms is.terms
+    worths-same answer rows = worths-of answer rows block.terms covered.terms
 
     -- so its rows have the same values and scores
     pub outputs-same : outputs_of larger block ≡ outputs_of catalogue block
     outputs-same = λ i rows. map (value-same i rows) block.items
 
-    score-of : (answer : Answering) (rows : List ℕ) (terms : List Term) → AllByRecursion (IsTerm catalogue block) terms
+    score-of : (answer : Answering) (rows : List ℕ) (terms : List Term) → AllByRecursion (HasPredicate catalogue) terms
         → score_of answer larger block rows terms ≡ score_of answer catalogue block rows terms
     score-of answer rows [] are = refl
     score-of answer rows (term ∷ terms) are = λ i. term.weight * worth-same answer rows term are.0 i + score-of answer rows terms are.1 i
@@ -258,7 +260,7 @@ module _ (catalogue more : Catalogue) where
     answer_row-same : (answer : Answering) → answer_row answer larger block ≡ answer_row answer catalogue block
     answer_row-same answer = λ i number rows. record {
       ids = record { block = number; mask = all_entries block; rows = rows };
-      score = score-of answer rows block.terms is.terms i;
+      score = score-of answer rows block.terms covered.terms i;
       values = outputs-same i rows;
     }
 
@@ -287,9 +289,8 @@ module _ (catalogue more : Catalogue) where
           let second = and_parts (index.def.predicate == scans.term.predicate) (same_args entry scans.term.args index.def.args) first.1 in
           let is_table = eqb-true index.def.table scans.table first.0 in
           let is_predicate = eqb-true index.def.predicate scans.term.predicate second.0 in
-          let from = each-slice_get (IsFromEntry catalogue) block.from (entry - 1) (scans.table, scans.alias) is.entries scans.from in
-          let t = each-slice_get (IsTerm catalogue block) block.terms (term - 1) scans.term is.terms scans.is_term.there in
-          let there = slice_get_within catalogue.predicates scans.term.predicate t.predicate t.has_predicate in
+          let from = each-slice_get (IsFromEntry catalogue) block.from (entry - 1) (scans.table, scans.alias) covered.entries scans.from in
+          let there = each-slice_get (HasPredicate catalogue) block.terms (term - 1) scans.term covered.terms scans.is_term.there in
           let tables = slice_get-front catalogue.tables more.tables index.def.table (omega arith) in
           let predicate = predicate-same index.def.predicate (omega arith) in
           λ i. making_of answer (predicate i) index.def.args (unwrap_or (option_map (λ (t : NamedTable). t.table.rows) (tables i)) [])
@@ -310,14 +311,16 @@ module _ (catalogue more : Catalogue) where
 
   -- queries stay queries
   pub query-larger : (query : Query) → IsQuery catalogue query → IsQuery larger query
-  query-larger (One block limit) is = (block-larger block is.0, is.1, is.2)
+  query-larger (One block limit) is = (block-larger block (covers-block catalogue block is.0) is.0, is.1, is.2)
   query-larger (Set op left right limit) is =
-      let both = is.0 in (
+      let both = is.0 in
+      let left_covered = covers-block catalogue left both.left_block in
+      let right_covered = covers-block catalogue right both.right_block in (
         record {
-          left_block = block-larger left both.left_block;
-          right_block = block-larger right both.right_block;
-          kinds = ap (λ (kind_of : ℕ × ℕ → Option Kind). map kind_of left.items) (kind-same left both.left_block) ∙ both.kinds
-              ∙ sym (ap (λ (kind_of : ℕ × ℕ → Option Kind). map kind_of right.items) (kind-same right both.right_block));
+          left_block = block-larger left left_covered both.left_block;
+          right_block = block-larger right right_covered both.right_block;
+          kinds = ap (λ (kind_of : ℕ × ℕ → Option Kind). map kind_of left.items) (kind-same left left_covered) ∙ both.kinds
+              ∙ sym (ap (λ (kind_of : ℕ × ℕ → Option Kind). map kind_of right.items) (kind-same right right_covered));
           terms = both.terms;
         },
         is.1,

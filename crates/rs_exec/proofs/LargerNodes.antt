@@ -17,7 +17,6 @@ use Rattle.rs_mu.specs.Stands.{state_after}
 use Rattle.rs_catalog.specs.Catalogue.{Catalogue}
 use Rattle.rs_query.specs.Answers.{rows_of, set_base}
 use Rattle.rs_query.specs.Views.{all_rows}
-use Rattle.rs_query.specs.WellFormed.{IsBlock, IsQuery}
 use Rattle.rs_query.specs.declared.block.Block.{Block}
 use Rattle.rs_query.specs.declared.query.Query.{Query}
 use Rattle.rs_query.specs.declared.query.Query.TheVariants.{One, Set}
@@ -37,6 +36,7 @@ use Rattle.rs_rank.specs.Turns.{join_schedule}
 use Rattle.rs_ripple.specs.After.{joined_after}
 use Rattle.rs_ripple.specs.Joined.{Joined}
 use Rattle.rs_exec.specs.Cores.{core_like, tree_with, with_values}
+use Rattle.rs_exec.specs.Covering.{Covers, CoversBlock}
 use Rattle.rs_exec.specs.Joining.{side_for}
 use Rattle.rs_exec.specs.Indexes.{HoldIndexes}
 use Rattle.rs_exec.specs.Nodes.{asked_in, tree_in}
@@ -49,16 +49,16 @@ use Rattle.rs_exec.specs.declared.join_core.JoinCore.{JoinCore}
 use Rattle.rs_exec.specs.declared.join_core.JoinCore.TheVariants.{Hash, Nested}
 use Rattle.rs_exec.specs.declared.node.Node.{Node}
 use Rattle.rs_exec.specs.declared.node.Node.TheVariants as node
+use Rattle.rs_exec.proofs.CoversFacts.{block-covered, covers}
 use Rattle.rs_exec.proofs.LargerFacts.{base-same, combinations-same, indexes-larger, joined, joins-same, left_values-same, outputs-same, plan-larger, query-larger, ranking-same, right_values-same, size-same, worths-same}
 use Rattle.rs_exec.proofs.PlacesFacts.{part-of, plan-part}
-use Rattle.rs_exec.proofs.StepFacts.{block-formed}
 
 -- a query sees the same rows of its tables
-view-same : (catalogue more : Catalogue) (query : Query) → IsQuery catalogue query → all_rows (joined catalogue more) query ≡ all_rows catalogue query
-view-same catalogue more (One block limit) is = λ i. record { first = map (size-same catalogue more block is.0 i) (1 ∷ 2 ∷ 3 ∷ 4 ∷ 5 ∷ 6 ∷ []); second = [] }
-view-same catalogue more (Set op left right limit) is = λ i. record {
-  first = map (size-same catalogue more left is.0.left_block i) (1 ∷ 2 ∷ 3 ∷ 4 ∷ 5 ∷ 6 ∷ []);
-  second = map (size-same catalogue more right is.0.right_block i) (1 ∷ 2 ∷ 3 ∷ 4 ∷ 5 ∷ 6 ∷ []);
+view-same : (catalogue more : Catalogue) (query : Query) → Covers catalogue query → all_rows (joined catalogue more) query ≡ all_rows catalogue query
+view-same catalogue more (One block limit) covered = λ i. record { first = map (size-same catalogue more block covered i) (1 ∷ 2 ∷ 3 ∷ 4 ∷ 5 ∷ 6 ∷ []); second = [] }
+view-same catalogue more (Set op left right limit) covered = λ i. record {
+  first = map (size-same catalogue more left covered.0 i) (1 ∷ 2 ∷ 3 ∷ 4 ∷ 5 ∷ 6 ∷ []);
+  second = map (size-same catalogue more right covered.1 i) (1 ∷ 2 ∷ 3 ∷ 4 ∷ 5 ∷ 6 ∷ []);
 }
 
 -- the sides of a join are parts of a plan, whichever way it is done
@@ -67,12 +67,12 @@ part-with catalogue block (Nested joined) l r part = (part.0, part.1)
 part-with catalogue block (Hash hashed) l r part = (part.0, part.1)
 
 -- and has the same rows
-rows-same : (catalogue more : Catalogue) (answer : Answering) (query : Query) → IsQuery catalogue query
+rows-same : (catalogue more : Catalogue) (answer : Answering) (query : Query) → Covers catalogue query
     → rows_of answer (joined catalogue more) query (all_rows (joined catalogue more) query) ≡ rows_of answer catalogue query (all_rows catalogue query)
-rows-same catalogue more answer (One block limit) is = λ i. base-same catalogue more block is.0 answer 1 i (view-same catalogue more (One block limit) is i).first
-rows-same catalogue more answer (Set op left right limit) is = λ i.
-    set_base op (base-same catalogue more left is.0.left_block answer 1 i (view-same catalogue more (Set op left right limit) is i).first)
-    (base-same catalogue more right is.0.right_block answer 2 i (view-same catalogue more (Set op left right limit) is i).second)
+rows-same catalogue more answer (One block limit) covered = λ i. base-same catalogue more block covered answer 1 i (view-same catalogue more (One block limit) covered i).first
+rows-same catalogue more answer (Set op left right limit) covered = λ i.
+    set_base op (base-same catalogue more left covered.0 answer 1 i (view-same catalogue more (Set op left right limit) covered i).first)
+    (base-same catalogue more right covered.1 answer 2 i (view-same catalogue more (Set op left right limit) covered i).second)
 
 -- a join's part of a plan is one of a block
 part-joined : (catalogue : Catalogue) (query : Query) (number : ℕ) (core : JoinCore) (left right : PlanTree) → IsPartOf catalogue query number (tree_with core left right)
@@ -87,36 +87,36 @@ side-parts catalogue (One block limit) number left right part = absurd part
 side-parts catalogue (Set op l r limit) number left right part = (part.1.part, part.2.part)
 
 -- the indexes of a part of a plan go on to hold the answers
-indexes_of-larger : (catalogue more : Catalogue) (query : Query) (number : ℕ) → IsQuery catalogue query → (answer : Answering) (tree : PlanTree) → IsPartOf catalogue query number tree
+indexes_of-larger : (catalogue more : Catalogue) (query : Query) (number : ℕ) → Covers catalogue query → (answer : Answering) (tree : PlanTree) → IsPartOf catalogue query number tree
     → HoldIndexes answer catalogue tree → HoldIndexes answer (joined catalogue more) tree
-indexes_of-larger catalogue more query number formed answer (SeqScan entry) part holds = holds
-indexes_of-larger catalogue more query number formed answer (RankScan entry term index) part holds =
-    indexes-larger catalogue more (block_in query number) (block-formed catalogue query number formed) answer (RankScan entry term index) part holds
-indexes_of-larger catalogue more query number formed answer (Rank term child) part holds = indexes_of-larger catalogue more query number formed answer child part.0 holds
-indexes_of-larger catalogue more query number formed answer (HashJoin left right) part holds =
-    indexes-larger catalogue more (block_in query number) (block-formed catalogue query number formed) answer (HashJoin left right) part holds
-indexes_of-larger catalogue more query number formed answer (NestedJoin left right) part holds =
-    indexes-larger catalogue more (block_in query number) (block-formed catalogue query number formed) answer (NestedJoin left right) part holds
-indexes_of-larger catalogue more query number formed answer (Distinct child) part holds =
-    indexes-larger catalogue more (block_in query number) (block-formed catalogue query number formed) answer (Distinct child) part holds
-indexes_of-larger catalogue more query number formed answer (SetOperator left right) part holds =
+indexes_of-larger catalogue more query number covered answer (SeqScan entry) part holds = holds
+indexes_of-larger catalogue more query number covered answer (RankScan entry term index) part holds =
+    indexes-larger catalogue more (block_in query number) (block-covered catalogue query number covered) answer (RankScan entry term index) part holds
+indexes_of-larger catalogue more query number covered answer (Rank term child) part holds = indexes_of-larger catalogue more query number covered answer child part.0 holds
+indexes_of-larger catalogue more query number covered answer (HashJoin left right) part holds =
+    indexes-larger catalogue more (block_in query number) (block-covered catalogue query number covered) answer (HashJoin left right) part holds
+indexes_of-larger catalogue more query number covered answer (NestedJoin left right) part holds =
+    indexes-larger catalogue more (block_in query number) (block-covered catalogue query number covered) answer (NestedJoin left right) part holds
+indexes_of-larger catalogue more query number covered answer (Distinct child) part holds =
+    indexes-larger catalogue more (block_in query number) (block-covered catalogue query number covered) answer (Distinct child) part holds
+indexes_of-larger catalogue more query number covered answer (SetOperator left right) part holds =
     let parts = side-parts catalogue query number left right part in (
-      indexes-larger catalogue more (block_in query 1) (block-formed catalogue query 1 formed) answer left parts.0 holds.0,
-      indexes-larger catalogue more (block_in query 2) (block-formed catalogue query 2 formed) answer right parts.1 holds.1,
+      indexes-larger catalogue more (block_in query 1) (block-covered catalogue query 1 covered) answer left parts.0 holds.0,
+      indexes-larger catalogue more (block_in query 2) (block-covered catalogue query 2 covered) answer right parts.1 holds.1,
     )
 
-module _ (catalogue more : Catalogue) (answer : Answering) (query : Query) (formed : IsQuery catalogue query) where
+module _ (catalogue more : Catalogue) (answer : Answering) (query : Query) (covered : Covers catalogue query) where
   abbrev small : World
   small = world_of catalogue answer query
 
   abbrev large : World
   large = world_of (joined catalogue more) answer query
 
-  block-is : (number : ℕ) → IsBlock catalogue (block_in query number)
-  block-is number = block-formed catalogue query number formed
+  block-is : (number : ℕ) → CoversBlock catalogue (block_in query number)
+  block-is number = block-covered catalogue query number covered
 
   sizes-same : (number : ℕ) → sizes_in large number ≡ sizes_in small number
-  sizes-same number = λ i. if number == 1 then (view-same catalogue more query formed i).first else (view-same catalogue more query formed i).second
+  sizes-same number = λ i. if number == 1 then (view-same catalogue more query covered i).first else (view-same catalogue more query covered i).second
 
   size_at-same : (number entry : ℕ) → size_at large number entry ≡ size_at small number entry
   size_at-same number entry = λ i. unwrap_or (slice_get (sizes-same number i) (entry - 1)) 0
@@ -138,7 +138,7 @@ module _ (catalogue more : Catalogue) (answer : Answering) (query : Query) (form
   sources-same number (NestedJoin left right) = ids-same number (bit_or (entries left) (entries right))
   sources-same number (Distinct child) = λ i.
       map (λ (row : Answer). row.ids) (base-same catalogue more (block_in query number) (block-is number) answer number i (sizes-same number i))
-  sources-same number (SetOperator left right) = λ i. map (λ (row : Answer). row.ids) (rows-same catalogue more answer query formed i)
+  sources-same number (SetOperator left right) = λ i. map (λ (row : Answer). row.ids) (rows-same catalogue more answer query covered i)
 
   row-same : (mask : ℕ) → row_under large mask ≡ row_under small mask
   row-same mask = λ i ids. record { ids = ids; sum = evaluated (weights_in small) mask (worth-is ids i) }
@@ -334,11 +334,12 @@ cursor-larger catalogue more answer cursor stands =
     let query = cursor.query in
     let tree = plan_of cursor in
     let part = plan-part catalogue query tree stands.plan in
+    let covered = covers catalogue query stands.query in
     record {
       sound = stands.sound;
       query = query-larger catalogue more query stands.query;
       plan = plan-larger catalogue more query tree stands.plan;
-      indexes = indexes_of-larger catalogue more query 1 stands.query answer tree part stands.indexes;
-      nodes = stands-larger catalogue more answer query stands.query 1 cursor.root part stands.nodes;
-      asks = subst (λ (rows : List RankRow). asks_of cursor ≤ suc (length rows)) (sym (list-same catalogue more answer query stands.query 1 tree)) stands.asks;
+      indexes = indexes_of-larger catalogue more query 1 covered answer tree part stands.indexes;
+      nodes = stands-larger catalogue more answer query covered 1 cursor.root part stands.nodes;
+      asks = subst (λ (rows : List RankRow). asks_of cursor ≤ suc (length rows)) (sym (list-same catalogue more answer query covered 1 tree)) stands.asks;
     }

@@ -6,6 +6,7 @@ mod FeedFacts
 mod BlockFacts
 mod CoreFacts
 mod CountFacts
+pub mod CoversFacts
 mod CursorFacts
 mod CycleFacts
 mod DistinctCycleFacts

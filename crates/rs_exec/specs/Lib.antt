@@ -1,6 +1,7 @@
 pub mod Asked
 pub mod Asking
 pub mod Cores
+pub mod Covering
 pub mod Cursors
 pub mod Distincts
 pub mod Drawing

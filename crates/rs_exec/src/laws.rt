@@ -20,6 +20,7 @@ ghost use Rattle.rs_filter.specs.Matching.{IsView};
 ghost use Rattle.rs_plan.specs.Lists.{World, list_of_plan, numbered_block, sizes_in, weights_in};
 ghost use Rattle.rs_plan.specs.Plans.{IsPlan};
 ghost use Rattle.rs_plan.specs.Trees.{PlanTree};
+ghost use Rattle.rs_exec.specs.Covering.{Covers};
 ghost use Rattle.rs_exec.specs.Cursors.{CursorState, HasFewTerms, SameAsks, StandsFor, answers_of};
 ghost use Rattle.rs_exec.specs.Asking.{world_of};
 ghost use Rattle.rs_query.specs.declared.query.Query.{Query};
@@ -57,12 +58,13 @@ pub fn cursors_stand_in_larger_catalogues()
         → StandsFor catalogue answer cursor → StandsFor (with_index def ranking catalogue) answer cursor }
 {}
 
-/// What joins the catalogue changes nothing of what the asks of a plan give, and of the calls that they make.
+/// What joins the catalogue changes nothing of what the asks of a plan give, and of the calls that they make, where the catalogue has
+/// the tables of the query's FROM entries and the predicates of its terms.
 pub fn plans_ask_the_same_in_larger_catalogues()
     ensures tables { (catalogue : Catalogue) (answer : Answering) (query : Query) (tree : PlanTree) (name : List ℕ) (table : Relation)
-        → IsQuery catalogue query → SameAsks (world_of (with_table name table catalogue) answer query) (world_of catalogue answer query) tree }
+        → Covers catalogue query → SameAsks (world_of (with_table name table catalogue) answer query) (world_of catalogue answer query) tree }
     ensures predicates { (catalogue : Catalogue) (answer : Answering) (query : Query) (tree : PlanTree) (predicate : PredicateDef)
-        → IsQuery catalogue query → SameAsks (world_of (with_predicate predicate catalogue) answer query) (world_of catalogue answer query) tree }
+        → Covers catalogue query → SameAsks (world_of (with_predicate predicate catalogue) answer query) (world_of catalogue answer query) tree }
     ensures indexes { (catalogue : Catalogue) (answer : Answering) (query : Query) (tree : PlanTree) (def : IndexDef) (ranking : List ScoredRow)
-        → IsQuery catalogue query → SameAsks (world_of (with_index def ranking catalogue) answer query) (world_of catalogue answer query) tree }
+        → Covers catalogue query → SameAsks (world_of (with_index def ranking catalogue) answer query) (world_of catalogue answer query) tree }
 {}
