@@ -1,7 +1,7 @@
 -- What is so of a catalogue and stays so behind what joins it is so from statement to statement: its rank indexes hold the scorer's answers, and the open cursors
 -- stand for it.
-use Rattle.std.proofs.Common.{ℕ, ◌≡◌, Bool, true, false, List, [], ◌∷◌, length, refl, sym, ap, subst, inl}
-use Rattle.std.specs.Prelude.{Option, Result, Ok, Err, zero, suc, if◌then◌else◌}
+use Rattle.std.proofs.Common.{ℕ, ◌≡◌, List, [], ◌∷◌, length, refl, sym, ap, subst, inl}
+use Rattle.std.specs.Prelude.{Option, Result, Ok, Err, zero, suc}
 use Rattle.rs_value.specs.Results.{◌>>=◌}
 use Rattle.rs_expr.specs.Scoring.{Answering}
 use Rattle.rs_rank.specs.declared.answer.Answer.{Answer}

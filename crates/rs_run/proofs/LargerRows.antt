@@ -14,9 +14,8 @@ use Rattle.rs_exec.specs.Cursors.{SameAsks, next_answer}
 use Rattle.rs_exec.specs.declared.fault.ExecFault.{ExecFault}
 use Rattle.rs_run.specs.declared.fault.Fault.{Fault}
 use Rattle.rs_run.specs.Planned.{ask_count, ask_outcome, ask_step, asked_step, asks_from, next_asks}
-use Rattle.rs_run.specs.Run.{Event}
 use Rattle.rs_run.specs.Sequence.{Step, still, then_step}
-use Rattle.rs_run.specs.Session.{ByPlan, OpenCursor, Ready, Source, State, fetched_from, with_asks}
+use Rattle.rs_run.specs.Session.{ByPlan, Ready, Source, State, fetched_from, with_asks}
 
 -- two steps with the same events that both end well, or neither
 pub record Alike {S T : Type 0} (a : Step S) (b : Step T) : Type 0 where

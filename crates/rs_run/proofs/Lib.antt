@@ -4,6 +4,7 @@ mod WorkedSession
 pub mod RanFacts
 pub mod FetchFacts
 pub mod RunFacts
+pub mod GeneratedFacts
 pub mod LineFacts
 pub mod RowFacts
 pub mod PrintFacts
@@ -30,6 +31,7 @@ pub mod TextFacts
 pub mod OwnFaults
 pub mod OutcomeFacts
 pub mod OneRun
+pub mod SameFetches
 pub mod SamePuts
 pub mod LargerRows
 pub mod SessionFacts

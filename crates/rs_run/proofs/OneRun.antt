@@ -1,11 +1,12 @@
 -- Words have one run at most, where a name has one file at most.
 use Rattle.std.proofs.Common.{ℕ, ◌≡◌, ◌∙◌, List, [], ◌∷◌, sym, ap, subst, arith}
-use Rattle.std.specs.Prelude.{suc, Option, Some, Result, Ok, Err}
+use Rattle.std.specs.Prelude.{Option, Some, Result, Ok, Err}
 use Rattle.rs_lex.proofs.SpellingFacts.{Spells-unique, RefusesBytes-unique, Spells-not_refused}
 use Rattle.rs_lex.specs.Spelling as lex
 use Rattle.rs_lex.specs.declared.fault.LexFault.{LexFault}
 use Rattle.rs_lex.specs.declared.token.Token.{Token}
 use Rattle.rs_outside.specs.Files.{FilesTold}
+use Rattle.rs_gen.specs.Files.{script_name}
 use Rattle.rs_syntax.specs.Scripts.{IsSound, Parses, Refuses}
 use Rattle.rs_syntax.specs.Syntax.{Command, CreateTable, CreatePredicate, CreateRankIndex, Ask, Declare, Close, Explain, ExplainAnalyze}
 use Rattle.rs_syntax.specs.Syntax as syntax
@@ -19,14 +20,16 @@ use Rattle.rs_bind.specs.Names.{columns_of}
 use Rattle.rs_run.specs.declared.fault.Fault.{Fault}
 use Rattle.rs_run.specs.declared.fault.Fault.TheVariants.{Script}
 use Rattle.rs_run.specs.declared.script_fault.ScriptFault.TheVariants.{Lex, Parse}
-use Rattle.rs_run.specs.Words.{Form, NoForm, RunScript, Top, form_of}
+use Rattle.rs_run.specs.Words.{Form, NoForm, RunGenerated, RunScript, Top, form_of}
 use Rattle.rs_run.specs.Top.{top_lines}
 use Rattle.rs_run.specs.Plain.{HasTokens, HasStatements, ScriptRuns, TextRuns, unlexed, unparsed, runs, unread, read, source_of}
 use Rattle.rs_expr.specs.Scoring.{Answering}
 use Rattle.rs_run.specs.Run.{Event, Fetch, Finds, Run, behind, fails, fetch_then, finds_in, found_in}
+use Rattle.rs_run.specs.Generated.{finds_generated, unfetched}
 use Rattle.rs_run.specs.Running.{IsRun, IsRunOf}
 use Rattle.rs_run.specs.Sequence.{RunOf, RunsOn, Step}
 use Rattle.rs_run.specs.declared.evaluating.Evaluating.{Evaluating}
+use Rattle.rs_run.specs.declared.evaluating.Evaluating.TheVariants.{Planned}
 use Rattle.rs_run.specs.Statements.{Does, DoesTable, table_step, with_room}
 use Rattle.rs_run.specs.Session.{DoesInSession, State, StatementsRun, beside_cursors, nothing}
 
@@ -141,6 +144,10 @@ IsRunOf-one : (finds : Finds) → OneFile finds → (answer : Answering) (form :
 IsRunOf-one finds one answer (Top top) run other p q = p.2 ∙ ap (λ there. fetch_then top.file (top_lines top there)) (one top.file p.0 q.0 p.1 q.1) ∙ sym q.2
 IsRunOf-one finds one answer (RunScript name evaluating) run other p q =
     ScriptRuns-one finds one (StatementsRun finds answer evaluating) (Statements-one finds one answer evaluating) name run other p q
+IsRunOf-one finds one answer (RunGenerated number rows) run other p q =
+    let own : OneFile (finds_generated number rows) = λ name a b p q. sym p ∙ q in
+    p.2 ∙ ap unfetched (ScriptRuns-one (finds_generated number rows) own (StatementsRun (finds_generated number rows) answer (Planned number))
+    (Statements-one (finds_generated number rows) own answer (Planned number)) script_name p.0 q.0 p.1 q.1) ∙ sym q.2
 IsRunOf-one finds one answer NoForm run other p q = p ∙ sym q
 
 pub IsRun-one : (finds : Finds) → OneFile finds → (answer : Answering) (words : List (List ℕ)) (run other : Run) → IsRun finds answer words run → IsRun finds answer words other → run ≡ other

@@ -8,6 +8,7 @@ use Rattle.rs_value.specs.declared.text.TextFault.{TextFault}
 use Rattle.rs_value.specs.declared.text.TextFault.TheVariants as text
 use Rattle.rs_value.specs.declared.value.Value.{Value}
 use Rattle.rs_outside.specs.declared.files.FetchFault.TheVariants.{TooLong}
+use Rattle.rs_gen.specs.Files.{script_name}
 use Rattle.rs_table.specs.Column.{Column, place_of}
 use Rattle.rs_value.specs.Results.{◌>>=◌}
 use Rattle.rs_table.specs.Reading.{table_of}
@@ -49,12 +50,13 @@ use Rattle.rs_bind.specs.declared.fault.BindFault.{BindFault}
 use Rattle.rs_bind.specs.declared.fault.BindFault.TheVariants as bind
 use Rattle.rs_run.specs.declared.fault.Fault.{Fault}
 use Rattle.rs_run.specs.declared.fault.Fault.TheVariants.{Memory, Usage, Write, Read, Table, BadScore, Probe, Script, Session}
-use Rattle.rs_run.specs.Words.{Form, NoForm, RunScript, Top, TopWords, form_of}
+use Rattle.rs_run.specs.Words.{Form, NoForm, RunGenerated, RunScript, Top, TopWords, form_of}
 use Rattle.rs_run.specs.Content.{content_of}
 use Rattle.rs_run.specs.Top.{best_rows, named_table, number_at, or_table_fault, ranked_lines, scored_rows, table_limit, top_lines, top_table}
 use Rattle.rs_run.specs.Plain.{ScriptRuns, TextRuns, unlexed, unparsed, runs, unread, read, or_text_fault, script_limit, source_of, without_mark}
 use Rattle.rs_expr.specs.Scoring.{Answering}
 use Rattle.rs_run.specs.Run.{Event, Finds, Run, fetch_then}
+use Rattle.rs_run.specs.Generated.{finds_generated}
 use Rattle.rs_run.specs.Running.{IsRun, IsRunOf, IsCut}
 use Rattle.rs_run.specs.Planned.{ask_count, ask_outcome, ask_step, asks_from, asks_in_all, next_asks, plan_for, planned_step}
 use Rattle.rs_run.specs.Sequence.{RunOf, RunsOn, Step, silent, still, then_step}
@@ -440,6 +442,9 @@ OwnFault-form finds answer words run (Top top) is_form (inl is) =
 OwnFault-form finds answer words run (Top top) is_form (inr cut) = absurd cut
 OwnFault-form finds answer words run (RunScript name evaluating) is_form (inl is) = OwnFault-end words run.fault (Own-script finds answer evaluating name run is)
 OwnFault-form finds answer words run (RunScript name evaluating) is_form (inr cut) = OwnFault-end words run.fault (subst (λ r. OwnEnd r.fault) (sym cut) tt)
+OwnFault-form finds answer words run (RunGenerated number rows) is_form (inl is) =
+    OwnFault-end words run.fault (subst (λ r. OwnEnd r.fault) (sym is.2) (Own-script (finds_generated number rows) answer (Planned number) script_name is.0 is.1))
+OwnFault-form finds answer words run (RunGenerated number rows) is_form (inr cut) = OwnFault-end words run.fault (subst (λ r. OwnEnd r.fault) (sym cut) tt)
 OwnFault-form finds answer words run NoForm is_form (inl is) = subst (λ r. OwnFault words r.fault) (sym is) is_form
 OwnFault-form finds answer words run NoForm is_form (inr cut) = absurd cut
 

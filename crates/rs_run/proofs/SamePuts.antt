@@ -1,6 +1,6 @@
--- A script that ends well both ways puts the same lines: the rows of its plans are the answers of its queries.
-use Rattle.std.proofs.Common.{ℕ, zero, suc, ◌≡◌, ◌∙◌, ◌+◌, ◌++◌, Bool, true, false, List, [], ◌∷◌, length, take, drop, map, min, refl, sym, ap, subst, arith}
-use Rattle.std.specs.Prelude.{Option, Some, None, Result, Ok, Err, nat_le, option_map, slice_get, if◌then◌else◌}
+-- A script that ends well both ways puts the same lines: the rows of its plans are the answers of its queries, and those of its cursors too.
+use Rattle.std.proofs.Common.{ℕ, ℤ, zero, suc, ◌≡◌, ◌∙◌, ◌+◌, ◌-◌, ◌++◌, Bool, true, false, List, [], ◌∷◌, length, take, drop, map, min, append-nil, refl, sym, ap, subst, arith}
+use Rattle.std.specs.Prelude.{Option, Some, None, Result, Ok, Err, nat_le, option_map, slice_get}
 use Rattle.std.specs.List.{AllByRecursion}
 use Rattle.std.proofs.Math.Seq.{take-nil}
 use Rattle.std.proofs.lemmas.Bool.{leb-false, leb-true}
@@ -8,12 +8,15 @@ use Rattle.std.proofs.lemmas.List.{length-map, take_all}
 use Rattle.rs_rank.specs.declared.answer.Answer.{Answer}
 use Rattle.rs_expr.specs.InOrder.{Inquiry, calls_of}
 use Rattle.rs_expr.specs.Scoring.{Answering}
-use Rattle.rs_catalog.specs.Catalogue.{Catalogue}
+use Rattle.rs_value.specs.Results.{◌>>=◌}
+use Rattle.rs_lex.specs.declared.token.Span.{Span}
+use Rattle.rs_catalog.specs.Catalogue.{Catalogue, empty}
 use Rattle.rs_syntax.specs.Syntax.{Command, CreateTable, CreatePredicate, CreateRankIndex, Ask, Declare, Fetch, Close, Explain, ExplainAnalyze}
 use Rattle.rs_syntax.specs.Syntax as syntax
+use Rattle.rs_syntax.specs.declared.name.Name.{Name}
 use Rattle.rs_syntax.specs.Written.{AreWritten, IsWritten, IsWrittenQuery}
 use Rattle.rs_syntax.proofs.WrittenFacts.{AreWritten-parsed}
-use Rattle.rs_bind.specs.Queries.{bound_query}
+use Rattle.rs_bind.specs.Queries.{bound_query, count_of}
 use Rattle.rs_bind.specs.declared.fault.BindFault.{BindFault}
 use Rattle.rs_query.specs.Answers.{answer_of, cut, limit_of}
 use Rattle.rs_query.specs.Questions.{first_of, is_bad}
@@ -32,18 +35,19 @@ use Rattle.rs_run.specs.declared.evaluating.Evaluating.TheVariants.{Planned, Pla
 use Rattle.rs_run.specs.declared.fault.Fault.{Fault}
 use Rattle.rs_run.specs.Lines.{rank_lines}
 use Rattle.rs_run.specs.Plain.{HasStatements, TextRuns, read, runs, source_of, unlexed, unparsed, unread}
-use Rattle.rs_run.specs.Planned.{ask_count, ask_outcome, ask_step, asks_from, cards_for, given_lines, plan_for, planned_step}
+use Rattle.rs_run.specs.Planned.{ask_count, ask_outcome, ask_step, asks_from, cards_for, given_lines, next_asks, plan_for, planned_step}
 use Rattle.rs_run.specs.Run.{Finds, Put, Run, behind, calls_in, puts}
-use Rattle.rs_run.specs.Running.{HasCreatesAndQueries, IsCreateOrQuery, IsRunOf}
+use Rattle.rs_run.specs.Running.{HasNoExplain, IsNoExplain, IsRunOf}
 use Rattle.rs_run.specs.Sampled.{sample_step, sampling}
-use Rattle.rs_run.specs.Sequence.{RunOf, RunsOn, Step, then_step}
+use Rattle.rs_run.specs.Sequence.{RunOf, RunsOn, Step, still, then_step}
 use Rattle.rs_run.specs.Statements.{Does, answer_lines, evaluation_step, or_bind_fault, query_outcome, query_step, refused_or, select_step}
-use Rattle.rs_run.specs.Session.{DoesInSession, State, StatementsRun, beside_cursors, nothing}
+use Rattle.rs_run.specs.Session.{ByPlan, DoesInSession, OpenCursor, Ready, State, StatementsRun, asked_more, beside_cursors, close_outcome, cursor_named, declare_step, fetch_step, fetched_from, fetched_step, next_rows, opened_step, ready_outcome, room_for_cursor, with_asks, with_cursor, without_cursor}
 use Rattle.rs_run.specs.Words.{RunScript}
-use Rattle.rs_run.proofs.HeldSteps.{Ok-then}
+use Rattle.rs_run.proofs.HeldSteps.{Ok-then, kept-step}
 use Rattle.rs_run.proofs.OneRun.{Does-one, HasStatements-one, OneFile}
 use Rattle.rs_run.proofs.PlanSteps.{outcome-value, row-given}
 use Rattle.rs_run.proofs.RanFacts.{puts-append, puts-scores}
+use Rattle.rs_run.proofs.SameFetches.{Agree, AgreeAll, AskTheSame, agree-fetched, all-closed, all-fetched, all-opened, all-with_index, all-with_predicate, all-with_table, covers-unfiltered, found-agree, lines-fetched, others-free, without}
 use Rattle.rs_run.proofs.UnfilteredFacts.{few-terms, least-plan, unfiltered-formed}
 
 -- lines alone
@@ -139,7 +143,7 @@ alike-same a b left right same la lb = record {
   states = (let outcome = ap (λ (s : Step Catalogue). s.outcome) same in let e : left ≡ right = cc in e);
 }
 
-module _ (give : GiveAnswers) (finds : Finds) (one : OneFile finds) (answer : Answering) (seed : ℕ) where
+module _ (give : GiveAnswers) (same : AskTheSame) (finds : Finds) (one : OneFile finds) (answer : Answering) (seed : ℕ) where
   -- a query that was answered plainly
   puts-plainly : (catalogue : Catalogue) (query : Query) (next : Catalogue) → (evaluation_step catalogue (evaluation_of answer catalogue query (all_rows catalogue query))).outcome ≡ Ok next
       → (puts (evaluation_step catalogue (evaluation_of answer catalogue query (all_rows catalogue query))).events ≡ rank_lines 1 (answer_of answer catalogue query (all_rows catalogue query)))
@@ -158,7 +162,7 @@ module _ (give : GiveAnswers) (finds : Finds) (one : OneFile finds) (answer : An
         go (Err fault) is e = absurd cc
 
   -- a sample puts nothing
-  puts-behind : (catalogue : Catalogue) (query : Query) (rest : Step Catalogue) → puts (then_step (sample_step catalogue seed query) rest).events ≡ puts rest.events
+  puts-behind : {S : Type 0} (catalogue : Catalogue) (query : Query) (rest : Step S) → puts (then_step (sample_step catalogue seed query) rest).events ≡ puts rest.events
   puts-behind catalogue query rest =
       puts-append (sample_step catalogue seed query).events rest.events ∙ ap (λ lines. lines ++ puts rest.events) (puts-inquiry (sampling catalogue seed query) [])
 
@@ -189,7 +193,7 @@ module _ (give : GiveAnswers) (finds : Finds) (one : OneFile finds) (answer : An
     go (Ok bound) is la lb = alike-bound catalogue query bound left right written is la lb
     go (Err why) is la lb = absurd cc
 
-  alike-step : (catalogue : Catalogue) (command : Command) (a b : Step Catalogue) (left right : Catalogue) → IsWritten command → IsCreateOrQuery command
+  alike-step : (catalogue : Catalogue) (command : Command) (a b : Step Catalogue) (left right : Catalogue) → IsWritten command → IsNoExplain command
       → Does finds answer Plainly catalogue command a → Does finds answer (Planned seed) catalogue command b → a.outcome ≡ Ok left → b.outcome ≡ Ok right
       → Alike a b left right
   alike-step catalogue (CreateTable name columns file) a b left right written of da db la lb =
@@ -199,47 +203,193 @@ module _ (give : GiveAnswers) (finds : Finds) (one : OneFile finds) (answer : An
   alike-step catalogue (Ask query) a b left right written of da db la lb =
       subst (λ a. Alike a b left right) (sym da) (subst (λ b. Alike (select_step Plainly answer catalogue query) b left right) (sym db)
       (alike-select catalogue query left right written (sym (ap (λ (s : Step Catalogue). s.outcome) da) ∙ la) (sym (ap (λ (s : Step Catalogue). s.outcome) db) ∙ lb)))
-  alike-step catalogue (Declare name query) a b left right written of da db la lb = absurd of
-  alike-step catalogue (Fetch count name) a b left right written of da db la lb = absurd of
-  alike-step catalogue (Close name) a b left right written of da db la lb = absurd of
+  alike-step catalogue (Declare name query) a b left right written of da db la lb = absurd da
+  alike-step catalogue (Fetch count name) a b left right written of da db la lb = absurd da
+  alike-step catalogue (Close name) a b left right written of da db la lb = absurd da
   alike-step catalogue (Explain query) a b left right written of da db la lb = absurd of
   alike-step catalogue (ExplainAnalyze query) a b left right written of da db la lb = absurd of
 
-  -- the same in a session, whose cursors stay as they are
+  -- what two steps of a session have in common that went well: what they put, and what they leave, but for cursors that agree
   record AlikeStates (a b : Step State) (left right : State) : Type 0 where
     lines : puts a.events ≡ puts b.events
-    states : left ≡ right
+    next : Catalogue
+    ps : List OpenCursor
+    qs : List OpenCursor
+    left_is : left ≡ record { catalogue = next; cursors = ps }
+    right_is : right ≡ record { catalogue = next; cursors = qs }
+    agree : AgreeAll answer next ps qs
 
-  alike-beside : (state : State) (command : Command) (a b : Step State) (left right : State) → IsWritten command → IsCreateOrQuery command → (x y : Step Catalogue)
-      → Does finds answer Plainly state.catalogue command x → Does finds answer (Planned seed) state.catalogue command y
-      → a ≡ beside_cursors state.cursors x → b ≡ beside_cursors state.cursors y → a.outcome ≡ Ok left → b.outcome ≡ Ok right → AlikeStates a b left right
-  alike-beside state command a b left right written of x y dx dy is also la lb =
-      let with_cursors : Catalogue → State = λ catalogue. record { catalogue = catalogue; cursors = state.cursors } in
-      let first = Ok-then x.outcome (λ catalogue. Ok (with_cursors catalogue)) left (sym (ap (λ (s : Step State). s.outcome) is) ∙ la) in
-      let second = Ok-then y.outcome (λ catalogue. Ok (with_cursors catalogue)) right (sym (ap (λ (s : Step State). s.outcome) also) ∙ lb) in
-      let alike = alike-step state.catalogue command x y first.0 second.0 written of dx dy first.1 second.1 in
-      let left_is : with_cursors first.0 ≡ left = (let e = first.2 in cc) in
-      let right_is : with_cursors second.0 ≡ right = (let e = second.2 in cc) in record {
-        lines = ap (λ (s : Step State). puts s.events) is ∙ alike.lines ∙ sym (ap (λ (s : Step State). puts s.events) also);
-        states = sym left_is ∙ ap with_cursors alike.states ∙ right_is;
-      }
+  module _ (catalogue : Catalogue) (ps qs : List OpenCursor) (all : AgreeAll answer catalogue ps qs) (left right : State) where
+    abbrev plain_state : State
+    plain_state = record { catalogue = catalogue; cursors = ps }
 
-  alike-in_session : (state : State) (command : Command) (a b : Step State) (left right : State) → IsWritten command → IsCreateOrQuery command
-      → DoesInSession finds answer Plainly state command a → DoesInSession finds answer (Planned seed) state command b → a.outcome ≡ Ok left → b.outcome ≡ Ok right
-      → AlikeStates a b left right
-  alike-in_session state (CreateTable name columns file) a b left right written of da db la lb =
-      alike-beside state (CreateTable name columns file) a b left right written of da.0 db.0 da.1 db.1 da.2 db.2 la lb
-  alike-in_session state (CreatePredicate name params max cost formula) a b left right written of da db la lb =
-      alike-beside state (CreatePredicate name params max cost formula) a b left right written of da.0 db.0 da.1 db.1 da.2 db.2 la lb
-  alike-in_session state (CreateRankIndex name table predicate args at) a b left right written of da db la lb =
-      alike-beside state (CreateRankIndex name table predicate args at) a b left right written of da.0 db.0 da.1 db.1 da.2 db.2 la lb
-  alike-in_session state (Ask query) a b left right written of da db la lb =
-      alike-beside state (Ask query) a b left right written of da.0 db.0 da.1 db.1 da.2 db.2 la lb
-  alike-in_session state (Declare name query) a b left right written of da db la lb = absurd of
-  alike-in_session state (Fetch count name) a b left right written of da db la lb = absurd of
-  alike-in_session state (Close name) a b left right written of da db la lb = absurd of
-  alike-in_session state (Explain query) a b left right written of da db la lb = absurd of
-  alike-in_session state (ExplainAnalyze query) a b left right written of da db la lb = absurd of
+    abbrev planned_state : State
+    planned_state = record { catalogue = catalogue; cursors = qs }
+
+    -- a statement that is of no cursor
+    beside-alike : (command : Command) (a b : Step State) → IsWritten command → IsNoExplain command → (x y : Step Catalogue)
+        → Does finds answer Plainly catalogue command x → Does finds answer (Planned seed) catalogue command y
+        → a ≡ beside_cursors ps x → b ≡ beside_cursors qs y → a.outcome ≡ Ok left → b.outcome ≡ Ok right → AlikeStates a b left right
+    beside-alike command a b written of x y dx dy is also la lb =
+        let plainly_with : Catalogue → State = λ catalogue. record { catalogue = catalogue; cursors = ps } in
+        let planned_with : Catalogue → State = λ catalogue. record { catalogue = catalogue; cursors = qs } in
+        let first = Ok-then x.outcome (λ catalogue. Ok (plainly_with catalogue)) left (sym (ap (λ (s : Step State). s.outcome) is) ∙ la) in
+        let second = Ok-then y.outcome (λ catalogue. Ok (planned_with catalogue)) right (sym (ap (λ (s : Step State). s.outcome) also) ∙ lb) in
+        let alike = alike-step catalogue command x y first.0 second.0 written of dx dy first.1 second.1 in
+        let left_is : plainly_with first.0 ≡ left = (let e = first.2 in cc) in
+        let right_is : planned_with second.0 ≡ right = (let e = second.2 in cc) in record {
+          lines = ap (λ (s : Step State). puts s.events) is ∙ alike.lines ∙ sym (ap (λ (s : Step State). puts s.events) also);
+          next = first.0;
+          ps = ps;
+          qs = qs;
+          left_is = sym left_is;
+          right_is = sym right_is ∙ ap planned_with (sym alike.states);
+          agree = kept-step answer catalogue (λ c. AgreeAll answer c ps qs) all (all-with_table answer catalogue same ps qs all) (all-with_predicate answer catalogue same ps qs all)
+              (λ def ranking fits made. all-with_index answer catalogue same ps qs all def ranking) finds Plainly command x first.0 written dx first.1;
+        }
+
+    -- a cursor that was opened both ways
+    opened-alike : (name : Name) (query : syntax.Query) (bound : Query) → IsWrittenQuery query → bound_query catalogue query ≡ Ok bound
+        → room_for_cursor name.text ps ≡ Ok tt → room_for_cursor name.text qs ≡ Ok tt
+        → (opened_step Plainly answer name.text plain_state bound).outcome ≡ Ok left → (opened_step (Planned seed) answer name.text planned_state bound).outcome ≡ Ok right
+        → AlikeStates (opened_step Plainly answer name.text plain_state bound) (opened_step (Planned seed) answer name.text planned_state bound) left right
+    opened-alike name query bound written is free also la lb = go (evaluation_of answer catalogue bound (all_rows catalogue bound)).outcome refl la where
+      go : (outcome : Result (List Answer) PlainFault) → (evaluation_of answer catalogue bound (all_rows catalogue bound)).outcome ≡ outcome → ready_outcome name.text plain_state outcome ≡ Ok left
+          → AlikeStates (opened_step Plainly answer name.text plain_state bound) (opened_step (Planned seed) answer name.text planned_state bound) left right
+      go (Ok rows) given e =
+          let formed = unfiltered-formed catalogue query bound written is in
+          let plans = least-plan catalogue bound (cards_for answer catalogue seed bound) formed in
+          let tree = plan_for answer catalogue seed bound in
+          let rows_are : answer_of answer catalogue bound (all_rows catalogue bound) ≡ rows =
+          outcome-value plain_faults answer catalogue (answer_of answer catalogue bound (all_rows catalogue bound)) rows (first_of (is_bad answer catalogue) (questions_of catalogue bound (all_rows catalogue bound))) given in
+          let p : OpenCursor = record { name = name.text; source = Ready rows; asked = 0 } in
+          let q : OpenCursor = record { name = name.text; source = ByPlan bound tree; asked = 0 } in
+          let plain_left : with_cursor name.text (Ready rows) plain_state ≡ left = cc in
+          let planned_left : with_cursor name.text (ByPlan bound tree) planned_state ≡ right = (let own = lb in cc) in record {
+            lines = puts-inquiry (evaluation_of answer catalogue bound (all_rows catalogue bound)) [] ∙ sym (puts-behind catalogue bound (still (Ok (with_cursor name.text (ByPlan bound tree) planned_state))));
+            next = catalogue;
+            ps = ps ++ p ∷ [];
+            qs = qs ++ q ∷ [];
+            left_is = sym plain_left;
+            right_is = sym planned_left;
+            agree = all-opened answer catalogue ps qs p q all (record {
+              name = refl;
+              query = bound;
+              tree = tree;
+              rows = rows;
+              ready = refl;
+              by_plan = refl;
+              covered = covers-unfiltered catalogue bound formed;
+              same = sym rows_are ∙ sym (give (world_of catalogue answer bound) tree (few-terms catalogue bound formed) plans);
+              given = (let none : 0 ≡ min 0 (length rows) = omega arith in none);
+            }) (others-free name.text ps free) (others-free name.text qs also);
+          }
+      go (Err fault) given e = absurd cc
+
+    declare-alike : (name : Name) (query : syntax.Query) → IsWrittenQuery query
+        → (declare_step Plainly answer plain_state name query).outcome ≡ Ok left → (declare_step (Planned seed) answer planned_state name query).outcome ≡ Ok right
+        → AlikeStates (declare_step Plainly answer plain_state name query) (declare_step (Planned seed) answer planned_state name query) left right
+    declare-alike name query written = go (bound_query catalogue query) refl (room_for_cursor name.text ps) refl (room_for_cursor name.text qs) refl where
+      go : (bound : Result Query BindFault) → bound_query catalogue query ≡ bound
+          → (first : Result (Unit {0}) Fault) → room_for_cursor name.text ps ≡ first → (second : Result (Unit {0}) Fault) → room_for_cursor name.text qs ≡ second
+          → (refused_or (opened_step Plainly answer name.text plain_state) (or_bind_fault bound >>= (λ b. first >>= (λ room. Ok b)))).outcome ≡ Ok left
+          → (refused_or (opened_step (Planned seed) answer name.text planned_state) (or_bind_fault bound >>= (λ b. second >>= (λ room. Ok b)))).outcome ≡ Ok right
+          → AlikeStates (refused_or (opened_step Plainly answer name.text plain_state) (or_bind_fault bound >>= (λ b. first >>= (λ room. Ok b))))
+          (refused_or (opened_step (Planned seed) answer name.text planned_state) (or_bind_fault bound >>= (λ b. second >>= (λ room. Ok b)))) left right
+      go (Err why) is first fp second fq la lb = absurd cc
+      go (Ok bound) is (Err fault) fp second fq la lb = absurd cc
+      go (Ok bound) is (Ok room) fp (Err fault) fq la lb = absurd cc
+      go (Ok bound) is (Ok room) fp (Ok other) fq la lb = opened-alike name query bound written is fp fq la lb
+
+    -- a FETCH of two cursors that agree
+    module _ (name : List ℕ) (p q : OpenCursor) (wanted : ℕ) (np : cursor_named name ps ≡ Ok p) (nq : cursor_named name qs ≡ Ok q) (pair : Agree answer catalogue p q) where
+      abbrev w : plan.World
+      w = world_of catalogue answer pair.query
+
+      abbrev asks : ℕ
+      asks = next_asks w pair.tree q.asked wanted
+
+      asks-are : asks ≡ min wanted (ask_count (limit_of pair.query) (length (answers_of w pair.tree)) - q.asked)
+      asks-are = ap (λ size. min wanted (ask_count (limit_of pair.query) size - q.asked)) (sym (length-map (list_of_plan w pair.tree) (answer_for w)))
+
+      asked-alike : with_asks p.name (next_rows pair.rows p.asked wanted) plain_state ≡ left → (outcome : Result Catalogue Fault) → (asks_from w pair.tree q.asked asks).outcome ≡ outcome
+          → (then_step (record (asks_from w pair.tree q.asked asks) { outcome = outcome }) (still (Ok (with_asks q.name asks planned_state)))).outcome ≡ Ok right
+          → AlikeStates (fetched_from answer plain_state p.name p.asked wanted (Ready pair.rows))
+          (then_step (record (asks_from w pair.tree q.asked asks) { outcome = outcome }) (still (Ok (with_asks q.name asks planned_state)))) left right
+      asked-alike plain_left (Ok next) is e =
+          let planned_left : with_asks q.name asks planned_state ≡ right = cc in
+          let put = puts-asks w pair.tree q.asked asks next is in record {
+            lines = puts-lines (rank_lines (suc p.asked) (take (next_rows pair.rows p.asked wanted) (drop p.asked pair.rows)))
+                ∙ lines-fetched answer catalogue p q wanted pair asks asks-are ∙ sym put.0
+                ∙ ap puts (sym (append-nil (asks_from w pair.tree q.asked asks).events));
+            next = catalogue;
+            ps = map (asked_more p.name (next_rows pair.rows p.asked wanted)) ps;
+            qs = map (asked_more q.name asks) qs;
+            left_is = sym plain_left;
+            right_is = sym planned_left;
+            agree = all-fetched answer catalogue name (next_rows pair.rows p.asked wanted) asks ps qs p q all np nq (agree-fetched answer catalogue p q wanted pair asks asks-are);
+          }
+      asked-alike plain_left (Err fault) is e = absurd cc
+
+      fetched-alike : (fetched_from answer plain_state p.name p.asked wanted p.source).outcome ≡ Ok left → (fetched_from answer planned_state q.name q.asked wanted q.source).outcome ≡ Ok right
+          → AlikeStates (fetched_from answer plain_state p.name p.asked wanted p.source) (fetched_from answer planned_state q.name q.asked wanted q.source) left right
+      fetched-alike la lb =
+          let plain_left : with_asks p.name (next_rows pair.rows p.asked wanted) plain_state ≡ left =
+          (let own = subst (λ source. (fetched_from answer plain_state p.name p.asked wanted source).outcome ≡ Ok left) pair.ready la in cc) in
+          subst (λ source. AlikeStates (fetched_from answer plain_state p.name p.asked wanted source) (fetched_from answer planned_state q.name q.asked wanted q.source) left right) (sym pair.ready)
+          (subst (λ source. AlikeStates (fetched_from answer plain_state p.name p.asked wanted (Ready pair.rows)) (fetched_from answer planned_state q.name q.asked wanted source) left right) (sym pair.by_plan)
+          (asked-alike plain_left (asks_from w pair.tree q.asked asks).outcome refl
+          (subst (λ source. (fetched_from answer planned_state q.name q.asked wanted source).outcome ≡ Ok right) pair.by_plan lb)))
+
+    fetch-alike : (count : ℤ × Span) (name : Name) → (fetch_step answer plain_state count name).outcome ≡ Ok left → (fetch_step answer planned_state count name).outcome ≡ Ok right
+        → AlikeStates (fetch_step answer plain_state count name) (fetch_step answer planned_state count name) left right
+    fetch-alike count name = go (or_bind_fault (count_of count)) (cursor_named name.text ps) refl (cursor_named name.text qs) refl where
+      go : (wanted : Result ℕ Fault) (first : Result OpenCursor Fault) → cursor_named name.text ps ≡ first → (second : Result OpenCursor Fault) → cursor_named name.text qs ≡ second
+          → (refused_or (fetched_step answer plain_state) (wanted >>= (λ wanted. first >>= (λ cursor. Ok (cursor, wanted))))).outcome ≡ Ok left
+          → (refused_or (fetched_step answer planned_state) (wanted >>= (λ wanted. second >>= (λ cursor. Ok (cursor, wanted))))).outcome ≡ Ok right
+          → AlikeStates (refused_or (fetched_step answer plain_state) (wanted >>= (λ wanted. first >>= (λ cursor. Ok (cursor, wanted)))))
+          (refused_or (fetched_step answer planned_state) (wanted >>= (λ wanted. second >>= (λ cursor. Ok (cursor, wanted))))) left right
+      go (Err fault) first fp second fq la lb = absurd cc
+      go (Ok wanted) (Err fault) fp second fq la lb = absurd cc
+      go (Ok wanted) (Ok p) fp (Err fault) fq la lb = absurd cc
+      go (Ok wanted) (Ok p) fp (Ok q) fq la lb = fetched-alike name.text p q wanted fp fq (found-agree answer catalogue name.text ps qs p q all fp fq) la lb
+
+    close-alike : (name : Name) → close_outcome plain_state name ≡ Ok left → close_outcome planned_state name ≡ Ok right
+        → AlikeStates (still (close_outcome plain_state name)) (still (close_outcome planned_state name)) left right
+    close-alike name la lb =
+        let first = Ok-then (cursor_named name.text ps) (λ cursor. Ok (without_cursor name.text plain_state)) left la in
+        let second = Ok-then (cursor_named name.text qs) (λ cursor. Ok (without_cursor name.text planned_state)) right lb in
+        let plain_left : without_cursor name.text plain_state ≡ left = (let e = first.2 in cc) in
+        let planned_left : without_cursor name.text planned_state ≡ right = (let e = second.2 in cc) in record {
+          lines = refl;
+          next = catalogue;
+          ps = without name.text ps;
+          qs = without name.text qs;
+          left_is = sym plain_left;
+          right_is = sym planned_left;
+          agree = all-closed answer catalogue name.text ps qs all;
+        }
+
+    -- each statement
+    alike-in_session : (command : Command) (a b : Step State) → IsWritten command → IsNoExplain command → DoesInSession finds answer Plainly plain_state command a
+        → DoesInSession finds answer (Planned seed) planned_state command b → a.outcome ≡ Ok left → b.outcome ≡ Ok right → AlikeStates a b left right
+    alike-in_session (CreateTable name columns file) a b written of da db la lb = beside-alike (CreateTable name columns file) a b written of da.0 db.0 da.1 db.1 da.2 db.2 la lb
+    alike-in_session (CreatePredicate name params max cost formula) a b written of da db la lb =
+        beside-alike (CreatePredicate name params max cost formula) a b written of da.0 db.0 da.1 db.1 da.2 db.2 la lb
+    alike-in_session (CreateRankIndex name table predicate args at) a b written of da db la lb =
+        beside-alike (CreateRankIndex name table predicate args at) a b written of da.0 db.0 da.1 db.1 da.2 db.2 la lb
+    alike-in_session (Ask query) a b written of da db la lb = beside-alike (Ask query) a b written of da.0 db.0 da.1 db.1 da.2 db.2 la lb
+    alike-in_session (Declare name query) a b written of da db la lb =
+        subst (λ a. AlikeStates a b left right) (sym da) (subst (λ b. AlikeStates (declare_step Plainly answer plain_state name query) b left right) (sym db)
+        (declare-alike name query written (sym (ap (λ (s : Step State). s.outcome) da) ∙ la) (sym (ap (λ (s : Step State). s.outcome) db) ∙ lb)))
+    alike-in_session (Fetch count name) a b written of da db la lb =
+        subst (λ a. AlikeStates a b left right) (sym da) (subst (λ b. AlikeStates (fetch_step answer plain_state count name) b left right) (sym db)
+        (fetch-alike count name (sym (ap (λ (s : Step State). s.outcome) da) ∙ la) (sym (ap (λ (s : Step State). s.outcome) db) ∙ lb)))
+    alike-in_session (Close name) a b written of da db la lb =
+        subst (λ a. AlikeStates a b left right) (sym da) (subst (λ b. AlikeStates (still (close_outcome plain_state name)) b left right) (sym db)
+        (close-alike name (sym (ap (λ (s : Step State). s.outcome) da) ∙ la) (sym (ap (λ (s : Step State). s.outcome) db) ∙ lb)))
+    alike-in_session (Explain query) a b written of da db la lb = absurd of
+    alike-in_session (ExplainAnalyze query) a b written of da db la lb = absurd of
 
   -- a statement that was run, and those behind it
   record Behind (rest : State → Run → Type 0) (step : Step State) (run : Run) : Type 0 where
@@ -256,30 +406,33 @@ module _ (give : GiveAnswers) (finds : Finds) (one : OneFile finds) (answer : An
     go (Ok left) is on = record { left = left; leaves = is; more = on.0; is_more = on.1; is = on.2; well = sym (ap (λ (r : Run). r.fault) on.2) ∙ well }
     go (Err fault) is on = absurd (let ended = ap (λ (r : Run). r.fault) on in cc)
 
-  alike-runs : (state : State) (commands : List Command) (a b : Run) → AreWritten commands → AllByRecursion IsCreateOrQuery commands → RunOf (DoesInSession finds answer Plainly) state commands a
-      → RunOf (DoesInSession finds answer (Planned seed)) state commands b → a.fault ≡ None → b.fault ≡ None → puts a.events ≡ puts b.events
-  alike-runs state [] a b written of ra rb wa wb = ap (λ (r : Run). puts r.events) (ra ∙ sym rb)
-  alike-runs state (command ∷ rest) a b written of ra rb wa wb =
+  alike-runs : (catalogue : Catalogue) (ps qs : List OpenCursor) (commands : List Command) (a b : Run) → AgreeAll answer catalogue ps qs → AreWritten commands → AllByRecursion IsNoExplain commands
+      → RunOf (DoesInSession finds answer Plainly) (record { catalogue = catalogue; cursors = ps }) commands a
+      → RunOf (DoesInSession finds answer (Planned seed)) (record { catalogue = catalogue; cursors = qs }) commands b → a.fault ≡ None → b.fault ≡ None → puts a.events ≡ puts b.events
+  alike-runs catalogue ps qs [] a b all written of ra rb wa wb = ap (λ (r : Run). puts r.events) (ra ∙ sym rb)
+  alike-runs catalogue ps qs (command ∷ rest) a b all written of ra rb wa wb =
       let x = behind-well (λ next more. RunOf (DoesInSession finds answer Plainly) next rest more) ra.0 a ra.2 wa in
       let y = behind-well (λ next more. RunOf (DoesInSession finds answer (Planned seed)) next rest more) rb.0 b rb.2 wb in
-      let first = alike-in_session state command ra.0 rb.0 x.left y.left written.0 of.0 ra.1 rb.1 x.leaves y.leaves in
-      let later = alike-runs y.left rest x.more y.more written.1 of.1 (subst (λ next. RunOf (DoesInSession finds answer Plainly) next rest x.more) first.states x.is_more) y.is_more x.well y.well in
+      let first = alike-in_session catalogue ps qs all x.left y.left command ra.0 rb.0 written.0 of.0 ra.1 rb.1 x.leaves y.leaves in
+      let later = alike-runs first.next first.ps first.qs rest x.more y.more first.agree written.1 of.1
+      (subst (λ next. RunOf (DoesInSession finds answer Plainly) next rest x.more) first.left_is x.is_more)
+      (subst (λ next. RunOf (DoesInSession finds answer (Planned seed)) next rest y.more) first.right_is y.is_more) x.well y.well in
       ap (λ (r : Run). puts r.events) x.is ∙ puts-append ra.0.events x.more.events
       ∙ ap (λ lines. lines ++ puts x.more.events) first.lines ∙ ap (λ lines. puts rb.0.events ++ lines) later
       ∙ sym (puts-append rb.0.events y.more.events) ∙ sym (ap (λ (r : Run). puts r.events) y.is)
 
   -- texts and scripts
-  alike-texts : (script : List ℕ) (a b : Run) → ((commands : List Command) → HasStatements script commands → AllByRecursion IsCreateOrQuery commands) → TextRuns (StatementsRun finds answer Plainly) script a → TextRuns (StatementsRun finds answer (Planned seed)) script b
+  alike-texts : (script : List ℕ) (a b : Run) → ((commands : List Command) → HasStatements script commands → AllByRecursion IsNoExplain commands) → TextRuns (StatementsRun finds answer Plainly) script a → TextRuns (StatementsRun finds answer (Planned seed)) script b
       → a.fault ≡ None → b.fault ≡ None → puts a.events ≡ puts b.events
   alike-texts script _ b silent (unlexed fault refuses) rb wa wb = absurd cc
   alike-texts script _ b silent (unparsed tokens fault lexed refuses) rb wa wb = absurd cc
   alike-texts script a _ silent (runs commands _ made is) (unlexed fault refuses) wa wb = absurd cc
   alike-texts script a _ silent (runs commands _ made is) (unparsed tokens fault lexed refuses) wa wb = absurd cc
   alike-texts script a b silent (runs commands _ made is) (runs others _ again also) wa wb =
-      alike-runs nothing commands a b (AreWritten-parsed script made.tokens commands made.lexed.spells made.parsed) (silent commands made) is
+      alike-runs empty [] [] commands a b tt (AreWritten-parsed script made.tokens commands made.lexed.spells made.parsed) (silent commands made) is
       (subst (λ list. StatementsRun finds answer (Planned seed) list b) (sym (HasStatements-one script commands others made again)) also) wa wb
 
-  pub alike-scripts : (name : List ℕ) (a b : Run) → HasCreatesAndQueries finds name → IsRunOf finds answer (RunScript name Plainly) a → IsRunOf finds answer (RunScript name (Planned seed)) b
+  pub alike-scripts : (name : List ℕ) (a b : Run) → HasNoExplain finds name → IsRunOf finds answer (RunScript name Plainly) a → IsRunOf finds answer (RunScript name (Planned seed)) b
       → a.fault ≡ None → b.fault ≡ None → puts a.events ≡ puts b.events
   alike-scripts name _ b silent (unread there fault found e) rb wa wb = absurd cc
   alike-scripts name _ _ silent (read there script a found e is) (unread other fault again f) wa wb = absurd cc

@@ -19,7 +19,7 @@ use Rattle.rs_run.specs.declared.evaluating.Evaluating.{Evaluating}
 use Rattle.rs_run.specs.declared.fault.Fault.{Fault}
 use Rattle.rs_bind.specs.Queries.{bound_query, count_of}
 use Rattle.rs_bind.specs.declared.fault.BindFault.{BindFault}
-use Rattle.rs_exec.specs.Cursors.{CursorState, asks_of, plan_of}
+use Rattle.rs_exec.specs.Cursors.{CursorState}
 use Rattle.rs_plan.specs.Trees.{PlanTree}
 use Rattle.rs_query.specs.declared.query.Query.{Query}
 use Rattle.rs_run.specs.declared.fault.Fault.TheVariants.{Memory, Session}

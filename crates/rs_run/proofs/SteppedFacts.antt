@@ -2,9 +2,11 @@
 use Rattle.std.proofs.Common.{ℕ, ◌≡◌, List, [], Some, None, refl, sym, subst, inl, inr}
 use Rattle.std.specs.Prelude.{IfOk, Option, Result, Ok, Err}
 use Rattle.rs_run.specs.declared.fault.Fault.{Fault}
-use Rattle.rs_run.specs.declared.fault.Fault.TheVariants.{Memory}
-use Rattle.rs_run.specs.Parts.Steps.{Leaves, Ran, Stepped, lines_run, run_of}
-use Rattle.rs_run.specs.Run.{Event}
+use Rattle.rs_outside.specs.declared.files.FetchFault.TheVariants.{Failed}
+use Rattle.rs_run.specs.declared.fault.Fault.TheVariants.{Memory, Probe, Read, Write}
+use Rattle.rs_run.specs.Halts.{CallFailed, Did, Ended, FetchFailed, Halt, NoMemory, PutFailed, fault_of}
+use Rattle.rs_run.specs.Parts.Steps.{Answers, Leaves, Ran, Stepped, lines_run, run_of}
+use Rattle.rs_run.specs.Run.{Event, Run}
 use Rattle.rs_run.specs.Sequence.{Step, lines_step, still}
 use Rattle.rs_run.specs.World.{World}
 use Rattle.rs_run.proofs.RanFacts.{HasDone-none, Ran-all, Ran-first}
@@ -69,3 +71,25 @@ Stepped-lines lines left result old new ran = record { step = lines_step lines l
 -- there was no memory for the step
 pub Stepped-no_memory : {S : Type 0} (of : Step S → Type 0) (step : Step S) (left : S) (world : World) → of step → Stepped of left (Err Memory) world world
 Stepped-no_memory of step left world does = record { step = step; does = does; ran = Ran-first (run_of step) world; leaves = tt }
+
+-- what was done whole may be followed by a want of memory
+Ran-cut : (run : Run) (old new : World) → Ran run (Ok tt) old new → Ran run (Err Memory) old new
+Ran-cut run old new ran = go ran.halt ran.did ran.answers where
+  broken : (why : Fault) → Answers (Some why) (Ok tt) → ⊥
+  broken why (inl e) = absurd cc
+  broken why (inr e) = absurd cc
+
+  go : (halt : Halt) → Did run halt old new → Answers (fault_of run halt) (Ok tt) → Ran run (Err Memory) old new
+  go Ended did answers = record {
+    halt = NoMemory;
+    did = record { done = did.done; rest = did.rest; split = did.split; halts = tt; all = did.all };
+    answers = inl refl;
+    keeps = ran.keeps;
+  }
+  go NoMemory did answers = absurd (broken Memory answers)
+  go (PutFailed part) did answers = absurd (broken Write answers)
+  go (FetchFailed name) did answers = absurd (broken (Read name Failed) answers)
+  go (CallFailed call) did answers = absurd (broken (Probe call.predicate) answers)
+
+pub Stepped-cut : {S : Type 0} (of : Step S → Type 0) (left : S) (old new : World) → Stepped of left (Ok tt) old new → Stepped of left (Err Memory) old new
+Stepped-cut of left old new done = record { step = done.step; does = done.does; ran = Ran-cut (run_of done.step) old new done.ran; leaves = tt }

@@ -1,5 +1,5 @@
 -- The asks of a cursor that a FETCH wants, one after another: what was done of all that were wanted at first.
-use Rattle.std.proofs.Common.{ℕ, zero, suc, ◌≡◌, ◌∙◌, ◌+◌, ◌-◌, Bool, true, false, min, refl, sym, ap, subst, arith}
+use Rattle.std.proofs.Common.{ℕ, suc, ◌≡◌, ◌∙◌, ◌+◌, Bool, true, false, refl, sym, ap, subst, arith}
 use Rattle.std.specs.Prelude.{None, Result, Ok, Err, if◌then◌else◌}
 use Rattle.rs_expr.specs.Scoring.{Answering}
 use Rattle.rs_catalog.specs.Catalogue.{Catalogue}
@@ -11,7 +11,7 @@ use Rattle.rs_run.specs.declared.fault.Fault.{Fault}
 use Rattle.rs_run.specs.Parts.Asks.{IsAt, call_step}
 use Rattle.rs_run.specs.Parts.Session.{IsAskedMore, next_of_cursor, wanted_step}
 use Rattle.rs_run.specs.Parts.Steps.{Stepped}
-use Rattle.rs_run.specs.Planned.{ask_outcome, asked_step, asks_from, asks_in_all, next_asks}
+use Rattle.rs_run.specs.Planned.{ask_outcome, asked_step, asks_from, next_asks}
 use Rattle.rs_run.specs.Sequence.{Step, still, then_step}
 use Rattle.rs_run.specs.World.{World}
 use Rattle.rs_run.proofs.CursorSteps.{call-next}

@@ -12,7 +12,7 @@ use Rattle.rs_table.specs.declared.fault.TableFault.{TableFault}
 use Rattle.rs_table.specs.declared.fault.TableFault.TheVariants as table
 use Rattle.rs_run.specs.declared.fault.Fault.TheVariants as fault
 use Rattle.rs_run.specs.declared.evaluating.Evaluating.TheVariants.{Plainly, Planned}
-use Rattle.rs_run.specs.Words.{top_words, NoForm, RunScript, Top, form_of}
+use Rattle.rs_run.specs.Words.{top_words, NoForm, RunGenerated, RunScript, Top, form_of}
 use Rattle.rs_run.specs.declared.script_fault.ScriptFault.TheVariants as script
 use Rattle.rs_run.specs.declared.status.Status.TheVariants as status
 use Rattle.rs_lex.specs.declared.fault.LexFault.TheVariants as lex
@@ -261,6 +261,30 @@ form_of_no_number = refl
 
 form_of_no_seed : form_of (codes "run" ∷ codes "s.sql" ∷ []) ≡ NoForm
 form_of_no_seed = refl
+
+-- the form of `gen`, its greatest numbers, and one more or less
+form_of_gen : form_of (codes "gen" ∷ codes "7" ∷ codes "600" ∷ []) ≡ RunGenerated 7 600
+unfolding digits
+form_of_gen = refl
+
+form_of_greatest_gen : form_of (codes "gen" ∷ codes "4294967295" ∷ codes "2000" ∷ []) ≡ RunGenerated 4294967295 2000
+unfolding digits
+form_of_greatest_gen = refl
+
+form_of_number_too_great : form_of (codes "gen" ∷ codes "4294967296" ∷ codes "1" ∷ []) ≡ NoForm
+unfolding digits
+form_of_number_too_great = refl
+
+form_of_rows_too_many : form_of (codes "gen" ∷ codes "0" ∷ codes "2001" ∷ []) ≡ NoForm
+unfolding digits
+form_of_rows_too_many = refl
+
+form_of_no_rows : form_of (codes "gen" ∷ codes "0" ∷ codes "0" ∷ []) ≡ NoForm
+unfolding digits
+form_of_no_rows = refl
+
+form_of_gen_alone : form_of (codes "gen" ∷ codes "7" ∷ []) ≡ NoForm
+form_of_gen_alone = refl
 
 -- words of no form
 form_of_nothing : form_of [] ≡ NoForm

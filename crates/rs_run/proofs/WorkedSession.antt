@@ -6,8 +6,6 @@ use Rattle.csv.specs.Writing.{escaped, fields_text, is_blank}
 use Rattle.std.specs.Fmt.{digits}
 use Rattle.rand_core.specs.Pcg32Seed.{pcg32_seed}
 use Rattle.rand_core.specs.Steps.{first_words, u32_at, word_bytes}
-use Rattle.std.specs.Str.{chars, is_utf8}
-use Rattle.std.specs.Char.{encode_utf8}
 use Rattle.rs_lex.specs.declared.token.Span.{Span}
 use Rattle.rs_value.specs.declared.kind.Kind.TheVariants as kind
 use Rattle.rs_value.specs.declared.value.Value.{Value}
@@ -20,7 +18,6 @@ use Rattle.rs_expr.specs.Scoring.{Answering}
 use Rattle.rs_expr.specs.declared.scorer.Call.{Call}
 use Rattle.rs_catalog.specs.Catalogue.{Catalogue}
 use Rattle.rs_catalog.specs.declared.index.BoundArg.TheVariants as arg
-use Rattle.rs_catalog.specs.declared.index.IndexDef.{IndexDef}
 use Rattle.rs_syntax.specs.declared.name.Name.{Name}
 use Rattle.rs_query.specs.declared.query.Query.{Query}
 use Rattle.rs_query.specs.declared.query.Query.TheVariants.{One}

@@ -17,10 +17,9 @@ use Rattle.rs_query.specs.Views.{all_rows}
 use Rattle.rs_query.specs.declared.query.Query.{Query}
 use Rattle.rs_plain.specs.Plain.{evaluation_of}
 use Rattle.rs_plain.specs.declared.fault.PlainFault.{PlainFault}
-use Rattle.rs_query.specs.WellFormed.{IsQuery}
-use Rattle.rs_plan.specs.Plans.{IsPlan}
 use Rattle.rs_plan.specs.Trees.{PlanTree}
 use Rattle.rs_exec.specs.Asking.{world_of}
+use Rattle.rs_exec.specs.Covering.{Covers}
 use Rattle.rs_run.specs.declared.evaluating.Evaluating.{Evaluating}
 use Rattle.rs_run.specs.declared.evaluating.Evaluating.TheVariants.{Plainly, Planned}
 use Rattle.rs_run.specs.declared.fault.Fault.{Fault}
@@ -127,11 +126,12 @@ fetched_from answer state name asked wanted (ByPlan query tree) =
 fetched_from answer state name asked wanted (Ready rows) =
     lines_step (rank_lines (suc asked) (take (next_rows rows asked wanted) (drop asked rows))) (with_asks name (next_rows rows asked wanted) state)
 
--- a cursor is over a query and a plan of this catalogue, or its rows stand ready
+-- this catalogue has the tables and the predicates of a cursor's query, or the rows of the cursor stand ready. That its tree is a plan of the query isn't asked
+-- for: what joins the catalogue changes nothing of the asks of any tree
 abbrev pub IsCursorOf : Catalogue → OpenCursor → Type 0
 IsCursorOf catalogue cursor = of cursor.source where
   of : Source → Type 0
-  of (ByPlan query tree) = IsQuery catalogue query × IsPlan catalogue query tree
+  of (ByPlan query tree) = Covers catalogue query
   of (Ready rows) = Unit {0}
 
 -- of a cursor so many rows are wanted

@@ -85,7 +85,9 @@ fn asked_text<S: Scorer>(
         (asks_in_all (world_of catalog.now (S.state scorer.old).answer query) (tree_of plan.now))))) }
 {
     let mut cursor = Cursor::start(alloc, catalog, query, plan)?;
-    told_text(alloc, catalog, &mut cursor, cards, plan, scorer)
+    let told = told_text(alloc, catalog, &mut cursor, cards, plan, scorer);
+    drop(cursor);
+    told
 }
 
 /// Asks for the rows of a cursor that are left. Answers the text of its plan, with what each node has done.

@@ -1,13 +1,14 @@
-ghost use Rattle.std.specs.Prelude.{◌≡◌, ◌⊎◌};
+ghost use Rattle.std.specs.Prelude.{◌≡◌, ◌⊎◌, ℕ};
 ghost use Rattle.rs_value.specs.Outside.{Faulted};
 ghost use Rattle.rs_run.specs.Outcome.{EndsOrNoMemory, ForRun, HasCause, Outcome};
 ghost use Rattle.rs_run.specs.Parts.Steps.{Runs};
 ghost use Rattle.rs_run.specs.Run.{finds_in};
 ghost use Rattle.rs_run.specs.Running.{IsCut, IsRun};
-ghost use Rattle.rs_run.specs.Words.{NoForm, form_of};
+ghost use Rattle.rs_run.specs.Words.{NoForm, RunGenerated, form_of};
 ghost use Rattle.rs_run.specs.World.{KeepsWorld, NoneFailed, World, world};
 
 use crate::fault::Fault;
+use crate::generated::run_generated;
 use crate::plain::run_script;
 use crate::report::report;
 use crate::status::Status;
@@ -51,6 +52,9 @@ pub fn run<F: Files, S: Scorer, O: Sink, E: Sink>(
         let new = world (F.state files.new) (S.state scorer.new) (O.state out.new) (E.state err.new) in
         NoneFailed old new → ForRun old words.now (λ run. EndsOrNoMemory run result old new) }
 
+    // The word `gen` leaves the files that are handed in alone.
+    ensures unfetched { (number rows : ℕ) → form_of words.now ≡ RunGenerated number rows → F.state files.new ≡ F.state files.old }
+
     // What a second run with the same objects stands on: the scorer's answers stay, no count of faults falls, and what
     // is steady stays so.
     ensures keeps { KeepsWorld
@@ -71,10 +75,11 @@ fn answer<F: Files, S: Scorer, O: Sink>(
     scorer: &mut S,
     out: &mut O,
 ) -> Result<(), Fault>
-    ensures { (beside : World) → Runs
+    ensures does { (beside : World) → Runs
         (λ run. IsRun (finds_in (F.state files.old).told) (S.state scorer.old).answer words.now run ⊎ IsCut (form_of words.now) run) result
         (record beside { files = F.state files.old; scorer = S.state scorer.old; out = O.state out.old })
         (record beside { files = F.state files.new; scorer = S.state scorer.new; out = O.state out.new }) }
+    ensures unfetched { (number rows : ℕ) → form_of words.now ≡ RunGenerated number rows → F.state files.new ≡ F.state files.old }
 {
     match command_of(words) {
         Some(Command::Top(top_words)) => top(
@@ -88,6 +93,9 @@ fn answer<F: Files, S: Scorer, O: Sink>(
         ),
         Some(Command::RunScript(script, evaluating)) => {
             run_script(alloc, evaluating, script, files, scorer, out)
+        }
+        Some(Command::RunGenerated(number, rows)) => {
+            run_generated(alloc, number, rows, scorer, out)
         }
         None => Err(Fault::Usage),
     }

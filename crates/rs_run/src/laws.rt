@@ -11,7 +11,7 @@ ghost use Rattle.rs_catalog.specs.Catalogue.{with_index, with_predicate, with_ta
 ghost use Rattle.rs_catalog.specs.declared.index.IndexDef.{IndexDef};
 ghost use Rattle.rs_run.specs.declared.evaluating.Evaluating.TheVariants.{Plainly, Planned};
 ghost use Rattle.rs_run.specs.Run.{Run, finds_in, found_in, puts};
-ghost use Rattle.rs_run.specs.Running.{HasCreatesAndQueries, IsRun, IsRunOf};
+ghost use Rattle.rs_run.specs.Running.{HasNoExplain, IsRun, IsRunOf};
 ghost use Rattle.rs_run.specs.Session.{IsCursorOf, OpenCursor, State, fetched_step};
 ghost use Rattle.rs_run.specs.Words.{RunScript};
 
@@ -27,19 +27,21 @@ pub fn one_run()
         → IsRun (finds_in (Some told)) answer words run → IsRun (finds_in (Some told)) answer words other → run ≡ other }
 {}
 
-/// A script of CREATE statements and queries that ends without a fault under `plain` and under `run`, whatever the seed, puts the same rows in
-/// the same order under both, over the same files and the same answers of a scorer.
+/// A script without EXPLAIN that ends without a fault under `plain` and under `run`, whatever the seed, puts the same rows in the same
+/// order under both, over the same files and the same answers of a scorer: those of its queries, and those of its cursors, among CREATE
+/// statements and queries as they may stand.
 pub fn plain_and_run_agree()
     ensures files { (there : List ℕ → Option (List ℕ)) (answer : Answering) (name : List ℕ) (seed : ℕ) (run other : Run)
-        → HasCreatesAndQueries (found_in there) name
+        → HasNoExplain (found_in there) name
         → IsRunOf (found_in there) answer (RunScript name Plainly) run → IsRunOf (found_in there) answer (RunScript name (Planned seed)) other
         → run.fault ≡ None → other.fault ≡ None → puts run.events ≡ puts other.events }
     ensures told { (told : FilesTold) (answer : Answering) (name : List ℕ) (seed : ℕ) (run other : Run)
-        → HasCreatesAndQueries (finds_in (Some told)) name
+        → HasNoExplain (finds_in (Some told)) name
         → IsRunOf (finds_in (Some told)) answer (RunScript name Plainly) run → IsRunOf (finds_in (Some told)) answer (RunScript name (Planned seed)) other
         → run.fault ≡ None → other.fault ≡ None → puts run.events ≡ puts other.events }
 {
     plans_give_the_answer();
+    plans_ask_the_same_in_larger_catalogues();
     there_is_one_least_plan();
 }
 

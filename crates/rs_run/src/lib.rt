@@ -7,6 +7,7 @@ mod evaluating;
 mod explained;
 mod fault;
 mod fetch;
+mod generated;
 mod laws;
 mod plain;
 mod planned;

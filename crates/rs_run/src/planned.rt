@@ -19,7 +19,7 @@ ghost use Rattle.rs_run.specs.declared.evaluating.Evaluating.TheVariants.{Planne
 ghost use Rattle.rs_run.specs.World.{World};
 
 use crate::fault::Fault;
-use crate::planning::{choose_plan, take_sample};
+use crate::planning::start_planned;
 use crate::put::put_row;
 use crate::query::{bad_score, failed_call};
 use rs_bind::bind;
@@ -49,10 +49,10 @@ pub fn run_planned<S: Scorer, O: Sink>(
         (record beside { scorer = S.state scorer.old; out = O.state out.old }) (record beside { scorer = S.state scorer.new; out = O.state out.new }) }
 {
     let query = bind(alloc, catalog, select)?;
-    let cards = take_sample(alloc, seed, catalog, &query, scorer)?;
-    let plan = choose_plan(alloc, catalog, &query, &cards)?;
-    let mut cursor = Cursor::start(alloc, catalog, query, &plan)?;
-    put_all(alloc, catalog, &mut cursor, scorer, out)
+    let mut cursor = start_planned(alloc, seed, catalog, query, scorer)?;
+    let put = put_all(alloc, catalog, &mut cursor, scorer, out);
+    drop(cursor);
+    put
 }
 
 /// Puts the rows of a cursor that are left, each before the next one is asked for.

@@ -8,9 +8,11 @@ ghost use Rattle.rs_sample.specs.Cards.{AllSayTheSame, BlockCards};
 ghost use Rattle.rs_sample.specs.Kept.{cards_of};
 ghost use Rattle.rs_enum.specs.Least.{least_plan};
 ghost use Rattle.rs_enum.specs.QueryCards.{AreCards};
-ghost use Rattle.rs_run.specs.Parts.Asks.{NamesSampled, without_value};
+ghost use Rattle.rs_exec.specs.Cursors.{StandsFor};
+ghost use Rattle.rs_exec.specs.Indexes.{AreHeld};
+ghost use Rattle.rs_run.specs.Parts.Asks.{IsAt, NamesSampled, without_value};
 ghost use Rattle.rs_run.specs.Parts.Steps.{Stepped};
-ghost use Rattle.rs_run.specs.Planned.{cards_for};
+ghost use Rattle.rs_run.specs.Planned.{cards_for, plan_for};
 ghost use Rattle.rs_run.specs.Sampled.{sample_fault, sample_step};
 ghost use Rattle.rs_run.specs.World.{World};
 
@@ -20,6 +22,7 @@ use rs_catalog::Catalog;
 use rs_enum::{
     best, cards_decide_the_plan, sampled_cards_are_those_of_the_query, there_is_one_least_plan,
 };
+use rs_exec::Cursor;
 use rs_expr::Scorer;
 use rs_plan::Plan;
 use rs_query::Query;
@@ -75,4 +78,25 @@ pub fn choose_plan(
     there_is_one_least_plan();
     cards_decide_the_plan();
     best(alloc, catalog, query, cards)
+}
+
+/// A cursor over the least plan of a query, which its sample decides. No row is asked for yet.
+pub fn start_planned<S: Scorer>(
+    alloc: Global,
+    seed: u64,
+    catalog: &Catalog,
+    query: Query,
+    scorer: &mut S,
+) -> Result<Cursor, Fault>
+    requires formed { IsQuery catalog.now query }
+    requires held { AreHeld (S.state scorer.old).answer catalog.now }
+    ensures calls { (beside : World) → Stepped (λ step. step ≡ sample_step catalog.now seed query) catalog.now (without_value result)
+        (record beside { scorer = S.state scorer.old }) (record beside { scorer = S.state scorer.new }) }
+    ensures starts { IfOk result (IsAt query (plan_for (S.state scorer.old).answer catalog.now seed query) 0) }
+    ensures stands { IfOk result (StandsFor catalog.now (S.state scorer.old).answer) }
+{
+    let cards = take_sample(alloc, seed, catalog, &query, scorer)?;
+    let plan = choose_plan(alloc, catalog, &query, &cards)?;
+    let cursor = Cursor::start(alloc, catalog, query, &plan)?;
+    Ok(cursor)
 }

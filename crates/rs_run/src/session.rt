@@ -21,7 +21,7 @@ ghost use Rattle.rs_run.specs.World.{World};
 use crate::evaluating::Evaluating;
 use crate::fault::{Fault, SessionFault};
 use crate::planned::put_next;
-use crate::planning::{choose_plan, take_sample};
+use crate::planning::start_planned;
 use crate::put::put_rows;
 use crate::query::query_fault;
 use indexmap::IndexMap;
@@ -143,9 +143,7 @@ fn declare_planned<S: Scorer>(
     ensures asked { IfOk result (λ _. CanAllBeAsked (S.state scorer.old).answer catalog.now session.new.cursors.entries) }
 {
     let query = declared_query(alloc, name, select, catalog, session)?;
-    let cards = take_sample(alloc, seed, catalog, &query, scorer)?;
-    let plan = choose_plan(alloc, catalog, &query, &cards)?;
-    let cursor = Cursor::start(alloc, catalog, query, &plan)?;
+    let cursor = start_planned(alloc, seed, catalog, query, scorer)?;
     open(session, &name.text, Held::Asked(cursor))?;
     Ok(())
 }
@@ -198,9 +196,32 @@ fn open(session: &mut Session, name: &Text, held: Held) -> Result<(), Memory>
     ensures ok { OnOk result (session.new.cursors.entries ≡ session.old.cursors.entries ++ (name.now, held) ∷ []) }
     ensures err { OnErr result (session.new.cursors.entries ≡ session.old.cursors.entries) }
 {
-    let name = name.copy()?;
-    session.cursors.insert(name, held)?;
-    Ok(())
+    // Each cursor that is let go of is handed to `drop`: to let go of it here, at each end, takes minutes to prove.
+    match name.copy() {
+        Ok(name) => insert(session, name, held),
+        Err(Memory) => {
+            drop(held);
+            Err(Memory)
+        }
+    }
+}
+
+/// Makes a cursor that has this name the last one. Where there is no memory, none is opened.
+fn insert(session: &mut Session, name: Text, held: Held) -> Result<(), Memory>
+    requires { has_name name (keys session.old.cursors) ≡ false }
+    ensures ok { OnOk result (session.new.cursors.entries ≡ session.old.cursors.entries ++ (name, held) ∷ []) }
+    ensures err { OnErr result (session.new.cursors.entries ≡ session.old.cursors.entries) }
+{
+    match session.cursors.insert(name, held) {
+        Ok(none) => {
+            drop(none);
+            Ok(())
+        }
+        Err(failed) => {
+            drop(failed);
+            Err(Memory)
+        }
+    }
 }
 
 /// FETCH: puts the next rows of a cursor, at most so many. Ranks go on from the FETCH before it.
@@ -300,7 +321,10 @@ pub fn close(name: &Name, session: &mut Session) -> Result<(), Fault>
         → CanAllBeAsked answer catalogue session.new.cursors.entries }
 {
     match session.cursors.shift_remove(&name.text) {
-        Some(_) => Ok(()),
+        Some(held) => {
+            drop(held);
+            Ok(())
+        }
         None => Err(session_fault(SessionFault::Unknown, &name.text)),
     }
 }

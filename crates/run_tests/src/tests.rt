@@ -47,7 +47,7 @@ struct Case {
     calls: &'static [&'static str],
 }
 
-const CASES: [Case; 7] = [
+const CASES: [Case; 8] = [
     Case {
         words: &["top", "h.csv", "price", "100", "2"],
         script: &[],
@@ -134,6 +134,35 @@ const CASES: [Case; 7] = [
         err: "",
         calls: &[
             "half 3", "half 1", "half 3", "half 4", "half 4", "half 2", "half 5", "half 5",
+        ],
+    },
+    Case {
+        words: &["gen", "0", "1"],
+        script: &[],
+        status: Status::Done,
+        out: "1,360,h1,r1,m1\n\
+            Rank term 2 est=1 cost=59 asked=2 gave=1 calls=1\n  \
+            Rank term 3 est=1 cost=58 asked=2 gave=1 calls=1\n    \
+            NestedRankJoin est=1 cost=8 asked=2 gave=1\n      \
+            RankScan hotel h term 1 est=1 cost=2 asked=2 gave=1 drawn=1\n      \
+            NestedRankJoin est=1 cost=4 asked=2 gave=1\n        \
+            SeqScan restaurant r est=1 cost=1 asked=2 gave=1 drawn=1\n        \
+            SeqScan museum m est=1 cost=1 asked=2 gave=1 drawn=1\n",
+        err: "",
+        // The calls of two indexes, and then twice those of the sample and of the plan: of the search, and of its analysis.
+        calls: &[
+            "cheap 77",
+            "tasty 13",
+            "cheap 77",
+            "tasty 13",
+            "famous 29",
+            "famous 29",
+            "tasty 13",
+            "cheap 77",
+            "tasty 13",
+            "famous 29",
+            "famous 29",
+            "tasty 13",
         ],
     },
 ];

@@ -3,7 +3,7 @@ use Rattle.std.specs.Prelude.{Option, Some, None}
 use Rattle.rs_run.specs.declared.words.TopCommand.{TopCommand}
 use Rattle.rs_run.specs.declared.words.Command.{Command}
 use Rattle.rs_run.specs.declared.words.Command.TheVariants as command
-use Rattle.rs_run.specs.Words.{Form, NoForm, RunScript, Top, TopWords}
+use Rattle.rs_run.specs.Words.{Form, NoForm, RunGenerated, RunScript, Top, TopWords}
 
 abbrev pub words_of : TopCommand → TopWords
 words_of top = record { file = top.file.now; column = top.column.now; max = top.max; count = top.count }
@@ -13,3 +13,4 @@ abbrev pub form_of_command : Option Command → Form
 form_of_command None = NoForm
 form_of_command (Some (command.Top top)) = Top (words_of top)
 form_of_command (Some (command.RunScript script evaluating)) = RunScript script.now evaluating
+form_of_command (Some (command.RunGenerated number rows)) = RunGenerated number rows

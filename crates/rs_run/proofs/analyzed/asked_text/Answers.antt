@@ -1,4 +1,4 @@
-use Rattle.std.proofs.Common.{◌≡◌, ◌∙◌, refl, subst, sym}
+use Rattle.std.proofs.Common.{◌≡◌, refl, subst, sym}
 use Rattle.std.specs.Prelude.{IfOk}
 use Rattle.rs_value.proofs.ResultFacts.{given-err}
 use Rattle.rs_plan.specs.Shapes.{tree_of}
@@ -24,8 +24,8 @@ returns-in_err-cursor g c =
     rw (given-err c.from_residual.result Memory c.from_residual.ensures)
     (record { asks = λ beside. Stepped-no_memory (λ s. s ≡ step) step c.args.catalog.now (record beside { scorer = g.S.Scorer.state c.args.scorer.now }) refl; text = tt })
 
-pub told_text-requires : goal.told_text-requires
-told_text-requires g c =
+pub told_text-told-requires : goal.told_text-told-requires
+told_text-told-requires g c =
     let answer = (g.S.Scorer.state c.args.scorer.now).answer in
     let new = c.in_ok-cursor.ensures.new in record {
       stands = c.in_ok-cursor.ensures.stands answer (held-plan answer c.args.catalog.now c.requires.held (tree_of c.args.plan.now));
@@ -39,9 +39,9 @@ returns g c =
     let answer = (g.S.Scorer.state c.args.scorer.now).answer in
     let tree = tree_of c.args.plan.now in
     let new = c.in_ok-cursor.ensures.new in record {
-      asks = λ beside. Left-new silent silent-then catalogue answer c.args.query tree c.in_ok-cursor.cursor (without_value c.told_text.result)
-          (record beside { scorer = g.S.Scorer.state c.args.scorer.now }) (record beside { scorer = g.S.Scorer.state c.told_text.new.scorer })
-          (record { query_is = new.query_is; plan_is = new.plan_is; asks_are = new.unasked }) refl (c.told_text.ensures.asks beside);
-      text = subst (λ wanted. IfOk c.told_text.result (λ text. text.items ≡ wanted)) (text-started catalogue answer c.args.query tree c.in_ok-cursor.cursor (cards_of c.args.cards.now) new)
-          c.told_text.ensures.text;
+      asks = λ beside. Left-new silent silent-then catalogue answer c.args.query tree c.in_ok-cursor.cursor (without_value c.told_text-told.result)
+          (record beside { scorer = g.S.Scorer.state c.args.scorer.now }) (record beside { scorer = g.S.Scorer.state c.told_text-told.new.scorer })
+          (record { query_is = new.query_is; plan_is = new.plan_is; asks_are = new.unasked }) refl (c.told_text-told.ensures.asks beside);
+      text = subst (λ wanted. IfOk c.told_text-told.result (λ text. text.items ≡ wanted)) (text-started catalogue answer c.args.query tree c.in_ok-cursor.cursor (cards_of c.args.cards.now) new)
+          c.told_text-told.ensures.text;
     }

@@ -1,5 +1,5 @@
-use Rattle.std.proofs.Common.{◌≡◌, ◌∙◌, ap, length, refl, subst, sym}
-use Rattle.std.specs.Prelude.{Err, Ok, Some}
+use Rattle.std.proofs.Common.{◌≡◌, ◌∙◌, ap, length, subst, sym}
+use Rattle.std.specs.Prelude.{Some}
 use Rattle.rs_value.proofs.ResultFacts.{given-err}
 use Rattle.rs_query.specs.WellFormed.{IsQuery}
 use Rattle.rs_plan.specs.Plans.{IsPlan}

@@ -1,11 +1,15 @@
 use Rattle.std.specs.Prelude.{Some}
 use Rattle.rs_run.specs.Run.{finds_in, found_in}
 use Rattle.rs_run.proofs.OneRun.{found-one, told-one}
+use Rattle.rs_run.proofs.SameFetches.{AskTheSame}
 use Rattle.rs_run.proofs.SamePuts.{alike-scripts}
 use Rattle.rs_run.proofs.laws.plain_and_run_agree.Goals as goal
 
 pub returns : goal.returns
-returns c = record {
-  files = λ there answer name seed. alike-scripts c.plans_give_the_answer.ensures.answer (found_in there) (found-one there) answer seed name;
-  told = λ told answer name seed. alike-scripts c.plans_give_the_answer.ensures.answer (finds_in (Some told)) (told-one told) answer seed name;
-}
+returns c =
+    let give = c.plans_give_the_answer.ensures.answer in
+    let asks = c.plans_ask_the_same_in_larger_catalogues.ensures in
+    let same : AskTheSame = record { tables = asks.tables; predicates = asks.predicates; indexes = asks.indexes } in record {
+      files = λ there answer name seed. alike-scripts give same (found_in there) (found-one there) answer seed name;
+      told = λ told answer name seed. alike-scripts give same (finds_in (Some told)) (told-one told) answer seed name;
+    }

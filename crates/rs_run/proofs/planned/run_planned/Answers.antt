@@ -1,26 +1,18 @@
-use Rattle.std.proofs.Common.{◌≡◌, ◌∙◌, refl, subst, sym}
-use Rattle.std.specs.Prelude.{Err}
+use Rattle.std.proofs.Common.{refl, subst, sym}
 use Rattle.rs_value.specs.Outside.{untold}
 use Rattle.rs_value.proofs.ResultFacts.{given-err}
 use Rattle.rs_syntax.specs.Syntax.{query_of}
-use Rattle.rs_catalog.specs.Catalogue.{Catalogue}
-use Rattle.rs_query.specs.declared.query.Query.{Query}
 use Rattle.rs_bind.specs.Queries.{bound_query}
-use Rattle.rs_plan.specs.Shapes.{tree_of}
 use Rattle.rs_exec.specs.Asking.{world_of}
 use Rattle.rs_exec.specs.Cursors.{StandsFor}
-use Rattle.rs_exec.proofs.HeldFacts.{held-plan}
 use Rattle.rs_run.specs.declared.evaluating.Evaluating.TheVariants.{Planned}
-use Rattle.rs_run.specs.declared.fault.Fault.TheVariants.{Memory}
-use Rattle.rs_run.specs.Planned.{cards_for, plan_for, planned_step}
-use Rattle.rs_run.specs.Sequence.{Step}
+use Rattle.rs_run.specs.Planned.{plan_for, planned_step}
 use Rattle.rs_run.specs.Statements.{bind_fault, or_bind_fault, query_step}
 use Rattle.rs_run.specs.World.{world}
 use Rattle.rs_run.proofs.LeftSteps.{Left-new, as_they_are}
 use Rattle.rs_run.proofs.QuerySteps.{Gives-bound, Gives-unbound}
 use Rattle.rs_run.proofs.SampleSteps.{Sampled-broken, Sampled-then}
 use Rattle.rs_run.proofs.StepFacts.{Stepped-refused}
-use Rattle.rs_run.proofs.SteppedFacts.{Stepped-no_memory}
 use Rattle.rs_run.proofs.planned.run_planned.Goals as goal
 
 pub returns-in_err-query : goal.returns-in_err-query
@@ -29,62 +21,27 @@ returns-in_err-query g c = λ beside. rw (given-err c.from_residual.result (bind
     (or_bind_fault (bound_query c.args.catalog.now (query_of c.args.select.now))) (bind_fault c.in_err-query.field-0.0) c.args.catalog.now
     (record beside { scorer = g.S.Scorer.state c.args.scorer.now; out = g.O.Sink.state c.args.out.now }) (Gives-unbound _ _ _ c.in_err-query.ensures.gives refl))
 
-pub returns-in_err-cards : goal.returns-in_err-cards
-returns-in_err-cards g c = λ beside.
-    let answer = (g.S.Scorer.state c.args.scorer.now).answer in
-    let catalogue = c.args.catalog.now in
-    rw (given-err c.from_residual-in_err-cards.result c.in_err-cards.field-0.0 c.from_residual-in_err-cards.ensures) (
-    Sampled-broken catalogue c.args.seed (λ query. planned_step (world_of catalogue answer query) (plan_for answer catalogue c.args.seed query))
-    (or_bind_fault (bound_query catalogue (query_of c.args.select.now))) c.in_ok-query.query (Gives-bound _ _ c.in_ok-query.ensures.gives)
-    (record beside { scorer = g.S.Scorer.state c.args.scorer.now; out = g.O.Sink.state c.args.out.now })
-    (record beside { scorer = g.S.Scorer.state c.take_sample.new.scorer; out = g.O.Sink.state c.args.out.now }) c.in_err-cards.field-0.0
-    (c.in_err-cards.ensures.calls (record beside { out = g.O.Sink.state c.args.out.now })))
-
-pub choose_plan-requires : goal.choose_plan-requires
-choose_plan-requires g c = record {
-  formed = c.in_ok-query.ensures.formed;
-  cards = c.in_ok-cards.ensures.own;
-}
-
-pub returns-in_err-plan : goal.returns-in_err-plan
-returns-in_err-plan g c = λ beside.
-    let answer = (g.S.Scorer.state c.args.scorer.now).answer in
-    let catalogue = c.args.catalog.now in
-    let query = c.in_ok-query.query in
-    let middle = record beside { scorer = g.S.Scorer.state c.take_sample.new.scorer; out = g.O.Sink.state c.args.out.now } in
-    let rest : Query → Step Catalogue = λ query. planned_step (world_of catalogue answer query) (plan_for answer catalogue c.args.seed query) in
-    rw (given-err c.from_residual-in_err-plan.result Memory c.from_residual-in_err-plan.ensures) (
-    Sampled-then catalogue c.args.seed rest (or_bind_fault (bound_query catalogue (query_of c.args.select.now))) query (Gives-bound _ _ c.in_ok-query.ensures.gives)
-    (record beside { scorer = g.S.Scorer.state c.args.scorer.now; out = g.O.Sink.state c.args.out.now }) middle (Err Memory) middle
-    (c.in_ok-cards.ensures.calls (record beside { out = g.O.Sink.state c.args.out.now }))
-    (Stepped-no_memory (λ step. step ≡ rest query) (rest query) catalogue middle refl))
-
-pub start-requires : goal.start-requires
-start-requires g c = record {
-  query = c.in_ok-query.ensures.formed;
-  plan = c.in_ok-plan.ensures.plan;
-}
+pub start_planned-requires : goal.start_planned-requires
+start_planned-requires g c = record { formed = c.in_ok-query.ensures.formed; held = c.requires.held }
 
 pub returns-in_err-cursor : goal.returns-in_err-cursor
 returns-in_err-cursor g c = λ beside.
     let answer = (g.S.Scorer.state c.args.scorer.now).answer in
     let catalogue = c.args.catalog.now in
-    let query = c.in_ok-query.query in
-    let middle = record beside { scorer = g.S.Scorer.state c.take_sample.new.scorer; out = g.O.Sink.state c.args.out.now } in
-    let rest : Query → Step Catalogue = λ query. planned_step (world_of catalogue answer query) (plan_for answer catalogue c.args.seed query) in
-    rw (given-err c.from_residual-in_err-cursor.result Memory c.from_residual-in_err-cursor.ensures) (
-    Sampled-then catalogue c.args.seed rest (or_bind_fault (bound_query catalogue (query_of c.args.select.now))) query (Gives-bound _ _ c.in_ok-query.ensures.gives)
-    (record beside { scorer = g.S.Scorer.state c.args.scorer.now; out = g.O.Sink.state c.args.out.now }) middle (Err Memory) middle
-    (c.in_ok-cards.ensures.calls (record beside { out = g.O.Sink.state c.args.out.now }))
-    (Stepped-no_memory (λ step. step ≡ rest query) (rest query) catalogue middle refl))
+    rw (given-err c.from_residual-in_err-cursor.result c.in_err-cursor.field-0.0 c.from_residual-in_err-cursor.ensures) (
+    Sampled-broken catalogue c.args.seed (λ query. planned_step (world_of catalogue answer query) (plan_for answer catalogue c.args.seed query))
+    (or_bind_fault (bound_query catalogue (query_of c.args.select.now))) c.in_ok-query.query (Gives-bound _ _ c.in_ok-query.ensures.gives)
+    (record beside { scorer = g.S.Scorer.state c.args.scorer.now; out = g.O.Sink.state c.args.out.now })
+    (record beside { scorer = g.S.Scorer.state c.start_planned.new.scorer; out = g.O.Sink.state c.args.out.now }) c.in_err-cursor.field-0.0
+    (c.in_err-cursor.ensures.calls (record beside { out = g.O.Sink.state c.args.out.now })))
 
-pub put_all-requires : goal.put_all-requires
-put_all-requires g c =
+pub put_all-put-requires : goal.put_all-put-requires
+put_all-put-requires g c =
     let answer = (g.S.Scorer.state c.args.scorer.now).answer in
     let at = world (untold 0) (g.S.Scorer.state c.args.scorer.now) (g.O.Sink.state c.args.out.now) (g.O.Sink.state c.args.out.now) in
     record {
-      stands = subst (λ answer. StandsFor c.args.catalog.now answer c.in_ok-cursor.cursor) (sym (c.in_ok-cards.ensures.calls at).ran.keeps.scorer.answer)
-          (c.in_ok-cursor.ensures.stands answer (held-plan answer c.args.catalog.now c.requires.held (tree_of c.in_ok-plan.plan)));
+      stands = subst (λ answer. StandsFor c.args.catalog.now answer c.in_ok-cursor.cursor) (sym (c.in_ok-cursor.ensures.calls at).ran.keeps.scorer.answer)
+          c.in_ok-cursor.ensures.stands;
     }
 
 pub returns : goal.returns
@@ -92,14 +49,11 @@ returns g c = λ beside.
     let answer = (g.S.Scorer.state c.args.scorer.now).answer in
     let catalogue = c.args.catalog.now in
     let query = c.in_ok-query.query in
-    let cursor = c.in_ok-cursor.cursor in
-    let middle = record beside { scorer = g.S.Scorer.state c.take_sample.new.scorer; out = g.O.Sink.state c.args.out.now } in
-    let new = record beside { scorer = g.S.Scorer.state c.put_all.new.scorer; out = g.O.Sink.state c.put_all.new.out } in
-    let sampled = c.in_ok-cards.ensures.calls (record beside { out = g.O.Sink.state c.args.out.now }) in
-    let started = c.in_ok-cursor.ensures.new in
-    let tree = c.in_ok-plan.ensures.tree (cards_for answer catalogue c.args.seed query) c.in_ok-cards.ensures.cards in
+    let middle = record beside { scorer = g.S.Scorer.state c.start_planned.new.scorer; out = g.O.Sink.state c.args.out.now } in
+    let new = record beside { scorer = g.S.Scorer.state c.put_all-put.new.scorer; out = g.O.Sink.state c.put_all-put.new.out } in
+    let sampled = c.in_ok-cursor.ensures.calls (record beside { out = g.O.Sink.state c.args.out.now }) in
     Sampled-then catalogue c.args.seed (λ query. planned_step (world_of catalogue answer query) (plan_for answer catalogue c.args.seed query))
     (or_bind_fault (bound_query catalogue (query_of c.args.select.now))) query (Gives-bound _ _ c.in_ok-query.ensures.gives)
-    (record beside { scorer = g.S.Scorer.state c.args.scorer.now; out = g.O.Sink.state c.args.out.now }) new c.put_all.result middle sampled
-    (Left-new as_they_are (λ first rest. refl) catalogue answer query (plan_for answer catalogue c.args.seed query) cursor c.put_all.result middle new
-    (record { query_is = started.query_is; plan_is = started.plan_is ∙ tree; asks_are = started.unasked }) sampled.ran.keeps.scorer.answer (c.put_all.ensures beside))
+    (record beside { scorer = g.S.Scorer.state c.args.scorer.now; out = g.O.Sink.state c.args.out.now }) new c.put_all-put.result middle sampled
+    (Left-new as_they_are (λ first rest. refl) catalogue answer query (plan_for answer catalogue c.args.seed query) c.in_ok-cursor.cursor c.put_all-put.result middle new
+    c.in_ok-cursor.ensures.starts sampled.ran.keeps.scorer.answer (c.put_all-put.ensures beside))

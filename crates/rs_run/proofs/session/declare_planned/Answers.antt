@@ -1,11 +1,9 @@
-use Rattle.std.proofs.Common.{◌∙◌, subst, sym, inl}
+use Rattle.std.proofs.Common.{subst, sym}
 use Rattle.std.specs.Prelude.{Err, Ok}
 use Rattle.rs_value.proofs.ResultFacts.{given-err}
-use Rattle.rs_exec.proofs.HeldFacts.{held-plan}
-use Rattle.rs_plan.specs.Shapes.{tree_of}
 use Rattle.rs_syntax.specs.Syntax.{query_of}
 use Rattle.rs_run.specs.Parts.Session.{CanAllBeAsked, state_of}
-use Rattle.rs_run.specs.Planned.{cards_for, plan_for}
+use Rattle.rs_run.specs.Planned.{plan_for}
 use Rattle.rs_run.specs.Sampled.{sample_step}
 use Rattle.rs_run.specs.Sequence.{still}
 use Rattle.rs_run.specs.Session.{ByPlan, declared_query, opened_step, with_cursor}
@@ -13,7 +11,7 @@ use Rattle.rs_run.specs.declared.evaluating.Evaluating.TheVariants.{Planned}
 use Rattle.rs_run.specs.declared.fault.Fault.TheVariants.{Memory}
 use Rattle.rs_run.specs.declared.session.Held.TheVariants as held
 use Rattle.rs_run.proofs.SessionFacts.{asked-append}
-use Rattle.rs_run.proofs.SessionSteps.{Opened-cut, Opened-planned, declared-bound, opened-planned}
+use Rattle.rs_run.proofs.SessionSteps.{Opened-cut, Opened-planned, opened-planned}
 use Rattle.rs_run.proofs.SoFar.{Stepped-broken}
 use Rattle.rs_run.proofs.StepFacts.{Stepped-bound, Stepped-refused}
 use Rattle.rs_run.proofs.session.declare_planned.Goals as goal
@@ -28,57 +26,24 @@ returns-in_err-query g c =
       asked = tt;
     })
 
-pub returns-in_err-cards : goal.returns-in_err-cards
-returns-in_err-cards g c =
-    let answer = (g.S.Scorer.state c.args.scorer.now).answer in
-    let catalogue = c.args.catalog.now in
-    let state = state_of catalogue c.args.session.now.cursors.entries in
-    let name = c.args.name.now in
-    let query = c.in_ok-query.query in
-    rw (given-err c.from_residual-in_err-cards.result c.in_err-cards.field-0.0 c.from_residual-in_err-cards.ensures) (record {
-      opens = λ beside.
-          let old = record beside { scorer = g.S.Scorer.state c.args.scorer.now } in
-          let new = record beside { scorer = g.S.Scorer.state c.take_sample.new.scorer } in
-          Stepped-bound (opened_step (Planned c.args.seed) answer name.text state) (declared_query state name (query_of c.args.select.now)) query state (Err c.in_err-cards.field-0.0) old new
-          c.in_ok-query.ensures.gives
-          (Stepped-broken (sample_step catalogue c.args.seed query) (still (Ok (with_cursor name.text (ByPlan query (plan_for answer catalogue c.args.seed query)) state))) c.in_err-cards.field-0.0
-          catalogue state old new (c.in_err-cards.ensures.calls beside));
-      asked = tt;
-    })
-
-pub choose_plan-requires : goal.choose_plan-requires
-choose_plan-requires g c = record {
-  formed = c.in_ok-query.ensures.formed;
-  cards = c.in_ok-cards.ensures.own;
-}
-
-pub returns-in_err-plan : goal.returns-in_err-plan
-returns-in_err-plan g c =
-    let answer = (g.S.Scorer.state c.args.scorer.now).answer in
-    let catalogue = c.args.catalog.now in
-    let state = state_of catalogue c.args.session.now.cursors.entries in
-    rw (given-err c.from_residual-in_err-plan.result Memory c.from_residual-in_err-plan.ensures) (record {
-      opens = λ beside. Opened-cut answer c.args.seed c.args.name.now state (query_of c.args.select.now) c.in_ok-query.query state
-          (record beside { scorer = g.S.Scorer.state c.args.scorer.now }) (record beside { scorer = g.S.Scorer.state c.take_sample.new.scorer }) c.in_ok-query.ensures.gives
-          (c.in_ok-cards.ensures.calls beside);
-      asked = tt;
-    })
-
-pub start-requires : goal.start-requires
-start-requires g c = record {
-  query = c.in_ok-query.ensures.formed;
-  plan = c.in_ok-plan.ensures.plan;
-}
+pub start_planned-requires : goal.start_planned-requires
+start_planned-requires g c = record { formed = c.in_ok-query.ensures.formed; held = c.requires.held }
 
 pub returns-in_err-cursor : goal.returns-in_err-cursor
 returns-in_err-cursor g c =
     let answer = (g.S.Scorer.state c.args.scorer.now).answer in
     let catalogue = c.args.catalog.now in
     let state = state_of catalogue c.args.session.now.cursors.entries in
-    rw (given-err c.from_residual-in_err-cursor.result Memory c.from_residual-in_err-cursor.ensures) (record {
-      opens = λ beside. Opened-cut answer c.args.seed c.args.name.now state (query_of c.args.select.now) c.in_ok-query.query state
-          (record beside { scorer = g.S.Scorer.state c.args.scorer.now }) (record beside { scorer = g.S.Scorer.state c.take_sample.new.scorer }) c.in_ok-query.ensures.gives
-          (c.in_ok-cards.ensures.calls beside);
+    let name = c.args.name.now in
+    let query = c.in_ok-query.query in
+    rw (given-err c.from_residual-in_err-cursor.result c.in_err-cursor.field-0.0 c.from_residual-in_err-cursor.ensures) (record {
+      opens = λ beside.
+          let old = record beside { scorer = g.S.Scorer.state c.args.scorer.now } in
+          let new = record beside { scorer = g.S.Scorer.state c.start_planned.new.scorer } in
+          Stepped-bound (opened_step (Planned c.args.seed) answer name.text state) (declared_query state name (query_of c.args.select.now)) query state (Err c.in_err-cursor.field-0.0) old new
+          c.in_ok-query.ensures.gives
+          (Stepped-broken (sample_step catalogue c.args.seed query) (still (Ok (with_cursor name.text (ByPlan query (plan_for answer catalogue c.args.seed query)) state))) c.in_err-cursor.field-0.0
+          catalogue state old new (c.in_err-cursor.ensures.calls beside));
       asked = tt;
     })
 
@@ -89,8 +54,8 @@ returns-in_err-open g c =
     let state = state_of catalogue c.args.session.now.cursors.entries in
     rw (given-err c.from_residual-in_err-open.result Memory c.from_residual-in_err-open.ensures) (record {
       opens = λ beside. Opened-cut answer c.args.seed c.args.name.now state (query_of c.args.select.now) c.in_ok-query.query (state_of catalogue c.open.new.session.cursors.entries)
-          (record beside { scorer = g.S.Scorer.state c.args.scorer.now }) (record beside { scorer = g.S.Scorer.state c.take_sample.new.scorer }) c.in_ok-query.ensures.gives
-          (c.in_ok-cards.ensures.calls beside);
+          (record beside { scorer = g.S.Scorer.state c.args.scorer.now }) (record beside { scorer = g.S.Scorer.state c.start_planned.new.scorer }) c.in_ok-query.ensures.gives
+          (c.in_ok-cursor.ensures.calls beside);
       asked = tt;
     })
 
@@ -104,14 +69,11 @@ returns g c =
     let query = c.in_ok-query.query in
     let cursor = c.in_ok-cursor.cursor in
     let left = c.open.new.session.cursors.entries in
-    let opened = c.in_ok-open.ensures.ok in
-    let started = c.in_ok-cursor.ensures.new in
-    let tree = c.in_ok-plan.ensures.tree (cards_for answer catalogue c.args.seed query) c.in_ok-cards.ensures.cards in record {
+    let opened = c.in_ok-open.ensures.ok in record {
       opens = λ beside. Opened-planned answer c.args.seed name state (query_of c.args.select.now) query (state_of catalogue left)
-          (record beside { scorer = g.S.Scorer.state c.args.scorer.now }) (record beside { scorer = g.S.Scorer.state c.take_sample.new.scorer }) c.in_ok-query.ensures.gives
-          (c.in_ok-cards.ensures.calls beside)
-          (opened-planned catalogue entries left name.text cursor query (plan_for answer catalogue c.args.seed query) opened
-          (record { query_is = started.query_is; plan_is = started.plan_is ∙ tree; asks_are = started.unasked }));
-      asked = subst (CanAllBeAsked answer catalogue) (sym opened) (asked-append answer catalogue entries name.text (held.Asked cursor) c.requires.asked
-          (c.in_ok-cursor.ensures.stands answer (held-plan answer catalogue c.requires.held (tree_of c.in_ok-plan.plan))));
+          (record beside { scorer = g.S.Scorer.state c.args.scorer.now }) (record beside { scorer = g.S.Scorer.state c.start_planned.new.scorer }) c.in_ok-query.ensures.gives
+          (c.in_ok-cursor.ensures.calls beside)
+          (opened-planned catalogue entries left name.text cursor query (plan_for answer catalogue c.args.seed query) opened c.in_ok-cursor.ensures.starts);
+      asked = subst (CanAllBeAsked answer catalogue) (sym opened)
+          (asked-append answer catalogue entries name.text (held.Asked cursor) c.requires.asked c.in_ok-cursor.ensures.stands);
     }

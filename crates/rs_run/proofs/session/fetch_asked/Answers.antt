@@ -1,4 +1,4 @@
-use Rattle.std.proofs.Common.{◌≡◌, ◌+◌, ◌-◌, ℕ, ap, arith, subst, suc, sym}
+use Rattle.std.proofs.Common.{◌≡◌, ◌+◌, ◌-◌, ap, arith, subst, suc, sym}
 use Rattle.std.specs.Prelude.{Ok}
 use Rattle.rs_value.specs.Outside.{untold}
 use Rattle.rs_value.proofs.ResultFacts.{given-err}
@@ -6,7 +6,7 @@ use Rattle.rs_exec.specs.Asking.{world_of}
 use Rattle.rs_exec.specs.Cursors.{IsOver, StandsFor, asks_after, asks_of, plan_of}
 use Rattle.rs_run.specs.Parts.Asks.{IsAt}
 use Rattle.rs_run.specs.Parts.Session.{wanted_step}
-use Rattle.rs_run.specs.World.{World, world}
+use Rattle.rs_run.specs.World.{world}
 use Rattle.rs_run.proofs.SoFar.{SoFar, SoFar-start}
 use Rattle.rs_run.proofs.WantedSteps.{IsFetching, Wanted-broken, Wanted-done, Wanted-more, fetching-all, fetching-next, fetching-start, none-next, none-wanted}
 use Rattle.rs_run.proofs.session.fetch_asked.Goals as goal

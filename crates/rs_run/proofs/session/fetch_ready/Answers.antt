@@ -1,4 +1,4 @@
-use Rattle.std.proofs.Common.{◌≡◌, ◌+◌, ◌-◌, ap, arith, drop, subst, suc, sym, take}
+use Rattle.std.proofs.Common.{◌≡◌, ◌+◌, ◌-◌, ap, arith, drop, subst, suc, take}
 use Rattle.std.specs.Prelude.{Err, Ok}
 use Rattle.rs_value.proofs.ResultFacts.{given-err}
 use Rattle.rs_run.specs.Lines.{rank_lines}

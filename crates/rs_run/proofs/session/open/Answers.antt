@@ -1,16 +1,12 @@
-use Rattle.std.proofs.Common.{◌≡◌, ◌∙◌, ◌++◌, ◌∷◌, [], nat_eq, sym, ap, subst}
-use Rattle.std.specs.Prelude.{false}
-use Rattle.std.specs.Cmp.Lexicographic.{pointwise}
-use Rattle.indexmap.proofs.CallerLemmas.{insert_entry-new}
+use Rattle.std.proofs.Common.{◌++◌, ◌∷◌, [], sym, subst}
+use Rattle.std.specs.Prelude.{◌≡◌, false, OnOk}
 use Rattle.indexmap.specs.IndexMap.{keys}
 use Rattle.rs_catalog.specs.Catalogue.{has_name}
-use Rattle.rs_run.proofs.SessionFacts.{lookup-none}
 use Rattle.rs_run.proofs.session.open.Goals as goal
 
-pub returns-clause-ok : goal.returns-clause-ok
-returns-clause-ok c =
-    let cursors = c.args.session.now.cursors in
-    let name = c.in_ok-name.name in
-    let free = subst (λ n. has_name n (keys cursors) ≡ false) (sym c.in_ok-name.ensures) c.requires in
-    c.in_ok-insert.ensures.entries ∙ insert_entry-new (pointwise nat_eq) cursors name c.args.held (lookup-none name cursors.entries free)
-    ∙ ap (λ n. cursors.entries ++ (n, c.args.held) ∷ []) c.in_ok-name.ensures
+pub insert-requires : goal.insert-requires
+insert-requires c = subst (λ n. has_name n (keys c.args.session.now.cursors) ≡ false) (sym c.in-Ok.ensures) c.requires
+
+pub returns-in-Ok-clause-ok : goal.returns-in-Ok-clause-ok
+returns-in-Ok-clause-ok c =
+    subst (λ n. OnOk c.insert.result (c.insert.new.session.cursors.entries ≡ c.args.session.now.cursors.entries ++ (n, c.args.held) ∷ [])) c.in-Ok.ensures c.insert.ensures.ok

@@ -1,0 +1,43 @@
+ghost use Rattle.std.specs.Prelude.{◌≡◌, ◌⊎◌, IfOk};
+ghost use Rattle.rs_gen.specs.Files.{script_name};
+ghost use Rattle.rs_run.specs.Parts.Steps.{Runs};
+ghost use Rattle.rs_run.specs.Run.{finds_in};
+ghost use Rattle.rs_run.specs.Running.{IsCut, IsRunOf};
+ghost use Rattle.rs_run.specs.Words.{RunGenerated};
+ghost use Rattle.rs_run.specs.World.{World};
+
+use crate::evaluating::Evaluating;
+use crate::fault::Fault;
+use crate::plain::run_script;
+use rs_expr::Scorer;
+use rs_gen::generate;
+use rs_outside::Sink;
+use rs_value::{Memory, Text};
+use std::alloc::Global;
+
+/// Does what the generated script says over the generated tables, with the number as the seed of its samples. The files are
+/// made in memory, so nothing is fetched from outside.
+pub fn run_generated<S: Scorer, O: Sink>(
+    alloc: Global,
+    number: u32,
+    rows: u32,
+    scorer: &mut S,
+    out: &mut O,
+) -> Result<(), Fault>
+    ensures { (beside : World) → Runs
+        (λ run. IsRunOf (finds_in beside.files.told) (S.state scorer.old).answer (RunGenerated number rows) run ⊎ IsCut (RunGenerated number rows) run) result
+        (record beside { scorer = S.state scorer.old; out = O.state out.old }) (record beside { scorer = S.state scorer.new; out = O.state out.new }) }
+{
+    let name = script_name(alloc)?;
+    let mut files = generate(alloc, number, rows)?;
+    let evaluating = Evaluating::Planned(number as u64);
+    run_script(alloc, evaluating, &name, &mut files, scorer, out)
+}
+
+/// The name of the generated script.
+fn script_name(alloc: Global) -> Result<Text, Memory>
+    ensures { IfOk result (λ name. name ≡ script_name) }
+{
+    let name = String::from_str(alloc, "gen.sql")?;
+    Ok(Text::from(name))
+}
