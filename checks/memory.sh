@@ -108,6 +108,13 @@ cat base - >plan.sql <<'SQL'
 SELECT x, y FROM t ORDER BY p(x) + q(y) LIMIT 9;
 SQL
 printf '1,17,8,9\n2,13,10,3\n3,12,2,10\n4,6,5,1\n' >plan.wanted
+cat base - >cursors.sql <<'SQL'
+DECLARE k CURSOR FOR SELECT x FROM t ORDER BY p(x) + q(y); DECLARE d CURSOR FOR SELECT x FROM t ORDER BY q(y);
+FETCH 2 FROM k; FETCH 1 FROM d; FETCH 2 FROM k; FETCH 5 FROM k; CLOSE k;
+SQL
+printf '1,17,8\n2,13,10\n1,10,2\n3,12,2\n4,6,5\n' >cursors.wanted
+cp cursors.sql ready.sql
+cp cursors.wanted ready.wanted
 cat >front <<'LINES'
 front CREATE TABLE h (name TEXT, price INT, city INT) FROM 'name,price,city\na,40,1\nb,90,1\nc,40,2\n'; CREATE PREDICATE near (a INT, b INT) MAX 100 AS 100 - ABS(a - b);
 LINES
@@ -139,12 +146,12 @@ LINES
 : >nothing
 printf 'memory\n' >memory
 
-# Runs a script where allocations fail from this one on, or this one alone. The scripts `plan` and `nested` are run by plans.
+# Runs a script where allocations fail from this one on, or this one alone. The scripts `plan`, `nested` and `cursors` are run by plans.
 # run NAME NUMBER [all]
 run() {
     local words=("$program" plain "$1.sql") input=/dev/null
     case $1 in
-        plan | nested | rows | index | calls) words=("$program" run "$1.sql" 1) ;;
+        plan | nested | cursors | rows | index | calls) words=("$program" run "$1.sql" 1) ;;
         hashed | united) words=("$cases") input=$1.sql ;;
     esac
     timeout 60 env LD_PRELOAD="$work/refuse.so" REFUSE_FIRST="$2" ${3:+REFUSE_ALL=1} REFUSE_COUNT="$work/count" \
@@ -253,7 +260,7 @@ compare rows '' 'rated(rating)' 10 'rated(rating)' 100
 compare index 'CREATE RANK INDEX by_rated ON films (rated(rating));' '2 * rated(rating) + recent(year)' 10 '2 * rated(rating) + recent(year)' 100
 compare calls '' 'level(rating)' 10 'level(rating) + recent(year)' 10
 
-names=(join union plan nested)
+names=(join union ready plan nested cursors)
 if [ -x "$cases" ]; then
     names+=(hashed united)
 else

@@ -333,6 +333,10 @@ while IFS= read -r line; do
     grep -qxF -e "    $line" "$root/README.md" || failed "README.md doesn't have the line: $line"
 done < <(head -n 6 "$root/examples/travel/analyzed.out")
 
+while IFS= read -r line; do
+    grep -qxF -e "    $line" "$root/README.md" || failed "README.md doesn't have the line: $line"
+done < <(tail -n 7 "$root/checks/gen_7_600.out")
+
 # docs/GRAMMAR.md shows what guides.sql prints.
 while IFS= read -r line; do
     grep -qxF -e "    $line" "$root/docs/GRAMMAR.md" || failed "GRAMMAR.md doesn't have the line: $line"
@@ -494,6 +498,7 @@ if [ -x "$counter" ]; then
     # 83 calls make the indexes. 1,260 combinations satisfy the condition, and plainly each has three calls.
     count 'the calls of the evenings, plainly' 3863 plain examples/travel/evening.sql
     count 'the calls of the evenings by a plan' 828 run examples/travel/evening.sql 1
+    count 'the calls of the smallest generated input' 12 gen 0 1
 fi
 printf 'x,y\n10,10\n8,99\n' >far.csv
 far="CREATE TABLE t (x INT, y INT) FROM 'far.csv'; CREATE PREDICATE p (v INT) MAX 10 AS v; SELECT x, y FROM t ORDER BY p(x) + p(y)"
@@ -522,10 +527,53 @@ script "${front}z FROM h ORDER BY p(city);"
 expect 'a column that is not there' 5 '' "script: bind NoColumn at ${#front}"$'\n' -- run s.sql 1
 expect 'a missing script of plans' 3 '' $'read: nope.sql: missing\n' -- run nope.sql 00000000000000000007
 
+# One table under six names, of which 10^9 plans and more are valid; and two of the greatest tables, whose product isn't looked at.
+printf 'v\n1\n' >o.csv
+front="CREATE TABLE o (v INT) FROM 'o.csv'; CREATE PREDICATE p (v INT) MAX 10 AS v;"
+script "$front SELECT a.v FROM o a, o b, o c, o d, o e, o f ORDER BY p(a.v) + p(b.v) + p(c.v) + p(d.v) + p(e.v) + p(f.v) + p(a.v) + p(b.v);"
+expect 'six entries and eight terms' 0 $'1,8,1\n' '' -- run s.sql 1
+awk 'BEGIN { print "v"; for (row = 1; row <= 131072; row++) print 1 }' >o.csv
+script "$front CREATE RANK INDEX oi ON o (p(v)); EXPLAIN ANALYZE SELECT a.v FROM o a, o b ORDER BY p(a.v) + p(b.v) LIMIT 1;"
+expect 'the plan of the product of two of the greatest tables, and what it did' 0 $'NestedRankJoin est=17179869184 cost=34360262656 asked=1 gave=1\n  RankScan o a term 1 est=131072 cost=262144 asked=1 gave=1 drawn=1\n  RankScan o b term 2 est=131072 cost=262144 asked=1 gave=1 drawn=1\n' '' -- run s.sql 1
+
+# ---- generated tables
+# The files of these names are not looked at.
+printf 'no table\n' | tee hotel.csv restaurant.csv museum.csv gen.sql >/dev/null
+text='1,360,h1,r1,m1
+Rank term 2 est=1 cost=59 asked=2 gave=1 calls=1
+  Rank term 3 est=1 cost=58 asked=2 gave=1 calls=1
+    NestedRankJoin est=1 cost=8 asked=2 gave=1
+      RankScan hotel h term 1 est=1 cost=2 asked=2 gave=1 drawn=1
+      NestedRankJoin est=1 cost=4 asked=2 gave=1
+        SeqScan restaurant r est=1 cost=1 asked=2 gave=1 drawn=1
+        SeqScan museum m est=1 cost=1 asked=2 gave=1 drawn=1
+'
+expect 'generated tables of one row, and the plan' 0 "$text" '' -- gen 0 1
+expect 'the same by numbers of 20 digits' 0 "$text" '' -- gen 00000000000000000000 00000000000000000001
+# What is wanted was worked out by another program, checks/runs.py.
+text=$(cat "$root/checks/gen_7_600.out" && echo .)
+expect 'generated tables of 600 rows, and the plan' 0 "${text%.}" '' -- gen 7 600
+timeout 60 "$program" gen 7 600 >/dev/full 2>"$work/said/err"
+echo $? >"$work/said/status"
+: >"$work/said/out"
+compare 'a full device under generated tables' 4 '' $'write\n'
+if command -v python3 >/dev/null 2>&1; then
+    mkdir generated
+    python3 "$root/checks/generated.py" 7 600 generated
+    (cd generated && timeout 60 "$program" plain gen.sql >"$work/said/out" 2>"$work/said/err" </dev/null)
+    echo $? >"$work/said/status"
+    compare 'the same tables from files, plainly' 0 "$(head -n 10 "$root/checks/gen_7_600.out")"$'\n' ''
+    (cd generated && timeout 60 "$program" run gen.sql 7 >"$work/said/out" 2>"$work/said/err" </dev/null)
+    echo $? >"$work/said/status"
+    compare 'the same tables from files, by a plan' 0 "${text%.}" ''
+fi
+rm hotel.csv restaurant.csv museum.csv gen.sql
+
 # ---- the words of the command line
 expect 'no words' 2 '' "$usage"$'\n' --
 for words in --help -h top TOP plain 'plain s.sql s.sql' 'PLAIN s.sql' run 'run s.sql' 'run s.sql 1 2' 'RUN s.sql 1' 'run s.sql x' \
-    'run s.sql -1' 'run s.sql 18446744073709551616' 'run s.sql 000000000000000000001' 'top h.csv' 'top h.csv price 100' 'top h.csv price 100 2 3' 'TOP h.csv price 100 2' \
+    'run s.sql -1' 'run s.sql 18446744073709551616' 'run s.sql 000000000000000000001' gen 'gen 1' 'gen 1 1 1' 'gen 4294967296 1' 'gen 1 0' \
+    'gen 1 2001' 'gen x 1' 'gen 1 -1' 'GEN 1 1' 'gen 000000000000000000001 1' 'gen 1 000000000000000000001' 'top h.csv' 'top h.csv price 100' 'top h.csv price 100 2 3' 'TOP h.csv price 100 2' \
     'top h.csv price 0 2' 'top h.csv price 4294967296 2' 'top h.csv price 100 1000001' 'top h.csv price x 2' \
     'top h.csv price 100 x' 'top h.csv price -1 2' 'top h.csv price +100 2' 'top h.csv price 100 2.0' \
     'top h.csv price 000000000000000000100 2' 'top h.csv price 100 000000000000000000002' \
@@ -564,6 +612,18 @@ compare 'a full device under a query' 4 '' $'write\n'
 timeout 60 "$program" run s.sql 1 >/dev/full 2>"$work/said/err"
 echo $? >"$work/said/status"
 compare 'a full device under a query by a plan' 4 '' $'write\n'
+script "${base}DECLARE c CURSOR FOR SELECT x FROM t ORDER BY p(x); FETCH 2 FROM c;"
+timeout 60 "$program" run s.sql 1 >/dev/full 2>"$work/said/err"
+echo $? >"$work/said/status"
+: >"$work/said/out"
+compare 'a full device under a FETCH' 4 '' $'write\n'
+script "CREATE TABLE f (number INT, name TEXT) FROM 'f.csv'; CREATE PREDICATE n (v INT) MAX 999 AS v; DECLARE c CURSOR FOR SELECT name FROM f ORDER BY n(number); FETCH 1 FROM c; FETCH 100000 FROM c;"
+timeout 60 "$program" run s.sql 1 2>"$work/said/err" | head -n 1 >"$work/said/out"
+status=${PIPESTATUS[0]}
+case $status in 0 | 4) echo fine ;; *) echo "$status" ;; esac >"$work/said/status"
+[ "$status" = 4 ] && error=$'write\n' || error=''
+compare 'a reader that leaves after the first FETCH' fine $'1,999,r999\n' "$error"
+: >"$work/said/out"
 timeout 60 "$program" top nope.csv price 100 2 >"$work/said/out" 2>&-
 echo $? >"$work/said/status"
 : >"$work/said/err"

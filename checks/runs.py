@@ -11,6 +11,10 @@ With a script and a seed it tells of a run in the current folder: what it prints
 sample, and behind these, and how many of the last come before the first row.
 
     python3 checks/runs.py examples/films/best.sql 1
+
+With the word `gen`, a number and a number of rows it prints what that word does.
+
+    python3 checks/runs.py gen 7 600
 """
 
 import csv
@@ -19,6 +23,7 @@ import os
 import re
 import sys
 
+from generated import generated
 from queries import Ended, Unread, Words, either, listed, read_query, total, value
 
 MOST_CURSORS = 64
@@ -63,7 +68,7 @@ class Run:
 
     def write(self, text):
         if self.first is None:
-            self.first = len(self.made)
+            self.first = len(self.made) - self.indexed - self.sampled
         self.puts += 1
         number, after = self.fails.get("out", (None, None))
         if number == self.puts:
@@ -228,6 +233,9 @@ class Run:
 
     def script(self, text):
         self.fetched.append("s.sql")
+        return self.told(text)
+
+    def told(self, text):
         status, error = "Done", None
         try:
             for number, part in enumerate(statements(text), 1):
@@ -244,7 +252,19 @@ class Run:
             yield f"  err {error}\\n"
         if self.made:
             yield "  calls " + "; ".join(" ".join([name, *map(str, args)]) for name, args in self.made)
-        yield "  fetched " + " ".join(self.fetched)
+        if self.fetched:
+            yield "  fetched " + " ".join(self.fetched)
+
+
+class Generated(Run):
+    """A run of the generated script. Its files are made in memory, so nothing is fetched."""
+
+    def __init__(self, number, rows, scores, fails):
+        super().__init__(generated(number, rows), scores, fails, number)
+
+    def told(self):
+        lines = list(super().told(self.files["gen.sql"]))
+        return [line for line in lines if not line.startswith("  fetched")]
 
 
 def statements(text):
@@ -289,11 +309,14 @@ def main():
                 old.append(lines[at])
                 at += 1
             new = old
-            is_read = re.fullmatch(r"run (plain s\.sql|run s\.sql \d+)", line) and not set(fails) & {"fetch", "err"}
+            is_read = re.fullmatch(r"run (plain s\.sql|run s\.sql \d+|gen \d+ \d+)", line) and not set(fails) & {"fetch", "err"}
             if is_read and not set(old) & {"  Usage", "  Script", "  Table"}:
-                seed = int(line.split()[-1]) if line.split()[1] == "run" else None
+                _, word, *numbers = line.split()
                 try:
-                    new = list(Run(files, scores, fails, seed).script(files["s.sql"]))
+                    if word == "gen":
+                        new = Generated(*map(int, numbers), scores, fails).told()
+                    else:
+                        new = list(Run(files, scores, fails, int(numbers[-1]) if word == "run" else None).script(files["s.sql"]))
                 except Unread:
                     print(f"unread: {files['s.sql'][len(front):]}", file=sys.stderr)
             print("\n".join(new))
@@ -317,11 +340,14 @@ def tell(name, seed):
     lines = list(run.script(text))
     print(run.put, end="")
     behind = len(run.made) - run.indexed - run.sampled
-    before = (run.first or 0) - run.indexed - run.sampled
-    print(f"{lines[0].strip()}; calls {len(run.made)}: indexes {run.indexed}, samples {run.sampled}, then {behind}, {before} of them before the first row")
+    print(f"{lines[0].strip()}; calls {len(run.made)}: indexes {run.indexed}, samples {run.sampled}, then {behind}, {run.first or 0} of them before the first row")
 
 
-if len(sys.argv) == 3:
+if len(sys.argv) == 4 and sys.argv[1] == "gen":
+    run = Generated(int(sys.argv[2]), int(sys.argv[3]), {}, {})
+    run.told()
+    print(run.put, end="")
+elif len(sys.argv) == 3:
     tell(sys.argv[1], int(sys.argv[2]))
 else:
     main()
