@@ -5,6 +5,7 @@
 # how often `ranksql` called its predicates, those of its indexes and its sample included, is counted by the program count_calls.
 # Each runs five times, in turn, or once where it takes more than two seconds, and the shortest time counts: of the whole, the reading of the files included. Of
 # PostgreSQL that is the time of its command; its server was started before. The memory is the most that the process held.
+# The word `gen` makes the same tables and asks the same query twice, the second time with EXPLAIN ANALYZE; its whole run is measured too.
 # The programs are those that ./ranksql and `rt run` build, or those that the variables RANKSQL and COUNT_CALLS name.
 # shellcheck source=bench/functions.sh
 . "$(dirname "$0")/functions.sh"
@@ -158,10 +159,18 @@ for size in [600, 2000]:
     for side in sides:
         if side != "run" and printed["run"] != "".join("%d,%s\n" % (rank, line) for rank, line in enumerate(printed[side].splitlines(), 1)):
             sys.exit("bench: run and %s print other rows" % side)
+    generated = ["gen", str(NUMBER), str(size)]
+    for _ in range(runs):
+        if best.get("gen", 0) <= SLOW:
+            taken, printed["gen"], _ = spent([program, *generated])
+            best["gen"] = min(taken, best.get("gen", taken))
+    if "".join(printed["gen"].splitlines(True)[:LIMIT]) != printed["run"]:
+        sys.exit("bench: gen prints other rows")
     calls, all_calls = calls_of(["run", folder + "/peers.sql", "1"]), 3 * combinations(rows)
     print("three tables of %d rows: all print the same rows" % size)
     print("  calls: run %d, where the others evaluate %d scores: %.1f times as many" % (calls, all_calls, all_calls / calls))
     print("  time of the whole: " + ", ".join("%s %.1f ms" % (side, best[side] * 1000) for side in sides)
           + "; run takes " + ", ".join("%.2f of %s" % (best["run"] / best[side], side) for side in sides if side != "run"))
+    print("  time of `gen %d %d`: %.1f ms, %.2f of sqlite3; %d calls" % (NUMBER, size, best["gen"] * 1000, best["gen"] / best["sqlite3"], calls_of(generated)))
     print("  memory: " + ", ".join("%s %.1f MB" % (side, memory[side]) for side in sides if side != "PostgreSQL"))
 PYTHON
