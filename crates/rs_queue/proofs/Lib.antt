@@ -1,2 +1,4 @@
+pub mod ItemFacts
 pub mod QueueFacts
+pub mod RunFacts
 pub mod Worked

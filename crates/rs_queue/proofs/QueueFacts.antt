@@ -87,7 +87,7 @@ module _ {K V : Type 0} (cmp : K → K → Ordering) where
         (λ z h. In-sorted cmp key_of xs z (In-permutation ys xs (IsPermutation-sym xs ys moved) z (In-sorted-back cmp key_of ys z h)))
 
     -- a pair whose key is new, behind the others
-    AreApart-push : (pair : K × V) (xs : List (K × V)) → has_key cmp pair.0 (sorted cmp key_of xs) ≡ false → AreApart xs → AreApart (xs ++ pair ∷ [])
+    pub AreApart-push : (pair : K × V) (xs : List (K × V)) → has_key cmp pair.0 (sorted cmp key_of xs) ≡ false → AreApart xs → AreApart (xs ++ pair ∷ [])
     AreApart-push pair xs free apart = IsDistinct-push same_key-equivalence xs pair apart (sym (has_key-sorted pair.0 xs) ∙ free)
 
     last-moved : (pair : K × V) (xs ys : List (K × V)) → IsPermutation (pair ∷ xs) ys → IsPermutation (xs ++ pair ∷ []) ys
