@@ -33,9 +33,13 @@ impl Ord for Key {
     ghost matches_eq = { Prim.search (comparing, rules) };
 
     fn cmp(&self, other: &Key) -> Ordering {
-        let bounds = other.bound.cmp(&self.bound);
-        let blocks = self.ids.block.cmp(&other.ids.block);
-        bounds.then(blocks.then(self.ids.rows.cmp(&other.ids.rows)))
+        match other.bound.cmp(&self.bound) {
+            Ordering::Equal => match self.ids.block.cmp(&other.ids.block) {
+                Ordering::Equal => self.ids.rows.cmp(&other.ids.rows),
+                unequal => unequal,
+            },
+            unequal => unequal,
+        }
     }
 }
 
