@@ -1,7 +1,7 @@
 ghost use Rattle.std.specs.Prelude.{◌≡◌, ◌-◌, ◌*◌, ◌+◌, ◌≤◌, bit_or, false, true, slice_index, OnOk, OnErr};
 ghost use Rattle.rs_rank.specs.Masks.{mask_of};
 ghost use Rattle.rs_rank.specs.Rows.{HasSum};
-ghost use Rattle.rs_rank.specs.Weights.{IsWeights};
+ghost use Rattle.rs_rank.specs.Weights.{IsWeights, score_limit};
 ghost use Rattle.rs_mu.specs.Mu.{CanEnd, CanFeed, IsNewTerm, ask_of, fed, is_reached, left_for, new_mu, scored, taken_for};
 
 use rs_queue::Queue;
@@ -19,15 +19,23 @@ pub struct MuCore {
     weights: Weights,
     terms: u8,
     term: u8,
+    // What the terms that aren't evaluated below can give to a score at most, and what those can that aren't evaluated
+    // here either.
+    below: u64,
+    above: u64,
     // The key of the last row that was fed, by the terms below.
     last: Option<Key>,
     ended: bool,
-    held: Queue<Key, RankRow>,
+    // Of each row held its key by all these terms, in which its ids stand, and its sum.
+    held: Queue<Key, u64>,
     spent: bool,
 }
 
 impl Model for MuCore {
-    ghost use Rattle.rs_rank.specs.Weights.{IsWeights};
+    ghost use Rattle.std.specs.Prelude.{◌≡◌, bit_or};
+    ghost use Rattle.rs_rank.specs.Masks.{mask_of};
+    ghost use Rattle.rs_rank.specs.Rows.{rows_of_sums};
+    ghost use Rattle.rs_rank.specs.Weights.{IsWeights, rest};
     ghost use Rattle.rs_mu.specs.Mu.{IsNewTerm, Mu};
 
     ghost Value = { Mu };
@@ -38,11 +46,12 @@ impl Model for MuCore {
       term = m.term;
       last = m.last;
       ended = m.ended;
-      held = m.held;
+      held = rows_of_sums m.held;
       spent = m.spent;
     } };
 
-    ghost invariant = { λ m. IsWeights m.weights × IsNewTerm m.terms m.term };
+    ghost invariant = { λ m. IsWeights m.weights × IsNewTerm m.terms m.term
+        × (m.below ≡ rest m.weights m.terms) × (m.above ≡ rest m.weights (bit_or m.terms (mask_of m.term))) };
 }
 
 impl MuCore {
@@ -56,6 +65,8 @@ impl MuCore {
             weights,
             terms,
             term,
+            below: weights.rest(terms),
+            above: weights.rest(union(terms, mask_of(term))),
             last: None,
             ended: false,
             held: Queue::new(alloc),
@@ -86,10 +97,10 @@ impl MuCore {
         ensures ok { OnOk result (self.new ≡ fed row worth self.old) }
         ensures err { OnErr result (self.new ≡ record self.old { spent = true }) }
     {
-        let last = row.key(&self.weights, self.terms);
+        let last = key_with(&row, self.below);
         let scored = self.scored(&row, worth);
-        let key = scored.key(&self.weights, union(self.terms, mask_of(self.term)));
-        match self.held.push(key, scored) {
+        let key = key_with(&scored, self.above);
+        match self.held.push(key, scored.sum) {
             Ok(()) => {
                 self.last = Some(last);
                 Ok(())
@@ -130,10 +141,24 @@ impl MuCore {
         ensures left { self.new ≡ left_for (ask_of self.old) self.old }
     {
         match self.ask() {
-            Ask::Ready => self.held.pop().map(|pair| pair.1),
+            Ask::Ready => match self.held.pop() {
+                Some((key, sum)) => Some(RankRow { ids: key.ids, sum }),
+                None => None,
+            },
             Ask::Need => None,
             Ask::End => None,
         }
+    }
+}
+
+/// The key of a row, with what the terms that aren't evaluated on it can give at most.
+fn key_with(row: &RankRow, rest: u64) -> Key
+    requires { row.now.sum + rest ≤ score_limit }
+    ensures { result ≡ record { bound = row.now.sum + rest; ids = row.now.ids } }
+{
+    Key {
+        bound: row.sum + rest,
+        ids: row.ids,
     }
 }
 

@@ -3,6 +3,7 @@ pub mod MaskFacts
 pub mod OrderFacts
 pub mod SortedFacts
 pub mod StableFacts
+pub mod SumFacts
 pub mod TurnFacts
 pub mod WeightFacts
 pub mod WorkedKeys

@@ -1,5 +1,5 @@
 -- Rows by the rows of their entries and the sum of their evaluated terms, and their keys.
-use Rattle.std.specs.Prelude.{ℕ, ◌≤◌, ◌+◌, List, [], ◌∷◌}
+use Rattle.std.specs.Prelude.{ℕ, ◌≤◌, ◌+◌, List, [], ◌∷◌, map}
 use Rattle.std.specs.List.{AllByRecursion}
 use Rattle.rs_rank.specs.declared.key.Key.{Key}
 use Rattle.rs_rank.specs.declared.row.RankRow.{RankRow}
@@ -29,3 +29,7 @@ pub record CanMergeRows (left right : RankRow) : Type 0 where
   pub sides : AreSidesOfRow left.ids right.ids
   pub left_sum : left.sum ≤ score_limit
   pub right_sum : right.sum ≤ score_limit
+
+-- the rows that keys and sums stand for, each with its key
+abbrev pub rows_of_sums : List (Key × ℕ) → List (Key × RankRow)
+rows_of_sums pairs = map (λ pair. (pair.0, record { ids = pair.0.ids; sum = pair.1 })) pairs

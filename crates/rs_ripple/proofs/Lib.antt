@@ -3,6 +3,7 @@ pub mod BarFacts
 pub mod FeedLeftFacts
 pub mod FeedRightFacts
 pub mod GrowFacts
+pub mod HeldFacts
 pub mod JoinLawFacts
 pub mod JoinedFacts
 pub mod LawFacts

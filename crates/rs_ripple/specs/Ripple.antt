@@ -201,6 +201,16 @@ pub record CanFind (row : RankRow) (ripple : Ripple) : Type 0 where
   pub absent : has_key key_cmp (full_key ripple row) ripple.held ≡ false
   pub behind : IsBehind ripple.taken (full_key ripple row)
 
+-- two sides with the keys drawn of them, of which no pair is found
+abbrev pub sides_of : Weights → Input → Input → Ripple
+sides_of weights left right =
+    record { weights = weights; left = left; right = right; taken = None; held = []; spent = false }
+
+-- two kept keys are the thresholds of both sides, where both have drawn
+abbrev pub AreThresholds : Option Key → Option Key → Ripple → Type 0
+AreThresholds to_left to_right ripple = (left right : Drawn) → ripple.left.drawn ≡ Some left → ripple.right.drawn ≡ Some right →
+    (to_left ≡ left_threshold ripple left right) × (to_right ≡ right_threshold ripple left right)
+
 -- what holds of each join: the keys of each side are its own, and all are of one block
 abbrev pub AreKeysOf : Weights → Side → Option Drawn → Type 0
 AreKeysOf weights side None = Unit {0}

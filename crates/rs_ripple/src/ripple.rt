@@ -1,11 +1,11 @@
-ghost use Rattle.std.specs.Prelude.{◌≡◌, false, true, if◌then◌else◌, OnOk, OnErr, Some};
+ghost use Rattle.std.specs.Prelude.{◌≡◌, bit_or, false, true, if◌then◌else◌, OnOk, OnErr, Some};
 ghost use Rattle.rs_rank.specs.declared.ask.JoinAsk.TheVariants.{NeedLeft, NeedRight};
-ghost use Rattle.rs_rank.specs.Merging.{CanMerge};
 ghost use Rattle.rs_rank.specs.Rows.{CanMergeRows, HasSum, key_of, merge_row};
-ghost use Rattle.rs_ripple.specs.Ripple.{CanDrawLeft, CanDrawRight, CanEnd, CanFind, CanJoin, ask_of, first_side, found, is_reached, left_drawn, left_ended, left_for, left_threshold, new_ripple, pair_key, right_drawn, right_ended, right_threshold, taken_for};
+ghost use Rattle.rs_ripple.specs.declared.side.Drawn.{Drawn};
+ghost use Rattle.rs_ripple.specs.Ripple.{CanDrawLeft, CanDrawRight, CanEnd, CanFind, CanJoin, IsRipple, ask_of, first_side, found, full_key, is_reached, left_drawn, left_ended, left_for, left_threshold, new_ripple, right_drawn, right_ended, right_threshold, sides_of, taken_for};
 ghost use Rattle.rs_value.specs.Faults.{raised};
 
-use crate::side::{Drawn, Input, Side};
+use crate::side::{Input, Side};
 use rs_queue::Queue;
 use rs_rank::{JoinAsk, Key, Matcher, RankRow, Weights, union};
 use rs_value::Memory;
@@ -22,14 +22,23 @@ pub struct RippleCore {
     weights: Weights,
     left: Input,
     right: Input,
+    // Where both sides have a row, the keys that no pair with a left or with a right row still to come precedes.
+    to_left: Option<Key>,
+    to_right: Option<Key>,
+    // What the terms that neither side has can give to a score at most.
+    above: u64,
     // The key of the pair that was taken last.
     taken: Option<Key>,
-    held: Queue<Key, RankRow>,
+    // Of each pair held its key, in which its ids stand, and its sum.
+    held: Queue<Key, u64>,
     spent: bool,
 }
 
 impl Model for RippleCore {
-    ghost use Rattle.rs_ripple.specs.Ripple.{IsRipple, Ripple};
+    ghost use Rattle.std.specs.Prelude.{◌≡◌, bit_or};
+    ghost use Rattle.rs_rank.specs.Rows.{rows_of_sums};
+    ghost use Rattle.rs_rank.specs.Weights.{rest};
+    ghost use Rattle.rs_ripple.specs.Ripple.{AreThresholds, IsRipple, Ripple, sides_of};
 
     ghost Value = { Ripple };
 
@@ -38,7 +47,7 @@ impl Model for RippleCore {
       left = r.left;
       right = r.right;
       taken = r.taken;
-      held = r.held;
+      held = rows_of_sums r.held;
       spent = r.spent;
     } };
 
@@ -47,9 +56,10 @@ impl Model for RippleCore {
       left = r.left;
       right = r.right;
       taken = r.taken;
-      held = r.held;
+      held = rows_of_sums r.held;
       spent = r.spent;
-    }) };
+    }) × AreThresholds r.to_left r.to_right (sides_of r.weights r.left r.right)
+        × (r.above ≡ rest r.weights (bit_or r.left.side.terms r.right.side.terms)) };
 }
 
 impl RippleCore {
@@ -63,6 +73,9 @@ impl RippleCore {
             weights,
             left: Input::new(left),
             right: Input::new(right),
+            to_left: None,
+            to_right: None,
+            above: weights.rest(union(left.terms, right.terms)),
             taken: None,
             held: Queue::new(alloc),
             spent: false,
@@ -74,70 +87,30 @@ impl RippleCore {
         requires { self.now.spent ≡ false }
         ensures { result ≡ ask_of self.now }
     {
-        let Some(left) = &self.left.drawn else {
+        let Some(_) = &self.left.drawn else {
             return if self.left.ended {
                 JoinAsk::End
             } else {
                 JoinAsk::NeedLeft
             };
         };
-        let Some(right) = &self.right.drawn else {
+        let Some(_) = &self.right.drawn else {
             return if self.right.ended {
                 JoinAsk::End
             } else {
                 JoinAsk::NeedRight
             };
         };
-        let to_left = self.left_threshold(left, right);
-        let to_right = self.right_threshold(left, right);
         match self.held.peek() {
             Some(first) => {
-                if is_reached(&to_left, first) && is_reached(&to_right, first) {
+                if is_reached(&self.to_left, first) && is_reached(&self.to_right, first) {
                     JoinAsk::Ready
                 } else {
-                    first_side(&to_left, &to_right)
+                    first_side(&self.to_left, &self.to_right)
                 }
             }
-            None => first_side(&to_left, &to_right),
+            None => first_side(&self.to_left, &self.to_right),
         }
-    }
-
-    /// The key that no pair with a left row still to come precedes. Once the left side has ended it lies beyond all keys.
-    fn left_threshold(&self, left: &Drawn, right: &Drawn) -> Option<Key>
-        requires left { self.now.left.drawn ≡ Some left.now }
-        requires right { self.now.right.drawn ≡ Some right.now }
-        ensures { result ≡ left_threshold self.now left.now right.now }
-    {
-        if self.left.ended {
-            return None;
-        }
-        Some(self.pair_key(&left.last, &right.first))
-    }
-
-    /// The key that no pair with a right row still to come precedes. Once the right side has ended it lies beyond all
-    /// keys.
-    fn right_threshold(&self, left: &Drawn, right: &Drawn) -> Option<Key>
-        requires left { self.now.left.drawn ≡ Some left.now }
-        requires right { self.now.right.drawn ≡ Some right.now }
-        ensures { result ≡ right_threshold self.now left.now right.now }
-    {
-        if self.right.ended {
-            return None;
-        }
-        Some(self.pair_key(&left.first, &right.last))
-    }
-
-    /// The key of a pair, of a key of each side.
-    fn pair_key(&self, left: &Key, right: &Key) -> Key
-        requires { CanMerge self.now.weights self.now.left.side.terms self.now.right.side.terms left.now right.now }
-        ensures { result ≡ pair_key self.now left.now right.now }
-    {
-        left.merge(
-            right,
-            &self.weights,
-            self.left.side.terms,
-            self.right.side.terms,
-        )
     }
 
     /// The key of a left row, by the terms of its side.
@@ -161,7 +134,18 @@ impl RippleCore {
         requires { CanDrawLeft key self.old }
         ensures { self.new ≡ left_drawn key self.old }
     {
-        self.left.draw(key);
+        let mut left = self.left;
+        left.draw(key);
+        let to_left = left_threshold(&self.weights, &left, &self.right);
+        // Of the left keys the right side's threshold takes the first alone, which stays.
+        let to_right = if self.left.drawn.is_some() {
+            self.to_right
+        } else {
+            right_threshold(&self.weights, &left, &self.right)
+        };
+        self.left = left;
+        self.to_left = to_left;
+        self.to_right = to_right;
     }
 
     /// Takes the key of the right side's next row.
@@ -169,7 +153,18 @@ impl RippleCore {
         requires { CanDrawRight key self.old }
         ensures { self.new ≡ right_drawn key self.old }
     {
-        self.right.draw(key);
+        let mut right = self.right;
+        right.draw(key);
+        // Of the right keys the left side's threshold takes the first alone, which stays.
+        let to_left = if self.right.drawn.is_some() {
+            self.to_left
+        } else {
+            left_threshold(&self.weights, &self.left, &right)
+        };
+        let to_right = right_threshold(&self.weights, &self.left, &right);
+        self.right = right;
+        self.to_left = to_left;
+        self.to_right = to_right;
     }
 
     /// The left side has no more rows.
@@ -178,6 +173,7 @@ impl RippleCore {
         ensures { self.new ≡ left_ended self.old }
     {
         self.left.end();
+        self.to_left = None;
     }
 
     /// The right side has no more rows.
@@ -186,6 +182,7 @@ impl RippleCore {
         ensures { self.new ≡ right_ended self.old }
     {
         self.right.end();
+        self.to_right = None;
     }
 
     /// Takes a pair of rows of both sides.
@@ -194,16 +191,24 @@ impl RippleCore {
         ensures ok { OnOk result (self.new ≡ found row self.old) }
         ensures err { OnErr result (self.new ≡ record self.old { spent = true }) }
     {
-        let key = row.key(
-            &self.weights,
-            union(self.left.side.terms, self.right.side.terms),
-        );
-        match self.held.push(key, row) {
+        let key = self.full_key(&row);
+        match self.held.push(key, row.sum) {
             Ok(()) => Ok(()),
             Err(_) => {
                 self.give_up();
                 Err(Memory)
             }
+        }
+    }
+
+    /// The key of a pair, by the terms of both sides.
+    fn full_key(&self, row: &RankRow) -> Key
+        requires { HasSum self.now.weights (bit_or self.now.left.side.terms self.now.right.side.terms) row.now }
+        ensures { result ≡ full_key self.now row.now }
+    {
+        Key {
+            bound: row.sum + self.above,
+            ids: row.ids,
         }
     }
 
@@ -247,9 +252,9 @@ impl RippleCore {
     {
         match self.ask() {
             JoinAsk::Ready => match self.held.pop() {
-                Some((key, row)) => {
+                Some((key, sum)) => {
                     self.taken = Some(key);
-                    Some(row)
+                    Some(RankRow { ids: key.ids, sum })
                 }
                 None => None,
             },
@@ -257,6 +262,44 @@ impl RippleCore {
             JoinAsk::NeedRight => None,
             JoinAsk::End => None,
         }
+    }
+}
+
+/// Where both sides have a row, the key that no pair with a left row still to come precedes. Once the left side has ended
+/// it lies beyond all keys.
+fn left_threshold(weights: &Weights, left: &Input, right: &Input) -> Option<Key>
+    requires { IsRipple (sides_of weights.now left.now right.now) }
+    ensures { (left_keys right_keys : Drawn) → left.now.drawn ≡ Some left_keys → right.now.drawn ≡ Some right_keys
+        → result ≡ left_threshold (sides_of weights.now left.now right.now) left_keys right_keys }
+{
+    if left.ended {
+        return None;
+    }
+    match (&left.drawn, &right.drawn) {
+        (Some(left_keys), Some(right_keys)) => {
+            let (left_key, right_key) = (left_keys.last, right_keys.first);
+            Some(left_key.merge(&right_key, weights, left.side.terms, right.side.terms))
+        }
+        _ => None,
+    }
+}
+
+/// Where both sides have a row, the key that no pair with a right row still to come precedes. Once the right side has
+/// ended it lies beyond all keys.
+fn right_threshold(weights: &Weights, left: &Input, right: &Input) -> Option<Key>
+    requires { IsRipple (sides_of weights.now left.now right.now) }
+    ensures { (left_keys right_keys : Drawn) → left.now.drawn ≡ Some left_keys → right.now.drawn ≡ Some right_keys
+        → result ≡ right_threshold (sides_of weights.now left.now right.now) left_keys right_keys }
+{
+    if right.ended {
+        return None;
+    }
+    match (&left.drawn, &right.drawn) {
+        (Some(left_keys), Some(right_keys)) => {
+            let (left_key, right_key) = (left_keys.first, right_keys.last);
+            Some(left_key.merge(&right_key, weights, left.side.terms, right.side.terms))
+        }
+        _ => None,
     }
 }
 
