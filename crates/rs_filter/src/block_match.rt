@@ -6,7 +6,7 @@ use crate::choice::{is_choice, sizes_of};
 use rs_catalog::Catalog;
 use rs_query::Block;
 use rs_rank::{Matcher, RankRow, union};
-use rs_value::Memory;
+use rs_value::{Memory, Value};
 use std::alloc::Global;
 use std::marker::Model;
 
@@ -14,7 +14,6 @@ use std::marker::Model;
 /// alone are those of the sides. The ones that are left speak of entries of both, and are looked at here.
 #[derive(Drop)]
 pub struct BlockMatch<'a> {
-    alloc: Global,
     catalog: &'a Catalog,
     block: &'a Block,
     left: u8,
@@ -23,6 +22,8 @@ pub struct BlockMatch<'a> {
     sizes: [u32; 6],
     // The mask of the conjuncts that are looked at.
     across: u32,
+    // What these look at is put here. It is kept from call to call for its memory.
+    cells: Vec<Value>,
     calls: u64,
 }
 
@@ -58,13 +59,13 @@ impl<'a> BlockMatch<'a> {
         ensures { result ≡ new_matching catalog.now block.now left right }
     {
         BlockMatch {
-            alloc,
             catalog,
             block,
             left,
             right,
             sizes: sizes_of(catalog, block),
             across: across(block, left, right),
+            cells: Vec::new(alloc),
             calls: 0,
         }
     }
@@ -92,7 +93,7 @@ impl<'a> Matcher for BlockMatch<'a> {
         }
         let ids = left.ids.merge(&right.ids);
         self.block
-            .holds(self.alloc, self.catalog, self.across, &ids)
+            .holds_with(self.catalog, self.across, &ids, &mut self.cells)
     }
 }
 

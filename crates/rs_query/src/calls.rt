@@ -34,11 +34,29 @@ impl Block {
         requires rows { HasRows catalog.now self.now ids.now.mask ids.now.rows }
         ensures { IfOk result (λ holds. holds ≡ all_hold catalog.now self.now conjuncts ids.now.rows self.now.conjuncts) }
     {
+        let mut cells = Vec::new(alloc);
+        self.holds_with(catalog, conjuncts, ids, &mut cells)
+    }
+
+    /// The same, with a list to put cells in. The list is to be kept from call to call: what it held goes, and its memory stays, so
+    /// that numbers take none once it has grown. After the call it holds some of the cells that were looked at.
+    pub fn holds_with(
+        &self,
+        catalog: &Catalog,
+        conjuncts: u32,
+        ids: &Ids,
+        cells: &mut Vec<Value>,
+    ) -> Result<bool, Memory>
+        requires block { IsBlock catalog.now self.now }
+        requires inside { AreInside conjuncts ids.now.mask self.now.conjuncts }
+        requires rows { HasRows catalog.now self.now ids.now.mask ids.now.rows }
+        ensures { IfOk result (λ holds. holds ≡ all_hold catalog.now self.now conjuncts ids.now.rows self.now.conjuncts) }
+    {
         for (place, conjunct) in self.conjuncts.items().iter().enumerate() {
             if (conjuncts >> place) % 2 == 0 {
                 continue;
             }
-            if !self.conjunct_holds(alloc, catalog, conjunct, ids)? {
+            if !self.conjunct_holds(catalog, conjunct, ids, cells)? {
                 return Ok(false);
             }
         }
@@ -77,16 +95,19 @@ impl Block {
         requires rows { HasRows catalog.now self.now ids.now.mask ids.now.rows }
         ensures { IfOk result (λ values. values.items ≡ outputs_of catalog.now self.now ids.now.rows) }
     {
-        self.cells_of(alloc, catalog, self.items.items(), ids)
+        let columns = self.items.items();
+        let mut cells = Vec::with_capacity(alloc, columns.len())?;
+        self.cells_of(catalog, columns, ids, &mut cells)?;
+        Ok(cells)
     }
 
-    /// Whether a conjunct of the block holds of these rows.
+    /// Whether a conjunct of the block holds of these rows. The list is then that of the values of its columns.
     fn conjunct_holds(
         &self,
-        alloc: Global,
         catalog: &Catalog,
         conjunct: &Conjunct,
         ids: &Ids,
+        cells: &mut Vec<Value>,
     ) -> Result<bool, Memory>
         requires block { IsBlock catalog.now self.now }
         requires conjunct { IsConjunct catalog.now self.now conjunct.now }
@@ -94,31 +115,31 @@ impl Block {
         requires rows { HasRows catalog.now self.now ids.now.mask ids.now.rows }
         ensures { IfOk result (λ holds. holds ≡ conjunct_holds catalog.now self.now ids.now.rows conjunct.now) }
     {
-        let values = self.cells_of(alloc, catalog, conjunct.columns(), ids)?;
-        Ok(conjunct.condition().test(&values))
+        self.cells_of(catalog, conjunct.columns(), ids, cells)?;
+        Ok(conjunct.condition().test(cells))
     }
 
-    /// The values of columns for these rows, each of its column's kind.
+    /// Makes a list that of the values of columns for these rows, each of its column's kind.
     fn cells_of(
         &self,
-        alloc: Global,
         catalog: &Catalog,
         columns: &[(u8, u8)],
         ids: &Ids,
-    ) -> Result<Vec<Value>, Memory>
+        cells: &mut Vec<Value>,
+    ) -> Result<(), Memory>
         requires block { IsBlock catalog.now self.now }
         requires columns { AllByRecursion (IsColumn catalog.now self.now) columns.now }
         requires inside { is_inside (entries_mask columns.now) ids.now.mask ≡ true }
         requires rows { HasRows catalog.now self.now ids.now.mask ids.now.rows }
-        ensures value { IfOk result (λ values. values.items ≡ map (column_value catalog.now self.now ids.now.rows) columns.now) }
-        ensures fit { IfOk result (λ values. (kind : ValueKind) (i : ℕ) → has_kind catalog.now self.now columns.now kind i ≡ true
-            → has_argument values.items kind i ≡ true) }
+        ensures value { OnOk result (cells.new.items ≡ map (column_value catalog.now self.now ids.now.rows) columns.now) }
+        ensures fit { (kind : ValueKind) (i : ℕ) → has_kind catalog.now self.now columns.now kind i ≡ true
+            → OnOk result (has_argument cells.new.items kind i ≡ true) }
     {
-        let mut values = Vec::with_capacity(alloc, columns.len())?;
+        cells.clear();
         for column in columns {
-            values.push(self.cell_of(catalog, *column, ids)?)?;
+            cells.push(self.cell_of(catalog, *column, ids)?)?;
         }
-        Ok(values)
+        Ok(())
     }
 
     /// Makes a list that of the values of arguments for these rows.

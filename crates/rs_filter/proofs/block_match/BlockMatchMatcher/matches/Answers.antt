@@ -39,15 +39,15 @@ returns-then-right-self-clause-answer c =
           (ap (λ s. is_choice m.right s r.ids.rows) (sym c.self.invariant.sizes_are) ∙ sym w.is_choice-else-right-self.ensures ∙ w.if-not-is_choice-2.true)
     ])
 
-pub holds-requires-clause-inside : goal.holds-requires-clause-inside
-holds-requires-clause-inside c =
+pub holds_with-requires-clause-inside : goal.holds_with-requires-clause-inside
+holds_with-requires-clause-inside c =
     let m = c.self.inside in
     let mask : c.merge-ids.result.mask ≡ bit_or m.left m.right =
     ap (λ (i : Ids). i.mask) c.merge-ids.ensures.value ∙ (λ at. bit_or (c.if-left-self.false at) (c.if-right-self.false at)) in
     subst₂ (λ n e. AreInside n e m.block.now.conjuncts) (sym c.self.invariant.conjuncts_are) (sym mask) (AreInside-across m.left m.right m.block.now.conjuncts)
 
-pub holds-requires-clause-rows : goal.holds-requires-clause-rows
-holds-requires-clause-rows c =
+pub holds_with-requires-clause-rows : goal.holds_with-requires-clause-rows
+holds_with-requires-clause-rows c =
     let m = c.self.inside in
     let l = c.args.left.now in
     let r = c.args.right.now in
@@ -79,5 +79,5 @@ returns-clause-answer c =
     (λ at. all_hold m.catalog.now m.block.now (c.self.invariant.conjuncts_are at) (rows at) conjuncts)
     ∙ all_hold-across m.left m.right m.catalog.now m.block.now (merge_rows l.ids.rows r.ids.rows) conjuncts
     ∙ sym (both-sides m.catalog.now m.block.now m.left m.right l r c.if-left-self.false left c.if-right-self.false right) in
-    subst (λ (s : Matching). IfOk c.holds.result (λ a. a ≡ joins s.catalogue s.block s.left s.right l r)) c.self.view_is
-    (subst (λ b. IfOk c.holds.result (λ a. a ≡ b)) answer c.holds.ensures)
+    subst (λ (s : Matching). IfOk c.holds_with.result (λ a. a ≡ joins s.catalogue s.block s.left s.right l r)) c.self.view_is
+    (subst (λ b. IfOk c.holds_with.result (λ a. a ≡ b)) answer c.holds_with.ensures)

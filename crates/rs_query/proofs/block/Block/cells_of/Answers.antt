@@ -33,6 +33,6 @@ loop-column-preserved c =
           ∙ ap (λ made. made ++ c.in_ok-cell_of.field-0 ∷ []) c.loop-column.invariant.values
           ∙ ap (λ v. map (column_value c.args.catalog.now c.args.self.now c.args.ids.now.rows) (take i columns) ++ v ∷ []) c.in_ok-cell_of.ensures.value
           ∙ sym (map-take-more (column_value c.args.catalog.now c.args.self.now c.args.ids.now.rows) columns i column at);
-      kinds = HaveKinds-more c.args.catalog.now c.args.self.now c.args.ids.now.rows columns c.loop-column.values.items c.push.new.self.items i column c.in_ok-cell_of.field-0 at
+      kinds = HaveKinds-more c.args.catalog.now c.args.self.now c.args.ids.now.rows columns c.loop-column.cells.items c.push.new.self.items i column c.in_ok-cell_of.field-0 at
           c.loop-column.invariant.values c.in_ok-push.ensures.items c.loop-column.invariant.kinds c.in_ok-cell_of.ensures.fit;
     }

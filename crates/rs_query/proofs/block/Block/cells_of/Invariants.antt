@@ -6,6 +6,6 @@ use Rattle.rs_query.proofs.block.Block.cells_of.Given as goal
 
 abbrev pub invariant-loop-column : goal.invariant-loop-column
 invariant-loop-column l = record {
-  values : l.values.items ≡ map (column_value l.catalog l.self l.ids.rows) (take l.column-index l.columns);
-  kinds : HaveKinds l.catalog l.self (take l.column-index l.columns) l.values.items;
+  values : l.cells.items ≡ map (column_value l.catalog l.self l.ids.rows) (take l.column-index l.columns);
+  kinds : HaveKinds l.catalog l.self (take l.column-index l.columns) l.cells.items;
 }

@@ -4,7 +4,7 @@ use Rattle.std.proofs.lemmas.Bool.{eq-eqb, ne_eqb}
 use Rattle.std.proofs.lemmas.Option.{slice_get_read}
 use Rattle.rs_query.specs.Conjuncts.{ConjunctDef}
 use Rattle.rs_query.proofs.HoldFacts.{AreInside-at, hold_from-more, hold_from-out}
-use Rattle.rs_query.proofs.block.Block.holds.Goals as goal
+use Rattle.rs_query.proofs.block.Block.holds_with.Goals as goal
 
 pub conjunct_holds-requires-clause-inside : goal.conjunct_holds-requires-clause-inside
 conjunct_holds-requires-clause-inside c =
