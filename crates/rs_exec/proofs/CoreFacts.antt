@@ -1,12 +1,14 @@
 -- The core of a join, whichever way it finds its pairs: it keeps the same rows, those of a hash join with their join values.
-use Rattle.std.proofs.Common.{◌≡◌, ◌∙◌, ℕ, ◌++◌, Bool, List, [], ◌∷◌, refl, sym, ap, subst}
+use Rattle.std.proofs.Common.{◌≡◌, ◌∙◌, ℕ, ◌++◌, Bool, true, List, [], ◌∷◌, refl, sym, ap, subst}
 use Rattle.std.proofs.lemmas.List.{map-append}
+use Rattle.std.specs.List.{AllByRecursion}
 use Rattle.rs_catalog.specs.Catalogue.{Catalogue}
-use Rattle.rs_filter.specs.JoinValues.{left_values, right_values}
-use Rattle.rs_filter.specs.Matching.{joins}
+use Rattle.rs_filter.specs.JoinValues.{is_equi, left_values, right_values}
+use Rattle.rs_filter.specs.Matching.{is_side, joins}
+use Rattle.rs_filter.proofs.EquiFacts.{equal-values-join}
 use Rattle.rs_filter.proofs.JoinValueFacts.{equal-values}
 use Rattle.rs_hrjn.specs.Drawn.{DrawnRow, rows_of}
-use Rattle.rs_hrjn.specs.Hashed.{Hashed, HaveTheirValues, hash_left, hash_right, joined_of}
+use Rattle.rs_hrjn.specs.Hashed.{Hashed, HaveTheirValues, MatchTheirValues, hash_left, hash_right, joined_of}
 use Rattle.rs_plan.specs.Trees.{PlanTree}
 use Rattle.rs_query.specs.WellFormed.{IsBlock}
 use Rattle.rs_query.specs.declared.block.Block.{Block}
@@ -122,3 +124,35 @@ module _ (catalogue : Catalogue) (block : Block) (left right : ℕ) where
         subst (λ (drawn : List DrawnRow). HaveTheirValues (λ (l : RankRow). joins catalogue block left right l row) values drawn) (sym (ap lefts_in has))
         (subst (λ (v : List Value). HaveTheirValues (λ (l : RankRow). joins catalogue block left right l row) v (with_values (left_values catalogue block left right) (rows_of hashed.lefts))) (sym is)
         (their-right row (rows_of hashed.lefts)))
+
+    -- where the join values are all that is compared, a row of the other side that has them matches
+    module _ (equi : is_equi left right block.conjuncts ≡ true) where
+      match-left : (row : RankRow) → is_side catalogue block left row ≡ true → (rows : List RankRow) → AllByRecursion (λ (other : RankRow). is_side catalogue block right other ≡ true) rows
+          → MatchTheirValues (joins catalogue block left right row) (left_values catalogue block left right row.ids.rows) (with_values (right_values catalogue block left right) rows)
+      match-left row side [] sides = tt
+      match-left row side (other ∷ rows) sides =
+          (λ same. equal-values-join catalogue block left right row other formed apart equi side sides.0 same, match-left row side rows sides.1)
+
+      match-right : (row : RankRow) → is_side catalogue block right row ≡ true → (rows : List RankRow) → AllByRecursion (λ (other : RankRow). is_side catalogue block left other ≡ true) rows
+          → MatchTheirValues (λ (l : RankRow). joins catalogue block left right l row) (right_values catalogue block left right row.ids.rows) (with_values (left_values catalogue block left right) rows)
+      match-right row side [] sides = tt
+      match-right row side (other ∷ rows) sides =
+          (λ same. equal-values-join catalogue block left right other row formed apart equi sides.0 side (sym same), match-right row side rows sides.1)
+
+      pub matched-left : (row : RankRow) (values : List Value) (hashed : Hashed) → HasValues catalogue block left right (Hash hashed)
+          → values ≡ left_values catalogue block left right row.ids.rows → is_side catalogue block left row ≡ true
+          → AllByRecursion (λ (other : RankRow). is_side catalogue block right other ≡ true) (rows_of hashed.rights)
+          → MatchTheirValues (joins catalogue block left right row) values hashed.rights
+      matched-left row values hashed has is side sides =
+          subst (λ (drawn : List DrawnRow). MatchTheirValues (joins catalogue block left right row) values drawn) (sym (ap rights_in has))
+          (subst (λ (v : List Value). MatchTheirValues (joins catalogue block left right row) v (with_values (right_values catalogue block left right) (rows_of hashed.rights))) (sym is)
+          (match-left row side (rows_of hashed.rights) sides))
+
+      pub matched-right : (row : RankRow) (values : List Value) (hashed : Hashed) → HasValues catalogue block left right (Hash hashed)
+          → values ≡ right_values catalogue block left right row.ids.rows → is_side catalogue block right row ≡ true
+          → AllByRecursion (λ (other : RankRow). is_side catalogue block left other ≡ true) (rows_of hashed.lefts)
+          → MatchTheirValues (λ (l : RankRow). joins catalogue block left right l row) values hashed.lefts
+      matched-right row values hashed has is side sides =
+          subst (λ (drawn : List DrawnRow). MatchTheirValues (λ (l : RankRow). joins catalogue block left right l row) values drawn) (sym (ap lefts_in has))
+          (subst (λ (v : List Value). MatchTheirValues (λ (l : RankRow). joins catalogue block left right l row) v (with_values (left_values catalogue block left right) (rows_of hashed.lefts))) (sym is)
+          (match-right row side (rows_of hashed.lefts) sides))

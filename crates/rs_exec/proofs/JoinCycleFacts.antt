@@ -1,6 +1,7 @@
 -- One ask of a join: it goes on from one ask of a side to the next, and gives the next row of its list.
-use Rattle.std.proofs.Common.{ℕ, suc, ◌≡◌, ◌∙◌, ◌+◌, ◌-◌, ◌<◌, false, min, Box, Global, length, refl, sym, ap, ap₂, subst, subst₂, arith}
+use Rattle.std.proofs.Common.{ℕ, suc, ◌≡◌, ◌∙◌, ◌+◌, ◌-◌, ◌<◌, false, true, min, Box, Global, length, refl, sym, ap, ap₂, subst, subst₂, arith}
 use Rattle.std.specs.Box.{with_value}
+use Rattle.std.specs.List.{AllByRecursion}
 use Rattle.std.specs.Prelude.{Bool, Option, Some, None, Result, Ok, Err, if◌then◌else◌, is_some}
 use Rattle.rs_order.specs.Schedule.{Left, Right}
 use Rattle.rs_expr.specs.InOrder.{Inquires, Inquiry}
@@ -12,7 +13,7 @@ use Rattle.rs_query.specs.Tables.{HasRows}
 use Rattle.rs_query.specs.WellFormed.{IsBlock}
 use Rattle.rs_rank.specs.Masks.{AreDisjoint}
 use Rattle.rs_query.specs.declared.query.Query.{Query}
-use Rattle.rs_filter.specs.Matching.{joins}
+use Rattle.rs_filter.specs.Matching.{is_side, joins}
 use Rattle.rs_ripple.specs.Joined.{CanFeedLeft, CanFeedRight, Fits, Joined, fed_left, fed_right, rest_for}
 use Rattle.rs_ripple.specs.Ripple.{CanEnd, Ripple, ask_of, left_ended, left_for, right_ended, taken_for}
 use Rattle.rs_plan.specs.Counts.{asked_of, gave_of}
@@ -36,7 +37,7 @@ use Rattle.rs_exec.specs.declared.scan.TableNode.{TableNode}
 use Rattle.rs_exec.specs.declared.tally.Tally.{Tally}
 use Rattle.rs_exec.proofs.CoreFacts.{joined-like, joined-with, like-has, like-joined, like-values, tree-like, tree-with, with-has}
 use Rattle.rs_exec.proofs.CycleFacts.{ask-failed, tally-more}
-use Rattle.rs_exec.proofs.JoinStepFacts.{AskedAll, JoinBetween, between-fits, between-start, end-after, join-parts, left-can, left-ended, left-fault, left-fed, left-feeds, left-less, left-rows, left-stopped, ready-after, right-can, right-ended, right-fault, right-fed, right-feeds, right-less, right-rows, right-stopped}
+use Rattle.rs_exec.proofs.JoinStepFacts.{AskedAll, JoinBetween, between-fits, between-lefts, between-rights, between-start, end-after, join-parts, left-can, left-ended, left-fault, left-fed, left-feeds, left-less, left-rows, left-side, left-stopped, ready-after, right-can, right-ended, right-fault, right-fed, right-feeds, right-less, right-rows, right-side, right-stopped}
 use Rattle.rs_exec.proofs.StepFacts.{block-formed}
 
 -- a node that stands gives the rows of its block
@@ -169,6 +170,17 @@ module _ {catalogue : Catalogue} {query : Query} {number : ℕ} {core : JoinCore
   turn-values = subst₂ (λ l r. HasValues catalogue (block_in query head.block) l r head.core) (sym turn.left_is) (sym turn.right_is)
       (subst (λ b. HasValues catalogue (block_in query b) (entries left) (entries right) head.core) (sym turn.block_is) turn.values)
 
+  -- the rows that were drawn are rows of their sides
+  pub turn-lefts : AllByRecursion (λ (row : RankRow). is_side catalogue (block_in query head.block) head.left row ≡ true) (joined_in head.core).lefts
+  turn-lefts =
+      subst₂ (λ b m. AllByRecursion (λ (row : RankRow). is_side catalogue (block_in query b) m row ≡ true) (joined_in head.core).lefts) (sym turn.block_is) (sym turn.left_is)
+      (between-lefts catalogue query number left right a old can (asked_in on_left) (asked_in on_right) (joined_in head.core) now turn.between)
+
+  pub turn-rights : AllByRecursion (λ (row : RankRow). is_side catalogue (block_in query head.block) head.right row ≡ true) (joined_in head.core).rights
+  turn-rights =
+      subst₂ (λ b m. AllByRecursion (λ (row : RankRow). is_side catalogue (block_in query b) m row ≡ true) (joined_in head.core).rights) (sym turn.block_is) (sym turn.right_is)
+      (between-rights catalogue query number left right a old can (asked_in on_left) (asked_in on_right) (joined_in head.core) now turn.between)
+
   pub turn-alive : (joined_in head.core).ripple.spent ≡ false
   turn-alive = ap (λ (r : Ripple). r.spent) turn.between.keeps.core.state
 
@@ -246,6 +258,11 @@ module _ {catalogue : Catalogue} {query : Query} {number : ℕ} {core : JoinCore
       turn-left_rows =
           subst₂ (λ b m. HasRows catalogue (block_in query b) m row.ids.rows) (sym turn.block_is) (sym turn.left_is)
           (left-rows catalogue query number left right a old can (asked_in on_left) (asked_in on_right) (joined_in head.core) now turn.between need asked row left-below)
+
+      pub turn-left_side : is_side catalogue (block_in query head.block) head.left row ≡ true
+      turn-left_side =
+          subst₂ (λ b m. is_side catalogue (block_in query b) m row ≡ true) (sym turn.block_is) (sym turn.left_is)
+          (left-side catalogue query number left right a old can (asked_in on_left) (asked_in on_right) (joined_in head.core) now turn.between need asked row left-below)
 
       -- the row is taken
       pub turn-left_fed : (fed : JoinNode) (next : Node)
@@ -365,6 +382,11 @@ module _ {catalogue : Catalogue} {query : Query} {number : ℕ} {core : JoinCore
       turn-right_rows =
           subst₂ (λ b m. HasRows catalogue (block_in query b) m row.ids.rows) (sym turn.block_is) (sym turn.right_is)
           (right-rows catalogue query number left right a old can (asked_in on_left) (asked_in on_right) (joined_in head.core) now turn.between need asked row right-below)
+
+      pub turn-right_side : is_side catalogue (block_in query head.block) head.right row ≡ true
+      turn-right_side =
+          subst₂ (λ b m. is_side catalogue (block_in query b) m row ≡ true) (sym turn.block_is) (sym turn.right_is)
+          (right-side catalogue query number left right a old can (asked_in on_left) (asked_in on_right) (joined_in head.core) now turn.between need asked row right-below)
 
       -- the row is taken
       pub turn-right_fed : (fed : JoinNode) (next : Node)

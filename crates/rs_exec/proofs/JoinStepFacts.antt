@@ -1,12 +1,12 @@
 -- One ask of a join, in steps: where it stands between two asks of its sides, and what each step does.
-use Rattle.std.proofs.Common.{◌≡◌, ◌∙◌, ℕ, zero, suc, ◌≤◌, ◌<◌, ◌+◌, List, [], ◌∷◌, ◌++◌, length, take, drop, refl, sym, ap, ap₂, subst, arith, append-nil, append_assoc}
-use Rattle.std.specs.List.{filter, flat_map}
+use Rattle.std.proofs.Common.{◌≡◌, ◌∙◌, ℕ, zero, true, suc, ◌≤◌, ◌<◌, ◌+◌, List, [], ◌∷◌, ◌++◌, length, take, drop, refl, sym, ap, ap₂, subst, arith, append-nil, append_assoc}
+use Rattle.std.specs.List.{AllByRecursion, filter, flat_map}
 use Rattle.std.specs.Prelude.{min, None, Some, Option, Ok, Err, slice_get}
 use Rattle.std.proofs.lemmas.Grind.{flat_map-append}
 use Rattle.std.proofs.lemmas.List.{length-append}
 use Rattle.std.proofs.lemmas.List.Elements.{filter-append}
 use Rattle.std.proofs.lemmas.Option.{slice_get_past}
-use Rattle.rs_order.proofs.EachFacts.{each-slice_get}
+use Rattle.rs_order.proofs.EachFacts.{each-slice_get, each-take, each-weaker}
 use Rattle.rs_order.specs.Asks.{bar_after}
 use Rattle.rs_order.specs.Schedule.{JoinSide, Left, Right, SideAsk, is_of_side}
 use Rattle.rs_rank.specs.Keys.{key_cmp}
@@ -21,7 +21,7 @@ use Rattle.rs_query.specs.Questions.{Question}
 use Rattle.rs_query.specs.Tables.{HasRows, sizes_of}
 use Rattle.rs_query.specs.declared.query.Query.{Query}
 use Rattle.rs_query.proofs.QuestionFacts.{AllAsked, AllAsked-more, AllAsked-none, Ended-behind, Gave, Gave-ok, Inquires-fault, Stopped-within}
-use Rattle.rs_filter.specs.Matching.{IsView, joins}
+use Rattle.rs_filter.specs.Matching.{IsView, is_side, joins}
 use Rattle.rs_ripple.specs.After.{joined_after}
 use Rattle.rs_ripple.specs.Joined.{CanFeedLeft, CanFeedRight, Fits, JoinStands, Joined, end_left, end_right, fed_left, fed_right, rest_for}
 use Rattle.rs_ripple.specs.Ripple.{ask_of, taken_for}
@@ -44,15 +44,10 @@ use Rattle.rs_exec.specs.Joining.{join_for}
 use Rattle.rs_exec.specs.declared.fault.ExecFault.{ExecFault}
 use Rattle.rs_exec.specs.declared.fault.ExecFault.TheVariants.{Memory}
 use Rattle.rs_exec.proofs.PlacesFacts.{list-few-of, part-of}
-use Rattle.rs_exec.proofs.ListFacts.{IsRow, list-rows}
+use Rattle.rs_exec.proofs.ListFacts.{IsRow, IsView-itself, list-rows}
 use Rattle.rs_exec.proofs.JoinListFacts.{CanJoinParts, join-list, join-sides}
 use Rattle.rs_exec.proofs.RankFacts.{bar_after-map, drop-front}
 use Rattle.rs_exec.proofs.StepFacts.{few-entries, sizes-are}
-
--- a view of all rows
-IsView-itself : (sizes : List ℕ) → IsView sizes sizes
-IsView-itself [] = tt
-IsView-itself (size ∷ sizes) = (omega arith, IsView-itself sizes)
 
 -- a list that begins with another one, and has this item behind it
 split-at : {X : Type 0} (xs made : List X) (x : X) → BeginsWith xs made → slice_get xs (length made) ≡ Some x → xs ≡ made ++ x ∷ drop (suc (length made)) xs
@@ -189,6 +184,23 @@ module _ (catalogue : Catalogue) (query : Query) (number : ℕ) (left right : Pl
         few = list-few-of catalogue old.answer query number side can.number_is can.tables (part-of catalogue query number side part);
         tables = can.tables;
       })
+
+  abbrev OnSide : PlanTree → RankRow → Type 0
+  OnSide side row = is_side catalogue (block_in query number) (entries side) row ≡ true
+
+  -- what holds of each row of the list of a side
+  side-rows : (side : PlanTree) → IsPart catalogue (block_in query number) side
+      → AllByRecursion (IsRow (world_of catalogue old.answer query) number side) (list_of (world_of catalogue old.answer query) number side)
+  side-rows side part = list-rows world number (few-entries catalogue query number can.formed) (sizes-are catalogue old.answer query number can.number_is) side part
+
+  -- so those that came first are rows of that side
+  side-first : (side : PlanTree) → IsPart catalogue (block_in query number) side → (n : ℕ) (rows : List RankRow)
+      → rows ≡ take n (list_of (world_of catalogue old.answer query) number side)
+      → AllByRecursion (λ (row : RankRow). is_side catalogue (block_in query number) (entries side) row ≡ true) rows
+  side-first side part n rows first =
+      subst (AllByRecursion (OnSide side)) (sym first)
+      (each-take (OnSide side) n (list_of world number side)
+      (each-weaker (IsRow world number side) (OnSide side) (λ row is. is.side) (list_of world number side) (side-rows side part)))
 
   abbrev jn : Join
   jn = join_for (world_of catalogue old.answer query) number left right
@@ -329,12 +341,15 @@ module _ (catalogue : Catalogue) (query : Query) (number : ℕ) (left right : Pl
           pub left-feeds : CanFeedLeft row joined
           left-feeds = left-can-feed jn left_rows right_rows between.made a joined between.keeps need row (left-there (Some row) new below)
 
-          -- its entries have rows of their tables
+          -- its entries have rows of their tables, and so it is a row of its side
+          left-row : IsRow (world_of catalogue old.answer query) number left row
+          left-row = each-slice_get (IsRow world number left) left_rows (asked Left between.made) row (side-rows left can.part.0) (left-there (Some row) new below)
+
           pub left-rows : HasRows catalogue (block_in query number) (entries left) row.ids.rows
-          left-rows =
-              (each-slice_get (IsRow world number left) left_rows (asked Left between.made) row
-              (list-rows world number (few-entries catalogue query number can.formed) (sizes-are catalogue old.answer query number can.number_is) left can.part.0)
-              (left-there (Some row) new below)).rows
+          left-rows = left-row.rows
+
+          pub left-side : is_side catalogue (block_in query number) (entries left) row ≡ true
+          left-side = left-row.side
 
           pub left-fed : JoinBetween (world_of catalogue old.answer query) number left right a (suc left_asks) right_asks
               (fed_left (joins catalogue (block_in query number) (entries left) (entries right)) row joined) old new
@@ -403,12 +418,15 @@ module _ (catalogue : Catalogue) (query : Query) (number : ℕ) (left right : Pl
           pub right-feeds : CanFeedRight row joined
           right-feeds = right-can-feed jn left_rows right_rows between.made a joined between.keeps need row (right-there (Some row) new below)
 
-          -- its entries have rows of their tables
+          -- its entries have rows of their tables, and so it is a row of its side
+          right-row : IsRow (world_of catalogue old.answer query) number right row
+          right-row = each-slice_get (IsRow world number right) right_rows (asked Right between.made) row (side-rows right can.part.1) (right-there (Some row) new below)
+
           pub right-rows : HasRows catalogue (block_in query number) (entries right) row.ids.rows
-          right-rows =
-              (each-slice_get (IsRow world number right) right_rows (asked Right between.made) row
-              (list-rows world number (few-entries catalogue query number can.formed) (sizes-are catalogue old.answer query number can.number_is) right can.part.1)
-              (right-there (Some row) new below)).rows
+          right-rows = right-row.rows
+
+          pub right-side : is_side catalogue (block_in query number) (entries right) row ≡ true
+          right-side = right-row.side
 
           pub right-fed : JoinBetween (world_of catalogue old.answer query) number left right a left_asks (suc right_asks)
               (fed_right (joins catalogue (block_in query number) (entries left) (entries right)) row joined) old new
@@ -421,6 +439,13 @@ module _ (catalogue : Catalogue) (query : Query) (number : ℕ) (left right : Pl
             → JoinBetween (world_of catalogue old.answer query) number left right a left_asks (suc right_asks) (end_right joined) old new
         right-ended below =
             right-more None below (end_right joined) (right-end-stands jn left_rows right_rows between.made a joined between.keeps need (right-there None new below)).1
+
+    -- the rows that were drawn are rows of their sides
+    pub between-lefts : AllByRecursion (λ (row : RankRow). is_side catalogue (block_in query number) (entries left) row ≡ true) joined.lefts
+    between-lefts = side-first left can.part.0 (asked Left between.made) joined.lefts between.keeps.left_rows
+
+    pub between-rights : AllByRecursion (λ (row : RankRow). is_side catalogue (block_in query number) (entries right) row ≡ true) joined.rights
+    between-rights = side-first right can.part.1 (asked Right between.made) joined.rights between.keeps.right_rows
 
     pub between-fits : Fits (joins catalogue (block_in query number) (entries left) (entries right)) joined
     between-fits = stands-fits jn left_rows right_rows between.made a joined between.keeps

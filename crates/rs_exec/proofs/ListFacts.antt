@@ -1,5 +1,6 @@
 -- The list of each node, whatever its kind, can be the input of an operator: its keys rise, and no two rows have the same ids.
-use Rattle.std.proofs.Common.{◌≡◌, ◌∙◌, ℕ, ◌≤◌, Bool, true, false, List, [], ◌∷◌, length, map, bit_or, refl, sym, ap, subst}
+use Rattle.std.proofs.Common.{◌≡◌, ◌∙◌, ℕ, ◌≤◌, ◌&&◌, Bool, true, false, List, [], ◌∷◌, length, map, bit_or, refl, sym, ap, ap₂, subst, arith}
+use Rattle.std.proofs.lemmas.Bool.{eq-eqb}
 use Rattle.std.proofs.lemmas.List.{length-map}
 use Rattle.std.proofs.lemmas.Cmp.{nat_cmp_total, tied_itself}
 use Rattle.std.specs.Cmp.Lexicographic.{slice_cmp}
@@ -28,6 +29,8 @@ use Rattle.rs_query.specs.Tables.{HasRows, all_entries, sizes_of}
 use Rattle.rs_query.proofs.ChoiceFacts.{Climbs-combinations, In-combinations-back}
 use Rattle.rs_query.proofs.ExtendFacts.{HasRows-choice}
 use Rattle.rs_query.proofs.RiseFacts.{Rise, Rise-base, Rise-query, each-firsts}
+use Rattle.rs_filter.specs.Matching.{IsView, is_choice, is_side}
+use Rattle.rs_filter.proofs.SideFacts.{test-IsChoice}
 use Rattle.rs_mu.proofs.StandFacts.{length-sorted}
 use Rattle.rs_plan.specs.Lists.{World, numbered_block, ids_of, key_under, list_of, row_under, sizes_in, sources}
 use Rattle.rs_plan.specs.Plans.{IsPart}
@@ -137,27 +140,37 @@ list-others w number tree =
     (HasDistinctKeys-sorted key_cmp (key_under w (terms tree)) ids_cmp ids_cmp-total (λ (r : RankRow). r.ids) (unsorted w number tree)
     (distinct-under w (terms tree) (sources w number tree) (sources-rise w number tree)))
 
--- each row of a part of a plan of a block has its block's number, its entries, and rows of their tables
+-- a view of all rows
+pub IsView-itself : (sizes : List ℕ) → IsView sizes sizes
+IsView-itself [] = tt
+IsView-itself (size ∷ sizes) = (omega arith, IsView-itself sizes)
+
+-- each row of a part of a plan of a block has its block's number, its entries, and rows of their tables. So it is a row of that side
 pub record IsRow (w : World) (number : ℕ) (tree : PlanTree) (row : RankRow) : Type 0 where
   pub block : row.ids.block ≡ number
   pub mask : row.ids.mask ≡ entries tree
   pub rows : HasRows w.catalogue (numbered_block w number) (entries tree) row.ids.rows
+  pub side : is_side w.catalogue (numbered_block w number) (entries tree) row ≡ true
 
 -- the same of ids
 pub record IsOf (w : World) (number mask : ℕ) (ids : Ids) : Type 0 where
   pub block : ids.block ≡ number
   pub mask_is : ids.mask ≡ mask
   pub rows : HasRows w.catalogue (numbered_block w number) mask ids.rows
+  pub choice : is_choice mask (sizes_of w.catalogue (numbered_block w number)) ids.rows ≡ true
 
 module _ (w : World) (number : ℕ) (few : length (numbered_block w number).from ≤ 6) (sizes : sizes_in w number ≡ sizes_of w.catalogue (numbered_block w number)) where
   choice-of : (mask : ℕ) (rows : List ℕ) → In rows (combinations w.catalogue (numbered_block w number) (sizes_in w number) mask)
       → IsOf w number mask (record { block = number; mask = mask; rows = rows })
   choice-of mask rows inside =
-      let choice = (In-combinations-back w.catalogue (numbered_block w number) (sizes_in w number) mask rows inside).0 in
+      let all = sizes_of w.catalogue (numbered_block w number) in
+      let choice : IsChoice mask all rows =
+      subst (λ all. IsChoice mask all rows) sizes (In-combinations-back w.catalogue (numbered_block w number) (sizes_in w number) mask rows inside).0 in
       record {
         block = refl;
         mask_is = refl;
-        rows = HasRows-choice w.catalogue (numbered_block w number) mask rows few (subst (λ all. IsChoice mask all rows) sizes choice);
+        rows = HasRows-choice w.catalogue (numbered_block w number) mask rows few choice;
+        choice = test-IsChoice mask all all rows (IsView-itself all) choice;
       }
 
   each-ids_of : (mask : ℕ) → AllByRecursion (IsOf w number mask) (ids_of w number mask)
@@ -205,7 +218,12 @@ module _ (w : World) (number : ℕ) (few : length (numbered_block w number).from
       let image = In-map-back (row_under w (terms tree)) row (sources w number tree)
       (In-sorted-back key_cmp (key_under w (terms tree)) (unsorted w number tree) row inside) in
       let is = AllByRecursion-In (IsOf w number (entries tree)) (sources w number tree) (each-source tree part) image.source image.is_in in
-      subst (IsRow w number tree) (sym image.image) (record { block = is.block; mask = is.mask_is; rows = is.rows }))
+      subst (IsRow w number tree) (sym image.image) (record {
+        block = is.block;
+        mask = is.mask_is;
+        rows = is.rows;
+        side = ap₂ (λ (a b : Bool). a && b) (eq-eqb image.source.mask (entries tree) is.mask_is) is.choice;
+      }))
 
 -- a list has as many rows as it is made of
 pub list-length : (w : World) (number : ℕ) (tree : PlanTree) → length (list_of w number tree) ≡ length (sources w number tree)

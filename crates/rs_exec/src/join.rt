@@ -1,7 +1,8 @@
 //! The rank joins as a node.
 
-ghost use Rattle.std.specs.Prelude.{◌≡◌, ◌<◌, ◌+◌, ◌-◌, ◌^◌, OnOk, is_some, if◌then◌else◌, false};
-ghost use Rattle.rs_filter.specs.Matching.{joins};
+ghost use Rattle.std.specs.Prelude.{◌≡◌, ◌<◌, ◌+◌, ◌-◌, ◌^◌, OnOk, is_some, if◌then◌else◌, false, true};
+ghost use Rattle.std.specs.List.{AllByRecursion};
+ghost use Rattle.rs_filter.specs.Matching.{is_side, joins};
 ghost use Rattle.rs_plan.specs.Lists.{block_in};
 ghost use Rattle.rs_plan.specs.Trees.{NestedJoin};
 ghost use Rattle.rs_query.specs.WellFormed.{IsBlock};
@@ -119,6 +120,9 @@ impl JoinNode {
         requires values { HasValues catalog.now (block_in query.now self.old.block) self.old.left self.old.right self.old.core }
         requires row { CanFeedLeft row (joined_in self.old.core) }
         requires rows { HasRows catalog.now (block_in query.now self.old.block) self.old.left row.ids.rows }
+        requires side { is_side catalog.now (block_in query.now self.old.block) self.old.left row ≡ true }
+        requires sides { AllByRecursion (λ other. is_side catalog.now (block_in query.now self.old.block) self.old.right other ≡ true)
+            (joined_in self.old.core).rights }
         requires fits { Fits (joins catalog.now (block_in query.now self.old.block) self.old.left self.old.right) (joined_in self.old.core) }
         ensures { OnOk result (self.new ≡ record self.old {
           core = core_like self.old.core catalog.now (block_in query.now self.old.block) self.old.left self.old.right
@@ -143,6 +147,9 @@ impl JoinNode {
         requires values { HasValues catalog.now (block_in query.now self.old.block) self.old.left self.old.right self.old.core }
         requires row { CanFeedRight row (joined_in self.old.core) }
         requires rows { HasRows catalog.now (block_in query.now self.old.block) self.old.right row.ids.rows }
+        requires side { is_side catalog.now (block_in query.now self.old.block) self.old.right row ≡ true }
+        requires sides { AllByRecursion (λ other. is_side catalog.now (block_in query.now self.old.block) self.old.left other ≡ true)
+            (joined_in self.old.core).lefts }
         requires fits { Fits (joins catalog.now (block_in query.now self.old.block) self.old.left self.old.right) (joined_in self.old.core) }
         ensures { OnOk result (self.new ≡ record self.old {
           core = core_like self.old.core catalog.now (block_in query.now self.old.block) self.old.left self.old.right

@@ -1,7 +1,8 @@
 //! How a join finds the pairs that match.
 
-ghost use Rattle.std.specs.Prelude.{◌≡◌, OnOk, false};
-ghost use Rattle.rs_filter.specs.Matching.{joins};
+ghost use Rattle.std.specs.Prelude.{◌≡◌, OnOk, false, true};
+ghost use Rattle.std.specs.List.{AllByRecursion};
+ghost use Rattle.rs_filter.specs.Matching.{is_side, joins};
 ghost use Rattle.rs_query.specs.Tables.{HasRows};
 ghost use Rattle.rs_query.specs.WellFormed.{IsBlock};
 ghost use Rattle.rs_rank.specs.Masks.{AreDisjoint};
@@ -11,7 +12,7 @@ ghost use Rattle.rs_ripple.specs.Ripple.{CanEnd, ask_of, left_ended, left_for, r
 ghost use Rattle.rs_exec.specs.Cores.{HasValues, core_like, core_with, joined_in};
 
 use rs_catalog::Catalog;
-use rs_filter::{BlockMatch, left_values, right_values};
+use rs_filter::{BlockMatch, is_equi_join, left_values, right_values};
 use rs_hrjn::Hrjn;
 use rs_nrjn::Nrjn;
 use rs_query::Block;
@@ -56,6 +57,8 @@ impl JoinCore {
         requires values { HasValues catalog.now block.now left right self.old }
         requires row { CanFeedLeft row (joined_in self.old) }
         requires rows { HasRows catalog.now block.now left row.ids.rows }
+        requires side { is_side catalog.now block.now left row ≡ true }
+        requires sides { AllByRecursion (λ other. is_side catalog.now block.now right other ≡ true) (joined_in self.old).rights }
         requires fits { Fits (joins catalog.now block.now left right) (joined_in self.old) }
         ensures { OnOk result (self.new ≡ core_like self.old catalog.now block.now left right
             (fed_left (joins catalog.now block.now left right) row (joined_in self.old))) }
@@ -65,7 +68,8 @@ impl JoinCore {
             JoinCore::Nested(core) => core.feed_left(row, &mut matcher),
             JoinCore::Hash(core) => {
                 let values = left_values(alloc, catalog, block, left, right, &row.ids)?;
-                core.feed_left(row, values, &mut matcher)
+                let exact = is_equi_join(catalog, block, left, right);
+                core.feed_left(row, values, exact, &mut matcher)
             }
         }
     }
@@ -86,6 +90,8 @@ impl JoinCore {
         requires values { HasValues catalog.now block.now left right self.old }
         requires row { CanFeedRight row (joined_in self.old) }
         requires rows { HasRows catalog.now block.now right row.ids.rows }
+        requires side { is_side catalog.now block.now right row ≡ true }
+        requires sides { AllByRecursion (λ other. is_side catalog.now block.now left other ≡ true) (joined_in self.old).lefts }
         requires fits { Fits (joins catalog.now block.now left right) (joined_in self.old) }
         ensures { OnOk result (self.new ≡ core_like self.old catalog.now block.now left right
             (fed_right (joins catalog.now block.now left right) row (joined_in self.old))) }
@@ -95,7 +101,8 @@ impl JoinCore {
             JoinCore::Nested(core) => core.feed_right(row, &mut matcher),
             JoinCore::Hash(core) => {
                 let values = right_values(alloc, catalog, block, left, right, &row.ids)?;
-                core.feed_right(row, values, &mut matcher)
+                let exact = is_equi_join(catalog, block, left, right);
+                core.feed_right(row, values, exact, &mut matcher)
             }
         }
     }

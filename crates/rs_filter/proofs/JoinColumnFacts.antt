@@ -41,12 +41,12 @@ values-more f xs i x made piece after there made_is piece_is after_is =
     ∙ sym (ap (flat_map f) (take-slice_get xs i x there) ∙ flat_map-append f (take i xs) (x ∷ []))
 
 -- two columns, where each side has one of them
-record AreInSides (left right : ℕ) (o : Option ((ℕ × ℕ) × (ℕ × ℕ))) (pair : (ℕ × ℕ) × (ℕ × ℕ)) : Type 0 where
-  on_left : has_number left pair.0.0 ≡ true
-  on_right : has_number right pair.1.0 ≡ true
-  either : (o ≡ Some pair) ⊎ (o ≡ Some (pair.1, pair.0))
+pub record AreInSides (left right : ℕ) (o : Option ((ℕ × ℕ) × (ℕ × ℕ))) (pair : (ℕ × ℕ) × (ℕ × ℕ)) : Type 0 where
+  pub on_left : has_number left pair.0.0 ≡ true
+  pub on_right : has_number right pair.1.0 ≡ true
+  pub either : (o ≡ Some pair) ⊎ (o ≡ Some (pair.1, pair.0))
 
-in_sides-back : (left right : ℕ) (o : Option ((ℕ × ℕ) × (ℕ × ℕ))) (pair : (ℕ × ℕ) × (ℕ × ℕ)) → in_sides left right o ≡ pair ∷ [] → AreInSides left right o pair
+pub in_sides-back : (left right : ℕ) (o : Option ((ℕ × ℕ) × (ℕ × ℕ))) (pair : (ℕ × ℕ) × (ℕ × ℕ)) → in_sides left right o ≡ pair ∷ [] → AreInSides left right o pair
 in_sides-back left right None pair e = absurd (cc)
 in_sides-back left right (Some p) pair e =
     go (has_number left p.0.0) (has_number right p.1.0) (has_number right p.0.0) (has_number left p.1.0) refl refl refl refl e

@@ -89,9 +89,15 @@ equality-back condition columns a b e = go (equated condition) refl where
       let parts = across-back (slice_get columns places.0) (slice_get columns places.1) a b both in
       record { left = places.0; right = places.1; is_equated = some; left_there = parts.0; right_there = parts.1 }
 
+-- the value of a column that stands among some columns stands at the same place among their values
+pub value-at : (catalogue : Catalogue) (block : Block) (rows : List ℕ) (columns : List (ℕ × ℕ)) (i : ℕ) (column : ℕ × ℕ) → slice_get columns i ≡ Some column
+    → slice_get (map (column_value catalogue block rows) columns) i ≡ Some (column_value catalogue block rows column)
+value-at catalogue block rows columns i column there =
+    slice_get-map (column_value catalogue block rows) columns i ∙ ap (option_map (column_value catalogue block rows)) there
+
 module _ (catalogue : Catalogue) (block : Block) (left right : ℕ) (lefts rights : List ℕ) (apart : AreDisjoint left right)
     (l : IsChoice left (sizes_of catalogue block) lefts) (r : IsChoice right (sizes_of catalogue block) rights) where
-  abbrev merged : List ℕ
+  abbrev pub merged : List ℕ
   merged = merge_rows lefts rights
 
   abbrev on_left : ConjunctDef → List Value
@@ -101,11 +107,11 @@ module _ (catalogue : Catalogue) (block : Block) (left right : ℕ) (lefts right
   on_right c = map (λ (pair : (ℕ × ℕ) × (ℕ × ℕ)). compared c.condition (column_value catalogue block rights pair.1)) (equated_across left right c)
 
   -- a column has its side's value in both together
-  of-left : (column : ℕ × ℕ) → 1 ≤ column.0 → has_number left column.0 ≡ true → column_value catalogue block merged column ≡ column_value catalogue block lefts column
+  pub of-left : (column : ℕ × ℕ) → 1 ≤ column.0 → has_number left column.0 ≡ true → column_value catalogue block merged column ≡ column_value catalogue block lefts column
   of-left column some has =
       column_value-local catalogue block left merged lefts (AgreeOn-left left right (sizes_of catalogue block) lefts rights l r) column some has
 
-  of-right : (column : ℕ × ℕ) → 1 ≤ column.0 → has_number right column.0 ≡ true → column_value catalogue block merged column ≡ column_value catalogue block rights column
+  pub of-right : (column : ℕ × ℕ) → 1 ≤ column.0 → has_number right column.0 ≡ true → column_value catalogue block merged column ≡ column_value catalogue block rights column
   of-right column some has =
       column_value-local catalogue block right merged rights (AgreeOn-right left right (sizes_of catalogue block) lefts rights apart l r) column some has
 
@@ -127,12 +133,10 @@ module _ (catalogue : Catalogue) (block : Block) (left right : ℕ) (lefts right
     go true e (Some pair) f =
         let held : conjunct_holds catalogue block merged c ≡ true = subst (λ b. cond b (conjunct_holds catalogue block merged c) true ≡ true) e truth in
         let at = equality-back c.condition c.columns pair.0 pair.1 (sym is.equality ∙ f) in
-        let value_at : (i : ℕ) (column : ℕ × ℕ) → slice_get c.columns i ≡ Some column
-        → slice_get (map (column_value catalogue block merged) c.columns) i ≡ Some (column_value catalogue block merged column) =
-        λ i column there. slice_get-map (column_value catalogue block merged) c.columns i ∙ ap (option_map (column_value catalogue block merged)) there in
         let same : compared c.condition (column_value catalogue block merged pair.0) ≡ compared c.condition (column_value catalogue block merged pair.1) =
         compared-same c.condition (map (column_value catalogue block merged) c.columns) at.left at.right
-        (column_value catalogue block merged pair.0) (column_value catalogue block merged pair.1) at.is_equated held (value_at at.left pair.0 at.left_there) (value_at at.right pair.1 at.right_there) in
+        (column_value catalogue block merged pair.0) (column_value catalogue block merged pair.1) at.is_equated held (value-at catalogue block merged c.columns at.left pair.0 at.left_there)
+        (value-at catalogue block merged c.columns at.right pair.1 at.right_there) in
         let some_first = (each-slice_get (IsColumn catalogue block) c.columns at.left pair.0 is.columns at.left_there).0 in
         let some_second = (each-slice_get (IsColumn catalogue block) c.columns at.right pair.1 is.columns at.right_there).0 in
         subst (λ b. map (λ (pair : (ℕ × ℕ) × (ℕ × ℕ)). compared c.condition (column_value catalogue block lefts pair.0)) (cond b (in_sides left right c.equality) [])

@@ -1,5 +1,6 @@
 pub mod AcrossFacts
 pub mod DistinctLists
+pub mod EquiFacts
 pub mod JoinColumnFacts
 pub mod JoinFacts
 pub mod JoinValueFacts

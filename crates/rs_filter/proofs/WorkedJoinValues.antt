@@ -1,5 +1,5 @@
 -- Columns that conjuncts equate across two sides, and join values, worked by hand.
-use Rattle.std.proofs.Common.{◌≡◌, ℕ, false, [], ◌∷◌, None, Some, refl, pos}
+use Rattle.std.proofs.Common.{◌≡◌, ℕ, true, false, [], ◌∷◌, None, Some, refl, pos}
 use Rattle.std.specs.Prelude.{codes}
 use Rattle.rs_value.specs.declared.kind.Kind.TheVariants as kind
 use Rattle.rs_value.specs.declared.rel.Rel.TheVariants.{Eq, Lt}
@@ -10,7 +10,7 @@ use Rattle.rs_expr.specs.declared.expr.TextSide.TheVariants as side
 use Rattle.rs_catalog.specs.Catalogue.{Catalogue}
 use Rattle.rs_query.specs.Conjuncts.{ConjunctDef}
 use Rattle.rs_query.specs.declared.block.Block.{Block}
-use Rattle.rs_filter.specs.JoinValues.{equated_across, left_values, right_values}
+use Rattle.rs_filter.specs.JoinValues.{equated_across, is_equi, left_values, right_values}
 
 -- column g is a number, h a text
 abbrev int : ℕ → Value
@@ -71,3 +71,10 @@ values_of_right = refl
 -- where the sides are turned round, so are the columns
 turned_round : equated_across 6 1 (numbers (1, 0) (2, 0) 3) ≡ ((2, 0), (1, 0)) ∷ []
 turned_round = refl
+
+-- a.g < b.g is no equality; of the sides a and b, and c, it isn't across, and neither is a.g = b.g
+less_across : is_equi 1 6 block.conjuncts ≡ false
+less_across = refl
+
+equalities_across : is_equi 3 4 block.conjuncts ≡ true
+equalities_across = refl

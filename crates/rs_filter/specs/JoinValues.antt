@@ -1,7 +1,7 @@
 -- The join values of rows of two sides: what the equalities between a column of the one and a column of the other compare. Rows that
 -- match have equal ones.
-use Rattle.std.specs.Prelude.{ℕ, ◌&&◌, List, [], ◌∷◌, map, Option, Some, None, if◌then◌else◌}
-use Rattle.std.specs.List.{flat_map}
+use Rattle.std.specs.Prelude.{ℕ, ◌==◌, ◌&&◌, ◌||◌, Bool, not, List, [], ◌∷◌, length, map, Option, Some, None, if◌then◌else◌}
+use Rattle.std.specs.List.{flat_map, list_all}
 use Rattle.rs_value.specs.declared.value.Value.{Value}
 use Rattle.rs_value.specs.declared.value.Value.TheVariants as value
 use Rattle.rs_rank.specs.Masks.{has_number}
@@ -29,6 +29,11 @@ in_sides left right (Some pair) =
 -- the columns that a conjunct equates, where it speaks of both sides
 abbrev pub equated_across : ℕ → ℕ → ConjunctDef → List ((ℕ × ℕ) × (ℕ × ℕ))
 equated_across left right conjunct = if is_across left right conjunct then in_sides left right conjunct.equality else []
+
+-- whether each conjunct that speaks of both sides equates a column of the one with a column of the other
+abbrev pub is_equi : ℕ → ℕ → List ConjunctDef → Bool
+is_equi left right conjuncts =
+    list_all (λ (conjunct : ConjunctDef). not (is_across left right conjunct) || (length (equated_across left right conjunct) == 1)) conjuncts
 
 -- the join values of a left row and of a right one, in the order of the conjuncts
 abbrev pub left_values : Catalogue → Block → ℕ → ℕ → List ℕ → List Value

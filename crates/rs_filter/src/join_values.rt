@@ -8,7 +8,7 @@ ghost use Rattle.rs_query.specs.WellFormed.{IsBlock, IsColumn, IsConjunct, colum
 ghost use Rattle.rs_rank.specs.Masks.{has_number};
 ghost use Rattle.rs_value.specs.Value.{fits};
 ghost use Rattle.rs_value.specs.declared.kind.Kind.{Kind as ValueKind};
-ghost use Rattle.rs_filter.specs.JoinValues.{equated_across, in_sides, left_values, right_values};
+ghost use Rattle.rs_filter.specs.JoinValues.{equated_across, in_sides, is_equi, left_values, right_values};
 ghost use Rattle.rs_filter.specs.Matching.{is_across};
 
 use rs_catalog::Catalog;
@@ -61,6 +61,21 @@ pub fn right_values(
         }
     }
     Ok(values)
+}
+
+/// Whether each conjunct that speaks of both sides equates a column of the one with a column of the other. Then rows of the two
+/// sides that have equal join values match, and a join that looks among these alone need not ask whether they do.
+pub fn is_equi_join(catalog: &Catalog, block: &Block, left: u8, right: u8) -> bool
+    requires block { IsBlock catalog.now block.now }
+    ensures { result ≡ is_equi left right block.now.conjuncts }
+{
+    for conjunct in block.conjuncts.items() {
+        let columns = equated_across(catalog, block, conjunct, left, right);
+        if is_across(conjunct, left, right) && columns.is_none() {
+            return false;
+        }
+    }
+    true
 }
 
 /// The columns that a conjunct equates, that of the left side first, where it speaks of both sides.

@@ -13,8 +13,8 @@ ghost use Rattle.rs_query.specs.Combinations.{combinations, satisfies};
 ghost use Rattle.rs_query.specs.Tables.{sizes_of};
 ghost use Rattle.rs_query.specs.WellFormed.{IsBlock};
 ghost use Rattle.rs_query.specs.declared.block.Block.{Block as Bound};
-ghost use Rattle.rs_filter.specs.JoinValues.{left_values, right_values};
-ghost use Rattle.rs_filter.specs.Matching.{IsView, joins, satisfies_across};
+ghost use Rattle.rs_filter.specs.JoinValues.{is_equi, left_values, right_values};
+ghost use Rattle.rs_filter.specs.Matching.{IsView, is_side, joins, satisfies_across};
 
 /// Of rows of two sides that share no entry: each conjunct that speaks of entries of both sides together is looked at in a
 /// side, or across them. So the merge of two rows is a combination of both sides exactly where they are combinations of their
@@ -39,4 +39,14 @@ pub fn matches_have_equal_join_values()
     ensures { (catalogue : Catalogue) (block : Bound) (left right : ℕ) (l r : RankRow) → IsBlock catalogue block
         → AreDisjoint left right → joins catalogue block left right l r ≡ true
         → left_values catalogue block left right l.ids.rows ≡ right_values catalogue block left right r.ids.rows }
+{}
+
+/// Where each conjunct that speaks of both sides is an equality of a column of the one and a column of the other, rows of the
+/// two sides that have equal join values match. So it needn't be looked at whether they do.
+pub fn equal_join_values_match()
+    ensures { (catalogue : Catalogue) (block : Bound) (left right : ℕ) (l r : RankRow) → IsBlock catalogue block
+        → AreDisjoint left right → is_equi left right block.conjuncts ≡ true
+        → is_side catalogue block left l ≡ true → is_side catalogue block right r ≡ true
+        → left_values catalogue block left right l.ids.rows ≡ right_values catalogue block left right r.ids.rows
+        → joins catalogue block left right l r ≡ true }
 {}

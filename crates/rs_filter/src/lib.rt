@@ -14,5 +14,7 @@ pub use block_match::BlockMatch;
 pub use distinct::DistinctCore;
 pub use distinct_laws::{distinct_ends, distinct_takes_rows, new_distinct_stands};
 pub use filter::{passes, project};
-pub use join_values::{left_values, right_values};
-pub use laws::{matches_have_equal_join_values, sides_and_matches_are_combinations};
+pub use join_values::{is_equi_join, left_values, right_values};
+pub use laws::{
+    equal_join_values_match, matches_have_equal_join_values, sides_and_matches_are_combinations,
+};

@@ -1,13 +1,13 @@
 -- The rows at the places of some join values are those that have them, and to try these is to try all.
-use Rattle.std.proofs.Common.{◌≡◌, ℕ, zero, suc, Bool, true, false, cond, List, [], ◌∷◌, get_or, drop, length, map, refl, sym, ◌∙◌, ap}
-use Rattle.std.specs.List.{filter}
+use Rattle.std.proofs.Common.{◌≡◌, ℕ, zero, suc, Bool, true, false, cond, List, [], ◌∷◌, get_or, drop, length, map, refl, sym, ◌∙◌, ap, subst}
+use Rattle.std.specs.List.{AllByRecursion, filter}
 use Rattle.rs_rank.specs.declared.row.RankRow.{RankRow}
 use Rattle.rs_rank.specs.Rows.{merge_row}
 use Rattle.rs_ripple.specs.Pairs.{pairs_against, pairs_with}
 use Rattle.rs_value.specs.declared.value.Value.{Value}
 use Rattle.rs_hrjn.specs.Drawn.{DrawnRow, alike, are_equal, places_alike, rows_of}
-use Rattle.rs_hrjn.specs.Hashed.{HaveTheirValues, rows_at}
-use Rattle.rs_hrjn.proofs.EqualFacts.{are_equal-itself}
+use Rattle.rs_hrjn.specs.Hashed.{HaveTheirValues, MatchTheirValues, rows_at}
+use Rattle.rs_hrjn.proofs.EqualFacts.{are_equal-itself, are_equal-same}
 
 -- as many places as rows
 pub length-places_alike : (values : List Value) (n : ℕ) (rows : List DrawnRow) → length (places_alike values n rows) ≡ length (alike values rows)
@@ -63,3 +63,18 @@ pub pairs_against-alike : (matches : RankRow → RankRow → Bool) (row : RankRo
 pairs_against-alike matches row values lefts same =
     ap (λ rows. pairs_against matches merge_row rows row) (rows-at row values 0 lefts (rows_of lefts) refl)
     ∙ ap (map (λ left. merge_row left row)) (filter-alike (λ left. matches left row) values lefts same)
+
+-- where equal join values are enough, each row that has them matches
+matching : (matches : RankRow → Bool) (values : List Value) (rows : List DrawnRow) → MatchTheirValues matches values rows → AllByRecursion (λ row. matches row ≡ true) (rows_of (alike values rows))
+matching matches values [] same = tt
+matching matches values (drawn ∷ rows) same = step (are_equal values drawn.values) refl (alike values rows) (matching matches values rows same.1)
+  where
+    step : (b : Bool) → are_equal values drawn.values ≡ b → (found : List DrawnRow) → AllByRecursion (λ row. matches row ≡ true) (rows_of found) → AllByRecursion (λ row. matches row ≡ true) (rows_of (cond b (drawn ∷ found) found))
+    step true e found rest = (same.0 (are_equal-same values drawn.values e), rest)
+    step false e found rest = rest
+
+-- so each row at their places does
+pub matching-at : (matches : RankRow → Bool) (other : RankRow) (values : List Value) (rows : List DrawnRow) → MatchTheirValues matches values rows →
+    AllByRecursion (λ row. matches row ≡ true) (rows_at other (places_alike values 0 rows) (rows_of rows))
+matching-at matches other values rows same =
+    subst (AllByRecursion (λ row. matches row ≡ true)) (sym (rows-at other values 0 rows (rows_of rows) refl)) (matching matches values rows same)

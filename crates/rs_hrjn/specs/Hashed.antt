@@ -27,6 +27,10 @@ joined_of hashed = record { ripple = hashed.ripple; lefts = rows_of hashed.lefts
 abbrev pub HaveTheirValues : (RankRow → Bool) → List Value → List DrawnRow → Type 0
 HaveTheirValues matches values rows = AllByRecursion (λ drawn. matches drawn.row ≡ true → values ≡ drawn.values) rows
 
+-- a row of these that has these join values matches
+abbrev pub MatchTheirValues : (RankRow → Bool) → List Value → List DrawnRow → Type 0
+MatchTheirValues matches values rows = AllByRecursion (λ drawn. values ≡ drawn.values → matches drawn.row ≡ true) rows
+
 -- after one more row of a side, with all pairs found
 abbrev pub hash_left : (RankRow → RankRow → Bool) → RankRow → List Value → Hashed → Hashed
 hash_left matches row values hashed = record {

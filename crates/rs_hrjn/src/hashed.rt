@@ -1,7 +1,7 @@
-ghost use Rattle.std.specs.Prelude.{◌≡◌, ◌+◌, ◌≤◌, ◌<◌, Bool, false, true, length, OnOk, OnErr};
+ghost use Rattle.std.specs.Prelude.{◌≡◌, ◌+◌, ◌≤◌, ◌<◌, Bool, IsTrue, false, true, length, OnOk, OnErr};
 ghost use Rattle.std.specs.List.{AllByRecursion};
 ghost use Rattle.rs_hrjn.specs.Drawn.{alike};
-ghost use Rattle.rs_hrjn.specs.Hashed.{Hashed, HaveTheirValues, hash_left, hash_right, joined_of, new_hashed, rows_at};
+ghost use Rattle.rs_hrjn.specs.Hashed.{Hashed, HaveTheirValues, MatchTheirValues, hash_left, hash_right, joined_of, new_hashed, rows_at};
 ghost use Rattle.rs_rank.specs.declared.ask.JoinAsk.TheVariants.{NeedLeft, NeedRight};
 ghost use Rattle.rs_rank.specs.declared.row.RankRow.{RankRow};
 ghost use Rattle.rs_rank.specs.Rows.{CanMergeRows, merge_row};
@@ -67,25 +67,37 @@ impl Hrjn {
 
     /// Takes the left side's next row with its join values, and finds the right rows drawn so far that it matches. The
     /// matcher is asked only of those that have equal join values.
+    ///
+    /// Where `exact` is set, the matcher isn't asked: rows that have equal join values match.
     pub fn feed_left<M: Matcher>(
         &mut self,
         row: RankRow,
         join: Vec<Value>,
+        exact: bool,
         matcher: &mut M,
     ) -> Result<(), Memory>
         requires row { CanFeedLeft row (joined_of self.old) }
         requires fits { Fits (M.truth matcher.old) (joined_of self.old) }
         requires values { HaveTheirValues (M.truth matcher.old row) join.items self.old.rights }
+        requires exact { IsTrue exact → MatchTheirValues (M.truth matcher.old row) join.items self.old.rights }
         ensures ok { OnOk result (self.new ≡ hash_left (M.truth matcher.old) row join.items self.old) }
         ensures fits { OnOk result (Fits (M.truth matcher.old) (joined_of self.new)) }
         ensures err { OnErr result (self.new.ripple.spent ≡ true) }
         ensures truth { M.truth matcher.new ≡ M.truth matcher.old }
         ensures calls { M.calls matcher.new ≤ M.calls matcher.old + length (alike join.items self.old.rights) }
+        ensures unasked { IsTrue exact → M.calls matcher.new ≡ M.calls matcher.old }
     {
         let key = self.core.left_key(&row);
         self.core.left_drawn(key);
         let places = self.rights.places(&join);
-        find_right(&mut self.core, &row, self.rights.rows(), places, matcher)?;
+        find_right(
+            &mut self.core,
+            &row,
+            self.rights.rows(),
+            places,
+            exact,
+            matcher,
+        )?;
         if self.lefts.push(row, join).is_err() {
             self.core.give_up();
             return Err(Memory);
@@ -95,25 +107,37 @@ impl Hrjn {
 
     /// Takes the right side's next row with its join values, and finds the left rows drawn so far that it matches. The
     /// matcher is asked only of those that have equal join values.
+    ///
+    /// Where `exact` is set, the matcher isn't asked: rows that have equal join values match.
     pub fn feed_right<M: Matcher>(
         &mut self,
         row: RankRow,
         join: Vec<Value>,
+        exact: bool,
         matcher: &mut M,
     ) -> Result<(), Memory>
         requires row { CanFeedRight row (joined_of self.old) }
         requires fits { Fits (M.truth matcher.old) (joined_of self.old) }
         requires values { HaveTheirValues (λ left. M.truth matcher.old left row) join.items self.old.lefts }
+        requires exact { IsTrue exact → MatchTheirValues (λ left. M.truth matcher.old left row) join.items self.old.lefts }
         ensures ok { OnOk result (self.new ≡ hash_right (M.truth matcher.old) row join.items self.old) }
         ensures fits { OnOk result (Fits (M.truth matcher.old) (joined_of self.new)) }
         ensures err { OnErr result (self.new.ripple.spent ≡ true) }
         ensures truth { M.truth matcher.new ≡ M.truth matcher.old }
         ensures calls { M.calls matcher.new ≤ M.calls matcher.old + length (alike join.items self.old.lefts) }
+        ensures unasked { IsTrue exact → M.calls matcher.new ≡ M.calls matcher.old }
     {
         let key = self.core.right_key(&row);
         self.core.right_drawn(key);
         let places = self.lefts.places(&join);
-        find_left(&mut self.core, self.lefts.rows(), places, &row, matcher)?;
+        find_left(
+            &mut self.core,
+            self.lefts.rows(),
+            places,
+            &row,
+            exact,
+            matcher,
+        )?;
         if self.rights.push(row, join).is_err() {
             self.core.give_up();
             return Err(Memory);
@@ -153,48 +177,64 @@ impl Hrjn {
     }
 }
 
-/// Tells the core each pair of a left row with one of the right rows at these places that it matches.
+/// Tells the core each pair of a left row with one of the right rows at these places that it matches. Where `exact` is set
+/// it matches all of them, and the matcher isn't asked.
 fn find_right<M: Matcher>(
     core: &mut RippleCore,
     row: &RankRow,
     rights: &[RankRow],
     places: &[usize],
+    exact: bool,
     matcher: &mut M,
 ) -> Result<(), Memory>
     requires alive { core.old.spent ≡ false }
     requires rows { AllByRecursion (CanMergeRows row.now) rights.now }
     requires within { AllByRecursion (λ place. place < length rights.now) places.now }
+    requires exact { IsTrue exact → AllByRecursion (λ right. M.truth matcher.old row.now right ≡ true) (rows_at row.now places.now rights.now) }
     requires pairs { CanFindEach (pairs_with (M.truth matcher.old) merge_row (rows_at row.now places.now rights.now) row.now) core.old }
     ensures ok { OnOk result (core.new ≡ found_each (pairs_with (M.truth matcher.old) merge_row (rows_at row.now places.now rights.now) row.now) core.old) }
     ensures err { OnErr result (core.new.spent ≡ true) }
     ensures truth { M.truth matcher.new ≡ M.truth matcher.old }
     ensures calls { M.calls matcher.new ≤ M.calls matcher.old + length places.now }
+    ensures unasked { IsTrue exact → M.calls matcher.new ≡ M.calls matcher.old }
 {
     for place in places {
-        core.try_pair(row, &rights[*place], matcher)?;
+        if exact {
+            core.found(row.merge(&rights[*place]))?;
+        } else {
+            core.try_pair(row, &rights[*place], matcher)?;
+        }
     }
     Ok(())
 }
 
-/// Tells the core each pair of one of the left rows at these places with a right row that it matches.
+/// Tells the core each pair of one of the left rows at these places with a right row that it matches. Where `exact` is set
+/// it matches all of them, and the matcher isn't asked.
 fn find_left<M: Matcher>(
     core: &mut RippleCore,
     lefts: &[RankRow],
     places: &[usize],
     row: &RankRow,
+    exact: bool,
     matcher: &mut M,
 ) -> Result<(), Memory>
     requires alive { core.old.spent ≡ false }
     requires rows { AllByRecursion (λ left. CanMergeRows left row.now) lefts.now }
     requires within { AllByRecursion (λ place. place < length lefts.now) places.now }
+    requires exact { IsTrue exact → AllByRecursion (λ left. M.truth matcher.old left row.now ≡ true) (rows_at row.now places.now lefts.now) }
     requires pairs { CanFindEach (pairs_against (M.truth matcher.old) merge_row (rows_at row.now places.now lefts.now) row.now) core.old }
     ensures ok { OnOk result (core.new ≡ found_each (pairs_against (M.truth matcher.old) merge_row (rows_at row.now places.now lefts.now) row.now) core.old) }
     ensures err { OnErr result (core.new.spent ≡ true) }
     ensures truth { M.truth matcher.new ≡ M.truth matcher.old }
     ensures calls { M.calls matcher.new ≤ M.calls matcher.old + length places.now }
+    ensures unasked { IsTrue exact → M.calls matcher.new ≡ M.calls matcher.old }
 {
     for place in places {
-        core.try_pair(&lefts[*place], row, matcher)?;
+        if exact {
+            core.found(lefts[*place].merge(row))?;
+        } else {
+            core.try_pair(&lefts[*place], row, matcher)?;
+        }
     }
     Ok(())
 }

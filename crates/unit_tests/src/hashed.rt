@@ -1,5 +1,5 @@
 //! What no clause says of the hash rank join: rows worked by hand, that the matcher is asked of rows with equal join values
-//! alone, and that memory is granted.
+//! alone, and not where these are enough, and that memory is granted.
 
 ghost use Rattle.std.specs.Prelude.{◌≡◌, ◌∷◌, [], Bool, IfOk};
 ghost use Rattle.rs_value.specs.declared.value.Value.TheVariants.{Int};
@@ -23,15 +23,21 @@ fn number(alloc: Global, number: i64) -> Result<Vec<Value>, AllocError>
     Ok(vec![in alloc; Value::Int(number)]?)
 }
 
-// Both rows have the same join values.
-fn assert_a_pair(rt: &impl Abort, alloc: Global, join: &mut Hrjn) -> Result<(), Fail>
+// Both rows have the same join values. So many calls are made of the matcher.
+fn assert_a_pair(
+    rt: &impl Abort,
+    alloc: Global,
+    join: &mut Hrjn,
+    exact: bool,
+    calls: u64,
+) -> Result<(), Fail>
     requires new { join.old ≡ new_hash_join }
     requires fits { (matches : RankRow → RankRow → Bool) → Fits matches (joined_of join.old) }
 {
     let mut matcher = Higher { calls: 0 };
-    join.feed_left(left(1, 10), number(alloc, 7)?, &mut matcher)?;
-    join.feed_right(right(1, 9), number(alloc, 7)?, &mut matcher)?;
-    assert_eq!(rt; matcher.calls, 1);
+    join.feed_left(left(1, 10), number(alloc, 7)?, exact, &mut matcher)?;
+    join.feed_right(right(1, 9), number(alloc, 7)?, exact, &mut matcher)?;
+    assert_eq!(rt; matcher.calls, calls);
     assert_eq!(rt; join.ask(), JoinAsk::Ready);
     assert_eq!(rt; join.take(), Some(pair(1, 1, 19)));
     Ok(())
@@ -40,7 +46,13 @@ fn assert_a_pair(rt: &impl Abort, alloc: Global, join: &mut Hrjn) -> Result<(), 
 #[test]
 fn finds_a_pair_by_its_join_values(rt: HostRuntime) -> Result<(), Fail> {
     let mut join = Hrjn::new(rt.alloc(), TWO_TERMS, LEFT, RIGHT);
-    assert_a_pair(&rt, rt.alloc(), &mut join)
+    assert_a_pair(&rt, rt.alloc(), &mut join, false, 1)
+}
+
+#[test]
+fn asks_no_matcher_where_equal_values_are_enough(rt: HostRuntime) -> Result<(), Fail> {
+    let mut join = Hrjn::new(rt.alloc(), TWO_TERMS, LEFT, RIGHT);
+    assert_a_pair(&rt, rt.alloc(), &mut join, true, 0)
 }
 
 // The rows don't match, and have other join values: the matcher isn't asked.
@@ -49,8 +61,8 @@ fn assert_no_pair(rt: &impl Abort, alloc: Global, join: &mut Hrjn) -> Result<(),
     requires fits { (matches : RankRow → RankRow → Bool) → Fits matches (joined_of join.old) }
 {
     let mut matcher = Higher { calls: 0 };
-    join.feed_left(left(1, 9), number(alloc, 7)?, &mut matcher)?;
-    join.feed_right(right(1, 9), number(alloc, 8)?, &mut matcher)?;
+    join.feed_left(left(1, 9), number(alloc, 7)?, false, &mut matcher)?;
+    join.feed_right(right(1, 9), number(alloc, 8)?, false, &mut matcher)?;
     assert_eq!(rt; matcher.calls, 0);
     join.left_ended();
     assert_eq!(rt; join.ask(), JoinAsk::NeedRight);

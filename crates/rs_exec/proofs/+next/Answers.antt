@@ -11,7 +11,7 @@ use Rattle.rs_exec.specs.declared.node.Node.{Node}
 use Rattle.rs_exec.specs.declared.node.Node.TheVariants as node
 use Rattle.rs_exec.proofs.CycleFacts.{end-kept, given, height, index-entry, index-gave, index-view, input-can, input-failed, input-stands, next-nearer, rank-asked, row-can, row-failed, row-kept, still-stopped, table-entry, table-gave}
 use Rattle.rs_exec.proofs.DistinctCycleFacts.{distinct-asked, drops_turn-can, drops_turn-dropped, drops_turn-failed, drops_turn-given, drops_turn-over, drops_turn-puts, drops_turn-stands, drops_turn-start, drops_turn-stopped}
-use Rattle.rs_exec.proofs.JoinCycleFacts.{join-asked-node, turn-apart, turn-block, turn-fits, turn-given, turn-left_can, turn-left_ended, turn-left_failed, turn-left_fed, turn-left_feeds, turn-left_nearer, turn-left_rows, turn-left_stands, turn-left_stopped, turn-over, turn-right_can, turn-right_ended, turn-right_failed, turn-right_fed, turn-right_feeds, turn-right_nearer, turn-right_rows, turn-right_stands, turn-right_stopped, turn-start, turn-values}
+use Rattle.rs_exec.proofs.JoinCycleFacts.{join-asked-node, turn-apart, turn-block, turn-fits, turn-given, turn-left_can, turn-left_ended, turn-left_failed, turn-left_fed, turn-left_feeds, turn-left_nearer, turn-left_rows, turn-left_side, turn-left_stands, turn-left_stopped, turn-lefts, turn-over, turn-right_can, turn-right_ended, turn-right_failed, turn-right_fed, turn-right_feeds, turn-right_nearer, turn-right_rows, turn-right_side, turn-right_stands, turn-right_stopped, turn-rights, turn-start, turn-values}
 use Rattle.rs_exec.proofs.SetCycleFacts.{set-asked-node, set_turn-alive, set_turn-given, set_turn-left_can, set_turn-left_ended, set_turn-left_failed, set_turn-left_fed, set_turn-left_nearer, set_turn-left_puts, set_turn-left_stands, set_turn-left_stopped, set_turn-left_sum, set_turn-over, set_turn-right_can, set_turn-right_ended, set_turn-right_failed, set_turn-right_fed, set_turn-right_nearer, set_turn-right_puts, set_turn-right_stands, set_turn-right_stopped, set_turn-right_sum, set_turn-small, set_turn-start}
 use Rattle.rs_exec.proofs.StepFacts.{Between, between-start}
 use Rattle.rs_exec.proofs.+next.Goals as goal
@@ -190,6 +190,14 @@ join::next_joined-feed_left-requires-clause-row g t c =
     turn-left_feeds c.loop-left.invariant c.requires.can (sym c.in-NeedLeft.ensures) c.in-Some.row c.in_ok-row-in-NeedLeft.field-0 c.in-Some.is
     (g.S.Scorer.state c.next.new.scorer) c.in_ok-row-in-NeedLeft.ensures.inquires
 
+pub join::next_joined-feed_left-requires-clause-side : goal.join::next_joined-feed_left-requires-clause-side
+join::next_joined-feed_left-requires-clause-side g t c =
+    turn-left_side c.loop-left.invariant c.requires.can (sym c.in-NeedLeft.ensures) c.in-Some.row c.in_ok-row-in-NeedLeft.field-0 c.in-Some.is
+    (g.S.Scorer.state c.next.new.scorer) c.in_ok-row-in-NeedLeft.ensures.inquires
+
+pub join::next_joined-feed_left-requires-clause-sides : goal.join::next_joined-feed_left-requires-clause-sides
+join::next_joined-feed_left-requires-clause-sides g t c = turn-rights c.loop-left.invariant c.requires.can
+
 pub join::next_joined-feed_left-requires-clause-fits : goal.join::next_joined-feed_left-requires-clause-fits
 join::next_joined-feed_left-requires-clause-fits g t c = turn-fits c.loop-left.invariant c.requires.can
 
@@ -246,6 +254,14 @@ pub join::next_joined-feed_right-requires-clause-row : goal.join::next_joined-fe
 join::next_joined-feed_right-requires-clause-row g t c =
     turn-right_feeds c.loop-left.invariant c.requires.can (sym c.in-NeedRight.ensures) c.in-Some-2.row c.in_ok-row-in-NeedRight.field-0 c.in-Some-2.is
     (g.S.Scorer.state c.next-in-NeedRight.new.scorer) c.in_ok-row-in-NeedRight.ensures.inquires
+
+pub join::next_joined-feed_right-requires-clause-side : goal.join::next_joined-feed_right-requires-clause-side
+join::next_joined-feed_right-requires-clause-side g t c =
+    turn-right_side c.loop-left.invariant c.requires.can (sym c.in-NeedRight.ensures) c.in-Some-2.row c.in_ok-row-in-NeedRight.field-0 c.in-Some-2.is
+    (g.S.Scorer.state c.next-in-NeedRight.new.scorer) c.in_ok-row-in-NeedRight.ensures.inquires
+
+pub join::next_joined-feed_right-requires-clause-sides : goal.join::next_joined-feed_right-requires-clause-sides
+join::next_joined-feed_right-requires-clause-sides g t c = turn-lefts c.loop-left.invariant c.requires.can
 
 pub join::next_joined-feed_right-requires-clause-fits : goal.join::next_joined-feed_right-requires-clause-fits
 join::next_joined-feed_right-requires-clause-fits g t c = turn-fits c.loop-left.invariant c.requires.can

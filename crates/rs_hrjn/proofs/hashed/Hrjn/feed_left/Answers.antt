@@ -12,8 +12,8 @@ use Rattle.rs_ripple.specs.Ripple.{Ripple, left_drawn}
 use Rattle.rs_ripple.specs.Stands.{CanFindEach, found_each}
 use Rattle.rs_ripple.proofs.FeedLeftFacts.{left-fed, left-found, left-joined, left-merges, left-pairs}
 use Rattle.rs_hrjn.specs.Drawn.{DrawnRow, rows_of}
-use Rattle.rs_hrjn.specs.Hashed.{HaveTheirValues, hash_left, joined_of, rows_at}
-use Rattle.rs_hrjn.proofs.AlikeFacts.{pairs_with-alike}
+use Rattle.rs_hrjn.specs.Hashed.{HaveTheirValues, MatchTheirValues, hash_left, joined_of, rows_at}
+use Rattle.rs_hrjn.proofs.AlikeFacts.{matching-at, pairs_with-alike}
 use Rattle.rs_hrjn.proofs.hashed.Hrjn.feed_left.Goals as goal
 
 on_ok : {A E P : Type 0} (r : Result A E) → is_ok r ≡ true → OnOk r P → P
@@ -29,6 +29,13 @@ find_right-requires-clause-rows g c =
 pub find_right-requires-clause-within : goal.find_right-requires-clause-within
 find_right-requires-clause-within g c =
     subst (λ (rows : List RankRow). AllByRecursion (λ place. place < length rows) c.places-places.result.now) (sym c.rows.ensures) c.places-places.ensures.within
+
+pub find_right-requires-clause-exact : goal.find_right-requires-clause-exact
+find_right-requires-clause-exact g c = λ exact.
+    let truth = g.M.Matcher.truth c.args.matcher.now in
+    let same = subst (λ h. MatchTheirValues (truth c.args.row) c.args.join.items h.rights) (sym c.self.view_is) (c.requires.exact exact) in
+    subst (AllByRecursion (λ row. truth c.args.row row ≡ true)) (sym (ap₂ (rows_at c.args.row) c.places-places.ensures.places c.rows.ensures))
+    (matching-at (truth c.args.row) c.args.row c.args.join.items c.self.inside.rights same)
 
 pub find_right-requires-clause-pairs : goal.find_right-requires-clause-pairs
 find_right-requires-clause-pairs g c =

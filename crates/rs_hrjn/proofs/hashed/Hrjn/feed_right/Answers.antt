@@ -12,8 +12,8 @@ use Rattle.rs_ripple.specs.Ripple.{Ripple, right_drawn}
 use Rattle.rs_ripple.specs.Stands.{CanFindEach, found_each}
 use Rattle.rs_ripple.proofs.FeedRightFacts.{right-fed, right-found, right-joined, right-merges, right-pairs}
 use Rattle.rs_hrjn.specs.Drawn.{DrawnRow, rows_of}
-use Rattle.rs_hrjn.specs.Hashed.{HaveTheirValues, hash_right, joined_of, rows_at}
-use Rattle.rs_hrjn.proofs.AlikeFacts.{pairs_against-alike}
+use Rattle.rs_hrjn.specs.Hashed.{HaveTheirValues, MatchTheirValues, hash_right, joined_of, rows_at}
+use Rattle.rs_hrjn.proofs.AlikeFacts.{matching-at, pairs_against-alike}
 use Rattle.rs_hrjn.proofs.hashed.Hrjn.feed_right.Goals as goal
 
 on_ok : {A E P : Type 0} (r : Result A E) → is_ok r ≡ true → OnOk r P → P
@@ -29,6 +29,13 @@ find_left-requires-clause-rows g c =
 pub find_left-requires-clause-within : goal.find_left-requires-clause-within
 find_left-requires-clause-within g c =
     subst (λ (rows : List RankRow). AllByRecursion (λ place. place < length rows) c.places-places.result.now) (sym c.rows.ensures) c.places-places.ensures.within
+
+pub find_left-requires-clause-exact : goal.find_left-requires-clause-exact
+find_left-requires-clause-exact g c = λ exact.
+    let truth = g.M.Matcher.truth c.args.matcher.now in
+    let same = subst (λ h. MatchTheirValues (λ left. truth left c.args.row) c.args.join.items h.lefts) (sym c.self.view_is) (c.requires.exact exact) in
+    subst (AllByRecursion (λ row. truth row c.args.row ≡ true)) (sym (ap₂ (rows_at c.args.row) c.places-places.ensures.places c.rows.ensures))
+    (matching-at (λ left. truth left c.args.row) c.args.row c.args.join.items c.self.inside.lefts same)
 
 pub find_left-requires-clause-pairs : goal.find_left-requires-clause-pairs
 find_left-requires-clause-pairs g c =
