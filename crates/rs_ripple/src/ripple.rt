@@ -1,5 +1,5 @@
 ghost use Rattle.std.specs.Prelude.{◌≡◌, bit_or, false, true, if◌then◌else◌, OnOk, OnErr, Some};
-ghost use Rattle.rs_rank.specs.declared.ask.JoinAsk.TheVariants.{NeedLeft, NeedRight};
+ghost use Rattle.rs_rank.specs.declared.ask.JoinAsk.TheVariants.{NeedLeft, NeedRight, Ready};
 ghost use Rattle.rs_rank.specs.Rows.{CanMergeRows, HasSum, key_of, merge_row};
 ghost use Rattle.rs_ripple.specs.declared.side.Drawn.{Drawn};
 ghost use Rattle.rs_ripple.specs.Ripple.{CanDrawLeft, CanDrawRight, CanEnd, CanFind, CanJoin, IsRipple, ask_of, first_side, found, full_key, is_reached, left_drawn, left_ended, left_for, left_threshold, new_ripple, right_drawn, right_ended, right_threshold, sides_of, taken_for};
@@ -251,16 +251,26 @@ impl RippleCore {
         ensures left { self.new ≡ left_for (ask_of self.old) self.old }
     {
         match self.ask() {
-            JoinAsk::Ready => match self.held.pop() {
-                Some((key, sum)) => {
-                    self.taken = Some(key);
-                    Some(RankRow { ids: key.ids, sum })
-                }
-                None => None,
-            },
+            JoinAsk::Ready => self.take_ready(),
             JoinAsk::NeedLeft => None,
             JoinAsk::NeedRight => None,
             JoinAsk::End => None,
+        }
+    }
+
+    /// Takes the first held pair of a join that is ready.
+    pub fn take_ready(&mut self) -> Option<RankRow>
+        requires alive { self.old.spent ≡ false }
+        requires ready { ask_of self.old ≡ Ready }
+        ensures row { result ≡ taken_for (ask_of self.old) self.old }
+        ensures left { self.new ≡ left_for (ask_of self.old) self.old }
+    {
+        match self.held.pop() {
+            Some((key, sum)) => {
+                self.taken = Some(key);
+                Some(RankRow { ids: key.ids, sum })
+            }
+            None => None,
         }
     }
 }
