@@ -2,7 +2,7 @@ ghost use Rattle.std.specs.Prelude.{◌≡◌, ◌+◌, ◌≤◌, ◌<◌, Bool
 ghost use Rattle.std.specs.List.{AllByRecursion};
 ghost use Rattle.rs_hrjn.specs.Drawn.{alike};
 ghost use Rattle.rs_hrjn.specs.Hashed.{Hashed, HaveTheirValues, MatchTheirValues, hash_left, hash_right, joined_of, new_hashed, rows_at};
-ghost use Rattle.rs_rank.specs.declared.ask.JoinAsk.TheVariants.{NeedLeft, NeedRight};
+ghost use Rattle.rs_rank.specs.declared.ask.JoinAsk.TheVariants.{NeedLeft, NeedRight, Ready};
 ghost use Rattle.rs_rank.specs.declared.row.RankRow.{RankRow};
 ghost use Rattle.rs_rank.specs.Rows.{CanMergeRows, merge_row};
 ghost use Rattle.rs_ripple.specs.Joined.{CanFeedLeft, CanFeedRight, Fits};
@@ -174,6 +174,18 @@ impl Hrjn {
             → Fits matches (joined_of self.old) → Fits matches (joined_of self.new) }
     {
         self.core.take()
+    }
+
+    /// Takes the first held pair of a join that is ready.
+    pub fn take_ready(&mut self) -> Option<RankRow>
+        requires alive { self.old.ripple.spent ≡ false }
+        requires ready { ask_of self.old.ripple ≡ Ready }
+        ensures row { result ≡ taken_for (ask_of self.old.ripple) self.old.ripple }
+        ensures left { self.new ≡ record self.old { ripple = left_for (ask_of self.old.ripple) self.old.ripple } }
+        ensures fits { (matches : RankRow → RankRow → Bool)
+            → Fits matches (joined_of self.old) → Fits matches (joined_of self.new) }
+    {
+        self.core.take_ready()
     }
 }
 

@@ -6,7 +6,7 @@ ghost use Rattle.rs_ripple.specs.Joined.{CanFeedLeft, CanFeedRight, Fits, Joined
 ghost use Rattle.rs_ripple.specs.Pairs.{pairs_against, pairs_with};
 ghost use Rattle.rs_ripple.specs.Ripple.{CanEnd, CanJoin, ask_of, taken_for};
 ghost use Rattle.rs_ripple.specs.Stands.{CanFindEach, found_each};
-ghost use Rattle.rs_rank.specs.declared.ask.JoinAsk.TheVariants.{NeedLeft, NeedRight};
+ghost use Rattle.rs_rank.specs.declared.ask.JoinAsk.TheVariants.{NeedLeft, NeedRight, Ready};
 
 use rs_rank::{JoinAsk, Matcher, RankRow, Weights};
 use rs_ripple::{RippleCore, Side};
@@ -127,6 +127,17 @@ impl Nrjn {
         ensures fits { (matches : RankRow → RankRow → Bool) → Fits matches self.old → Fits matches self.new }
     {
         self.core.take()
+    }
+
+    /// Takes the first held pair of a join that is ready.
+    pub fn take_ready(&mut self) -> Option<RankRow>
+        requires alive { self.old.ripple.spent ≡ false }
+        requires ready { ask_of self.old.ripple ≡ Ready }
+        ensures row { result ≡ taken_for (ask_of self.old.ripple) self.old.ripple }
+        ensures left { self.new ≡ rest_for (ask_of self.old.ripple) self.old }
+        ensures fits { (matches : RankRow → RankRow → Bool) → Fits matches self.old → Fits matches self.new }
+    {
+        self.core.take_ready()
     }
 }
 
