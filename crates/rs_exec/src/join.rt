@@ -6,7 +6,7 @@ ghost use Rattle.rs_filter.specs.Matching.{is_side, joins};
 ghost use Rattle.rs_plan.specs.Lists.{block_in};
 ghost use Rattle.rs_plan.specs.Trees.{NestedJoin};
 ghost use Rattle.rs_query.specs.WellFormed.{IsBlock};
-ghost use Rattle.rs_rank.specs.declared.ask.JoinAsk.TheVariants.{NeedLeft, NeedRight};
+ghost use Rattle.rs_rank.specs.declared.ask.JoinAsk.TheVariants.{NeedLeft, NeedRight, Ready};
 ghost use Rattle.rs_query.specs.Tables.{HasRows};
 ghost use Rattle.rs_rank.specs.Masks.{AreDisjoint};
 ghost use Rattle.rs_hrjn.specs.Hashed.{new_hashed};
@@ -177,9 +177,10 @@ impl JoinNode {
         self.core.end_right();
     }
 
-    /// The first held pair, where the join is ready.
+    /// The first held pair of a join that is ready.
     fn give(&mut self) -> Option<RankRow>
         requires alive { (joined_in self.old.core).ripple.spent ≡ false }
+        requires ready { ask_of (joined_in self.old.core).ripple ≡ Ready }
         requires small { self.old.tally.gave < 2 ^ 128 - 1 }
         ensures row { result ≡ taken_for (ask_of (joined_in self.old.core).ripple) (joined_in self.old.core).ripple }
         ensures after { self.new ≡ record self.old {
@@ -187,7 +188,7 @@ impl JoinNode {
           tally = record self.old.tally { gave = if is_some result then self.old.tally.gave + 1 else self.old.tally.gave };
         } }
     {
-        let row = self.core.take();
+        let row = self.core.take_ready();
         if row.is_some() {
             self.tally.give();
         }

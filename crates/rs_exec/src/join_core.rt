@@ -6,7 +6,7 @@ ghost use Rattle.rs_filter.specs.Matching.{is_side, joins};
 ghost use Rattle.rs_query.specs.Tables.{HasRows};
 ghost use Rattle.rs_query.specs.WellFormed.{IsBlock};
 ghost use Rattle.rs_rank.specs.Masks.{AreDisjoint};
-ghost use Rattle.rs_rank.specs.declared.ask.JoinAsk.TheVariants.{NeedLeft, NeedRight};
+ghost use Rattle.rs_rank.specs.declared.ask.JoinAsk.TheVariants.{NeedLeft, NeedRight, Ready};
 ghost use Rattle.rs_ripple.specs.Joined.{CanFeedLeft, CanFeedRight, Fits, fed_left, fed_right};
 ghost use Rattle.rs_ripple.specs.Ripple.{CanEnd, ask_of, left_ended, left_for, right_ended, taken_for};
 ghost use Rattle.rs_exec.specs.Cores.{HasValues, core_like, core_with, joined_in};
@@ -129,15 +129,16 @@ impl JoinCore {
         }
     }
 
-    /// The first held pair, where the join is ready.
-    pub(crate) fn take(&mut self) -> Option<RankRow>
-        requires { (joined_in self.old).ripple.spent ≡ false }
+    /// The first held pair of a join that is ready.
+    pub(crate) fn take_ready(&mut self) -> Option<RankRow>
+        requires alive { (joined_in self.old).ripple.spent ≡ false }
+        requires ready { ask_of (joined_in self.old).ripple ≡ Ready }
         ensures row { result ≡ taken_for (ask_of (joined_in self.old).ripple) (joined_in self.old).ripple }
         ensures after { self.new ≡ core_with self.old (left_for (ask_of (joined_in self.old).ripple) (joined_in self.old).ripple) }
     {
         match self {
-            JoinCore::Nested(core) => core.take(),
-            JoinCore::Hash(core) => core.take(),
+            JoinCore::Nested(core) => core.take_ready(),
+            JoinCore::Hash(core) => core.take_ready(),
         }
     }
 }
