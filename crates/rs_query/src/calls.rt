@@ -1,6 +1,6 @@
 //! What a block computes for rows of its entries: whether conjuncts hold, and values of columns.
 
-ghost use Rattle.std.specs.Prelude.{◌≡◌, ◌≤◌, ◌-◌, ◌∷◌, [], IfOk, List, OnOk, Some, length, map, slice_get, true, ℕ};
+ghost use Rattle.std.specs.Prelude.{◌≡◌, ◌≤◌, ◌-◌, ◌++◌, ◌∷◌, [], IfOk, List, OnOk, Some, length, map, slice_get, true, ℕ};
 ghost use Rattle.std.specs.List.{AllByRecursion};
 ghost use Rattle.rs_expr.specs.Predicates.{PredicateDef};
 ghost use Rattle.rs_expr.specs.Uses.{has_argument};
@@ -137,7 +137,7 @@ impl Block {
     {
         cells.clear();
         for column in columns {
-            cells.push(self.cell_of(catalog, *column, ids)?)?;
+            push_copy(cells, self.cell(catalog, *column, ids))?;
         }
         Ok(())
     }
@@ -160,38 +160,46 @@ impl Block {
     {
         values.clear();
         for arg in args {
-            values.push(self.arg_of(catalog, arg, ids)?)?;
+            self.push_arg(catalog, arg, ids, values)?;
         }
         Ok(())
     }
 
-    /// The value of an argument for these rows. A number takes no memory.
-    fn arg_of(&self, catalog: &Catalog, arg: &BoundArg, ids: &Ids) -> Result<Value, Memory>
+    /// Appends the value of an argument for these rows.
+    fn push_arg(
+        &self,
+        catalog: &Catalog,
+        arg: &BoundArg,
+        ids: &Ids,
+        values: &mut Vec<Value>,
+    ) -> Result<(), Memory>
         requires block { IsBlock catalog.now self.now }
         requires arg { (kind : ValueKind) × IsArg catalog.now self.now kind arg.now }
         requires inside { is_inside (entries_mask (argument_columns (arg.now ∷ []))) ids.now.mask ≡ true }
         requires rows { HasRows catalog.now self.now ids.now.mask ids.now.rows }
-        ensures value { IfOk result (λ value. value ≡ argument_value catalog.now self.now ids.now.rows arg.now) }
-        ensures fit { (kind : ValueKind) → IsArg catalog.now self.now kind arg.now → IfOk result (λ value. fits kind value ≡ true) }
+        ensures value { OnOk result (values.new.items ≡ values.old.items ++ argument_value catalog.now self.now ids.now.rows arg.now ∷ []) }
+        ensures fit { (kind : ValueKind) → IsArg catalog.now self.now kind arg.now → fits kind (argument_value catalog.now self.now ids.now.rows arg.now) ≡ true }
     {
         match arg {
-            BoundArg::Column(entry, column) => self.cell_of(catalog, (*entry, *column), ids),
-            BoundArg::Int(number) => Ok(Value::Int(*number)),
-            BoundArg::Text(text) => Ok(Value::Text(text.copy()?)),
+            BoundArg::Column(entry, column) => {
+                push_copy(values, self.cell(catalog, (*entry, *column), ids))
+            }
+            BoundArg::Int(number) => Ok(values.push(Value::Int(*number))?),
+            BoundArg::Text(text) => Ok(values.push(Value::Text(text.copy()?))?),
         }
     }
 
-    /// The value of a column for these rows, of the column's kind. A number takes no memory.
-    fn cell_of(&self, catalog: &Catalog, column: (u8, u8), ids: &Ids) -> Result<Value, Memory>
+    /// The cell of a column for these rows, of the column's kind.
+    fn cell<'a>(&self, catalog: &'a Catalog, column: (u8, u8), ids: &Ids) -> &'a Value
         requires block { IsBlock catalog.now self.now }
         requires column { IsColumn catalog.now self.now column }
         requires inside { is_inside (mask_of column.0) ids.now.mask ≡ true }
         requires rows { HasRows catalog.now self.now ids.now.mask ids.now.rows }
-        ensures value { IfOk result (λ value. value ≡ column_value catalog.now self.now ids.now.rows column) }
-        ensures fit { (kind : ValueKind) → column_kind catalog.now self.now column ≡ Some kind → IfOk result (λ value. fits kind value ≡ true) }
+        ensures value { result.now ≡ column_value catalog.now self.now ids.now.rows column }
+        ensures fit { (kind : ValueKind) → column_kind catalog.now self.now column ≡ Some kind → fits kind result.now ≡ true }
     {
         let row = ids.rows[column.0 as usize - 1];
-        self.table(catalog, column.0).value(row, column.1)
+        self.table(catalog, column.0).cell(row, column.1)
     }
 
     /// The table of an entry.
@@ -203,4 +211,15 @@ impl Block {
     {
         catalog.table(self.from.items()[entry as usize - 1].0)
     }
+}
+
+/// Appends a copy of a value. A number goes straight into the list: no result with a value in it is moved about for it.
+fn push_copy(values: &mut Vec<Value>, value: &Value) -> Result<(), Memory>
+    ensures { OnOk result (values.new.items ≡ values.old.items ++ value.now ∷ []) }
+{
+    match value {
+        Value::Int(number) => values.push(Value::Int(*number))?,
+        Value::Text(text) => values.push(Value::Text(text.copy()?))?,
+    }
+    Ok(())
 }
