@@ -11,13 +11,14 @@ ghost use Rattle.rs_query.specs.declared.term.Term.{Term as BoundTerm};
 ghost use Rattle.rs_rank.specs.Masks.{mask_of};
 ghost use Rattle.rs_value.specs.Value.{all_fit, fits};
 ghost use Rattle.rs_value.specs.declared.kind.Kind.{Kind as ValueKind};
+ghost use Rattle.rs_value.specs.declared.value.Value.TheVariants as value;
 
 use crate::block::Block;
 use crate::conjunct::Conjunct;
 use rs_catalog::{BoundArg, Catalog};
 use rs_rank::Ids;
 use rs_table::Table;
-use rs_value::{Memory, Value};
+use rs_value::{Memory, Text, Value};
 use std::alloc::Global;
 
 impl Block {
@@ -184,8 +185,8 @@ impl Block {
             BoundArg::Column(entry, column) => {
                 push_copy(values, self.cell(catalog, (*entry, *column), ids))
             }
-            BoundArg::Int(number) => Ok(values.push(Value::Int(*number))?),
-            BoundArg::Text(text) => Ok(values.push(Value::Text(text.copy()?))?),
+            BoundArg::Int(number) => push_number(values, *number),
+            BoundArg::Text(text) => push_text(values, text),
         }
     }
 
@@ -213,13 +214,26 @@ impl Block {
     }
 }
 
-/// Appends a copy of a value. A number goes straight into the list: no result with a value in it is moved about for it.
+/// Appends a copy of a value.
 fn push_copy(values: &mut Vec<Value>, value: &Value) -> Result<(), Memory>
     ensures { OnOk result (values.new.items ≡ values.old.items ++ value.now ∷ []) }
 {
     match value {
-        Value::Int(number) => values.push(Value::Int(*number))?,
-        Value::Text(text) => values.push(Value::Text(text.copy()?))?,
+        Value::Int(number) => push_number(values, *number),
+        Value::Text(text) => push_text(values, text),
     }
-    Ok(())
+}
+
+/// Appends a number. It stands apart from the copy of a text, so that no result with a value in it is moved about for a number.
+fn push_number(values: &mut Vec<Value>, number: i64) -> Result<(), Memory>
+    ensures { OnOk result (values.new.items ≡ values.old.items ++ value.Int number ∷ []) }
+{
+    Ok(values.push(Value::Int(number))?)
+}
+
+/// Appends a copy of a text.
+fn push_text(values: &mut Vec<Value>, text: &Text) -> Result<(), Memory>
+    ensures { OnOk result (values.new.items ≡ values.old.items ++ value.Text text.now ∷ []) }
+{
+    Ok(values.push(Value::Text(text.copy()?))?)
 }
