@@ -39,8 +39,9 @@ impl Block {
         self.holds_with(catalog, conjuncts, ids, &mut cells)
     }
 
-    /// The same, with a list to put cells in. The list is to be kept from call to call: what it held goes, and its memory stays, so
-    /// that numbers take none once it has grown. After the call it holds some of the cells that were looked at.
+    /// The same, with a list to put cells in. The list is to be kept from call to call: its memory stays, so that numbers take none
+    /// once it has grown. A conjunct that equates columns of two entries takes no memory, and leaves the list as it is. Each other
+    /// one that is looked at makes it the list of its cells.
     pub fn holds_with(
         &self,
         catalog: &Catalog,
@@ -102,7 +103,8 @@ impl Block {
         Ok(cells)
     }
 
-    /// Whether a conjunct of the block holds of these rows. The list is then that of the values of its columns.
+    /// Whether a conjunct of the block holds of these rows. Columns of two entries that it equates are compared where they stand.
+    /// Else the list is made that of the values of its columns.
     fn conjunct_holds(
         &self,
         catalog: &Catalog,
@@ -116,6 +118,9 @@ impl Block {
         requires rows { HasRows catalog.now self.now ids.now.mask ids.now.rows }
         ensures { IfOk result (λ holds. holds ≡ conjunct_holds catalog.now self.now ids.now.rows conjunct.now) }
     {
+        if let Some((left, right)) = conjunct.equality() {
+            return Ok(self.cell(catalog, left, ids) == self.cell(catalog, right, ids));
+        }
         self.cells_of(catalog, conjunct.columns(), ids, cells)?;
         Ok(conjunct.condition().test(cells))
     }
