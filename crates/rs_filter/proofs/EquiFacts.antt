@@ -22,10 +22,11 @@ use Rattle.rs_query.specs.Conjuncts.{ConjunctDef}
 use Rattle.rs_query.specs.Meaning.{column_value, conjunct_holds}
 use Rattle.rs_query.specs.Tables.{sizes_of}
 use Rattle.rs_query.specs.WellFormed.{IsBlock, IsConjunct, equated}
+use Rattle.rs_query.proofs.EquatedFacts.{conjunct-equated, value-at}
 use Rattle.rs_filter.specs.JoinValues.{compared, equated_across, in_sides, is_equi, left_values, right_values}
 use Rattle.rs_filter.specs.Matching.{holds_across, is_across, is_choice, is_side, joins, satisfies_across}
 use Rattle.rs_filter.proofs.JoinColumnFacts.{equality-columns, in_sides-back}
-use Rattle.rs_filter.proofs.JoinValueFacts.{equality-back, of-left, of-right, value-at}
+use Rattle.rs_filter.proofs.JoinValueFacts.{of-left, of-right}
 use Rattle.rs_filter.proofs.SideFacts.{IsChoice-test, and-first, and-second}
 
 -- where both values are equal as far as the comparison looks at them, `column = column` holds
@@ -77,7 +78,7 @@ module _ (catalogue : Catalogue) (block : Block) (left right : ℕ) (lefts right
   equated-holds : (c : ConjunctDef) → IsConjunct catalogue block c → (a b : ℕ × ℕ) → c.equality ≡ Some (a, b)
       → compared c.condition (in_both a) ≡ compared c.condition (in_both b) → conjunct_holds catalogue block (merge_rows lefts rights) c ≡ true
   equated-holds c is a b e same =
-      let at = equality-back c.condition c.columns a b (sym is.equality ∙ e) in
+      let at = conjunct-equated catalogue block c is a b e in
       same-holds c.condition (map in_both c.columns) at.left at.right (in_both a) (in_both b) at.is_equated
       (value-at catalogue block (merge_rows lefts rights) c.columns at.left a at.left_there)
       (value-at catalogue block (merge_rows lefts rights) c.columns at.right b at.right_there) same

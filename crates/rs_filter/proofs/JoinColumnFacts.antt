@@ -21,11 +21,11 @@ use Rattle.rs_query.specs.declared.block.Block.{Block}
 use Rattle.rs_query.specs.Conjuncts.{ConjunctDef}
 use Rattle.rs_query.specs.Meaning.{column_value}
 use Rattle.rs_query.specs.WellFormed.{IsColumn, IsConjunct, column_kind, equated, has_kind}
-use Rattle.rs_query.proofs.CellFacts.{kind_there}
+use Rattle.rs_query.proofs.CellFacts.{kind-at}
+use Rattle.rs_query.proofs.EquatedFacts.{conjunct-equated}
 use Rattle.rs_query.proofs.ListFacts.{take-slice_get}
 use Rattle.rs_filter.specs.JoinValues.{compared, equated_across, in_sides}
 use Rattle.rs_filter.specs.Matching.{is_across}
-use Rattle.rs_filter.proofs.JoinValueFacts.{equality-back}
 use Rattle.rs_filter.proofs.SideFacts.{and-first, and-second}
 
 -- the join values of one conjunct, of the columns of one side
@@ -81,10 +81,6 @@ module _ (catalogue : Catalogue) (block : Block) where
   abbrev pub HasKindOf : ℕ × ℕ → Value → Type 0
   HasKindOf column v = (k : Kind) → column_kind catalogue block column ≡ Some k → fits k v ≡ true
 
-  kind-at : (columns : List (ℕ × ℕ)) (k : Kind) (i : ℕ) (column : ℕ × ℕ) → slice_get columns i ≡ Some column → has_kind catalogue block columns k i ≡ true
-      → column_kind catalogue block column ≡ Some k
-  kind-at columns k i column there is = kind_there catalogue block k (column_kind catalogue block column) (rw there at is)
-
   compared-self : (condition : Condition) (columns : List (ℕ × ℕ)) (i j : ℕ) (a b : ℕ × ℕ) → equated condition ≡ Some (i, j) → slice_get columns i ≡ Some a → slice_get columns j ≡ Some b
       → condition_uses (has_kind catalogue block columns) condition ≡ true
       → ((v : Value) → HasKindOf a v → compared condition v ≡ v) × ((v : Value) → HasKindOf b v → compared condition v ≡ v)
@@ -94,8 +90,8 @@ module _ (catalogue : Catalogue) (block : Block) where
       let second : slice_get columns l ≡ Some b = ap (λ (p : ℕ × ℕ). slice_get columns p.1) pair ∙ at_b in
       let on_first = and-first (has_kind catalogue block columns kind.Int k) (has_kind catalogue block columns kind.Int l) uses in
       let on_second = and-second (has_kind catalogue block columns kind.Int k) (has_kind catalogue block columns kind.Int l) uses in (
-        λ v has. int-self v (has kind.Int (kind-at columns kind.Int k a first on_first)),
-        λ v has. int-self v (has kind.Int (kind-at columns kind.Int l b second on_second)),
+        λ v has. int-self v (has kind.Int (kind-at catalogue block columns kind.Int k a first on_first)),
+        λ v has. int-self v (has kind.Int (kind-at catalogue block columns kind.Int l b second on_second)),
       )
   compared-self (Texts Eq (side.Arg k) (side.Arg l)) columns i j a b is at_a at_b uses =
       let pair : (k, l) ≡ (i, j) = cc in
@@ -103,8 +99,8 @@ module _ (catalogue : Catalogue) (block : Block) where
       let second : slice_get columns l ≡ Some b = ap (λ (p : ℕ × ℕ). slice_get columns p.1) pair ∙ at_b in
       let on_first = and-first (has_kind catalogue block columns kind.Text k) (has_kind catalogue block columns kind.Text l) uses in
       let on_second = and-second (has_kind catalogue block columns kind.Text k) (has_kind catalogue block columns kind.Text l) uses in (
-        λ v has. text-self v (has kind.Text (kind-at columns kind.Text k a first on_first)),
-        λ v has. text-self v (has kind.Text (kind-at columns kind.Text l b second on_second)),
+        λ v has. text-self v (has kind.Text (kind-at catalogue block columns kind.Text k a first on_first)),
+        λ v has. text-self v (has kind.Text (kind-at catalogue block columns kind.Text l b second on_second)),
       )
   compared-self condition columns i j a b is at_a at_b uses = absurd (cc)
 
@@ -115,7 +111,7 @@ module _ (catalogue : Catalogue) (block : Block) where
 
   pub equality-columns : (c : ConjunctDef) → IsConjunct catalogue block c → (a b : ℕ × ℕ) → c.equality ≡ Some (a, b) → IsOne c a × IsOne c b
   equality-columns c is a b e =
-      let back = equality-back c.condition c.columns a b (sym is.equality ∙ e) in
+      let back = conjunct-equated catalogue block c is a b e in
       let both = compared-self c.condition c.columns back.left back.right a b back.is_equated back.left_there back.right_there is.uses in (
         record { is_column = each-slice_get (IsColumn catalogue block) c.columns back.left a is.columns back.left_there; self = both.0 },
         record { is_column = each-slice_get (IsColumn catalogue block) c.columns back.right b is.columns back.right_there; self = both.1 },

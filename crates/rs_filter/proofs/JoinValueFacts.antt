@@ -1,16 +1,11 @@
 -- Rows that match have equal join values: a conjunct that equates a column of each side holds of both together.
 use Rattle.std.proofs.Common.{◌≡◌, ◌∙◌, ℕ, ◌≤◌, ◌&&◌, Bool, true, false, cond, eqb, List, [], ◌∷◌, ◌++◌, map, Option, Some, None, refl, sym, ap, ap₂, subst}
-use Rattle.std.specs.Prelude.{slice_get, option_map}
+use Rattle.std.specs.Prelude.{slice_get}
 use Rattle.std.specs.Cmp.Lexicographic.{slice_cmp}
 use Rattle.std.specs.List.{AllByRecursion, flat_map, list_all}
 use Rattle.std.specs.Ordering.{int_cmp, nat_cmp}
-use Rattle.std.specs.declared.cmp.Ordering.{Ordering}
-use Rattle.std.specs.declared.cmp.Ordering.TheVariants.{Less, Equal, Greater}
-use Rattle.std.proofs.lemmas.Bool.{true≢false}
 use Rattle.std.proofs.lemmas.Map.Lookups.{exact_bytes, exact_signed}
-use Rattle.std.proofs.lemmas.Option.{slice_get-map}
 use Rattle.rs_order.proofs.EachFacts.{each-slice_get}
-use Rattle.rs_value.specs.Rel.{rel_holds}
 use Rattle.rs_value.specs.declared.rel.Rel.TheVariants.{Eq}
 use Rattle.rs_value.specs.declared.value.Value.{Value}
 use Rattle.rs_value.specs.declared.value.Value.TheVariants as value
@@ -26,17 +21,12 @@ use Rattle.rs_query.specs.Choices.{IsChoice}
 use Rattle.rs_query.specs.Conjuncts.{ConjunctDef}
 use Rattle.rs_query.specs.Meaning.{column_value, conjunct_holds}
 use Rattle.rs_query.specs.Tables.{sizes_of}
-use Rattle.rs_query.specs.WellFormed.{IsBlock, IsColumn, IsConjunct, across, equality_of, equated}
+use Rattle.rs_query.specs.WellFormed.{IsBlock, IsColumn, IsConjunct, equated}
+use Rattle.rs_query.proofs.EquatedFacts.{conjunct-equated, equal-order, value-at}
 use Rattle.rs_query.proofs.LocalFacts.{column_value-local}
 use Rattle.rs_filter.specs.JoinValues.{compared, equated_across, in_sides, left_values, right_values}
 use Rattle.rs_filter.specs.Matching.{holds_across, is_across, is_choice, is_side, joins, satisfies_across}
 use Rattle.rs_filter.proofs.SideFacts.{AgreeOn-left, AgreeOn-right, IsChoice-test, and-first, and-second}
-
--- what compares as equal is equal
-equal-order : (o : Ordering) → rel_holds Eq o ≡ true → o ≡ Equal
-equal-order Less e = absurd (true≢false (sym e))
-equal-order Equal e = refl
-equal-order Greater e = absurd (true≢false (sym e))
 
 -- where `column = column` holds, both values are equal as far as the comparison looks at them
 compared-same : (condition : Condition) (values : List Value) (i j : ℕ) (u v : Value) → equated condition ≡ Some (i, j) → holds condition values ≡ true
@@ -60,40 +50,6 @@ compared-same (Texts Eq (side.Arg k) (side.Arg l)) values i j u v is truth at_u 
     (equal-order (slice_cmp nat_cmp (argument_text (slice_get values k)) (argument_text (slice_get values l))) truth)
     ∙ ap argument_text (ap (slice_get values) second ∙ at_v))
 compared-same condition values i j u v is truth at_u at_v = absurd (cc)
-
--- two columns of different entries that a condition equates
-pub record IsEquated (condition : Condition) (columns : List (ℕ × ℕ)) (a b : ℕ × ℕ) : Type 0 where
-  pub left : ℕ
-  pub right : ℕ
-  pub is_equated : equated condition ≡ Some (left, right)
-  pub left_there : slice_get columns left ≡ Some a
-  pub right_there : slice_get columns right ≡ Some b
-
-across-back : (o p : Option (ℕ × ℕ)) (a b : ℕ × ℕ) → across o p ≡ Some (a, b) → (o ≡ Some a) × (p ≡ Some b)
-across-back None p a b e = absurd (cc)
-across-back (Some x) None a b e = absurd (cc)
-across-back (Some x) (Some y) a b e = go (eqb x.0 y.0) refl where
-  go : (t : Bool) → eqb x.0 y.0 ≡ t → (Some x ≡ Some a) × (Some y ≡ Some b)
-  go true same = let none : ◌≡◌ {A = Option ((ℕ × ℕ) × (ℕ × ℕ))} None (Some (a, b)) = rw same at e in absurd (cc)
-  go false differ =
-      let some : ◌≡◌ {A = Option ((ℕ × ℕ) × (ℕ × ℕ))} (Some (x, y)) (Some (a, b)) = rw differ at e in
-      let pair : (x, y) ≡ (a, b) = cc in
-      (ap (λ (p : (ℕ × ℕ) × (ℕ × ℕ)). Some p.0) pair, ap (λ (p : (ℕ × ℕ) × (ℕ × ℕ)). Some p.1) pair)
-
-pub equality-back : (condition : Condition) (columns : List (ℕ × ℕ)) (a b : ℕ × ℕ) → equality_of condition columns ≡ Some (a, b) → IsEquated condition columns a b
-equality-back condition columns a b e = go (equated condition) refl where
-  go : (o : Option (ℕ × ℕ)) → equated condition ≡ o → IsEquated condition columns a b
-  go None none = let nothing : ◌≡◌ {A = Option ((ℕ × ℕ) × (ℕ × ℕ))} None (Some (a, b)) = rw none at e in absurd (cc)
-  go (Some places) some =
-      let both : across (slice_get columns places.0) (slice_get columns places.1) ≡ Some (a, b) = rw some at e in
-      let parts = across-back (slice_get columns places.0) (slice_get columns places.1) a b both in
-      record { left = places.0; right = places.1; is_equated = some; left_there = parts.0; right_there = parts.1 }
-
--- the value of a column that stands among some columns stands at the same place among their values
-pub value-at : (catalogue : Catalogue) (block : Block) (rows : List ℕ) (columns : List (ℕ × ℕ)) (i : ℕ) (column : ℕ × ℕ) → slice_get columns i ≡ Some column
-    → slice_get (map (column_value catalogue block rows) columns) i ≡ Some (column_value catalogue block rows column)
-value-at catalogue block rows columns i column there =
-    slice_get-map (column_value catalogue block rows) columns i ∙ ap (option_map (column_value catalogue block rows)) there
 
 module _ (catalogue : Catalogue) (block : Block) (left right : ℕ) (lefts rights : List ℕ) (apart : AreDisjoint left right)
     (l : IsChoice left (sizes_of catalogue block) lefts) (r : IsChoice right (sizes_of catalogue block) rights) where
@@ -132,7 +88,7 @@ module _ (catalogue : Catalogue) (block : Block) (left right : ℕ) (lefts right
         ≡ map (λ (pair : (ℕ × ℕ) × (ℕ × ℕ)). compared c.condition (column_value catalogue block rights pair.1)) (in_sides left right o)) (sym f) refl)
     go true e (Some pair) f =
         let held : conjunct_holds catalogue block merged c ≡ true = subst (λ b. cond b (conjunct_holds catalogue block merged c) true ≡ true) e truth in
-        let at = equality-back c.condition c.columns pair.0 pair.1 (sym is.equality ∙ f) in
+        let at = conjunct-equated catalogue block c is pair.0 pair.1 f in
         let same : compared c.condition (column_value catalogue block merged pair.0) ≡ compared c.condition (column_value catalogue block merged pair.1) =
         compared-same c.condition (map (column_value catalogue block merged) c.columns) at.left at.right
         (column_value catalogue block merged pair.0) (column_value catalogue block merged pair.1) at.is_equated held (value-at catalogue block merged c.columns at.left pair.0 at.left_there)

@@ -83,6 +83,11 @@ module _ (catalogue : Catalogue) (block : Block) where
   kind_there kind.Text (Some kind.Text) is = refl
   kind_there kind.Text None is = absurd (false≢true is)
 
+  -- the kind of the column at a place
+  pub kind-at : (columns : List (ℕ × ℕ)) (kind : Kind) (i : ℕ) (column : ℕ × ℕ) → slice_get columns i ≡ Some column → has_kind catalogue block columns kind i ≡ true
+      → column_kind catalogue block column ≡ Some kind
+  kind-at columns kind i column there is = kind_there kind (column_kind catalogue block column) (rw there at is)
+
   no_kind : (kind : Kind) → is_kind kind None ≡ true → ⊥
   no_kind kind.Int is = false≢true is
   no_kind kind.Text is = false≢true is

@@ -3,6 +3,7 @@ pub mod AskFacts
 pub mod CellFacts
 pub mod ChoiceFacts
 pub mod EntryFacts
+pub mod EquatedFacts
 pub mod ExtendFacts
 pub mod HoldFacts
 pub mod ListFacts

@@ -1,6 +1,6 @@
 //! What a block computes for rows of its entries: whether conjuncts hold, and values of columns.
 
-ghost use Rattle.std.specs.Prelude.{◌≡◌, ◌≤◌, ◌-◌, ◌∷◌, [], IfOk, List, OnOk, Some, length, map, slice_get, true, ℕ};
+ghost use Rattle.std.specs.Prelude.{◌≡◌, ◌≤◌, ◌-◌, ◌++◌, ◌∷◌, [], IfOk, List, OnOk, Some, length, map, slice_get, true, ℕ};
 ghost use Rattle.std.specs.List.{AllByRecursion};
 ghost use Rattle.rs_expr.specs.Predicates.{PredicateDef};
 ghost use Rattle.rs_expr.specs.Uses.{has_argument};
@@ -11,13 +11,14 @@ ghost use Rattle.rs_query.specs.declared.term.Term.{Term as BoundTerm};
 ghost use Rattle.rs_rank.specs.Masks.{mask_of};
 ghost use Rattle.rs_value.specs.Value.{all_fit, fits};
 ghost use Rattle.rs_value.specs.declared.kind.Kind.{Kind as ValueKind};
+ghost use Rattle.rs_value.specs.declared.value.Value.TheVariants as value;
 
 use crate::block::Block;
 use crate::conjunct::Conjunct;
 use rs_catalog::{BoundArg, Catalog};
 use rs_rank::Ids;
 use rs_table::Table;
-use rs_value::{Memory, Value};
+use rs_value::{Memory, Text, Value};
 use std::alloc::Global;
 
 impl Block {
@@ -38,8 +39,9 @@ impl Block {
         self.holds_with(catalog, conjuncts, ids, &mut cells)
     }
 
-    /// The same, with a list to put cells in. The list is to be kept from call to call: what it held goes, and its memory stays, so
-    /// that numbers take none once it has grown. After the call it holds some of the cells that were looked at.
+    /// The same, with a list to put cells in. The list is to be kept from call to call: its memory stays, so that numbers take none
+    /// once it has grown. A conjunct that equates columns of two entries takes no memory, and leaves the list as it is. Each other
+    /// one that is looked at makes it the list of its cells.
     pub fn holds_with(
         &self,
         catalog: &Catalog,
@@ -101,7 +103,8 @@ impl Block {
         Ok(cells)
     }
 
-    /// Whether a conjunct of the block holds of these rows. The list is then that of the values of its columns.
+    /// Whether a conjunct of the block holds of these rows. Columns of two entries that it equates are compared where they stand.
+    /// Else the list is made that of the values of its columns.
     fn conjunct_holds(
         &self,
         catalog: &Catalog,
@@ -115,6 +118,9 @@ impl Block {
         requires rows { HasRows catalog.now self.now ids.now.mask ids.now.rows }
         ensures { IfOk result (λ holds. holds ≡ conjunct_holds catalog.now self.now ids.now.rows conjunct.now) }
     {
+        if let Some((left, right)) = conjunct.equality() {
+            return Ok(self.cell(catalog, left, ids) == self.cell(catalog, right, ids));
+        }
         self.cells_of(catalog, conjunct.columns(), ids, cells)?;
         Ok(conjunct.condition().test(cells))
     }
@@ -137,7 +143,7 @@ impl Block {
     {
         cells.clear();
         for column in columns {
-            cells.push(self.cell_of(catalog, *column, ids)?)?;
+            push_copy(cells, self.cell(catalog, *column, ids))?;
         }
         Ok(())
     }
@@ -160,38 +166,46 @@ impl Block {
     {
         values.clear();
         for arg in args {
-            values.push(self.arg_of(catalog, arg, ids)?)?;
+            self.push_arg(catalog, arg, ids, values)?;
         }
         Ok(())
     }
 
-    /// The value of an argument for these rows. A number takes no memory.
-    fn arg_of(&self, catalog: &Catalog, arg: &BoundArg, ids: &Ids) -> Result<Value, Memory>
+    /// Appends the value of an argument for these rows.
+    fn push_arg(
+        &self,
+        catalog: &Catalog,
+        arg: &BoundArg,
+        ids: &Ids,
+        values: &mut Vec<Value>,
+    ) -> Result<(), Memory>
         requires block { IsBlock catalog.now self.now }
         requires arg { (kind : ValueKind) × IsArg catalog.now self.now kind arg.now }
         requires inside { is_inside (entries_mask (argument_columns (arg.now ∷ []))) ids.now.mask ≡ true }
         requires rows { HasRows catalog.now self.now ids.now.mask ids.now.rows }
-        ensures value { IfOk result (λ value. value ≡ argument_value catalog.now self.now ids.now.rows arg.now) }
-        ensures fit { (kind : ValueKind) → IsArg catalog.now self.now kind arg.now → IfOk result (λ value. fits kind value ≡ true) }
+        ensures value { OnOk result (values.new.items ≡ values.old.items ++ argument_value catalog.now self.now ids.now.rows arg.now ∷ []) }
+        ensures fit { (kind : ValueKind) → IsArg catalog.now self.now kind arg.now → fits kind (argument_value catalog.now self.now ids.now.rows arg.now) ≡ true }
     {
         match arg {
-            BoundArg::Column(entry, column) => self.cell_of(catalog, (*entry, *column), ids),
-            BoundArg::Int(number) => Ok(Value::Int(*number)),
-            BoundArg::Text(text) => Ok(Value::Text(text.copy()?)),
+            BoundArg::Column(entry, column) => {
+                push_copy(values, self.cell(catalog, (*entry, *column), ids))
+            }
+            BoundArg::Int(number) => push_number(values, *number),
+            BoundArg::Text(text) => push_text(values, text),
         }
     }
 
-    /// The value of a column for these rows, of the column's kind. A number takes no memory.
-    fn cell_of(&self, catalog: &Catalog, column: (u8, u8), ids: &Ids) -> Result<Value, Memory>
+    /// The cell of a column for these rows, of the column's kind.
+    fn cell<'a>(&self, catalog: &'a Catalog, column: (u8, u8), ids: &Ids) -> &'a Value
         requires block { IsBlock catalog.now self.now }
         requires column { IsColumn catalog.now self.now column }
         requires inside { is_inside (mask_of column.0) ids.now.mask ≡ true }
         requires rows { HasRows catalog.now self.now ids.now.mask ids.now.rows }
-        ensures value { IfOk result (λ value. value ≡ column_value catalog.now self.now ids.now.rows column) }
-        ensures fit { (kind : ValueKind) → column_kind catalog.now self.now column ≡ Some kind → IfOk result (λ value. fits kind value ≡ true) }
+        ensures value { result.now ≡ column_value catalog.now self.now ids.now.rows column }
+        ensures fit { (kind : ValueKind) → column_kind catalog.now self.now column ≡ Some kind → fits kind result.now ≡ true }
     {
         let row = ids.rows[column.0 as usize - 1];
-        self.table(catalog, column.0).value(row, column.1)
+        self.table(catalog, column.0).cell(row, column.1)
     }
 
     /// The table of an entry.
@@ -203,4 +217,28 @@ impl Block {
     {
         catalog.table(self.from.items()[entry as usize - 1].0)
     }
+}
+
+/// Appends a copy of a value.
+fn push_copy(values: &mut Vec<Value>, value: &Value) -> Result<(), Memory>
+    ensures { OnOk result (values.new.items ≡ values.old.items ++ value.now ∷ []) }
+{
+    match value {
+        Value::Int(number) => push_number(values, *number),
+        Value::Text(text) => push_text(values, text),
+    }
+}
+
+/// Appends a number. It stands apart from the copy of a text, so that no result with a value in it is moved about for a number.
+fn push_number(values: &mut Vec<Value>, number: i64) -> Result<(), Memory>
+    ensures { OnOk result (values.new.items ≡ values.old.items ++ value.Int number ∷ []) }
+{
+    Ok(values.push(Value::Int(number))?)
+}
+
+/// Appends a copy of a text.
+fn push_text(values: &mut Vec<Value>, text: &Text) -> Result<(), Memory>
+    ensures { OnOk result (values.new.items ≡ values.old.items ++ value.Text text.now ∷ []) }
+{
+    Ok(values.push(Value::Text(text.copy()?))?)
 }

@@ -89,8 +89,19 @@ impl Table {
         ensures fits { (c : Column) → slice_get self.now.schema column ≡ Some c → IfOk result (λ value. fits c.1 value ≡ true) }
         ensures number { (c : Column) → slice_get self.now.schema column ≡ Some c → c.1 ≡ kind.Int → IsOk result }
     {
+        self.cell(row, column).copy()
+    }
+
+    /// The cell of a row, counted from 1, and a column, counted from 0.
+    pub fn cell(&self, row: u32, column: u8) -> &Value
+        requires some_row { 1 ≤ row }
+        requires row_in { row ≤ length self.now.rows }
+        requires column_in { column < length self.now.schema }
+        ensures cell { cell_at self.now row column ≡ Some result.now }
+        ensures fits { (c : Column) → slice_get self.now.schema column ≡ Some c → fits c.1 result.now ≡ true }
+    {
         let values = self.rows[row as usize - 1].items();
-        values[column as usize].copy()
+        &values[column as usize]
     }
 }
 

@@ -1,5 +1,5 @@
 -- The value of the next argument is the argument's, of its kind.
-use Rattle.std.proofs.Common.{◌≡◌, ◌∙◌, ◌+◌, ◌++◌, [], ◌∷◌, Some, length, map, take, refl, sym, ap}
+use Rattle.std.proofs.Common.{◌≡◌, ◌∙◌, ◌+◌, ◌++◌, [], ◌∷◌, Some, length, take, refl, sym, ap}
 use Rattle.std.specs.Prelude.{slice_get}
 use Rattle.std.proofs.lemmas.Option.{slice_get_read}
 use Rattle.rs_value.specs.Value.{all_fit}
@@ -9,16 +9,16 @@ use Rattle.rs_query.proofs.EntryFacts.{arg-inside}
 use Rattle.rs_query.proofs.ListFacts.{map-take-more}
 use Rattle.rs_query.proofs.block.Block.args_of.Goals as goal
 
-pub arg_of-requires-clause-arg : goal.arg_of-requires-clause-arg
-arg_of-requires-clause-arg c =
+pub push_arg-requires-clause-arg : goal.push_arg-requires-clause-arg
+push_arg-requires-clause-arg c =
     let args = c.args.args.now in
     let i = c.loop-arg.arg-index in
     let at : slice_get args i ≡ Some c.arg-item.result = slice_get_read args (length args) i c.arg-item.result refl c.loop-arg-test.true c.arg-item.is in
     let has = HasKind-at c.args.catalog.now c.args.self.now c.requires.args.0 args i c.arg-item.result c.requires.args.1 at in
     (has.kind, has.is)
 
-pub arg_of-requires-clause-inside : goal.arg_of-requires-clause-inside
-arg_of-requires-clause-inside c =
+pub push_arg-requires-clause-inside : goal.push_arg-requires-clause-inside
+push_arg-requires-clause-inside c =
     let args = c.args.args.now in
     let i = c.loop-arg.arg-index in
     let at : slice_get args i ≡ Some c.arg-item.result = slice_get_read args (length args) i c.arg-item.result refl c.loop-arg-test.true c.arg-item.is in
@@ -29,14 +29,14 @@ loop-arg-preserved c =
     let args = c.args.args.now in
     let i = c.loop-arg.arg-index in
     let at : slice_get args i ≡ Some c.arg-item.result = slice_get_read args (length args) i c.arg-item.result refl c.loop-arg-test.true c.arg-item.is in
+    let value = argument_value c.args.catalog.now c.args.self.now c.args.ids.now.rows c.arg-item.result in
     record {
-      values = c.in_ok-push.ensures.items
-          ∙ ap (λ made. made ++ c.in_ok-arg_of.field-0 ∷ []) c.loop-arg.invariant.values
-          ∙ ap (λ v. map (argument_value c.args.catalog.now c.args.self.now c.args.ids.now.rows) (take i args) ++ v ∷ []) c.in_ok-arg_of.ensures.value
+      values = c.in_ok-push_arg.ensures.value
+          ∙ ap (λ made. made ++ value ∷ []) c.loop-arg.invariant.values
           ∙ sym (map-take-more (argument_value c.args.catalog.now c.args.self.now c.args.ids.now.rows) args i c.arg-item.result at);
-      fit = λ kinds are. ap (all_fit (take (i + 1) kinds)) c.in_ok-push.ensures.items
-          ∙ all_fit-more c.args.catalog.now c.args.self.now kinds args i c.arg-item.result c.loop-arg.values.items c.in_ok-arg_of.field-0 are at
-          (c.loop-arg.invariant.fit kinds are) c.in_ok-arg_of.ensures.fit;
+      fit = λ kinds are. ap (all_fit (take (i + 1) kinds)) c.in_ok-push_arg.ensures.value
+          ∙ all_fit-more c.args.catalog.now c.args.self.now kinds args i c.arg-item.result c.loop-arg.values.items value are at
+          (c.loop-arg.invariant.fit kinds are) c.in_ok-push_arg.ensures.fit;
     }
 
 pub returns-clause-fit : goal.returns-clause-fit
