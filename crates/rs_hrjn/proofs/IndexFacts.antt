@@ -4,18 +4,12 @@ use Rattle.std.proofs.lemmas.Bool.Decides.{Decides-eqb}
 use Rattle.std.proofs.lemmas.List.{append-nil, length-append}
 use Rattle.std.proofs.lemmas.List.Folds.{list_any-append}
 use Rattle.std.proofs.lemmas.Map.{lookup-set_value}
-use Rattle.std.specs.BTreeMap.{insert_entry}
-use Rattle.std.specs.Cmp.Lexicographic.{slice_cmp}
 use Rattle.std.specs.List.{AllByRecursion, list_any}
 use Rattle.std.specs.Map.{lookup, set_value}
 use Rattle.std.specs.Option.{IsSome}
-use Rattle.std.specs.Ordering.{is_eq, match_ordering}
-use Rattle.std.specs.declared.cmp.Ordering.{Ordering}
-use Rattle.std.specs.declared.cmp.Ordering.TheVariants.{Less, Equal, Greater}
 use Rattle.rs_order.proofs.EachFacts.{each-push, each-weaker}
 use Rattle.rs_rank.specs.declared.row.RankRow.{RankRow}
 use Rattle.rs_value.specs.declared.value.Value.{Value}
-use Rattle.rs_value.specs.Value.{value_cmp}
 use Rattle.rs_hrjn.specs.Drawn.{DrawnRow, are_equal, places_alike, rows_of}
 use Rattle.rs_hrjn.specs.Index.{IsIndex, drawn_rows, places_of, places_or_none, values_at, with_more, with_place}
 use Rattle.rs_hrjn.proofs.EqualFacts.{are_equal-back, are_equal-equivalence, are_equal-itself, are_equal-same}
@@ -23,48 +17,37 @@ use Rattle.rs_hrjn.proofs.EqualFacts.{are_equal-back, are_equal-equivalence, are
 abbrev Index : Type 0
 Index = List (List Value × List ℕ)
 
-abbrev cmp : List Value → List Value → Ordering
-cmp = slice_cmp value_cmp
-
 abbrev has : ℕ → List ℕ → Bool
 has place places = list_any (λ other. eqb other place) places
-
--- one of two things that exclude each other
-one_of : {X : Type 0} (a b : Bool) (x y z : X) → (a ≡ true → b ≡ true → ⊥) → cond a x (cond b y z) ≡ cond b y (cond a x z)
-one_of true true x y z apart = absurd (apart refl refl)
-one_of true false x y z apart = refl
-one_of false true x y z apart = refl
-one_of false false x y z apart = refl
 
 -- what is looked up is at the first entry of these values, or at a later one
 looked-up : (b : Bool) (places : List ℕ) (rest : Option (List ℕ)) → cond b (Some places) rest ≡ None → (b ≡ false) × (rest ≡ None)
 looked-up true places rest e = cc
 looked-up false places rest e = (refl, e)
 
-true_false : {b : Bool} → b ≡ true → b ≡ false → ⊥
-true_false e f = cc
-
 -- a new entry is found by its values, and others as before
-insert-step : (values q : List Value) (places : List ℕ) (entry : List Value × List ℕ) (index later : Index) (o : Ordering) → cmp values entry.0 ≡ o → are_equal values entry.0 ≡ false →
-    lookup (are_equal q) later ≡ cond (are_equal q values) (Some places) (lookup (are_equal q) index) →
-    lookup (are_equal q) (match_ordering o ((values, places) ∷ entry ∷ index) ((entry.0, places) ∷ index) (entry ∷ later)) ≡ cond (are_equal q values) (Some places) (cond (are_equal q entry.0) (Some entry.1) (lookup (are_equal q) index))
-insert-step values q places entry index later Less e other below = refl
-insert-step values q places entry index later Equal e other below = absurd (true_false (ap is_eq e) other)
-insert-step values q places entry index later Greater e other below =
-    ap (cond (are_equal q entry.0) (Some entry.1)) below
-    ∙ one_of (are_equal q entry.0) (are_equal q values) (Some entry.1) (Some places) (lookup (are_equal q) index)
-    (λ one two. true_false (ap (are_equal values) (sym (are_equal-same q entry.0 one) ∙ are_equal-same q values two) ∙ are_equal-itself values) other)
-
-lookup-insert_entry : (values q : List Value) (places : List ℕ) (index : Index) → lookup (are_equal values) index ≡ None → lookup (are_equal q) (insert_entry cmp index values places) ≡ cond (are_equal q values) (Some places) (lookup (are_equal q) index)
-lookup-insert_entry values q places [] none = refl
-lookup-insert_entry values q places (entry ∷ index) none =
+lookup-last : (values q : List Value) (places : List ℕ) (index : Index) → lookup (are_equal values) index ≡ None → lookup (are_equal q) (index ++ (values, places) ∷ []) ≡ cond (are_equal q values) (Some places) (lookup (are_equal q) index)
+lookup-last values q places [] none = refl
+lookup-last values q places (entry ∷ index) none =
     let both = looked-up (are_equal values entry.0) entry.1 (lookup (are_equal values) index) none in
-    insert-step values q places entry index (insert_entry cmp index values places) (cmp values entry.0) refl both.0 (lookup-insert_entry values q places index both.1)
+    ap (cond (are_equal q entry.0) (Some entry.1)) (lookup-last values q places index both.1)
+    ∙ one_of (are_equal q entry.0) (are_equal q values) (Some entry.1) (Some places) (lookup (are_equal q) index)
+    (λ one two. true_false (ap (are_equal values) (sym (are_equal-same q entry.0 one) ∙ are_equal-same q values two) ∙ are_equal-itself values) both.0)
+  where
+    true_false : {b : Bool} → b ≡ true → b ≡ false → ⊥
+    true_false e f = cc
+
+    -- one of two things that exclude each other
+    one_of : {X : Type 0} (a b : Bool) (x y z : X) → (a ≡ true → b ≡ true → ⊥) → cond a x (cond b y z) ≡ cond b y (cond a x z)
+    one_of true true x y z apart = absurd (apart refl refl)
+    one_of true false x y z apart = refl
+    one_of false true x y z apart = refl
+    one_of false false x y z apart = refl
 
 -- the places of each list of join values, with one place more
 more-places : (o : Option (List ℕ)) (values q : List Value) (place : ℕ) (index : Index) → lookup (are_equal values) index ≡ o → places_of q (with_more o values place index) ≡ places_of q index ++ cond (are_equal q values) (place ∷ []) []
 more-places None values q place index e =
-    ap places_or_none (lookup-insert_entry values q (place ∷ []) index e)
+    ap places_or_none (lookup-last values q (place ∷ []) index e)
     ∙ (elim (are_equal q values) as (λ b. are_equal q values ≡ b → places_or_none (cond b (Some (place ∷ [])) (lookup (are_equal q) index)) ≡ places_of q index ++ cond b (place ∷ []) []) [
       | true ↦ λ f. sym (ap (λ o. places_or_none o ++ place ∷ []) (ap (λ v. lookup (are_equal v) index) (are_equal-same q values f) ∙ e))
       | false ↦ λ f. sym (append-nil (places_of q index))
@@ -106,17 +89,9 @@ or_true true = refl
 or_true false = refl
 
 -- the join values of another place stay
-insert-other : (values : List Value) (place other : ℕ) (entry : List Value × List ℕ) (index later : Index) (o : Ordering) → eqb place other ≡ false → cmp values entry.0 ≡ o → are_equal values entry.0 ≡ false → values_at other later ≡ values_at other index →
-    values_at other (match_ordering o ((values, place ∷ []) ∷ entry ∷ index) ((entry.0, place ∷ []) ∷ index) (entry ∷ later)) ≡ values_at other (entry ∷ index)
-insert-other values place other entry index later Less apart e differ below = ap (λ b. cond (b || false) values (values_at other (entry ∷ index))) apart
-insert-other values place other entry index later Equal apart e differ below = absurd (true_false (ap is_eq e) differ)
-insert-other values place other entry index later Greater apart e differ below = ap (cond (has other entry.1) entry.0) below
-
-values_at-insert : (values : List Value) (place other : ℕ) (index : Index) → eqb place other ≡ false → lookup (are_equal values) index ≡ None → values_at other (insert_entry cmp index values (place ∷ [])) ≡ values_at other index
-values_at-insert values place other [] apart none = ap (λ b. cond (b || false) values []) apart
-values_at-insert values place other (entry ∷ index) apart none =
-    let both = looked-up (are_equal values entry.0) entry.1 (lookup (are_equal values) index) none in
-    insert-other values place other entry index (insert_entry cmp index values (place ∷ [])) (cmp values entry.0) apart refl both.0 (values_at-insert values place other index apart both.1)
+values_at-last : (values : List Value) (place other : ℕ) (index : Index) → eqb place other ≡ false → values_at other (index ++ (values, place ∷ []) ∷ []) ≡ values_at other index
+values_at-last values place other [] apart = ap (λ b. cond (b || false) values []) apart
+values_at-last values place other (entry ∷ index) apart = ap (cond (has other entry.1) entry.0) (values_at-last values place other index apart)
 
 values_at-set : (values : List Value) (places : List ℕ) (place other : ℕ) (index : Index) → eqb place other ≡ false → lookup (are_equal values) index ≡ Some places → values_at other (set_value (are_equal values) index (places ++ place ∷ [])) ≡ values_at other index
 values_at-set values places place other [] apart some = cc
@@ -131,24 +106,17 @@ values_at-set values places place other (entry ∷ index) apart some =
     ]) some
 
 values_at-more : (o : Option (List ℕ)) (values : List Value) (place other : ℕ) (index : Index) → lookup (are_equal values) index ≡ o → eqb place other ≡ false → values_at other (with_more o values place index) ≡ values_at other index
-values_at-more None values place other index e apart = values_at-insert values place other index apart e
+values_at-more None values place other index e apart = values_at-last values place other index apart
 values_at-more (Some places) values place other index e apart = values_at-set values places place other index apart e
 
 -- the join values of the new place
 abbrev IsNew : ℕ → Index → Type 0
 IsNew place index = AllByRecursion (λ entry. has place entry.1 ≡ false) index
 
-insert-here : (values : List Value) (place : ℕ) (entry : List Value × List ℕ) (index later : Index) (o : Ordering) → cmp values entry.0 ≡ o → are_equal values entry.0 ≡ false → has place entry.1 ≡ false → values_at place later ≡ values →
-    values_at place (match_ordering o ((values, place ∷ []) ∷ entry ∷ index) ((entry.0, place ∷ []) ∷ index) (entry ∷ later)) ≡ values
-insert-here values place entry index later Less e differ new below = ap (λ b. cond (b || false) values (values_at place (entry ∷ index))) (eqb-itself place)
-insert-here values place entry index later Equal e differ new below = absurd (true_false (ap is_eq e) differ)
-insert-here values place entry index later Greater e differ new below = ap (λ b. cond b entry.0 (values_at place later)) new ∙ below
-
-values_at-insert_here : (values : List Value) (place : ℕ) (index : Index) → IsNew place index → lookup (are_equal values) index ≡ None → values_at place (insert_entry cmp index values (place ∷ [])) ≡ values
-values_at-insert_here values place [] new none = ap (λ b. cond (b || false) values []) (eqb-itself place)
-values_at-insert_here values place (entry ∷ index) new none =
-    let both = looked-up (are_equal values entry.0) entry.1 (lookup (are_equal values) index) none in
-    insert-here values place entry index (insert_entry cmp index values (place ∷ [])) (cmp values entry.0) refl both.0 new.0 (values_at-insert_here values place index new.1 both.1)
+values_at-last_here : (values : List Value) (place : ℕ) (index : Index) → IsNew place index → values_at place (index ++ (values, place ∷ []) ∷ []) ≡ values
+values_at-last_here values place [] new = ap (λ b. cond (b || false) values []) (eqb-itself place)
+values_at-last_here values place (entry ∷ index) new =
+    ap (λ b. cond b entry.0 (values_at place (index ++ (values, place ∷ []) ∷ []))) new.0 ∙ values_at-last_here values place index new.1
 
 values_at-set_here : (values : List Value) (places : List ℕ) (place : ℕ) (index : Index) → IsNew place index → lookup (are_equal values) index ≡ Some places → values_at place (set_value (are_equal values) index (places ++ place ∷ [])) ≡ values
 values_at-set_here values places place [] new some = absurd (none_some some)
@@ -165,19 +133,10 @@ values_at-set_here values places place (entry ∷ index) new some =
     ]) refl some
 
 values_at-more_here : (o : Option (List ℕ)) (values : List Value) (place : ℕ) (index : Index) → lookup (are_equal values) index ≡ o → IsNew place index → values_at place (with_more o values place index) ≡ values
-values_at-more_here None values place index e new = values_at-insert_here values place index new e
+values_at-more_here None values place index e new = values_at-last_here values place index new
 values_at-more_here (Some places) values place index e new = values_at-set_here values places place index new e
 
 -- what holds of the places of each entry, and of the new ones
-each-insert_entry : (P : List ℕ → Type 0) (values : List Value) (places : List ℕ) (index : Index) → AllByRecursion (λ entry. P entry.1) index → P places → AllByRecursion (λ entry. P entry.1) (insert_entry cmp index values places)
-each-insert_entry P values places [] all new = (new, tt)
-each-insert_entry P values places (entry ∷ index) all new = step (cmp values entry.0) (insert_entry cmp index values places) (each-insert_entry P values places index all.1 new)
-  where
-    step : (o : Ordering) (later : Index) → AllByRecursion (λ entry. P entry.1) later → AllByRecursion (λ entry. P entry.1) (match_ordering o ((values, places) ∷ entry ∷ index) ((entry.0, places) ∷ index) (entry ∷ later))
-    step Less later below = (new, all)
-    step Equal later below = (new, all.1)
-    step Greater later below = (all.0, below)
-
 each-set_value : (P : List ℕ → Type 0) (values : List Value) (places : List ℕ) (index : Index) → AllByRecursion (λ entry. P entry.1) index → P places → AllByRecursion (λ entry. P entry.1) (set_value (are_equal values) index places)
 each-set_value P values places [] all new = tt
 each-set_value P values places (entry ∷ index) all new = step (are_equal values entry.0) (set_value (are_equal values) index places) (each-set_value P values places index all.1 new)
@@ -198,7 +157,7 @@ each-lookup P values places (entry ∷ index) all some =
     ]) some
 
 each-more : (o : Option (List ℕ)) (P : List ℕ → Type 0) (values : List Value) (place : ℕ) (index : Index) → lookup (are_equal values) index ≡ o → AllByRecursion (λ entry. P entry.1) index → ((places : List ℕ) → P places → P (places ++ place ∷ [])) → P [] → AllByRecursion (λ entry. P entry.1) (with_more o values place index)
-each-more None P values place index e all more none = each-insert_entry P values (place ∷ []) index all (more [] none)
+each-more None P values place index e all more none = each-push (λ entry. P entry.1) index (values, place ∷ []) all (more [] none)
 each-more (Some places) P values place index e all more none = each-set_value P values (places ++ place ∷ []) index all (more places (each-lookup P values places index all e))
 
 -- rows whose places stay have the join values that they had

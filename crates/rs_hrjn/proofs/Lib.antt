@@ -1,5 +1,5 @@
-pub mod MapFacts
 pub mod EqualFacts
+pub mod MapFacts
 pub mod IndexFacts
 pub mod AlikeFacts
 pub mod Worked
