@@ -1,8 +1,9 @@
 ghost use Rattle.std.specs.Prelude.{◌≡◌, bit_or, false, true, if◌then◌else◌, OnOk, OnErr, Some};
 ghost use Rattle.rs_rank.specs.declared.ask.JoinAsk.TheVariants.{NeedLeft, NeedRight, Ready};
+ghost use Rattle.rs_rank.specs.Merging.{CanMerge};
 ghost use Rattle.rs_rank.specs.Rows.{CanMergeRows, HasSum, key_of, merge_row};
 ghost use Rattle.rs_ripple.specs.declared.side.Drawn.{Drawn};
-ghost use Rattle.rs_ripple.specs.Ripple.{CanDrawLeft, CanDrawRight, CanEnd, CanFind, CanJoin, IsRipple, ask_of, first_side, found, full_key, is_reached, left_drawn, left_ended, left_for, left_threshold, new_ripple, right_drawn, right_ended, right_threshold, sides_of, taken_for};
+ghost use Rattle.rs_ripple.specs.Ripple.{CanDrawLeft, CanDrawRight, CanEnd, CanFind, CanJoin, IsRipple, ask_of, first_side, found, full_key, is_reached, left_drawn, left_ended, left_for, left_threshold, new_ripple, pair_key, right_drawn, right_ended, right_threshold, sides_of, taken_for};
 ghost use Rattle.rs_value.specs.Faults.{raised};
 
 use crate::side::{Input, Side};
@@ -25,7 +26,10 @@ pub struct RippleCore {
     // Where both sides have a row, the keys that no pair with a left or with a right row still to come precedes.
     to_left: Option<Key>,
     to_right: Option<Key>,
-    // What the terms that neither side has can give to a score at most.
+    // What the terms that the left side doesn't have can give to a score at most, what those can that the right side
+    // doesn't have, and what those can that neither side has.
+    left_rest: u64,
+    right_rest: u64,
     above: u64,
     // The key of the pair that was taken last.
     taken: Option<Key>,
@@ -59,6 +63,7 @@ impl Model for RippleCore {
       held = rows_of_sums r.held;
       spent = r.spent;
     }) × AreThresholds r.to_left r.to_right (sides_of r.weights r.left r.right)
+        × (r.left_rest ≡ rest r.weights r.left.side.terms) × (r.right_rest ≡ rest r.weights r.right.side.terms)
         × (r.above ≡ rest r.weights (bit_or r.left.side.terms r.right.side.terms)) };
 }
 
@@ -75,6 +80,8 @@ impl RippleCore {
             right: Input::new(right),
             to_left: None,
             to_right: None,
+            left_rest: weights.rest(left.terms),
+            right_rest: weights.rest(right.terms),
             above: weights.rest(union(left.terms, right.terms)),
             taken: None,
             held: Queue::new(alloc),
@@ -118,7 +125,10 @@ impl RippleCore {
         requires { HasSum self.now.weights self.now.left.side.terms row.now }
         ensures { result ≡ key_of self.now.weights self.now.left.side.terms row.now }
     {
-        row.key(&self.weights, self.left.side.terms)
+        Key {
+            bound: row.sum + self.left_rest,
+            ids: row.ids,
+        }
     }
 
     /// The key of a right row, by the terms of its side.
@@ -126,7 +136,10 @@ impl RippleCore {
         requires { HasSum self.now.weights self.now.right.side.terms row.now }
         ensures { result ≡ key_of self.now.weights self.now.right.side.terms row.now }
     {
-        row.key(&self.weights, self.right.side.terms)
+        Key {
+            bound: row.sum + self.right_rest,
+            ids: row.ids,
+        }
     }
 
     /// Takes the key of the left side's next row.
@@ -136,12 +149,12 @@ impl RippleCore {
     {
         let mut left = self.left;
         left.draw(key);
-        let to_left = left_threshold(&self.weights, &left, &self.right);
+        let to_left = self.left_threshold(&left, &self.right);
         // Of the left keys the right side's threshold takes the first alone, which stays.
         let to_right = if self.left.drawn.is_some() {
             self.to_right
         } else {
-            right_threshold(&self.weights, &left, &self.right)
+            self.right_threshold(&left, &self.right)
         };
         self.left = left;
         self.to_left = to_left;
@@ -159,12 +172,64 @@ impl RippleCore {
         let to_left = if self.right.drawn.is_some() {
             self.to_left
         } else {
-            left_threshold(&self.weights, &self.left, &right)
+            self.left_threshold(&self.left, &right)
         };
-        let to_right = right_threshold(&self.weights, &self.left, &right);
+        let to_right = self.right_threshold(&self.left, &right);
         self.right = right;
         self.to_left = to_left;
         self.to_right = to_right;
+    }
+
+    /// Where both sides have a row, the key that no pair with a left row still to come precedes. Once the left side has
+    /// ended it lies beyond all keys.
+    fn left_threshold(&self, left: &Input, right: &Input) -> Option<Key>
+        requires keys { IsRipple (sides_of self.now.weights left.now right.now) }
+        requires left { left.now.side ≡ self.now.left.side }
+        requires right { right.now.side ≡ self.now.right.side }
+        ensures { (left_keys right_keys : Drawn) → left.now.drawn ≡ Some left_keys → right.now.drawn ≡ Some right_keys
+            → result ≡ left_threshold (sides_of self.now.weights left.now right.now) left_keys right_keys }
+    {
+        if left.ended {
+            return None;
+        }
+        match (&left.drawn, &right.drawn) {
+            (Some(left_keys), Some(right_keys)) => {
+                Some(self.pair_key(&left_keys.last, &right_keys.first))
+            }
+            _ => None,
+        }
+    }
+
+    /// Where both sides have a row, the key that no pair with a right row still to come precedes. Once the right side has
+    /// ended it lies beyond all keys.
+    fn right_threshold(&self, left: &Input, right: &Input) -> Option<Key>
+        requires keys { IsRipple (sides_of self.now.weights left.now right.now) }
+        requires left { left.now.side ≡ self.now.left.side }
+        requires right { right.now.side ≡ self.now.right.side }
+        ensures { (left_keys right_keys : Drawn) → left.now.drawn ≡ Some left_keys → right.now.drawn ≡ Some right_keys
+            → result ≡ right_threshold (sides_of self.now.weights left.now right.now) left_keys right_keys }
+    {
+        if right.ended {
+            return None;
+        }
+        match (&left.drawn, &right.drawn) {
+            (Some(left_keys), Some(right_keys)) => {
+                Some(self.pair_key(&left_keys.first, &right_keys.last))
+            }
+            _ => None,
+        }
+    }
+
+    /// The key of a pair, of a key of each side.
+    fn pair_key(&self, left: &Key, right: &Key) -> Key
+        requires { CanMerge self.now.weights self.now.left.side.terms self.now.right.side.terms left.now right.now }
+        ensures { result ≡ pair_key self.now left.now right.now }
+    {
+        let evaluated = (left.bound - self.left_rest) + (right.bound - self.right_rest);
+        Key {
+            bound: evaluated + self.above,
+            ids: left.ids.merge(&right.ids),
+        }
     }
 
     /// The left side has no more rows.
@@ -272,44 +337,6 @@ impl RippleCore {
             }
             None => None,
         }
-    }
-}
-
-/// Where both sides have a row, the key that no pair with a left row still to come precedes. Once the left side has ended
-/// it lies beyond all keys.
-fn left_threshold(weights: &Weights, left: &Input, right: &Input) -> Option<Key>
-    requires { IsRipple (sides_of weights.now left.now right.now) }
-    ensures { (left_keys right_keys : Drawn) → left.now.drawn ≡ Some left_keys → right.now.drawn ≡ Some right_keys
-        → result ≡ left_threshold (sides_of weights.now left.now right.now) left_keys right_keys }
-{
-    if left.ended {
-        return None;
-    }
-    match (&left.drawn, &right.drawn) {
-        (Some(left_keys), Some(right_keys)) => {
-            let (left_key, right_key) = (left_keys.last, right_keys.first);
-            Some(left_key.merge(&right_key, weights, left.side.terms, right.side.terms))
-        }
-        _ => None,
-    }
-}
-
-/// Where both sides have a row, the key that no pair with a right row still to come precedes. Once the right side has
-/// ended it lies beyond all keys.
-fn right_threshold(weights: &Weights, left: &Input, right: &Input) -> Option<Key>
-    requires { IsRipple (sides_of weights.now left.now right.now) }
-    ensures { (left_keys right_keys : Drawn) → left.now.drawn ≡ Some left_keys → right.now.drawn ≡ Some right_keys
-        → result ≡ right_threshold (sides_of weights.now left.now right.now) left_keys right_keys }
-{
-    if right.ended {
-        return None;
-    }
-    match (&left.drawn, &right.drawn) {
-        (Some(left_keys), Some(right_keys)) => {
-            let (left_key, right_key) = (left_keys.first, right_keys.last);
-            Some(left_key.merge(&right_key, weights, left.side.terms, right.side.terms))
-        }
-        _ => None,
     }
 }
 

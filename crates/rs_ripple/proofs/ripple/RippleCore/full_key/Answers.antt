@@ -15,6 +15,6 @@ overflow_add-result c =
     let sum : HasSum kept.weights terms c.args.row.now = rw (weights, all) c.requires in
     let is_bound = IsBound-sum kept.weights terms c.args.row.now.sum sum in
     let limit = bound-limit kept.weights terms _ c.self.invariant.0.sides.limits is_bound in
-    let above = c.self.invariant.2 in
+    let above = c.self.invariant.4 in
     let total : c.args.row.now.sum + kept.above ≤ score_limit = omega arith in
     search rules
