@@ -8,7 +8,6 @@ use Rattle.rs_query.specs.declared.block.Block.{Block}
 use Rattle.rs_query.specs.Conjuncts.{ConjunctDef}
 use Rattle.rs_query.specs.Meaning.{conjunct_holds, is_inside, conjuncts_within}
 use Rattle.rs_query.specs.Tables.{sizes_of}
-use Rattle.rs_query.specs.WellFormed.{IsBlock}
 
 -- whether a number is 0 outside, and inside that of one of so many rows, counted from 1
 abbrev pub is_row_number : Bool → ℕ → ℕ → Bool
@@ -59,9 +58,8 @@ new_matching catalogue block left right = record { catalogue = catalogue; block 
 abbrev pub conjuncts_across : ℕ → ℕ → List ConjunctDef → ℕ
 conjuncts_across left right conjuncts = conjuncts_within (bit_or left right) conjuncts - bit_or (conjuncts_within left conjuncts) (conjuncts_within right conjuncts)
 
--- what holds of each: the block is well formed, and the sizes and the conjuncts that are kept are those of the block
-pub record IsMatching (catalogue : Catalogue) (block : Block) (left right : ℕ) (sizes : List ℕ) (conjuncts : ℕ) : Type 0 where
-  pub block_formed : IsBlock catalogue block
+-- what rows are checked against: the sizes and the conjuncts that are kept are those of the block
+pub record AreChecks (catalogue : Catalogue) (block : Block) (left right : ℕ) (sizes : List ℕ) (conjuncts : ℕ) : Type 0 where
   pub sizes_are : sizes ≡ sizes_of catalogue block
   pub conjuncts_are : conjuncts ≡ conjuncts_across left right block.conjuncts
 

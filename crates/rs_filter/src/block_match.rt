@@ -1,6 +1,6 @@
-ghost use Rattle.std.specs.Prelude.{◌≡◌, ◌≤◌, length};
+ghost use Rattle.std.specs.Prelude.{◌≡◌, ◌≤◌, IfSome, Some, length};
 ghost use Rattle.rs_query.specs.WellFormed.{IsBlock};
-ghost use Rattle.rs_filter.specs.Matching.{conjuncts_across, joins, new_matching};
+ghost use Rattle.rs_filter.specs.Matching.{AreChecks, conjuncts_across, joins, new_matching};
 
 use crate::choice::{is_choice, sizes_of};
 use rs_catalog::Catalog;
@@ -18,17 +18,26 @@ pub struct BlockMatch<'a> {
     block: &'a Block,
     left: u8,
     right: u8,
-    // How many rows the table of each entry has.
-    sizes: [u32; 6],
-    // The mask of the conjuncts that are looked at.
-    across: u32,
-    // What these look at is put here. It is kept from call to call for its memory.
+    // The first match works them out. A hash join that asks of no two rows makes one of these for each row that it is fed.
+    checks: Option<Checks>,
+    // What the conjuncts look at is put here. It is kept from call to call for its memory.
     cells: Vec<Value>,
     calls: u64,
 }
 
+/// What two rows are checked against.
+#[derive(Clone, Copy)]
+struct Checks {
+    // How many rows the table of each entry has.
+    sizes: [u32; 6],
+    // The mask of the conjuncts that are looked at.
+    across: u32,
+}
+
 impl<'a> Model for BlockMatch<'a> {
-    ghost use Rattle.rs_filter.specs.Matching.{IsMatching, Matching};
+    ghost use Rattle.std.specs.Prelude.{IfSome};
+    ghost use Rattle.rs_query.specs.WellFormed.{IsBlock};
+    ghost use Rattle.rs_filter.specs.Matching.{AreChecks, Matching};
     ghost use Rattle.rs_filter.specs.Stored.{matching_code};
 
     ghost Value = { Matching };
@@ -43,7 +52,8 @@ impl<'a> Model for BlockMatch<'a> {
       calls = m.calls;
     } };
 
-    ghost invariant = { λ m. IsMatching m.catalog.now m.block.now m.left m.right m.sizes m.across };
+    ghost invariant = { λ m. IsBlock m.catalog.now m.block.now
+        × IfSome m.checks (λ c. AreChecks m.catalog.now m.block.now m.left m.right c.sizes c.across) };
 }
 
 impl<'a> BlockMatch<'a> {
@@ -63,8 +73,7 @@ impl<'a> BlockMatch<'a> {
             block,
             left,
             right,
-            sizes: sizes_of(catalog, block),
-            across: across(block, left, right),
+            checks: None,
             cells: Vec::new(alloc),
             calls: 0,
         }
@@ -85,16 +94,47 @@ impl<'a> Matcher for BlockMatch<'a> {
 
     fn matches(&mut self, left: &RankRow, right: &RankRow) -> Result<bool, Memory> {
         self.calls = self.calls.saturating_add(1);
-        if left.ids.mask != self.left || !is_choice(self.left, &self.sizes, &left.ids.rows) {
+        let checks = checks_in(
+            &mut self.checks,
+            self.catalog,
+            self.block,
+            self.left,
+            self.right,
+        );
+        if left.ids.mask != self.left || !is_choice(self.left, &checks.sizes, &left.ids.rows) {
             return Ok(false);
         }
-        if right.ids.mask != self.right || !is_choice(self.right, &self.sizes, &right.ids.rows) {
+        if right.ids.mask != self.right || !is_choice(self.right, &checks.sizes, &right.ids.rows) {
             return Ok(false);
         }
         let ids = left.ids.merge(&right.ids);
         self.block
-            .holds_with(self.catalog, self.across, &ids, &mut self.cells)
+            .holds_with(self.catalog, checks.across, &ids, &mut self.cells)
     }
+}
+
+/// The checks that are kept. Where there are none yet, they are worked out and kept.
+fn checks_in(
+    kept: &mut Option<Checks>,
+    catalog: &Catalog,
+    block: &Block,
+    left: u8,
+    right: u8,
+) -> Checks
+    requires block { IsBlock catalog.now block.now }
+    requires kept { IfSome kept.old (λ c. AreChecks catalog.now block.now left right c.sizes c.across) }
+    ensures kept { kept.new ≡ Some result }
+    ensures checks { AreChecks catalog.now block.now left right result.sizes result.across }
+{
+    if let Some(checks) = *kept {
+        return checks;
+    }
+    let checks = Checks {
+        sizes: sizes_of(catalog, block),
+        across: across(block, left, right),
+    };
+    *kept = Some(checks);
+    checks
 }
 
 /// The mask of the conjuncts that speak of entries of both sides.

@@ -23,7 +23,7 @@ returns-then-left-self-clause-answer c =
       | then-left-self-via-then-left-self w ↦ no-left-mask m.catalog.now m.block.now m.left m.right l r w.if-left-self.true
       | then-left-self-via-else-left-self+then-not-is_choice w ↦
           no-left-choice m.catalog.now m.block.now m.left m.right l r
-          (ap (λ s. is_choice m.left s l.ids.rows) (sym c.self.invariant.sizes_are) ∙ sym w.is_choice.ensures ∙ w.if-not-is_choice.true)
+          (ap (λ s. is_choice m.left s l.ids.rows) (sym c.checks_in-checks.ensures.checks.sizes_are) ∙ sym w.is_choice.ensures ∙ w.if-not-is_choice.true)
     ])
 
 pub returns-then-right-self-clause-answer : goal.returns-then-right-self-clause-answer
@@ -36,7 +36,7 @@ returns-then-right-self-clause-answer c =
       | then-right-self-via-then-right-self w ↦ no-right-mask m.catalog.now m.block.now m.left m.right l r w.if-right-self.true
       | then-right-self-via-else-right-self+then-not-is_choice-2 w ↦
           no-right-choice m.catalog.now m.block.now m.left m.right l r
-          (ap (λ s. is_choice m.right s r.ids.rows) (sym c.self.invariant.sizes_are) ∙ sym w.is_choice-else-right-self.ensures ∙ w.if-not-is_choice-2.true)
+          (ap (λ s. is_choice m.right s r.ids.rows) (sym c.checks_in-checks.ensures.checks.sizes_are) ∙ sym w.is_choice-else-right-self.ensures ∙ w.if-not-is_choice-2.true)
     ])
 
 pub holds_with-requires-clause-inside : goal.holds_with-requires-clause-inside
@@ -44,7 +44,7 @@ holds_with-requires-clause-inside c =
     let m = c.self.inside in
     let mask : c.merge-ids.result.mask ≡ bit_or m.left m.right =
     ap (λ (i : Ids). i.mask) c.merge-ids.ensures.value ∙ (λ at. bit_or (c.if-left-self.false at) (c.if-right-self.false at)) in
-    subst₂ (λ n e. AreInside n e m.block.now.conjuncts) (sym c.self.invariant.conjuncts_are) (sym mask) (AreInside-across m.left m.right m.block.now.conjuncts)
+    subst₂ (λ n e. AreInside n e m.block.now.conjuncts) (sym c.checks_in-checks.ensures.checks.conjuncts_are) (sym mask) (AreInside-across m.left m.right m.block.now.conjuncts)
 
 pub holds_with-requires-clause-rows : goal.holds_with-requires-clause-rows
 holds_with-requires-clause-rows c =
@@ -56,12 +56,12 @@ holds_with-requires-clause-rows c =
     let rows : c.merge-ids.result.rows ≡ merge_rows l.ids.rows r.ids.rows = ap (λ (i : Ids). i.rows) c.merge-ids.ensures.value in
     let sizes = sizes_of m.catalog.now m.block.now in
     let left : IsChoice m.left sizes l.ids.rows =
-    IsChoice-test m.left sizes l.ids.rows (ap (λ s. is_choice m.left s l.ids.rows) (sym c.self.invariant.sizes_are) ∙ sym c.is_choice.ensures ∙ c.if-not-is_choice.false) in
+    IsChoice-test m.left sizes l.ids.rows (ap (λ s. is_choice m.left s l.ids.rows) (sym c.checks_in-checks.ensures.checks.sizes_are) ∙ sym c.is_choice.ensures ∙ c.if-not-is_choice.false) in
     let right : IsChoice m.right sizes r.ids.rows =
     IsChoice-test m.right sizes r.ids.rows
-    (ap (λ s. is_choice m.right s r.ids.rows) (sym c.self.invariant.sizes_are) ∙ sym c.is_choice-else-right-self.ensures ∙ c.if-not-is_choice-2.false) in
+    (ap (λ s. is_choice m.right s r.ids.rows) (sym c.checks_in-checks.ensures.checks.sizes_are) ∙ sym c.is_choice-else-right-self.ensures ∙ c.if-not-is_choice-2.false) in
     subst₂ (λ e x. HasRows m.catalog.now m.block.now e x) (sym mask) (sym rows)
-    (HasRows-choice m.catalog.now m.block.now (bit_or m.left m.right) (merge_rows l.ids.rows r.ids.rows) c.self.invariant.block_formed.most_entries
+    (HasRows-choice m.catalog.now m.block.now (bit_or m.left m.right) (merge_rows l.ids.rows r.ids.rows) c.self.invariant.0.most_entries
     (IsChoice-merge m.left m.right sizes l.ids.rows r.ids.rows left right))
 
 pub returns-clause-answer : goal.returns-clause-answer
@@ -72,11 +72,11 @@ returns-clause-answer c =
     let conjuncts = m.block.now.conjuncts in
     let rows : c.merge-ids.result.rows ≡ merge_rows l.ids.rows r.ids.rows = ap (λ (i : Ids). i.rows) c.merge-ids.ensures.value in
     let left : is_choice m.left (sizes_of m.catalog.now m.block.now) l.ids.rows ≡ true =
-    ap (λ s. is_choice m.left s l.ids.rows) (sym c.self.invariant.sizes_are) ∙ sym c.is_choice.ensures ∙ c.if-not-is_choice.false in
+    ap (λ s. is_choice m.left s l.ids.rows) (sym c.checks_in-checks.ensures.checks.sizes_are) ∙ sym c.is_choice.ensures ∙ c.if-not-is_choice.false in
     let right : is_choice m.right (sizes_of m.catalog.now m.block.now) r.ids.rows ≡ true =
-    ap (λ s. is_choice m.right s r.ids.rows) (sym c.self.invariant.sizes_are) ∙ sym c.is_choice-else-right-self.ensures ∙ c.if-not-is_choice-2.false in
-    let answer : all_hold m.catalog.now m.block.now m.across c.merge-ids.result.rows conjuncts ≡ joins m.catalog.now m.block.now m.left m.right l r =
-    (λ at. all_hold m.catalog.now m.block.now (c.self.invariant.conjuncts_are at) (rows at) conjuncts)
+    ap (λ s. is_choice m.right s r.ids.rows) (sym c.checks_in-checks.ensures.checks.sizes_are) ∙ sym c.is_choice-else-right-self.ensures ∙ c.if-not-is_choice-2.false in
+    let answer : all_hold m.catalog.now m.block.now c.checks_in-checks.result.across c.merge-ids.result.rows conjuncts ≡ joins m.catalog.now m.block.now m.left m.right l r =
+    (λ at. all_hold m.catalog.now m.block.now (c.checks_in-checks.ensures.checks.conjuncts_are at) (rows at) conjuncts)
     ∙ all_hold-across m.left m.right m.catalog.now m.block.now (merge_rows l.ids.rows r.ids.rows) conjuncts
     ∙ sym (both-sides m.catalog.now m.block.now m.left m.right l r c.if-left-self.false left c.if-right-self.false right) in
     subst (λ (s : Matching). IfOk c.holds_with.result (λ a. a ≡ joins s.catalogue s.block s.left s.right l r)) c.self.view_is
