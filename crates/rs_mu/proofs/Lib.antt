@@ -1,4 +1,5 @@
 pub mod AnswerFacts
+pub mod KeyFacts
 pub mod MuFacts
 pub mod StandFacts
 pub mod StepFacts

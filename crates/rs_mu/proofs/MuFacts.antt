@@ -1,7 +1,7 @@
 -- Sums with one more term, keys that no held row has, and what the first key held tells.
 use Rattle.std.proofs.Common.{◌≡◌, ℕ, ◌+◌, ◌-◌, ◌*◌, ◌<◌, ◌≤◌, ◌||◌, Bool, false, List, [], ◌∷◌, length, get_or, bit_or, Option, Some, None, refl, sym, ◌∙◌, ap, arith}
 use Rattle.std.proofs.lemmas.Nat.{mul-le}
-use Rattle.std.specs.Prelude.{if◌then◌else◌}
+use Rattle.std.specs.Prelude.{⊤, if◌then◌else◌}
 use Rattle.std.specs.List.{AllByRecursion, slice_get}
 use Rattle.std.specs.Option.{option_map}
 use Rattle.std.specs.Ordering.{is_eq}
@@ -9,7 +9,6 @@ use Rattle.std.specs.declared.cmp.Ordering.TheVariants.{Less, Equal, Greater}
 use Rattle.rs_queue.specs.Queue.{has_key}
 use Rattle.rs_queue.proofs.ItemFacts.{has_key-items}
 use Rattle.rs_rank.proofs.OrderFacts.{IsTied-parts}
-use Rattle.rs_rank.proofs.SumFacts.{row_with}
 use Rattle.rs_rank.proofs.WeightFacts.{IsBound-sum, bound-limit, sum_inside-one}
 use Rattle.rs_rank.specs.declared.ask.Ask.{Ask}
 use Rattle.rs_rank.specs.declared.ask.Ask.TheVariants.{Need, Ready, End}
@@ -18,10 +17,10 @@ use Rattle.rs_rank.specs.declared.row.RankRow.{RankRow}
 use Rattle.rs_rank.specs.declared.weights.Weights.{Weights}
 use Rattle.rs_rank.specs.Keys.{key_cmp}
 use Rattle.rs_rank.specs.Masks.{mask_of}
-use Rattle.rs_rank.specs.Rows.{rows_of_sums}
 use Rattle.rs_rank.specs.Weights.{IsWeights, most_evaluated, rest, score_limit}
 use Rattle.rs_rank.specs.Ids.{AreOtherIds}
-use Rattle.rs_mu.specs.Mu.{IsNewTerm, ask_for, is_reached}
+use Rattle.rs_mu.specs.Mu.{IsNewTerm, ask_for, is_reached, rows_of_keys}
+use Rattle.rs_mu.proofs.KeyFacts.{row_without}
 
 -- a sum with the share of one more term is one that the terms can give
 pub sum_with-term : (weights : Weights) (terms term sum worth : ℕ) → IsWeights weights → IsNewTerm terms term → sum ≤ most_evaluated weights terms → worth ≤ get_or weights.max (term - 1) 0 →
@@ -54,16 +53,16 @@ has_key-other_ids key [] all = refl
 has_key-other_ids key (pair ∷ rest) all =
     ap (λ b. b || has_key key_cmp key rest) (other_ids-apart pair.0 key all.0) ∙ has_key-other_ids key rest all.1
 
--- nor has any of the keys and sums that stand for them
-pub has_key-other_sums : (key : Key) (pairs : List (Key × ℕ)) → AllByRecursion (λ pair. AreOtherIds pair.0.ids key.ids) (rows_of_sums pairs) → has_key key_cmp key pairs ≡ false
-has_key-other_sums key pairs all =
-    sym (has_key-items key_cmp row_with key pairs) ∙ has_key-other_ids key (rows_of_sums pairs) all
+-- nor has any of the keys that stand for them
+pub has_key-other_keys : (rest : ℕ) (key : Key) (pairs : List (Key × ⊤)) → AllByRecursion (λ pair. AreOtherIds pair.0.ids key.ids) (rows_of_keys rest pairs) → has_key key_cmp key pairs ≡ false
+has_key-other_keys rest key pairs all =
+    sym (has_key-items key_cmp (row_without rest) key pairs) ∙ has_key-other_ids key (rows_of_keys rest pairs) all
 
 -- what the operator does next is told by the first key
 abbrev pub ask_first : Option Key → Bool → Option Key → Ask
 ask_first last ended None = if ended then End else Need
 ask_first last ended (Some key) = if ended || is_reached last key then Ready else Need
 
-pub ask_for-sums : (last : Option Key) (ended : Bool) (pairs : List (Key × ℕ)) (first : Option Key) → first ≡ option_map (λ pair. pair.0) (slice_get pairs 0) → ask_for last ended (rows_of_sums pairs) ≡ ask_first last ended first
-ask_for-sums last ended [] first is = ap (ask_first last ended) (sym is)
-ask_for-sums last ended (pair ∷ rest) first is = ap (ask_first last ended) (sym is)
+pub ask_for-keys : (last : Option Key) (ended : Bool) (rest : ℕ) (pairs : List (Key × ⊤)) (first : Option Key) → first ≡ option_map (λ pair. pair.0) (slice_get pairs 0) → ask_for last ended (rows_of_keys rest pairs) ≡ ask_first last ended first
+ask_for-keys last ended rest [] first is = ap (ask_first last ended) (sym is)
+ask_for-keys last ended rest (pair ∷ pairs) first is = ap (ask_first last ended) (sym is)

@@ -1,5 +1,5 @@
 -- What a rank operator keeps, and what each call does to it. The operator evaluates one term in addition.
-use Rattle.std.specs.Prelude.{ℕ, ◌≡◌, ◌≤◌, ◌+◌, ◌-◌, ◌*◌, ◌||◌, Bool, false, not, List, [], ◌∷◌, Option, Some, None, bit_or, drop, slice_index, if◌then◌else◌}
+use Rattle.std.specs.Prelude.{ℕ, ◌≡◌, ◌≤◌, ◌+◌, ◌-◌, ◌*◌, ◌||◌, ⊤, Bool, false, not, List, [], ◌∷◌, Option, Some, None, bit_or, drop, map, slice_index, if◌then◌else◌}
 use Rattle.std.specs.List.{AllByRecursion}
 use Rattle.std.specs.Ordering.{is_gt}
 use Rattle.rs_order.specs.Sorting.{put}
@@ -24,6 +24,15 @@ pub record Mu : Type 0 where
   pub ended : Bool
   pub held : List (Key × RankRow)
   pub spent : Bool
+
+-- the rows that keys stand for, each with its key, where the rest is what the terms that aren't evaluated on them can
+-- give at most
+abbrev pub rows_of_keys : ℕ → List (Key × ⊤) → List (Key × RankRow)
+rows_of_keys rest pairs = map (λ pair. (pair.0, record { ids = pair.0.ids; sum = pair.0.bound - rest })) pairs
+
+-- the rest is in the bound of each key
+abbrev pub HaveRest : ℕ → List (Key × ⊤) → Type 0
+HaveRest rest pairs = AllByRecursion (λ pair. rest ≤ pair.0.bound) pairs
 
 -- a term that isn't evaluated below
 pub record IsNewTerm (terms term : ℕ) : Type 0 where

@@ -26,17 +26,17 @@ pub struct MuCore {
     // The key of the last row that was fed, by the terms below.
     last: Option<Key>,
     ended: bool,
-    // Of each row held its key by all these terms, in which its ids stand, and its sum.
-    held: Queue<Key, u64>,
+    // Of each row held its key by all these terms, in which its ids stand. Its sum is the key's bound without `above`;
+    // held as a number of its own, it would make each pair a fifth larger, and a search can hold many.
+    held: Queue<Key, ()>,
     spent: bool,
 }
 
 impl Model for MuCore {
     ghost use Rattle.std.specs.Prelude.{◌≡◌, bit_or};
     ghost use Rattle.rs_rank.specs.Masks.{mask_of};
-    ghost use Rattle.rs_rank.specs.Rows.{rows_of_sums};
     ghost use Rattle.rs_rank.specs.Weights.{IsWeights, rest};
-    ghost use Rattle.rs_mu.specs.Mu.{IsNewTerm, Mu};
+    ghost use Rattle.rs_mu.specs.Mu.{HaveRest, IsNewTerm, Mu, rows_of_keys};
 
     ghost Value = { Mu };
 
@@ -46,12 +46,13 @@ impl Model for MuCore {
       term = m.term;
       last = m.last;
       ended = m.ended;
-      held = rows_of_sums m.held;
+      held = rows_of_keys m.above m.held;
       spent = m.spent;
     } };
 
     ghost invariant = { λ m. IsWeights m.weights × IsNewTerm m.terms m.term
-        × (m.below ≡ rest m.weights m.terms) × (m.above ≡ rest m.weights (bit_or m.terms (mask_of m.term))) };
+        × (m.below ≡ rest m.weights m.terms) × (m.above ≡ rest m.weights (bit_or m.terms (mask_of m.term)))
+        × HaveRest m.above m.held };
 }
 
 impl MuCore {
@@ -100,7 +101,7 @@ impl MuCore {
         let last = key_with(&row, self.below);
         let scored = self.scored(&row, worth);
         let key = key_with(&scored, self.above);
-        match self.held.push(key, scored.sum) {
+        match self.held.push(key, ()) {
             Ok(()) => {
                 self.last = Some(last);
                 Ok(())
@@ -142,7 +143,10 @@ impl MuCore {
     {
         match self.ask() {
             Ask::Ready => match self.held.pop() {
-                Some((key, sum)) => Some(RankRow { ids: key.ids, sum }),
+                Some((key, ())) => Some(RankRow {
+                    ids: key.ids,
+                    sum: key.bound - self.above,
+                }),
                 None => None,
             },
             Ask::Need => None,

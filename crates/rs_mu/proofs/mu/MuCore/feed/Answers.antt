@@ -1,16 +1,16 @@
 -- Each bound is a sum that terms can give, with what the other terms can give at most. The new key has the row's ids,
--- which no held row has; the row's sum is put in with it.
-use Rattle.std.proofs.Common.{◌≡◌, ℕ, ◌+◌, List, Some, bit_or, ap, ◌∙◌}
+-- which no held row has; the row of the key is the row.
+use Rattle.std.proofs.Common.{◌≡◌, ℕ, ◌+◌, List, Some, bit_or, sym, ap, subst, ◌∙◌}
 use Rattle.rs_order.specs.Sorting.{put}
-use Rattle.rs_rank.proofs.SumFacts.{put-sums}
 use Rattle.rs_rank.specs.declared.key.Key.{Key}
 use Rattle.rs_rank.specs.declared.row.RankRow.{RankRow}
 use Rattle.rs_rank.specs.Keys.{key_cmp}
 use Rattle.rs_rank.specs.Masks.{mask_of}
-use Rattle.rs_rank.specs.Rows.{key_of, rows_of_sums}
+use Rattle.rs_rank.specs.Rows.{key_of}
 use Rattle.rs_rank.specs.Weights.{rest}
-use Rattle.rs_mu.specs.Mu.{Mu, full_key, scored}
-use Rattle.rs_mu.proofs.MuFacts.{bound-within, has_key-other_sums}
+use Rattle.rs_mu.specs.Mu.{HaveRest, Mu, full_key, rows_of_keys, scored}
+use Rattle.rs_mu.proofs.KeyFacts.{HaveRest-put, put-keys}
+use Rattle.rs_mu.proofs.MuFacts.{bound-within, has_key-other_keys}
 use Rattle.rs_mu.proofs.mu.MuCore.feed.Goals as goal
 
 abbrev pair_key : Key × RankRow → Key
@@ -34,7 +34,13 @@ pub push-requires : goal.push-requires
 push-requires c =
     let held = ap (λ (mu : Mu). mu.held) c.self.view_is in
     let ids : c.key_with-key.result.ids ≡ c.args.row.ids = ap (λ (key : Key). key.ids) c.key_with-key.ensures ∙ ap (λ (row : RankRow). row.ids) c.scored-scored.ensures.value in
-    has_key-other_sums c.key_with-key.result c.self.inside.held (rw (held, ids) c.requires.others)
+    has_key-other_keys c.self.inside.above c.key_with-key.result c.self.inside.held (rw (held, ids) c.requires.others)
+
+pub invariant_of-self : goal.invariant_of-self
+invariant_of-self c =
+    let above = c.self.inside.above in
+    let held = HaveRest-put above c.key_with-key.result c.scored-scored.result c.self.inside.held c.key_with-key.ensures c.self.invariant.4 in
+    (c.self.invariant.0, c.self.invariant.1, c.self.invariant.2, c.self.invariant.3, subst (HaveRest above) (sym c.in-Ok.ensures.ok) held)
 
 pub returns-in-Ok-clause-ok : goal.returns-in-Ok-clause-ok
 returns-in-Ok-clause-ok c =
@@ -47,12 +53,13 @@ returns-in-Ok-clause-ok c =
     let full : key ≡ full_key now row =
     c.key_with-key.ensures
     ∙ ap (λ (more : ℕ). record { bound = row.sum + more; ids = row.ids }) (c.self.invariant.3 ∙ ap (λ (mu : Mu). rest mu.weights (bit_or mu.terms (mask_of mu.term))) c.self.view_is) in
-    let held : rows_of_sums c.push.new.self ≡ put key_cmp pair_key (full_key now (scored now c.args.row c.args.worth), scored now c.args.row c.args.worth) now.held =
-    ap rows_of_sums c.in-Ok.ensures.ok
-    ∙ put-sums key row c.self.inside.held (ap (λ (key : Key). key.ids) c.key_with-key.ensures)
+    let above = c.self.inside.above in
+    let held : rows_of_keys above c.push.new.self ≡ put key_cmp pair_key (full_key now (scored now c.args.row c.args.worth), scored now c.args.row c.args.worth) now.held =
+    ap (rows_of_keys above) c.in-Ok.ensures.ok
+    ∙ put-keys above key row c.self.inside.held c.key_with-key.ensures
     ∙ ap (λ (mu : Mu). put key_cmp pair_key (key, row) mu.held) c.self.view_is
     ∙ ap (λ (key : Key). put key_cmp pair_key (key, row) now.held) full
     ∙ ap (λ (row : RankRow). put key_cmp pair_key (full_key now row, row) now.held) c.scored-scored.ensures.value in
-    ap (λ (mu : Mu). record mu { last = Some c.key_with-last.result; held = rows_of_sums c.push.new.self }) c.self.view_is
-    ∙ ap (λ (last : Key). record now { last = Some last; held = rows_of_sums c.push.new.self }) last
+    ap (λ (mu : Mu). record mu { last = Some c.key_with-last.result; held = rows_of_keys above c.push.new.self }) c.self.view_is
+    ∙ ap (λ (last : Key). record now { last = Some last; held = rows_of_keys above c.push.new.self }) last
     ∙ ap (λ (held : List (Key × RankRow)). record now { last = Some (key_of now.weights now.terms c.args.row); held = held }) held
