@@ -10,7 +10,7 @@ use Rattle.rs_query.specs.WellFormed.{IsConjunct}
 use Rattle.rs_filter.specs.JoinValues.{compared, equated_across}
 use Rattle.rs_filter.proofs.JoinColumnFacts.{across-columns, values-more, values_of}
 use Rattle.rs_filter.proofs.join_values.left_values.Goals as goal
-use Rattle.rs_filter.proofs.join_values.left_values.Goals.{in-Some+in_ok-cell+in_ok-push, in_default}
+use Rattle.rs_filter.proofs.join_values.left_values.Goals.{in-Some+in_ok-push_copy, in_default}
 
 pub cell-requires-clause-column : goal.cell-requires-clause-column
 cell-requires-clause-column c =
@@ -36,14 +36,14 @@ loop-conjunct-preserved c =
     let own : (ℕ × ℕ) × (ℕ × ℕ) → ℕ × ℕ = λ pair. pair.0 in
     let all = values_of c.args.catalog.now c.args.block.now c.args.left c.args.right rows own in
     elim c.match-equated_across.branch [
-      | in-Some+in_ok-cell+in_ok-push w ↦
+      | in-Some+in_ok-push_copy w ↦
           let across = across-columns c.args.catalog.now c.args.block.now c.args.left c.args.right conjunct formed (w.in-Some.column, w.in-Some.field-0-1) w.in-Some.ensures in
-          let value = w.in_ok-cell.field-0 in
+          let value = w.cell.result.now in
           let is_value : value ∷ [] ≡ all conjunct =
-          ap (λ (v : Value). v ∷ []) (sym (across.left_column.self value w.in_ok-cell.ensures.fit) ∙ ap (compared conjunct.condition) w.in_ok-cell.ensures.value)
+          ap (λ (v : Value). v ∷ []) (sym (across.left_column.self value w.cell.ensures.fit) ∙ ap (compared conjunct.condition) w.cell.ensures.value)
           ∙ sym (ap (map (λ (pair : (ℕ × ℕ) × (ℕ × ℕ)). compared conjunct.condition (column_value c.args.catalog.now c.args.block.now rows (own pair)))) w.in-Some.ensures) in
           values-more all conjuncts place conjunct c.loop-conjunct.values.items (value ∷ []) c.match-equated_across.values.items at c.loop-conjunct.invariant is_value
-          (ap (λ made. made.items) w.values-is ∙ w.in_ok-push.ensures.items)
+          (ap (λ made. made.items) w.values-is ∙ w.in_ok-push_copy.ensures)
       | in_default w ↦
           let none : equated_across c.args.left c.args.right conjunct ≡ [] = w.in_default.ensures in
           let is_value : [] ≡ all conjunct =
