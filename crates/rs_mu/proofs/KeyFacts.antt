@@ -9,7 +9,7 @@ use Rattle.rs_rank.specs.declared.row.RankRow.{RankRow}
 use Rattle.rs_rank.specs.Keys.{key_cmp}
 use Rattle.rs_mu.specs.Mu.{HaveRest, rows_of_keys}
 
--- the row of a key
+-- the row that a key stands for
 abbrev pub row_without : ℕ → Key → ⊤ → RankRow
 row_without rest key nothing = record { ids = key.ids; sum = key.bound - rest }
 
@@ -27,7 +27,7 @@ own_key pair = pair.0
 abbrev key_with : ℕ → RankRow → Key
 key_with rest row = record { bound = row.sum + rest; ids = row.ids }
 
--- the row of a row's key is the row
+-- the key of a row stands for the row
 row_of_key-own : (rest : ℕ) (key : Key) (row : RankRow) → key ≡ key_with rest row → row_of_key rest (key, tt) ≡ (key, row)
 row_of_key-own rest key row is =
     let same : row.sum + rest - rest ≡ row.sum = omega arith in
@@ -40,7 +40,7 @@ put-keys rest key row pairs is =
     sym (put-map key_cmp row_key (row_of_key rest) (key, tt) pairs)
     ∙ ap (λ pair. put key_cmp row_key pair (rows_of_keys rest pairs)) (row_of_key-own rest key row is)
 
--- and its key has the rest in its bound
+-- and each key still has the rest in its bound
 pub HaveRest-put : (rest : ℕ) (key : Key) (row : RankRow) (pairs : List (Key × ⊤)) → key ≡ key_with rest row → HaveRest rest pairs → HaveRest rest (put key_cmp own_key (key, tt) pairs)
 HaveRest-put rest key row pairs is all =
     let bound : key.bound ≡ row.sum + rest = ap (λ (key : Key). key.bound) is in

@@ -1,5 +1,5 @@
 -- Each bound is a sum that terms can give, with what the other terms can give at most. The new key has the row's ids,
--- which no held row has; the row of the key is the row.
+-- which no held row has, and stands for the row.
 use Rattle.std.proofs.Common.{◌≡◌, ℕ, ◌+◌, List, Some, bit_or, sym, ap, subst, ◌∙◌}
 use Rattle.rs_order.specs.Sorting.{put}
 use Rattle.rs_rank.specs.declared.key.Key.{Key}
