@@ -1,10 +1,10 @@
 #!/usr/bin/env bash
 # Measures the gate: runs `rt ci --anew`, which proves and tries everything from nothing, on a clean clone of what is
 # committed, and prints the minutes of processor time by crate and kind: the proof of the crate, that of its tests, the
-# check that its must-fail edits begin with (`base`), and the edits. The time of a process is what the system says of it
-# when it was last seen, four times a second, so that a little is lost of each. It also says how long the run took, what
-# the whole of it cost as the shell tells it, and the last line of `rt ci`, whose status it ends with. The whole output of
-# `rt ci` is kept in the file that is named first on the command line, if one is.
+# check that its must-fail edits begin with (`base`), and the edits. Then it names the slowest edits. The time of a process
+# is what the system says of it when it was last seen, four times a second, so that a little is lost of each. It also says
+# how long the run took, what the whole of it cost as the shell tells it, and the last line of `rt ci`, whose status it ends
+# with. The whole output of `rt ci` is kept in the file that is named first on the command line, if one is.
 # shellcheck source=bench/functions.sh
 . "$(dirname "$0")/functions.sh"
 
@@ -24,6 +24,7 @@ import sys
 import time
 
 KINDS = ["proof", "tests", "base", "edits"]
+SLOWEST = 20
 TICKS = os.sysconf("SC_CLK_TCK")
 
 
@@ -62,6 +63,13 @@ def is_ours(pid, gate):
     return False
 
 
+# The name of an edit, by the folder that it is tried over, which ends with its place among the edits of its crate.
+def name_of(crate, tried):
+    place = os.path.basename(tried)
+    names = sorted(os.listdir("crates/%s/must-fail" % crate))
+    return names[int(place)] if place.isdigit() else "(its only one)"
+
+
 spent, told, others = {}, {}, set()
 start = time.time()
 with open(sys.argv[1], "w") as log:
@@ -87,11 +95,12 @@ with open(sys.argv[1], "w") as log:
         time.sleep(0.25)
 wall = time.time() - start
 usage = resource.getrusage(resource.RUSAGE_CHILDREN)
-minutes, tries = collections.Counter(), collections.defaultdict(set)
+minutes, tries, slow = collections.Counter(), collections.defaultdict(set), collections.Counter()
 for key, (crate, kind, tried) in told.items():
     minutes[crate, kind] += spent.get(key, 0) / 60
     if kind == "edits":
         tries[crate].add(tried)
+        slow[crate, tried] += spent.get(key, 0)
 
 row = "%-14s" + "%8s" * 5 + "%8s %8s"
 print(row % ("crate", *KINDS, "all", "edits", "seconds"))
@@ -103,6 +112,9 @@ for crate in sorted(sums, key=lambda it: -sums[it]):
 whole = ["%.1f" % sum(minutes[crate, kind] for crate in sums) for kind in KINDS]
 print(row % ("all", *whole, "%.1f" % sum(sums.values()), sum(map(len, tries.values())), ""))
 print("minutes of processor time; `seconds` are those of an edit, at the mean")
+print("the slowest edits, with their seconds:")
+for (crate, tried), seconds in slow.most_common(SLOWEST):
+    print("%6.0f %s/%s" % (seconds, crate, name_of(crate, tried)))
 print("%.1f minutes on %d processors; the processes of the gate took %.1f minutes of processor time in all"
       % (wall / 60, len(os.sched_getaffinity(0)), (usage.ru_utime + usage.ru_stime) / 60))
 with open(sys.argv[1], errors="replace") as log:

@@ -6,11 +6,11 @@
 
 use rs_expr::MemScorer;
 use rs_outside::{DirFiles, OutSink, Sink};
+use rs_program::{command_line, exit_code};
 use rs_run::{Status, run};
-use rs_value::{Memory, Text};
+use rs_value::Memory;
 use std::alloc::Global;
-use std::env::{self, Args};
-use std::io::{self, ErrorKind};
+use std::env;
 use std::process::ExitCode;
 
 fn main(rt: HostRuntime) -> ExitCode {
@@ -28,28 +28,9 @@ fn main(rt: HostRuntime) -> ExitCode {
     exit_code(if told.is_ok() { status } else { Status::Memory })
 }
 
-/// The words behind the program's name. There are none where one isn't UTF-8.
-fn command_line(alloc: Global, args: io::Result<Args>) -> Result<Vec<Text>, Memory> {
-    let mut words = Vec::new(alloc);
-    match args {
-        Ok(args) => {
-            for word in args.skip(1) {
-                words.push(Text::from(word))?;
-            }
-            Ok(words)
-        }
-        Err(error) if error.kind() == ErrorKind::OutOfMemory => Err(Memory),
-        Err(_) => Ok(words),
-    }
-}
-
 /// Prints how many calls were made. Where standard error can't be written, nothing can be told.
 fn tell<E: Sink>(alloc: Global, calls: usize, err: &mut E) -> Result<(), Memory> {
     let line = format!(in alloc; "calls {calls}\n")?;
     let _ = err.put(line.as_bytes());
     Ok(())
-}
-
-fn exit_code(status: Status) -> ExitCode {
-    ExitCode::from(status.number())
 }

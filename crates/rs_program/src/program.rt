@@ -1,7 +1,7 @@
 ghost use Rattle.std.specs.Prelude.{◌≡◌, IfOk, OnErr};
 ghost use Rattle.std.specs.Process.{exit_status};
 ghost use Rattle.rs_run.specs.Status.{exit_status_of};
-ghost use Rattle.ranksql.specs.Program.{EndsAsRun, SaysNoMemory, objects};
+ghost use Rattle.rs_program.specs.Program.{EndsAsRun, SaysNoMemory, objects};
 
 use rs_outside::Sink;
 use rs_run::Status;
@@ -41,7 +41,7 @@ where
 }
 
 /// The exit status of the program is the number of the status.
-fn exit_code(status: Status) -> ExitCode
+pub fn exit_code(status: Status) -> ExitCode
     ensures { exit_status result ≡ exit_status_of status }
 {
     ExitCode::from(status.number())

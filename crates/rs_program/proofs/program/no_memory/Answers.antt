@@ -1,4 +1,4 @@
-use Rattle.ranksql.proofs.program.no_memory.Goals as goal
+use Rattle.rs_program.proofs.program.no_memory.Goals as goal
 
 pub returns-clause-line : goal.returns-clause-line
 returns-clause-line g c = (c.put.result, c.put.ensures.puts)

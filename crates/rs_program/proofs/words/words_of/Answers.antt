@@ -4,7 +4,7 @@ use Rattle.std.specs.Vec.Iter.{into_iter_items}
 use Rattle.std.proofs.lemmas.Iterator.Consumers.{YieldsList-end}
 use Rattle.std.proofs.lemmas.Iterator.Adapters.{YieldsList-from_vec, YieldsList-from_skip}
 use Rattle.std.proofs.lemmas.List.{map-id}
-use Rattle.ranksql.proofs.words.words_of.Goals as goal
+use Rattle.rs_program.proofs.words.words_of.Goals as goal
 
 pub returns : goal.returns
 returns c =
