@@ -3,14 +3,16 @@
 # where its server and its command are there, PostgreSQL. All read the same files in the same run, join hotels, restaurants and
 # museums of one city, and have to print the same rows. sqlite3 and PostgreSQL evaluate the three scores of each combination;
 # how often `ranksql` called its predicates, those of its indexes and its sample included, is counted by the program count_calls.
-# Each runs five times, in turn, or once where it takes more than two seconds, and the shortest time counts: of the whole, the reading of the files included. Of
-# PostgreSQL that is the time of its command; its server was started before. The memory is the most that the process held.
 # The word `gen` makes the same tables and asks the same query twice, the second time with EXPLAIN ANALYZE; its whole run is measured too.
+# Each runs fifteen times, in turn, or once where it takes more than two seconds. Its time is that of the whole, the reading of the files
+# included, and the median of its runs counts; so does the median of the ratios of two that ran one after the other, since some machines
+# are half as fast at times. Of PostgreSQL it is the time of its command; its server was started before. The memory is the most that
+# the process held.
 # The programs are those that ./ranksql and `rt run` build, or those that the variables RANKSQL and COUNT_CALLS name.
 # shellcheck source=bench/functions.sh
 . "$(dirname "$0")/functions.sh"
 
-RUNS=5
+RUNS=15
 
 needs sqlite3 'nothing is measured without it (on Debian: apt-get install sqlite3)'
 needs python3 'it takes the times'
@@ -56,6 +58,7 @@ start_server
 
 python3 - "$program" "$counter" "$work" "$RUNS" "${server:+$work/server}" "$([ "$(id -u)" -eq 0 ] && echo postgres || id -un)" <<'PYTHON'
 import os
+import statistics
 import subprocess
 import sys
 import time
@@ -146,31 +149,36 @@ def calls_of(words):
 for size in [600, 2000]:
     rows = rows_of(size)
     write_files(rows)
-    sides = {"run": [program, "run", folder + "/peers.sql", "1"], "sqlite3": sqlite_words()}
+    generated = ["gen", str(NUMBER), str(size)]
+    sides = {"run": [program, "run", folder + "/peers.sql", "1"], "gen": [program, *generated], "sqlite3": sqlite_words()}
     if socket:
         sides["PostgreSQL"] = postgres_words()
-    best, printed, memory = {}, {}, {}
+    times, printed, memory = {side: [] for side in sides}, {}, {}
     for _ in range(runs):
         for side, words in sides.items():
-            if best.get(side, 0) > SLOW:
+            if times[side] and times[side][0] > SLOW:
                 continue
             taken, printed[side], held = spent(words)
-            best[side], memory[side] = min(taken, best.get(side, taken)), max(held, memory.get(side, 0))
-    for side in sides:
-        if side != "run" and printed["run"] != "".join("%d,%s\n" % (rank, line) for rank, line in enumerate(printed[side].splitlines(), 1)):
+            times[side].append(taken)
+            memory[side] = max(held, memory.get(side, 0))
+    peers = [side for side in sides if side not in ("run", "gen")]
+    for side in peers:
+        if printed["run"] != "".join("%d,%s\n" % (rank, line) for rank, line in enumerate(printed[side].splitlines(), 1)):
             sys.exit("bench: run and %s print other rows" % side)
-    generated = ["gen", str(NUMBER), str(size)]
-    for _ in range(runs):
-        if best.get("gen", 0) <= SLOW:
-            taken, printed["gen"], _ = spent([program, *generated])
-            best["gen"] = min(taken, best.get("gen", taken))
     if "".join(printed["gen"].splitlines(True)[:LIMIT]) != printed["run"]:
         sys.exit("bench: gen prints other rows")
+
+    def ratios(side, peer):
+        """What a side took of a peer's time, turn by turn, from the least to the greatest."""
+        return sorted(ours / theirs for ours, theirs in zip(times[side], times[peer]))
+
     calls, all_calls = calls_of(["run", folder + "/peers.sql", "1"]), 3 * combinations(rows)
     print("three tables of %d rows: all print the same rows" % size)
     print("  calls: run %d, where the others evaluate %d scores: %.1f times as many" % (calls, all_calls, all_calls / calls))
-    print("  time of the whole: " + ", ".join("%s %.1f ms" % (side, best[side] * 1000) for side in sides)
-          + "; run takes " + ", ".join("%.2f of %s" % (best["run"] / best[side], side) for side in sides if side != "run"))
-    print("  time of `gen %d %d`: %.1f ms, %.2f of sqlite3; %d calls" % (NUMBER, size, best["gen"] * 1000, best["gen"] / best["sqlite3"], calls_of(generated)))
+    of_gen = ratios("gen", "sqlite3")
+    print("  time of the whole: " + ", ".join("%s %.1f ms" % (side, statistics.median(times[side]) * 1000) for side in sides)
+          + "; run takes " + ", ".join("%.2f of %s" % (statistics.median(ratios("run", peer)), peer) for peer in peers))
+    print("  `gen %d %d` takes %.2f of sqlite3, from %.2f to %.2f by the turn; %d calls" % (
+        NUMBER, size, statistics.median(of_gen), of_gen[0], of_gen[-1], calls_of(generated)))
     print("  memory: " + ", ".join("%s %.1f MB" % (side, memory[side]) for side in sides if side != "PostgreSQL"))
 PYTHON
