@@ -61,7 +61,10 @@ pub fn analyze_planned<S: Scorer, O: Sink>(
     let cards = take_sample(alloc, seed, catalog, &query, scorer)?;
     let plan = choose_plan(alloc, catalog, &query, &cards)?;
     cards_decide_the_text();
-    let text = asked_text(alloc, catalog, query, &cards, &plan, scorer)?;
+    let told = asked_text(alloc, catalog, query, &cards, &plan, scorer);
+    drop(plan);
+    drop(cards);
+    let text = told?;
     put_text(&text, out)
 }
 

@@ -61,8 +61,8 @@ returns-in_err-plan g c = λ beside.
     (c.in_ok-cards.ensures.calls (record beside { out = g.O.Sink.state c.args.out.now }))
     (Stepped-no_memory (λ step. step ≡ rest query) (rest query) catalogue middle refl))
 
-pub asked_text-requires : goal.asked_text-requires
-asked_text-requires g c =
+pub asked_text-told-requires : goal.asked_text-told-requires
+asked_text-told-requires g c =
     let at = world (untold 0) (g.S.Scorer.state c.args.scorer.now) (untold 0) (untold 0) in record {
       query = c.in_ok-query.ensures.formed;
       cards = c.in_ok-cards.ensures.own;
@@ -78,7 +78,7 @@ returns-in_err-text g c = λ beside.
     let query = c.in_ok-query.query in
     let fault = c.in_err-text.field-0.0 in
     let middle = record beside { scorer = g.S.Scorer.state c.take_sample.new.scorer; out = g.O.Sink.state c.args.out.now } in
-    let new = record beside { scorer = g.S.Scorer.state c.asked_text.new.scorer; out = g.O.Sink.state c.args.out.now } in
+    let new = record beside { scorer = g.S.Scorer.state c.asked_text-told.new.scorer; out = g.O.Sink.state c.args.out.now } in
     let sampled = c.in_ok-cards.ensures.calls (record beside { out = g.O.Sink.state c.args.out.now }) in
     let tree = c.in_ok-plan.ensures.tree (cards_for answer catalogue c.args.seed query) c.in_ok-cards.ensures.cards in
     rw (given-err c.from_residual-in_err-text.result fault c.from_residual-in_err-text.ensures) (
@@ -100,8 +100,8 @@ returns g c = λ beside.
     let plan = plan_for answer catalogue c.args.seed query in
     let own = tree_of c.in_ok-plan.plan in
     let middle = record beside { scorer = g.S.Scorer.state c.take_sample.new.scorer; out = g.O.Sink.state c.args.out.now } in
-    let asked = record beside { scorer = g.S.Scorer.state c.asked_text.new.scorer; out = g.O.Sink.state c.args.out.now } in
-    let new = record beside { scorer = g.S.Scorer.state c.asked_text.new.scorer; out = g.O.Sink.state c.put_text.new.out } in
+    let asked = record beside { scorer = g.S.Scorer.state c.asked_text-told.new.scorer; out = g.O.Sink.state c.args.out.now } in
+    let new = record beside { scorer = g.S.Scorer.state c.asked_text-told.new.scorer; out = g.O.Sink.state c.put_text.new.out } in
     let sampled = c.in_ok-cards.ensures.calls (record beside { out = g.O.Sink.state c.args.out.now }) in
     let same = sampled.ran.keeps.scorer.answer in
     let tree = c.in_ok-plan.ensures.tree cards c.in_ok-cards.ensures.cards in
@@ -118,4 +118,4 @@ returns g c = λ beside.
     (Stepped-then (silent (planned_step w plan)) (analyzed_lines answer catalogue c.args.seed query) catalogue catalogue c.put_text.result middle asked new
     (same-asks catalogue query answer here plan own (Ok tt) middle asked same tree (c.in_ok-text.ensures.asks (record beside { out = g.O.Sink.state c.args.out.now })))
     (Stepped-lines (text_of catalogue query cards plan (Some (counts_of_plan w plan (asks_in_all w plan))) ∷ []) catalogue c.put_text.result asked new
-    (subst (λ t. Ran (lines_run (t ∷ [])) c.put_text.result asked new) text (c.put_text.ensures (record beside { scorer = g.S.Scorer.state c.asked_text.new.scorer })))))
+    (subst (λ t. Ran (lines_run (t ∷ [])) c.put_text.result asked new) text (c.put_text.ensures (record beside { scorer = g.S.Scorer.state c.asked_text-told.new.scorer })))))
