@@ -6,7 +6,8 @@
 # The word `gen` makes the same tables and asks the same query twice, the second time with EXPLAIN ANALYZE; its whole run is measured too.
 # Each runs fifteen times, in turn, or once where it takes more than two seconds. Its time is that of the whole, the reading of the files
 # included, and the median of its runs counts; so does the median of the ratios of two that ran one after the other, since some machines
-# are half as fast at times. Of PostgreSQL it is the time of its command; its server was started before. The memory is the most that
+# are half as fast at times. What sqlite3 takes to read the files without a query is taken off to have the time of its query alone.
+# Of PostgreSQL it is the time of its command; its server was started before. The memory is the most that
 # the process held.
 # The programs are those that ./ranksql and `rt run` build, or those that the variables RANKSQL and COUNT_CALLS name.
 # shellcheck source=bench/functions.sh
@@ -70,6 +71,7 @@ SLOW = 2
 TABLES = {"hotel": ("name", "price", "city"), "restaurant": ("name", "city", "rating"), "museum": ("name", "city", "fame")}
 SCORE = "(340 - h.price) + 3 * r.rating + 2 * m.fame"
 SOURCE = "FROM hotel h, restaurant r, museum m WHERE h.city = r.city AND r.city = m.city"
+QUERY = "SELECT %s AS score, h.name, r.name, m.name %s ORDER BY score DESC, h.rowid, r.rowid, m.rowid LIMIT %d;" % (SCORE, SOURCE, LIMIT)
 
 
 def rows_of(size):
@@ -104,14 +106,14 @@ SELECT h.name, r.name, m.name %s ORDER BY cheap(h.price) + 3 * tasty(r.rating) +
         file.write(script)
 
 
-def sqlite_words():
+# The words of sqlite3, which reads the files and then answers a query.
+def sqlite_words(query):
     words = ["sqlite3", "-batch", ":memory:"]
     for name, columns in TABLES.items():
         words += ["-cmd", "CREATE TABLE %s(%s);" % (name, ", ".join(column + (" TEXT" if column == "name" else " INTEGER") for column in columns))]
         words += ["-cmd", ".import --csv --skip 1 %s/%s.csv %s" % (folder, name, name)]
         words += ["-cmd", "CREATE INDEX %s_city ON %s(city);" % (name, name)]
-    return words + ["-cmd", ".mode list", "-cmd", ".separator ,",
-                    "SELECT %s AS score, h.name, r.name, m.name %s ORDER BY score DESC, h.rowid, r.rowid, m.rowid LIMIT %d;" % (SCORE, SOURCE, LIMIT)]
+    return words + ["-cmd", ".mode list", "-cmd", ".separator ,", query]
 
 
 def postgres_words():
@@ -150,7 +152,12 @@ for size in [600, 2000]:
     rows = rows_of(size)
     write_files(rows)
     generated = ["gen", str(NUMBER), str(size)]
-    sides = {"run": [program, "run", folder + "/peers.sql", "1"], "gen": [program, *generated], "sqlite3": sqlite_words()}
+    sides = {
+        "run": [program, "run", folder + "/peers.sql", "1"],
+        "gen": [program, *generated],
+        "sqlite3": sqlite_words(QUERY),
+        "its reading": sqlite_words("SELECT 1;"),
+    }
     if socket:
         sides["PostgreSQL"] = postgres_words()
     times, printed, memory = {side: [] for side in sides}, {}, {}
@@ -161,24 +168,25 @@ for size in [600, 2000]:
             taken, printed[side], held = spent(words)
             times[side].append(taken)
             memory[side] = max(held, memory.get(side, 0))
-    peers = [side for side in sides if side not in ("run", "gen")]
+    peers = [side for side in sides if side in ("sqlite3", "PostgreSQL")]
     for side in peers:
         if printed["run"] != "".join("%d,%s\n" % (rank, line) for rank, line in enumerate(printed[side].splitlines(), 1)):
             sys.exit("bench: run and %s print other rows" % side)
     if "".join(printed["gen"].splitlines(True)[:LIMIT]) != printed["run"]:
         sys.exit("bench: gen prints other rows")
 
-    def ratios(side, peer):
-        """What a side took of a peer's time, turn by turn, from the least to the greatest."""
-        return sorted(ours / theirs for ours, theirs in zip(times[side], times[peer]))
+    def ratio(side, peer):
+        """What a side took of a peer's time, in the middle of all turns."""
+        return statistics.median(ours / theirs for ours, theirs in zip(times[side], times[peer]))
 
+    # what sqlite3 takes for the query alone
+    times["the query"] = [whole - reading for whole, reading in zip(times["sqlite3"], times["its reading"])]
     calls, all_calls = calls_of(["run", folder + "/peers.sql", "1"]), 3 * combinations(rows)
     print("three tables of %d rows: all print the same rows" % size)
     print("  calls: run %d, where the others evaluate %d scores: %.1f times as many" % (calls, all_calls, all_calls / calls))
-    of_gen = ratios("gen", "sqlite3")
     print("  time of the whole: " + ", ".join("%s %.1f ms" % (side, statistics.median(times[side]) * 1000) for side in sides)
-          + "; run takes " + ", ".join("%.2f of %s" % (statistics.median(ratios("run", peer)), peer) for peer in peers))
-    print("  `gen %d %d` takes %.2f of sqlite3, from %.2f to %.2f by the turn; %d calls" % (
-        NUMBER, size, statistics.median(of_gen), of_gen[0], of_gen[-1], calls_of(generated)))
-    print("  memory: " + ", ".join("%s %.1f MB" % (side, memory[side]) for side in sides if side != "PostgreSQL"))
+          + "; run takes " + ", ".join("%.2f of %s" % (ratio("run", peer), peer) for peer in peers))
+    print("  `gen %d %d` takes %.2f of sqlite3, and %.2f of what sqlite3 takes for the query alone; %d calls" % (
+        NUMBER, size, ratio("gen", "sqlite3"), ratio("gen", "the query"), calls_of(generated)))
+    print("  memory: " + ", ".join("%s %.1f MB" % (side, memory[side]) for side in sides if side in ("run", "sqlite3")))
 PYTHON
