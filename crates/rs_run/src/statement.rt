@@ -49,7 +49,7 @@ pub fn run_statements<F: Files, S: Scorer, O: Sink>(
     let mut catalog = Catalog::new(alloc);
     let mut session = Session::new(alloc);
     for statement in statements {
-        run_statement(
+        match run_statement(
             alloc,
             evaluating,
             statement,
@@ -58,7 +58,14 @@ pub fn run_statements<F: Files, S: Scorer, O: Sink>(
             files,
             scorer,
             out,
-        )?;
+        ) {
+            Ok(()) => {}
+            Err(fault) => {
+                drop(session);
+                drop(catalog);
+                return Err(fault);
+            }
+        }
     }
     Ok(())
 }

@@ -1,6 +1,5 @@
 use Rattle.std.proofs.Common.{◌≡◌, refl, sym, subst, suc, ◌+◌, drop, arith}
 use Rattle.std.specs.Prelude.{Err, Ok}
-use Rattle.rs_value.proofs.ResultFacts.{given-err}
 use Rattle.rs_syntax.specs.Syntax.{command_of, commands_of}
 use Rattle.rs_exec.specs.Indexes.{AreHeld}
 use Rattle.rs_run.specs.Run.{finds_in}
@@ -35,18 +34,18 @@ run_statement-requires g c =
       asked = subst (λ answer. CanAllBeAsked answer c.loop-statement.catalog c.loop-statement.session.cursors.entries) (sym (c.loop-statement.invariant.between at).has.keeps.scorer.answer) c.loop-statement.invariant.asked;
     }
 
-pub returns-in_err-run_statement : goal.returns-in_err-run_statement
-returns-in_err-run_statement g c = λ beside. rw (given-err c.from_residual.result c.in_err-run_statement.field-0.0 c.from_residual.ensures) (Runs-stops (DoesInSession (finds_in (g.F.Files.state c.args.files.now).told) (g.S.Scorer.state c.args.scorer.now).answer c.args.evaluating) nothing (commands_of c.args.statements.now)
+pub returns-in-Err : goal.returns-in-Err
+returns-in-Err g c = λ beside. Runs-stops (DoesInSession (finds_in (g.F.Files.state c.args.files.now).told) (g.S.Scorer.state c.args.scorer.now).answer c.args.evaluating) nothing (commands_of c.args.statements.now)
     (drop (suc c.loop-statement.statement-index) (commands_of c.args.statements.now)) (command_of c.statement-item.result) c.loop-statement.statement-index (state_of c.loop-statement.catalog c.loop-statement.session.cursors.entries) (state_of c.run_statement.new.catalog c.run_statement.new.session.cursors.entries)
     (record beside { files = g.F.Files.state c.args.files.now; scorer = g.S.Scorer.state c.args.scorer.now; out = g.O.Sink.state c.args.out.now }) (record beside { files = g.F.Files.state c.loop-statement.files; scorer = g.S.Scorer.state c.loop-statement.scorer; out = g.O.Sink.state c.loop-statement.out }) (record beside { files = g.F.Files.state c.run_statement.new.files; scorer = g.S.Scorer.state c.run_statement.new.scorer; out = g.O.Sink.state c.run_statement.new.out })
     (c.loop-statement.invariant.between beside)
     (drop-at command_of c.args.statements.now c.loop-statement.statement-index c.statement-item.result c.loop-statement-test.true c.statement-item.is)
     (some-step (g.F.Files.state c.args.files.now).told (g.S.Scorer.state c.args.scorer.now).answer c.args.evaluating)
-    c.in_err-run_statement.field-0.0
+    c.in-Err.fault
     (Stepped-first (c.loop-statement.invariant.between beside).made c.args.evaluating (state_of c.loop-statement.catalog c.loop-statement.session.cursors.entries) (state_of c.run_statement.new.catalog c.run_statement.new.session.cursors.entries)
-    (command_of c.statement-item.result) (Err c.in_err-run_statement.field-0.0) (record beside { files = g.F.Files.state c.args.files.now; scorer = g.S.Scorer.state c.args.scorer.now; out = g.O.Sink.state c.args.out.now })
+    (command_of c.statement-item.result) (Err c.in-Err.fault) (record beside { files = g.F.Files.state c.args.files.now; scorer = g.S.Scorer.state c.args.scorer.now; out = g.O.Sink.state c.args.out.now })
     (record beside { files = g.F.Files.state c.loop-statement.files; scorer = g.S.Scorer.state c.loop-statement.scorer; out = g.O.Sink.state c.loop-statement.out }) (record beside { files = g.F.Files.state c.run_statement.new.files; scorer = g.S.Scorer.state c.run_statement.new.scorer; out = g.O.Sink.state c.run_statement.new.out })
-    (c.loop-statement.invariant.between beside).has (c.in_err-run_statement.ensures.does beside)))
+    (c.loop-statement.invariant.between beside).has (c.in-Err.ensures.does beside))
 
 pub loop-statement-preserved : goal.loop-statement-preserved
 loop-statement-preserved g c = record {
@@ -59,13 +58,13 @@ loop-statement-preserved g c = record {
       (Stepped-first (c.loop-statement.invariant.between beside).made c.args.evaluating (state_of c.loop-statement.catalog c.loop-statement.session.cursors.entries) (state_of c.run_statement.new.catalog c.run_statement.new.session.cursors.entries)
       (command_of c.statement-item.result) (Ok tt) (record beside { files = g.F.Files.state c.args.files.now; scorer = g.S.Scorer.state c.args.scorer.now; out = g.O.Sink.state c.args.out.now })
       (record beside { files = g.F.Files.state c.loop-statement.files; scorer = g.S.Scorer.state c.loop-statement.scorer; out = g.O.Sink.state c.loop-statement.out }) (record beside { files = g.F.Files.state c.run_statement.new.files; scorer = g.S.Scorer.state c.run_statement.new.scorer; out = g.O.Sink.state c.run_statement.new.out })
-      (c.loop-statement.invariant.between beside).has (c.in_ok-run_statement.ensures.does beside));
+      (c.loop-statement.invariant.between beside).has (c.in-Ok.ensures.does beside));
   statements_same = refl;
   held = (let at = world (g.F.Files.state c.loop-statement.files) (g.S.Scorer.state c.loop-statement.scorer) (g.O.Sink.state c.loop-statement.out) (g.O.Sink.state c.loop-statement.out) in
-      subst (λ answer. AreHeld answer c.run_statement.new.catalog) (c.loop-statement.invariant.between at).has.keeps.scorer.answer c.in_ok-run_statement.ensures.held);
+      subst (λ answer. AreHeld answer c.run_statement.new.catalog) (c.loop-statement.invariant.between at).has.keeps.scorer.answer c.in-Ok.ensures.held);
   asked = (let at = world (g.F.Files.state c.loop-statement.files) (g.S.Scorer.state c.loop-statement.scorer) (g.O.Sink.state c.loop-statement.out) (g.O.Sink.state c.loop-statement.out) in
       subst (λ answer. CanAllBeAsked answer c.run_statement.new.catalog c.run_statement.new.session.cursors.entries) (c.loop-statement.invariant.between at).has.keeps.scorer.answer
-      c.in_ok-run_statement.ensures.asked);
+      c.in-Ok.ensures.asked);
 }
 
 pub returns : goal.returns
