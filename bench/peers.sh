@@ -4,11 +4,10 @@
 # museums of one city, and have to print the same rows. sqlite3 and PostgreSQL evaluate the three scores of each combination;
 # how often `ranksql` called its predicates, those of its indexes and its sample included, is counted by the program count_calls.
 # The word `gen` makes the same tables and asks the same query twice, the second time with EXPLAIN ANALYZE; its whole run is measured too.
-# Each runs fifteen times, in turn, or once where it takes more than two seconds. Its time is that of the whole, the reading of the files
-# included, and the median of its runs counts; so does the median of the ratios of two that ran one after the other, since some machines
-# are half as fast at times. What sqlite3 takes to read the files without a query is taken off to have the time of its query alone.
-# Of PostgreSQL it is the time of its command; its server was started before. The memory is the most that
-# the process held.
+# Each side runs fifteen times, in turn, or once where it takes more than two seconds. Its time is that of the whole, the reading of the
+# files included, and the median counts; so does the median of the ratios of two sides in one turn, since some machines are half as fast
+# at times. What sqlite3 takes to read the files is taken off to have the time of its query alone. Of PostgreSQL it is the time of its
+# command; its server was started before. The memory is the most that the process held.
 # The programs are those that ./ranksql and `rt run` build, or those that the variables RANKSQL and COUNT_CALLS name.
 # shellcheck source=bench/functions.sh
 . "$(dirname "$0")/functions.sh"
