@@ -1,10 +1,12 @@
 #!/usr/bin/env bash
-# Measures the gate: runs `rt ci --anew`, which proves and tries everything from nothing, on a clean clone of what is
-# committed, and prints the minutes of processor time by crate and kind: the proof of the crate, that of its tests, the
-# check that its must-fail edits begin with (`base`), and the edits. Then it names the slowest edits. The time of a process
-# is what the system says of it when it was last seen, four times a second, so that a little is lost of each. It also says
-# how long the run took, what the whole of it cost as the shell tells it, and the last line of `rt ci`, whose status it ends
-# with. The whole output of `rt ci` is kept in the file that is named first on the command line, if one is.
+# Measures the gate: runs `rt ci` from nothing on a clean clone of what is committed (by `--anew` under a kit that keeps
+# what passed), and prints the minutes of processor time by crate and kind: the proof of the crate, that of its tests, the
+# checks that its must-fail edits begin and end with (`base`), and the edits. Some kits try the edits of a crate one over
+# another's work; there the first of them has no base of its own, and is counted as the base. Then it names the slowest
+# edits. The time of a process is what the system says of it when it was last seen, four times a second, so that a little
+# is lost of each. It also says how long the run took, what the whole of it cost as the shell tells it, and the last line
+# of `rt ci`, whose status it ends with. The whole output of `rt ci` is kept in the file that is named first on the command
+# line, if one is.
 # shellcheck source=bench/functions.sh
 . "$(dirname "$0")/functions.sh"
 
@@ -33,7 +35,8 @@ def read(path):
         return file.read()
 
 
-# The crate and the kind of a process of the prover, and the try that it belongs to; or None for any other process.
+# The crate and the kind of a process of the prover, and of an edit's the folder of work that it begins with and the one of
+# its text; or None for any other process.
 def told_of(pid):
     words = read("/proc/%s/cmdline" % pid).decode(errors="replace").split("\0")
     if os.path.basename(words[0]) != "rattle" or "--crate-name" not in words:
@@ -42,10 +45,10 @@ def told_of(pid):
     folder = os.readlink("/proc/%s/cwd" % pid)
     begun = words[words.index("--incremental") + 1] if "--incremental" in words else ""
     if "/rt-edit-" not in folder:
-        return crate, "tests" if "--test" in words else "proof", ""
+        return crate, "tests" if "--test" in words else "proof", None
     if begun.endswith("/seed"):
-        return crate, "base", ""
-    return crate, "edits", begun or folder
+        return crate, "base", None
+    return crate, "edits", (begun or folder, folder)
 
 
 # The seconds that a process has used.
@@ -63,17 +66,23 @@ def is_ours(pid, gate):
     return False
 
 
-# The name of an edit, by the folder that it is tried over, which ends with its place among the edits of its crate.
-def name_of(crate, tried):
-    place = os.path.basename(tried)
-    names = sorted(os.listdir("crates/%s/must-fail" % crate))
-    return names[int(place)] if place.isdigit() else "(its only one)"
+# The kind and the name of each try that begins with the work in this folder, in turn. The folder that a kit makes for one
+# edit ends with its place among the edits of its crate. Where all of them share one, the first of them makes its work, and
+# behind the last comes the crate itself.
+def named(crate, begun, tries):
+    names = sorted(it for it in os.listdir("crates/%s/must-fail" % crate) if it.endswith(".edit"))
+    place = os.path.basename(begun)
+    if place.isdigit() or len(names) == 1:
+        return [("edits", names[int(place) if place.isdigit() else 0])] * tries
+    return [("base", "")] + [("edits", it) for it in names[1:]] + [("base", "")] * (tries - len(names))
 
 
 spent, told, others = {}, {}, set()
+keeps = "--anew" in subprocess.run(["rt", "--help"], capture_output=True, text=True).stdout
 start = time.time()
 with open(sys.argv[1], "w") as log:
-    gate = subprocess.Popen(["rt", "ci", "--anew"], stdout=log, stderr=subprocess.STDOUT, stdin=subprocess.DEVNULL)
+    words = ["rt", "ci"] + ["--anew"] * keeps
+    gate = subprocess.Popen(words, stdout=log, stderr=subprocess.STDOUT, stdin=subprocess.DEVNULL)
     while gate.poll() is None:
         for pid in filter(str.isdigit, os.listdir("/proc")):
             try:
@@ -95,12 +104,19 @@ with open(sys.argv[1], "w") as log:
         time.sleep(0.25)
 wall = time.time() - start
 usage = resource.getrusage(resource.RUSAGE_CHILDREN)
-minutes, tries, slow = collections.Counter(), collections.defaultdict(set), collections.Counter()
+minutes, slow = collections.Counter(), collections.Counter()
+tries, begun_with = collections.defaultdict(set), collections.defaultdict(collections.Counter)
 for key, (crate, kind, tried) in told.items():
-    minutes[crate, kind] += spent.get(key, 0) / 60
-    if kind == "edits":
-        tries[crate].add(tried)
-        slow[crate, tried] += spent.get(key, 0)
+    if tried:
+        begun_with[crate, tried[0]][tried[1]] += spent.get(key, 0)
+    else:
+        minutes[crate, kind] += spent.get(key, 0) / 60
+for (crate, begun), seconds in begun_with.items():
+    for took, (kind, edit) in zip(seconds.values(), named(crate, begun, len(seconds))):
+        minutes[crate, kind] += took / 60
+        if kind == "edits":
+            tries[crate].add(edit)
+            slow[crate, edit] += took
 
 row = "%-14s" + "%8s" * 5 + "%8s %8s"
 print(row % ("crate", *KINDS, "all", "edits", "seconds"))
@@ -113,8 +129,8 @@ whole = ["%.1f" % sum(minutes[crate, kind] for crate in sums) for kind in KINDS]
 print(row % ("all", *whole, "%.1f" % sum(sums.values()), sum(map(len, tries.values())), ""))
 print("minutes of processor time; `seconds` are those of an edit, at the mean")
 print("the slowest edits, with their seconds:")
-for (crate, tried), seconds in slow.most_common(SLOWEST):
-    print("%6.0f %s/%s" % (seconds, crate, name_of(crate, tried)))
+for (crate, edit), seconds in slow.most_common(SLOWEST):
+    print("%6.0f %s/%s" % (seconds, crate, edit))
 print("%.1f minutes on %d processors; the processes of the gate took %.1f minutes of processor time in all"
       % (wall / 60, len(os.sched_getaffinity(0)), (usage.ru_utime + usage.ru_stime) / 60))
 with open(sys.argv[1], errors="replace") as log:

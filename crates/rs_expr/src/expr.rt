@@ -3,7 +3,7 @@ use rs_value::{Rel, Text};
 /// A formula: a whole number, made of arguments and constants. Arguments count from 0; in a predicate's formula they
 /// are its parameters.
 #[cycle(formula)]
-#[derive(Debug, Drop, PartialEq, Eq)]
+#[derive(Debug, Drop)]
 pub enum Expr {
     Arg(u16),
     Int(i64),
@@ -23,7 +23,7 @@ pub enum Expr {
 }
 
 /// One side of a comparison of texts.
-#[derive(Debug, Drop, PartialEq, Eq)]
+#[derive(Debug, Drop)]
 pub enum TextSide {
     Arg(u16),
     Text(Text),
@@ -31,7 +31,7 @@ pub enum TextSide {
 
 /// A condition on arguments.
 #[cycle(formula)]
-#[derive(Debug, Drop, PartialEq, Eq)]
+#[derive(Debug, Drop)]
 pub enum Cond {
     /// Numbers compare by size.
     Numbers(Rel, Expr, Expr),
