@@ -2,6 +2,7 @@
 
 use crate::formulas::{tell_formula, tell_width};
 use crate::scripts::{Asked, tell_script};
+use crate::statements::{Wanted, tell_parsed};
 use crate::tables::{tell_cell, tell_place, tell_rows};
 use crate::values::{
     tell_digits, tell_line, tell_list, tell_no_memory, tell_no_texts, tell_number,
@@ -37,6 +38,8 @@ impl Cases for Front {
                 add_to_file(rest, &mut self.file)?;
                 Ok(String::new(alloc))
             }
+            b"tree" => tell_parsed(alloc, Wanted::Tree, rest),
+            b"read" => tell_parsed(alloc, Wanted::Verdict, rest),
             _ => told_line(alloc, answer(alloc, word, rest, &self.file)?),
         }
     }

@@ -1,5 +1,5 @@
 //! Answers what the lines of standard input ask of the crates at the front. Such lines are the tests of `rs_value`,
-//! `rs_lex`, `rs_grammar`, `rs_table`, `rs_lines` and `rs_expr`.
+//! `rs_lex`, `rs_grammar`, `rs_syntax`, `rs_table`, `rs_lines` and `rs_expr`.
 //!
 //! Each line is printed as it is, and its answer behind it. A line is one of these, its words with one space between:
 //! - `number BYTES`: the number that a cell is, or `none`. `digits MOST BYTES`: what digits are, up to a number.
@@ -15,6 +15,8 @@
 //! - `no-texts`: whether a list of no texts has no item. `no-memory`: what is said where there is none for a text.
 //! - `file BYTES`: the lines behind this one ask of these bytes. `more COUNT BYTES` adds bytes so many times.
 //! - `tokens`, `count`, `lexemes`: the tokens of the file as a script, how many there are, and the lexemes.
+//! - `tree SCRIPT`: the statements that the script parses to, with all their parts and places. `read SCRIPT`: only that it is
+//!   accepted. Both: why it is refused, and the place. The script is all that stands behind the word.
 //! - `place COLUMN NAME`: the place of a name in the file's header, whose first column COLUMN is of numbers.
 //! - `rows SCHEMA`: how many rows the file's table has, and whether it has none. `cell SCHEMA ROW COLUMN`: what a cell
 //!   prints.
@@ -27,14 +29,16 @@
 //! chooses by the last condition between the last two formulas. `least` and `greatest` are the numbers of 64 bits at the ends.
 //!
 //! A value is a number, `least` for the least one, or a text behind `'`. A schema is `=COLUMN`, as the file's header
-//! says, or the names of columns with `,` between, those of numbers behind `#`. Bytes and words have the escapes of
+//! says, or the names of columns with `,` between, those of numbers behind `#`. Bytes, words and scripts have the escapes of
 //! `case_lines`.
 #![tactic(auto)]
 
 mod formulas;
 mod line;
 mod parts;
+mod replaced;
 mod scripts;
+mod statements;
 mod tables;
 mod usable;
 mod values;

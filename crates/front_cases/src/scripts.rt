@@ -28,7 +28,8 @@ pub fn tell_script(alloc: Global, asked: Asked, file: &[u8]) -> Result<String, F
     }
 }
 
-fn script_of(alloc: Global, file: &[u8]) -> Result<Text, Fault>
+/// The script of these bytes.
+pub fn script_of(alloc: Global, file: &[u8]) -> Result<Text, Fault>
     ensures { IfOk result (λ script. length script ≤ 1048576) }
 {
     if file.len() > MOST_BYTES {
