@@ -1,10 +1,11 @@
 #!/usr/bin/env bash
-# Measures the queue of rs_queue, by the program queue_speed: it fills a queue of 1,000, 10,000 and 100,000 pairs of
-# scattered keys, and then takes a pair out and puts one in 100,000 times. A new key lies somewhere among those that are
-# held. The time of an operation, one of each, is what these add to the time of a run without them. Beside it, in the
-# same run, python3's heapq does the same with the same keys. Each runs five times, in turn, and the shortest time
-# counts. Both are binary heaps, so the time of an operation grows with the logarithm of the number of pairs held.
-# The program is the one that `rt run` builds, or the one that the variable QUEUE_SPEED names.
+# Measures the queue of rs_queue, by lines `work` of the program data_cases: each fills a queue of 1,000, 10,000 or
+# 100,000 pairs of scattered keys, and then takes a pair out and puts one in 100,000 times. A new key lies somewhere among
+# those that are held. The time of an operation, one of each, is what these add to the time of a run without them. Each
+# run is given one line. Beside it, in the same run, python3's heapq does the same with the same keys. Each runs five
+# times, in turn, and the shortest time counts. Both are binary heaps, so the time of an operation grows with the
+# logarithm of the number of pairs held.
+# The program is the one that `rt run` builds, or the one that the variable DATA_CASES names.
 # shellcheck source=bench/functions.sh
 . "$(dirname "$0")/functions.sh"
 
@@ -13,7 +14,7 @@ OPERATIONS=100000
 RUNS=5
 
 run_rs_queue() {
-    "$program" "$1" "$2"
+    echo "work $1 $2" | "$program"
 }
 
 run_heapq() {
@@ -34,7 +35,8 @@ def work(held, operations):
             checksum = (16807 * checksum + heapq.heappop(pairs)[0] % 2147483647) % 2147483647
         heapq.heappush(pairs, ((number // 2048 + count * step) * 2097152 + count, count))
         number = 16807 * number % 2147483647
-    print("held %d, checksum %d" % (len(pairs), checksum))
+    print("work %d %d" % (held, operations))
+    print("  held %d, checksum %d" % (len(pairs), checksum))
 
 
 work(int(sys.argv[1]), int(sys.argv[2]))
@@ -50,11 +52,11 @@ report() {
             name, held, (worked - filled) / operations, filled / 1000 }'
 }
 
-if [ -n "${QUEUE_SPEED:-}" ]; then
-    program=$QUEUE_SPEED
+if [ -n "${DATA_CASES:-}" ]; then
+    program=$DATA_CASES
 else
-    (cd "$root/crates/queue_speed" && rt run -- 1 1) >"$work/built" 2>&1 || { cat "$work/built" >&2; exit 1; }
-    program=$root/crates/queue_speed/out/queue_speed
+    (cd "$root/crates/data_cases" && rt run </dev/null) >"$work/built" 2>&1 || { cat "$work/built" >&2; exit 1; }
+    program=$root/crates/data_cases/out/data_cases
 fi
 
 names=(rs_queue)

@@ -1,10 +1,12 @@
 //! What the lines ask for.
 
+use crate::bound::{Asked, tell_bound, tell_failing, tell_joined, tell_query};
 use crate::catalogue::{
     add_predicate, add_table, tell_index, tell_predicate, tell_room, tell_table, write_score,
 };
 use crate::indexes::{tell_index_for, tell_made};
 use crate::keys::{tell_keys, tell_place};
+use crate::load::tell_work;
 use crate::queues::{tell_held, tell_key_queue, tell_numbers, tell_queue, tell_steps};
 use crate::ranks::{
     tell_answers, tell_asks, tell_has, tell_join_asks, tell_mask, tell_masks, tell_rest,
@@ -16,11 +18,12 @@ use rs_catalog::Catalog;
 use rs_expr::MemScorer;
 use std::alloc::Global;
 
-/// The catalogue that the lines fill, and what answers the calls for its indexes.
+/// The catalogue that the lines fill, and what answers the calls for its indexes. Beside them, what statements have made.
 #[derive(Drop)]
 pub struct Data {
     catalog: Catalog,
     scorer: MemScorer,
+    made: Catalog,
 }
 
 impl Data {
@@ -28,6 +31,7 @@ impl Data {
         Data {
             catalog: Catalog::new(alloc),
             scorer: MemScorer::new(alloc),
+            made: Catalog::new(alloc),
         }
     }
 
@@ -82,8 +86,13 @@ impl Data {
     }
 
     /// Does what a line says, and tells its answer, if it has one.
-    fn tell_line(&mut self, alloc: Global, line: &[u8], told: &mut String) -> Result<(), Fault> {
-        let (word, rest) = cut_word(line);
+    fn tell_line(
+        &mut self,
+        alloc: Global,
+        word: &[u8],
+        rest: &[u8],
+        told: &mut String,
+    ) -> Result<(), Fault> {
         if self.prepare(alloc, word, rest)? {
             return Ok(());
         }
@@ -91,13 +100,25 @@ impl Data {
         self.tell(alloc, word, rest, told)?;
         Ok(told.push_str("\n")?)
     }
+
+    fn line_told(&mut self, alloc: Global, word: &[u8], rest: &[u8]) -> Result<String, Fault> {
+        let mut told = String::new(alloc);
+        self.tell_line(alloc, word, rest, &mut told)?;
+        Ok(told)
+    }
 }
 
 impl Cases for Data {
     fn answer(&mut self, alloc: Global, line: &[u8]) -> Result<String, Fault> {
-        let mut told = String::new(alloc);
-        self.tell_line(alloc, line, &mut told)?;
-        Ok(told)
+        let (word, rest) = cut_word(line);
+        match word {
+            b"bind" => tell_bound(alloc, &self.made, rest),
+            b"make" => tell_joined(alloc, &mut self.made, rest),
+            b"rows" => tell_query(alloc, &self.made, Asked::Rows, rest),
+            b"plain" => tell_query(alloc, &self.made, Asked::Answers(0), rest),
+            b"failing" => tell_failing(alloc, &self.made, rest),
+            _ => self.line_told(alloc, word, rest),
+        }
     }
 }
 
@@ -132,6 +153,7 @@ fn tell_queues(alloc: Global, word: &[u8], rest: &[u8], told: &mut String) -> Re
         b"key-held" => tell_held(alloc, rest, told),
         b"steps" => tell_steps(alloc, rest, told),
         b"numbers" => tell_numbers(alloc, rest, told),
+        b"work" => tell_work(alloc, rest, told),
         _ => Err(Fault::Form),
     }
 }

@@ -1,5 +1,6 @@
-//! Answers what the lines of standard input ask of the crates of the data. Such lines are tests of `rs_rank`, `rs_queue`,
-//! `rs_catalog` and `rs_scan`.
+//! Answers what the lines of standard input ask of the crates of the data, and binds their statements. Such lines are tests
+//! of `rs_rank`, `rs_queue`, `rs_catalog`, `rs_scan` and `rs_bind`, and of `rs_query` and `rs_plain`, whose queries nothing
+//! but the binder makes.
 //!
 //! Each line is printed as it is, and its answer behind it. A line is one of these, its words with one space between:
 //! - `sort SCORE..`: the places of rows of these scores in the stable order, counted from 1.
@@ -20,6 +21,9 @@
 //! - `steps STEP..`: what is done to a queue: `NUMBER=TEXT` puts a pair in, and tells the first key; `pop` takes a pair
 //!   out, and tells its text. At last whether the queue is empty.
 //! - `numbers COUNT`: whether a queue of so many numbers gives each once, as a sort does, and how many these are.
+//! - `work HELD OPERATIONS`: puts HELD pairs of scattered keys into a queue, and then OPERATIONS times takes a pair out and
+//!   puts one in. How many pairs are held in the end, and a checksum of the keys that were taken out. `bench/queue.sh` takes
+//!   the time of such lines.
 //! - `new`: the catalogue of the lines behind this one is empty, and no score is written.
 //! - `table NAME COLUMNS FILE`: a table of these columns joins it. A column is a name, behind `#` of numbers.
 //! - `predicate NAME MAX KIND..`: a predicate joins, whose score is its first argument. A kind is `number` or `text`.
@@ -34,25 +38,41 @@
 //! - `scan-table NAME ENTRY BLOCK COUNT`: what a scan of all rows of a table gives, drawn so often, for a FROM entry of a block,
 //!   and how many rows it gave. Of a row its block, mask, rows and sum are told. `scan-index NAME WEIGHT ENTRY BLOCK COUNT`:
 //!   the same of a rank index, for a term of this weight.
+//! - `bind STATEMENT`: the statement is bound. What is bound is told, or the rule that it breaks and where.
+//! - `make STATEMENT`: it is bound, and the table or predicate joins a catalogue of its own, which `new` leaves as it is. The
+//!   statements and queries of the lines behind it are of this catalogue. The text behind FROM is not the name of a table's
+//!   file here, but what is in the file.
+//! - `rows QUERY`: the combinations of rows of a query of one block.
+//! - `plain QUERY`: its answers or the fault that stops it, and the calls of the scorer. An answer is its block, its mask,
+//!   its rows, its score and its values. `failing N QUERY`: the same, where the Nth call fails.
 //! - a comment that begins with `#`, or nothing.
 //!
 //! A key is `BOUND:BLOCK:MASK:ROW.ROW..`, and an answer `SCORE:BLOCK:MASK:ROW.ROW..:VALUE,VALUE..`. A value is a number, or
-//! a text behind `'`. Words have the escapes of `case_lines`.
+//! a text behind `'`. Words and statements have the escapes of `case_lines`. Places in a statement count from the first
+//! byte of what it stands for.
 #![tactic(auto)]
 
+mod bound;
 mod catalogue;
 mod indexes;
 mod keys;
 mod laws;
 mod line;
+mod load;
+mod queries;
 mod queues;
 mod ranks;
 mod scans;
+mod show;
+mod sizes;
 
 use case_lines::answer_lines;
 use laws::{laws_hold_of_keys, laws_hold_of_numbers, laws_hold_of_pairs};
 use line::Data;
 use ranks::laws_hold_of_rows;
+use rs_bind::{
+    expressions_are_typed_by_rules, queries_are_typed_by_rules, statements_are_typed_by_rules,
+};
 use std::process::ExitCode;
 
 fn main(rt: HostRuntime) -> ExitCode {
@@ -60,5 +80,8 @@ fn main(rt: HostRuntime) -> ExitCode {
     laws_hold_of_pairs();
     laws_hold_of_rows();
     laws_hold_of_keys();
+    expressions_are_typed_by_rules();
+    queries_are_typed_by_rules();
+    statements_are_typed_by_rules();
     answer_lines(&rt, &mut Data::new(rt.alloc()))
 }

@@ -1,8 +1,11 @@
+//! The queue whose time is taken.
+
 ghost use Rattle.std.specs.Prelude.{◌≡◌, ◌<◌, ◌≤◌, ◌+◌, ◌*◌, ◌/◌, IfOk, OnOk, length};
-ghost use Rattle.queue_speed.specs.Sizes.{most};
-ghost use Rattle.queue_speed.specs.Work.{Work, mixed, popped, pushed, start, worked};
+ghost use Rattle.data_cases.specs.Sizes.{most};
+ghost use Rattle.data_cases.specs.Work.{Work, mixed, popped, pushed, start, worked};
 
 use crate::sizes::Sizes;
+use case_lines::Fault;
 use rs_queue::Queue;
 use rs_value::Memory;
 use std::alloc::Global;
@@ -34,7 +37,7 @@ pub struct Load {
 impl Model for Load {
     ghost use Rattle.std.specs.Prelude.{◌≡◌, ◌<◌, ◌≤◌, ◌%◌};
     ghost use Rattle.std.specs.List.{AllByRecursion};
-    ghost use Rattle.queue_speed.specs.Work.{Work, number_at};
+    ghost use Rattle.data_cases.specs.Work.{Work, number_at};
 
     ghost Value = { Work };
 
@@ -136,4 +139,16 @@ fn mixed(checksum: u64, key: u64) -> u64
     ensures limit { result < 2147483647 }
 {
     (MULTIPLIER * checksum + key % MODULUS) % MODULUS
+}
+
+/// Works a queue, and tells what came of it: `HELD OPERATIONS`.
+pub fn tell_work(alloc: Global, words: &[u8], told: &mut String) -> Result<(), Fault> {
+    let Some(sizes) = Sizes::of(words) else {
+        return Err(Fault::Form);
+    };
+    let load = Load::work(alloc, &sizes)?;
+    let held = load.len();
+    let checksum = load.checksum();
+    drop(load);
+    Ok(write!(told, "held {held}, checksum {checksum}")?)
 }

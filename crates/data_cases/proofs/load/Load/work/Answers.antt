@@ -1,8 +1,8 @@
 -- As many pairs are put in as there are pushes, at most 2,000,000.
 use Rattle.std.proofs.Common.{◌∙◌, ap, arith}
-use Rattle.queue_speed.specs.Work.{Work}
-use Rattle.queue_speed.proofs.LoadFacts.{count-filled, count-worked}
-use Rattle.queue_speed.proofs.load.Load.work.Goals as goal
+use Rattle.data_cases.specs.Work.{Work}
+use Rattle.data_cases.proofs.LoadFacts.{count-filled, count-worked}
+use Rattle.data_cases.proofs.load.Load.work.Goals as goal
 
 pub push-requires : goal.push-requires
 push-requires c =

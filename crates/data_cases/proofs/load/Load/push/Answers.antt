@@ -2,9 +2,9 @@
 use Rattle.std.proofs.Common.{◌≡◌, ◌+◌, ◌*◌, ◌/◌, ◌%◌, false, ap, subst, sym, ◌∙◌, arith}
 use Rattle.std.specs.Ordering.{nat_cmp}
 use Rattle.rs_queue.specs.Queue.{has_key}
-use Rattle.queue_speed.specs.Work.{Work, number_at}
-use Rattle.queue_speed.proofs.LoadFacts.{AreBelow, AreBelow-push, has_key-new, number_at-more}
-use Rattle.queue_speed.proofs.load.Load.push.Goals as goal
+use Rattle.data_cases.specs.Work.{Work, number_at}
+use Rattle.data_cases.proofs.LoadFacts.{AreBelow, AreBelow-push, has_key-new, number_at-more}
+use Rattle.data_cases.proofs.load.Load.push.Goals as goal
 
 pub push-requires : goal.push-requires
 push-requires c =

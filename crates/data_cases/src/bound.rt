@@ -1,3 +1,5 @@
+//! What statements are bound to.
+
 ghost use Rattle.std.specs.Prelude.{IfOk};
 ghost use Rattle.rs_syntax.specs.Syntax.{command_of, commands_of};
 ghost use Rattle.rs_query.specs.WellFormed.{IsQuery};
@@ -5,7 +7,7 @@ ghost use Rattle.rs_syntax.specs.Written.{AreWritten, IsWritten};
 
 use crate::queries::{tell_combinations, tell_plain};
 use crate::show::{show_count, show_index, show_predicate, show_query, show_table};
-use case_lines::{Cases, Fault, cut_word, number_of, text_of};
+use case_lines::{Fault, cut_word, number_of, text_of};
 use case_scripts::{make, statements_of};
 use rs_bind::{bind, bind_count, bind_index, bind_predicate, bind_table};
 use rs_catalog::Catalog;
@@ -13,49 +15,21 @@ use rs_query::Query;
 use rs_syntax::Statement;
 use std::alloc::Global;
 
-/// The tables and predicates that the lines in front have made.
-#[derive(Drop)]
-pub struct Made {
-    catalog: Catalog,
-}
-
-impl Made {
-    pub fn new(alloc: Global) -> Made {
-        Made {
-            catalog: Catalog::new(alloc),
-        }
-    }
-}
-
-impl Cases for Made {
-    fn answer(&mut self, alloc: Global, line: &[u8]) -> Result<String, Fault> {
-        let (word, script) = cut_word(line);
-        match word {
-            b"bind" => tell_bound(alloc, &self.catalog, script),
-            b"make" => tell_made(alloc, &mut self.catalog, script),
-            b"rows" => tell_query(alloc, &self.catalog, Asked::Rows, script),
-            b"plain" => tell_query(alloc, &self.catalog, Asked::Answers(0), script),
-            b"failing" => tell_failing(alloc, &self.catalog, script),
-            _ => Err(Fault::Form),
-        }
-    }
-}
-
 /// Binds the only statement of a script, and tells what came of it.
-fn tell_bound(alloc: Global, catalog: &Catalog, script: &[u8]) -> Result<String, Fault> {
+pub fn tell_bound(alloc: Global, catalog: &Catalog, script: &[u8]) -> Result<String, Fault> {
     let statements = statements_of(alloc, &text_of(alloc, script)?)?;
     tell_statement(alloc, catalog, &statements)
 }
 
 /// The same, and the statement joins the catalogue.
-fn tell_made(alloc: Global, catalog: &mut Catalog, script: &[u8]) -> Result<String, Fault> {
+pub fn tell_joined(alloc: Global, catalog: &mut Catalog, script: &[u8]) -> Result<String, Fault> {
     let statements = statements_of(alloc, &text_of(alloc, script)?)?;
     make_statement(alloc, catalog, &statements)
 }
 
 /// What is asked of a query.
 #[derive(Clone, Copy)]
-enum Asked {
+pub enum Asked {
     /// Its combinations of rows.
     Rows,
     /// Its answers, where the call of this number fails, counted from 1.
@@ -63,13 +37,13 @@ enum Asked {
 }
 
 /// The answers of a query where a call fails: `NUMBER QUERY`.
-fn tell_failing(alloc: Global, catalog: &Catalog, words: &[u8]) -> Result<String, Fault> {
+pub fn tell_failing(alloc: Global, catalog: &Catalog, words: &[u8]) -> Result<String, Fault> {
     let (number, script) = cut_word(words);
     tell_query(alloc, catalog, Asked::Answers(number_of(number)?), script)
 }
 
 /// Binds the query that is the only statement of a script, and tells what is asked of it.
-fn tell_query(
+pub fn tell_query(
     alloc: Global,
     catalog: &Catalog,
     asked: Asked,

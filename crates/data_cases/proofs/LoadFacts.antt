@@ -8,7 +8,7 @@ use Rattle.rs_order.specs.Sorting.{put}
 use Rattle.rs_order.proofs.EachFacts.{each-weaker}
 use Rattle.rs_order.proofs.SortingFacts.{each-put}
 use Rattle.rs_queue.specs.Queue.{has_key}
-use Rattle.queue_speed.specs.Work.{filled, number_at, worked}
+use Rattle.data_cases.specs.Work.{filled, number_at, worked}
 
 -- each key ends in a number below n
 abbrev pub AreBelow : ℕ → List (ℕ × ℕ) → Type 0

@@ -1,6 +1,6 @@
 use Rattle.std.proofs.Common.{◌≡◌}
-use Rattle.queue_speed.specs.Work.{filled, worked}
-use Rattle.queue_speed.proofs.load.Load.work.Given as goal
+use Rattle.data_cases.specs.Work.{filled, worked}
+use Rattle.data_cases.proofs.load.Load.work.Given as goal
 
 -- so many pairs are put in
 abbrev pub invariant-loop-pair : goal.invariant-loop-pair
