@@ -58,8 +58,21 @@ pub fn analyze_planned<S: Scorer, O: Sink>(
         (record beside { scorer = S.state scorer.old; out = O.state out.old }) (record beside { scorer = S.state scorer.new; out = O.state out.new }) }
 {
     let query = bind(alloc, catalog, select)?;
-    let cards = take_sample(alloc, seed, catalog, &query, scorer)?;
-    let plan = choose_plan(alloc, catalog, &query, &cards)?;
+    let cards = match take_sample(alloc, seed, catalog, &query, scorer) {
+        Ok(cards) => cards,
+        Err(fault) => {
+            drop(query);
+            return Err(fault);
+        }
+    };
+    let plan = match choose_plan(alloc, catalog, &query, &cards) {
+        Ok(plan) => plan,
+        Err(Memory) => {
+            drop(cards);
+            drop(query);
+            return Err(Fault::Memory);
+        }
+    };
     cards_decide_the_text();
     let told = asked_text(alloc, catalog, query, &cards, &plan, scorer);
     drop(plan);

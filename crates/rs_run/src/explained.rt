@@ -17,6 +17,7 @@ use rs_enum::{cards_decide_the_text, explain};
 use rs_expr::Scorer;
 use rs_outside::Sink;
 use rs_syntax::Select;
+use rs_value::Memory;
 use std::alloc::Global;
 
 /// Puts the text of the least plan of a query, once its sample was taken. No row is asked for.
@@ -35,9 +36,26 @@ pub fn explain_planned<S: Scorer, O: Sink>(
         (record beside { scorer = S.state scorer.old; out = O.state out.old }) (record beside { scorer = S.state scorer.new; out = O.state out.new }) }
 {
     let query = bind(alloc, catalog, select)?;
-    let cards = take_sample(alloc, seed, catalog, &query, scorer)?;
-    let plan = choose_plan(alloc, catalog, &query, &cards)?;
+    let cards = match take_sample(alloc, seed, catalog, &query, scorer) {
+        Ok(cards) => cards,
+        Err(fault) => {
+            drop(query);
+            return Err(fault);
+        }
+    };
+    let plan = match choose_plan(alloc, catalog, &query, &cards) {
+        Ok(plan) => plan,
+        Err(Memory) => {
+            drop(cards);
+            drop(query);
+            return Err(Fault::Memory);
+        }
+    };
     cards_decide_the_text();
-    let text = explain(alloc, catalog, &query, &cards, &plan, None)?;
+    let told = explain(alloc, catalog, &query, &cards, &plan, None);
+    drop(plan);
+    drop(cards);
+    drop(query);
+    let text = told?;
     put_text(&text, out)
 }

@@ -95,8 +95,24 @@ pub fn start_planned<S: Scorer>(
     ensures starts { IfOk result (IsAt query (plan_for (S.state scorer.old).answer catalog.now seed query) 0) }
     ensures stands { IfOk result (StandsFor catalog.now (S.state scorer.old).answer) }
 {
-    let cards = take_sample(alloc, seed, catalog, &query, scorer)?;
-    let plan = choose_plan(alloc, catalog, &query, &cards)?;
-    let cursor = Cursor::start(alloc, catalog, query, &plan)?;
-    Ok(cursor)
+    // What is owned is let go of by name at each end: else it takes long to prove.
+    let cards = match take_sample(alloc, seed, catalog, &query, scorer) {
+        Ok(cards) => cards,
+        Err(fault) => {
+            drop(query);
+            return Err(fault);
+        }
+    };
+    let chosen = choose_plan(alloc, catalog, &query, &cards);
+    drop(cards);
+    let plan = match chosen {
+        Ok(plan) => plan,
+        Err(Memory) => {
+            drop(query);
+            return Err(Fault::Memory);
+        }
+    };
+    let started = Cursor::start(alloc, catalog, query, &plan);
+    drop(plan);
+    Ok(started?)
 }

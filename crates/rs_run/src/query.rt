@@ -36,7 +36,9 @@ pub fn run_query<S: Scorer, O: Sink>(
         (record beside { scorer = S.state scorer.old; out = O.state out.old }) (record beside { scorer = S.state scorer.new; out = O.state out.new }) }
 {
     let query = bind(alloc, catalog, select)?;
-    let rows = match answer_plainly(alloc, catalog, &query, scorer) {
+    let answered = answer_plainly(alloc, catalog, &query, scorer);
+    drop(query);
+    let rows = match answered {
         Ok(rows) => rows,
         Err(why) => return Err(query_fault(catalog, why)),
     };

@@ -114,7 +114,9 @@ fn declare_ready<S: Scorer>(
     ensures asked { IfOk result (λ _. CanAllBeAsked (S.state scorer.old).answer catalog.now session.new.cursors.entries) }
 {
     let query = declared_query(alloc, name, select, catalog, session)?;
-    let rows = match answer_plainly(alloc, catalog, &query, scorer) {
+    let answered = answer_plainly(alloc, catalog, &query, scorer);
+    drop(query);
+    let rows = match answered {
         Ok(rows) => rows,
         Err(why) => return Err(query_fault(catalog, why)),
     };

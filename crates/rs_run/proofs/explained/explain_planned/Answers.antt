@@ -25,38 +25,36 @@ returns-in_err-query g c = λ beside. rw (given-err c.from_residual.result (bind
     (or_bind_fault (bound_query c.args.catalog.now (query_of c.args.select.now))) (bind_fault c.in_err-query.field-0.0) c.args.catalog.now
     (record beside { scorer = g.S.Scorer.state c.args.scorer.now; out = g.O.Sink.state c.args.out.now }) (Gives-unbound _ _ _ c.in_err-query.ensures.gives refl))
 
-pub returns-in_err-cards : goal.returns-in_err-cards
-returns-in_err-cards g c = λ beside.
+pub returns-in-Err : goal.returns-in-Err
+returns-in-Err g c = λ beside.
     let answer = (g.S.Scorer.state c.args.scorer.now).answer in
     let catalogue = c.args.catalog.now in
-    rw (given-err c.from_residual-in_err-cards.result c.in_err-cards.field-0.0 c.from_residual-in_err-cards.ensures) (
     Sampled-broken catalogue c.args.seed (λ query. lines_step (text_of catalogue query (cards_for answer catalogue c.args.seed query) (plan_for answer catalogue c.args.seed query) None ∷ []) catalogue)
     (or_bind_fault (bound_query catalogue (query_of c.args.select.now))) c.in_ok-query.query (Gives-bound _ _ c.in_ok-query.ensures.gives)
     (record beside { scorer = g.S.Scorer.state c.args.scorer.now; out = g.O.Sink.state c.args.out.now })
-    (record beside { scorer = g.S.Scorer.state c.take_sample.new.scorer; out = g.O.Sink.state c.args.out.now }) c.in_err-cards.field-0.0
-    (c.in_err-cards.ensures.calls (record beside { out = g.O.Sink.state c.args.out.now })))
+    (record beside { scorer = g.S.Scorer.state c.take_sample.new.scorer; out = g.O.Sink.state c.args.out.now }) c.in-Err.fault
+    (c.in-Err.ensures.calls (record beside { out = g.O.Sink.state c.args.out.now }))
 
 pub choose_plan-requires : goal.choose_plan-requires
 choose_plan-requires g c = record {
   formed = c.in_ok-query.ensures.formed;
-  cards = c.in_ok-cards.ensures.own;
+  cards = c.in-Ok.ensures.own;
 }
 
-pub returns-in_err-plan : goal.returns-in_err-plan
-returns-in_err-plan g c = λ beside.
+pub returns-in-Err-choose_plan : goal.returns-in-Err-choose_plan
+returns-in-Err-choose_plan g c = λ beside.
     let answer = (g.S.Scorer.state c.args.scorer.now).answer in
     let catalogue = c.args.catalog.now in
     let query = c.in_ok-query.query in
     let middle = record beside { scorer = g.S.Scorer.state c.take_sample.new.scorer; out = g.O.Sink.state c.args.out.now } in
     let rest : Query → Step Catalogue = λ query. lines_step (text_of catalogue query (cards_for answer catalogue c.args.seed query) (plan_for answer catalogue c.args.seed query) None ∷ []) catalogue in
-    rw (given-err c.from_residual-in_err-plan.result Memory c.from_residual-in_err-plan.ensures) (
     Sampled-then catalogue c.args.seed rest (or_bind_fault (bound_query catalogue (query_of c.args.select.now))) query (Gives-bound _ _ c.in_ok-query.ensures.gives)
     (record beside { scorer = g.S.Scorer.state c.args.scorer.now; out = g.O.Sink.state c.args.out.now }) middle (Err Memory) middle
-    (c.in_ok-cards.ensures.calls (record beside { out = g.O.Sink.state c.args.out.now }))
-    (Stepped-no_memory (λ step. step ≡ rest query) (rest query) catalogue middle refl))
+    (c.in-Ok.ensures.calls (record beside { out = g.O.Sink.state c.args.out.now }))
+    (Stepped-no_memory (λ step. step ≡ rest query) (rest query) catalogue middle refl)
 
-pub explain-requires : goal.explain-requires
-explain-requires g c = record { query = c.in_ok-query.ensures.formed; cards = c.in_ok-cards.ensures.own; plan = c.in_ok-plan.ensures.plan; counts = tt }
+pub explain-told-requires : goal.explain-told-requires
+explain-told-requires g c = record { query = c.in_ok-query.ensures.formed; cards = c.in-Ok.ensures.own; plan = c.in-Ok-choose_plan.ensures.plan; counts = tt }
 
 pub returns-in_err-text : goal.returns-in_err-text
 returns-in_err-text g c = λ beside.
@@ -68,7 +66,7 @@ returns-in_err-text g c = λ beside.
     rw (given-err c.from_residual-in_err-text.result Memory c.from_residual-in_err-text.ensures) (
     Sampled-then catalogue c.args.seed rest (or_bind_fault (bound_query catalogue (query_of c.args.select.now))) query (Gives-bound _ _ c.in_ok-query.ensures.gives)
     (record beside { scorer = g.S.Scorer.state c.args.scorer.now; out = g.O.Sink.state c.args.out.now }) middle (Err Memory) middle
-    (c.in_ok-cards.ensures.calls (record beside { out = g.O.Sink.state c.args.out.now }))
+    (c.in-Ok.ensures.calls (record beside { out = g.O.Sink.state c.args.out.now }))
     (Stepped-no_memory (λ step. step ≡ rest query) (rest query) catalogue middle refl))
 
 pub returns : goal.returns
@@ -80,15 +78,15 @@ returns g c = λ beside.
     let plan = plan_for answer catalogue c.args.seed query in
     let middle = record beside { scorer = g.S.Scorer.state c.take_sample.new.scorer; out = g.O.Sink.state c.args.out.now } in
     let new = record beside { scorer = g.S.Scorer.state c.take_sample.new.scorer; out = g.O.Sink.state c.put_text.new.out } in
-    let tree = c.in_ok-plan.ensures.tree cards c.in_ok-cards.ensures.cards in
+    let tree = c.in-Ok-choose_plan.ensures.tree cards c.in-Ok.ensures.cards in
     let text : c.deref.result.now ≡ text_of catalogue query cards plan None =
     c.deref.ensures.value ∙ c.in_ok-text.ensures
-    ∙ c.cards_decide_the_text.ensures catalogue query (cards_of c.in_ok-cards.cards) cards (tree_of c.in_ok-plan.plan) None c.in_ok-query.ensures.formed c.in_ok-cards.ensures.own
-    c.in_ok-cards.ensures.cards c.in_ok-plan.ensures.plan
+    ∙ c.cards_decide_the_text.ensures catalogue query (cards_of c.in-Ok.cards) cards (tree_of c.in-Ok-choose_plan.plan) None c.in_ok-query.ensures.formed c.in-Ok.ensures.own
+    c.in-Ok.ensures.cards c.in-Ok-choose_plan.ensures.plan
     ∙ ap (λ t. text_of catalogue query cards t None) tree in
     Sampled-then catalogue c.args.seed (λ query. lines_step (text_of catalogue query (cards_for answer catalogue c.args.seed query) (plan_for answer catalogue c.args.seed query) None ∷ []) catalogue)
     (or_bind_fault (bound_query catalogue (query_of c.args.select.now))) query (Gives-bound _ _ c.in_ok-query.ensures.gives)
     (record beside { scorer = g.S.Scorer.state c.args.scorer.now; out = g.O.Sink.state c.args.out.now }) new c.put_text.result middle
-    (c.in_ok-cards.ensures.calls (record beside { out = g.O.Sink.state c.args.out.now }))
+    (c.in-Ok.ensures.calls (record beside { out = g.O.Sink.state c.args.out.now }))
     (Stepped-lines (text_of catalogue query cards plan None ∷ []) catalogue c.put_text.result middle new
     (subst (λ t. Ran (lines_run (t ∷ [])) c.put_text.result middle new) text (c.put_text.ensures (record beside { scorer = g.S.Scorer.state c.take_sample.new.scorer }))))

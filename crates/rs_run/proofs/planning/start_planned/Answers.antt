@@ -8,32 +8,32 @@ use Rattle.rs_run.specs.declared.fault.Fault.TheVariants.{Memory}
 use Rattle.rs_run.proofs.SteppedFacts.{Stepped-cut}
 use Rattle.rs_run.proofs.planning.start_planned.Goals as goal
 
-pub returns-in_err-cards : goal.returns-in_err-cards
-returns-in_err-cards g c = rw (given-err c.from_residual.result c.in_err-cards.field-0.0 c.from_residual.ensures) (record {
-  calls = c.in_err-cards.ensures.calls;
+pub returns-in-Err : goal.returns-in-Err
+returns-in-Err g c = record {
+  calls = c.in-Err.ensures.calls;
   starts = tt;
   stands = tt;
-})
+}
 
-pub choose_plan-requires : goal.choose_plan-requires
-choose_plan-requires g c = record { formed = c.requires.formed; cards = c.in_ok-cards.ensures.own }
+pub choose_plan-chosen-requires : goal.choose_plan-chosen-requires
+choose_plan-chosen-requires g c = record { formed = c.requires.formed; cards = c.in-Ok.ensures.own }
 
 -- the sample was taken, and then there was no memory for the plan, or for the cursor
-pub returns-in_err-plan : goal.returns-in_err-plan
-returns-in_err-plan g c = rw (given-err c.from_residual-in_err-plan.result Memory c.from_residual-in_err-plan.ensures) (record {
+pub returns-in-Err-chosen : goal.returns-in-Err-chosen
+returns-in-Err-chosen g c = record {
   calls = λ beside. Stepped-cut (λ step. step ≡ sample_step c.args.catalog.now c.args.seed c.args.query) c.args.catalog.now
-      (record beside { scorer = g.S.Scorer.state c.args.scorer.now }) (record beside { scorer = g.S.Scorer.state c.take_sample.new.scorer }) (c.in_ok-cards.ensures.calls beside);
+      (record beside { scorer = g.S.Scorer.state c.args.scorer.now }) (record beside { scorer = g.S.Scorer.state c.take_sample.new.scorer }) (c.in-Ok.ensures.calls beside);
   starts = tt;
   stands = tt;
-})
+}
 
-pub start-requires : goal.start-requires
-start-requires g c = record { query = c.requires.formed; plan = c.in_ok-plan.ensures.plan }
+pub start-started-requires : goal.start-started-requires
+start-started-requires g c = record { query = c.requires.formed; plan = c.in-Ok-chosen.ensures.plan }
 
-pub returns-in_err-cursor : goal.returns-in_err-cursor
-returns-in_err-cursor g c = rw (given-err c.from_residual-in_err-cursor.result Memory c.from_residual-in_err-cursor.ensures) (record {
+pub returns-in_err-started : goal.returns-in_err-started
+returns-in_err-started g c = rw (given-err c.from_residual.result Memory c.from_residual.ensures) (record {
   calls = λ beside. Stepped-cut (λ step. step ≡ sample_step c.args.catalog.now c.args.seed c.args.query) c.args.catalog.now
-      (record beside { scorer = g.S.Scorer.state c.args.scorer.now }) (record beside { scorer = g.S.Scorer.state c.take_sample.new.scorer }) (c.in_ok-cards.ensures.calls beside);
+      (record beside { scorer = g.S.Scorer.state c.args.scorer.now }) (record beside { scorer = g.S.Scorer.state c.take_sample.new.scorer }) (c.in-Ok.ensures.calls beside);
   starts = tt;
   stands = tt;
 })
@@ -41,13 +41,13 @@ returns-in_err-cursor g c = rw (given-err c.from_residual-in_err-cursor.result M
 pub returns : goal.returns
 returns g c =
     let answer = (g.S.Scorer.state c.args.scorer.now).answer in
-    let started = c.in_ok-cursor.ensures.new in
+    let started = c.in_ok-started.ensures.new in
     record {
-      calls = c.in_ok-cards.ensures.calls;
+      calls = c.in-Ok.ensures.calls;
       starts = record {
         query_is = started.query_is;
-        plan_is = started.plan_is ∙ c.in_ok-plan.ensures.tree (cards_for answer c.args.catalog.now c.args.seed c.args.query) c.in_ok-cards.ensures.cards;
+        plan_is = started.plan_is ∙ c.in-Ok-chosen.ensures.tree (cards_for answer c.args.catalog.now c.args.seed c.args.query) c.in-Ok.ensures.cards;
         asks_are = started.unasked;
       };
-      stands = c.in_ok-cursor.ensures.stands answer (held-plan answer c.args.catalog.now c.requires.held (tree_of c.in_ok-plan.plan));
+      stands = c.in_ok-started.ensures.stands answer (held-plan answer c.args.catalog.now c.requires.held (tree_of c.in-Ok-chosen.plan));
     }

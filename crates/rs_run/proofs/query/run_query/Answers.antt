@@ -26,22 +26,22 @@ pub returns-in-Err : goal.returns-in-Err
 returns-in-Err g c = λ beside.
     Stepped-bound (query_step Plainly (g.S.Scorer.state c.args.scorer.now).answer c.args.catalog.now) (or_bind_fault (bound_query c.args.catalog.now (query_of c.args.select.now)))
     c.in_ok-query.query c.args.catalog.now _ (record beside { scorer = g.S.Scorer.state c.args.scorer.now; out = g.O.Sink.state c.args.out.now })
-    (record beside { scorer = g.S.Scorer.state c.answer_plainly.new.scorer; out = g.O.Sink.state c.args.out.now })
+    (record beside { scorer = g.S.Scorer.state c.answer_plainly-answered.new.scorer; out = g.O.Sink.state c.args.out.now })
     (Gives-bound _ _ c.in_ok-query.ensures.gives)
     (Stepped-unasked answer_lines (query_outcome c.args.catalog.now) plain.Memory (evaluation_of (g.S.Scorer.state c.args.scorer.now).answer c.args.catalog.now c.in_ok-query.query (all_rows c.args.catalog.now c.in_ok-query.query))
-    c.args.catalog.now (record beside { scorer = g.S.Scorer.state c.args.scorer.now; out = g.O.Sink.state c.args.out.now }) (g.S.Scorer.state c.answer_plainly.new.scorer) (query_fault c.args.catalog.now)
+    c.args.catalog.now (record beside { scorer = g.S.Scorer.state c.args.scorer.now; out = g.O.Sink.state c.args.out.now }) (g.S.Scorer.state c.answer_plainly-answered.new.scorer) (query_fault c.args.catalog.now)
     c.in-Err.why c.query_fault.result refl refl refl (Probes-questions plain_faults (query_fault c.args.catalog.now) c.args.catalog.now (λ number. refl) _) c.in-Err.ensures.evaluates c.query_fault.ensures)
 
 pub returns : goal.returns
 returns g c = λ beside.
     Stepped-bound (query_step Plainly (g.S.Scorer.state c.args.scorer.now).answer c.args.catalog.now) (or_bind_fault (bound_query c.args.catalog.now (query_of c.args.select.now)))
     c.in_ok-query.query c.args.catalog.now _ (record beside { scorer = g.S.Scorer.state c.args.scorer.now; out = g.O.Sink.state c.args.out.now })
-    (record beside { scorer = g.S.Scorer.state c.answer_plainly.new.scorer; out = g.O.Sink.state c.put_rows.new.out })
+    (record beside { scorer = g.S.Scorer.state c.answer_plainly-answered.new.scorer; out = g.O.Sink.state c.put_rows.new.out })
     (Gives-bound _ _ c.in_ok-query.ensures.gives)
     (Stepped-asked answer_lines (query_outcome c.args.catalog.now) plain.Memory (evaluation_of (g.S.Scorer.state c.args.scorer.now).answer c.args.catalog.now c.in_ok-query.query (all_rows c.args.catalog.now c.in_ok-query.query))
-    c.args.catalog.now (record beside { scorer = g.S.Scorer.state c.args.scorer.now; out = g.O.Sink.state c.args.out.now }) (g.S.Scorer.state c.answer_plainly.new.scorer)
-    c.in-Ok.rows.items c.put_rows.result (record beside { scorer = g.S.Scorer.state c.answer_plainly.new.scorer; out = g.O.Sink.state c.put_rows.new.out }) refl
+    c.args.catalog.now (record beside { scorer = g.S.Scorer.state c.args.scorer.now; out = g.O.Sink.state c.args.out.now }) (g.S.Scorer.state c.answer_plainly-answered.new.scorer)
+    c.in-Ok.rows.items c.put_rows.result (record beside { scorer = g.S.Scorer.state c.answer_plainly-answered.new.scorer; out = g.O.Sink.state c.put_rows.new.out }) refl
     c.in-Ok.ensures.evaluates
-    (subst (λ rows. Ran (lines_run (rank_lines 1 rows)) c.put_rows.result (record beside { scorer = g.S.Scorer.state c.answer_plainly.new.scorer; out = g.O.Sink.state c.args.out.now })
-    (record beside { scorer = g.S.Scorer.state c.answer_plainly.new.scorer; out = g.O.Sink.state c.put_rows.new.out }))
-    c.deref.ensures.value (c.put_rows.ensures (record beside { scorer = g.S.Scorer.state c.answer_plainly.new.scorer }))))
+    (subst (λ rows. Ran (lines_run (rank_lines 1 rows)) c.put_rows.result (record beside { scorer = g.S.Scorer.state c.answer_plainly-answered.new.scorer; out = g.O.Sink.state c.args.out.now })
+    (record beside { scorer = g.S.Scorer.state c.answer_plainly-answered.new.scorer; out = g.O.Sink.state c.put_rows.new.out }))
+    c.deref.ensures.value (c.put_rows.ensures (record beside { scorer = g.S.Scorer.state c.answer_plainly-answered.new.scorer }))))

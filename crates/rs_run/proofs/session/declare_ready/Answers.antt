@@ -42,10 +42,10 @@ returns-in-Err g c =
     let query = c.in_ok-query.query in record {
       opens = λ beside.
           let old = record beside { scorer = g.S.Scorer.state c.args.scorer.now } in
-          let new = record beside { scorer = g.S.Scorer.state c.answer_plainly.new.scorer } in
+          let new = record beside { scorer = g.S.Scorer.state c.answer_plainly-answered.new.scorer } in
           Stepped-bound (opened_step Plainly answer name.text state) (declared_query state name (query_of c.args.select.now)) query state (Err c.query_fault.result) old new c.in_ok-query.ensures.gives
           (Stepped-unasked (λ rows. []) (ready_outcome name.text state) plain.Memory (evaluation_of answer catalogue query (all_rows catalogue query)) state old
-          (g.S.Scorer.state c.answer_plainly.new.scorer) (query_fault catalogue) c.in-Err.why c.query_fault.result refl refl refl
+          (g.S.Scorer.state c.answer_plainly-answered.new.scorer) (query_fault catalogue) c.in-Err.why c.query_fault.result refl refl refl
           (Probes-questions plain_faults (query_fault catalogue) catalogue (λ number. refl) _) c.in-Err.ensures.evaluates c.query_fault.ensures);
       asked = tt;
     }
@@ -62,12 +62,12 @@ returns-in_err-open g c =
     rw (given-err c.from_residual-in_err-open.result Memory c.from_residual-in_err-open.ensures) (record {
       opens = λ beside.
           let old = record beside { scorer = g.S.Scorer.state c.args.scorer.now } in
-          let new = record beside { scorer = g.S.Scorer.state c.answer_plainly.new.scorer } in
+          let new = record beside { scorer = g.S.Scorer.state c.answer_plainly-answered.new.scorer } in
           Stepped-bound (opened_step Plainly answer name.text state) (declared_query state name (query_of c.args.select.now)) query (state_of catalogue c.open.new.session.cursors.entries) (Err Memory)
           old new c.in_ok-query.ensures.gives
           (Stepped-left _ opened (state_of catalogue c.open.new.session.cursors.entries) (Err Memory) old new tt
           (Stepped-asked (λ rows. []) (ready_outcome name.text state) plain.Memory (evaluation_of answer catalogue query (all_rows catalogue query)) opened old
-          (g.S.Scorer.state c.answer_plainly.new.scorer) rows (Err Memory) new refl c.in-Ok.ensures.evaluates (Ran-first (lines_run []) new)));
+          (g.S.Scorer.state c.answer_plainly-answered.new.scorer) rows (Err Memory) new refl c.in-Ok.ensures.evaluates (Ran-first (lines_run []) new)));
       asked = tt;
     })
 
@@ -84,10 +84,10 @@ returns g c =
     let opened = c.in_ok-open.ensures.ok in record {
       opens = λ beside.
           let old = record beside { scorer = g.S.Scorer.state c.args.scorer.now } in
-          let new = record beside { scorer = g.S.Scorer.state c.answer_plainly.new.scorer } in
+          let new = record beside { scorer = g.S.Scorer.state c.answer_plainly-answered.new.scorer } in
           Stepped-bound (opened_step Plainly answer name.text state) (declared_query state name (query_of c.args.select.now)) query (state_of catalogue left) (Ok tt) old new c.in_ok-query.ensures.gives
           (Stepped-asked (λ rows. []) (ready_outcome name.text state) plain.Memory (evaluation_of answer catalogue query (all_rows catalogue query)) (state_of catalogue left) old
-          (g.S.Scorer.state c.answer_plainly.new.scorer) c.in-Ok.rows.items (Ok tt) new (ap Ok (opened-ready catalogue entries left name.text kept opened refl)) c.in-Ok.ensures.evaluates
+          (g.S.Scorer.state c.answer_plainly-answered.new.scorer) c.in-Ok.rows.items (Ok tt) new (ap Ok (opened-ready catalogue entries left name.text kept opened refl)) c.in-Ok.ensures.evaluates
           (Ran-all (lines_run []) (Ok tt) new new (HasDone-none new) refl));
       asked = subst (CanAllBeAsked answer catalogue) (sym opened) (asked-append answer catalogue entries name.text kept c.requires.asked (omega arith));
     }
