@@ -1,7 +1,7 @@
 #!/usr/bin/env bash
 # Measures rank joins of three tables of 150, 600 and 2,000 rows, for the first 1, 10 and 100 rows, by plans of hash joins and
 # of nested joins; and one join of two tables of 2,000 rows, for more and more rows. Beside them, in the same run, sqlite3
-# joins and sorts all. The plans are given to the program exec_cases, which is told the tables and the query line by line. It
+# joins and sorts all. The plans are given to the program plan_cases, which is told the tables and the query line by line. It
 # and sqlite3 have to print the same rows. How often a plan calls the scorer and how many rows it draws has to be what the
 # definitions say, which checks/executor.py reckons over finished lists.
 # Each query runs five times, in turn, more often where it takes less than 50 ms, and once where it takes more than a second;
@@ -10,17 +10,17 @@
 # alone: its tables are in memory, each with an index for its city.
 # A hash join works for each row that is drawn and each pair that is found, a nested one for each pair that is tested. So
 # these are told, and the time for each of them. README.md says what grows how.
-# The program is the one that `rt run` builds, or the one that the variable EXEC_CASES names.
+# The program is the one that `rt run` builds, or the one that the variable PLAN_CASES names.
 # shellcheck source=bench/functions.sh
 . "$(dirname "$0")/functions.sh"
 
 needs sqlite3 'nothing is measured without it (on Debian: apt-get install sqlite3)'
 needs python3 'it takes the times, and reckons what the definitions say'
-if [ -n "${EXEC_CASES:-}" ]; then
-    program=$EXEC_CASES
+if [ -n "${PLAN_CASES:-}" ]; then
+    program=$PLAN_CASES
 else
-    (cd "$root/crates/exec_cases" && rt run </dev/null) >"$work/built" 2>&1
-    program=$root/crates/exec_cases/out/exec_cases
+    (cd "$root/crates/plan_cases" && rt run </dev/null) >"$work/built" 2>&1
+    program=$root/crates/plan_cases/out/plan_cases
     [ -x "$program" ] || { cat "$work/built" >&2; exit 1; }
 fi
 
@@ -222,7 +222,7 @@ def select(theirs, query, limit):
 
 
 def told_rows(lines):
-    """The rows that exec_cases told, as sqlite3 prints them."""
+    """The rows that plan_cases told, as sqlite3 prints them."""
     rows = []
     for line in lines[1:-1]:
         score = re.match(r"  1 \d+ \[[^]]*\] (\d+) ", line)

@@ -4,16 +4,16 @@
 # and then `memory` with status 1.
 # Before that it counts the allocations of runs over a table of 1,000 rows that print more or fewer rows, or call the scorer
 # more or less often: a printed row takes its values alone, and a call with numbers none.
-# A join by a hash and a union are executed by the program exec_cases, whichever plan `run` would choose. That program
+# A join by a hash and a union are executed by the program plan_cases, whichever plan `run` would choose. That program
 # tells its input line by line, and names the line at which there is no memory.
-# The programs are crates/ranksql/out/ranksql and crates/exec_cases/out/exec_cases, or those that the variables RANKSQL and
-# EXEC_CASES name. A C compiler is needed: the allocations fail by a small library in front of the system's.
+# The programs are crates/ranksql/out/ranksql and crates/plan_cases/out/plan_cases, or those that the variables RANKSQL and
+# PLAN_CASES name. A C compiler is needed: the allocations fail by a small library in front of the system's.
 set -u -o pipefail
 export LC_ALL=C
 
 root=$(cd "$(dirname "$0")/.." && pwd -P)
 program=${RANKSQL:-$root/crates/ranksql/out/ranksql}
-cases=${EXEC_CASES:-$root/crates/exec_cases/out/exec_cases}
+cases=${PLAN_CASES:-$root/crates/plan_cases/out/plan_cases}
 if [ ! -x "$program" ]; then
     echo "there is no program $program: ./ranksql builds it" >&2
     exit 1

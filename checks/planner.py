@@ -1,12 +1,13 @@
 #!/usr/bin/env python3
-"""Works out the least plans of small queries, and prints their texts as cases of the program enum_cases.
+r"""Works out the least plans of small queries, and prints their texts as cases of the program plan_cases.
 
 The tables are random and no larger than their samples, so all rows are sampled, whatever the seed is. Each plan of a query is
-made and its cost computed: nothing is kept of a signature. The cases are the last part of crates/enum_cases/stdout. This makes
-them anew, at the top of the repository:
+made and its cost computed: nothing is kept of a signature. The cases are the last ones of the tests of rs_enum in
+crates/plan_cases/stdout. This makes them anew, at the top of the repository:
 
-    cases=crates/enum_cases
-    sed -i '/^# Random tables/,$d' $cases/stdout && python3 checks/planner.py >>$cases/stdout
+    cases=crates/plan_cases
+    sed -i -e '/^# Tests of rs_exec/e python3 checks/planner.py; echo' \
+        -e '/^# Random .*planner.py/,/^# Tests of rs_exec/{/^# Tests/!d}' $cases/stdout
     grep -v '^  ' $cases/stdout >$cases/stdin
 """
 

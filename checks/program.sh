@@ -342,13 +342,13 @@ while IFS= read -r line; do
     grep -qxF -e "    $line" "$root/docs/GRAMMAR.md" || failed "GRAMMAR.md doesn't have the line: $line"
 done <"$root/examples/travel/guides.out"
 
-# The queries of the program enum_cases, with tables in files: EXPLAIN has to print the text that stands there, and `run` the
-# rows of `plain`.
+# The queries that the program plan_cases plans, with tables in files: EXPLAIN has to print the text that stands there, and
+# `run` the rows of `plain`.
 mkdir planned
 awk '
     $0 == "front" { front = "" }
     /^front ./ { front = front substr($0, 7) "\n" }
-    /^(plan|counted) / { number = 0 }
+    !/^  / { number = 0 }
     /^plan [0-9]+ SELECT / && !/ DISTINCT | UNION | INTERSECT | EXCEPT / {
         number = ++count
         script = ""
@@ -370,7 +370,7 @@ awk '
         printf "" >("planned/" number ".plan")
     }
     /^  / && number { print substr($0, 3) >>("planned/" number ".plan") }
-' "$root/crates/enum_cases/stdout"
+' "$root/crates/plan_cases/stdout"
 queries=0
 while [ -e "planned/$((queries + 1)).sql" ]; do
     queries=$((queries + 1))
@@ -381,7 +381,7 @@ while [ -e "planned/$((queries + 1)).sql" ]; do
     timeout 60 "$program" run "planned/$queries.sql" "$seed" >"$work/said/out" 2>&1 </dev/null
     cmp -s "$work/said/out" "$work/said/out.wanted" || failed "run and plain print other rows for $(tail -n 1 "planned/$queries.sql")"
 done
-[ "$queries" -ge 50 ] || failed "enum_cases has only $queries queries"
+[ "$queries" -ge 50 ] || failed "plan_cases has only $queries queries"
 passed "the plans and the rows of $queries queries"
 
 # The statements that docs/GRAMMAR.md shows in blocks and in its table of statements stand in these scripts, line by line.

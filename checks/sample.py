@@ -1,14 +1,14 @@
 #!/usr/bin/env python3
-"""Works out what samples of random tables give, and prints it as cases of the program sample_cases.
+"""Works out what samples of random tables give, and prints it as cases of the program plan_cases.
 
 The tables have more rows than are sampled of them. What is expected of each part of a plan is computed as it is defined, from the
 words of the generator on: there is no table of worths, and no two estimates share any work. The generator is the PCG32 (XSH RR)
 of O'Neill, "PCG: a family of simple fast space-efficient statistically good algorithms for random number generation", with the
-seeding of Rust's crate rand_core. The cases are the last part of crates/sample_cases/stdout. This makes them anew, at the top of
-the repository:
+seeding of Rust's crate rand_core. The cases are the last ones of the tests of rs_sample in
+crates/plan_cases/stdout, at its end. This makes them anew, at the top of the repository:
 
-    cases=crates/sample_cases
-    sed -i '/^# Random tables/,$d' $cases/stdout && python3 checks/sample.py >>$cases/stdout
+    cases=crates/plan_cases
+    sed -i '/^# Random .*sample.py/,$d' $cases/stdout && python3 checks/sample.py >>$cases/stdout
     grep -v '^  ' $cases/stdout >$cases/stdin
 """
 

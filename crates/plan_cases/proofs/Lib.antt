@@ -1,0 +1,3 @@
+pub mod CursorFacts
+mod ReadFacts
+mod ShapeFacts

@@ -1,2 +1,0 @@
-mod ReadFacts
-mod ShapeFacts
