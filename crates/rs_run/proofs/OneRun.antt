@@ -7,12 +7,12 @@ use Rattle.rs_lex.specs.declared.fault.LexFault.{LexFault}
 use Rattle.rs_lex.specs.declared.token.Token.{Token}
 use Rattle.rs_outside.specs.Files.{FilesTold}
 use Rattle.rs_gen.specs.Files.{script_name}
-use Rattle.rs_syntax.specs.Scripts.{IsSound, Parses, Refuses}
+use Rattle.rs_parse.specs.Scripts.{IsSound, Parses, Refuses}
 use Rattle.rs_syntax.specs.Syntax.{Command, CreateTable, CreatePredicate, CreateRankIndex, Ask, Declare, Close, Explain, ExplainAnalyze}
 use Rattle.rs_syntax.specs.Syntax as syntax
-use Rattle.rs_syntax.specs.declared.fault.SyntaxFault.{SyntaxFault}
+use Rattle.rs_parse.specs.declared.fault.SyntaxFault.{SyntaxFault}
 use Rattle.rs_syntax.specs.declared.name.Name.{Name}
-use Rattle.rs_syntax.proofs.ScriptFacts.{Parses-one, Refuses-one, IsSound-not_refused}
+use Rattle.rs_parse.proofs.ScriptFacts.{Parses-one, Refuses-one, IsSound-not_refused}
 use Rattle.rs_table.specs.Column.{Column}
 use Rattle.rs_catalog.specs.Catalogue.{Catalogue}
 use Rattle.rs_catalog.specs.declared.room.What.TheVariants as what

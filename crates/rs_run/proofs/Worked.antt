@@ -16,7 +16,7 @@ use Rattle.rs_run.specs.Words.{top_words, NoForm, RunGenerated, RunScript, Top, 
 use Rattle.rs_run.specs.declared.script_fault.ScriptFault.TheVariants as script
 use Rattle.rs_run.specs.declared.status.Status.TheVariants as status
 use Rattle.rs_lex.specs.declared.fault.LexFault.TheVariants as lex
-use Rattle.rs_syntax.specs.declared.fault.SyntaxFault.TheVariants as syntax
+use Rattle.rs_parse.specs.declared.fault.SyntaxFault.TheVariants as syntax
 use Rattle.rs_catalog.specs.declared.room.RoomFault.TheVariants as room
 use Rattle.rs_bind.specs.declared.fault.Why.TheVariants as why
 use Rattle.rs_run.specs.Faults.{fault_line, only, status_of}

@@ -18,7 +18,7 @@ use crate::statement::run_statements;
 use rs_expr::Scorer;
 use rs_lex::{MOST_BYTES, tokens};
 use rs_outside::{Files, Sink};
-use rs_syntax::parse;
+use rs_parse::parse;
 use rs_value::{Text, TextFault};
 use std::alloc::Global;
 

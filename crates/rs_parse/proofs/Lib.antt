@@ -1,0 +1,4 @@
+pub mod Cutting
+pub mod ScriptFacts
+pub mod ParsesFacts
+mod WorkedScripts
