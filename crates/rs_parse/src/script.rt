@@ -12,7 +12,7 @@ ghost use Rattle.rs_parse.specs.declared.fault.SyntaxFault.{SyntaxFault};
 use crate::fault::SyntaxFault;
 use rs_grammar::{Lexeme, TokenKind, lexemes};
 use rs_lex::Token;
-use rs_syntax::{ParserFault, Parser, Statement};
+use rs_syntax::{Parser, ParserFault, Statement};
 use rs_value::Text;
 use std::alloc::Global;
 
