@@ -15,14 +15,14 @@ use Rattle.rs_expr.specs.Uses.{is_kind}
 use Rattle.rs_catalog.specs.declared.index.BoundArg.{BoundArg}
 use Rattle.rs_catalog.specs.declared.index.BoundArg.TheVariants as bound
 use Rattle.rs_query.specs.WellFormed.{argument_columns}
-use Rattle.rs_bind.specs.declared.fault.BindFault.TheVariants.{At, Memory}
-use Rattle.rs_bind.specs.declared.fault.Why.TheVariants.{ConstantTerm, WrongCount, WrongKind}
+use Rattle.rs_typing.specs.declared.fault.BindFault.TheVariants.{At, Memory}
+use Rattle.rs_typing.specs.declared.fault.Why.TheVariants.{ConstantTerm, WrongCount, WrongKind}
+use Rattle.rs_typing.specs.Typing.{span_of_column}
+use Rattle.rs_typing.proofs.StepFacts.{Ok-steps, Ok-test}
 use Rattle.rs_bind.specs.Indexes.{Entries, arg_of, args_of, is_column, of_kind, term_args}
 use Rattle.rs_bind.specs.Queries.{IsEntryArg, are_outputs}
 use Rattle.rs_bind.specs.Sources.{Found}
 use Rattle.rs_bind.specs.Terms.{is_output}
-use Rattle.rs_bind.specs.Typing.{span_of_column}
-use Rattle.rs_bind.proofs.StepFacts.{Ok-steps, Ok-test}
 
 -- the arguments that are columns are output columns
 pub list_all-is_output : (items : List Found) (args : List BoundArg) → list_all (is_output items) args ≡ are_outputs (Some items) (argument_columns args)

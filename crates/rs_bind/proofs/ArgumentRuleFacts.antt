@@ -12,19 +12,19 @@ use Rattle.rs_value.specs.Results.{◌>>=◌}
 use Rattle.rs_expr.specs.Uses.{is_kind}
 use Rattle.rs_catalog.specs.declared.index.BoundArg.{BoundArg}
 use Rattle.rs_catalog.specs.declared.index.BoundArg.TheVariants as bound
-use Rattle.rs_bind.specs.declared.fault.BindFault.{BindFault}
-use Rattle.rs_bind.specs.declared.fault.BindFault.TheVariants.{At}
-use Rattle.rs_bind.specs.declared.fault.Why.TheVariants.{ConstantTerm, LimitOf, WrongCount, WrongKind}
+use Rattle.rs_typing.specs.declared.fault.BindFault.{BindFault}
+use Rattle.rs_typing.specs.declared.fault.BindFault.TheVariants.{At}
+use Rattle.rs_typing.specs.declared.fault.Why.TheVariants.{ConstantTerm, LimitOf, WrongCount, WrongKind}
+use Rattle.rs_typing.specs.Typing.{span_of_column}
+use Rattle.rs_typing.proofs.EachFacts.{both_true, parts_true}
+use Rattle.rs_typing.proofs.ResultFacts.{same_Ok, well}
+use Rattle.rs_typing.proofs.StepFacts.{Err-steps, Ok-steps, Ok-test}
 use Rattle.rs_bind.specs.ArgumentRules.{IsOutside, IsWithin, RefusedArg, RefusedArgs, TypesArg, TypesArgs}
 use Rattle.rs_bind.specs.ArgumentRules.{from_column, from_number, from_text, no_column, wrong_column, wrong_number, wrong_text, wrong_count, in_arg, constant}
 use Rattle.rs_bind.specs.Indexes.{Entries, arg_of, args_of, is_column, of_kind, term_args}
 use Rattle.rs_bind.specs.InOrder.{Each, FirstRefused}
 use Rattle.rs_bind.specs.Names.{number_in}
-use Rattle.rs_bind.specs.Typing.{span_of_column}
-use Rattle.rs_bind.proofs.EachFacts.{both_true, parts_true}
 use Rattle.rs_bind.proofs.InOrderFacts.{Each-steps, FirstRefused-steps, Follows, steps, steps-Each, steps-FirstRefused}
-use Rattle.rs_bind.proofs.ResultFacts.{same_Ok, well}
-use Rattle.rs_bind.proofs.StepFacts.{Err-steps, Ok-steps, Ok-test}
 use Rattle.rs_bind.proofs.TermFacts.{same-kind}
 use Rattle.rs_bind.proofs.TestFacts.{Err-test, apart-test, equal-test, is-apart, is-equal}
 

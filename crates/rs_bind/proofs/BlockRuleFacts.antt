@@ -17,25 +17,25 @@ use Rattle.rs_catalog.specs.Catalogue.{Catalogue, number_named}
 use Rattle.rs_catalog.specs.declared.room.What.TheVariants as what
 use Rattle.rs_query.specs.Conjuncts.{ConjunctDef}
 use Rattle.rs_query.specs.WellFormed.{entries_mask, equality_of}
-use Rattle.rs_bind.specs.declared.fault.BindFault.{BindFault}
-use Rattle.rs_bind.specs.declared.fault.BindFault.TheVariants.{At}
-use Rattle.rs_bind.specs.declared.fault.Why.TheVariants.{LimitOf, NameTwice, NoTable, WrongKind}
+use Rattle.rs_typing.specs.declared.fault.BindFault.{BindFault}
+use Rattle.rs_typing.specs.declared.fault.BindFault.TheVariants.{At}
+use Rattle.rs_typing.specs.declared.fault.Why.TheVariants.{LimitOf, NameTwice, NoTable, WrongKind}
+use Rattle.rs_typing.specs.Missing.{or_fault}
+use Rattle.rs_typing.specs.Rules.{Types}
+use Rattle.rs_typing.specs.Typing.{Typed, Number, Words, Truth, span_of, span_of_column, as_truth, type_of}
+use Rattle.rs_typing.proofs.ResultFacts.{Ok-else, same_Ok, well}
+use Rattle.rs_typing.proofs.RuleFacts.{refused_by_rules, typed_by_rules}
+use Rattle.rs_typing.proofs.StepFacts.{Err-steps, Ok-or_fault, Ok-steps, Ok-test}
 use Rattle.rs_bind.specs.BlockRules.{Entry, FromEntry, IsNoTruth, RefusedBlock, RefusedEntry, RefusedFilter, RefusedItem, RefusedItems, TypesBlock, TypesConjunct, TypesEntry, TypesFilter, TypesItem, TypesItems}
 use Rattle.rs_bind.specs.BlockRules.{too_many, no_table, twice, no_filter, condition, in_condition, no_truth, no_column, star, listed, in_list, in_from, in_filter, in_items}
 use Rattle.rs_bind.specs.Conditions.{condition_over, conjunct_in, conjunct_of, conjuncts_of, few_parts, filter_of, named_columns, own_places, parts_of_and}
 use Rattle.rs_bind.specs.InOrder.{Each, FirstRefused}
 use Rattle.rs_bind.specs.InOrder as in_order
-use Rattle.rs_bind.specs.Names.{or_fault}
 use Rattle.rs_bind.specs.Queries.{Unranked, unranked_of}
-use Rattle.rs_bind.specs.Rules.{Types}
 use Rattle.rs_bind.specs.Sources.{Found, Source, alias_of, all_columns_from, column_in, entries_behind, entries_of, items_behind, items_of, sources_of}
-use Rattle.rs_bind.specs.Typing.{Typed, Number, Words, Truth, span_of, span_of_column, as_truth, type_of}
 use Rattle.rs_bind.proofs.FilterFacts.{few_parts-fit, few_parts-full, one_too_many}
 use Rattle.rs_bind.proofs.PartFacts.{HaveConjuncts-typed}
 use Rattle.rs_bind.proofs.InOrderFacts.{Each-steps, FirstRefused-steps, Follows, steps, steps-Each, steps-FirstRefused}
-use Rattle.rs_bind.proofs.ResultFacts.{Ok-else, same_Ok, well}
-use Rattle.rs_bind.proofs.RuleFacts.{refused_by_rules, typed_by_rules}
-use Rattle.rs_bind.proofs.StepFacts.{Err-steps, Ok-or_fault, Ok-steps, Ok-test}
 use Rattle.rs_bind.proofs.TestFacts.{Err-else, Err-or_fault, Err-test, apart-test, equal-test, is-apart, is-equal}
 
 pub length-map : {A B : Type 0} (f : A → B) (xs : List A) → length (map f xs) ≡ length xs

@@ -18,17 +18,17 @@ use Rattle.rs_catalog.specs.Catalogue.{Catalogue, NamedTable, number_named}
 use Rattle.rs_catalog.specs.declared.room.What.TheVariants as what
 use Rattle.rs_query.specs.declared.block.Block.{Block}
 use Rattle.rs_query.specs.WellFormed.{IsColumn, IsFromEntry, column_kind}
-use Rattle.rs_bind.specs.declared.fault.BindFault.TheVariants.{At}
-use Rattle.rs_bind.specs.declared.fault.Why.TheVariants.{LimitOf, NameTwice, NoTable}
+use Rattle.rs_typing.specs.declared.fault.BindFault.TheVariants.{At}
+use Rattle.rs_typing.specs.declared.fault.Why.TheVariants.{LimitOf, NameTwice, NoTable}
+use Rattle.rs_typing.specs.Missing.{or_fault}
+use Rattle.rs_typing.specs.Parameters.{placed}
+use Rattle.rs_typing.specs.Typing.{span_of_column}
+use Rattle.rs_typing.proofs.EachFacts.{each-append, each-then}
+use Rattle.rs_typing.proofs.ResultFacts.{Ok-else, same_Ok}
+use Rattle.rs_typing.proofs.StepFacts.{Ok-steps, Ok-test, Ok-or_fault}
 use Rattle.rs_bind.specs.Indexes.{columns_in, is_of_entry}
-use Rattle.rs_bind.specs.Names.{or_fault}
-use Rattle.rs_bind.specs.Predicates.{placed}
 use Rattle.rs_bind.specs.Sources.{Found, alias_of, all_columns_from, column_in, columns_from, entries_behind, entries_of, items_behind, items_of, matches_from, most_items, sources_of, the_only}
-use Rattle.rs_bind.specs.Typing.{span_of_column}
-use Rattle.rs_bind.proofs.EachFacts.{each-append, each-then}
 use Rattle.rs_bind.proofs.PlaceFacts.{kind-placed, slice_get-numbered}
-use Rattle.rs_bind.proofs.ResultFacts.{Ok-else, same_Ok}
-use Rattle.rs_bind.proofs.StepFacts.{Ok-steps, Ok-test, Ok-or_fault}
 
 -- the kind of a column of one of some entries, counted from 0
 abbrev pub kind_at : Catalogue → List (ℕ × List ℕ) → ℕ → ℕ → Option Kind

@@ -13,16 +13,16 @@ use Rattle.rs_catalog.specs.Catalogue.{Catalogue}
 use Rattle.rs_query.specs.declared.block.Block.{Block}
 use Rattle.rs_query.specs.Conjuncts.{ConjunctDef}
 use Rattle.rs_query.specs.WellFormed.{IsColumn, IsConjunct, has_kind}
-use Rattle.rs_bind.specs.declared.fault.BindFault.{BindFault}
+use Rattle.rs_typing.specs.declared.fault.BindFault.{BindFault}
+use Rattle.rs_typing.specs.Typing.{Scope, Typed, Number, Words, Truth, span_of, as_truth, type_of}
+use Rattle.rs_typing.proofs.ResultFacts.{same_Ok, well}
+use Rattle.rs_typing.proofs.StepFacts.{Ok-steps}
+use Rattle.rs_typing.proofs.UsesFacts.{type_of-uses}
 use Rattle.rs_bind.specs.Conditions.{condition_over, conjunct_in, conjunct_of, conjuncts_in, conjuncts_of, few_parts, filter_of, most_conjuncts, named_columns, own_places, parts_of_and, places_in}
 use Rattle.rs_bind.specs.Narrow.{IsNarrow}
 use Rattle.rs_bind.specs.Sources.{Source, sources_of}
-use Rattle.rs_bind.specs.Typing.{Scope, Typed, Number, Words, Truth, span_of, as_truth, type_of}
 use Rattle.rs_bind.proofs.ColumnFacts.{IsColumn-found, column_in-found}
 use Rattle.rs_bind.proofs.ReferenceFacts.{AreDistinct-named, IsPlace-found, each-named-column}
-use Rattle.rs_bind.proofs.ResultFacts.{same_Ok, well}
-use Rattle.rs_bind.proofs.StepFacts.{Ok-steps}
-use Rattle.rs_bind.proofs.UsesFacts.{type_of-uses}
 
 -- few parts
 few-parts : (parts : List Expression) → few_parts parts ≡ Ok tt → length parts ≤ 32

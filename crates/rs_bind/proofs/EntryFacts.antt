@@ -10,10 +10,10 @@ use Rattle.rs_table.specs.Appended.{appended}
 use Rattle.rs_value.specs.Results.{◌>>=◌}
 use Rattle.rs_catalog.specs.Catalogue.{Catalogue, number_named}
 use Rattle.rs_catalog.specs.declared.room.What.TheVariants as what
-use Rattle.rs_bind.specs.declared.fault.BindFault.{BindFault}
-use Rattle.rs_bind.specs.declared.fault.BindFault.TheVariants.{At}
-use Rattle.rs_bind.specs.declared.fault.Why.TheVariants.{LimitOf, NameTwice, NoTable}
-use Rattle.rs_bind.specs.Names.{or_fault}
+use Rattle.rs_typing.specs.declared.fault.BindFault.{BindFault}
+use Rattle.rs_typing.specs.declared.fault.BindFault.TheVariants.{At}
+use Rattle.rs_typing.specs.declared.fault.Why.TheVariants.{LimitOf, NameTwice, NoTable}
+use Rattle.rs_typing.specs.Missing.{or_fault}
 use Rattle.rs_bind.specs.Sources.{alias_of, entries_behind, entries_of}
 
 -- one more element

@@ -6,14 +6,14 @@ use Rattle.rs_value.specs.Answer.{Gives}
 use Rattle.rs_syntax.specs.Syntax.{Expression}
 use Rattle.rs_value.specs.Results.{◌>>=◌}
 use Rattle.rs_query.specs.Conjuncts.{ConjunctDef}
-use Rattle.rs_bind.specs.declared.fault.BindFault.{BindFault}
-use Rattle.rs_bind.specs.declared.fault.BindFault.TheVariants.{At, Memory}
-use Rattle.rs_bind.specs.declared.fault.Why.TheVariants.{LimitOf}
+use Rattle.rs_typing.specs.declared.fault.BindFault.{BindFault}
+use Rattle.rs_typing.specs.declared.fault.BindFault.TheVariants.{At, Memory}
+use Rattle.rs_typing.specs.declared.fault.Why.TheVariants.{LimitOf}
+use Rattle.rs_typing.specs.Typing.{span_of}
+use Rattle.rs_typing.proofs.ResultFacts.{same_Ok, well}
 use Rattle.rs_bind.specs.Conditions.{conjunct_in, conjuncts_of, few_parts}
 use Rattle.rs_bind.specs.Sources.{Source}
-use Rattle.rs_bind.specs.Typing.{span_of}
 use Rattle.rs_bind.proofs.PartFacts.{conjuncts_of-append}
-use Rattle.rs_bind.proofs.ResultFacts.{same_Ok, well}
 
 -- a part that is one too many
 abbrev pub one_too_many : Expression → BindFault

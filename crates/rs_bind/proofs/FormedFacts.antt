@@ -13,20 +13,20 @@ use Rattle.rs_query.specs.WellFormed.{AreSetSides, HasOutputs, IsBlock, IsColumn
 use Rattle.rs_query.specs.declared.term.Term.{Term}
 use Rattle.rs_query.specs.declared.query.Query.{Query}
 use Rattle.rs_query.specs.declared.query.Query.TheVariants.{One, Set}
-use Rattle.rs_bind.specs.declared.fault.BindFault.{BindFault}
-use Rattle.rs_bind.specs.declared.fault.BindFault.TheVariants.{At, Memory}
-use Rattle.rs_bind.specs.declared.fault.Why.TheVariants.{SetColumnsDiffer}
+use Rattle.rs_typing.specs.declared.fault.BindFault.{BindFault}
+use Rattle.rs_typing.specs.declared.fault.BindFault.TheVariants.{At, Memory}
+use Rattle.rs_typing.specs.declared.fault.Why.TheVariants.{SetColumnsDiffer}
 use Rattle.rs_bind.specs.Conditions.{filter_of}
 use Rattle.rs_bind.specs.Narrow.{HasNarrowConjuncts, HaveNarrowConjuncts}
 use Rattle.rs_bind.specs.Queries.{Unranked, agree, are_outputs, block_columns, bound_query, first_item, bound_limit, output_names, needed_by, one_of, output_columns, set_of, terms_of, unranked_of, with_terms}
 use Rattle.rs_bind.specs.Sources.{Found, entries_of, items_of, sources_of}
 use Rattle.rs_syntax.specs.Written.{IsWrittenBlock, IsWrittenQuery, IsWrittenTerm}
+use Rattle.rs_typing.proofs.EachFacts.{each-all, each-map, each-then}
+use Rattle.rs_typing.proofs.ResultFacts.{same_Ok, well}
+use Rattle.rs_typing.proofs.StepFacts.{Ok-steps, Ok-test}
 use Rattle.rs_bind.proofs.ColumnFacts.{AreEntries, AreItems, IsColumn-found, IsFound, entries_of-formed, items_of-found}
 use Rattle.rs_bind.proofs.ConjunctFacts.{AreConjuncts, filter_of-formed}
-use Rattle.rs_bind.proofs.EachFacts.{each-all, each-map, each-then}
-use Rattle.rs_bind.proofs.ResultFacts.{same_Ok, well}
 use Rattle.rs_bind.proofs.SameTermFacts.{AreArguments-output, same-kinds, terms_of-same}
-use Rattle.rs_bind.proofs.StepFacts.{Ok-steps, Ok-test}
 use Rattle.rs_bind.proofs.TermFacts.{AreArguments-block, AreNeeded, IsLimit-limit_of, terms_of-formed}
 
 -- what the parts of a block are, without its terms

@@ -2,9 +2,9 @@
 use Rattle.std.proofs.Common.{◌≡◌, List, [], ◌∷◌, refl, subst, ap, ◌∙◌, inl, inr}
 use Rattle.std.specs.Prelude.{Result, Ok, Err}
 use Rattle.rs_value.specs.Results.{◌>>=◌}
-use Rattle.rs_bind.specs.declared.fault.BindFault.{BindFault}
+use Rattle.rs_typing.specs.declared.fault.BindFault.{BindFault}
+use Rattle.rs_typing.proofs.StepFacts.{Ok-steps, Err-steps}
 use Rattle.rs_bind.specs.InOrder.{Each, FirstRefused, none, and, here, behind}
-use Rattle.rs_bind.proofs.StepFacts.{Ok-steps, Err-steps}
 
 -- a step that may fail gives what the rules say
 pub record Follows {A B : Type 0} (Is : List B → A → B → Type 0) (Refused : List B → A → BindFault → Type 0) (step : List B → A → Result B BindFault) : Type 0 where

@@ -24,16 +24,16 @@ use Rattle.rs_catalog.specs.declared.index.IndexDef.{IndexDef}
 use Rattle.rs_catalog.specs.Indexes.{IsIndex, arg_fits, args_fit}
 use Rattle.rs_catalog.specs.declared.index.BoundArg.{BoundArg}
 use Rattle.rs_catalog.specs.declared.index.BoundArg.TheVariants as bound
-use Rattle.rs_bind.specs.declared.fault.BindFault.{BindFault}
-use Rattle.rs_bind.specs.declared.fault.BindFault.TheVariants.{At, Memory}
-use Rattle.rs_bind.specs.declared.fault.Why.TheVariants.{ConstantTerm, NoColumn, NoPredicate, NoTable, WrongCount, WrongKind}
+use Rattle.rs_typing.specs.declared.fault.BindFault.{BindFault}
+use Rattle.rs_typing.specs.declared.fault.BindFault.TheVariants.{At, Memory}
+use Rattle.rs_typing.specs.declared.fault.Why.TheVariants.{ConstantTerm, NoColumn, NoPredicate, NoTable, WrongCount, WrongKind}
+use Rattle.rs_typing.specs.Missing.{or_fault}
+use Rattle.rs_typing.specs.Parameters.{placed}
+use Rattle.rs_typing.specs.Typing.{span_of_column}
 use Rattle.rs_bind.specs.Indexes.{arg_of, args_of, columns_in, entry_column, in_first_entry, index_def_of, is_column, is_of_entry, of_kind, params_in, term_args}
-use Rattle.rs_bind.specs.Names.{or_fault}
-use Rattle.rs_bind.specs.Predicates.{placed}
-use Rattle.rs_bind.specs.Typing.{span_of_column}
 use Rattle.rs_syntax.specs.Written.{IsWritten, IsWrittenArg, AreWrittenArgs}
+use Rattle.rs_typing.proofs.StepFacts.{Ok-steps, Ok-test, Ok-or_fault}
 use Rattle.rs_bind.proofs.PlaceFacts.{kind-placed, slice_get-numbered}
-use Rattle.rs_bind.proofs.StepFacts.{Ok-steps, Ok-test, Ok-or_fault}
 
 -- a column of the entry, of the kind that is wanted
 fits-found : (columns : List Column) (wanted : Kind) (name : List ℕ) (found : ℕ × Kind) (made : BoundArg) → placed name columns ≡ Some found

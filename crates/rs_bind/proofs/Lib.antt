@@ -1,11 +1,9 @@
 mod WorkedIndexes
 mod WorkedNames
 mod WorkedQueries
-mod WorkedTyping
 pub mod ArgFacts
 pub mod ColumnFacts
 pub mod ConjunctFacts
-pub mod EachFacts
 pub mod EntryFacts
 pub mod FilterFacts
 pub mod FormedFacts
@@ -20,17 +18,11 @@ pub mod MaskFacts
 pub mod NameFacts
 pub mod OutputFacts
 pub mod PlaceFacts
-pub mod ResultFacts
-pub mod RuleFacts
 pub mod SameTermFacts
 pub mod SourceFacts
-pub mod StepFacts
 pub mod TermFacts
 pub mod TermSteps
-pub mod TypingFacts
 pub mod UnrankedFacts
-pub mod UsesFacts
 pub mod PartFacts
 pub mod ReferenceFacts
-pub mod RetypingFacts
 pub mod WhereFacts

@@ -10,9 +10,9 @@ use Rattle.rs_syntax.specs.declared.name.Name.{Name}
 use Rattle.rs_table.specs.Appended.{appended}
 use Rattle.rs_table.specs.Column.{Column, is_named}
 use Rattle.rs_value.specs.Results.{◌>>=◌}
-use Rattle.rs_bind.specs.declared.fault.BindFault.{BindFault}
-use Rattle.rs_bind.specs.declared.fault.BindFault.TheVariants.{At}
-use Rattle.rs_bind.specs.declared.fault.Why.TheVariants.{LimitOf, NameTwice}
+use Rattle.rs_typing.specs.declared.fault.BindFault.{BindFault}
+use Rattle.rs_typing.specs.declared.fault.BindFault.TheVariants.{At}
+use Rattle.rs_typing.specs.declared.fault.Why.TheVariants.{LimitOf, NameTwice}
 use Rattle.rs_bind.specs.Names.{named_behind}
 
 -- the names of columns, the last one first, before other names

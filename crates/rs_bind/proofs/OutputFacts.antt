@@ -8,9 +8,9 @@ use Rattle.rs_lex.specs.declared.token.Span.{Span}
 use Rattle.rs_syntax.specs.declared.name.ColRef.{ColRef}
 use Rattle.rs_syntax.specs.declared.name.Name.{Name}
 use Rattle.rs_value.specs.Results.{◌>>=◌}
-use Rattle.rs_bind.specs.declared.fault.BindFault.{BindFault}
-use Rattle.rs_bind.specs.declared.fault.BindFault.TheVariants.{At}
-use Rattle.rs_bind.specs.declared.fault.Why.TheVariants.{Ambiguous}
+use Rattle.rs_typing.specs.declared.fault.BindFault.{BindFault}
+use Rattle.rs_typing.specs.declared.fault.BindFault.TheVariants.{At}
+use Rattle.rs_typing.specs.declared.fault.Why.TheVariants.{Ambiguous}
 use Rattle.rs_bind.specs.Queries.{IsEntryArg, as_argument, called, output_columns}
 use Rattle.rs_bind.specs.Sources.{Found, the_only}
 use Rattle.rs_bind.specs.Terms.{IsEntryItem}

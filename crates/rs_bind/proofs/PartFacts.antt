@@ -9,14 +9,15 @@ use Rattle.rs_value.specs.Results.{◌>>=◌}
 use Rattle.rs_expr.specs.Formulas.{Condition, Both}
 use Rattle.rs_expr.specs.Meaning.{holds}
 use Rattle.rs_query.specs.Conjuncts.{ConjunctDef}
-use Rattle.rs_bind.specs.declared.fault.BindFault.{BindFault}
-use Rattle.rs_bind.specs.Conditions.{conjunct_in, conjunct_of, conjuncts_of, named_columns, parts_of_and, places_in, references_of}
+use Rattle.rs_typing.specs.declared.fault.BindFault.{BindFault}
+use Rattle.rs_typing.specs.References.{references_of}
+use Rattle.rs_typing.specs.Typing.{Scope, Typed, Number, Words, Truth, rule, span_of, as_truth, two, type_of}
+use Rattle.rs_typing.proofs.EachFacts.{each-then}
+use Rattle.rs_typing.proofs.ResultFacts.{same_Ok, well}
+use Rattle.rs_typing.proofs.RetypingFacts.{IsBacked, condition_with, type_of-with}
+use Rattle.rs_bind.specs.Conditions.{conjunct_in, conjunct_of, conjuncts_of, named_columns, parts_of_and, places_in}
 use Rattle.rs_bind.specs.Sources.{Source}
-use Rattle.rs_bind.specs.Typing.{Scope, Typed, Number, Words, Truth, rule, span_of, as_truth, two, type_of}
-use Rattle.rs_bind.proofs.EachFacts.{each-then}
 use Rattle.rs_bind.proofs.ReferenceFacts.{IsBacked-moved, IsNamed, each-reference-named, moved}
-use Rattle.rs_bind.proofs.ResultFacts.{same_Ok, well}
-use Rattle.rs_bind.proofs.RetypingFacts.{IsBacked, condition_with, type_of-with}
 
 -- the conjuncts of the parts of two conditions
 and_nothing : (r : Result (List ConjunctDef) BindFault) → (r >>= λ made. well made) ≡ r

@@ -11,7 +11,7 @@ use Rattle.std.proofs.lemmas.Bool.Decides.{nat_tests}
 use Rattle.rs_value.specs.declared.kind.Kind.{Kind}
 use Rattle.rs_value.specs.declared.kind.Kind.TheVariants as kind
 use Rattle.rs_table.specs.Column.{Column, is_named, place_of}
-use Rattle.rs_bind.specs.Predicates.{placed, placed_from}
+use Rattle.rs_typing.specs.Parameters.{placed, placed_from}
 
 -- a column has the name, and none before it
 placed_from-found : (name : List ℕ) (columns : List Column) (d : Column) (from place : ℕ) → place < length columns

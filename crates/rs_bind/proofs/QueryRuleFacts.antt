@@ -21,26 +21,27 @@ use Rattle.rs_query.specs.WellFormed.{argument_columns, entries_mask}
 use Rattle.rs_query.specs.declared.query.Query.{Query}
 use Rattle.rs_query.specs.declared.query.Query.TheVariants.{One, Set}
 use Rattle.rs_query.specs.declared.term.Term.{Term}
-use Rattle.rs_bind.specs.declared.fault.BindFault.{BindFault}
-use Rattle.rs_bind.specs.declared.fault.BindFault.TheVariants.{At}
-use Rattle.rs_bind.specs.declared.fault.Why.TheVariants.{DistinctNeedsOutput, LimitOf, NoPredicate, SetColumnsDiffer, WrongKind}
+use Rattle.rs_typing.specs.declared.fault.BindFault.{BindFault}
+use Rattle.rs_typing.specs.declared.fault.BindFault.TheVariants.{At}
+use Rattle.rs_typing.specs.declared.fault.Why.TheVariants.{DistinctNeedsOutput, LimitOf, NoPredicate, SetColumnsDiffer, WrongKind}
+use Rattle.rs_typing.specs.Missing.{or_fault}
+use Rattle.rs_typing.specs.Typing.{span_of_column}
+use Rattle.rs_typing.proofs.EachFacts.{both_true, parts_true}
+use Rattle.rs_typing.proofs.ResultFacts.{Ok-else, same_Ok, well}
+use Rattle.rs_typing.proofs.StepFacts.{Err-steps, Ok-or_fault, Ok-steps, Ok-test}
 use Rattle.rs_bind.specs.ArgumentRules.{IsWithin, TypesArgs}
 use Rattle.rs_bind.specs.BlockRules.{TypesBlock}
 use Rattle.rs_bind.specs.Indexes.{Entries, arg_of, args_of, is_column, of_kind, params_in, term_args}
 use Rattle.rs_bind.specs.InOrder.{Each, none, and}
-use Rattle.rs_bind.specs.Names.{number_in, or_fault}
+use Rattle.rs_bind.specs.Names.{number_in}
 use Rattle.rs_bind.specs.Queries.{Unranked, agree, are_outputs, as_argument, bound_query, called, first_item, bound_limit, most_rows, most_weight, output_names, needed_by, one_of, output_columns, set_of, terms_behind, terms_of, unranked_of, with_terms}
 use Rattle.rs_bind.specs.QueryRules.{HasPredicate, RefusedLimit, RefusedQuery, RefusedTerm, RefusedTerms, TypesLimit, TypesQuery, TypesTerm, TypesTerms, columns_in, outputs_in}
 use Rattle.rs_bind.specs.QueryRules.{too_many, wrong_weight, no_predicate, in_args, no_output, no_limit, within, outside, one_block, two_blocks, in_left, in_right, differ, in_terms, in_set_terms, in_limit, in_set_limit}
 use Rattle.rs_bind.specs.Sources.{Found, the_only}
-use Rattle.rs_bind.specs.Typing.{span_of_column}
 use Rattle.rs_bind.proofs.ArgumentRuleFacts.{args-are, args-typed, outside-is, outside-refused, term_args-are, term_args-are_refused, term_args-refused, term_args-typed, within-is, within-typed}
 use Rattle.rs_bind.proofs.BlockRuleFacts.{block-is, block-is_refused, block-refused, block-typed}
 use Rattle.rs_bind.proofs.ColumnFacts.{the_only-is}
-use Rattle.rs_bind.proofs.EachFacts.{both_true, parts_true}
 use Rattle.rs_bind.proofs.InOrderFacts.{Each-steps, FirstRefused-steps, Follows, steps, steps-Each, steps-FirstRefused}
-use Rattle.rs_bind.proofs.ResultFacts.{Ok-else, same_Ok, well}
-use Rattle.rs_bind.proofs.StepFacts.{Err-steps, Ok-or_fault, Ok-steps, Ok-test}
 use Rattle.rs_bind.proofs.TermFacts.{same-kind, term_with}
 use Rattle.rs_bind.proofs.TestFacts.{Err-else, Err-or_fault, Err-test, apart-test, equal-test, is-apart, is-equal}
 

@@ -17,20 +17,21 @@ use Rattle.rs_syntax.specs.Syntax.{Expression}
 use Rattle.rs_value.specs.Results.{◌>>=◌}
 use Rattle.rs_catalog.specs.Catalogue.{Catalogue}
 use Rattle.rs_query.specs.WellFormed.{AreDistinct, same_column}
-use Rattle.rs_bind.specs.declared.fault.BindFault.{BindFault}
-use Rattle.rs_bind.specs.declared.fault.BindFault.TheVariants.{At}
-use Rattle.rs_bind.specs.declared.fault.Why.TheVariants.{NoColumn}
-use Rattle.rs_bind.specs.Conditions.{named_columns, places_in, references_of, with_column, with_found, with_references}
+use Rattle.rs_typing.specs.declared.fault.BindFault.{BindFault}
+use Rattle.rs_typing.specs.declared.fault.BindFault.TheVariants.{At}
+use Rattle.rs_typing.specs.declared.fault.Why.TheVariants.{NoColumn}
+use Rattle.rs_typing.specs.References.{references_of}
+use Rattle.rs_typing.specs.Missing.{or_fault}
+use Rattle.rs_typing.specs.Typing.{span_of_column}
+use Rattle.rs_typing.proofs.EachFacts.{both_true, each-append, each-map, each-then, parts_true}
+use Rattle.rs_typing.proofs.ResultFacts.{same_Ok, well}
+use Rattle.rs_typing.proofs.RetypingFacts.{IsBacked}
+use Rattle.rs_typing.proofs.StepFacts.{Ok-or_fault, Ok-steps}
+use Rattle.rs_bind.specs.Conditions.{named_columns, places_in, with_column, with_found, with_references}
 use Rattle.rs_bind.specs.Indexes.{columns_in}
-use Rattle.rs_bind.specs.Names.{or_fault}
 use Rattle.rs_bind.specs.Sources.{Found, Source, column_in, sources_of}
 use Rattle.rs_bind.specs.Terms.{IsEntryColumn}
-use Rattle.rs_bind.specs.Typing.{span_of_column}
-use Rattle.rs_bind.proofs.EachFacts.{both_true, each-append, each-map, each-then, parts_true}
-use Rattle.rs_bind.proofs.ResultFacts.{same_Ok, well}
-use Rattle.rs_bind.proofs.RetypingFacts.{IsBacked}
 use Rattle.rs_bind.proofs.SourceFacts.{IsWithin, column_in-within}
-use Rattle.rs_bind.proofs.StepFacts.{Ok-or_fault, Ok-steps}
 
 -- columns are the same where they are so
 pub is_same_column : (a b : ℕ × ℕ) → same_column a b ≡ true → a ≡ b

@@ -20,15 +20,15 @@ use Rattle.rs_catalog.specs.declared.index.BoundArg.TheVariants as bound
 use Rattle.rs_query.specs.declared.block.Block.{Block}
 use Rattle.rs_query.specs.declared.term.Term.{Term}
 use Rattle.rs_query.specs.WellFormed.{IsArg, AreSameArg, AreSameArgs, AreSameTerm, AreSameTerms, column_kind}
-use Rattle.rs_bind.specs.declared.fault.BindFault.TheVariants.{At}
-use Rattle.rs_bind.specs.declared.fault.Why.TheVariants.{ConstantTerm, WrongCount, WrongKind}
+use Rattle.rs_typing.specs.declared.fault.BindFault.TheVariants.{At}
+use Rattle.rs_typing.specs.declared.fault.Why.TheVariants.{ConstantTerm, WrongCount, WrongKind}
+use Rattle.rs_typing.specs.Typing.{span_of_column}
+use Rattle.rs_typing.proofs.EachFacts.{parts_true}
+use Rattle.rs_typing.proofs.StepFacts.{Ok-steps, Ok-test}
 use Rattle.rs_bind.specs.Indexes.{Entries, arg_of, args_of, is_column, of_kind, params_in, term_args}
 use Rattle.rs_bind.specs.Queries.{agree, as_argument, called, output_columns, terms_behind, terms_of}
 use Rattle.rs_bind.specs.Sources.{Found, the_only}
-use Rattle.rs_bind.specs.Typing.{span_of_column}
 use Rattle.rs_bind.proofs.ColumnFacts.{IsFound, the_only-is}
-use Rattle.rs_bind.proofs.EachFacts.{parts_true}
-use Rattle.rs_bind.proofs.StepFacts.{Ok-steps, Ok-test}
 use Rattle.rs_bind.proofs.TermFacts.{AreArguments, IsArg-found, IsMade-terms, same-kind, term_with}
 
 -- an output column that a reference stands for, by its name

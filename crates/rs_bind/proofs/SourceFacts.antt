@@ -9,9 +9,9 @@ use Rattle.rs_syntax.specs.declared.name.ColRef.{ColRef}
 use Rattle.rs_table.specs.Column.{Column, is_named}
 use Rattle.rs_value.specs.Results.{◌>>=◌}
 use Rattle.rs_catalog.specs.Catalogue.{Catalogue}
-use Rattle.rs_bind.specs.declared.fault.BindFault.{BindFault}
+use Rattle.rs_typing.specs.declared.fault.BindFault.{BindFault}
+use Rattle.rs_typing.specs.Parameters.{placed, placed_from}
 use Rattle.rs_bind.specs.Indexes.{columns_in, is_of_entry}
-use Rattle.rs_bind.specs.Predicates.{placed, placed_from}
 use Rattle.rs_bind.specs.Queries.{IsEntryArg, as_argument, block_columns}
 use Rattle.rs_bind.specs.Sources.{Found, Source, column_in, matches_from, sources_of, the_only}
 

@@ -16,23 +16,25 @@ use Rattle.rs_catalog.specs.Catalogue.{Catalogue, number_named}
 use Rattle.rs_catalog.specs.declared.index.BoundArg.{BoundArg}
 use Rattle.rs_catalog.specs.declared.index.IndexDef.{IndexDef}
 use Rattle.rs_catalog.specs.declared.room.What.TheVariants as what
-use Rattle.rs_bind.specs.declared.fault.BindFault.{BindFault}
-use Rattle.rs_bind.specs.declared.fault.BindFault.TheVariants.{At}
-use Rattle.rs_bind.specs.declared.fault.Why.TheVariants.{LimitOf, NameTwice, NoPredicate, NoTable, WrongKind}
+use Rattle.rs_typing.specs.declared.fault.BindFault.{BindFault}
+use Rattle.rs_typing.specs.declared.fault.BindFault.TheVariants.{At}
+use Rattle.rs_typing.specs.declared.fault.Why.TheVariants.{LimitOf, NameTwice, NoPredicate, NoTable, WrongKind}
+use Rattle.rs_typing.specs.Missing.{or_fault}
+use Rattle.rs_typing.specs.Parameters.{formula_in, parameter_in}
+use Rattle.rs_typing.specs.Typing.{Typed, Number, Words, Truth, as_number, span_of, type_of}
+use Rattle.rs_typing.proofs.ResultFacts.{Ok-else, same_Ok, well}
+use Rattle.rs_typing.proofs.RuleFacts.{refused_by_rules, typed_by_rules}
+use Rattle.rs_typing.proofs.StepFacts.{Err-steps, Ok-or_fault, Ok-steps}
 use Rattle.rs_bind.specs.ArgumentRules.{IsOutside, IsWithin}
 use Rattle.rs_bind.specs.Indexes.{index_def_of, params_in, term_args}
-use Rattle.rs_bind.specs.Names.{named, named_behind, number_in, or_fault}
-use Rattle.rs_bind.specs.Predicates.{cost_of, formula_in, parameter_in, predicate_of}
+use Rattle.rs_bind.specs.Names.{named, named_behind, number_in}
+use Rattle.rs_bind.specs.Predicates.{cost_of, predicate_of}
 use Rattle.rs_bind.specs.Queries.{count_of, most_rows}
 use Rattle.rs_bind.specs.StatementRules.{IsNoNumber, RefusedCost, RefusedIndex, RefusedName, RefusedNames, RefusedPredicate, TypesCost, TypesIndex, TypesName, TypesNames, TypesPredicate, index_columns}
 use Rattle.rs_bind.specs.StatementRules.{too_many, twice, no_cost, within, outside, made, in_params, wrong_max, wrong_cost, in_formula, no_number, no_table, no_predicate, in_args}
-use Rattle.rs_bind.specs.Typing.{Typed, Number, Words, Truth, as_number, span_of, type_of}
 use Rattle.rs_bind.proofs.ArgumentRuleFacts.{outside-is, outside-refused, term_args-are, term_args-are_refused, term_args-refused, term_args-typed, within-is, within-typed}
 use Rattle.rs_bind.proofs.BlockRuleFacts.{any-map, length-map}
 use Rattle.rs_bind.proofs.InOrderFacts.{Each-steps, FirstRefused-steps, Follows, steps, steps-Each, steps-FirstRefused}
-use Rattle.rs_bind.proofs.ResultFacts.{Ok-else, same_Ok, well}
-use Rattle.rs_bind.proofs.RuleFacts.{refused_by_rules, typed_by_rules}
-use Rattle.rs_bind.proofs.StepFacts.{Err-steps, Ok-or_fault, Ok-steps}
 use Rattle.rs_bind.proofs.TestFacts.{Err-else, Err-or_fault, apart-test, equal-test, is-apart, is-equal}
 
 -- names with kinds

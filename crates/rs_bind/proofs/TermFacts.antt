@@ -20,18 +20,19 @@ use Rattle.rs_catalog.specs.declared.room.What.TheVariants as what
 use Rattle.rs_query.specs.declared.block.Block.{Block}
 use Rattle.rs_query.specs.declared.term.Term.{Term}
 use Rattle.rs_query.specs.WellFormed.{AreArgs, IsArg, IsLimit, IsTerm, argument_columns, entries_mask}
-use Rattle.rs_bind.specs.declared.fault.BindFault.TheVariants.{At}
-use Rattle.rs_bind.specs.declared.fault.Why.TheVariants.{ConstantTerm, DistinctNeedsOutput, LimitOf, NoPredicate, WrongCount, WrongKind}
+use Rattle.rs_typing.specs.declared.fault.BindFault.TheVariants.{At}
+use Rattle.rs_typing.specs.declared.fault.Why.TheVariants.{ConstantTerm, DistinctNeedsOutput, LimitOf, NoPredicate, WrongCount, WrongKind}
+use Rattle.rs_typing.specs.Missing.{or_fault}
+use Rattle.rs_typing.specs.Typing.{span_of_column}
 use Rattle.rs_bind.specs.Indexes.{Entries, arg_of, args_of, is_column, of_kind, params_in, term_args}
-use Rattle.rs_bind.specs.Names.{number_in, or_fault}
+use Rattle.rs_bind.specs.Names.{number_in}
 use Rattle.rs_bind.specs.Queries.{are_outputs, as_argument, block_columns, bound_limit, max_in, most_rows, most_weight, terms_behind, terms_of}
 use Rattle.rs_bind.specs.Sources.{Found, column_in, sources_of}
-use Rattle.rs_bind.specs.Typing.{span_of_column}
 use Rattle.rs_syntax.specs.Written.{AreWrittenArgs, IsWrittenArg, IsWrittenTerm}
+use Rattle.rs_typing.proofs.ResultFacts.{Ok-else, same_Ok, well}
+use Rattle.rs_typing.proofs.StepFacts.{Ok-steps, Ok-test, Ok-or_fault}
 use Rattle.rs_bind.proofs.ColumnFacts.{IsColumn-found, IsFound, column_in-found}
 use Rattle.rs_bind.proofs.PlaceFacts.{slice_get-numbered}
-use Rattle.rs_bind.proofs.ResultFacts.{Ok-else, same_Ok, well}
-use Rattle.rs_bind.proofs.StepFacts.{Ok-steps, Ok-test, Ok-or_fault}
 
 -- a number in its limits
 number_in-within : (least most : ℕ) (number : ℤ × Span) (n : ℕ) → number_in least most number ≡ Ok n → (least ≤ n) × (n ≤ most)

@@ -2,8 +2,8 @@
 use Rattle.std.proofs.Common.{ℕ, ◌≡◌, ◌≢◌, ◌==◌, Bool, true, false, refl, inl, inr, arith}
 use Rattle.std.specs.Prelude.{◌⊎◌, Option, Some, None, Result, Err, if◌then◌else◌}
 use Rattle.std.proofs.lemmas.Bool.Decides.{nat_tests}
-use Rattle.rs_bind.specs.declared.fault.BindFault.{BindFault}
-use Rattle.rs_bind.specs.Names.{or_fault}
+use Rattle.rs_typing.specs.declared.fault.BindFault.{BindFault}
+use Rattle.rs_typing.specs.Missing.{or_fault}
 
 -- numbers and their test
 pub is-equal : (a b : ℕ) → (a == b) ≡ true → a ≡ b

@@ -15,16 +15,16 @@ use Rattle.rs_table.specs.Column.{Column}
 use Rattle.rs_value.specs.Results.{◌>>=◌}
 use Rattle.rs_expr.specs.Uses.{is_kind}
 use Rattle.rs_catalog.specs.Catalogue.{Catalogue}
-use Rattle.rs_bind.specs.declared.fault.BindFault.{BindFault}
-use Rattle.rs_bind.specs.declared.fault.BindFault.TheVariants.{At, Memory}
-use Rattle.rs_bind.specs.declared.fault.Why.TheVariants.{LimitOf}
+use Rattle.rs_typing.specs.declared.fault.BindFault.{BindFault}
+use Rattle.rs_typing.specs.declared.fault.BindFault.TheVariants.{At, Memory}
+use Rattle.rs_typing.specs.declared.fault.Why.TheVariants.{LimitOf}
+use Rattle.rs_typing.specs.Typing.{span_of_column}
+use Rattle.rs_typing.proofs.StepFacts.{Ok-steps, Ok-test}
 use Rattle.rs_bind.specs.Indexes.{columns_in}
 use Rattle.rs_bind.specs.Queries.{Unranked, agree, name_of, output_names}
 use Rattle.rs_bind.specs.Sources.{Found, Source, all_columns_from, column_in, columns_from, items_behind, items_of, matches_from, most_items, sources_of, the_only}
 use Rattle.rs_bind.specs.Terms.{IsEntryItem, IsItemOf}
-use Rattle.rs_bind.specs.Typing.{span_of_column}
 use Rattle.rs_bind.proofs.SourceFacts.{match_of, match_of-within, matched, matches_from-cons}
-use Rattle.rs_bind.proofs.StepFacts.{Ok-steps, Ok-test}
 
 All-append : {A : Type 0} (P : A → Type 0) (xs ys : List A) → AllByRecursion P xs → AllByRecursion P ys → AllByRecursion P (xs ++ ys)
 All-append P [] ys all others = others

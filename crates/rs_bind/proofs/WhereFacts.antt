@@ -10,18 +10,18 @@ use Rattle.rs_query.specs.Conjuncts.{ConjunctDef}
 use Rattle.rs_query.specs.Meaning.{column_value, conjunct_holds}
 use Rattle.rs_query.specs.declared.block.Block.{Block}
 use Rattle.rs_query.specs.declared.term.Term.{Term}
+use Rattle.rs_typing.specs.Rules.{Types}
+use Rattle.rs_typing.specs.Typing.{Truth}
+use Rattle.rs_typing.proofs.ResultFacts.{same_Ok}
+use Rattle.rs_typing.proofs.RuleFacts.{typed_by_rules}
 use Rattle.rs_bind.specs.BlockRules.{TypesBlock, TypesFilter}
 use Rattle.rs_bind.specs.BlockRules as rules_of
 use Rattle.rs_bind.specs.Conditions.{conjuncts_of, named_columns, own_places, parts_of_and, places_in}
 use Rattle.rs_bind.specs.Queries.{Unranked, with_terms}
-use Rattle.rs_bind.specs.Rules.{Types}
 use Rattle.rs_bind.specs.Sources.{Source, sources_of}
-use Rattle.rs_bind.specs.Typing.{Truth}
 use Rattle.rs_bind.specs.Where.{WhereHolds, conjuncts_hold, holds_of, no_where, condition}
 use Rattle.rs_bind.proofs.BlockRuleFacts.{conjuncts-are}
 use Rattle.rs_bind.proofs.PartFacts.{HaveConjuncts-typed}
-use Rattle.rs_bind.proofs.ResultFacts.{same_Ok}
-use Rattle.rs_bind.proofs.RuleFacts.{typed_by_rules}
 
 -- the conjuncts of WHERE are those of its parts
 filter-parts : (sources : List Source) (filter : Option Expression) (made : List ConjunctDef) → TypesFilter sources filter made → (x : Expression)

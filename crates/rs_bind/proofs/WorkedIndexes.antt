@@ -15,10 +15,10 @@ use Rattle.rs_catalog.specs.Catalogue.{Catalogue, NamedTable}
 use Rattle.rs_catalog.specs.declared.index.BoundArg.{BoundArg}
 use Rattle.rs_catalog.specs.declared.index.BoundArg.TheVariants as bound
 use Rattle.rs_catalog.specs.declared.index.IndexDef.{IndexDef}
-use Rattle.rs_bind.specs.declared.fault.BindFault.{BindFault}
-use Rattle.rs_bind.specs.declared.fault.BindFault.TheVariants.{At}
-use Rattle.rs_bind.specs.declared.fault.Why.{Why}
-use Rattle.rs_bind.specs.declared.fault.Why.TheVariants.{ConstantTerm, NoColumn, NoPredicate, NoTable, WrongCount, WrongKind}
+use Rattle.rs_typing.specs.declared.fault.BindFault.{BindFault}
+use Rattle.rs_typing.specs.declared.fault.BindFault.TheVariants.{At}
+use Rattle.rs_typing.specs.declared.fault.Why.{Why}
+use Rattle.rs_typing.specs.declared.fault.Why.TheVariants.{ConstantTerm, NoColumn, NoPredicate, NoTable, WrongCount, WrongKind}
 use Rattle.rs_bind.specs.Indexes.{index_def_of}
 
 abbrev table : List ℕ → List Column → NamedTable

@@ -5,10 +5,10 @@ use Rattle.rs_value.specs.declared.kind.Kind.{Kind}
 use Rattle.rs_value.specs.declared.kind.Kind.TheVariants.{Int, Text}
 use Rattle.rs_lex.specs.declared.token.Span.{Span}
 use Rattle.rs_syntax.specs.declared.name.Name.{Name}
-use Rattle.rs_bind.specs.declared.fault.BindFault.TheVariants.{At}
-use Rattle.rs_bind.specs.declared.fault.Why.TheVariants.{LimitOf, NameTwice}
+use Rattle.rs_typing.specs.declared.fault.BindFault.TheVariants.{At}
+use Rattle.rs_typing.specs.declared.fault.Why.TheVariants.{LimitOf, NameTwice}
 use Rattle.rs_bind.specs.Names.{named, number_in}
-use Rattle.rs_bind.specs.Predicates.{cost_of, placed}
+use Rattle.rs_bind.specs.Predicates.{cost_of}
 
 abbrev at : ℕ → Span
 at place = record { start = place; end = place + 1 }
@@ -41,13 +41,6 @@ number_before_name = refl
 
 first_before_next : named 2 (a 0 ∷ a 1 ∷ b 2 ∷ []) ≡ Err (At NameTwice (at 1))
 first_before_next = refl
-
--- the place of a name counts from 0
-second_place : placed (codes "b") ((codes "a", Int) ∷ (codes "b", Text) ∷ []) ≡ Some (1, Text)
-second_place = refl
-
-no_place : placed (codes "c") ((codes "a", Int) ∷ (codes "b", Text) ∷ []) ≡ None
-no_place = refl
 
 least_number : number_in 1 9 (pos 1, at 0) ≡ Ok 1
 least_number = refl

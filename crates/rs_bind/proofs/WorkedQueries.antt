@@ -23,10 +23,10 @@ use Rattle.rs_catalog.specs.declared.index.BoundArg.TheVariants as bound
 use Rattle.rs_query.specs.declared.query.Query.TheVariants.{One, Set}
 use Rattle.rs_query.specs.declared.query.Query as bound_queries
 use Rattle.rs_query.specs.declared.term.Term.{Term}
-use Rattle.rs_bind.specs.declared.fault.BindFault.{BindFault}
-use Rattle.rs_bind.specs.declared.fault.BindFault.TheVariants.{At}
-use Rattle.rs_bind.specs.declared.fault.Why.{Why}
-use Rattle.rs_bind.specs.declared.fault.Why.TheVariants.{Ambiguous, DistinctNeedsOutput, NameTwice, SetColumnsDiffer, WrongKind}
+use Rattle.rs_typing.specs.declared.fault.BindFault.{BindFault}
+use Rattle.rs_typing.specs.declared.fault.BindFault.TheVariants.{At}
+use Rattle.rs_typing.specs.declared.fault.Why.{Why}
+use Rattle.rs_typing.specs.declared.fault.Why.TheVariants.{Ambiguous, DistinctNeedsOutput, NameTwice, SetColumnsDiffer, WrongKind}
 use Rattle.rs_bind.specs.Queries.{bound_query}
 
 abbrev number : List ℕ → table.Column

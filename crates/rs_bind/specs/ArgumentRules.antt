@@ -9,12 +9,12 @@ use Rattle.rs_syntax.specs.declared.name.Arg.TheVariants as arg
 use Rattle.rs_syntax.specs.declared.name.ColRef.{ColRef}
 use Rattle.rs_catalog.specs.declared.index.BoundArg.{BoundArg}
 use Rattle.rs_catalog.specs.declared.index.BoundArg.TheVariants as bound
-use Rattle.rs_bind.specs.declared.fault.BindFault.{BindFault}
-use Rattle.rs_bind.specs.declared.fault.BindFault.TheVariants.{At}
-use Rattle.rs_bind.specs.declared.fault.Why.TheVariants.{ConstantTerm, WrongCount, WrongKind}
+use Rattle.rs_typing.specs.declared.fault.BindFault.{BindFault}
+use Rattle.rs_typing.specs.declared.fault.BindFault.TheVariants.{At}
+use Rattle.rs_typing.specs.declared.fault.Why.TheVariants.{ConstantTerm, WrongCount, WrongKind}
+use Rattle.rs_typing.specs.Typing.{span_of_column}
 use Rattle.rs_bind.specs.Indexes.{Entries, is_column}
 use Rattle.rs_bind.specs.InOrder.{Each, FirstRefused}
-use Rattle.rs_bind.specs.Typing.{span_of_column}
 
 -- a number that is written, where it lies within limits
 pub record IsWithin (least most : ℕ) (written : ℤ) (n : ℕ) : Type 0 where

@@ -14,15 +14,15 @@ use Rattle.rs_catalog.specs.Catalogue.{Catalogue, number_named}
 use Rattle.rs_catalog.specs.declared.room.What.TheVariants as what
 use Rattle.rs_query.specs.Conjuncts.{ConjunctDef}
 use Rattle.rs_query.specs.WellFormed.{entries_mask, equality_of}
-use Rattle.rs_bind.specs.declared.fault.BindFault.{BindFault}
-use Rattle.rs_bind.specs.declared.fault.BindFault.TheVariants.{At}
-use Rattle.rs_bind.specs.declared.fault.Why.TheVariants.{LimitOf, NameTwice, NoTable, WrongKind}
+use Rattle.rs_typing.specs.declared.fault.BindFault.{BindFault}
+use Rattle.rs_typing.specs.declared.fault.BindFault.TheVariants.{At}
+use Rattle.rs_typing.specs.declared.fault.Why.TheVariants.{LimitOf, NameTwice, NoTable, WrongKind}
+use Rattle.rs_typing.specs.Rules.{Refused, Types}
+use Rattle.rs_typing.specs.Typing.{Typed, Number, Words, Truth, span_of, span_of_column}
 use Rattle.rs_bind.specs.Conditions.{most_conjuncts, named_columns, own_places, parts_of_and}
 use Rattle.rs_bind.specs.InOrder.{Each, FirstRefused}
 use Rattle.rs_bind.specs.Queries.{Unranked}
-use Rattle.rs_bind.specs.Rules.{Refused, Types}
 use Rattle.rs_bind.specs.Sources.{Found, Source, alias_of, all_columns_from, column_in, most_entries, most_items, sources_of}
-use Rattle.rs_bind.specs.Typing.{Typed, Number, Words, Truth, span_of, span_of_column}
 
 -- a FROM entry as it is written, and as the number of its table with its alias
 abbrev pub FromEntry : Type 0

@@ -2,33 +2,18 @@
 use Rattle.std.specs.Prelude.{ℕ, List, [], ◌∷◌, ◌++◌, drop, position, Option, Some, None, Result, Ok, Err, if◌then◌else◌}
 use Rattle.std.specs.List.{list_any}
 use Rattle.rs_syntax.specs.declared.name.ColRef.{ColRef}
-use Rattle.rs_syntax.specs.Syntax.{Expression, Int, Text, Column, Neg, Arith, Abs, Least, Greatest, Case, Compare, And, Or, Not}
+use Rattle.rs_syntax.specs.Syntax.{Expression, And}
 use Rattle.rs_value.specs.Results.{◌>>=◌}
 use Rattle.rs_expr.specs.Formulas.{Condition}
 use Rattle.rs_query.specs.Conjuncts.{ConjunctDef}
 use Rattle.rs_query.specs.WellFormed.{entries_mask, equality_of, same_column}
-use Rattle.rs_bind.specs.declared.fault.BindFault.{BindFault}
-use Rattle.rs_bind.specs.declared.fault.BindFault.TheVariants.{At}
-use Rattle.rs_bind.specs.declared.fault.Why.TheVariants.{LimitOf, NoColumn}
-use Rattle.rs_bind.specs.Names.{or_fault}
+use Rattle.rs_typing.specs.declared.fault.BindFault.{BindFault}
+use Rattle.rs_typing.specs.declared.fault.BindFault.TheVariants.{At}
+use Rattle.rs_typing.specs.declared.fault.Why.TheVariants.{LimitOf, NoColumn}
+use Rattle.rs_typing.specs.Missing.{or_fault}
+use Rattle.rs_typing.specs.References.{references_of}
+use Rattle.rs_typing.specs.Typing.{Scope, span_of, span_of_column, as_truth, type_of}
 use Rattle.rs_bind.specs.Sources.{Found, Source, column_in}
-use Rattle.rs_bind.specs.Typing.{Scope, span_of, span_of_column, as_truth, type_of}
-
--- the references in an expression, from left to right
-abbrev pub references_of : Expression → List ColRef
-references_of (Int n at) = []
-references_of (Text text at) = []
-references_of (Column c) = c ∷ []
-references_of (Neg x at) = references_of x
-references_of (Arith op x y at) = references_of x ++ references_of y
-references_of (Abs x at) = references_of x
-references_of (Least x y at) = references_of x ++ references_of y
-references_of (Greatest x y at) = references_of x ++ references_of y
-references_of (Case x y z at) = references_of x ++ (references_of y ++ references_of z)
-references_of (Compare rel x y at) = references_of x ++ references_of y
-references_of (And x y at) = references_of x ++ references_of y
-references_of (Or x y at) = references_of x ++ references_of y
-references_of (Not x at) = references_of x
 
 -- columns, and one more behind them, unless it is one of them
 abbrev pub with_column : List (ℕ × ℕ) → ℕ × ℕ → List (ℕ × ℕ)

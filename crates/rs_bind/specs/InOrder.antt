@@ -1,6 +1,6 @@
 -- Rules that are looked at for one item after the other, from left to right. What they say of an item may rest on what the items before it are.
 use Rattle.std.specs.Prelude.{List, [], ◌∷◌}
-use Rattle.rs_bind.specs.declared.fault.BindFault.{BindFault}
+use Rattle.rs_typing.specs.declared.fault.BindFault.{BindFault}
 
 -- each item is what the rules say, behind items that are what `before` has, the last one first
 pub data Each {A B : Type 0} (Is : List B → A → B → Type 0) : List B → List A → List B → Type 0 where

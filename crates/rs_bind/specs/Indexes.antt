@@ -18,12 +18,12 @@ use Rattle.rs_catalog.specs.declared.room.What.TheVariants as what
 use Rattle.rs_catalog.specs.declared.index.BoundArg.{BoundArg}
 use Rattle.rs_catalog.specs.declared.index.BoundArg.TheVariants as bound
 use Rattle.rs_catalog.specs.declared.index.IndexDef.{IndexDef}
-use Rattle.rs_bind.specs.declared.fault.BindFault.{BindFault}
-use Rattle.rs_bind.specs.declared.fault.BindFault.TheVariants.{At, Memory}
-use Rattle.rs_bind.specs.declared.fault.Why.TheVariants.{ConstantTerm, NoColumn, NoPredicate, NoTable, WrongCount, WrongKind}
-use Rattle.rs_bind.specs.Names.{or_fault}
-use Rattle.rs_bind.specs.Predicates.{placed}
-use Rattle.rs_bind.specs.Typing.{span_of_column}
+use Rattle.rs_typing.specs.declared.fault.BindFault.{BindFault}
+use Rattle.rs_typing.specs.declared.fault.BindFault.TheVariants.{At, Memory}
+use Rattle.rs_typing.specs.declared.fault.Why.TheVariants.{ConstantTerm, NoColumn, NoPredicate, NoTable, WrongCount, WrongKind}
+use Rattle.rs_typing.specs.Missing.{or_fault}
+use Rattle.rs_typing.specs.Parameters.{placed}
+use Rattle.rs_typing.specs.Typing.{span_of_column}
 
 -- which column of the FROM entries a reference stands for, with its kind; or why it stands for none
 abbrev pub Entries : Type 0

@@ -1,9 +1,6 @@
 pub mod Names
-pub mod Typing
-pub mod Rules
 pub mod Predicates
 pub mod Indexes
-pub mod Views
 pub mod Sources
 pub mod Conditions
 pub mod Queries

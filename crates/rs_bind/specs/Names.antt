@@ -1,5 +1,5 @@
 -- Names with kinds: the columns of a table, and the parameters of a predicate.
-use Rattle.std.specs.Prelude.{ℕ, ℤ, pos, negsuc, nat_le, ◌==◌, ◌&&◌, List, [], ◌∷◌, length, Option, Some, None, Result, Ok, Err, if◌then◌else◌}
+use Rattle.std.specs.Prelude.{ℕ, ℤ, pos, negsuc, nat_le, ◌==◌, ◌&&◌, List, [], ◌∷◌, length, Result, Ok, Err, if◌then◌else◌}
 use Rattle.std.specs.List.{list_any}
 use Rattle.std.specs.Str.{bytes_eq}
 use Rattle.rs_value.specs.declared.kind.Kind.{Kind}
@@ -7,14 +7,9 @@ use Rattle.rs_lex.specs.declared.token.Span.{Span}
 use Rattle.rs_syntax.specs.declared.name.Name.{Name}
 use Rattle.rs_table.specs.Column.{Column}
 use Rattle.rs_value.specs.Results.{◌>>=◌}
-use Rattle.rs_bind.specs.declared.fault.BindFault.{BindFault}
-use Rattle.rs_bind.specs.declared.fault.BindFault.TheVariants.{At}
-use Rattle.rs_bind.specs.declared.fault.Why.TheVariants.{LimitOf, NameTwice}
-
--- a thing, or this fault where there is none
-abbrev pub or_fault : {A : Type 0} → BindFault → Option A → Result A BindFault
-or_fault fault (Some a) = Ok a
-or_fault fault None = Err fault
+use Rattle.rs_typing.specs.declared.fault.BindFault.{BindFault}
+use Rattle.rs_typing.specs.declared.fault.BindFault.TheVariants.{At}
+use Rattle.rs_typing.specs.declared.fault.Why.TheVariants.{LimitOf, NameTwice}
 
 -- names with kinds behind these names: at each, from left to right, there may be no more, and it may not stand before
 abbrev pub named_behind : ℕ → List (List ℕ) → List (Name × Kind) → Result (List Column) BindFault

@@ -22,15 +22,16 @@ use Rattle.rs_query.specs.declared.block.Block.{Block}
 use Rattle.rs_query.specs.declared.term.Term.{Term}
 use Rattle.rs_query.specs.declared.query.Query.{Query}
 use Rattle.rs_query.specs.declared.query.Query.TheVariants.{One, Set}
-use Rattle.rs_bind.specs.declared.fault.BindFault.{BindFault}
-use Rattle.rs_bind.specs.declared.fault.BindFault.TheVariants.{At}
-use Rattle.rs_bind.specs.declared.fault.Why.TheVariants.{DistinctNeedsOutput, LimitOf, NoPredicate, SetColumnsDiffer}
+use Rattle.rs_typing.specs.declared.fault.BindFault.{BindFault}
+use Rattle.rs_typing.specs.declared.fault.BindFault.TheVariants.{At}
+use Rattle.rs_typing.specs.declared.fault.Why.TheVariants.{DistinctNeedsOutput, LimitOf, NoPredicate, SetColumnsDiffer}
+use Rattle.rs_typing.specs.Missing.{or_fault}
+use Rattle.rs_typing.specs.Typing.{span_of_column}
 use Rattle.rs_bind.specs.declared.unranked.Unranked as parts
 use Rattle.rs_bind.specs.Conditions.{filter_of}
 use Rattle.rs_bind.specs.Indexes.{Entries, params_in, term_args}
-use Rattle.rs_bind.specs.Names.{number_in, or_fault}
+use Rattle.rs_bind.specs.Names.{number_in}
 use Rattle.rs_bind.specs.Sources.{Found, Source, column_in, entries_of, items_of, sources_of, the_only}
-use Rattle.rs_bind.specs.Typing.{span_of_column}
 
 -- a block without the terms: FROM, WHERE and the output columns with their kinds
 abbrev pub Unranked : Type 0

@@ -11,9 +11,9 @@ use Rattle.rs_query.specs.WellFormed.{argument_columns, entries_mask}
 use Rattle.rs_query.specs.declared.query.Query.{Query}
 use Rattle.rs_query.specs.declared.query.Query.TheVariants.{One, Set}
 use Rattle.rs_query.specs.declared.term.Term.{Term}
-use Rattle.rs_bind.specs.declared.fault.BindFault.{BindFault}
-use Rattle.rs_bind.specs.declared.fault.BindFault.TheVariants.{At}
-use Rattle.rs_bind.specs.declared.fault.Why.TheVariants.{DistinctNeedsOutput, LimitOf, NoPredicate, SetColumnsDiffer}
+use Rattle.rs_typing.specs.declared.fault.BindFault.{BindFault}
+use Rattle.rs_typing.specs.declared.fault.BindFault.TheVariants.{At}
+use Rattle.rs_typing.specs.declared.fault.Why.TheVariants.{DistinctNeedsOutput, LimitOf, NoPredicate, SetColumnsDiffer}
 use Rattle.rs_bind.specs.ArgumentRules.{IsOutside, IsWithin, RefusedArgs, TypesArgs}
 use Rattle.rs_bind.specs.BlockRules.{RefusedBlock, TypesBlock}
 use Rattle.rs_bind.specs.Indexes.{Entries, params_in}

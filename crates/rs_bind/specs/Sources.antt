@@ -12,13 +12,14 @@ use Rattle.rs_table.specs.Column.{Column}
 use Rattle.rs_value.specs.Results.{◌>>=◌}
 use Rattle.rs_catalog.specs.Catalogue.{Catalogue, number_named}
 use Rattle.rs_catalog.specs.declared.room.What.TheVariants as what
-use Rattle.rs_bind.specs.declared.fault.BindFault.{BindFault}
-use Rattle.rs_bind.specs.declared.fault.BindFault.TheVariants.{At}
-use Rattle.rs_bind.specs.declared.fault.Why.TheVariants.{Ambiguous, LimitOf, NameTwice, NoColumn, NoTable}
+use Rattle.rs_typing.specs.declared.fault.BindFault.{BindFault}
+use Rattle.rs_typing.specs.declared.fault.BindFault.TheVariants.{At}
+use Rattle.rs_typing.specs.declared.fault.Why.TheVariants.{Ambiguous, LimitOf, NameTwice, NoColumn, NoTable}
+use Rattle.rs_typing.specs.Missing.{or_fault}
+use Rattle.rs_typing.specs.Parameters.{placed}
+use Rattle.rs_typing.specs.Typing.{span_of_column}
 use Rattle.rs_bind.specs.Indexes.{columns_in, is_of_entry}
-use Rattle.rs_bind.specs.Names.{most_columns, or_fault}
-use Rattle.rs_bind.specs.Predicates.{placed}
-use Rattle.rs_bind.specs.Typing.{span_of_column}
+use Rattle.rs_bind.specs.Names.{most_columns}
 
 -- the name by which an entry is known: its alias, or that of its table where none is written
 abbrev pub alias_of : Name × Option Name → Name

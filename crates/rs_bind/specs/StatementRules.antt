@@ -12,15 +12,15 @@ use Rattle.rs_expr.specs.Predicates.{PredicateDef}
 use Rattle.rs_catalog.specs.Catalogue.{Catalogue, number_named}
 use Rattle.rs_catalog.specs.declared.index.IndexDef.{IndexDef}
 use Rattle.rs_catalog.specs.declared.room.What.TheVariants as what
-use Rattle.rs_bind.specs.declared.fault.BindFault.{BindFault}
-use Rattle.rs_bind.specs.declared.fault.BindFault.TheVariants.{At}
-use Rattle.rs_bind.specs.declared.fault.Why.TheVariants.{LimitOf, NameTwice, NoPredicate, NoTable, WrongKind}
+use Rattle.rs_typing.specs.declared.fault.BindFault.{BindFault}
+use Rattle.rs_typing.specs.declared.fault.BindFault.TheVariants.{At}
+use Rattle.rs_typing.specs.declared.fault.Why.TheVariants.{LimitOf, NameTwice, NoPredicate, NoTable, WrongKind}
+use Rattle.rs_typing.specs.Parameters.{parameter_in}
+use Rattle.rs_typing.specs.Rules.{Refused, Types}
+use Rattle.rs_typing.specs.Typing.{Typed, Number, Words, Truth, span_of}
 use Rattle.rs_bind.specs.ArgumentRules.{IsOutside, IsWithin, RefusedArgs, TypesArgs}
 use Rattle.rs_bind.specs.Indexes.{Entries, columns_in, entry_column, params_in}
 use Rattle.rs_bind.specs.InOrder.{Each, FirstRefused}
-use Rattle.rs_bind.specs.Predicates.{parameter_in}
-use Rattle.rs_bind.specs.Rules.{Refused, Types}
-use Rattle.rs_bind.specs.Typing.{Typed, Number, Words, Truth, span_of}
 
 module _ (most : ℕ) where
   -- names with kinds: no more than so many, each one once

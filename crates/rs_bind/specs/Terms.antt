@@ -9,11 +9,12 @@ use Rattle.rs_catalog.specs.declared.index.BoundArg.TheVariants as bound
 use Rattle.rs_catalog.specs.declared.room.What.TheVariants as what
 use Rattle.rs_query.specs.WellFormed.{argument_columns, entries_mask, same_column}
 use Rattle.rs_query.specs.declared.term.Term.{Term}
-use Rattle.rs_bind.specs.declared.fault.BindFault.{BindFault}
-use Rattle.rs_bind.specs.declared.fault.BindFault.TheVariants.{At}
-use Rattle.rs_bind.specs.declared.fault.Why.TheVariants.{DistinctNeedsOutput, NoPredicate}
+use Rattle.rs_typing.specs.declared.fault.BindFault.{BindFault}
+use Rattle.rs_typing.specs.declared.fault.BindFault.TheVariants.{At}
+use Rattle.rs_typing.specs.declared.fault.Why.TheVariants.{DistinctNeedsOutput, NoPredicate}
+use Rattle.rs_typing.specs.Missing.{or_fault}
 use Rattle.rs_bind.specs.Indexes.{Entries, params_in, term_args}
-use Rattle.rs_bind.specs.Names.{number_in, or_fault}
+use Rattle.rs_bind.specs.Names.{number_in}
 use Rattle.rs_bind.specs.Queries.{are_outputs, max_in, most_weight}
 use Rattle.rs_bind.specs.Sources.{Found, Source}
 

@@ -7,10 +7,10 @@ use Rattle.rs_expr.specs.Meaning.{holds}
 use Rattle.rs_catalog.specs.Catalogue.{Catalogue}
 use Rattle.rs_query.specs.Meaning.{column_value, conjunct_holds}
 use Rattle.rs_query.specs.declared.block.Block.{Block}
+use Rattle.rs_typing.specs.Rules.{Types}
+use Rattle.rs_typing.specs.Typing.{Truth}
 use Rattle.rs_bind.specs.Conditions.{named_columns, own_places}
-use Rattle.rs_bind.specs.Rules.{Types}
 use Rattle.rs_bind.specs.Sources.{sources_of}
-use Rattle.rs_bind.specs.Typing.{Truth}
 
 -- whether a condition whose arguments are these columns holds of the values that they have in these rows
 abbrev pub holds_of : Catalogue → Block → List ℕ → List (ℕ × ℕ) → Condition → Bool

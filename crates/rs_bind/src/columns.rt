@@ -1,12 +1,11 @@
 ghost use Rattle.std.specs.Prelude.{◌≡◌};
+ghost use Rattle.rs_typing.specs.Parameters.{placed};
 ghost use Rattle.rs_bind.specs.Indexes.{entry_column, is_of_entry};
-ghost use Rattle.rs_bind.specs.Predicates.{placed};
 
-use crate::fault::{BindFault, Why};
-use crate::scope::span_of_column;
 use rs_catalog::BoundArg;
 use rs_syntax::{ColRef, Name};
 use rs_table::Schema;
+use rs_typing::{BindFault, Why, span_of_column};
 use rs_value::{Kind, Text};
 
 /// What the columns of a term stand for: columns of FROM entries, with their kinds.
@@ -15,7 +14,7 @@ pub trait Columns {
     ghost use Rattle.rs_value.specs.declared.kind.Kind.{Kind};
     ghost use Rattle.rs_syntax.specs.declared.name.ColRef.{ColRef};
     ghost use Rattle.rs_catalog.specs.declared.index.BoundArg.{BoundArg};
-    ghost use Rattle.rs_bind.specs.declared.fault.BindFault.{BindFault};
+    ghost use Rattle.rs_typing.specs.declared.fault.BindFault.{BindFault};
 
     /// The argument that a column stands for, with its kind, or why it stands for none.
     ghost finds: { Self → ColRef → Result (BoundArg × Kind) BindFault };

@@ -1,9 +1,9 @@
 ghost use Rattle.std.specs.Prelude.{◌≡◌};
 ghost use Rattle.rs_bind.specs.Queries.{count_of};
 
-use crate::fault::BindFault;
 use crate::names::number_in;
 use rs_lex::Span;
+use rs_typing::BindFault;
 
 /// The greatest number of rows that LIMIT or FETCH asks for.
 pub const MOST_ROWS: u32 = 1_000_000;

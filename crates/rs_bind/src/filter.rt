@@ -8,24 +8,21 @@ ghost use Rattle.rs_value.specs.Results.{◌>>=◌ as ◌and_then◌};
 ghost use Rattle.rs_expr.specs.Formulas.{condition_of};
 ghost use Rattle.rs_expr.specs.Widths.{is_narrow};
 ghost use Rattle.rs_query.specs.WellFormed.{across, entries_mask, equality_of, equated};
+ghost use Rattle.rs_typing.specs.Typing.{span_of, as_truth, type_of};
+ghost use Rattle.rs_typing.specs.Views.{result_map};
 ghost use Rattle.rs_bind.specs.Conditions.{condition_over, conjunct_in, conjuncts_in, conjuncts_of, few_parts, filter_of, parts_of_and};
 ghost use Rattle.rs_bind.specs.Narrow.{IsNarrow};
 ghost use Rattle.rs_bind.specs.Sources.{most_block_columns, sources_of};
 ghost use Rattle.rs_bind.specs.Terms.{IsEntryColumn};
-ghost use Rattle.rs_bind.specs.Typing.{span_of, as_truth, type_of};
-ghost use Rattle.rs_bind.specs.Views.{result_map};
 
-use crate::fault::{BindFault, Why};
 use crate::places::Places;
 use crate::references::named_columns;
-use crate::rules::{span_of, truth};
-use crate::scope::Scope;
 use crate::sources::Sources;
-use crate::typing::type_node;
 use rs_expr::{Cond, Expr, Rel, TextSide};
 use rs_query::Conjunct;
 use rs_rank::{mask_of, union};
 use rs_syntax::Node;
+use rs_typing::{BindFault, Scope, Why, span_of, truth, type_node};
 use rs_value::List;
 use std::alloc::Global;
 

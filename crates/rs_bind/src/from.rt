@@ -4,13 +4,14 @@ ghost use Rattle.std.specs.Str.{bytes_eq};
 ghost use Rattle.rs_catalog.specs.Catalogue.{number_named};
 ghost use Rattle.rs_catalog.specs.declared.room.What.TheVariants as what;
 ghost use Rattle.rs_value.specs.Answer.{Gives};
+ghost use Rattle.rs_typing.specs.Missing.{or_fault};
 ghost use Rattle.rs_bind.specs.Indexes.{columns_in};
-ghost use Rattle.rs_bind.specs.Names.{most_columns, or_fault};
+ghost use Rattle.rs_bind.specs.Names.{most_columns};
 ghost use Rattle.rs_bind.specs.Sources.{alias_of, entries_of, most_entries};
 
-use crate::fault::{BindFault, Why};
 use rs_catalog::{Catalog, What};
 use rs_syntax::Name;
+use rs_typing::{BindFault, Why};
 use rs_value::{List, Text};
 use std::alloc::Global;
 

@@ -3,15 +3,15 @@ ghost use Rattle.rs_catalog.specs.Catalogue.{names_of, number_named};
 ghost use Rattle.rs_catalog.specs.Indexes.{IsIndex};
 ghost use Rattle.rs_syntax.specs.Syntax.{command_of};
 ghost use Rattle.rs_value.specs.Answer.{Gives};
+ghost use Rattle.rs_typing.specs.Missing.{or_fault};
 ghost use Rattle.rs_bind.specs.Indexes.{IsCreateRankIndex, index_def_of};
-ghost use Rattle.rs_bind.specs.Names.{or_fault};
 ghost use Rattle.rs_syntax.specs.Written.{IsWritten};
 
 use crate::columns::OneEntry;
-use crate::fault::{BindFault, Why};
 use crate::term::term_args;
 use rs_catalog::{Catalog, IndexDef, What};
 use rs_syntax::{Name, Statement};
+use rs_typing::{BindFault, Why};
 use std::alloc::Global;
 
 /// The rank index of a CREATE RANK INDEX statement. The rules are looked at in this order: the table (`NoTable`); the

@@ -4,13 +4,12 @@ ghost use Rattle.rs_value.specs.Answer.{Gives};
 ghost use Rattle.rs_bind.specs.Names.{most_columns};
 ghost use Rattle.rs_bind.specs.Sources.{columns_from, items_behind, items_of, sources_of};
 
-use crate::fault::{BindFault, Why};
 use crate::from::MOST_ENTRIES;
-use crate::scope::span_of_column;
 use crate::sources::Sources;
 use rs_lex::Span;
 use rs_syntax::{ColRef, Items};
 use rs_table::MOST_COLUMNS;
+use rs_typing::{BindFault, Why, span_of_column};
 use rs_value::{Kind, List, Memory, Text};
 use std::alloc::Global;
 

@@ -1,5 +1,4 @@
-//! What binding is: laws that hold of every expression and of every statement. The functions compute nothing; they are
-//! called for their contracts.
+//! What binding is: laws that hold of every statement. The functions compute nothing; they are called for their contracts.
 
 ghost use Rattle.std.specs.Prelude.{◌≡◌, ◌↔◌, Err, Ok, Some, true};
 ghost use Rattle.std.specs.Prelude.{List, Option, ℕ, ℤ};
@@ -16,29 +15,23 @@ ghost use Rattle.rs_table.specs.Column.{Column};
 ghost use Rattle.rs_value.specs.declared.kind.Kind.{Kind as ValueKind};
 ghost use Rattle.rs_query.specs.declared.query.Query.{Query};
 ghost use Rattle.rs_query.specs.declared.term.Term.{Term as BoundTerm};
+ghost use Rattle.rs_typing.specs.References.{references_of};
+ghost use Rattle.rs_typing.specs.Rules.{Types};
+ghost use Rattle.rs_typing.specs.Typing.{Truth};
+ghost use Rattle.rs_typing.specs.declared.fault.BindFault.{BindFault};
+ghost use Rattle.rs_typing.specs.declared.fault.BindFault.TheVariants.{At};
+ghost use Rattle.rs_typing.specs.declared.fault.Why.TheVariants.{LimitOf};
 ghost use Rattle.rs_bind.specs.ArgumentRules.{IsOutside, IsWithin};
 ghost use Rattle.rs_bind.specs.BlockRules.{TypesBlock};
-ghost use Rattle.rs_bind.specs.Conditions.{named_columns, places_in, references_of};
+ghost use Rattle.rs_bind.specs.Conditions.{named_columns, places_in};
 ghost use Rattle.rs_bind.specs.Indexes.{index_def_of};
 ghost use Rattle.rs_bind.specs.Names.{columns_of, most_columns};
 ghost use Rattle.rs_bind.specs.Predicates.{predicate_of};
 ghost use Rattle.rs_bind.specs.Queries.{Unranked as UnrankedBlock, bound_query, count_of, most_rows, with_terms};
 ghost use Rattle.rs_bind.specs.QueryRules.{RefusedQuery, TypesQuery};
-ghost use Rattle.rs_bind.specs.Rules.{Refused, Types};
 ghost use Rattle.rs_bind.specs.Sources.{Source, column_in, sources_of};
-ghost use Rattle.rs_bind.specs.Typing.{Scope, Truth, Typed, type_of};
 ghost use Rattle.rs_bind.specs.StatementRules.{RefusedIndex, RefusedNames, RefusedPredicate, TypesIndex, TypesNames, TypesPredicate};
 ghost use Rattle.rs_bind.specs.Where.{WhereHolds, conjuncts_hold, holds_of};
-ghost use Rattle.rs_bind.specs.declared.fault.BindFault.{BindFault};
-ghost use Rattle.rs_bind.specs.declared.fault.BindFault.TheVariants.{At};
-ghost use Rattle.rs_bind.specs.declared.fault.Why.TheVariants.{LimitOf};
-
-/// An expression is one thing at most, as the rules say, or refused with one fault, that of the first rule that fails; it
-/// is never both.
-pub fn expressions_are_typed_by_rules()
-    ensures typed { (scope : Scope) (x : Expression) (t : Typed) → (type_of scope x ≡ Ok t) ↔ Types scope x t }
-    ensures refused { (scope : Scope) (x : Expression) (fault : BindFault) → (type_of scope x ≡ Err fault) ↔ Refused scope x fault }
-{}
 
 /// The conjuncts of a block all hold of some rows exactly where its WHERE does: where the condition that WHERE is holds of
 /// the values that the columns have in these rows. That is so over whatever columns the condition is typed, if they have

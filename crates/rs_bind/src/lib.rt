@@ -1,9 +1,8 @@
-//! Binding: what the names of a statement stand for, and what its expressions are.
+//! Binding: what the names of a statement stand for, or the first rule that it breaks.
 #![tactic(auto)]
 
 mod columns;
 mod count;
-mod fault;
 mod filter;
 mod from;
 mod index;
@@ -15,23 +14,16 @@ mod places;
 mod predicate;
 mod query;
 mod references;
-mod rules;
-mod scope;
 mod sources;
 mod table;
 mod term;
 mod terms;
-mod typed;
-mod typing;
 mod unranked;
 
 pub use count::bind_count;
-pub use fault::{BindFault, Why};
 pub use index::bind_index;
-pub use laws::{
-    conjuncts_mean_where, expressions_are_typed_by_rules, queries_are_typed_by_rules,
-    statements_are_typed_by_rules,
-};
+pub use laws::{conjuncts_mean_where, queries_are_typed_by_rules, statements_are_typed_by_rules};
 pub use predicate::bind_predicate;
 pub use query::bind;
+pub use rs_typing::{BindFault, Why};
 pub use table::bind_table;

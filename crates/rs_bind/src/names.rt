@@ -2,12 +2,12 @@ ghost use Rattle.std.specs.Prelude.{◌≡◌, ◌≤◌, IfOk, length};
 ghost use Rattle.std.specs.List.{list_any};
 ghost use Rattle.rs_value.specs.Answer.{Gives};
 ghost use Rattle.rs_table.specs.Column.{is_named};
+ghost use Rattle.rs_typing.specs.Views.{result_map};
 ghost use Rattle.rs_bind.specs.Names.{named, number_in};
-ghost use Rattle.rs_bind.specs.Views.{result_map};
 
-use crate::fault::{BindFault, Why};
 use rs_lex::Span;
 use rs_syntax::Name;
+use rs_typing::{BindFault, Why};
 use rs_value::{Kind, Text};
 use std::alloc::Global;
 

@@ -6,11 +6,10 @@ ghost use Rattle.rs_bind.specs.Sources.{the_only};
 ghost use Rattle.rs_bind.specs.Terms.{IsEntryItem};
 
 use crate::columns::Columns;
-use crate::fault::{BindFault, Why};
-use crate::scope::span_of_column;
 use rs_catalog::BoundArg;
 use rs_lex::Span;
 use rs_syntax::ColRef;
+use rs_typing::{BindFault, Why, span_of_column};
 use rs_value::{Kind, Text};
 
 /// The output columns of a block of a set query, under the names of those of the left block. A term's column is written

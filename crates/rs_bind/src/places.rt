@@ -3,10 +3,9 @@ ghost use Rattle.rs_query.specs.WellFormed.{same_column};
 ghost use Rattle.rs_bind.specs.Conditions.{places_in};
 ghost use Rattle.rs_bind.specs.Sources.{most_block_columns, sources_of};
 
-use crate::fault::{BindFault, Why};
-use crate::scope::{Scope, span_of_column};
 use crate::sources::Sources;
 use rs_syntax::ColRef;
+use rs_typing::{BindFault, Scope, Why, span_of_column};
 use rs_value::Kind;
 
 /// Columns of FROM entries as the arguments of a condition: each is the argument of its place.

@@ -4,18 +4,16 @@ ghost use Rattle.rs_syntax.specs.Syntax.{command_of, expression_of};
 ghost use Rattle.rs_expr.specs.Formulas.{formula_of};
 ghost use Rattle.rs_expr.specs.Uses.{has_parameter, uses};
 ghost use Rattle.rs_expr.specs.Widths.{width_of};
-ghost use Rattle.rs_bind.specs.Predicates.{IsCreatePredicate, cost_of, formula_in, predicate_of};
-ghost use Rattle.rs_bind.specs.Views.{result_map};
+ghost use Rattle.rs_typing.specs.Parameters.{formula_in};
+ghost use Rattle.rs_typing.specs.Views.{result_map};
+ghost use Rattle.rs_bind.specs.Predicates.{IsCreatePredicate, cost_of, predicate_of};
 ghost use Rattle.rs_syntax.specs.Written.{IsWritten};
 
-use crate::fault::BindFault;
 use crate::names::{named, number_in};
-use crate::rules::{number, span_of};
-use crate::scope::Parameters;
-use crate::typing::type_node;
 use rs_expr::{Expr, Predicate};
 use rs_lex::Span;
 use rs_syntax::{Node, Statement};
+use rs_typing::{BindFault, Parameters, number, span_of, type_node};
 use rs_value::{Kind, List, Memory, Text};
 use std::alloc::Global;
 

@@ -11,7 +11,6 @@ ghost use Rattle.rs_bind.specs.Sources.{most_entries, sources_of};
 ghost use Rattle.rs_bind.specs.Terms.{IsEntryItem};
 ghost use Rattle.rs_syntax.specs.Written.{IsWrittenQuery};
 
-use crate::fault::{BindFault, Why};
 use crate::outputs::OutputColumns;
 use crate::sources::Sources;
 use crate::terms::{bind_terms, limit_of};
@@ -21,6 +20,7 @@ use crate::unranked::{
 use rs_catalog::Catalog;
 use rs_query::{Query, Term};
 use rs_syntax::{BlockSyn, Select, TermSyn};
+use rs_typing::{BindFault, Why};
 use rs_value::{Kind, List, SetOp, Text};
 use std::alloc::Global;
 

@@ -4,7 +4,8 @@ ghost use Rattle.std.specs.Prelude.{◌≡◌, ◌++◌, IfOk, OnOk};
 ghost use Rattle.std.specs.List.{list_any};
 ghost use Rattle.rs_query.specs.WellFormed.{same_column};
 ghost use Rattle.rs_syntax.specs.Syntax.{expression_of};
-ghost use Rattle.rs_bind.specs.Conditions.{named_columns, references_of, with_found, with_references};
+ghost use Rattle.rs_typing.specs.References.{references_of};
+ghost use Rattle.rs_bind.specs.Conditions.{named_columns, with_found, with_references};
 ghost use Rattle.rs_bind.specs.Sources.{column_in, sources_of};
 
 use crate::sources::Sources;

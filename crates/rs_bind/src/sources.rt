@@ -1,18 +1,17 @@
 ghost use Rattle.std.specs.Prelude.{◌≡◌, ◌≤◌, ◌<◌, None, if◌then◌else◌, length};
 ghost use Rattle.std.specs.List.{AllByRecursion};
 ghost use Rattle.std.proofs.Props.{props};
+ghost use Rattle.rs_typing.specs.Parameters.{placed};
 ghost use Rattle.rs_bind.specs.Indexes.{columns_in, is_of_entry};
 ghost use Rattle.rs_bind.specs.Names.{most_columns};
-ghost use Rattle.rs_bind.specs.Predicates.{placed};
 ghost use Rattle.rs_bind.specs.Queries.{block_columns};
 ghost use Rattle.rs_bind.specs.Sources.{column_in, most_entries, sources_of};
 
 use crate::columns::{Columns, OneEntry};
-use crate::fault::{BindFault, Why};
-use crate::scope::span_of_column;
 use rs_catalog::{BoundArg, Catalog};
 use rs_syntax::ColRef;
 use rs_table::Schema;
+use rs_typing::{BindFault, Why, span_of_column};
 use rs_value::{Kind, Text};
 
 /// The FROM entries of a block, at most 6: tables by their numbers, with their aliases. A table has at most 64 columns.

@@ -2,10 +2,10 @@ ghost use Rattle.std.specs.Prelude.{◌≤◌, length};
 ghost use Rattle.rs_value.specs.Answer.{Gives};
 ghost use Rattle.rs_bind.specs.Names.{columns_of};
 
-use crate::fault::BindFault;
 use crate::names::named;
 use rs_syntax::Name;
 use rs_table::{MOST_COLUMNS, Schema};
+use rs_typing::BindFault;
 use rs_value::Kind;
 use std::alloc::Global;
 

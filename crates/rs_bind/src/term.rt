@@ -4,11 +4,10 @@ ghost use Rattle.rs_value.specs.Answer.{Gives};
 ghost use Rattle.rs_bind.specs.Indexes.{arg_of, args_of, is_column, of_kind, term_args};
 
 use crate::columns::Columns;
-use crate::fault::{BindFault, Why};
-use crate::scope::span_of_column;
 use rs_catalog::BoundArg;
 use rs_lex::Span;
 use rs_syntax::Arg;
+use rs_typing::{BindFault, Why, span_of_column};
 use rs_value::{Kind, List};
 use std::alloc::Global;
 

@@ -6,13 +6,12 @@ ghost use Rattle.rs_catalog.specs.Catalogue.{number_named};
 ghost use Rattle.rs_catalog.specs.declared.room.What.TheVariants as what;
 ghost use Rattle.rs_value.specs.Answer.{Gives};
 ghost use Rattle.rs_query.specs.WellFormed.{argument_columns, entries_mask, same_column};
-ghost use Rattle.rs_bind.specs.Names.{or_fault};
+ghost use Rattle.rs_typing.specs.Missing.{or_fault};
 ghost use Rattle.rs_bind.specs.Queries.{IsEntryArg, are_outputs, bound_limit, terms_of};
 ghost use Rattle.rs_bind.specs.Terms.{is_output, term_of};
 
 use crate::columns::Columns;
 use crate::count::MOST_ROWS;
-use crate::fault::{BindFault, Why};
 use crate::names::number_in;
 use crate::term::term_args;
 use rs_catalog::{BoundArg, Catalog, What};
@@ -20,6 +19,7 @@ use rs_lex::Span;
 use rs_query::Term;
 use rs_rank::mask_of;
 use rs_syntax::{Name, TermSyn};
+use rs_typing::{BindFault, Why};
 use rs_value::{Kind, List};
 use std::alloc::Global;
 

@@ -10,16 +10,15 @@ ghost use Rattle.rs_bind.specs.Queries.{agree, first_item, name_of, output_names
 ghost use Rattle.rs_bind.specs.Sources.{most_entries, sources_of};
 ghost use Rattle.rs_bind.specs.Terms.{IsColumnOf, IsItemOf};
 
-use crate::fault::BindFault;
 use crate::filter::bind_filter;
 use crate::from::bind_entries;
 use crate::items::bind_items;
-use crate::scope::span_of_column;
 use crate::sources::Sources;
 use rs_catalog::Catalog;
 use rs_lex::Span;
 use rs_query::{Block, Conjunct, Term};
 use rs_syntax::{BlockSyn, Items};
+use rs_typing::{BindFault, span_of_column};
 use rs_value::{Kind, List, Memory, Text};
 use std::alloc::Global;
 

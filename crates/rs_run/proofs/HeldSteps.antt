@@ -24,7 +24,7 @@ use Rattle.rs_bind.specs.Indexes.{index_def_of}
 use Rattle.rs_bind.specs.Names.{columns_of}
 use Rattle.rs_bind.specs.Predicates.{predicate_of}
 use Rattle.rs_bind.specs.Queries.{bound_query}
-use Rattle.rs_bind.specs.declared.fault.BindFault.{BindFault}
+use Rattle.rs_typing.specs.declared.fault.BindFault.{BindFault}
 use Rattle.rs_bind.proofs.IndexFacts.{IsIndex-given}
 use Rattle.rs_query.specs.Answers.{limit_of}
 use Rattle.rs_query.specs.Views.{all_rows}

@@ -7,8 +7,8 @@ use Rattle.rs_syntax.specs.Syntax as syntax
 use Rattle.rs_value.specs.Results.{◌>>=◌}
 use Rattle.rs_catalog.specs.Catalogue.{Catalogue}
 use Rattle.rs_bind.specs.Queries.{bound_query}
-use Rattle.rs_bind.specs.declared.fault.BindFault.{BindFault}
-use Rattle.rs_bind.specs.declared.fault.BindFault.TheVariants as bind
+use Rattle.rs_typing.specs.declared.fault.BindFault.{BindFault}
+use Rattle.rs_typing.specs.declared.fault.BindFault.TheVariants as bind
 use Rattle.rs_query.specs.Answers.{predicate_at}
 use Rattle.rs_query.specs.declared.query.Query.{Query}
 use Rattle.rs_query.specs.Questions.{Faults, Question, request_for}

@@ -17,7 +17,7 @@ use Rattle.rs_syntax.specs.declared.name.Name.{Name}
 use Rattle.rs_syntax.specs.Written.{AreWritten, IsWritten, IsWrittenQuery}
 use Rattle.rs_parse.proofs.ParsesFacts.{AreWritten-parsed}
 use Rattle.rs_bind.specs.Queries.{bound_query, count_of}
-use Rattle.rs_bind.specs.declared.fault.BindFault.{BindFault}
+use Rattle.rs_typing.specs.declared.fault.BindFault.{BindFault}
 use Rattle.rs_query.specs.Answers.{answer_of, cut, limit_of}
 use Rattle.rs_query.specs.Questions.{first_of, is_bad}
 use Rattle.rs_query.specs.Views.{all_rows}

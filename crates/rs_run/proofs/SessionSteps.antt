@@ -18,7 +18,7 @@ use Rattle.rs_syntax.specs.declared.statement.Statement.TheVariants as statement
 use Rattle.rs_run.specs.declared.evaluating.Evaluating.{Evaluating}
 use Rattle.rs_run.specs.declared.fault.Fault.{Fault}
 use Rattle.rs_bind.specs.Queries.{bound_query, count_of}
-use Rattle.rs_bind.specs.declared.fault.BindFault.{BindFault}
+use Rattle.rs_typing.specs.declared.fault.BindFault.{BindFault}
 use Rattle.rs_exec.specs.Cursors.{CursorState}
 use Rattle.rs_plan.specs.Trees.{PlanTree}
 use Rattle.rs_query.specs.declared.query.Query.{Query}

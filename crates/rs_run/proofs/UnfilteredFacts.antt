@@ -12,15 +12,15 @@ use Rattle.rs_query.specs.declared.block.Block.{Block}
 use Rattle.rs_query.specs.declared.query.Query.{Query}
 use Rattle.rs_query.specs.declared.query.Query.TheVariants.{One, Set}
 use Rattle.rs_query.specs.declared.term.Term.{Term}
-use Rattle.rs_bind.specs.declared.fault.BindFault.{BindFault}
-use Rattle.rs_bind.specs.declared.fault.BindFault.TheVariants.{At}
-use Rattle.rs_bind.specs.declared.fault.Why.TheVariants.{SetColumnsDiffer}
+use Rattle.rs_typing.specs.declared.fault.BindFault.{BindFault}
+use Rattle.rs_typing.specs.declared.fault.BindFault.TheVariants.{At}
+use Rattle.rs_typing.specs.declared.fault.Why.TheVariants.{SetColumnsDiffer}
 use Rattle.rs_bind.specs.Conditions.{filter_of}
 use Rattle.rs_bind.specs.Narrow.{HaveNarrowConjuncts}
 use Rattle.rs_bind.specs.Queries.{Unranked, agree, block_columns, bound_limit, bound_query, first_item, needed_by, one_of, output_columns, output_names, set_of, terms_of, unranked_of, with_terms}
 use Rattle.rs_bind.specs.Sources.{Found, entries_of, items_of, sources_of}
 use Rattle.rs_bind.proofs.FormedFacts.{formed}
-use Rattle.rs_bind.proofs.ResultFacts.{same_Ok, well}
+use Rattle.rs_typing.proofs.ResultFacts.{same_Ok, well}
 use Rattle.rs_plan.specs.Plans.{IsComplete, IsPart, IsPlan, IsRank, IsSetPlan}
 use Rattle.rs_plan.specs.Trees.{Distinct, HashJoin, NestedJoin, Rank, RankScan, SeqScan, SetOperator, PlanTree}
 use Rattle.rs_sample.specs.Cards.{BlockCards}

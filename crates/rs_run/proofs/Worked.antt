@@ -18,7 +18,7 @@ use Rattle.rs_run.specs.declared.status.Status.TheVariants as status
 use Rattle.rs_lex.specs.declared.fault.LexFault.TheVariants as lex
 use Rattle.rs_parse.specs.declared.fault.SyntaxFault.TheVariants as syntax
 use Rattle.rs_catalog.specs.declared.room.RoomFault.TheVariants as room
-use Rattle.rs_bind.specs.declared.fault.Why.TheVariants as why
+use Rattle.rs_typing.specs.declared.fault.Why.TheVariants as why
 use Rattle.rs_run.specs.Faults.{fault_line, only, status_of}
 use Rattle.rs_run.specs.Plain.{source_of, without_mark}
 use Rattle.rs_expr.specs.Scoring.{Answering}

@@ -28,7 +28,7 @@ use Rattle.rs_sample.specs.Samples.{samples_from}
 use Rattle.rs_sample.specs.Taking.{taken_from}
 use Rattle.rs_enum.specs.Texts.{text_of}
 use Rattle.rs_exec.specs.Asking.{world_of}
-use Rattle.rs_bind.specs.declared.fault.Why.TheVariants as why
+use Rattle.rs_typing.specs.declared.fault.Why.TheVariants as why
 use Rattle.rs_run.specs.declared.evaluating.Evaluating.TheVariants.{Plainly}
 use Rattle.rs_run.specs.declared.fault.Fault.{Fault}
 use Rattle.rs_run.specs.declared.fault.Fault.TheVariants.{Script, Session}

@@ -20,11 +20,11 @@ use Rattle.rs_syntax.specs.declared.name.Name.{Name}
 use Rattle.rs_syntax.specs.declared.name.Arg.TheVariants as arg
 use Rattle.rs_syntax.specs.declared.select.Items.TheVariants as items
 use Rattle.rs_catalog.specs.declared.room.RoomFault.TheVariants as room
-use Rattle.rs_bind.specs.declared.fault.Why.TheVariants as why
+use Rattle.rs_typing.specs.declared.fault.Why.TheVariants as why
 use Rattle.rs_catalog.specs.Catalogue.{Catalogue, empty}
 use Rattle.rs_bind.specs.Indexes.{index_def_of}
 use Rattle.rs_bind.specs.Queries.{bound_query}
-use Rattle.rs_bind.proofs.ResultFacts.{same_Ok}
+use Rattle.rs_typing.proofs.ResultFacts.{same_Ok}
 use Rattle.rs_query.specs.declared.query.Query.{Query}
 use Rattle.rs_plan.specs.Counts.{counts_of_plan}
 use Rattle.rs_plan.specs.Trees.{NestedJoin, Rank, RankScan, SeqScan}

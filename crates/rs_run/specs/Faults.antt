@@ -14,8 +14,8 @@ use Rattle.rs_catalog.specs.declared.index.IndexFault.{IndexFault}
 use Rattle.rs_catalog.specs.declared.index.IndexFault.TheVariants as index
 use Rattle.rs_catalog.specs.declared.room.RoomFault.{RoomFault}
 use Rattle.rs_catalog.specs.declared.room.RoomFault.TheVariants as room
-use Rattle.rs_bind.specs.declared.fault.Why.{Why}
-use Rattle.rs_bind.specs.declared.fault.Why.TheVariants as why
+use Rattle.rs_typing.specs.declared.fault.Why.{Why}
+use Rattle.rs_typing.specs.declared.fault.Why.TheVariants as why
 use Rattle.rs_run.specs.declared.status.Status.{Status}
 use Rattle.rs_run.specs.declared.status.Status.TheVariants as status
 use Rattle.rs_run.specs.declared.fault.Fault.{Fault}

@@ -4,10 +4,10 @@ use Rattle.std.specs.Str.{bytes_eq}
 use Rattle.std.proofs.lemmas.List.{length_push}
 use Rattle.rs_catalog.specs.Catalogue.{number_named}
 use Rattle.rs_catalog.specs.declared.room.What.TheVariants as what
-use Rattle.rs_bind.specs.declared.fault.BindFault.TheVariants.{At}
-use Rattle.rs_bind.specs.declared.fault.Why.TheVariants.{NoTable}
+use Rattle.rs_typing.specs.declared.fault.BindFault.TheVariants.{At}
+use Rattle.rs_typing.specs.declared.fault.Why.TheVariants.{NoTable}
+use Rattle.rs_typing.specs.Missing.{or_fault}
 use Rattle.rs_bind.specs.Indexes.{columns_in}
-use Rattle.rs_bind.specs.Names.{or_fault}
 use Rattle.rs_bind.specs.Sources.{alias_of}
 use Rattle.rs_bind.proofs.EntryFacts.{AllByRecursion-push, entries-full, entries-next, entries-no_table, entries-twice}
 use Rattle.rs_bind.proofs.from.bind_entries.Goals as goal

@@ -4,7 +4,7 @@ use Rattle.std.proofs.lemmas.Int.{to_z-of_z}
 use mir.Syntax.{w64}
 use mir.Val.{SFits, of_z, to_z}
 use Rattle.rs_bind.specs.Queries.{count_of}
-use Rattle.rs_bind.specs.declared.fault.BindFault.{BindFault}
+use Rattle.rs_typing.specs.declared.fault.BindFault.{BindFault}
 use Rattle.rs_lex.specs.declared.token.Span.{Span}
 use Rattle.rs_value.proofs.ResultFacts.{given-err}
 use Rattle.rs_run.specs.Parts.Session.{CanAllBeAsked, CanBeAsked, next_of, open_cursor, state_of}
