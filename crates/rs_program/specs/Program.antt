@@ -5,10 +5,10 @@ use Rattle.std.specs.declared.process.ExitCode.{ExitCode}
 use denote.Ref.{Bor, MutBor}
 use Rattle.rs_outside.specs.Sink.{Puts}
 use Rattle.rs_outside.specs.declared.sink.SinkFault.{SinkFault}
-use Rattle.rs_run.specs.Faults.{fault_line}
-use Rattle.rs_run.specs.Status.{exit_status_of}
-use Rattle.rs_run.specs.declared.fault.Fault.TheVariants.{Memory}
-use Rattle.rs_run.specs.declared.status.Status.{Status}
+use Rattle.rs_statement.specs.Faults.{fault_line}
+use Rattle.rs_statement.specs.Status.{exit_status_of}
+use Rattle.rs_statement.specs.declared.fault.Fault.TheVariants.{Memory}
+use Rattle.rs_statement.specs.declared.status.Status.{Status}
 
 -- what a run acts on
 pub record Objects (F S O E : Type 0) : Type 0 where

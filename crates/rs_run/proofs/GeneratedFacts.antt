@@ -7,16 +7,16 @@ use Rattle.rs_outside.specs.Files.{FilesTold}
 use Rattle.rs_outside.specs.MemFiles.{files_state}
 use Rattle.rs_expr.specs.Scoring.{Answering, Made}
 use Rattle.rs_gen.specs.Files.{generated, script_name}
-use Rattle.rs_run.specs.declared.evaluating.Evaluating.TheVariants.{Planned}
-use Rattle.rs_run.specs.declared.fault.Fault.{Fault}
+use Rattle.rs_statement.specs.declared.evaluating.Evaluating.TheVariants.{Planned}
+use Rattle.rs_statement.specs.declared.fault.Fault.{Fault}
 use Rattle.rs_run.specs.Generated.{finds_generated, unfetched, without_fetches}
-use Rattle.rs_run.specs.Halts.{CallFailed, Done, Ended, FetchFailed, Halt, HaltsAt, NoMemory, PutFailed, fault_of, fetched_more, halt_events}
-use Rattle.rs_run.specs.Parts.Steps.{Answers, Ran, Runs}
-use Rattle.rs_run.specs.Run.{Event, Fetch, Put, Run, Score, calls, fetches, finds_in, puts}
+use Rattle.rs_statement.specs.Halts.{CallFailed, Done, Ended, FetchFailed, Halt, HaltsAt, NoMemory, PutFailed, fault_of, fetched_more, halt_events}
+use Rattle.rs_statement.specs.Parts.Steps.{Answers, Ran, Runs}
+use Rattle.rs_statement.specs.Run.{Event, Fetch, Put, Run, Score, calls, fetches, finds_in, puts}
 use Rattle.rs_run.specs.Running.{IsCut, IsRunOf, IsScriptRun}
 use Rattle.rs_run.specs.Words.{RunGenerated, RunScript}
-use Rattle.rs_run.specs.World.{World}
-use Rattle.rs_run.proofs.RanFacts.{names-none}
+use Rattle.rs_statement.specs.World.{World}
+use Rattle.rs_statement.proofs.RanFacts.{names-none}
 
 -- events without their fetches: nothing is fetched, and the calls and puts are those that were there
 fetches-without : (events : List Event) → fetches (without_fetches events) ≡ []

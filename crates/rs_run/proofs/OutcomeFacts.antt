@@ -3,19 +3,19 @@ use Rattle.std.proofs.Common.{◌≡◌, ◌∙◌, ◌++◌, List, [], ◌∷�
 use Rattle.std.specs.Prelude.{Option, Ok, Err, ◌⊎◌}
 use Rattle.rs_value.specs.Outside.{Faulted, Keeps, Outside}
 use Rattle.rs_outside.specs.declared.files.FetchFault.TheVariants.{Failed}
-use Rattle.rs_run.specs.declared.fault.Fault.{Fault}
-use Rattle.rs_run.specs.declared.fault.Fault.TheVariants.{Memory, Usage, Write, Read, Table, BadScore, Probe, Script, Session}
-use Rattle.rs_run.specs.declared.status.Status.{Status}
-use Rattle.rs_run.specs.declared.status.Status.TheVariants as status
-use Rattle.rs_run.specs.Faults.{status_of}
-use Rattle.rs_run.specs.Halts.{CallFailed, Did, Done, Ended, FetchFailed, Halt, HaltsAt, NoMemory, PutFailed, fault_of, halt_events}
+use Rattle.rs_statement.specs.declared.fault.Fault.{Fault}
+use Rattle.rs_statement.specs.declared.fault.Fault.TheVariants.{Memory, Usage, Write, Read, Table, BadScore, Probe, Script, Session}
+use Rattle.rs_statement.specs.declared.status.Status.{Status}
+use Rattle.rs_statement.specs.declared.status.Status.TheVariants as status
+use Rattle.rs_statement.specs.Faults.{status_of}
+use Rattle.rs_statement.specs.Halts.{CallFailed, Did, Done, Ended, FetchFailed, Halt, HaltsAt, NoMemory, PutFailed, fault_of, halt_events}
 use Rattle.rs_run.specs.Outcome.{EndsOrNoMemory, ForRun, HasCause, Outcome, Reports}
-use Rattle.rs_run.specs.Parts.Steps.{Answers, Runs}
-use Rattle.rs_run.specs.Run.{Event, Run, fails, finds_in}
+use Rattle.rs_statement.specs.Parts.Steps.{Answers, Runs}
+use Rattle.rs_statement.specs.Run.{Event, Run, fails, finds_in}
 use Rattle.rs_run.specs.Running.{IsRun, IsRunOf, IsCut}
 use Rattle.rs_run.specs.Words.{NoForm, form_of}
-use Rattle.rs_run.specs.World.{KeepsWorld, NoneFailed, World}
-use Rattle.rs_run.proofs.OwnFaults.{OwnFault, own_fault}
+use Rattle.rs_statement.specs.World.{KeepsWorld, NoneFailed, World}
+use Rattle.rs_run.proofs.OwnRuns.{OwnFault, own_fault}
 
 -- the report of a call that answers without a fault
 Reports-ok : (fault : Option Fault) (err : Outside (List (List ℕ))) → Answers fault (Ok tt) → Reports fault status.Done err err

@@ -8,7 +8,7 @@ use Rattle.rs_value.specs.declared.value.Value.{Value}
 use Rattle.rs_table.specs.Relation.{Relation, row_fits, cell_at}
 use Rattle.rs_table.proofs.RelationFacts.{row_fits-at, length-row_fits}
 use Rattle.rs_catalog.specs.Indexes.{row_at}
-use Rattle.rs_run.specs.Parts.Steps.{IsRow}
+use Rattle.rs_run.specs.Parts.Read.{IsRow}
 
 -- a row by its number, as an element of the list
 pub slice_get-row_at : (table : Relation) (row : ℕ) → IsRow table row → slice_get table.rows (row - 1) ≡ Some (row_at table.rows row)

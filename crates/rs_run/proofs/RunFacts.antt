@@ -7,17 +7,18 @@ use Rattle.rs_table.specs.Relation.{Relation}
 use Rattle.rs_value.specs.Results.{◌>>=◌}
 use Rattle.rs_rank.specs.declared.answer.Answer.{Answer}
 use Rattle.rs_expr.specs.Scoring.{Answering}
-use Rattle.rs_run.specs.declared.fault.Fault.{Fault}
-use Rattle.rs_run.specs.declared.fault.Fault.TheVariants.{Memory, Usage}
+use Rattle.rs_statement.specs.declared.fault.Fault.{Fault}
+use Rattle.rs_statement.specs.declared.fault.Fault.TheVariants.{Memory, Usage}
 use Rattle.rs_run.specs.Words.{Form, NoForm, Top, TopWords, form_of}
-use Rattle.rs_run.specs.Lines.{rank_lines}
+use Rattle.rs_statement.specs.Lines.{rank_lines}
 use Rattle.rs_run.specs.Top.{best_rows, ranked_lines, top_lines}
-use Rattle.rs_run.specs.Run.{Event, Fetch, Finds, Put, fails, fetch_then, finds_in}
+use Rattle.rs_statement.specs.Run.{Event, Fetch, Finds, Put, fails, fetch_then, finds_in}
 use Rattle.rs_run.specs.Running.{IsCut, IsRun, IsRunOf}
-use Rattle.rs_run.specs.World.{World}
-use Rattle.rs_run.specs.Parts.Steps.{FetchesFile, IsTopTable, Ran, Runs, lines_run}
-use Rattle.rs_run.proofs.FetchFacts.{Ran-unfetched, fetched-ok}
-use Rattle.rs_run.proofs.RanFacts.{HasDone-none, Ran-all, Ran-behind, Ran-no_memory}
+use Rattle.rs_statement.specs.World.{World}
+use Rattle.rs_statement.specs.Parts.Steps.{FetchesFile, Ran, Runs, lines_run}
+use Rattle.rs_run.specs.Parts.Read.{IsTopTable}
+use Rattle.rs_statement.proofs.FetchFacts.{Ran-unfetched, fetched-ok}
+use Rattle.rs_statement.proofs.RanFacts.{HasDone-none, Ran-all, Ran-behind, Ran-no_memory}
 
 -- what is left of a run behind its fetch
 rest_of : Result (List (List ℕ)) Fault → List Event

@@ -13,21 +13,22 @@ use Rattle.rs_parse.specs.Scripts.{IsSound, Parses, Refuses}
 use Rattle.rs_syntax.specs.Syntax.{Command}
 use Rattle.rs_parse.specs.declared.fault.SyntaxFault.{SyntaxFault}
 use Rattle.rs_parse.specs.declared.fault.SyntaxFault.TheVariants as syntax
-use Rattle.rs_run.specs.declared.fault.Fault.{Fault}
-use Rattle.rs_run.specs.declared.fault.Fault.TheVariants.{Memory}
-use Rattle.rs_run.specs.Faults.{lex_fault, parse_fault}
-use Rattle.rs_run.specs.Parts.Steps.{FetchFails, Fetched, FetchesFile, IsSource, NotFetched, Runs}
+use Rattle.rs_statement.specs.declared.fault.Fault.{Fault}
+use Rattle.rs_statement.specs.declared.fault.Fault.TheVariants.{Memory}
+use Rattle.rs_statement.specs.Faults.{lex_fault, parse_fault}
+use Rattle.rs_statement.specs.Parts.Steps.{FetchFails, Fetched, FetchesFile, NotFetched, Runs}
+use Rattle.rs_run.specs.Parts.Read.{IsSource}
 use Rattle.rs_run.specs.Plain.{HasTokens, TextRuns, read, runs, unlexed, unparsed, unread}
-use Rattle.rs_run.specs.Run.{Event, Fetch, Finds, Run, behind, fails, fetch_then, finds_in}
+use Rattle.rs_statement.specs.Run.{Event, Fetch, Finds, Run, behind, fails, fetch_then, finds_in}
 use Rattle.rs_run.specs.Running.{IsCut, IsRunOf}
-use Rattle.rs_run.specs.Sequence.{RunOf, RunsOn}
-use Rattle.rs_run.specs.declared.evaluating.Evaluating.{Evaluating}
-use Rattle.rs_run.specs.Session.{DoesInSession, State, StatementsRun, nothing}
+use Rattle.rs_statement.specs.Sequence.{RunOf, RunsOn}
+use Rattle.rs_statement.specs.declared.evaluating.Evaluating.{Evaluating}
+use Rattle.rs_statement.specs.Session.{DoesInSession, State, StatementsRun, nothing}
 use Rattle.rs_run.specs.Words.{RunScript}
-use Rattle.rs_run.specs.World.{World}
-use Rattle.rs_run.proofs.FetchFacts.{Ran-unfetched, fetched-ok}
-use Rattle.rs_run.proofs.RanFacts.{HasDone-none, Ran-all, Ran-behind}
-use Rattle.rs_run.proofs.StatementFacts.{DoesInSession-finds, finds-after}
+use Rattle.rs_statement.specs.World.{World}
+use Rattle.rs_statement.proofs.FetchFacts.{Ran-unfetched, fetched-ok}
+use Rattle.rs_statement.proofs.RanFacts.{HasDone-none, Ran-all, Ran-behind}
+use Rattle.rs_statement.proofs.StatementFacts.{DoesInSession-finds, finds-after}
 
 -- the lexer refuses the text
 unlexed-runs : (statements : List Command → Run → Type 0) (script : List ℕ) (why : LexFault) → (why ≡ lex.Memory) ⊎ spelling.RefusesBytes 0 0 script why

@@ -2,15 +2,15 @@
 use Rattle.std.specs.Prelude.{ℕ, ◌≡◌, ◌⊎◌, List, [], ◌∷◌, ◌++◌, Option, Some, None, option_map}
 use Rattle.rs_value.specs.Outside.{Faulted, Outside}
 use Rattle.rs_outside.specs.Sink.{IsPrefix}
-use Rattle.rs_run.specs.declared.status.Status.{Status}
-use Rattle.rs_run.specs.declared.status.Status.TheVariants as status
-use Rattle.rs_run.specs.declared.fault.Fault.{Fault}
-use Rattle.rs_run.specs.declared.fault.Fault.TheVariants.{Memory}
-use Rattle.rs_run.specs.Faults.{status_of, fault_line}
-use Rattle.rs_run.specs.Halts.{Did, Done, Halt, fault_of}
+use Rattle.rs_statement.specs.declared.status.Status.{Status}
+use Rattle.rs_statement.specs.declared.status.Status.TheVariants as status
+use Rattle.rs_statement.specs.declared.fault.Fault.{Fault}
+use Rattle.rs_statement.specs.declared.fault.Fault.TheVariants.{Memory}
+use Rattle.rs_statement.specs.Faults.{status_of, fault_line}
+use Rattle.rs_statement.specs.Halts.{Did, Done, Halt, fault_of}
 use Rattle.rs_run.specs.Words.{form_of}
-use Rattle.rs_run.specs.World.{World}
-use Rattle.rs_run.specs.Run.{Run, finds_in}
+use Rattle.rs_statement.specs.World.{World}
+use Rattle.rs_statement.specs.Run.{Run, finds_in}
 use Rattle.rs_run.specs.Running.{IsCut, IsRun}
 
 -- one line was put; where the sink failed, a part of it

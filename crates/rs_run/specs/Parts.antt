@@ -1,5 +1,3 @@
 -- Definitions that serve the contracts of private functions alone.
 pub mod Command
-pub mod Session
-pub mod Steps
-pub mod Asks
+pub mod Read

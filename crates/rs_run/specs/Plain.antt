@@ -11,11 +11,11 @@ use Rattle.rs_lex.specs.declared.token.Token.{Token}
 use Rattle.rs_parse.specs.Scripts.{IsSound, Parses, Refuses}
 use Rattle.rs_syntax.specs.Syntax.{Command}
 use Rattle.rs_parse.specs.declared.fault.SyntaxFault.{SyntaxFault}
-use Rattle.rs_run.specs.declared.fault.Fault.{Fault}
-use Rattle.rs_run.specs.declared.fault.Fault.TheVariants.{Memory, Script}
-use Rattle.rs_run.specs.declared.script_fault.ScriptFault.TheVariants.{NotUtf8, Lex, Parse}
-use Rattle.rs_run.specs.Content.{content_of}
-use Rattle.rs_run.specs.Run.{Fetch, Finds, Run, behind, fails}
+use Rattle.rs_statement.specs.declared.fault.Fault.{Fault}
+use Rattle.rs_statement.specs.declared.fault.Fault.TheVariants.{Memory, Script}
+use Rattle.rs_statement.specs.declared.script_fault.ScriptFault.TheVariants.{NotUtf8, Lex, Parse}
+use Rattle.rs_statement.specs.Content.{content_of}
+use Rattle.rs_statement.specs.Run.{Fetch, Finds, Run, behind, fails}
 
 -- the most bytes of a script's file, a byte order mark counted
 abbrev pub script_limit : ℕ

@@ -3,16 +3,17 @@ use Rattle.std.specs.Prelude.{ℕ, ◌≡◌, List, Option, Ok, Err}
 use Rattle.std.specs.List.{AllByRecursion}
 use Rattle.rs_gen.specs.Files.{script_name}
 use Rattle.rs_run.specs.Generated.{finds_generated, unfetched}
-use Rattle.rs_run.specs.declared.evaluating.Evaluating.{Evaluating}
-use Rattle.rs_run.specs.declared.evaluating.Evaluating.TheVariants.{Planned}
-use Rattle.rs_syntax.specs.Syntax.{Command, Explain, ExplainAnalyze}
-use Rattle.rs_run.specs.declared.fault.Fault.TheVariants.{Memory, Usage}
+use Rattle.rs_statement.specs.declared.evaluating.Evaluating.{Evaluating}
+use Rattle.rs_statement.specs.declared.evaluating.Evaluating.TheVariants.{Planned}
+use Rattle.rs_syntax.specs.Syntax.{Command}
+use Rattle.rs_statement.specs.declared.fault.Fault.TheVariants.{Memory, Usage}
 use Rattle.rs_run.specs.Words.{Form, NoForm, RunGenerated, RunScript, Top, form_of}
 use Rattle.rs_run.specs.Top.{top_lines}
 use Rattle.rs_run.specs.Plain.{HasStatements, ScriptRuns, source_of}
 use Rattle.rs_expr.specs.Scoring.{Answering}
-use Rattle.rs_run.specs.Run.{Finds, Run, fails, fetch_then}
-use Rattle.rs_run.specs.Session.{StatementsRun}
+use Rattle.rs_statement.specs.Run.{Finds, Run, fails, fetch_then}
+use Rattle.rs_statement.specs.Session.{StatementsRun}
+use Rattle.rs_statement.specs.Statements.{IsNoExplain}
 
 -- the run of the script of this name, whose queries are evaluated so
 abbrev pub IsScriptRun : Finds → Answering → List ℕ → Evaluating → Run → Type 0
@@ -41,13 +42,7 @@ IsCut (RunScript name evaluating) run = run ≡ fetch_then name (Err Memory)
 IsCut (RunGenerated number rows) run = run ≡ fails Memory
 IsCut NoForm run = ⊥
 
--- a statement that is neither EXPLAIN nor EXPLAIN ANALYZE
-abbrev pub IsNoExplain : Command → Type 0
-IsNoExplain (Explain query) = ⊥
-IsNoExplain (ExplainAnalyze query) = ⊥
-IsNoExplain command = Unit {0}
-
--- the script under a name has such statements alone
+-- the script under a name has no statement that is EXPLAIN or EXPLAIN ANALYZE
 abbrev pub HasNoExplain : Finds → List ℕ → Type 0
 HasNoExplain finds name = (there : Option (List ℕ)) (script : List ℕ) (commands : List Command) → finds name there → source_of name there ≡ Ok script
     → HasStatements script commands → AllByRecursion IsNoExplain commands

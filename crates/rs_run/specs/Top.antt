@@ -1,5 +1,5 @@
 -- The word `top`: the first rows of a table by the number in a column.
-use Rattle.std.specs.Prelude.{ℕ, ℤ, pos, List, map, take, Option, unwrap_or, option_map, slice_get, Result, Ok, Err}
+use Rattle.std.specs.Prelude.{ℕ, ℤ, pos, List, map, take, Option, unwrap_or, option_map, slice_get, Result, Ok}
 use Rattle.rs_value.specs.declared.value.Value.{Value}
 use Rattle.rs_value.specs.declared.value.Value.TheVariants.{Int, Text}
 use Rattle.rs_table.specs.declared.fault.TableFault.{TableFault}
@@ -12,21 +12,11 @@ use Rattle.rs_rank.specs.declared.answer.Answer.{Answer}
 use Rattle.rs_rank.specs.declared.scored_row.ScoredRow.{ScoredRow}
 use Rattle.rs_catalog.specs.Indexes.{row_at, scored_from}
 use Rattle.rs_catalog.specs.declared.index.IndexFault.{IndexFault}
-use Rattle.rs_run.specs.declared.fault.Fault.{Fault}
-use Rattle.rs_run.specs.declared.fault.Fault.TheVariants.{Table}
-use Rattle.rs_run.specs.Faults.{only, or_index_fault}
+use Rattle.rs_statement.specs.declared.fault.Fault.{Fault}
+use Rattle.rs_statement.specs.Faults.{only, or_index_fault}
 use Rattle.rs_run.specs.Words.{TopWords}
-use Rattle.rs_run.specs.Content.{content_of}
-use Rattle.rs_run.specs.Lines.{rank_lines}
-
--- the most bytes of a table's file
-abbrev pub table_limit : ℕ
-table_limit = 33554432
-
--- a fault of this file's table ends the run
-abbrev pub or_table_fault : {A : Type 0} → List ℕ → Result A TableFault → Result A Fault
-or_table_fault name (Ok a) = Ok a
-or_table_fault name (Err why) = Err (Table name why)
+use Rattle.rs_statement.specs.Content.{content_of, or_table_fault, table_limit}
+use Rattle.rs_statement.specs.Lines.{rank_lines}
 
 -- the number of a value, of which a text has none
 abbrev pub number_in : Value → ℤ

@@ -2,8 +2,8 @@
 use Rattle.std.specs.Prelude.{ℕ, nat_le, List, [], ◌∷◌, length, Option, Some, None, option_map, if◌then◌else◌, codes}
 use Rattle.std.specs.Str.{bytes_eq}
 use Rattle.rs_value.specs.Number.{decimal_value}
-use Rattle.rs_run.specs.declared.evaluating.Evaluating.{Evaluating}
-use Rattle.rs_run.specs.declared.evaluating.Evaluating.TheVariants.{Plainly, Planned}
+use Rattle.rs_statement.specs.declared.evaluating.Evaluating.{Evaluating}
+use Rattle.rs_statement.specs.declared.evaluating.Evaluating.TheVariants.{Plainly, Planned}
 
 -- what `top FILE COLUMN MAX K` asks for
 pub record TopWords : Type 0 where

@@ -1,21 +1,20 @@
 ghost use Rattle.std.specs.Prelude.{◌≡◌, ◌⊎◌, ℕ};
 ghost use Rattle.rs_value.specs.Outside.{Faulted};
 ghost use Rattle.rs_run.specs.Outcome.{EndsOrNoMemory, ForRun, HasCause, Outcome};
-ghost use Rattle.rs_run.specs.Parts.Steps.{Runs};
-ghost use Rattle.rs_run.specs.Run.{finds_in};
+ghost use Rattle.rs_statement.specs.Parts.Steps.{Runs};
+ghost use Rattle.rs_statement.specs.Run.{finds_in};
 ghost use Rattle.rs_run.specs.Running.{IsCut, IsRun};
 ghost use Rattle.rs_run.specs.Words.{NoForm, RunGenerated, form_of};
-ghost use Rattle.rs_run.specs.World.{KeepsWorld, NoneFailed, World, world};
+ghost use Rattle.rs_statement.specs.World.{KeepsWorld, NoneFailed, World, world};
 
-use crate::fault::Fault;
 use crate::generated::run_generated;
 use crate::plain::run_script;
 use crate::report::report;
-use crate::status::Status;
 use crate::top::top;
 use crate::words::{Command, command_of};
 use rs_expr::Scorer;
 use rs_outside::{Files, Sink};
+use rs_statement::{Fault, Status};
 use rs_value::Text;
 use std::alloc::Global;
 

@@ -1,17 +1,16 @@
 ghost use Rattle.std.specs.Prelude.{◌≡◌, ◌⊎◌, IfOk};
 ghost use Rattle.rs_gen.specs.Files.{script_name};
-ghost use Rattle.rs_run.specs.Parts.Steps.{Runs};
-ghost use Rattle.rs_run.specs.Run.{finds_in};
+ghost use Rattle.rs_statement.specs.Parts.Steps.{Runs};
+ghost use Rattle.rs_statement.specs.Run.{finds_in};
 ghost use Rattle.rs_run.specs.Running.{IsCut, IsRunOf};
 ghost use Rattle.rs_run.specs.Words.{RunGenerated};
-ghost use Rattle.rs_run.specs.World.{World};
+ghost use Rattle.rs_statement.specs.World.{World};
 
-use crate::evaluating::Evaluating;
-use crate::fault::Fault;
 use crate::plain::run_script;
 use rs_expr::Scorer;
 use rs_gen::generate;
 use rs_outside::Sink;
+use rs_statement::{Evaluating, Fault};
 use rs_value::{Memory, Text};
 use std::alloc::Global;
 

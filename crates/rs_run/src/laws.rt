@@ -9,10 +9,10 @@ ghost use Rattle.rs_expr.specs.Scoring.{Answering};
 ghost use Rattle.rs_table.specs.Relation.{Relation};
 ghost use Rattle.rs_catalog.specs.Catalogue.{with_index, with_predicate, with_table};
 ghost use Rattle.rs_catalog.specs.declared.index.IndexDef.{IndexDef};
-ghost use Rattle.rs_run.specs.declared.evaluating.Evaluating.TheVariants.{Plainly, Planned};
-ghost use Rattle.rs_run.specs.Run.{Run, finds_in, found_in, puts};
+ghost use Rattle.rs_statement.specs.declared.evaluating.Evaluating.TheVariants.{Plainly, Planned};
+ghost use Rattle.rs_statement.specs.Run.{Run, finds_in, found_in, puts};
 ghost use Rattle.rs_run.specs.Running.{HasNoExplain, IsRun, IsRunOf};
-ghost use Rattle.rs_run.specs.Session.{IsCursorOf, OpenCursor, State, fetched_step};
+ghost use Rattle.rs_statement.specs.Session.{IsCursorOf, OpenCursor, State, fetched_step};
 ghost use Rattle.rs_run.specs.Words.{RunScript};
 
 use rs_enum::there_is_one_least_plan;

@@ -1,24 +1,22 @@
 ghost use Rattle.std.specs.Prelude.{◌≡◌, ◌≤◌, ◌⊎◌, IfOk, length};
 ghost use Rattle.rs_value.specs.Answer.{Gives};
 ghost use Rattle.rs_value.specs.Text.{text_of};
-ghost use Rattle.rs_run.specs.declared.fault.Fault.TheVariants.{Memory};
-ghost use Rattle.rs_run.specs.Parts.Steps.{FetchesFile, IsSource, Runs};
+ghost use Rattle.rs_statement.specs.declared.fault.Fault.TheVariants.{Memory};
+ghost use Rattle.rs_statement.specs.Parts.Steps.{FetchesFile, Runs};
+ghost use Rattle.rs_run.specs.Parts.Read.{IsSource};
 ghost use Rattle.rs_run.specs.Plain.{TextRuns, or_text_fault, without_mark};
-ghost use Rattle.rs_run.specs.Run.{fails, finds_in};
+ghost use Rattle.rs_statement.specs.Run.{fails, finds_in};
 ghost use Rattle.rs_run.specs.Running.{IsCut, IsRunOf};
-ghost use Rattle.rs_run.specs.Session.{StatementsRun};
+ghost use Rattle.rs_statement.specs.Session.{StatementsRun};
 ghost use Rattle.rs_run.specs.Words.{RunScript};
-ghost use Rattle.rs_run.specs.World.{World};
+ghost use Rattle.rs_statement.specs.World.{World};
 
-use crate::evaluating::Evaluating;
-use crate::fault::Fault;
-use crate::fetch::fetch_file;
-use crate::script_fault::ScriptFault;
 use crate::statement::run_statements;
 use rs_expr::Scorer;
 use rs_lex::{MOST_BYTES, tokens};
 use rs_outside::{Files, Sink};
 use rs_parse::parse;
+use rs_statement::{Evaluating, Fault, ScriptFault, fetch_file};
 use rs_value::{Text, TextFault};
 use std::alloc::Global;
 

@@ -2,9 +2,8 @@ ghost use Rattle.std.specs.Prelude.{Some};
 ghost use Rattle.rs_value.specs.Outside.{Keeps};
 ghost use Rattle.rs_run.specs.Outcome.{Reports};
 
-use crate::fault::Fault;
-use crate::status::Status;
 use rs_outside::{Sink, SinkFault};
+use rs_statement::{Fault, Status};
 use std::alloc::Global;
 
 /// Puts the fault's line to standard error, and answers the status: the fault's, or Memory where there was no memory

@@ -2,7 +2,7 @@ ghost use Rattle.std.specs.Prelude.{◌≡◌, Option, option_map};
 ghost use Rattle.rs_run.specs.Words.{form_of, gen_words, number_word, plain_words, run_words, top_words};
 ghost use Rattle.rs_run.specs.Parts.Command.{form_of_command, words_of};
 
-use crate::evaluating::Evaluating;
+use rs_statement::Evaluating;
 use rs_value::{Text, decimal_of};
 
 /// The greatest MAX of `top`.

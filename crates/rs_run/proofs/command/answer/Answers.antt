@@ -1,8 +1,8 @@
 use Rattle.std.proofs.Common.{◌≡◌, refl, sym}
 use Rattle.std.specs.Prelude.{Err}
-use Rattle.rs_run.specs.declared.fault.Fault.TheVariants.{Usage}
+use Rattle.rs_statement.specs.declared.fault.Fault.TheVariants.{Usage}
 use Rattle.rs_run.specs.Parts.Command.{words_of}
-use Rattle.rs_run.specs.Run.{finds_in}
+use Rattle.rs_statement.specs.Run.{finds_in}
 use Rattle.rs_run.specs.Words.{NoForm, RunGenerated, RunScript, Top, form_of}
 use Rattle.rs_run.proofs.RunFacts.{Runs-form, Runs-usage, Runs-whole}
 use Rattle.rs_run.proofs.command.answer.Goals as goal

@@ -1,5 +1,5 @@
 use Rattle.std.proofs.Common.{refl}
-use Rattle.rs_run.specs.World.{world}
+use Rattle.rs_statement.specs.World.{world}
 use Rattle.rs_run.proofs.OutcomeFacts.{tells-fault, tells-ok}
 use Rattle.rs_run.proofs.command.run.Goals as goal
 

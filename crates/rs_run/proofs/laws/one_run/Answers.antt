@@ -1,6 +1,7 @@
 use Rattle.std.specs.Prelude.{Some}
-use Rattle.rs_run.specs.Run.{finds_in, found_in}
-use Rattle.rs_run.proofs.OneRun.{IsRun-one, found-one, told-one}
+use Rattle.rs_statement.specs.Run.{finds_in, found_in}
+use Rattle.rs_statement.proofs.OneStep.{found-one, told-one}
+use Rattle.rs_run.proofs.OneRun.{IsRun-one}
 use Rattle.rs_run.proofs.laws.one_run.Goals as goal
 
 pub returns : goal.returns

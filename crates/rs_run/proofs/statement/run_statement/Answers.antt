@@ -1,13 +1,13 @@
 use Rattle.rs_syntax.specs.Syntax.{command_of, query_of}
 use Rattle.rs_exec.specs.Indexes.{AreHeld}
-use Rattle.rs_run.specs.Parts.Session.{CanAllBeAsked, state_of}
-use Rattle.rs_run.specs.Run.{finds_in}
-use Rattle.rs_run.specs.Session.{DoesInSession, close_outcome, declare_step, fetch_step}
-use Rattle.rs_run.specs.Statements.{Does}
-use Rattle.rs_run.specs.World.{world}
-use Rattle.rs_run.proofs.HeldSteps.{asked-step, held-step}
-use Rattle.rs_run.proofs.SessionSteps.{Stepped-beside, does-close, does-declare, does-fetch, if-ok, if-stepped, of_no_cursor}
-use Rattle.rs_run.proofs.SteppedFacts.{Stepped-is, Stepped-still}
+use Rattle.rs_statement.specs.Parts.Session.{CanAllBeAsked, held_in, state_of}
+use Rattle.rs_statement.specs.Run.{finds_in}
+use Rattle.rs_statement.specs.Session.{DoesInSession, close_outcome, declare_step, fetch_step}
+use Rattle.rs_statement.specs.Statements.{Does}
+use Rattle.rs_statement.specs.World.{world}
+use Rattle.rs_statement.proofs.HeldSteps.{asked-step, held-step}
+use Rattle.rs_statement.proofs.SessionSteps.{Stepped-beside, does-close, does-declare, does-fetch, if-ok, if-stepped, of_no_cursor}
+use Rattle.rs_statement.proofs.SteppedFacts.{Stepped-is, Stepped-still}
 use Rattle.rs_run.proofs.statement.run_statement.Goals as goal
 
 pub declare-requires : goal.declare-requires
@@ -17,10 +17,10 @@ pub returns-in-Declare : goal.returns-in-Declare
 returns-in-Declare g c =
     let finds = finds_in (g.F.Files.state c.args.files.now).told in
     let answer = (g.S.Scorer.state c.args.scorer.now).answer in
-    let state = state_of c.args.catalog.now c.args.session.now.cursors.entries in record {
+    let state = state_of c.args.catalog.now (held_in c.args.session.now) in record {
       does = λ beside. Stepped-is (DoesInSession finds answer c.args.evaluating state (command_of c.args.statement.now))
           (declare_step c.args.evaluating answer state c.in-Declare.name (query_of c.in-Declare.select))
-          (state_of c.args.catalog.now c.declare.new.session.cursors.entries) c.declare.result
+          (state_of c.args.catalog.now (held_in c.declare.new.session)) c.declare.result
           (record beside { files = g.F.Files.state c.args.files.now; scorer = g.S.Scorer.state c.args.scorer.now; out = g.O.Sink.state c.args.out.now })
           (record beside { files = g.F.Files.state c.args.files.now; scorer = g.S.Scorer.state c.declare.new.scorer; out = g.O.Sink.state c.args.out.now })
           (does-declare finds answer c.args.evaluating state c.args.statement.now c.in-Declare.name c.in-Declare.select c.in-Declare.is)
@@ -36,10 +36,10 @@ pub returns-in-Fetch : goal.returns-in-Fetch
 returns-in-Fetch g c =
     let finds = finds_in (g.F.Files.state c.args.files.now).told in
     let answer = (g.S.Scorer.state c.args.scorer.now).answer in
-    let state = state_of c.args.catalog.now c.args.session.now.cursors.entries in record {
+    let state = state_of c.args.catalog.now (held_in c.args.session.now) in record {
       does = λ beside. Stepped-is (DoesInSession finds answer c.args.evaluating state (command_of c.args.statement.now))
           (fetch_step answer state c.in-Fetch.count c.in-Fetch.name)
-          (state_of c.args.catalog.now c.fetch.new.session.cursors.entries) c.fetch.result
+          (state_of c.args.catalog.now (held_in c.fetch.new.session)) c.fetch.result
           (record beside { files = g.F.Files.state c.args.files.now; scorer = g.S.Scorer.state c.args.scorer.now; out = g.O.Sink.state c.args.out.now })
           (record beside { files = g.F.Files.state c.args.files.now; scorer = g.S.Scorer.state c.fetch.new.scorer; out = g.O.Sink.state c.fetch.new.out })
           (does-fetch finds answer c.args.evaluating state c.args.statement.now c.in-Fetch.count c.in-Fetch.name c.in-Fetch.is)
@@ -52,9 +52,9 @@ pub returns-in-Close : goal.returns-in-Close
 returns-in-Close g c =
     let finds = finds_in (g.F.Files.state c.args.files.now).told in
     let answer = (g.S.Scorer.state c.args.scorer.now).answer in
-    let state = state_of c.args.catalog.now c.args.session.now.cursors.entries in record {
+    let state = state_of c.args.catalog.now (held_in c.args.session.now) in record {
       does = λ beside. Stepped-still (DoesInSession finds answer c.args.evaluating state (command_of c.args.statement.now))
-          (close_outcome state c.in-Close.name) (state_of c.args.catalog.now c.close.new.session.cursors.entries) c.close.result
+          (close_outcome state c.in-Close.name) (state_of c.args.catalog.now (held_in c.close.new.session)) c.close.result
           (record beside { files = g.F.Files.state c.args.files.now; scorer = g.S.Scorer.state c.args.scorer.now; out = g.O.Sink.state c.args.out.now })
           (does-close finds answer c.args.evaluating state c.args.statement.now c.in-Close.name c.in-Close.is)
           (c.close.ensures.closes c.args.catalog.now);
@@ -74,7 +74,7 @@ returns-in_default g c =
     let finds = finds_in (g.F.Files.state c.args.files.now).told in
     let answer = (g.S.Scorer.state c.args.scorer.now).answer in
     let catalogue = c.args.catalog.now in
-    let entries = c.args.session.now.cursors.entries in
+    let entries = held_in c.args.session.now in
     let command = command_of c.args.statement.now in
     let next = c.run_without_cursor.new.catalog in
     let at = world (g.F.Files.state c.args.files.now) (g.S.Scorer.state c.args.scorer.now) (g.O.Sink.state c.args.out.now) (g.O.Sink.state c.args.out.now) in

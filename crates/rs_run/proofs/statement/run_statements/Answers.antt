@@ -2,18 +2,18 @@ use Rattle.std.proofs.Common.{◌≡◌, refl, sym, subst, suc, ◌+◌, drop, a
 use Rattle.std.specs.Prelude.{Err, Ok}
 use Rattle.rs_syntax.specs.Syntax.{command_of, commands_of}
 use Rattle.rs_exec.specs.Indexes.{AreHeld}
-use Rattle.rs_run.specs.Run.{finds_in}
-use Rattle.rs_run.specs.Parts.Session.{CanAllBeAsked, cursors_of, state_of}
-use Rattle.rs_run.specs.Session.{DoesInSession, nothing}
-use Rattle.rs_run.specs.World.{world}
-use Rattle.rs_run.proofs.LoopFacts.{Between, Between-next, Between-start, Runs-all, Runs-stops, drop-all, drop-at}
-use Rattle.rs_run.proofs.StatementFacts.{Stepped-first, some-step, written-at}
+use Rattle.rs_statement.specs.Run.{finds_in}
+use Rattle.rs_statement.specs.Parts.Session.{CanAllBeAsked, cursors_of, held_in, state_of}
+use Rattle.rs_statement.specs.Session.{DoesInSession, nothing}
+use Rattle.rs_statement.specs.World.{world}
+use Rattle.rs_statement.proofs.LoopFacts.{Between, Between-next, Between-start, Runs-all, Runs-stops, drop-all, drop-at}
+use Rattle.rs_statement.proofs.StatementFacts.{Stepped-first, some-step, written-at}
 use Rattle.rs_run.proofs.statement.run_statements.Goals as goal
 
 pub loop-statement-init : goal.loop-statement-init
 loop-statement-init g c =
     let answer = (g.S.Scorer.state c.args.scorer.now).answer in
-    let starts : nothing ≡ state_of c.new-catalog.result c.new-session.result.cursors.entries = λ i. record {
+    let starts : nothing ≡ state_of c.new-catalog.result (held_in c.new-session.result) = λ i. record {
       catalogue = sym c.new-catalog.ensures i;
       cursors = cursors_of (sym c.new-session.ensures i);
     } in record {
@@ -31,18 +31,18 @@ run_statement-requires g c =
     let at = world (g.F.Files.state c.loop-statement.files) (g.S.Scorer.state c.loop-statement.scorer) (g.O.Sink.state c.loop-statement.out) (g.O.Sink.state c.loop-statement.out) in record {
       written = written-at c.args.statements.now c.loop-statement.statement-index c.statement-item.result c.loop-statement-test.true c.statement-item.is c.requires.written;
       held = subst (λ answer. AreHeld answer c.loop-statement.catalog) (sym (c.loop-statement.invariant.between at).has.keeps.scorer.answer) c.loop-statement.invariant.held;
-      asked = subst (λ answer. CanAllBeAsked answer c.loop-statement.catalog c.loop-statement.session.cursors.entries) (sym (c.loop-statement.invariant.between at).has.keeps.scorer.answer) c.loop-statement.invariant.asked;
+      asked = subst (λ answer. CanAllBeAsked answer c.loop-statement.catalog (held_in c.loop-statement.session)) (sym (c.loop-statement.invariant.between at).has.keeps.scorer.answer) c.loop-statement.invariant.asked;
     }
 
 pub returns-in-Err : goal.returns-in-Err
 returns-in-Err g c = λ beside. Runs-stops (DoesInSession (finds_in (g.F.Files.state c.args.files.now).told) (g.S.Scorer.state c.args.scorer.now).answer c.args.evaluating) nothing (commands_of c.args.statements.now)
-    (drop (suc c.loop-statement.statement-index) (commands_of c.args.statements.now)) (command_of c.statement-item.result) c.loop-statement.statement-index (state_of c.loop-statement.catalog c.loop-statement.session.cursors.entries) (state_of c.run_statement.new.catalog c.run_statement.new.session.cursors.entries)
+    (drop (suc c.loop-statement.statement-index) (commands_of c.args.statements.now)) (command_of c.statement-item.result) c.loop-statement.statement-index (state_of c.loop-statement.catalog (held_in c.loop-statement.session)) (state_of c.run_statement.new.catalog (held_in c.run_statement.new.session))
     (record beside { files = g.F.Files.state c.args.files.now; scorer = g.S.Scorer.state c.args.scorer.now; out = g.O.Sink.state c.args.out.now }) (record beside { files = g.F.Files.state c.loop-statement.files; scorer = g.S.Scorer.state c.loop-statement.scorer; out = g.O.Sink.state c.loop-statement.out }) (record beside { files = g.F.Files.state c.run_statement.new.files; scorer = g.S.Scorer.state c.run_statement.new.scorer; out = g.O.Sink.state c.run_statement.new.out })
     (c.loop-statement.invariant.between beside)
     (drop-at command_of c.args.statements.now c.loop-statement.statement-index c.statement-item.result c.loop-statement-test.true c.statement-item.is)
     (some-step (g.F.Files.state c.args.files.now).told (g.S.Scorer.state c.args.scorer.now).answer c.args.evaluating)
     c.in-Err.fault
-    (Stepped-first (c.loop-statement.invariant.between beside).made c.args.evaluating (state_of c.loop-statement.catalog c.loop-statement.session.cursors.entries) (state_of c.run_statement.new.catalog c.run_statement.new.session.cursors.entries)
+    (Stepped-first (c.loop-statement.invariant.between beside).made c.args.evaluating (state_of c.loop-statement.catalog (held_in c.loop-statement.session)) (state_of c.run_statement.new.catalog (held_in c.run_statement.new.session))
     (command_of c.statement-item.result) (Err c.in-Err.fault) (record beside { files = g.F.Files.state c.args.files.now; scorer = g.S.Scorer.state c.args.scorer.now; out = g.O.Sink.state c.args.out.now })
     (record beside { files = g.F.Files.state c.loop-statement.files; scorer = g.S.Scorer.state c.loop-statement.scorer; out = g.O.Sink.state c.loop-statement.out }) (record beside { files = g.F.Files.state c.run_statement.new.files; scorer = g.S.Scorer.state c.run_statement.new.scorer; out = g.O.Sink.state c.run_statement.new.out })
     (c.loop-statement.invariant.between beside).has (c.in-Err.ensures.does beside))
@@ -50,12 +50,12 @@ returns-in-Err g c = λ beside. Runs-stops (DoesInSession (finds_in (g.F.Files.s
 pub loop-statement-preserved : goal.loop-statement-preserved
 loop-statement-preserved g c = record {
   between = λ beside. Between-next (DoesInSession (finds_in (g.F.Files.state c.args.files.now).told) (g.S.Scorer.state c.args.scorer.now).answer c.args.evaluating) nothing (commands_of c.args.statements.now)
-      (drop (suc c.loop-statement.statement-index) (commands_of c.args.statements.now)) (command_of c.statement-item.result) c.loop-statement.statement-index (state_of c.loop-statement.catalog c.loop-statement.session.cursors.entries) (state_of c.run_statement.new.catalog c.run_statement.new.session.cursors.entries)
+      (drop (suc c.loop-statement.statement-index) (commands_of c.args.statements.now)) (command_of c.statement-item.result) c.loop-statement.statement-index (state_of c.loop-statement.catalog (held_in c.loop-statement.session)) (state_of c.run_statement.new.catalog (held_in c.run_statement.new.session))
       (record beside { files = g.F.Files.state c.args.files.now; scorer = g.S.Scorer.state c.args.scorer.now; out = g.O.Sink.state c.args.out.now }) (record beside { files = g.F.Files.state c.loop-statement.files; scorer = g.S.Scorer.state c.loop-statement.scorer; out = g.O.Sink.state c.loop-statement.out }) (record beside { files = g.F.Files.state c.run_statement.new.files; scorer = g.S.Scorer.state c.run_statement.new.scorer; out = g.O.Sink.state c.run_statement.new.out })
       (c.loop-statement.invariant.between beside)
       (drop-at command_of c.args.statements.now c.loop-statement.statement-index c.statement-item.result c.loop-statement-test.true c.statement-item.is)
       (c.loop-statement.statement-index + 1) (omega arith) refl
-      (Stepped-first (c.loop-statement.invariant.between beside).made c.args.evaluating (state_of c.loop-statement.catalog c.loop-statement.session.cursors.entries) (state_of c.run_statement.new.catalog c.run_statement.new.session.cursors.entries)
+      (Stepped-first (c.loop-statement.invariant.between beside).made c.args.evaluating (state_of c.loop-statement.catalog (held_in c.loop-statement.session)) (state_of c.run_statement.new.catalog (held_in c.run_statement.new.session))
       (command_of c.statement-item.result) (Ok tt) (record beside { files = g.F.Files.state c.args.files.now; scorer = g.S.Scorer.state c.args.scorer.now; out = g.O.Sink.state c.args.out.now })
       (record beside { files = g.F.Files.state c.loop-statement.files; scorer = g.S.Scorer.state c.loop-statement.scorer; out = g.O.Sink.state c.loop-statement.out }) (record beside { files = g.F.Files.state c.run_statement.new.files; scorer = g.S.Scorer.state c.run_statement.new.scorer; out = g.O.Sink.state c.run_statement.new.out })
       (c.loop-statement.invariant.between beside).has (c.in-Ok.ensures.does beside));
@@ -63,11 +63,11 @@ loop-statement-preserved g c = record {
   held = (let at = world (g.F.Files.state c.loop-statement.files) (g.S.Scorer.state c.loop-statement.scorer) (g.O.Sink.state c.loop-statement.out) (g.O.Sink.state c.loop-statement.out) in
       subst (λ answer. AreHeld answer c.run_statement.new.catalog) (c.loop-statement.invariant.between at).has.keeps.scorer.answer c.in-Ok.ensures.held);
   asked = (let at = world (g.F.Files.state c.loop-statement.files) (g.S.Scorer.state c.loop-statement.scorer) (g.O.Sink.state c.loop-statement.out) (g.O.Sink.state c.loop-statement.out) in
-      subst (λ answer. CanAllBeAsked answer c.run_statement.new.catalog c.run_statement.new.session.cursors.entries) (c.loop-statement.invariant.between at).has.keeps.scorer.answer
+      subst (λ answer. CanAllBeAsked answer c.run_statement.new.catalog (held_in c.run_statement.new.session)) (c.loop-statement.invariant.between at).has.keeps.scorer.answer
       c.in-Ok.ensures.asked);
 }
 
 pub returns : goal.returns
-returns g c = λ beside. Runs-all (DoesInSession (finds_in (g.F.Files.state c.args.files.now).told) (g.S.Scorer.state c.args.scorer.now).answer c.args.evaluating) nothing (commands_of c.args.statements.now) c.loop-statement.statement-index (state_of c.loop-statement.catalog c.loop-statement.session.cursors.entries)
+returns g c = λ beside. Runs-all (DoesInSession (finds_in (g.F.Files.state c.args.files.now).told) (g.S.Scorer.state c.args.scorer.now).answer c.args.evaluating) nothing (commands_of c.args.statements.now) c.loop-statement.statement-index (state_of c.loop-statement.catalog (held_in c.loop-statement.session))
     (record beside { files = g.F.Files.state c.args.files.now; scorer = g.S.Scorer.state c.args.scorer.now; out = g.O.Sink.state c.args.out.now }) (record beside { files = g.F.Files.state c.loop-statement.files; scorer = g.S.Scorer.state c.loop-statement.scorer; out = g.O.Sink.state c.loop-statement.out })
     (drop-all command_of c.args.statements.now c.loop-statement.statement-index c.loop-statement-test.false) (c.loop-statement.invariant.between beside)

@@ -1,17 +1,14 @@
 use Rattle.std.proofs.Common.{◌∙◌}
 use Rattle.rs_syntax.specs.Syntax.{command_of, query_of}
-use Rattle.rs_bind.specs.Indexes.{index_def_of}
-use Rattle.rs_bind.specs.Names.{columns_of}
-use Rattle.rs_catalog.specs.declared.room.What.TheVariants as what
-use Rattle.rs_run.specs.Run.{finds_in}
-use Rattle.rs_run.specs.Statements.{Does, DoesTable, analyze_step, explain_step, index_step, predicate_outcome, refused_or, select_step, with_room}
-use Rattle.rs_run.proofs.StepFacts.{Does-analyze, Does-explain, Does-index, Does-predicate, Does-query, Does-table, of_a_kind}
-use Rattle.rs_run.proofs.SteppedFacts.{Stepped-is, Stepped-map, Stepped-still}
+use Rattle.rs_statement.specs.Run.{finds_in}
+use Rattle.rs_statement.specs.Statements.{Does, analyze_step, explain_step, predicate_outcome, select_step}
+use Rattle.rs_statement.proofs.StepFacts.{Does-analyze, Does-explain, Does-index, Does-predicate, Does-query, Does-table, of_a_kind}
+use Rattle.rs_statement.proofs.SteppedFacts.{Stepped-is, Stepped-map, Stepped-still}
 use Rattle.rs_run.proofs.statement.run_without_cursor.Goals as goal
 
 pub returns-in-CreateTable : goal.returns-in-CreateTable
 returns-in-CreateTable g c = λ beside. Stepped-map
-    (DoesTable (finds_in (g.F.Files.state c.args.files.now).told) c.args.catalog.now c.in-CreateTable.name c.in-CreateTable.file (with_room c.args.catalog.now what.Table c.in-CreateTable.name (columns_of c.deref.result.now)))
+    _
     (Does (finds_in (g.F.Files.state c.args.files.now).told) (g.S.Scorer.state c.args.scorer.now).answer c.args.evaluating c.args.catalog.now (command_of c.args.statement.now)) c.create_table.new.catalog c.create_table.result
     (record beside { files = g.F.Files.state c.args.files.now; scorer = g.S.Scorer.state c.args.scorer.now; out = g.O.Sink.state c.args.out.now }) (record beside { files = g.F.Files.state c.create_table.new.files; scorer = g.S.Scorer.state c.args.scorer.now; out = g.O.Sink.state c.args.out.now })
     (Does-table (finds_in (g.F.Files.state c.args.files.now).told) (g.S.Scorer.state c.args.scorer.now).answer c.args.evaluating c.args.catalog.now c.args.statement.now c.in-CreateTable.name c.in-CreateTable.columns c.deref.result.now c.in-CreateTable.file c.in-CreateTable.is
@@ -20,7 +17,7 @@ returns-in-CreateTable g c = λ beside. Stepped-map
 
 pub returns-in-CreateRankIndex : goal.returns-in-CreateRankIndex
 returns-in-CreateRankIndex g c = λ beside. Stepped-is (Does (finds_in (g.F.Files.state c.args.files.now).told) (g.S.Scorer.state c.args.scorer.now).answer c.args.evaluating c.args.catalog.now (command_of c.args.statement.now))
-    (refused_or (index_step (g.S.Scorer.state c.args.scorer.now).answer c.args.catalog.now) (with_room c.args.catalog.now what.Index c.in-CreateRankIndex.name (index_def_of c.args.catalog.now (command_of c.args.statement.now))))
+    _
     c.create_index.new.catalog c.create_index.result
     (record beside { files = g.F.Files.state c.args.files.now; scorer = g.S.Scorer.state c.args.scorer.now; out = g.O.Sink.state c.args.out.now }) (record beside { files = g.F.Files.state c.args.files.now; scorer = g.S.Scorer.state c.create_index.new.scorer; out = g.O.Sink.state c.args.out.now })
     (Does-index (finds_in (g.F.Files.state c.args.files.now).told) (g.S.Scorer.state c.args.scorer.now).answer c.args.evaluating c.args.catalog.now c.args.statement.now _ _ _ _ _ c.in-CreateRankIndex.is)

@@ -3,7 +3,7 @@ use Rattle.std.specs.List.{AllByRecursion}
 use Rattle.rs_order.proofs.EachFacts.{each-take}
 use Rattle.rs_rank.proofs.StableFacts.{AllByRecursion-stable}
 use Rattle.rs_rank.specs.declared.scored_row.ScoredRow.{ScoredRow}
-use Rattle.rs_run.specs.Parts.Steps.{IsRow}
+use Rattle.rs_run.specs.Parts.Read.{IsRow}
 use Rattle.rs_run.proofs.top.best_rows.Goals as goal
 
 pub row_answers-requires : goal.row_answers-requires

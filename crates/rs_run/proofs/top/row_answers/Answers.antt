@@ -2,7 +2,7 @@ use Rattle.std.proofs.Common.{◌≡◌, ◌∙◌, ◌+◌, ◌++◌, ◌∷◌
 use Rattle.std.proofs.lemmas.List.{map-append, take_all, take_more}
 use Rattle.rs_order.proofs.EachFacts.{each-get_or}
 use Rattle.rs_rank.specs.declared.scored_row.ScoredRow.{ScoredRow}
-use Rattle.rs_run.specs.Parts.Steps.{IsRow}
+use Rattle.rs_run.specs.Parts.Read.{IsRow}
 use Rattle.rs_run.specs.Top.{row_answer}
 use Rattle.rs_run.proofs.top.row_answers.Goals as goal
 

@@ -9,7 +9,7 @@ use Rattle.rs_order.proofs.EachFacts.{each-push}
 use Rattle.rs_catalog.specs.Indexes.{row_at, scored_from}
 use Rattle.rs_catalog.specs.Making.{as_ranking, score_for}
 use Rattle.rs_catalog.proofs.ScoreFacts.{rest-all, rest-bad, rest-next, rest-none, score_for-ok}
-use Rattle.rs_run.specs.Parts.Steps.{IsRow}
+use Rattle.rs_run.specs.Parts.Read.{IsRow}
 use Rattle.rs_run.specs.Top.{number_at}
 use Rattle.rs_run.proofs.top.score_rows.Goals as goal
 

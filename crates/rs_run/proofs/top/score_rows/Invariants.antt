@@ -1,6 +1,6 @@
 use Rattle.std.specs.List.{AllByRecursion}
 use Rattle.rs_catalog.proofs.ScoreFacts.{Rest}
-use Rattle.rs_run.specs.Parts.Steps.{IsRow}
+use Rattle.rs_run.specs.Parts.Read.{IsRow}
 use Rattle.rs_run.specs.Top.{number_at}
 use Rattle.rs_run.proofs.top.score_rows.Given as goal
 

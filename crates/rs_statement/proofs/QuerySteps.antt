@@ -1,0 +1,50 @@
+-- What the step of a query did, from what binding and its calls did.
+use Rattle.std.proofs.Common.{ℕ, ◌≡◌, ◌∙◌, List, [], ◌∷◌, map, Some, refl, sym, ap, inl, inr}
+use Rattle.std.specs.Prelude.{Result, Ok, Err, slice_get, ◌⊎◌}
+use Rattle.rs_value.specs.Answer.{Gives}
+use Rattle.rs_expr.specs.Predicates.{PredicateDef}
+use Rattle.rs_syntax.specs.Syntax as syntax
+use Rattle.rs_value.specs.Results.{◌>>=◌}
+use Rattle.rs_catalog.specs.Catalogue.{Catalogue}
+use Rattle.rs_bind.specs.Queries.{bound_query}
+use Rattle.rs_typing.specs.declared.fault.BindFault.{BindFault}
+use Rattle.rs_typing.specs.declared.fault.BindFault.TheVariants as bind
+use Rattle.rs_query.specs.Answers.{predicate_at}
+use Rattle.rs_query.specs.declared.query.Query.{Query}
+use Rattle.rs_query.specs.Questions.{Faults, Question, request_for}
+use Rattle.rs_statement.specs.declared.fault.Fault.{Fault}
+use Rattle.rs_statement.specs.declared.fault.Fault.TheVariants.{Memory, Probe}
+use Rattle.rs_statement.specs.Statements.{bind_fault, explain_outcome, or_bind_fault}
+use Rattle.rs_statement.proofs.InquirySteps.{Probes}
+use Rattle.rs_statement.proofs.StepFacts.{bound-ok}
+
+-- each question's call is of the predicate that is told where it fails
+pub Probes-questions : {F : Type 0} (faults : Faults F) (tells : F → Fault) (catalogue : Catalogue) → ((number : ℕ) → tells (faults.failed number) ≡ Probe (predicate_at catalogue number).name)
+    → (questions : List Question) → Probes tells (map (request_for faults catalogue) questions)
+Probes-questions faults tells catalogue told [] = tt
+Probes-questions faults tells catalogue told (question ∷ rest) = (told question.term.predicate, Probes-questions faults tells catalogue told rest)
+
+-- what is bound, as a run tells it
+pub Gives-bound : (bound : Result Query BindFault) (query : Query) → Gives bind.Memory bound (Ok query) → Gives Memory (or_bind_fault bound) (Ok query)
+Gives-bound bound query (inl e) = inl (ap or_bind_fault e)
+Gives-bound bound query (inr e) = absurd cc
+
+pub Gives-unbound : (bound : Result Query BindFault) (why : BindFault) (fault : Fault) → Gives bind.Memory bound (Err why) → fault ≡ bind_fault why → Gives Memory (or_bind_fault bound) (Err fault)
+Gives-unbound bound why fault (inl e) told = inl (ap Err told ∙ ap or_bind_fault e)
+Gives-unbound bound why fault (inr e) told = inr (ap Err (told ∙ ap bind_fault (let same : why ≡ bind.Memory = cc in same)))
+
+-- EXPLAIN leaves the catalogue as it is, or the query isn't bound
+pub explained : (catalogue : Catalogue) (query : syntax.Query) (bound : Query) → Gives bind.Memory (bound_query catalogue query) (Ok bound) → explain_outcome catalogue query ≡ Ok catalogue
+explained catalogue query bound gives = ap (λ r. r >>= (λ bound. Ok catalogue)) (bound-ok (or_bind_fault (bound_query catalogue query)) bound (Gives-bound _ bound gives))
+
+pub unexplained : (catalogue : Catalogue) (query : syntax.Query) (why : BindFault) (fault : Fault) → Gives bind.Memory (bound_query catalogue query) (Err why) → fault ≡ bind_fault why
+    → (fault ≡ Memory) ⊎ (explain_outcome catalogue query ≡ Err fault)
+unexplained catalogue query why fault gives told = elim (Gives-unbound _ why fault gives told) [
+  | inl e ↦ inr (ap (λ r. r >>= (λ bound. Ok catalogue)) (sym e))
+  | inr e ↦ inl cc
+]
+
+-- the name of a predicate of the catalogue
+pub name-at : (catalogue : Catalogue) (number : ℕ) (predicate : PredicateDef) (name : List ℕ) → slice_get catalogue.predicates number ≡ Some predicate → name ≡ predicate.name
+    → name ≡ (predicate_at catalogue number).name
+name-at catalogue number predicate name e n = n ∙ (rw e refl)

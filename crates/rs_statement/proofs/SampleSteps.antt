@@ -1,0 +1,112 @@
+-- What the sample of a query did in a run, and the step behind it.
+use Rattle.std.proofs.Common.{ℕ, ◌≡◌, ◌<◌, List, [], ◌∷◌, length, map, refl, sym, subst, inl, inr}
+use Rattle.std.specs.Prelude.{Result, Ok, Err, ◌⊎◌}
+use Rattle.std.specs.List.{AllByRecursion, flat_map}
+use Rattle.std.proofs.lemmas.Option.{slice_get_within}
+use Rattle.rs_value.specs.Answer.{Gives}
+use Rattle.rs_order.proofs.EachFacts.{each-append, each-behind}
+use Rattle.rs_expr.specs.InOrder.{InquiryEnds, InquiryFails, InquiryStops, Inquires, Request}
+use Rattle.rs_expr.specs.Scoring.{ScorerState}
+use Rattle.rs_catalog.specs.Catalogue.{Catalogue}
+use Rattle.rs_query.specs.Questions.{Question, question_of, request_for}
+use Rattle.rs_query.specs.Views.{all_rows}
+use Rattle.rs_query.specs.WellFormed.{IsQuery, IsTerm}
+use Rattle.rs_query.specs.declared.block.Block.{Block}
+use Rattle.rs_query.specs.declared.query.Query.{Query}
+use Rattle.rs_query.specs.declared.query.Query.TheVariants.{One, Set}
+use Rattle.rs_query.specs.declared.term.Term.{Term}
+use Rattle.rs_sample.specs.Choosing.{sampled_choices}
+use Rattle.rs_sample.specs.Sampling.{asking_all, done, questions_of, sample_faults, term_questions}
+use Rattle.rs_sample.specs.declared.fault.SampleFault.{SampleFault}
+use Rattle.rs_sample.specs.declared.fault.SampleFault.TheVariants.{Memory}
+use Rattle.rs_statement.specs.declared.fault.Fault.{Fault}
+use Rattle.rs_statement.specs.declared.fault.Fault.TheVariants as fault
+use Rattle.rs_statement.specs.Parts.Asks.{NamesSampled}
+use Rattle.rs_statement.specs.Parts.Steps.{Stepped}
+use Rattle.rs_statement.specs.Sampled.{sample_fault, sample_step, sampling}
+use Rattle.rs_statement.specs.Sequence.{Step, then_step}
+use Rattle.rs_statement.specs.Statements.{refused_or}
+use Rattle.rs_statement.specs.World.{World}
+use Rattle.rs_statement.proofs.InquirySteps.{Probes}
+use Rattle.rs_statement.proofs.QuerySteps.{Probes-questions}
+use Rattle.rs_statement.proofs.SoFar.{SoFar-ends, SoFar-more, SoFar-start, Stepped-broken}
+use Rattle.rs_statement.proofs.StepFacts.{Stepped-bound}
+
+-- a step that went well, and then another one
+pub Stepped-then : {S T : Type 0} (first : Step T) (rest : Step S) (left : T) (state : S) (result : Result (Unit {0}) Fault) (old middle new : World)
+    → Stepped (λ step. step ≡ first) left (Ok tt) old middle → Stepped (λ step. step ≡ rest) state result middle new
+    → Stepped (λ step. step ≡ then_step first rest) state result old new
+Stepped-then first rest left state result old middle new before after =
+    SoFar-ends (then_step first rest) old middle new rest state result
+    (SoFar-more (then_step first rest) old old middle first rest left (SoFar-start (then_step first rest) old) before) after
+
+-- a bound query whose sample is taken, before anything else is done with it
+module _ (catalogue : Catalogue) (seed : ℕ) (rest : Query → Step Catalogue) (bound : Result Query Fault) (query : Query) (gives : Gives fault.Memory bound (Ok query)) (old new : World) where
+  abbrev whole : Step Catalogue
+  whole = refused_or (λ q. then_step (sample_step catalogue seed q) (rest q)) bound
+
+  -- its sample broke off
+  pub Sampled-broken : (why : Fault) → Stepped (λ step. step ≡ sample_step catalogue seed query) catalogue (Err why) old new → Stepped (λ step. step ≡ whole) catalogue (Err why) old new
+  Sampled-broken why sampled =
+      Stepped-bound (λ q. then_step (sample_step catalogue seed q) (rest q)) bound query catalogue (Err why) old new gives
+      (Stepped-broken (sample_step catalogue seed query) (rest query) why catalogue catalogue old new sampled)
+
+  -- it was taken, and then the rest was done, or a part of it
+  pub Sampled-then : (result : Result (Unit {0}) Fault) (middle : World) → Stepped (λ step. step ≡ sample_step catalogue seed query) catalogue (Ok tt) old middle
+      → Stepped (λ step. step ≡ rest query) catalogue result middle new → Stepped (λ step. step ≡ whole) catalogue result old new
+  Sampled-then result middle sampled behind =
+      Stepped-bound (λ q. then_step (sample_step catalogue seed q) (rest q)) bound query catalogue result old new gives
+      (Stepped-then (sample_step catalogue seed query) (rest query) catalogue catalogue result old middle new sampled behind)
+
+-- each call of a sample is of the predicate that is told where it fails
+pub probes-sample : (catalogue : Catalogue) (seed : ℕ) (query : Query) → Probes (sample_fault catalogue) (sampling catalogue seed query).requests
+probes-sample catalogue seed query =
+    Probes-questions sample_faults (sample_fault catalogue) catalogue (λ number. refl) (questions_of query (all_rows catalogue query) seed)
+
+module _ (catalogue : Catalogue) where
+  -- the term of a question calls a predicate of the catalogue
+  abbrev IsNamed : Question → Type 0
+  IsNamed q = q.term.predicate < length catalogue.predicates
+
+  named-choices : (number : ℕ) (block : Block) (term : Term) (choices : List (List ℕ)) → term.predicate < length catalogue.predicates
+      → AllByRecursion IsNamed (map (λ rows. question_of number block rows term) choices)
+  named-choices number block term [] named = tt
+  named-choices number block term (rows ∷ rest) named = (named, named-choices number block term rest named)
+
+  named-terms : (number : ℕ) (block : Block) (samples : List (List ℕ)) (terms : List Term) → AllByRecursion (IsTerm catalogue block) terms
+      → AllByRecursion IsNamed (flat_map (term_questions number block samples) terms)
+  named-terms number block samples [] each = tt
+  named-terms number block samples (term ∷ rest) each =
+      let is = each.0 in
+      each-append IsNamed (term_questions number block samples term) (flat_map (term_questions number block samples) rest)
+      (named-choices number block term (sampled_choices term.entries samples) (slice_get_within catalogue.predicates term.predicate is.predicate is.has_predicate))
+      (named-terms number block samples rest each.1)
+
+  named-sample : (query : Query) (seed : ℕ) → IsQuery catalogue query → AllByRecursion IsNamed (questions_of query (all_rows catalogue query) seed)
+  named-sample (One block limit) seed formed = named-terms 1 block _ block.terms formed.0.terms
+  named-sample (Set op left right limit) seed formed =
+      each-append IsNamed _ _ (named-terms 1 left _ left.terms formed.0.left_block.terms) (named-terms 2 right _ right.terms formed.0.right_block.terms)
+
+  abbrev Tells : Request SampleFault → Type 0
+  Tells request = NamesSampled catalogue request.failed
+
+  tells-questions : (qs : List Question) → AllByRecursion IsNamed qs → AllByRecursion Tells (map (request_for sample_faults catalogue) qs)
+  tells-questions [] named = tt
+  tells-questions (q ∷ qs) named = (named.0, tells-questions qs named.1)
+
+  names-asking : {A : Type 0} (qs : List Question) (value : A) (why : SampleFault) (old new : ScorerState) → AllByRecursion IsNamed qs
+      → Inquires Memory (asking_all catalogue qs value) (Err why) old new → NamesSampled catalogue why
+  names-asking {A} qs value why old new named inquires = go inquires.comes where
+    go : (InquiryEnds (asking_all catalogue qs value) (Err why) old new ⊎ InquiryFails (asking_all catalogue qs value) (Err why) old new)
+        ⊎ InquiryStops Memory (asking_all catalogue qs value) (Err why) old new → NamesSampled catalogue why
+    go (inl (inl ends)) = absurd (let e = ends.gives in cc)
+    go (inl (inr fails)) =
+        let same : why ≡ fails.last.failed = (let e = fails.gives in cc) in
+        subst (NamesSampled catalogue) (sym same)
+        (each-behind Tells fails.done (fails.last ∷ fails.rest) (subst (AllByRecursion Tells) fails.split (tells-questions qs named))).0
+    go (inr stops) = let same : why ≡ Memory = (let e = stops.gives in cc) in subst (NamesSampled catalogue) (sym same) tt
+
+  -- the fault of a sample names a predicate of the catalogue
+  pub names-sample : (query : Query) (seed : ℕ) (why : SampleFault) (old new : ScorerState) → IsQuery catalogue query → Inquires Memory (sampling catalogue seed query) (Err why) old new
+      → NamesSampled catalogue why
+  names-sample query seed why old new formed inquires = names-asking (questions_of query (all_rows catalogue query) seed) done why old new (named-sample query seed formed) inquires

@@ -1,0 +1,47 @@
+use Rattle.std.proofs.Common.{refl, subst}
+use Rattle.rs_value.proofs.ResultFacts.{given-err}
+use Rattle.rs_bind.specs.Queries.{bound_query}
+use Rattle.rs_query.specs.Views.{all_rows}
+use Rattle.rs_plain.specs.Plain.{evaluation_of, plain_faults}
+use Rattle.rs_plain.specs.declared.fault.PlainFault.TheVariants as plain
+use Rattle.rs_syntax.specs.Syntax.{query_of}
+use Rattle.rs_statement.specs.Lines.{rank_lines}
+use Rattle.rs_statement.specs.Parts.Steps.{Ran, lines_run}
+use Rattle.rs_statement.specs.declared.evaluating.Evaluating.TheVariants.{Plainly}
+use Rattle.rs_statement.specs.Statements.{answer_lines, bind_fault, or_bind_fault, query_fault, query_outcome, query_step}
+use Rattle.rs_statement.proofs.InquirySteps.{Stepped-asked, Stepped-unasked}
+use Rattle.rs_statement.proofs.QuerySteps.{Gives-bound, Gives-unbound, Probes-questions}
+use Rattle.rs_statement.proofs.StepFacts.{Stepped-bound, Stepped-refused}
+use Rattle.rs_statement.proofs.query.run_query.Goals as goal
+
+pub query_fault-requires : goal.query_fault-requires
+query_fault-requires g c = (c.in_ok-query.query, c.in-Err.ensures.names)
+
+pub returns-in_err-query : goal.returns-in_err-query
+returns-in_err-query g c = λ beside. rw (given-err c.from_residual.result (bind_fault c.in_err-query.field-0.0) c.from_residual.ensures) (Stepped-refused (query_step Plainly (g.S.Scorer.state c.args.scorer.now).answer c.args.catalog.now) (or_bind_fault (bound_query c.args.catalog.now (query_of c.args.select.now)))
+    (bind_fault c.in_err-query.field-0.0) c.args.catalog.now (record beside { scorer = g.S.Scorer.state c.args.scorer.now; out = g.O.Sink.state c.args.out.now })
+    (Gives-unbound _ _ _ c.in_err-query.ensures.gives refl))
+
+pub returns-in-Err : goal.returns-in-Err
+returns-in-Err g c = λ beside.
+    Stepped-bound (query_step Plainly (g.S.Scorer.state c.args.scorer.now).answer c.args.catalog.now) (or_bind_fault (bound_query c.args.catalog.now (query_of c.args.select.now)))
+    c.in_ok-query.query c.args.catalog.now _ (record beside { scorer = g.S.Scorer.state c.args.scorer.now; out = g.O.Sink.state c.args.out.now })
+    (record beside { scorer = g.S.Scorer.state c.answer_plainly-answered.new.scorer; out = g.O.Sink.state c.args.out.now })
+    (Gives-bound _ _ c.in_ok-query.ensures.gives)
+    (Stepped-unasked answer_lines (query_outcome c.args.catalog.now) plain.Memory (evaluation_of (g.S.Scorer.state c.args.scorer.now).answer c.args.catalog.now c.in_ok-query.query (all_rows c.args.catalog.now c.in_ok-query.query))
+    c.args.catalog.now (record beside { scorer = g.S.Scorer.state c.args.scorer.now; out = g.O.Sink.state c.args.out.now }) (g.S.Scorer.state c.answer_plainly-answered.new.scorer) (query_fault c.args.catalog.now)
+    c.in-Err.why c.query_fault.result refl refl refl (Probes-questions plain_faults (query_fault c.args.catalog.now) c.args.catalog.now (λ number. refl) _) c.in-Err.ensures.evaluates c.query_fault.ensures)
+
+pub returns : goal.returns
+returns g c = λ beside.
+    Stepped-bound (query_step Plainly (g.S.Scorer.state c.args.scorer.now).answer c.args.catalog.now) (or_bind_fault (bound_query c.args.catalog.now (query_of c.args.select.now)))
+    c.in_ok-query.query c.args.catalog.now _ (record beside { scorer = g.S.Scorer.state c.args.scorer.now; out = g.O.Sink.state c.args.out.now })
+    (record beside { scorer = g.S.Scorer.state c.answer_plainly-answered.new.scorer; out = g.O.Sink.state c.put_rows.new.out })
+    (Gives-bound _ _ c.in_ok-query.ensures.gives)
+    (Stepped-asked answer_lines (query_outcome c.args.catalog.now) plain.Memory (evaluation_of (g.S.Scorer.state c.args.scorer.now).answer c.args.catalog.now c.in_ok-query.query (all_rows c.args.catalog.now c.in_ok-query.query))
+    c.args.catalog.now (record beside { scorer = g.S.Scorer.state c.args.scorer.now; out = g.O.Sink.state c.args.out.now }) (g.S.Scorer.state c.answer_plainly-answered.new.scorer)
+    c.in-Ok.rows.items c.put_rows.result (record beside { scorer = g.S.Scorer.state c.answer_plainly-answered.new.scorer; out = g.O.Sink.state c.put_rows.new.out }) refl
+    c.in-Ok.ensures.evaluates
+    (subst (λ rows. Ran (lines_run (rank_lines 1 rows)) c.put_rows.result (record beside { scorer = g.S.Scorer.state c.answer_plainly-answered.new.scorer; out = g.O.Sink.state c.args.out.now })
+    (record beside { scorer = g.S.Scorer.state c.answer_plainly-answered.new.scorer; out = g.O.Sink.state c.put_rows.new.out }))
+    c.deref.ensures.value (c.put_rows.ensures (record beside { scorer = g.S.Scorer.state c.answer_plainly-answered.new.scorer }))))

@@ -1,0 +1,79 @@
+use Rattle.std.proofs.Common.{subst, sym}
+use Rattle.std.specs.Prelude.{Err, Ok}
+use Rattle.rs_value.proofs.ResultFacts.{given-err}
+use Rattle.rs_syntax.specs.Syntax.{query_of}
+use Rattle.rs_statement.specs.Parts.Session.{CanAllBeAsked, state_of}
+use Rattle.rs_statement.specs.Planned.{plan_for}
+use Rattle.rs_statement.specs.Sampled.{sample_step}
+use Rattle.rs_statement.specs.Sequence.{still}
+use Rattle.rs_statement.specs.Session.{ByPlan, declared_query, opened_step, with_cursor}
+use Rattle.rs_statement.specs.declared.evaluating.Evaluating.TheVariants.{Planned}
+use Rattle.rs_statement.specs.declared.fault.Fault.TheVariants.{Memory}
+use Rattle.rs_statement.specs.declared.session.Held.TheVariants as held
+use Rattle.rs_statement.proofs.SessionFacts.{asked-append}
+use Rattle.rs_statement.proofs.SessionSteps.{Opened-cut, Opened-planned, opened-planned}
+use Rattle.rs_statement.proofs.SoFar.{Stepped-broken}
+use Rattle.rs_statement.proofs.StepFacts.{Stepped-bound, Stepped-refused}
+use Rattle.rs_statement.proofs.session.declare_planned.Goals as goal
+
+pub returns-in_err-query : goal.returns-in_err-query
+returns-in_err-query g c =
+    let answer = (g.S.Scorer.state c.args.scorer.now).answer in
+    let state = state_of c.args.catalog.now c.args.session.now.cursors.entries in
+    rw (given-err c.from_residual.result c.in_err-query.field-0.0 c.from_residual.ensures) (record {
+      opens = λ beside. Stepped-refused (opened_step (Planned c.args.seed) answer c.args.name.now.text state) (declared_query state c.args.name.now (query_of c.args.select.now)) c.in_err-query.field-0.0
+          state (record beside { scorer = g.S.Scorer.state c.args.scorer.now }) c.in_err-query.ensures.gives;
+      asked = tt;
+    })
+
+pub start_planned-requires : goal.start_planned-requires
+start_planned-requires g c = record { formed = c.in_ok-query.ensures.formed; held = c.requires.held }
+
+pub returns-in_err-cursor : goal.returns-in_err-cursor
+returns-in_err-cursor g c =
+    let answer = (g.S.Scorer.state c.args.scorer.now).answer in
+    let catalogue = c.args.catalog.now in
+    let state = state_of catalogue c.args.session.now.cursors.entries in
+    let name = c.args.name.now in
+    let query = c.in_ok-query.query in
+    rw (given-err c.from_residual-in_err-cursor.result c.in_err-cursor.field-0.0 c.from_residual-in_err-cursor.ensures) (record {
+      opens = λ beside.
+          let old = record beside { scorer = g.S.Scorer.state c.args.scorer.now } in
+          let new = record beside { scorer = g.S.Scorer.state c.start_planned.new.scorer } in
+          Stepped-bound (opened_step (Planned c.args.seed) answer name.text state) (declared_query state name (query_of c.args.select.now)) query state (Err c.in_err-cursor.field-0.0) old new
+          c.in_ok-query.ensures.gives
+          (Stepped-broken (sample_step catalogue c.args.seed query) (still (Ok (with_cursor name.text (ByPlan query (plan_for answer catalogue c.args.seed query)) state))) c.in_err-cursor.field-0.0
+          catalogue state old new (c.in_err-cursor.ensures.calls beside));
+      asked = tt;
+    })
+
+pub returns-in_err-open : goal.returns-in_err-open
+returns-in_err-open g c =
+    let answer = (g.S.Scorer.state c.args.scorer.now).answer in
+    let catalogue = c.args.catalog.now in
+    let state = state_of catalogue c.args.session.now.cursors.entries in
+    rw (given-err c.from_residual-in_err-open.result Memory c.from_residual-in_err-open.ensures) (record {
+      opens = λ beside. Opened-cut answer c.args.seed c.args.name.now state (query_of c.args.select.now) c.in_ok-query.query (state_of catalogue c.open.new.session.cursors.entries)
+          (record beside { scorer = g.S.Scorer.state c.args.scorer.now }) (record beside { scorer = g.S.Scorer.state c.start_planned.new.scorer }) c.in_ok-query.ensures.gives
+          (c.in_ok-cursor.ensures.calls beside);
+      asked = tt;
+    })
+
+pub returns : goal.returns
+returns g c =
+    let answer = (g.S.Scorer.state c.args.scorer.now).answer in
+    let catalogue = c.args.catalog.now in
+    let entries = c.args.session.now.cursors.entries in
+    let state = state_of catalogue entries in
+    let name = c.args.name.now in
+    let query = c.in_ok-query.query in
+    let cursor = c.in_ok-cursor.cursor in
+    let left = c.open.new.session.cursors.entries in
+    let opened = c.in_ok-open.ensures.ok in record {
+      opens = λ beside. Opened-planned answer c.args.seed name state (query_of c.args.select.now) query (state_of catalogue left)
+          (record beside { scorer = g.S.Scorer.state c.args.scorer.now }) (record beside { scorer = g.S.Scorer.state c.start_planned.new.scorer }) c.in_ok-query.ensures.gives
+          (c.in_ok-cursor.ensures.calls beside)
+          (opened-planned catalogue entries left name.text cursor query (plan_for answer catalogue c.args.seed query) opened c.in_ok-cursor.ensures.starts);
+      asked = subst (CanAllBeAsked answer catalogue) (sym opened)
+          (asked-append answer catalogue entries name.text (held.Asked cursor) c.requires.asked c.in_ok-cursor.ensures.stands);
+    }

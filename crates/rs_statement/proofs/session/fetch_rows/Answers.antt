@@ -1,0 +1,61 @@
+use Rattle.std.proofs.Common.{◌≡◌, ◌≤◌, ◌+◌, arith, drop, length, refl, suc, subst, sym, take}
+use Rattle.std.specs.Prelude.{IfOk}
+use Rattle.rs_exec.specs.Cursors.{asks_of}
+use Rattle.rs_statement.specs.Lines.{rank_lines}
+use Rattle.rs_statement.specs.Parts.Session.{IsAskedMore, asked_of, next_of, next_of_cursor, rows_step, source_of}
+use Rattle.rs_statement.specs.Parts.Steps.{Ran, Stepped, lines_run}
+use Rattle.rs_statement.specs.Session.{ByPlan, next_rows}
+use Rattle.rs_statement.specs.declared.session.Held.TheVariants as held
+use Rattle.rs_statement.proofs.SessionSteps.{if-ok-map}
+use Rattle.rs_statement.proofs.SteppedFacts.{Stepped-lines}
+use Rattle.rs_statement.proofs.session.fetch_rows.Goals as goal
+
+pub fetch_asked-requires : goal.fetch_asked-requires
+fetch_asked-requires g c = rw c.in-Asked.is at c.requires
+
+pub returns-in-Asked : goal.returns-in-Asked
+returns-in-Asked g c =
+    let answer = (g.S.Scorer.state c.args.scorer.now).answer in
+    let catalogue = c.args.catalog.now in
+    let count = c.args.count in
+    let cursor = c.in-Asked.cursor in
+    let next = c.fetch_asked.new.cursor in
+    let result = c.fetch_asked.result in
+    let asks = next_of_cursor catalogue answer cursor count in record {
+      puts = λ beside. subst (λ kept. Stepped (λ step. step ≡ rows_step catalogue answer kept count) catalogue result
+          (record beside { scorer = g.S.Scorer.state c.args.scorer.now; out = g.O.Sink.state c.args.out.now })
+          (record beside { scorer = g.S.Scorer.state c.fetch_asked.new.scorer; out = g.O.Sink.state c.fetch_asked.new.out })) (sym c.in-Asked.is) (c.fetch_asked.ensures.puts beside);
+      source = if-ok-map result (IsAskedMore cursor asks next) (source_of (held.Asked next) ≡ source_of c.args.held.now)
+          (λ more. subst (λ kept. source_of (held.Asked next) ≡ source_of kept) (sym c.in-Asked.is) (λ i. ByPlan (more.query_is i) (more.plan_is i))) c.fetch_asked.ensures.count;
+      count = if-ok-map result (IsAskedMore cursor asks next) (asks_of next ≡ asked_of c.args.held.now + next_of catalogue answer c.args.held.now count)
+          (λ more. subst (λ kept. asks_of next ≡ asked_of kept + next_of catalogue answer kept count) (sym c.in-Asked.is) more.asks_are) c.fetch_asked.ensures.count;
+      asked = c.fetch_asked.ensures.stands;
+    }
+
+pub fetch_ready-requires : goal.fetch_ready-requires
+fetch_ready-requires g c = subst (λ rows. c.in-Ready.given ≤ length rows) (sym c.deref.ensures.value) (rw c.in-Ready.is at c.requires)
+
+pub returns-in-Ready : goal.returns-in-Ready
+returns-in-Ready g c =
+    let answer = (g.S.Scorer.state c.args.scorer.now).answer in
+    let catalogue = c.args.catalog.now in
+    let count = c.args.count in
+    let rows = c.in-Ready.rows in
+    let given = c.in-Ready.given in
+    let next = c.fetch_ready.new.given in
+    let result = c.fetch_ready.result in
+    let within : given ≤ length rows.items = rw c.in-Ready.is at c.requires in
+    let more = subst (λ slice. IfOk result (λ _. next ≡ given + next_rows slice given count)) c.deref.ensures.value c.fetch_ready.ensures.count in record {
+      puts = λ beside.
+          let old = record beside { scorer = g.S.Scorer.state c.args.scorer.now; out = g.O.Sink.state c.args.out.now } in
+          let new = record beside { scorer = g.S.Scorer.state c.args.scorer.now; out = g.O.Sink.state c.fetch_ready.new.out } in
+          subst (λ kept. Stepped (λ step. step ≡ rows_step catalogue answer kept count) catalogue result old new) (sym c.in-Ready.is)
+          (Stepped-lines (rank_lines (suc given) (take (next_rows rows.items given count) (drop given rows.items))) catalogue result old new
+          (subst (λ slice. Ran (lines_run (rank_lines (suc given) (take (next_rows slice given count) (drop given slice)))) result old new) c.deref.ensures.value
+          (c.fetch_ready.ensures.puts (record beside { scorer = g.S.Scorer.state c.args.scorer.now }))));
+      source = if-ok-map result (next ≡ given + next_rows rows.items given count) (source_of (held.Ready rows next) ≡ source_of c.args.held.now)
+          (λ _. subst (λ kept. source_of (held.Ready rows next) ≡ source_of kept) (sym c.in-Ready.is) refl) more;
+      count = if-ok-map result (next ≡ given + next_rows rows.items given count) (next ≡ asked_of c.args.held.now + next_of catalogue answer c.args.held.now count)
+          (λ is. subst (λ kept. next ≡ asked_of kept + next_of catalogue answer kept count) (sym c.in-Ready.is) is) more;
+      asked = if-ok-map result (next ≡ given + next_rows rows.items given count) (next ≤ length rows.items) (λ is. omega arith) more;
+    }

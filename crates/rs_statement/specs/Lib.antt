@@ -1,0 +1,13 @@
+pub mod Status
+pub mod Faults
+pub mod Content
+pub mod Lines
+pub mod World
+pub mod Run
+pub mod Sequence
+pub mod Halts
+pub mod Planned
+pub mod Sampled
+pub mod Statements
+pub mod Session
+pub mod Parts

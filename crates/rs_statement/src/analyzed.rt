@@ -1,0 +1,174 @@
+//! EXPLAIN ANALYZE: the text of the plan of a query, with what each node has done once the query was asked.
+
+ghost use Rattle.std.specs.Prelude.{◌≡◌, IfOk, Some};
+ghost use Rattle.rs_syntax.specs.Syntax.{query_of};
+ghost use Rattle.rs_syntax.specs.Written.{IsWrittenQuery};
+ghost use Rattle.rs_expr.specs.Scoring.{Answering};
+ghost use Rattle.rs_catalog.specs.Catalogue.{Catalogue};
+ghost use Rattle.rs_query.specs.WellFormed.{IsQuery};
+ghost use Rattle.rs_bind.specs.Queries.{bound_query};
+ghost use Rattle.rs_plan.specs.Counts.{counts_of_plan};
+ghost use Rattle.rs_plan.specs.Plans.{IsPlan};
+ghost use Rattle.rs_plan.specs.Shapes.{tree_of};
+ghost use Rattle.rs_sample.specs.Kept.{cards_of};
+ghost use Rattle.rs_enum.specs.QueryCards.{AreCards};
+ghost use Rattle.rs_enum.specs.Texts.{text_of};
+ghost use Rattle.rs_exec.specs.Asking.{world_of};
+ghost use Rattle.rs_exec.specs.Cursors.{StandsFor, asks_of, plan_of};
+ghost use Rattle.rs_exec.specs.Indexes.{AreHeld};
+ghost use Rattle.rs_statement.specs.Parts.Asks.{AskedForAll, AskedOnce, StandsSomewhere, call_step, left_of, most_asks, without_value};
+ghost use Rattle.rs_statement.specs.Parts.Steps.{Stepped};
+ghost use Rattle.rs_statement.specs.Planned.{asks_in_all, planned_step};
+ghost use Rattle.rs_statement.specs.Sequence.{silent};
+ghost use Rattle.rs_statement.specs.Statements.{analyzed_step, or_bind_fault, refused_or};
+ghost use Rattle.rs_statement.specs.World.{World};
+
+use crate::fault::Fault;
+use crate::planned::ask_fault;
+use crate::planning::{choose_plan, take_sample};
+use crate::put::put_text;
+use rs_bind::bind;
+use rs_catalog::Catalog;
+use rs_enum::{cards_decide_the_text, explain};
+use rs_exec::Cursor;
+use rs_expr::Scorer;
+use rs_outside::Sink;
+use rs_plan::{Counts, Plan};
+use rs_query::Query;
+use rs_sample::Cards;
+use rs_syntax::Select;
+use rs_value::Memory;
+use std::alloc::Global;
+
+/// Asks the least plan of a query for all rows that the query wants, puts none of them, and then puts the text of the plan with
+/// what each node has done.
+pub fn analyze_planned<S: Scorer, O: Sink>(
+    alloc: Global,
+    seed: u64,
+    select: &Select,
+    catalog: &Catalog,
+    scorer: &mut S,
+    out: &mut O,
+) -> Result<(), Fault>
+    requires written { IsWrittenQuery (query_of select.now) }
+    requires held { AreHeld (S.state scorer.old).answer catalog.now }
+    ensures { (beside : World) → Stepped
+        (λ step. step ≡ refused_or (analyzed_step (S.state scorer.old).answer catalog.now seed) (or_bind_fault (bound_query catalog.now (query_of select.now))))
+        catalog.now result
+        (record beside { scorer = S.state scorer.old; out = O.state out.old }) (record beside { scorer = S.state scorer.new; out = O.state out.new }) }
+{
+    let query = bind(alloc, catalog, select)?;
+    let cards = match take_sample(alloc, seed, catalog, &query, scorer) {
+        Ok(cards) => cards,
+        Err(fault) => {
+            drop(query);
+            return Err(fault);
+        }
+    };
+    let plan = match choose_plan(alloc, catalog, &query, &cards) {
+        Ok(plan) => plan,
+        Err(Memory) => {
+            drop(cards);
+            drop(query);
+            return Err(Fault::Memory);
+        }
+    };
+    cards_decide_the_text();
+    let told = asked_text(alloc, catalog, query, &cards, &plan, scorer);
+    drop(plan);
+    drop(cards);
+    let text = told?;
+    put_text(&text, out)
+}
+
+/// Asks a plan for all rows that its query wants. Answers the text of the plan, with what each node has done.
+fn asked_text<S: Scorer>(
+    alloc: Global,
+    catalog: &Catalog,
+    query: Query,
+    cards: &Cards,
+    plan: &Plan,
+    scorer: &mut S,
+) -> Result<Vec<u8>, Fault>
+    requires query { IsQuery catalog.now query }
+    requires cards { AreCards query (cards_of cards.now) }
+    requires plan { IsPlan catalog.now query (tree_of plan.now) }
+    requires held { AreHeld (S.state scorer.old).answer catalog.now }
+    ensures asks { (beside : World) → Stepped (λ step. step ≡ silent (planned_step (world_of catalog.now (S.state scorer.old).answer query) (tree_of plan.now)))
+        catalog.now (without_value result) (record beside { scorer = S.state scorer.old }) (record beside { scorer = S.state scorer.new }) }
+    ensures text { IfOk result (λ text. text.items ≡ text_of catalog.now query (cards_of cards.now) (tree_of plan.now)
+        (Some (counts_of_plan (world_of catalog.now (S.state scorer.old).answer query) (tree_of plan.now)
+        (asks_in_all (world_of catalog.now (S.state scorer.old).answer query) (tree_of plan.now))))) }
+{
+    let mut cursor = Cursor::start(alloc, catalog, query, plan)?;
+    let told = told_text(alloc, catalog, &mut cursor, cards, plan, scorer);
+    drop(cursor);
+    told
+}
+
+/// Asks for the rows of a cursor that are left. Answers the text of its plan, with what each node has done.
+fn told_text<S: Scorer>(
+    alloc: Global,
+    catalog: &Catalog,
+    cursor: &mut Cursor,
+    cards: &Cards,
+    plan: &Plan,
+    scorer: &mut S,
+) -> Result<Vec<u8>, Fault>
+    requires stands { StandsFor catalog.now (S.state scorer.old).answer cursor.old }
+    requires cards { AreCards cursor.old.query (cards_of cards.now) }
+    requires plan { tree_of plan.now ≡ plan_of cursor.old }
+    ensures asks { (beside : World) → Stepped (λ step. step ≡ silent (left_of catalog.now (S.state scorer.old).answer cursor.old)) catalog.now (without_value result)
+        (record beside { scorer = S.state scorer.old }) (record beside { scorer = S.state scorer.new }) }
+    ensures text { IfOk result (λ text. text.items ≡ text_of catalog.now cursor.old.query (cards_of cards.now) (plan_of cursor.old)
+        (Some (counts_of_plan (world_of catalog.now (S.state scorer.old).answer cursor.old.query) (plan_of cursor.old)
+        (most_asks catalog.now (S.state scorer.old).answer cursor.old)))) }
+{
+    ask_all(catalog, cursor, scorer)?;
+    let counts = all_counts(alloc, cursor)?;
+    Ok(explain(alloc, catalog, cursor.query(), cards, plan, Some(&counts))?)
+}
+
+/// Asks for the rows of a cursor that are left, and drops them.
+fn ask_all<S: Scorer>(catalog: &Catalog, cursor: &mut Cursor, scorer: &mut S) -> Result<(), Fault>
+    requires { StandsFor catalog.now (S.state scorer.old).answer cursor.old }
+    ensures asks { (beside : World) → Stepped (λ step. step ≡ silent (left_of catalog.now (S.state scorer.old).answer cursor.old)) catalog.now result
+        (record beside { scorer = S.state scorer.old }) (record beside { scorer = S.state scorer.new }) }
+    ensures all { IfOk result (λ _. AskedForAll catalog.now (S.state scorer.old).answer cursor.old cursor.new) }
+    ensures stands { IfOk result (λ _. StandsFor catalog.now (S.state scorer.old).answer cursor.new) }
+{
+    while ask_next(catalog, cursor, scorer)? {}
+    Ok(())
+}
+
+/// Asks for the next row of a cursor, and drops it. Answers whether there was one.
+fn ask_next<S: Scorer>(
+    catalog: &Catalog,
+    cursor: &mut Cursor,
+    scorer: &mut S,
+) -> Result<bool, Fault>
+    requires { StandsFor catalog.now (S.state scorer.old).answer cursor.old }
+    ensures asks { (beside : World) → Stepped (λ step. step ≡ silent (call_step catalog.now (S.state scorer.old).answer cursor.old)) catalog.now (without_value result)
+        (record beside { scorer = S.state scorer.old }) (record beside { scorer = S.state scorer.new }) }
+    ensures next { IfOk result (λ more. AskedOnce catalog.now (S.state scorer.old).answer cursor.old more cursor.new) }
+{
+    match cursor.next(catalog, scorer) {
+        Ok(row) => Ok(row.is_some()),
+        Err(why) => Err(ask_fault(catalog, why)),
+    }
+}
+
+/// What each node of the plan of a cursor has done, a node before its children and the left one before the right one.
+fn all_counts(alloc: Global, cursor: &Cursor) -> Result<Vec<Counts>, Memory>
+    requires { StandsSomewhere cursor.now }
+    ensures { (catalogue : Catalogue) (answer : Answering) → StandsFor catalogue answer cursor.now
+        → IfOk result (λ told. told.items ≡ counts_of_plan (world_of catalogue answer cursor.now.query) (plan_of cursor.now) (asks_of cursor.now)) }
+{
+    let mut told = Vec::new(alloc);
+    let mut node = 0;
+    while let Some(counts) = cursor.counts(node) {
+        told.push(counts)?;
+        node += 1;
+    }
+    Ok(told)
+}

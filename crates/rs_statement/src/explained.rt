@@ -1,0 +1,61 @@
+//! EXPLAIN: the text of the plan of a query.
+
+ghost use Rattle.std.specs.Prelude.{◌≡◌};
+ghost use Rattle.rs_syntax.specs.Syntax.{query_of};
+ghost use Rattle.rs_syntax.specs.Written.{IsWrittenQuery};
+ghost use Rattle.rs_bind.specs.Queries.{bound_query};
+ghost use Rattle.rs_statement.specs.Parts.Steps.{Stepped};
+ghost use Rattle.rs_statement.specs.Statements.{explained_step, or_bind_fault, refused_or};
+ghost use Rattle.rs_statement.specs.World.{World};
+
+use crate::fault::Fault;
+use crate::planning::{choose_plan, take_sample};
+use crate::put::put_text;
+use rs_bind::bind;
+use rs_catalog::Catalog;
+use rs_enum::{cards_decide_the_text, explain};
+use rs_expr::Scorer;
+use rs_outside::Sink;
+use rs_syntax::Select;
+use rs_value::Memory;
+use std::alloc::Global;
+
+/// Puts the text of the least plan of a query, once its sample was taken. No row is asked for.
+pub fn explain_planned<S: Scorer, O: Sink>(
+    alloc: Global,
+    seed: u64,
+    select: &Select,
+    catalog: &Catalog,
+    scorer: &mut S,
+    out: &mut O,
+) -> Result<(), Fault>
+    requires written { IsWrittenQuery (query_of select.now) }
+    ensures { (beside : World) → Stepped
+        (λ step. step ≡ refused_or (explained_step (S.state scorer.old).answer catalog.now seed) (or_bind_fault (bound_query catalog.now (query_of select.now))))
+        catalog.now result
+        (record beside { scorer = S.state scorer.old; out = O.state out.old }) (record beside { scorer = S.state scorer.new; out = O.state out.new }) }
+{
+    let query = bind(alloc, catalog, select)?;
+    let cards = match take_sample(alloc, seed, catalog, &query, scorer) {
+        Ok(cards) => cards,
+        Err(fault) => {
+            drop(query);
+            return Err(fault);
+        }
+    };
+    let plan = match choose_plan(alloc, catalog, &query, &cards) {
+        Ok(plan) => plan,
+        Err(Memory) => {
+            drop(cards);
+            drop(query);
+            return Err(Fault::Memory);
+        }
+    };
+    cards_decide_the_text();
+    let told = explain(alloc, catalog, &query, &cards, &plan, None);
+    drop(plan);
+    drop(cards);
+    drop(query);
+    let text = told?;
+    put_text(&text, out)
+}

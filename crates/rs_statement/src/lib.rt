@@ -1,0 +1,28 @@
+//! What one statement of a script does: it makes a table, a predicate or a rank index, answers or explains a query, or opens, asks
+//! or closes a cursor. It says with which faults runs end, too.
+#![tactic(auto)]
+
+mod analyzed;
+mod create;
+mod evaluating;
+mod explained;
+mod fault;
+mod file;
+mod planned;
+mod planning;
+mod put;
+mod query;
+mod script_fault;
+mod select;
+mod session;
+mod status;
+
+pub use create::{create_index, create_predicate, create_table};
+pub use evaluating::Evaluating;
+pub use fault::{Fault, SessionFault, index_fault, only_row};
+pub use file::{fetch_file, table_fault};
+pub use put::put_rows;
+pub use script_fault::ScriptFault;
+pub use select::{run_analyze, run_explain, run_select};
+pub use session::{Session, close, declare, fetch};
+pub use status::Status;

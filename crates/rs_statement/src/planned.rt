@@ -1,0 +1,133 @@
+//! Queries by their plans: rows are asked for one after another.
+
+ghost use Rattle.std.specs.Prelude.{ℕ, ◌≡◌, ◌≤◌, ◌⊎◌, Err, IfErr, IfOk, Ok, false, length, suc, true};
+ghost use Rattle.rs_syntax.specs.Syntax.{query_of};
+ghost use Rattle.rs_syntax.specs.Written.{IsWrittenQuery};
+ghost use Rattle.rs_expr.specs.Scoring.{Answering};
+ghost use Rattle.rs_catalog.specs.Catalogue.{Catalogue};
+ghost use Rattle.rs_bind.specs.Queries.{bound_query};
+ghost use Rattle.rs_plan.specs.Counts.{gave_of};
+ghost use Rattle.rs_exec.specs.Asking.{world_of};
+ghost use Rattle.rs_exec.specs.Cursors.{IsOver, StandsFor, asks_after, asks_of, plan_of};
+ghost use Rattle.rs_exec.specs.Indexes.{AreHeld};
+ghost use Rattle.rs_statement.specs.Parts.Asks.{IsAt, NamesPredicate, StandsSomewhere, call_step, left_of, without_value};
+ghost use Rattle.rs_statement.specs.Parts.Steps.{Stepped};
+ghost use Rattle.rs_statement.specs.Planned.{ask_fault};
+ghost use Rattle.rs_statement.specs.Sequence.{then_step};
+ghost use Rattle.rs_statement.specs.Statements.{or_bind_fault, query_step, refused_or};
+ghost use Rattle.rs_statement.specs.declared.evaluating.Evaluating.TheVariants.{Planned};
+ghost use Rattle.rs_statement.specs.World.{World};
+
+use crate::fault::Fault;
+use crate::planning::start_planned;
+use crate::put::put_row;
+use crate::query::{bad_score, failed_call};
+use rs_bind::bind;
+use rs_catalog::Catalog;
+use rs_exec::{Cursor, ExecFault};
+use rs_expr::Scorer;
+use rs_lines::RowLines;
+use rs_outside::Sink;
+use rs_syntax::Select;
+use std::alloc::Global;
+
+/// Prints the rows of a query: takes its sample, asks its least plan for one row after another, and puts each before it asks for
+/// the next one.
+pub fn run_planned<S: Scorer, O: Sink>(
+    alloc: Global,
+    seed: u64,
+    select: &Select,
+    catalog: &Catalog,
+    scorer: &mut S,
+    out: &mut O,
+) -> Result<(), Fault>
+    requires written { IsWrittenQuery (query_of select.now) }
+    requires held { AreHeld (S.state scorer.old).answer catalog.now }
+    ensures { (beside : World) → Stepped
+        (λ step. step ≡ refused_or (query_step (Planned seed) (S.state scorer.old).answer catalog.now) (or_bind_fault (bound_query catalog.now (query_of select.now))))
+        catalog.now result
+        (record beside { scorer = S.state scorer.old; out = O.state out.old }) (record beside { scorer = S.state scorer.new; out = O.state out.new }) }
+{
+    let query = bind(alloc, catalog, select)?;
+    let mut cursor = start_planned(alloc, seed, catalog, query, scorer)?;
+    let put = put_all(alloc, catalog, &mut cursor, scorer, out);
+    drop(cursor);
+    put
+}
+
+/// Puts the rows of a cursor that are left, each before the next one is asked for.
+fn put_all<S: Scorer, O: Sink>(
+    alloc: Global,
+    catalog: &Catalog,
+    cursor: &mut Cursor,
+    scorer: &mut S,
+    out: &mut O,
+) -> Result<(), Fault>
+    requires stands { StandsFor catalog.now (S.state scorer.old).answer cursor.old }
+    ensures { (beside : World) → Stepped (λ step. step ≡ left_of catalog.now (S.state scorer.old).answer cursor.old) catalog.now result
+        (record beside { scorer = S.state scorer.old; out = O.state out.old }) (record beside { scorer = S.state scorer.new; out = O.state out.new }) }
+{
+    let mut lines = RowLines::new(alloc);
+    while put_next(&mut lines, catalog, cursor, scorer, out)? {}
+    Ok(())
+}
+
+/// Asks for the next row of a cursor and puts it. Answers whether there was one.
+pub fn put_next<S: Scorer, O: Sink>(
+    lines: &mut RowLines,
+    catalog: &Catalog,
+    cursor: &mut Cursor,
+    scorer: &mut S,
+    out: &mut O,
+) -> Result<bool, Fault>
+    requires stands { StandsFor catalog.now (S.state scorer.old).answer cursor.old }
+    ensures puts { (beside : World) → Stepped (λ step. step ≡ call_step catalog.now (S.state scorer.old).answer cursor.old) catalog.now (without_value result)
+        (record beside { scorer = S.state scorer.old; out = O.state out.old }) (record beside { scorer = S.state scorer.new; out = O.state out.new }) }
+    ensures more { result ≡ Ok true → IsAt cursor.old.query (plan_of cursor.old) (suc (asks_of cursor.old)) cursor.new }
+    ensures count { IfOk result (λ _. IsAt cursor.old.query (plan_of cursor.old)
+        (asks_after (world_of catalog.now (S.state scorer.old).answer cursor.old.query) (plan_of cursor.old) (asks_of cursor.old)) cursor.new) }
+    ensures over { result ≡ Ok false → IsOver catalog.now (S.state scorer.old).answer cursor.new }
+    ensures stands { IfOk result (λ _. StandsFor catalog.now (S.state scorer.old).answer cursor.new) }
+    ensures left { result ≡ Ok true → left_of catalog.now (S.state scorer.old).answer cursor.old
+        ≡ then_step (call_step catalog.now (S.state scorer.old).answer cursor.old) (left_of catalog.now (S.state scorer.old).answer cursor.new) }
+    ensures end { result ≡ Ok false → left_of catalog.now (S.state scorer.old).answer cursor.old ≡ call_step catalog.now (S.state scorer.old).answer cursor.old }
+{
+    match cursor.next(catalog, scorer) {
+        Ok(Some(row)) => {
+            put_row(lines, rank_of(cursor), &row, out)?;
+            Ok(true)
+        }
+        Ok(None) => Ok(false),
+        Err(why) => Err(ask_fault(catalog, why)),
+    }
+}
+
+/// The rank of the row that a cursor gave last: how many it gave.
+fn rank_of(cursor: &Cursor) -> u128
+    requires { StandsSomewhere cursor.now }
+    ensures { (catalogue : Catalogue) (answer : Answering) → StandsFor catalogue answer cursor.now
+        → result ≡ gave_of (world_of catalogue answer cursor.now.query) 1 (plan_of cursor.now) (asks_of cursor.now) }
+{
+    match cursor.counts(0) {
+        Some(counts) => counts.gave,
+        None => unreachable!(),
+    }
+}
+
+/// The fault of a cursor that gave no row, with the name of the predicate.
+pub fn ask_fault(catalog: &Catalog, why: ExecFault) -> Fault
+    requires { NamesPredicate catalog.now why }
+    ensures { (result ≡ ask_fault catalog.now why) ⊎ (result ≡ Fault.Memory) }
+{
+    match why {
+        ExecFault::BadScore {
+            predicate,
+            ids,
+            got,
+            max,
+        } => bad_score(catalog, predicate, ids.rows, got, max),
+        ExecFault::Probe { predicate } => failed_call(catalog, predicate),
+        ExecFault::Memory => Fault::Memory,
+        ExecFault::Broken => Fault::Memory,
+    }
+}

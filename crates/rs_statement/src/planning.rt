@@ -1,0 +1,118 @@
+//! What comes before the rows of a query are asked for: its sample, and the plan that is chosen by it.
+
+ghost use Rattle.std.specs.Prelude.{◌≡◌, ◌⊎◌, IfOk, List};
+ghost use Rattle.rs_query.specs.WellFormed.{IsQuery};
+ghost use Rattle.rs_plan.specs.Plans.{IsPlan};
+ghost use Rattle.rs_plan.specs.Shapes.{tree_of};
+ghost use Rattle.rs_sample.specs.Cards.{AllSayTheSame, BlockCards};
+ghost use Rattle.rs_sample.specs.Kept.{cards_of};
+ghost use Rattle.rs_enum.specs.Least.{least_plan};
+ghost use Rattle.rs_enum.specs.QueryCards.{AreCards};
+ghost use Rattle.rs_exec.specs.Cursors.{StandsFor};
+ghost use Rattle.rs_exec.specs.Indexes.{AreHeld};
+ghost use Rattle.rs_statement.specs.Parts.Asks.{IsAt, NamesSampled, without_value};
+ghost use Rattle.rs_statement.specs.Parts.Steps.{Stepped};
+ghost use Rattle.rs_statement.specs.Planned.{cards_for, plan_for};
+ghost use Rattle.rs_statement.specs.Sampled.{sample_fault, sample_step};
+ghost use Rattle.rs_statement.specs.World.{World};
+
+use crate::fault::Fault;
+use crate::query::failed_call;
+use rs_catalog::Catalog;
+use rs_enum::{
+    best, cards_decide_the_plan, sampled_cards_are_those_of_the_query, there_is_one_least_plan,
+};
+use rs_exec::Cursor;
+use rs_expr::Scorer;
+use rs_plan::Plan;
+use rs_query::Query;
+use rs_sample::{Cards, SampleFault};
+use rs_value::Memory;
+use std::alloc::Global;
+
+/// Takes the sample of a query: makes its calls, and gives what planning knows by their answers.
+pub fn take_sample<S: Scorer>(
+    alloc: Global,
+    seed: u64,
+    catalog: &Catalog,
+    query: &Query,
+    scorer: &mut S,
+) -> Result<Cards, Fault>
+    requires { IsQuery catalog.now query.now }
+    ensures calls { (beside : World) → Stepped (λ step. step ≡ sample_step catalog.now seed query.now) catalog.now (without_value result)
+        (record beside { scorer = S.state scorer.old }) (record beside { scorer = S.state scorer.new }) }
+    ensures cards { IfOk result (λ cards. AllSayTheSame (cards_of cards) (cards_for (S.state scorer.old).answer catalog.now seed query.now)) }
+    ensures own { IfOk result (λ cards. AreCards query.now (cards_of cards)) }
+{
+    sampled_cards_are_those_of_the_query();
+    match Cards::take(alloc, catalog, query, seed, scorer) {
+        Ok(cards) => Ok(cards),
+        Err(why) => Err(sample_fault(catalog, why)),
+    }
+}
+
+/// The fault of a query that has no sample, with the name of the predicate.
+fn sample_fault(catalog: &Catalog, why: SampleFault) -> Fault
+    requires { NamesSampled catalog.now why }
+    ensures { (result ≡ sample_fault catalog.now why) ⊎ (result ≡ Fault.Memory) }
+{
+    match why {
+        SampleFault::Probe { predicate } => failed_call(catalog, predicate),
+        SampleFault::Memory => Fault::Memory,
+    }
+}
+
+/// The least plan of a query.
+pub fn choose_plan(
+    alloc: Global,
+    catalog: &Catalog,
+    query: &Query,
+    cards: &Cards,
+) -> Result<Plan, Memory>
+    requires formed { IsQuery catalog.now query.now }
+    requires cards { AreCards query.now (cards_of cards.now) }
+    ensures tree { (sampled : List BlockCards) → AllSayTheSame (cards_of cards.now) sampled
+        → IfOk result (λ plan. tree_of plan ≡ least_plan catalog.now query.now sampled) }
+    ensures plan { IfOk result (λ plan. IsPlan catalog.now query.now (tree_of plan)) }
+{
+    there_is_one_least_plan();
+    cards_decide_the_plan();
+    best(alloc, catalog, query, cards)
+}
+
+/// A cursor over the least plan of a query, which its sample decides. No row is asked for yet.
+pub fn start_planned<S: Scorer>(
+    alloc: Global,
+    seed: u64,
+    catalog: &Catalog,
+    query: Query,
+    scorer: &mut S,
+) -> Result<Cursor, Fault>
+    requires formed { IsQuery catalog.now query }
+    requires held { AreHeld (S.state scorer.old).answer catalog.now }
+    ensures calls { (beside : World) → Stepped (λ step. step ≡ sample_step catalog.now seed query) catalog.now (without_value result)
+        (record beside { scorer = S.state scorer.old }) (record beside { scorer = S.state scorer.new }) }
+    ensures starts { IfOk result (IsAt query (plan_for (S.state scorer.old).answer catalog.now seed query) 0) }
+    ensures stands { IfOk result (StandsFor catalog.now (S.state scorer.old).answer) }
+{
+    // What is owned is let go of by name at each end: else it takes long to prove.
+    let cards = match take_sample(alloc, seed, catalog, &query, scorer) {
+        Ok(cards) => cards,
+        Err(fault) => {
+            drop(query);
+            return Err(fault);
+        }
+    };
+    let chosen = choose_plan(alloc, catalog, &query, &cards);
+    drop(cards);
+    let plan = match chosen {
+        Ok(plan) => plan,
+        Err(Memory) => {
+            drop(query);
+            return Err(Fault::Memory);
+        }
+    };
+    let started = Cursor::start(alloc, catalog, query, &plan);
+    drop(plan);
+    Ok(started?)
+}

@@ -1,0 +1,53 @@
+ghost use Rattle.std.specs.Prelude.{[], ◌∷◌, suc};
+ghost use Rattle.rs_lines.specs.Row.{line_of};
+ghost use Rattle.rs_statement.specs.Lines.{rank_lines};
+ghost use Rattle.rs_statement.specs.Parts.Steps.{Ran, lines_run};
+ghost use Rattle.rs_statement.specs.World.{World};
+
+use crate::fault::Fault;
+use rs_lines::RowLines;
+use rs_outside::{Sink, SinkFault};
+use rs_rank::Answer;
+use std::alloc::Global;
+
+/// Puts the lines of rows, ranked behind so many that were given before them, each in one put before the next row is looked at.
+pub fn put_rows<O: Sink>(
+    alloc: Global,
+    given: usize,
+    rows: &[Answer],
+    out: &mut O,
+) -> Result<(), Fault>
+    ensures { (beside : World) → Ran (lines_run (rank_lines (suc given) rows.now)) result
+        (record beside { out = O.state out.old }) (record beside { out = O.state out.new }) }
+{
+    let mut lines = RowLines::new(alloc);
+    for (index, row) in rows.iter().enumerate() {
+        put_row(&mut lines, given as u128 + index as u128 + 1, row, out)?;
+    }
+    Ok(())
+}
+
+/// Puts the line of a row that has this rank, which `lines` makes. It is kept from row to row.
+pub fn put_row<O: Sink>(
+    lines: &mut RowLines,
+    rank: u128,
+    row: &Answer,
+    out: &mut O,
+) -> Result<(), Fault>
+    ensures { (beside : World) → Ran (lines_run (line_of rank row.now.score row.now.values ∷ [])) result
+        (record beside { out = O.state out.old }) (record beside { out = O.state out.new }) }
+{
+    let line = lines.line(rank, row.score, row.values.items())?;
+    put_text(line, out)
+}
+
+/// Puts text on standard output, in one put.
+pub fn put_text<O: Sink>(text: &[u8], out: &mut O) -> Result<(), Fault>
+    ensures { (beside : World) → Ran (lines_run (text.now ∷ [])) result (record beside { out = O.state out.old }) (record beside { out = O.state out.new }) }
+{
+    match out.put(text) {
+        Ok(()) => Ok(()),
+        Err(SinkFault::Failed) => Err(Fault::Write),
+        Err(SinkFault::Memory) => Err(Fault::Memory),
+    }
+}

@@ -1,0 +1,83 @@
+//! Statements that ask: a query, and the two forms of EXPLAIN, by the way in which queries are evaluated.
+
+ghost use Rattle.std.specs.Prelude.{◌≡◌};
+ghost use Rattle.rs_syntax.specs.Syntax.{query_of};
+ghost use Rattle.rs_syntax.specs.Written.{IsWrittenQuery};
+ghost use Rattle.rs_exec.specs.Indexes.{AreHeld};
+ghost use Rattle.rs_statement.specs.Parts.Steps.{Stepped};
+ghost use Rattle.rs_statement.specs.Statements.{analyze_step, explain_step, select_step};
+ghost use Rattle.rs_statement.specs.World.{World};
+
+use crate::analyzed::analyze_planned;
+use crate::evaluating::Evaluating;
+use crate::explained::explain_planned;
+use crate::fault::Fault;
+use crate::planned::run_planned;
+use crate::query::{explain_query, run_query};
+use rs_catalog::Catalog;
+use rs_expr::Scorer;
+use rs_outside::Sink;
+use rs_syntax::Select;
+use std::alloc::Global;
+
+/// Prints the rows of a query.
+pub fn run_select<S: Scorer, O: Sink>(
+    alloc: Global,
+    evaluating: Evaluating,
+    select: &Select,
+    catalog: &Catalog,
+    scorer: &mut S,
+    out: &mut O,
+) -> Result<(), Fault>
+    requires written { IsWrittenQuery (query_of select.now) }
+    requires held { AreHeld (S.state scorer.old).answer catalog.now }
+    ensures { (beside : World) → Stepped
+        (λ step. step ≡ select_step evaluating (S.state scorer.old).answer catalog.now (query_of select.now)) catalog.now result
+        (record beside { scorer = S.state scorer.old; out = O.state out.old }) (record beside { scorer = S.state scorer.new; out = O.state out.new }) }
+{
+    match evaluating {
+        Evaluating::Plainly => run_query(alloc, select, catalog, scorer, out),
+        Evaluating::Planned(seed) => run_planned(alloc, seed, select, catalog, scorer, out),
+    }
+}
+
+/// EXPLAIN. Plainly, the query is bound, and nothing is told of it.
+pub fn run_explain<S: Scorer, O: Sink>(
+    alloc: Global,
+    evaluating: Evaluating,
+    select: &Select,
+    catalog: &Catalog,
+    scorer: &mut S,
+    out: &mut O,
+) -> Result<(), Fault>
+    requires written { IsWrittenQuery (query_of select.now) }
+    ensures { (beside : World) → Stepped
+        (λ step. step ≡ explain_step evaluating (S.state scorer.old).answer catalog.now (query_of select.now)) catalog.now result
+        (record beside { scorer = S.state scorer.old; out = O.state out.old }) (record beside { scorer = S.state scorer.new; out = O.state out.new }) }
+{
+    match evaluating {
+        Evaluating::Plainly => explain_query(alloc, select, catalog),
+        Evaluating::Planned(seed) => explain_planned(alloc, seed, select, catalog, scorer, out),
+    }
+}
+
+/// EXPLAIN ANALYZE. Plainly, the query is bound, and nothing is told of it.
+pub fn run_analyze<S: Scorer, O: Sink>(
+    alloc: Global,
+    evaluating: Evaluating,
+    select: &Select,
+    catalog: &Catalog,
+    scorer: &mut S,
+    out: &mut O,
+) -> Result<(), Fault>
+    requires written { IsWrittenQuery (query_of select.now) }
+    requires held { AreHeld (S.state scorer.old).answer catalog.now }
+    ensures { (beside : World) → Stepped
+        (λ step. step ≡ analyze_step evaluating (S.state scorer.old).answer catalog.now (query_of select.now)) catalog.now result
+        (record beside { scorer = S.state scorer.old; out = O.state out.old }) (record beside { scorer = S.state scorer.new; out = O.state out.new }) }
+{
+    match evaluating {
+        Evaluating::Plainly => explain_query(alloc, select, catalog),
+        Evaluating::Planned(seed) => analyze_planned(alloc, seed, select, catalog, scorer, out),
+    }
+}

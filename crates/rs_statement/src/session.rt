@@ -1,0 +1,332 @@
+//! The cursors of a script: DECLARE, FETCH and CLOSE.
+
+ghost use Rattle.std.specs.Prelude.{◌≡◌, ◌≤◌, ◌⊎◌, ◌+◌, ◌++◌, ◌∷◌, [], IfOk, OnErr, OnOk, drop, false, length, suc, take, true};
+ghost use Rattle.indexmap.specs.IndexMap.{keys};
+ghost use Rattle.rs_value.specs.Answer.{Gives};
+ghost use Rattle.rs_syntax.specs.Syntax.{query_of};
+ghost use Rattle.rs_syntax.specs.Written.{IsWrittenQuery};
+ghost use Rattle.rs_expr.specs.Scoring.{Answering};
+ghost use Rattle.rs_catalog.specs.Catalogue.{Catalogue, has_name};
+ghost use Rattle.rs_exec.specs.Cursors.{StandsFor};
+ghost use Rattle.rs_exec.specs.Indexes.{AreHeld};
+ghost use Rattle.rs_query.specs.WellFormed.{IsQuery};
+ghost use Rattle.rs_statement.specs.declared.evaluating.Evaluating.TheVariants.{Plainly, Planned};
+ghost use Rattle.rs_statement.specs.Lines.{rank_lines};
+ghost use Rattle.rs_statement.specs.Parts.Session.{CanAllBeAsked, CanBeAsked, IsAskedMore, asked_of, cursors_of, held_in, next_of, next_of_cursor, rows_step, source_of, state_of, wanted_step};
+ghost use Rattle.rs_statement.specs.Parts.Steps.{Leaves, Ran, Stepped, lines_run};
+ghost use Rattle.rs_statement.specs.Session.{close_outcome, declare_step, declared_query, fetch_step, fetched_from, next_rows, opened_step, room_for_cursor};
+ghost use Rattle.rs_statement.specs.Statements.{refused_or};
+ghost use Rattle.rs_statement.specs.World.{World};
+
+use crate::evaluating::Evaluating;
+use crate::fault::{Fault, SessionFault};
+use crate::planned::put_next;
+use crate::planning::start_planned;
+use crate::put::put_rows;
+use crate::query::query_fault;
+use indexmap::IndexMap;
+use rs_bind::{bind, bind_count};
+use rs_catalog::Catalog;
+use rs_exec::Cursor;
+use rs_expr::Scorer;
+use rs_lex::Span;
+use rs_lines::RowLines;
+use rs_outside::Sink;
+use rs_plain::answer_plainly;
+use rs_query::Query;
+use rs_rank::Answer;
+use rs_syntax::{Name, Select};
+use rs_value::{Memory, Text};
+use std::alloc::Global;
+
+/// The most cursors that may be open at once.
+const MOST_CURSORS: usize = 64;
+
+/// What gives the rows of an open cursor.
+#[derive(Drop)]
+enum Held {
+    /// A plan, which is asked for one row after another.
+    Asked(Cursor),
+    /// They stand ready, and so many of them were given.
+    Ready { rows: Vec<Answer>, given: usize },
+}
+
+/// The open cursors of a script by name, in the order of their DECLARE.
+#[derive(Drop)]
+pub struct Session {
+    cursors: IndexMap<Text, Held>,
+}
+
+impl Session {
+    /// A session without a cursor.
+    pub fn new(alloc: Global) -> Session
+        ensures { held_in result ≡ [] }
+    {
+        Session {
+            cursors: IndexMap::new(alloc),
+        }
+    }
+}
+
+/// DECLARE: opens a cursor over the rows of a query. Nothing is put.
+pub fn declare<S: Scorer>(
+    alloc: Global,
+    evaluating: Evaluating,
+    name: &Name,
+    select: &Select,
+    catalog: &Catalog,
+    session: &mut Session,
+    scorer: &mut S,
+) -> Result<(), Fault>
+    requires written { IsWrittenQuery (query_of select.now) }
+    requires held { AreHeld (S.state scorer.old).answer catalog.now }
+    requires asked { CanAllBeAsked (S.state scorer.old).answer catalog.now (held_in session.old) }
+    ensures opens { (beside : World) → Stepped
+        (λ step. step ≡ declare_step evaluating (S.state scorer.old).answer (state_of catalog.now (held_in session.old)) name.now (query_of select.now))
+        (state_of catalog.now (held_in session.new)) result
+        (record beside { scorer = S.state scorer.old }) (record beside { scorer = S.state scorer.new }) }
+    ensures asked { IfOk result (λ _. CanAllBeAsked (S.state scorer.old).answer catalog.now (held_in session.new)) }
+{
+    match evaluating {
+        Evaluating::Plainly => declare_ready(alloc, name, select, catalog, session, scorer),
+        Evaluating::Planned(seed) => {
+            declare_planned(alloc, seed, name, select, catalog, session, scorer)
+        }
+    }
+}
+
+/// Opens a cursor whose rows stand ready: all calls of its query are made.
+fn declare_ready<S: Scorer>(
+    alloc: Global,
+    name: &Name,
+    select: &Select,
+    catalog: &Catalog,
+    session: &mut Session,
+    scorer: &mut S,
+) -> Result<(), Fault>
+    requires written { IsWrittenQuery (query_of select.now) }
+    requires asked { CanAllBeAsked (S.state scorer.old).answer catalog.now (held_in session.old) }
+    ensures opens { (beside : World) → Stepped
+        (λ step. step ≡ refused_or (opened_step Plainly (S.state scorer.old).answer name.now.text (state_of catalog.now (held_in session.old)))
+        (declared_query (state_of catalog.now (held_in session.old)) name.now (query_of select.now)))
+        (state_of catalog.now (held_in session.new)) result
+        (record beside { scorer = S.state scorer.old }) (record beside { scorer = S.state scorer.new }) }
+    ensures asked { IfOk result (λ _. CanAllBeAsked (S.state scorer.old).answer catalog.now (held_in session.new)) }
+{
+    let query = declared_query(alloc, name, select, catalog, session)?;
+    let answered = answer_plainly(alloc, catalog, &query, scorer);
+    drop(query);
+    let rows = match answered {
+        Ok(rows) => rows,
+        Err(why) => return Err(query_fault(catalog, why)),
+    };
+    open(session, &name.text, Held::Ready { rows, given: 0 })?;
+    Ok(())
+}
+
+/// Opens a cursor over the least plan of its query, which its sample decides.
+fn declare_planned<S: Scorer>(
+    alloc: Global,
+    seed: u64,
+    name: &Name,
+    select: &Select,
+    catalog: &Catalog,
+    session: &mut Session,
+    scorer: &mut S,
+) -> Result<(), Fault>
+    requires written { IsWrittenQuery (query_of select.now) }
+    requires held { AreHeld (S.state scorer.old).answer catalog.now }
+    requires asked { CanAllBeAsked (S.state scorer.old).answer catalog.now (held_in session.old) }
+    ensures opens { (beside : World) → Stepped
+        (λ step. step ≡ refused_or (opened_step (Planned seed) (S.state scorer.old).answer name.now.text (state_of catalog.now (held_in session.old)))
+        (declared_query (state_of catalog.now (held_in session.old)) name.now (query_of select.now)))
+        (state_of catalog.now (held_in session.new)) result
+        (record beside { scorer = S.state scorer.old }) (record beside { scorer = S.state scorer.new }) }
+    ensures asked { IfOk result (λ _. CanAllBeAsked (S.state scorer.old).answer catalog.now (held_in session.new)) }
+{
+    let query = declared_query(alloc, name, select, catalog, session)?;
+    let cursor = start_planned(alloc, seed, catalog, query, scorer)?;
+    open(session, &name.text, Held::Asked(cursor))?;
+    Ok(())
+}
+
+/// The query of a DECLARE. Its names and types count first, and then whether a cursor of the name can be opened.
+fn declared_query(
+    alloc: Global,
+    name: &Name,
+    select: &Select,
+    catalog: &Catalog,
+    session: &Session,
+) -> Result<Query, Fault>
+    requires written { IsWrittenQuery (query_of select.now) }
+    ensures gives { Gives Fault.Memory (declared_query (state_of catalog.now (held_in session.now)) name.now (query_of select.now)) result }
+    ensures formed { IfOk result (IsQuery catalog.now) }
+    ensures free { IfOk result (λ _. has_name name.now.text (keys session.now.cursors) ≡ false) }
+{
+    let query = bind(alloc, catalog, select)?;
+    room(session, &name.text)?;
+    Ok(query)
+}
+
+/// Whether a cursor of this name can be opened.
+fn room(session: &Session, name: &Text) -> Result<(), Fault>
+    ensures gives { Gives Fault.Memory (room_for_cursor name.now (cursors_of (held_in session.now))) result }
+    ensures free { IfOk result (λ _. has_name name.now (keys session.now.cursors) ≡ false) }
+{
+    if session.cursors.contains_key(name) {
+        return Err(session_fault(SessionFault::NameTaken, name));
+    }
+    if session.cursors.len() == MOST_CURSORS {
+        return Err(session_fault(SessionFault::Full, name));
+    }
+    Ok(())
+}
+
+/// The fault of a statement that can't have the cursor of this name.
+fn session_fault(why: SessionFault, name: &Text) -> Fault
+    ensures { (result ≡ Fault.Session why name.now) ⊎ (result ≡ Fault.Memory) }
+{
+    match name.copy() {
+        Ok(name) => Fault::Session { why, name },
+        Err(_) => Fault::Memory,
+    }
+}
+
+/// Makes a cursor the last one. Where there is no memory, none is opened.
+fn open(session: &mut Session, name: &Text, held: Held) -> Result<(), Memory>
+    requires { has_name name.now (keys session.old.cursors) ≡ false }
+    ensures ok { OnOk result (held_in session.new ≡ held_in session.old ++ (name.now, held) ∷ []) }
+    ensures err { OnErr result (held_in session.new ≡ held_in session.old) }
+{
+    // Each cursor that is let go of is handed to `drop`: to let go of it here, at each end, takes minutes to prove.
+    match name.copy() {
+        Ok(name) => insert(session, name, held),
+        Err(Memory) => {
+            drop(held);
+            Err(Memory)
+        }
+    }
+}
+
+/// Makes a cursor that has this name the last one. Where there is no memory, none is opened.
+fn insert(session: &mut Session, name: Text, held: Held) -> Result<(), Memory>
+    requires { has_name name (keys session.old.cursors) ≡ false }
+    ensures ok { OnOk result (held_in session.new ≡ held_in session.old ++ (name, held) ∷ []) }
+    ensures err { OnErr result (held_in session.new ≡ held_in session.old) }
+{
+    match session.cursors.insert(name, held) {
+        Ok(none) => {
+            drop(none);
+            Ok(())
+        }
+        Err(failed) => {
+            drop(failed);
+            Err(Memory)
+        }
+    }
+}
+
+/// FETCH: puts the next rows of a cursor, at most so many. Ranks go on from the FETCH before it.
+pub fn fetch<S: Scorer, O: Sink>(
+    alloc: Global,
+    count: &(i64, Span),
+    name: &Name,
+    catalog: &Catalog,
+    session: &mut Session,
+    scorer: &mut S,
+    out: &mut O,
+) -> Result<(), Fault>
+    requires { CanAllBeAsked (S.state scorer.old).answer catalog.now (held_in session.old) }
+    ensures puts { (beside : World) → Stepped
+        (λ step. step ≡ fetch_step (S.state scorer.old).answer (state_of catalog.now (held_in session.old)) count.now name.now)
+        (state_of catalog.now (held_in session.new)) result
+        (record beside { scorer = S.state scorer.old; out = O.state out.old }) (record beside { scorer = S.state scorer.new; out = O.state out.new }) }
+    ensures asked { IfOk result (λ _. CanAllBeAsked (S.state scorer.old).answer catalog.now (held_in session.new)) }
+{
+    let count = bind_count(count.0, count.1)?;
+    match session.cursors.get_mut(&name.text) {
+        Some(held) => fetch_rows(alloc, count, catalog, held, scorer, out),
+        None => Err(session_fault(SessionFault::Unknown, &name.text)),
+    }
+}
+
+/// Puts the next rows of a cursor, at most so many.
+fn fetch_rows<S: Scorer, O: Sink>(
+    alloc: Global,
+    count: u32,
+    catalog: &Catalog,
+    held: &mut Held,
+    scorer: &mut S,
+    out: &mut O,
+) -> Result<(), Fault>
+    requires { CanBeAsked (S.state scorer.old).answer catalog.now held.old }
+    ensures puts { (beside : World) → Stepped
+        (λ step. step ≡ rows_step catalog.now (S.state scorer.old).answer held.old count) catalog.now result
+        (record beside { scorer = S.state scorer.old; out = O.state out.old }) (record beside { scorer = S.state scorer.new; out = O.state out.new }) }
+    ensures source { IfOk result (λ _. source_of held.new ≡ source_of held.old) }
+    ensures count { IfOk result (λ _. asked_of held.new ≡ asked_of held.old + next_of catalog.now (S.state scorer.old).answer held.old count) }
+    ensures asked { IfOk result (λ _. CanBeAsked (S.state scorer.old).answer catalog.now held.new) }
+{
+    match held {
+        Held::Asked(cursor) => fetch_asked(alloc, count, catalog, cursor, scorer, out),
+        Held::Ready { rows, given } => fetch_ready(alloc, count, rows, given, out),
+    }
+}
+
+/// Asks a cursor so often, or up to the end of its rows, and puts each row before it asks for the next one.
+fn fetch_asked<S: Scorer, O: Sink>(
+    alloc: Global,
+    count: u32,
+    catalog: &Catalog,
+    cursor: &mut Cursor,
+    scorer: &mut S,
+    out: &mut O,
+) -> Result<(), Fault>
+    requires { StandsFor catalog.now (S.state scorer.old).answer cursor.old }
+    ensures puts { (beside : World) → Stepped (λ step. step ≡ wanted_step catalog.now (S.state scorer.old).answer cursor.old count) catalog.now result
+        (record beside { scorer = S.state scorer.old; out = O.state out.old }) (record beside { scorer = S.state scorer.new; out = O.state out.new }) }
+    ensures count { IfOk result (λ _. IsAskedMore cursor.old (next_of_cursor catalog.now (S.state scorer.old).answer cursor.old count) cursor.new) }
+    ensures stands { IfOk result (λ _. StandsFor catalog.now (S.state scorer.old).answer cursor.new) }
+{
+    let mut lines = RowLines::new(alloc);
+    for _ in 0..count {
+        if !put_next(&mut lines, catalog, cursor, scorer, out)? {
+            return Ok(());
+        }
+    }
+    Ok(())
+}
+
+/// Puts the rows that stand ready behind those that were given, at most so many.
+fn fetch_ready<O: Sink>(
+    alloc: Global,
+    count: u32,
+    rows: &[Answer],
+    given: &mut usize,
+    out: &mut O,
+) -> Result<(), Fault>
+    requires { given.old ≤ length rows.now }
+    ensures puts { (beside : World) → Ran (lines_run (rank_lines (suc given.old) (take (next_rows rows.now given.old count) (drop given.old rows.now)))) result
+        (record beside { out = O.state out.old }) (record beside { out = O.state out.new }) }
+    ensures count { IfOk result (λ _. given.new ≡ given.old + next_rows rows.now given.old count) }
+{
+    let wanted = (count as usize).min(rows.len() - *given);
+    put_rows(alloc, *given, &rows[*given..*given + wanted], out)?;
+    *given += wanted;
+    Ok(())
+}
+
+/// CLOSE: the name of a cursor is free again.
+pub fn close(name: &Name, session: &mut Session) -> Result<(), Fault>
+    ensures closes { (catalogue : Catalogue) → Leaves (close_outcome (state_of catalogue (held_in session.old)) name.now) (state_of catalogue (held_in session.new)) result }
+    ensures asked { (answer : Answering) (catalogue : Catalogue) → CanAllBeAsked answer catalogue (held_in session.old)
+        → CanAllBeAsked answer catalogue (held_in session.new) }
+{
+    match session.cursors.shift_remove(&name.text) {
+        Some(held) => {
+            drop(held);
+            Ok(())
+        }
+        None => Err(session_fault(SessionFault::Unknown, &name.text)),
+    }
+}
