@@ -70,9 +70,8 @@ use case_lines::answer_lines;
 use laws::{laws_hold_of_keys, laws_hold_of_numbers, laws_hold_of_pairs};
 use line::Data;
 use ranks::laws_hold_of_rows;
-use rs_bind::{
-    expressions_are_typed_by_rules, queries_are_typed_by_rules, statements_are_typed_by_rules,
-};
+use rs_bind::{queries_are_typed_by_rules, statements_are_typed_by_rules};
+use rs_typing::expressions_are_typed_by_rules;
 use std::process::ExitCode;
 
 fn main(rt: HostRuntime) -> ExitCode {
