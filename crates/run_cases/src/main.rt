@@ -1,5 +1,5 @@
 //! Makes the runs of `rs_run` that the lines of standard input ask for, and prints what came of each. Such lines are the
-//! tests of `rs_run`.
+//! tests of `rs_statement` and `rs_run`.
 //!
 //! Each line is printed as it is, and what a run did behind its line. A line is one of these, its words with one space
 //! between:
