@@ -107,7 +107,9 @@ fn assert_cases(rt: &impl Abort, alloc: Global, catalog: &Catalog) -> Result<(),
 #[test]
 fn tells_plans_from_other_trees(rt: HostRuntime) -> Result<(), Fail> {
     let catalog = catalogue(&rt, rt.alloc())?;
-    assert_cases(&rt, rt.alloc(), &catalog)
+    let asserted = assert_cases(&rt, rt.alloc(), &catalog);
+    drop(catalog);
+    asserted
 }
 
 /// Trees in the order of their codes.
@@ -131,17 +133,25 @@ fn assert_order(
     want: Ordering,
 ) -> Result<(), Fail> {
     let second = tree(alloc, second)?;
+    assert_compared(rt, first, &second, want);
+    Ok(())
+}
+
+fn assert_compared(rt: &impl Abort, first: &Plan, second: &Plan, want: Ordering) {
     assert!(rt; first.has_numbers());
     assert!(rt; second.has_numbers());
-    assert_eq!(rt; first.cmp_code(&second), want);
-    Ok(())
+    assert_eq!(rt; first.cmp_code(second), want);
 }
 
 /// Asserts that a tree stands at this place of the order.
 fn assert_place(rt: &impl Abort, alloc: Global, place: usize, steps: &[Step]) -> Result<(), Fail> {
     let first = tree(alloc, steps)?;
+    assert_place_of(rt, alloc, place, &first)
+}
+
+fn assert_place_of(rt: &impl Abort, alloc: Global, place: usize, first: &Plan) -> Result<(), Fail> {
     for (other, second) in TREES.iter().enumerate() {
-        assert_order(rt, alloc, &first, second, place.cmp(&other))?;
+        assert_order(rt, alloc, first, second, place.cmp(&other))?;
     }
     Ok(())
 }

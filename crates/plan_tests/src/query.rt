@@ -1,12 +1,12 @@
 //! A query of two entries of one table: SELECT a.k FROM t a, t b WHERE a.k = b.k ORDER BY p(a.k), with DISTINCT or without.
 
-ghost use Rattle.std.specs.Prelude.{◌≡◌, ◌≤◌, ◌+◌, ◌∷◌, [], IfOk, Some, length, true};
+ghost use Rattle.std.specs.Prelude.{◌≡◌, ◌≤◌, ◌+◌, ◌∷◌, [], IfOk, Ok, Some, length, true};
 ghost use Rattle.std.specs.List.{AllByRecursion};
 ghost use Rattle.rs_value.specs.declared.kind.Kind.TheVariants as kind;
 ghost use Rattle.rs_value.specs.declared.rel.Rel.TheVariants.{Eq};
 ghost use Rattle.rs_expr.specs.Formulas.{Argument, Numbers};
 ghost use Rattle.rs_expr.specs.Uses.{is_kind};
-ghost use Rattle.rs_catalog.specs.Catalogue.{empty};
+ghost use Rattle.rs_catalog.specs.Catalogue.{empty, room_for};
 ghost use Rattle.rs_catalog.specs.declared.index.BoundArg.TheVariants as arg;
 ghost use Rattle.rs_query.specs.WellFormed.{IsBlock, IsFromEntry, IsQuery, column_kind};
 ghost use Rattle.plan_tests.specs.Pair.{ArePair, HasPredicate, IsPair};
@@ -44,6 +44,13 @@ fn table(alloc: Global) -> Result<Table, Fail> {
     Ok(Table::read(alloc, Schema::make(columns), b"k\n4\n7\n4\n")?)
 }
 
+/// Asserts that one more of this name can join a list of the catalogue.
+fn assert_room(rt: &impl Abort, catalog: &Catalog, what: What, name: &Text)
+    ensures { room_for what name.now catalog.now ≡ Ok tt }
+{
+    assert!(rt; catalog.room(what, name) == Ok(()));
+}
+
 /// Adds the predicate.
 fn add_predicate(rt: &impl Abort, alloc: Global, catalog: &mut Catalog) -> Result<(), Fail>
     requires { catalog.old.predicates ≡ [] }
@@ -51,7 +58,7 @@ fn add_predicate(rt: &impl Abort, alloc: Global, catalog: &mut Catalog) -> Resul
     ensures tables { IfOk result (λ _. catalog.new.tables ≡ catalog.old.tables) }
 {
     let predicate = predicate(alloc)?;
-    assert!(rt; catalog.room(What::Predicate, predicate.name()) == Ok(()));
+    assert_room(rt, catalog, What::Predicate, predicate.name());
     Ok(catalog.add_predicate(predicate)?)
 }
 
@@ -68,7 +75,7 @@ fn add_table(rt: &impl Abort, alloc: Global, catalog: &mut Catalog) -> Result<()
             return Err(fail);
         }
     };
-    assert!(rt; catalog.room(What::Table, &name) == Ok(()));
+    assert_room(rt, catalog, What::Table, &name);
     Ok(catalog.add_table(name, table)?)
 }
 
@@ -88,8 +95,13 @@ pub(crate) fn catalogue(rt: &impl Abort, alloc: Global) -> Result<Catalog, Fail>
     ensures predicate { IfOk result HasPredicate }
 {
     let mut catalog = Catalog::new(alloc);
-    fill(rt, alloc, &mut catalog)?;
-    Ok(catalog)
+    match fill(rt, alloc, &mut catalog) {
+        Ok(()) => Ok(catalog),
+        Err(fail) => {
+            drop(catalog);
+            Err(fail)
+        }
+    }
 }
 
 /// Both entries.

@@ -11,7 +11,7 @@ use Rattle.rs_catalog.specs.declared.room.What.TheVariants as what
 use Rattle.rs_bind.specs.Names.{columns_of}
 use Rattle.rs_statement.specs.declared.fault.Fault.{Fault}
 use Rattle.rs_expr.specs.Scoring.{Answering}
-use Rattle.rs_statement.specs.Run.{Event, Fetch, Finds, Run, behind, finds_in, found_in}
+use Rattle.rs_statement.specs.Run.{Event, Finds, Run, behind, finds_in, found_in}
 use Rattle.rs_statement.specs.Sequence.{RunOf, RunsOn, Step}
 use Rattle.rs_statement.specs.declared.evaluating.Evaluating.{Evaluating}
 use Rattle.rs_statement.specs.Statements.{Does, DoesTable, table_step, with_room}

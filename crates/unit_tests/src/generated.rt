@@ -45,6 +45,10 @@ fn bytes_of(alloc: Global, files: &mut MemFiles, name: &str) -> Result<Vec<u8>, 
     Ok(bytes)
 }
 
+fn has_end(bytes: &[u8], ends: &Ends) -> bool {
+    bytes.len() == ends.1 && bytes.ends_with(ends.2.as_bytes())
+}
+
 /// Compares the length and the end of a file.
 fn assert_ends(
     rt: &impl Abort,
@@ -52,12 +56,9 @@ fn assert_ends(
     files: &mut MemFiles,
     ends: &Ends,
 ) -> Result<(), Fail> {
-    let (name, length, end) = *ends;
+    let name = ends.0;
     let bytes = bytes_of(alloc, files, name)?;
-    assert!(rt;
-        bytes.len() == length && bytes.as_slice().ends_with(end.as_bytes()),
-        "at {name}"
-    );
+    assert!(rt; has_end(&bytes, ends), "at {name}");
     Ok(())
 }
 
@@ -70,8 +71,17 @@ fn assert_files(
     wanted: &[Ends],
 ) -> Result<(), Fail> {
     let mut files = generate(alloc, number, rows)?;
+    assert_all_ends(rt, alloc, &mut files, wanted)
+}
+
+fn assert_all_ends(
+    rt: &impl Abort,
+    alloc: Global,
+    files: &mut MemFiles,
+    wanted: &[Ends],
+) -> Result<(), Fail> {
     for ends in wanted {
-        assert_ends(rt, alloc, &mut files, ends)?;
+        assert_ends(rt, alloc, files, ends)?;
     }
     Ok(())
 }

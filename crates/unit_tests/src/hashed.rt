@@ -8,7 +8,9 @@ ghost use Rattle.rs_ripple.specs.Joined.{Fits};
 ghost use Rattle.rs_hrjn.specs.Hashed.{joined_of};
 ghost use Rattle.unit_tests.specs.Joins.{new_hash_join};
 
-use crate::rows::{Higher, LEFT, RIGHT, TWO_TERMS, left, pair, right};
+use crate::rows::{
+    Higher, LEFT, RIGHT, TWO_TERMS, assert_ask, assert_number, assert_taken, left, pair, right,
+};
 use rs_hrjn::Hrjn;
 use rs_rank::JoinAsk;
 use rs_value::Value;
@@ -37,22 +39,30 @@ fn assert_a_pair(
     let mut matcher = Higher { calls: 0 };
     join.feed_left(left(1, 10), number(alloc, 7)?, exact, &mut matcher)?;
     join.feed_right(right(1, 9), number(alloc, 7)?, exact, &mut matcher)?;
-    assert_eq!(rt; matcher.calls, calls);
-    assert_eq!(rt; join.ask(), JoinAsk::Ready);
-    assert_eq!(rt; join.take(), Some(pair(1, 1, 19)));
+    assert_number(rt, matcher.calls, calls);
+    assert_ask(rt, join.ask(), JoinAsk::Ready);
+    assert_taken(rt, join.take(), Some(pair(1, 1, 19)));
     Ok(())
+}
+
+fn assert_a_pair_of_new_join(
+    rt: &impl Abort,
+    alloc: Global,
+    exact: bool,
+    calls: u64,
+) -> Result<(), Fail> {
+    let mut join = Hrjn::new(alloc, TWO_TERMS, LEFT, RIGHT);
+    assert_a_pair(rt, alloc, &mut join, exact, calls)
 }
 
 #[test]
 fn finds_a_pair_by_its_join_values(rt: HostRuntime) -> Result<(), Fail> {
-    let mut join = Hrjn::new(rt.alloc(), TWO_TERMS, LEFT, RIGHT);
-    assert_a_pair(&rt, rt.alloc(), &mut join, false, 1)
+    assert_a_pair_of_new_join(&rt, rt.alloc(), false, 1)
 }
 
 #[test]
 fn asks_no_matcher_where_equal_values_are_enough(rt: HostRuntime) -> Result<(), Fail> {
-    let mut join = Hrjn::new(rt.alloc(), TWO_TERMS, LEFT, RIGHT);
-    assert_a_pair(&rt, rt.alloc(), &mut join, true, 0)
+    assert_a_pair_of_new_join(&rt, rt.alloc(), true, 0)
 }
 
 // The rows don't match, and have other join values: the matcher isn't asked.
@@ -63,8 +73,8 @@ fn assert_no_pair(rt: &impl Abort, alloc: Global, join: &mut Hrjn) -> Result<(),
     let mut matcher = Higher { calls: 0 };
     join.feed_left(left(1, 9), number(alloc, 7)?, false, &mut matcher)?;
     join.feed_right(right(1, 9), number(alloc, 8)?, false, &mut matcher)?;
-    assert_eq!(rt; matcher.calls, 0);
-    assert_eq!(rt; join.ask(), JoinAsk::NeedLeft);
+    assert_number(rt, matcher.calls, 0);
+    assert_ask(rt, join.ask(), JoinAsk::NeedLeft);
     Ok(())
 }
 

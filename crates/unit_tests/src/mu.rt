@@ -4,6 +4,7 @@ ghost use Rattle.std.specs.Prelude.{◌≡◌, IfOk, false};
 ghost use Rattle.rs_mu.specs.Mu.{ask_of, left_for};
 ghost use Rattle.unit_tests.specs.Cores.{core_of_two, new_core, row_of};
 
+use crate::rows;
 use rs_mu::*;
 use rs_rank::{Ask, Ids, RankRow, Weights};
 use std::process::Abort;
@@ -41,7 +42,7 @@ fn assert_taken(rt: &impl Abort, core: &mut MuCore, want: Option<RankRow>)
     requires { core.old.spent ≡ false }
     ensures { core.new ≡ left_for (ask_of core.old) core.old }
 {
-    assert_eq!(rt; core.take(), want);
+    rows::assert_taken(rt, core.take(), want);
 }
 
 // Feeds two rows, of which the second one is to come first.
@@ -56,10 +57,11 @@ fn feed_two(rt: &impl Abort, core: &mut MuCore) -> Result<(), Fail>
     Ok(())
 }
 
-// Feeds a third row, behind which none to come can precede the second one.
+// Feeds them and a third row, behind which none to come can precede the second one.
 fn assert_the_second_row(rt: &impl Abort, core: &mut MuCore) -> Result<(), Fail>
-    requires { core.old ≡ core_of_two }
+    requires { core.old ≡ new_core }
 {
+    feed_two(rt, core)?;
     assert_ask(rt, core, Ask::Need);
     core.feed(row(3, 5), 1)?;
     assert_ask(rt, core, Ask::Ready);
@@ -72,7 +74,6 @@ fn assert_the_second_row(rt: &impl Abort, core: &mut MuCore) -> Result<(), Fail>
 #[test]
 fn gives_a_row_once_none_can_precede_it(rt: HostRuntime) -> Result<(), Fail> {
     let mut core = MuCore::new(rt.alloc(), TWO_TERMS, 1, 2);
-    feed_two(&rt, &mut core)?;
     assert_the_second_row(&rt, &mut core)
 }
 

@@ -5,7 +5,9 @@ ghost use Rattle.rs_rank.specs.declared.row.RankRow.{RankRow};
 ghost use Rattle.rs_ripple.specs.Joined.{Fits};
 ghost use Rattle.unit_tests.specs.Joins.{new_join};
 
-use crate::rows::{Higher, LEFT, RIGHT, TWO_TERMS, left, pair, right};
+use crate::rows::{
+    Higher, LEFT, RIGHT, TWO_TERMS, assert_ask, assert_number, assert_taken, left, pair, right,
+};
 use rs_nrjn::Nrjn;
 use rs_rank::JoinAsk;
 use std::process::Abort;
@@ -19,9 +21,9 @@ fn assert_a_pair(rt: &impl Abort, join: &mut Nrjn) -> Result<(), Fail>
     let mut matcher = Higher { calls: 0 };
     join.feed_left(left(1, 10), &mut matcher)?;
     join.feed_right(right(1, 9), &mut matcher)?;
-    assert_eq!(rt; join.ask(), JoinAsk::Ready);
-    assert_eq!(rt; join.take(), Some(pair(1, 1, 19)));
-    assert_eq!(rt; matcher.calls, 1);
+    assert_ask(rt, join.ask(), JoinAsk::Ready);
+    assert_taken(rt, join.take(), Some(pair(1, 1, 19)));
+    assert_number(rt, matcher.calls, 1);
     Ok(())
 }
 
@@ -39,9 +41,9 @@ fn assert_the_end(rt: &impl Abort, join: &mut Nrjn) -> Result<(), Fail>
     join.feed_left(left(1, 9), &mut matcher)?;
     join.feed_right(right(1, 9), &mut matcher)?;
     join.left_ended();
-    assert_eq!(rt; join.ask(), JoinAsk::NeedRight);
+    assert_ask(rt, join.ask(), JoinAsk::NeedRight);
     join.right_ended();
-    assert_eq!(rt; join.ask(), JoinAsk::End);
+    assert_ask(rt, join.ask(), JoinAsk::End);
     Ok(())
 }
 

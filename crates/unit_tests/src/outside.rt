@@ -1,5 +1,6 @@
 //! Files that are fetched, and sinks that are written.
 
+use crate::rows::assert_number;
 use rs_outside::{DirFiles, FetchFault, Files, MemFiles, MemSink, OutSink, Sink, SinkFault};
 use rs_value::Text;
 use std::alloc::Global;
@@ -11,16 +12,17 @@ fn text(alloc: Global, bytes: &[u8]) -> Result<Text, Fail> {
     Ok(Text::from_bytes(alloc, bytes)?)
 }
 
-/// What a fetch answers.
-fn fetch<F: Files>(
+/// What a fetch answers, and what the buffer then holds, which held `>`.
+fn fetched<F: Files>(
     files: &mut F,
     alloc: Global,
     name: &str,
     limit: usize,
-    into: &mut Vec<u8>,
-) -> Result<Result<(), FetchFault>, Fail> {
+) -> Result<(Result<(), FetchFault>, Vec<u8>), Fail> {
+    let mut into = b">".to_vec(alloc)?;
     let name = text(alloc, name.as_bytes())?;
-    Ok(files.fetch(&name, limit, into))
+    let got = files.fetch(&name, limit, &mut into);
+    Ok((got, into))
 }
 
 /// Adds a file.
@@ -39,6 +41,11 @@ fn add_two_files(files: &mut MemFiles, alloc: Global) -> Result<(), Fail> {
 /// A name, a limit, what the fetch answers, and what the buffer then holds, which held `>`.
 type Fetch = (&'static str, usize, Result<(), FetchFault>, &'static str);
 
+/// Asserts what holds of the fetch of a file.
+fn assert_at(rt: &impl Abort, holds: bool, name: &str, limit: usize) {
+    assert!(rt; holds, "at {name}, {limit}");
+}
+
 /// Fetches a file, and compares.
 fn assert_fetch(
     rt: &impl Abort,
@@ -47,12 +54,9 @@ fn assert_fetch(
     row: &Fetch,
 ) -> Result<(), Fail> {
     let (name, limit, answer, bytes) = *row;
-    let mut into = b">".to_vec(alloc)?;
-    let got = fetch(files, alloc, name, limit, &mut into)?;
-    assert!(rt;
-        got == answer && into.as_slice() == bytes.as_bytes(),
-        "at {name}, {limit}"
-    );
+    let (got, into) = fetched(files, alloc, name, limit)?;
+    let holds = got == answer && into.as_slice() == bytes.as_bytes();
+    assert_at(rt, holds, name, limit);
     Ok(())
 }
 
@@ -119,10 +123,21 @@ fn put_all<S: Sink>(sink: &mut S, pieces: &[&[u8]]) -> Result<u32, Fail> {
     Ok(failed)
 }
 
-/// Puts the pieces, of which so many fail.
-fn assert_puts<S: Sink>(rt: &impl Abort, sink: &mut S, failed: u32) -> Result<(), Fail> {
-    assert_eq!(rt; put_all(sink, &PIECES)?, failed, "how many fail");
+/// Puts pieces, of which so many fail.
+fn assert_puts<S: Sink>(
+    rt: &impl Abort,
+    sink: &mut S,
+    pieces: &[&[u8]],
+    failed: u32,
+) -> Result<(), Fail> {
+    let count = put_all(sink, pieces)?;
+    assert_number(rt, u64::from(count), u64::from(failed));
     Ok(())
+}
+
+/// Asserts which bytes are taken.
+fn assert_bytes(rt: &impl Abort, bytes: &[u8], want: &str) {
+    assert_eq!(rt; bytes, want.as_bytes());
 }
 
 /// A put that is planned to fail, and how many bytes it takes first; how many puts fail, and what is taken in all.
@@ -134,23 +149,21 @@ const PUTS: [(u32, usize, u32, &str); 5] = [
     (4, 0, 0, "abcdefg"),
 ];
 
-fn sink_failing(alloc: Global, call: u32, after: usize) -> Result<MemSink, Fail> {
-    let mut sink = MemSink::new(alloc);
-    sink.fail_at(call, after)?;
-    Ok(sink)
-}
-
-fn assert_taken(rt: &impl Abort, sink: &mut MemSink, failed: u32, bytes: &str) -> Result<(), Fail> {
-    assert_puts(rt, sink, failed)?;
-    assert_eq!(rt; sink.bytes(), bytes.as_bytes());
+fn assert_taken(
+    rt: &impl Abort,
+    sink: &mut MemSink,
+    row: &(u32, usize, u32, &str),
+) -> Result<(), Fail> {
+    sink.fail_at(row.0, row.1)?;
+    assert_puts(rt, sink, &PIECES, row.2)?;
+    assert_bytes(rt, sink.bytes(), row.3);
     Ok(())
 }
 
 #[test]
 fn puts_into_memory(rt: HostRuntime) -> Result<(), Fail> {
-    for (call, after, failed, bytes) in &PUTS {
-        let mut sink = sink_failing(rt.alloc(), *call, *after)?;
-        assert_taken(&rt, &mut sink, *failed, bytes)?;
+    for row in &PUTS {
+        assert_taken(&rt, &mut MemSink::new(rt.alloc()), row)?;
     }
     Ok(())
 }
@@ -190,33 +203,33 @@ fn assert_length<F: Files>(
     answer: Result<(), FetchFault>,
     length: usize,
 ) -> Result<(), Fail> {
-    let mut into = b">".to_vec(alloc)?;
-    let got = fetch(files, alloc, name, limit, &mut into)?;
-    assert!(rt; got == answer && into.len() == length, "at {name}, {limit}");
+    let (got, into) = fetched(files, alloc, name, limit)?;
+    assert_at(rt, got == answer && into.len() == length, name, limit);
     Ok(())
 }
 
 fn assert_lengths<F: Files>(rt: &impl Abort, alloc: Global, files: &mut F) -> Result<(), Fail> {
-    for (name, limit, answer, length) in ON_DISK_FETCHES {
-        assert_length(rt, alloc, files, name, limit, answer, length)?;
+    for (name, limit, answer, length) in &ON_DISK_FETCHES {
+        assert_length(rt, alloc, files, name, *limit, *answer, *length)?;
     }
     Ok(())
+}
+
+fn assert_long_file(rt: &(impl Abort + std::rt::Files + AllocGlobal)) -> Result<(), Fail> {
+    assert_lengths(rt, rt.alloc(), &mut DirFiles::new(rt))
+}
+
+fn assert_empty_file(rt: &(impl Abort + std::rt::Files + AllocGlobal)) -> Result<(), Fail> {
+    let mut files = DirFiles::new(rt);
+    assert_length(rt, rt.alloc(), &mut files, ON_DISK, 0, Ok(()), 1)
 }
 
 #[test]
 fn fetches_from_the_disk(rt: HostRuntime) -> Result<(), Fail> {
     write_long_file(&rt)?;
-    assert_lengths(&rt, rt.alloc(), &mut DirFiles::new(&rt))?;
+    assert_long_file(&rt)?;
     fs::write(&rt, ON_DISK, b"")?;
-    assert_length(
-        &rt,
-        rt.alloc(),
-        &mut DirFiles::new(&rt),
-        ON_DISK,
-        0,
-        Ok(()),
-        1,
-    )?;
+    assert_empty_file(&rt)?;
     fs::remove_file(&rt, ON_DISK)?;
     Ok(())
 }
@@ -272,12 +285,9 @@ fn assert_narrow(
     flushes: u32,
     bytes: &str,
 ) -> Result<(), Fail> {
-    assert_puts(rt, &mut OutSink::new(&mut *writer), failed)?;
-    let taken = writer.taken.as_slice();
-    assert!(rt;
-        taken == bytes.as_bytes() && writer.flushes == flushes,
-        "{bytes}"
-    );
+    assert_puts(rt, &mut OutSink::new(&mut *writer), &PIECES, failed)?;
+    assert_bytes(rt, &writer.taken, bytes);
+    assert!(rt; writer.flushes == flushes, "{bytes}");
     Ok(())
 }
 
@@ -298,8 +308,7 @@ fn puts_through_a_narrow_writer(rt: HostRuntime) -> Result<(), Fail> {
 /// Writes a line in three pieces.
 fn assert_line<S: Sink>(rt: &impl Abort, sink: &mut S) -> Result<(), Fail> {
     let pieces = [b"rs_outside ".as_slice(), b"", b"writes\n"];
-    assert_eq!(rt; put_all(sink, &pieces)?, 0);
-    Ok(())
+    assert_puts(rt, sink, &pieces, 0)
 }
 
 #[test]

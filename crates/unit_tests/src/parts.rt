@@ -26,17 +26,13 @@ const ROWS: [(u32, u32, i64, i64); 4] = [
 
 /// Asserts that values are these two numbers.
 fn compare(rt: &impl Abort, values: &[Value], first: i64, second: i64) {
-    assert_eq!(rt; values.len(), 2);
-    assert!(rt;
-        is_number(&values[0], first) && is_number(&values[1], second),
-        "{first}, {second}"
-    );
+    assert!(rt; are_numbers(values, first, second), "{first}, {second}");
 }
 
-fn is_number(value: &Value, want: i64) -> bool {
-    match value {
-        Value::Int(number) => *number == want,
-        Value::Text(_) => false,
+fn are_numbers(values: &[Value], first: i64, second: i64) -> bool {
+    match values {
+        [Value::Int(left), Value::Int(right)] => *left == first && *right == second,
+        _ => false,
     }
 }
 
@@ -53,8 +49,7 @@ fn assert_args(
     requires mask { ids.now.mask ≡ 3 }
     requires rows { HasRows catalog.now block.now 3 ids.now.rows }
 {
-    let mut args = Vec::new(alloc);
-    args.push(Value::Int(-1))?;
+    let mut args = vec![in alloc; Value::Int(-1)]?;
     block.args(catalog, 1, ids, &mut args)?;
     compare(rt, &args, want, 7);
     Ok(())
@@ -92,8 +87,9 @@ fn assert_holds(
     requires mask { ids.now.mask ≡ 3 }
     requires rows { HasRows catalog.now block.now 3 ids.now.rows }
 {
-    assert_eq!(rt; block.holds(alloc, catalog, 1, ids)?, want);
-    assert!(rt; block.holds(alloc, catalog, 0, ids)?);
+    let holds = block.holds(alloc, catalog, 1, ids)?;
+    let passes = block.holds(alloc, catalog, 0, ids)?;
+    assert!(rt; holds == want && passes);
     Ok(())
 }
 
@@ -120,8 +116,21 @@ fn assert_rows(rt: &impl Abort, alloc: Global, catalog: &Catalog) -> Result<(), 
     requires predicate { HasPredicate (kind.Int ∷ kind.Int ∷ []) 100 catalog.now }
 {
     let block = formed_join(rt, alloc, catalog)?;
+    assert_rows_of(rt, alloc, catalog, &block)
+}
+
+fn assert_rows_of(
+    rt: &impl Abort,
+    alloc: Global,
+    catalog: &Catalog,
+    block: &Block,
+) -> Result<(), Fail>
+    requires tables { length catalog.now.tables ≡ 2 }
+    requires join { IsJoin block.now }
+    requires block { IsBlock catalog.now block.now }
+{
     for row in &ROWS {
-        assert_row(rt, alloc, catalog, &block, row)?;
+        assert_row(rt, alloc, catalog, block, row)?;
     }
     Ok(())
 }
@@ -140,14 +149,28 @@ const WEIGHTS: Weights = Weights {
     max: [100, 0, 0, 0, 0, 0, 0, 0],
 };
 
+fn assert_mask(rt: &impl Abort, entries: u8, mask: u32, want: u32) {
+    assert_eq!(rt; mask, want, "{entries}");
+}
+
+fn assert_masks(rt: &impl Abort, block: &Block)
+    requires { IsJoin block.now }
+{
+    for (entries, want) in &MASKS {
+        assert_mask(rt, *entries, block.within(*entries), *want);
+    }
+}
+
+fn assert_weights(rt: &impl Abort, weights: &Weights) {
+    assert_eq!(rt; *weights, WEIGHTS);
+}
+
 fn assert_masks_and_weights(rt: &impl Abort, block: &Block)
     requires { IsJoin block.now }
 {
-    assert_eq!(rt; block.all_entries(), 3);
-    for (entries, want) in MASKS {
-        assert_eq!(rt; block.within(entries), want, "{entries}");
-    }
-    assert_eq!(rt; block.weights(), WEIGHTS);
+    assert!(rt; block.all_entries() == 3);
+    assert_masks(rt, block);
+    assert_weights(rt, &block.weights());
 }
 
 #[test]

@@ -96,6 +96,10 @@ fn fetched(
     Ok((got, into.len()))
 }
 
+fn assert_at(rt: &impl Abort, holds: bool, length: usize, limit: usize) {
+    assert!(rt; holds, "at {length}, {limit}");
+}
+
 fn assert_read(
     rt: &impl Abort,
     alloc: Global,
@@ -108,10 +112,8 @@ fn assert_read(
 ) -> Result<(), Fail> {
     let mut given = 0;
     let (got, held) = fetched(alloc, length, fails, limit, &mut given)?;
-    assert!(rt;
-        got == answer && held == kept && given == read,
-        "at {length}, {limit}"
-    );
+    let holds = got == answer && held == kept && given == read;
+    assert_at(rt, holds, length, limit);
     Ok(())
 }
 

@@ -4,7 +4,9 @@ ghost use Rattle.std.specs.Prelude.{◌≡◌, ◌≤◌, IfOk, false};
 ghost use Rattle.rs_ripple.specs.Ripple.{ask_of, left_for};
 ghost use Rattle.unit_tests.specs.Joins.{core_of_three, left_key, new_core, right_key};
 
-use crate::rows::{Higher, LEFT, RIGHT, TWO_TERMS, left as left_row, pair, right as right_row};
+use crate::rows::{
+    self, Higher, LEFT, RIGHT, TWO_TERMS, left as left_row, pair, right as right_row,
+};
 use rs_rank::{Ids, JoinAsk, Key, RankRow};
 use rs_ripple::*;
 use std::process::Abort;
@@ -44,7 +46,7 @@ const fn right(number: u32, worth: u64) -> Key
 fn assert_ask(rt: &impl Abort, core: &RippleCore, want: JoinAsk)
     requires { core.now.spent ≡ false }
 {
-    assert_eq!(rt; core.ask(), want);
+    rows::assert_ask(rt, core.ask(), want);
 }
 
 // Asserts which pair is taken.
@@ -52,7 +54,7 @@ fn assert_taken(rt: &impl Abort, core: &mut RippleCore, want: Option<RankRow>)
     requires { core.old.spent ≡ false }
     ensures { core.new ≡ left_for (ask_of core.old) core.old }
 {
-    assert_eq!(rt; core.take(), want);
+    rows::assert_taken(rt, core.take(), want);
 }
 
 // Equal worths on both sides. The pair of the second left row is found first.
@@ -72,8 +74,9 @@ fn assert_a_pair_held(rt: &impl Abort, core: &mut RippleCore) -> Result<(), Fail
 
 // Of the pairs of 17 that of the earlier left row comes first.
 fn assert_the_pair_of_the_earlier_row(rt: &impl Abort, core: &mut RippleCore) -> Result<(), Fail>
-    requires { core.old ≡ core_of_three }
+    requires { core.old ≡ new_core }
 {
+    assert_a_pair_held(rt, core)?;
     assert_ask(rt, core, JoinAsk::NeedRight);
     assert_taken(rt, core, None);
     core.right_drawn(right(2, 7));
@@ -86,7 +89,6 @@ fn assert_the_pair_of_the_earlier_row(rt: &impl Abort, core: &mut RippleCore) ->
 #[test]
 fn gives_a_pair_once_none_can_precede_it(rt: HostRuntime) -> Result<(), Fail> {
     let mut core = RippleCore::new(rt.alloc(), TWO_TERMS, LEFT, RIGHT);
-    assert_a_pair_held(&rt, &mut core)?;
     assert_the_pair_of_the_earlier_row(&rt, &mut core)
 }
 
@@ -146,19 +148,25 @@ fn ends_where_the_right_side_is_empty(rt: HostRuntime) {
 }
 
 // A left row matches a right one of a lesser sum.
-#[test]
-fn tries_a_pair(rt: HostRuntime) -> Result<(), Fail> {
+fn assert_a_pair_tried(rt: &impl Abort, core: &mut RippleCore) -> Result<(), Fail>
+    requires { core.old ≡ new_core }
+{
     let mut matcher = Higher { calls: 0 };
-    let mut core = RippleCore::new(rt.alloc(), TWO_TERMS, LEFT, RIGHT);
     let key = core.left_key(&left_row(1, 10));
     core.left_drawn(key);
     let key = core.right_key(&right_row(1, 9));
     core.right_drawn(key);
     core.try_pair(&left_row(1, 10), &right_row(1, 9), &mut matcher)?;
-    assert_eq!(rt; matcher.calls, 1);
-    assert_eq!(rt; core.take(), Some(pair(1, 1, 19)));
+    rows::assert_number(rt, matcher.calls, 1);
+    rows::assert_taken(rt, core.take(), Some(pair(1, 1, 19)));
     core.give_up();
     Ok(())
+}
+
+#[test]
+fn tries_a_pair(rt: HostRuntime) -> Result<(), Fail> {
+    let mut core = RippleCore::new(rt.alloc(), TWO_TERMS, LEFT, RIGHT);
+    assert_a_pair_tried(&rt, &mut core)
 }
 
 #[test]

@@ -2,9 +2,10 @@
 
 ghost use Rattle.std.specs.Prelude.{◌≡◌, ◌≤◌, ◌+◌, nat_lt, [], ◌∷◌};
 
-use rs_rank::{Ids, Key, Matcher, RankRow, Weights};
+use rs_rank::{Ids, JoinAsk, Key, Matcher, RankRow, Weights};
 use rs_ripple::Side;
 use rs_value::Memory;
+use std::process::Abort;
 
 // Two terms of weight 1 and at most 10: the first is evaluated on the left side, the second on the right one.
 pub const TWO_TERMS: Weights = Weights {
@@ -67,8 +68,23 @@ pub const fn pair(left: u32, right: u32, sum: u64) -> RankRow
     }
 }
 
+// Asserts what a join does next.
+pub fn assert_ask(rt: &impl Abort, ask: JoinAsk, want: JoinAsk) {
+    assert_eq!(rt; ask, want);
+}
+
+// Asserts which row is taken.
+pub fn assert_taken(rt: &impl Abort, taken: Option<RankRow>, want: Option<RankRow>) {
+    assert_eq!(rt; taken, want);
+}
+
+// Asserts what a number is.
+pub fn assert_number(rt: &impl Abort, number: u64, want: u64) {
+    assert_eq!(rt; number, want);
+}
+
 /// A left row matches a right one of a lesser sum.
-#[derive(Drop)]
+#[derive(Clone, Copy)]
 pub struct Higher {
     pub calls: u64,
 }

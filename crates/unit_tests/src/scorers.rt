@@ -3,6 +3,7 @@
 ghost use Rattle.std.specs.Prelude.{◌≡◌, ◌∷◌, [], IfOk};
 ghost use Rattle.rs_value.specs.declared.kind.Kind.TheVariants as kind;
 
+use crate::rows::assert_number;
 use rs_expr::{Call, Expr, FormulaScorer, MemScorer, Predicate, Scorer, ScorerFault};
 use rs_value::{Kind, List, Text, Value};
 use std::alloc::Global;
@@ -58,10 +59,14 @@ fn assert_answers<S: Scorer>(
 
 /// Asserts that the calls are those of a predicate of this name with these numbers.
 fn assert_calls(rt: &impl Abort, calls: &[Call], name: &[u8], answers: &[Answer]) {
-    assert_eq!(rt; calls.len(), answers.len());
+    assert_number(rt, calls.len() as u64, answers.len() as u64);
     for (call, answer) in calls.iter().zip(answers) {
-        assert!(rt; is_call(call, name, answer.0));
+        assert_call(rt, call, name, answer.0);
     }
+}
+
+fn assert_call(rt: &impl Abort, call: &Call, name: &[u8], number: u8) {
+    assert!(rt; is_call(call, name, number));
 }
 
 fn is_call(call: &Call, name: &[u8], number: u8) -> bool {
@@ -78,10 +83,9 @@ fn only_number(call: &Call) -> Option<i64> {
 
 /// Asserts the parts of such a predicate.
 fn assert_parts(rt: &impl Abort, predicate: &Predicate, name: &[u8]) {
-    assert_eq!(rt; predicate.name().bytes(), name);
+    assert!(rt; predicate.name().bytes() == name);
     assert!(rt; is_of_a_number(predicate.params()) && is_sum(predicate.formula()));
-    assert_eq!(rt; predicate.max(), 100);
-    assert_eq!(rt; predicate.cost(), 5);
+    assert!(rt; predicate.max() == 100 && predicate.cost() == 5);
 }
 
 fn is_of_a_number(params: &[Kind]) -> bool {

@@ -1,11 +1,11 @@
 //! A catalogue of a predicate and of two tables of one column of numbers.
 
-ghost use Rattle.std.specs.Prelude.{◌≡◌, ◌≤◌, ◌+◌, [], IfOk, length, slice_get, true};
+ghost use Rattle.std.specs.Prelude.{◌≡◌, ◌≤◌, ◌+◌, [], IfOk, Ok, length, slice_get, true};
 ghost use Rattle.std.specs.List.{AllByRecursion};
 ghost use Rattle.rs_value.specs.declared.kind.Kind.TheVariants as kind;
 ghost use Rattle.rs_expr.specs.Formulas.{Argument};
 ghost use Rattle.rs_expr.specs.Uses.{is_kind};
-ghost use Rattle.rs_catalog.specs.Catalogue.{empty};
+ghost use Rattle.rs_catalog.specs.Catalogue.{empty, room_for};
 ghost use Rattle.rs_query.specs.WellFormed.{IsFromEntry, column_kind};
 ghost use Rattle.unit_tests.specs.Tables.{HasPredicate};
 
@@ -32,6 +32,13 @@ fn predicate(name: Text, params: List<Kind>, max: u32) -> Predicate
     Predicate::new(name, params, max, 1, Expr::Arg(0))
 }
 
+/// Asserts that one more of this name can join a list of the catalogue.
+fn assert_room(rt: &impl Abort, catalog: &Catalog, what: What, name: &Text)
+    ensures { room_for what name.now catalog.now ≡ Ok tt }
+{
+    assert!(rt; catalog.room(what, name) == Ok(()));
+}
+
 /// Adds the predicate "p" of these parameters.
 fn add_predicate(
     rt: &impl Abort,
@@ -48,7 +55,7 @@ fn add_predicate(
 {
     let name = text(alloc, "p")?;
     let params = Vec::from_slice(alloc, params)?;
-    assert!(rt; catalog.room(What::Predicate, &name) == Ok(()));
+    assert_room(rt, catalog, What::Predicate, &name);
     Ok(catalog.add_predicate(predicate(name, List::of(params), max))?)
 }
 
@@ -78,7 +85,7 @@ fn add_table(
             return Err(fail);
         }
     };
-    assert!(rt; catalog.room(What::Table, &name) == Ok(()));
+    assert_room(rt, catalog, What::Table, &name);
     Ok(catalog.add_table(name, table)?)
 }
 
@@ -118,8 +125,13 @@ pub(crate) fn catalogue(
     ensures predicate { IfOk result (HasPredicate params.now max) }
 {
     let mut catalog = Catalog::new(alloc);
-    fill(rt, alloc, &mut catalog, params, max, files)?;
-    Ok(catalog)
+    match fill(rt, alloc, &mut catalog, params, max, files) {
+        Ok(()) => Ok(catalog),
+        Err(fail) => {
+            drop(catalog);
+            Err(fail)
+        }
+    }
 }
 
 /// Whether the first column of a FROM entry is one of numbers.
