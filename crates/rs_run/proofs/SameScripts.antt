@@ -1,5 +1,5 @@
 -- A script that ends well both ways puts the same lines: its statements do.
-use Rattle.std.proofs.Common.{ℕ, ◌≡◌, ◌-◌, List, sym, ap, subst}
+use Rattle.std.proofs.Common.{ℕ, ◌≡◌, List, sym, ap, subst}
 use Rattle.std.specs.Prelude.{None}
 use Rattle.std.specs.List.{AllByRecursion}
 use Rattle.rs_expr.specs.Scoring.{Answering}

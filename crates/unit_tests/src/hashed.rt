@@ -52,7 +52,9 @@ fn assert_a_pair_of_new_join(
     calls: u64,
 ) -> Result<(), Fail> {
     let mut join = Hrjn::new(alloc, TWO_TERMS, LEFT, RIGHT);
-    assert_a_pair(rt, alloc, &mut join, exact, calls)
+    let asserted = assert_a_pair(rt, alloc, &mut join, exact, calls);
+    drop(join);
+    asserted
 }
 
 #[test]
@@ -81,5 +83,7 @@ fn assert_no_pair(rt: &impl Abort, alloc: Global, join: &mut Hrjn) -> Result<(),
 #[test]
 fn asks_the_matcher_of_equal_values_alone(rt: HostRuntime) -> Result<(), Fail> {
     let mut join = Hrjn::new(rt.alloc(), TWO_TERMS, LEFT, RIGHT);
-    assert_no_pair(&rt, rt.alloc(), &mut join)
+    let asserted = assert_no_pair(&rt, rt.alloc(), &mut join);
+    drop(join);
+    asserted
 }

@@ -138,7 +138,9 @@ fn assert_rows_of(
 #[test]
 fn tells_what_rows_have(rt: HostRuntime) -> Result<(), Fail> {
     let catalog = two_tables(&rt, rt.alloc())?;
-    assert_rows(&rt, rt.alloc(), &catalog)
+    let asserted = assert_rows(&rt, rt.alloc(), &catalog);
+    drop(catalog);
+    asserted
 }
 
 /// Masks of entries, and the masks of the conjuncts whose entries are all among them.
