@@ -18,13 +18,17 @@ use std::alloc::Global;
 /// Binds the only statement of a script, and tells what came of it.
 pub fn tell_bound(alloc: Global, catalog: &Catalog, script: &[u8]) -> Result<String, Fault> {
     let statements = statements_of(alloc, &text_of(alloc, script)?)?;
-    tell_statement(alloc, catalog, &statements)
+    let told = tell_statement(alloc, catalog, &statements);
+    drop(statements);
+    told
 }
 
 /// The same, and the statement joins the catalogue.
 pub fn tell_joined(alloc: Global, catalog: &mut Catalog, script: &[u8]) -> Result<String, Fault> {
     let statements = statements_of(alloc, &text_of(alloc, script)?)?;
-    make_statement(alloc, catalog, &statements)
+    let told = make_statement(alloc, catalog, &statements);
+    drop(statements);
+    told
 }
 
 /// What is asked of a query.
@@ -49,12 +53,34 @@ pub fn tell_query(
     asked: Asked,
     script: &[u8],
 ) -> Result<String, Fault> {
-    let statements = statements_of(alloc, &text_of(alloc, script)?)?;
-    let query = query_of(alloc, catalog, &statements)?;
+    let query = query_in(alloc, catalog, script)?;
+    let told = tell_asked(alloc, catalog, asked, &query);
+    drop(query);
+    told
+}
+
+fn tell_asked(
+    alloc: Global,
+    catalog: &Catalog,
+    asked: Asked,
+    query: &Query,
+) -> Result<String, Fault>
+    requires { IsQuery catalog.now query.now }
+{
     match asked {
-        Asked::Rows => tell_combinations(alloc, catalog, &query),
-        Asked::Answers(failing) => tell_plain(alloc, catalog, &query, failing),
+        Asked::Rows => tell_combinations(alloc, catalog, query),
+        Asked::Answers(failing) => tell_plain(alloc, catalog, query, failing),
     }
+}
+
+/// The query that is the only statement of a script.
+fn query_in(alloc: Global, catalog: &Catalog, script: &[u8]) -> Result<Query, Fault>
+    ensures { IfOk result (λ query. IsQuery catalog.now query) }
+{
+    let statements = statements_of(alloc, &text_of(alloc, script)?)?;
+    let query = query_of(alloc, catalog, &statements);
+    drop(statements);
+    query
 }
 
 fn query_of(alloc: Global, catalog: &Catalog, statements: &[Statement]) -> Result<Query, Fault>
@@ -114,15 +140,29 @@ fn show_bound(
 {
     match statement {
         Statement::CreateTable { columns, .. } => {
-            show_table(told, &bind_table(alloc, columns.items()))
+            let bound = bind_table(alloc, columns.items());
+            let shown = show_table(told, &bound);
+            drop(bound);
+            shown
         }
         Statement::CreatePredicate { .. } => {
-            show_predicate(told, &bind_predicate(alloc, statement))
+            let bound = bind_predicate(alloc, statement);
+            let shown = show_predicate(told, &bound);
+            drop(bound);
+            shown
         }
         Statement::CreateRankIndex { .. } => {
-            show_index(told, &bind_index(alloc, catalog, statement))
+            let bound = bind_index(alloc, catalog, statement);
+            let shown = show_index(told, &bound);
+            drop(bound);
+            shown
         }
-        Statement::Query(select) => show_query(told, &bind(alloc, catalog, select)),
+        Statement::Query(select) => {
+            let bound = bind(alloc, catalog, select);
+            let shown = show_query(told, &bound);
+            drop(bound);
+            shown
+        }
         Statement::Fetch { count, .. } => show_count(told, bind_count(count.0, count.1)),
         _ => Err(Fault::Form),
     }

@@ -78,6 +78,19 @@ impl Data {
             b"find-predicate" => tell_predicate(alloc, &self.catalog, rest, told),
             b"find-index" => tell_index(alloc, &self.catalog, rest, told),
             b"room" => tell_room(alloc, &self.catalog, rest, told),
+            _ => self.tell_scanned(alloc, word, rest, told),
+        }
+    }
+
+    /// What is asked of indexes for terms and of scans, or of none of the catalogue.
+    fn tell_scanned(
+        &self,
+        alloc: Global,
+        word: &[u8],
+        rest: &[u8],
+        told: &mut String,
+    ) -> Result<(), Fault> {
+        match word {
             b"index-for" => tell_index_for(alloc, &self.catalog, rest, told),
             b"scan-table" => tell_table_scan(alloc, &self.catalog, rest, told),
             b"scan-index" => tell_index_scan(alloc, &self.catalog, rest, told),
