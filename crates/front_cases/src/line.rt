@@ -71,6 +71,12 @@ fn answer(alloc: Global, word: &[u8], rest: &[u8], file: &[u8]) -> Result<String
         b"holds" => tell_whether(alloc, rest),
         b"print" => tell_print(alloc, rest),
         b"line" => tell_line(alloc, rest),
+        _ => answer_of_parts(alloc, word, rest, file),
+    }
+}
+
+fn answer_of_parts(alloc: Global, word: &[u8], rest: &[u8], file: &[u8]) -> Result<String, Fault> {
+    match word {
         b"find" => tell_place_of_key(alloc, rest),
         b"list" => tell_list(alloc, rest),
         b"width" => tell_width(alloc, rest),
