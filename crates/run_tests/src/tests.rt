@@ -224,14 +224,24 @@ fn text(alloc: Global, chars: &str) -> Result<Text, Memory> {
 
 /// Adds the files, and the script of these pieces.
 fn add_files(alloc: Global, script: &[&str], files: &mut MemFiles) -> Result<(), Memory> {
-    for (name, bytes) in FILES {
-        files.add(text(alloc, name)?, bytes.as_bytes().to_vec(alloc)?)?;
+    for (name, bytes) in &FILES {
+        add_file(alloc, name, bytes, files)?;
     }
+    let bytes = joined(alloc, script)?;
+    files.add(text(alloc, "s.sql")?, bytes)
+}
+
+fn add_file(alloc: Global, name: &str, bytes: &str, files: &mut MemFiles) -> Result<(), Memory> {
+    let bytes = bytes.as_bytes().to_vec(alloc)?;
+    files.add(text(alloc, name)?, bytes)
+}
+
+fn joined(alloc: Global, pieces: &[&str]) -> Result<Vec<u8>, Memory> {
     let mut bytes = Vec::new(alloc);
-    for piece in script {
+    for piece in pieces {
         bytes.extend_from_slice(piece.as_bytes())?;
     }
-    files.add(text(alloc, "s.sql")?, bytes)
+    Ok(bytes)
 }
 
 /// Asserts that a run did all, or lacked memory and told so.
@@ -251,23 +261,27 @@ fn assert_cut(rt: &impl Abort, case: &Case, ended: &Ended) {
     let out = ended.out.bytes();
     assert!(rt; case.out.as_bytes().starts_with(out), "{out:?}");
     assert!(rt; out.is_empty() || out.ends_with(b"\n"), "{out:?}");
-    assert_eq!(rt; ended.err.bytes(), b"memory\n".as_slice());
+    assert_bytes(rt, ended.err.bytes(), b"memory\n");
     assert!(rt; ended.scorer.calls().len() <= case.calls.len());
 }
 
 /// Asserts that a run did all.
 fn assert_whole(rt: &impl Abort, case: &Case, ended: &Ended) {
     assert_eq!(rt; ended.status, case.status);
-    assert_eq!(rt; ended.out.bytes(), case.out.as_bytes());
-    assert_eq!(rt; ended.err.bytes(), case.err.as_bytes());
-    assert_eq!(rt; ended.scorer.calls().len(), case.calls.len());
+    assert_bytes(rt, ended.out.bytes(), case.out.as_bytes());
+    assert_bytes(rt, ended.err.bytes(), case.err.as_bytes());
+    assert!(rt; ended.scorer.calls().len() == case.calls.len());
+}
+
+fn assert_bytes(rt: &impl Abort, bytes: &[u8], want: &[u8]) {
+    assert_eq!(rt; bytes, want);
 }
 
 /// Asserts that a call is that of the line: the predicate's name and the arguments. Nothing is asserted where there is
 /// no memory for a line of the call.
 fn assert_call(rt: &impl Abort, alloc: Global, call: &Call, line: &str) {
     if let Ok(told) = told(alloc, call) {
-        assert_eq!(rt; told.as_slice(), line.as_bytes());
+        assert_bytes(rt, &told, line.as_bytes());
     }
 }
 
