@@ -15,7 +15,7 @@ use rs_expr::Scorer;
 use rs_outside::{Files, Sink};
 use rs_statement::{
     Evaluating, Fault, Session, close, create_index, create_predicate, create_table, declare,
-    fetch, run_analyze, run_explain, run_select,
+    fetch, release, run_analyze, run_explain, run_select,
 };
 use rs_syntax::Statement;
 use std::alloc::Global;
@@ -49,12 +49,12 @@ pub fn run_statements<F: Files, S: Scorer, O: Sink>(
         ) {
             Ok(()) => {}
             Err(fault) => {
-                drop(session);
-                drop(catalog);
+                release(catalog, session);
                 return Err(fault);
             }
         }
     }
+    release(catalog, session);
     Ok(())
 }
 

@@ -24,5 +24,5 @@ pub use file::{fetch_file, table_fault};
 pub use put::put_rows;
 pub use script_fault::ScriptFault;
 pub use select::{run_analyze, run_explain, run_select};
-pub use session::{Session, close, declare, fetch};
+pub use session::{Session, close, declare, fetch, release};
 pub use status::Status;

@@ -68,6 +68,12 @@ impl Session {
     }
 }
 
+/// Lets go of what a script has made. A crate above that did so by itself would prove for each type in them how it is let go of.
+pub fn release(catalog: Catalog, session: Session) {
+    drop(session);
+    drop(catalog);
+}
+
 /// DECLARE: opens a cursor over the rows of a query. Nothing is put.
 pub fn declare<S: Scorer>(
     alloc: Global,
