@@ -33,7 +33,9 @@ pub fn tell_rows(
         return Ok(format!(in alloc; "  invalid\n")?);
     }
     let mut cursor = Cursor::start(alloc, catalog, query, plan)?;
-    tell_cursor(alloc, catalog, &mut cursor, count, scorer)
+    let told = tell_cursor(alloc, catalog, &mut cursor, count, scorer);
+    drop(cursor);
+    told
 }
 
 /// Asks a new cursor so often, and tells what each ask gave, and what the nodes of its plan count.

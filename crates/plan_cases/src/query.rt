@@ -65,14 +65,18 @@ fn tell_bound(
     requires formed { IsQuery catalog.now query }
     requires held { AreHeld (answered_score scorer.old) catalog.now }
 {
-    match asked {
+    let told = match asked {
         Asked::Least(seed) => tell_least(alloc, catalog, &query, *seed, None, scorer),
         Asked::Counted(seed, counts) => {
             tell_least(alloc, catalog, &query, *seed, Some(counts), scorer)
         }
-        Asked::Rows(plan, count) => tell_rows(alloc, catalog, query, plan, *count, scorer),
+        Asked::Rows(plan, count) => {
+            return tell_rows(alloc, catalog, query, plan, *count, scorer);
+        }
         Asked::Calls(seed) => tell_sample(alloc, catalog, &query, *seed, scorer),
         Asked::Cards(seed) => tell_cards(alloc, catalog, &query, *seed, scorer),
         Asked::Time { takes, asks } => tell_time(alloc, catalog, &query, *takes, *asks),
-    }
+    };
+    drop(query);
+    told
 }

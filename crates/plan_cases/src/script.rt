@@ -30,11 +30,27 @@ pub fn tell_script(
     requires { AreWritten (commands_of statements.now) }
 {
     let mut catalog = Catalog::new(alloc);
+    let told = tell_statements(alloc, statements, asked, &mut catalog, scorer);
+    drop(catalog);
+    told
+}
+
+/// Adds to a catalogue what the statements make, up to the first query, and tells what is asked of that one.
+fn tell_statements(
+    alloc: Global,
+    statements: &[Statement],
+    asked: &Asked,
+    catalog: &mut Catalog,
+    scorer: &mut MemScorer,
+) -> Result<String, Fault>
+    requires written { AreWritten (commands_of statements.now) }
+    requires held { AreHeld (answered_score scorer.old) catalog.old }
+{
     for statement in statements {
         if let Statement::Query(select) = statement {
-            return tell_query(alloc, &catalog, select, asked, scorer);
+            return tell_query(alloc, catalog, select, asked, scorer);
         }
-        if let Some(fault) = join(alloc, &mut catalog, statement, scorer)? {
+        if let Some(fault) = join(alloc, catalog, statement, scorer)? {
             return tell_index_fault(alloc, fault, scorer.calls());
         }
     }

@@ -5,7 +5,7 @@ use Rattle.rs_order.proofs.EachFacts.{each-slice_get}
 use Rattle.rs_syntax.specs.Syntax.{command_of, commands_of}
 use Rattle.rs_syntax.specs.Written.{AreWritten, IsWritten}
 use Rattle.rs_syntax.specs.declared.statement.Statement.{Statement}
-use Rattle.plan_cases.proofs.script.tell_script.Goals as goal
+use Rattle.plan_cases.proofs.script.tell_statements.Goals as goal
 
 -- a statement of a script is written as statements are
 written-at : (statements : List Statement) (i : ℕ) (statement : Statement) → i < length statements → statement ≡ get_or statements i statement
@@ -17,10 +17,10 @@ written-at statements i statement within is written =
 pub tell_query-requires-clause-written : goal.tell_query-requires-clause-written
 tell_query-requires-clause-written c =
     subst (λ (statement : Statement). IsWritten (command_of statement)) c.in-Query.is
-    (written-at c.args.statements.now c.loop-statement.statement-index c.statement-item.result c.loop-statement-test.true c.statement-item.is c.requires)
+    (written-at c.args.statements.now c.loop-statement.statement-index c.statement-item.result c.loop-statement-test.true c.statement-item.is c.requires.written)
 
 pub join-requires : goal.join-requires
 join-requires c = record {
-  written = written-at c.args.statements.now c.loop-statement.statement-index c.statement-item.result c.loop-statement-test.true c.statement-item.is c.requires;
+  written = written-at c.args.statements.now c.loop-statement.statement-index c.statement-item.result c.loop-statement-test.true c.statement-item.is c.requires.written;
   held = c.loop-statement.invariant;
 }

@@ -1,6 +1,6 @@
 use Rattle.rs_expr.specs.MemScorer.{answered_score}
 use Rattle.rs_exec.specs.Indexes.{AreHeld}
-use Rattle.plan_cases.proofs.script.tell_script.Given as goal
+use Rattle.plan_cases.proofs.script.tell_statements.Given as goal
 
 -- all indexes hold the answers of the scorer
 abbrev pub invariant-loop-statement : goal.invariant-loop-statement
