@@ -78,7 +78,9 @@ def named(crate, begun, tries):
 
 
 spent, told, others = {}, {}, set()
-keeps = "--anew" in subprocess.run(["rt", "--help"], capture_output=True, text=True).stdout
+# (some kits print this on standard error)
+help_text = subprocess.run(["rt", "--help"], stdout=subprocess.PIPE, stderr=subprocess.STDOUT, text=True).stdout
+keeps = "--anew" in help_text
 start = time.time()
 with open(sys.argv[1], "w") as log:
     words = ["rt", "ci"] + ["--anew"] * keeps
