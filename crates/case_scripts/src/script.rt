@@ -4,8 +4,7 @@ ghost use Rattle.rs_syntax.specs.Written.{AreWritten};
 
 use case_lines::Fault;
 use rs_lex::{LexFault, MOST_BYTES, tokens};
-use rs_parse::{SyntaxFault, parse};
-use rs_syntax::Statement;
+use rs_syntax::{Statement, SyntaxFault, parse};
 use rs_value::Text;
 use std::alloc::Global;
 

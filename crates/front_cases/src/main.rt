@@ -1,5 +1,5 @@
 //! Answers what the lines of standard input ask of the crates at the front. Such lines are the tests of `rs_value`,
-//! `rs_lex`, `rs_grammar`, `rs_syntax`, `rs_parse`, `rs_table`, `rs_lines` and `rs_expr`.
+//! `rs_lex`, `rs_grammar`, `rs_syntax`, `rs_table`, `rs_lines` and `rs_expr`.
 //!
 //! Each line is printed as it is, and its answer behind it. A line is one of these, its words with one space between:
 //! - `number BYTES`: the number that a cell is, or `none`. `digits MOST BYTES`: what digits are, up to a number.

@@ -7,8 +7,7 @@ use crate::replaced::replaced;
 use crate::scripts::script_of;
 use case_lines::{Fault, bytes_of};
 use rs_lex::{LexFault, Token, tokens};
-use rs_parse::{SyntaxFault, parse};
-use rs_syntax::Statement;
+use rs_syntax::{Statement, SyntaxFault, parse};
 use rs_value::{Memory, Text};
 use std::alloc::Global;
 

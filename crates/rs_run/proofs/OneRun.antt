@@ -5,10 +5,10 @@ use Rattle.rs_lex.specs.Spelling as lex
 use Rattle.rs_lex.specs.declared.fault.LexFault.{LexFault}
 use Rattle.rs_lex.specs.declared.token.Token.{Token}
 use Rattle.rs_gen.specs.Files.{script_name}
-use Rattle.rs_parse.specs.Scripts.{IsSound, Parses, Refuses}
+use Rattle.rs_syntax.specs.Scripts.{IsSound, Parses, Refuses}
 use Rattle.rs_syntax.specs.Syntax.{Command}
-use Rattle.rs_parse.specs.declared.fault.SyntaxFault.{SyntaxFault}
-use Rattle.rs_parse.proofs.ScriptFacts.{Parses-one, Refuses-one, IsSound-not_refused}
+use Rattle.rs_syntax.specs.declared.fault.SyntaxFault.{SyntaxFault}
+use Rattle.rs_syntax.proofs.ScriptFacts.{Parses-one, Refuses-one, IsSound-not_refused}
 use Rattle.rs_statement.specs.declared.fault.Fault.TheVariants.{Script}
 use Rattle.rs_statement.specs.declared.script_fault.ScriptFault.TheVariants.{Lex, Parse}
 use Rattle.rs_run.specs.Words.{Form, NoForm, RunGenerated, RunScript, Top, form_of}

@@ -4,7 +4,7 @@ use Rattle.std.specs.Prelude.{None}
 use Rattle.std.specs.List.{AllByRecursion}
 use Rattle.rs_expr.specs.Scoring.{Answering}
 use Rattle.rs_syntax.specs.Syntax.{Command}
-use Rattle.rs_parse.proofs.ParsesFacts.{AreWritten-parsed}
+use Rattle.rs_syntax.proofs.WrittenFacts.{AreWritten-parsed}
 use Rattle.rs_statement.specs.declared.evaluating.Evaluating.TheVariants.{Planned, Plainly}
 use Rattle.rs_run.specs.Plain.{HasStatements, TextRuns, read, runs, source_of, unlexed, unparsed, unread}
 use Rattle.rs_statement.specs.Run.{Finds, Run, puts}

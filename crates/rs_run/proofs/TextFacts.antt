@@ -9,10 +9,10 @@ use Rattle.rs_lex.specs.declared.fault.LexFault.{LexFault}
 use Rattle.rs_lex.specs.declared.fault.LexFault.TheVariants as lex
 use Rattle.rs_lex.specs.declared.token.Token.{Token}
 use Rattle.rs_expr.specs.Scoring.{Answering}
-use Rattle.rs_parse.specs.Scripts.{IsSound, Parses, Refuses}
+use Rattle.rs_syntax.specs.Scripts.{IsSound, Parses, Refuses}
 use Rattle.rs_syntax.specs.Syntax.{Command}
-use Rattle.rs_parse.specs.declared.fault.SyntaxFault.{SyntaxFault}
-use Rattle.rs_parse.specs.declared.fault.SyntaxFault.TheVariants as syntax
+use Rattle.rs_syntax.specs.declared.fault.SyntaxFault.{SyntaxFault}
+use Rattle.rs_syntax.specs.declared.fault.SyntaxFault.TheVariants as syntax
 use Rattle.rs_statement.specs.declared.fault.Fault.{Fault}
 use Rattle.rs_statement.specs.declared.fault.Fault.TheVariants.{Memory}
 use Rattle.rs_statement.specs.Faults.{lex_fault, parse_fault}

@@ -8,9 +8,9 @@ use Rattle.rs_value.specs.Results.{◌>>=◌}
 use Rattle.rs_lex.specs.Spelling as lex
 use Rattle.rs_lex.specs.declared.fault.LexFault.{LexFault}
 use Rattle.rs_lex.specs.declared.token.Token.{Token}
-use Rattle.rs_parse.specs.Scripts.{IsSound, Parses, Refuses}
+use Rattle.rs_syntax.specs.Scripts.{IsSound, Parses, Refuses}
 use Rattle.rs_syntax.specs.Syntax.{Command}
-use Rattle.rs_parse.specs.declared.fault.SyntaxFault.{SyntaxFault}
+use Rattle.rs_syntax.specs.declared.fault.SyntaxFault.{SyntaxFault}
 use Rattle.rs_statement.specs.declared.fault.Fault.{Fault}
 use Rattle.rs_statement.specs.declared.fault.Fault.TheVariants.{Memory, Script}
 use Rattle.rs_statement.specs.declared.script_fault.ScriptFault.TheVariants.{NotUtf8, Lex, Parse}

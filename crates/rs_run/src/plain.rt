@@ -15,8 +15,8 @@ use crate::statement::run_statements;
 use rs_expr::Scorer;
 use rs_lex::{MOST_BYTES, tokens};
 use rs_outside::{Files, Sink};
-use rs_parse::parse;
 use rs_statement::{Evaluating, Fault, ScriptFault, fetch_file};
+use rs_syntax::parse;
 use rs_value::{Text, TextFault};
 use std::alloc::Global;
 

@@ -8,7 +8,7 @@ use Rattle.rs_statement.specs.declared.fault.Fault.TheVariants as fault
 use Rattle.rs_statement.specs.declared.script_fault.ScriptFault.TheVariants as script
 use Rattle.rs_statement.specs.declared.status.Status.TheVariants as status
 use Rattle.rs_lex.specs.declared.fault.LexFault.TheVariants as lex
-use Rattle.rs_parse.specs.declared.fault.SyntaxFault.TheVariants as syntax
+use Rattle.rs_syntax.specs.declared.fault.SyntaxFault.TheVariants as syntax
 use Rattle.rs_catalog.specs.declared.room.RoomFault.TheVariants as room
 use Rattle.rs_typing.specs.declared.fault.Why.TheVariants as why
 use Rattle.rs_statement.specs.Faults.{fault_line, only, status_of}

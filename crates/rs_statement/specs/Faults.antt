@@ -8,8 +8,8 @@ use Rattle.rs_table.specs.declared.fault.TableFault.{TableFault}
 use Rattle.rs_table.specs.declared.fault.TableFault.TheVariants as table
 use Rattle.rs_lex.specs.declared.fault.LexFault.{LexFault}
 use Rattle.rs_lex.specs.declared.fault.LexFault.TheVariants as lex
-use Rattle.rs_parse.specs.declared.fault.SyntaxFault.{SyntaxFault}
-use Rattle.rs_parse.specs.declared.fault.SyntaxFault.TheVariants as syntax
+use Rattle.rs_syntax.specs.declared.fault.SyntaxFault.{SyntaxFault}
+use Rattle.rs_syntax.specs.declared.fault.SyntaxFault.TheVariants as syntax
 use Rattle.rs_catalog.specs.declared.index.IndexFault.{IndexFault}
 use Rattle.rs_catalog.specs.declared.index.IndexFault.TheVariants as index
 use Rattle.rs_catalog.specs.declared.room.RoomFault.{RoomFault}

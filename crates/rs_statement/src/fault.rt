@@ -8,7 +8,7 @@ use rs_bind::BindFault;
 use rs_catalog::IndexFault;
 use rs_lex::LexFault;
 use rs_outside::FetchFault;
-use rs_parse::SyntaxFault;
+use rs_syntax::SyntaxFault;
 use rs_table::TableFault;
 use rs_value::{Memory, Text};
 use std::alloc::{AllocFailed, Global};

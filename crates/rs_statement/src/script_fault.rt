@@ -5,7 +5,7 @@ ghost use Rattle.rs_statement.specs.Faults.{lex_text, parse_text, room_text, scr
 use rs_bind::Why;
 use rs_catalog::RoomFault;
 use rs_lex::LexFault;
-use rs_parse::SyntaxFault;
+use rs_syntax::SyntaxFault;
 use rs_value::Memory;
 use std::alloc::Global;
 

@@ -8,7 +8,10 @@ pub mod Blocks
 pub mod Operands
 pub mod Cycle
 pub mod Scripting
+pub mod Cutting
 pub mod Numbers
+pub mod ScriptFacts
 pub mod SpanFacts
 pub mod WrittenFacts
+mod WorkedScripts
 mod WorkedWritten

@@ -1,6 +1,9 @@
--- The spans of the statements that a tree stands for are in order, where its tokens are.
-use Rattle.std.proofs.Common.{ℕ, ◌≡◌, ◌<◌, ◌≤◌, Bool, true, false, List, [], ◌∷◌, ◌++◌, map, Option, Some, None, refl, arith, if◌then◌else◌}
+-- The spans of the statements that a script parses to are in order, since its tokens are.
+use Rattle.std.proofs.Common.{ℕ, ◌≡◌, ◌+◌, ◌<◌, ◌≤◌, Bool, true, false, List, [], ◌∷◌, ◌++◌, length, map, Option, Some, None, refl, arith, if◌then◌else◌}
 use Rattle.rs_lex.specs.declared.token.Span.{Span}
+use Rattle.rs_lex.specs.declared.token.Token.{Token}
+use Rattle.rs_lex.specs.Spelling.{TokensInOrder, Spells}
+use Rattle.rs_lex.proofs.SpellingFacts.{TokensInOrder-spelled}
 use Rattle.rs_grammar.specs.Kinds.{names, plain_names}
 use Rattle.rs_grammar.specs.Grammar.{Part, One, Many, Use, ◌⨟◌, word, name, optional, Tree, Leaf, Nothing, Pair, This, That, More, Node, yield, start_of, end_after, Fits}
 use Rattle.rs_grammar.specs.Grammar as grammar
@@ -11,10 +14,11 @@ use Rattle.rs_grammar.specs.declared.lexeme.Lexeme.{Lexeme}
 use Rattle.rs_grammar.proofs.Beginnings.{Fits-nullable}
 use Rattle.rs_syntax.specs.declared.name.Name.{Name}
 use Rattle.rs_syntax.specs.declared.name.ColRef.{ColRef}
-use Rattle.rs_syntax.specs.Syntax.{Expression, Int, Text, Column, Neg, Arith, Abs, Least, Greatest, Case, Compare, And, Or, Not, Explain, ExplainAnalyze}
+use Rattle.rs_syntax.specs.Syntax.{Expression, Int, Text, Column, Neg, Arith, Abs, Least, Greatest, Case, Compare, And, Or, Not, Command, Explain, ExplainAnalyze}
 use Rattle.rs_syntax.specs.Trees.{starts_at, ends_at, span, leaf, part, last, if_there, is_there, items_of, listed, is_of_kind, kind_at, leaf_name, qualified, colref_of, span_of}
 use Rattle.rs_syntax.specs.Expressions.{expr_of, ors, conj_of, ands, neg_of, comp_of, sum_of, sums, prod_of, prods, sign_of, base_of, absolute_of, extreme_in, extreme_of, brackets_of, case_of, cases, condition_of, result_of, adding_of, multiplying_of}
 use Rattle.rs_syntax.specs.Statements.{column_of, columns_of, arg_of, args_of, weight_of, term_of, terms_of, alias_of, entry_of, entries_of, select_items_of, filter_of, block_of, right_of, limit_of, select_of, create_table_of, create_predicate_of, create_rank_index_of, create_of, declare_of, fetch_of, close_of, explain_of, statement_of, statements_of, script_of}
+use Rattle.rs_syntax.specs.Scripts.{Parses, lexemes_of}
 use Rattle.rs_syntax.specs.Spans.{Lies, ◌before◌, Whole, Maybe, Each, NameIn, ColumnIn, ExpressionIn, ArgIn, NumberIn, TermIn, ItemsIn, EntryIn, BlockIn, RightIn, QueryIn, TypedIn, CommandIn, SpansInOrder}
 
 -- tokens are in order from one place up to another
@@ -765,6 +769,22 @@ script-in (This t) from to h o = statements-in t from to h o
 script-in (That t) from to h o = TreeIn-le t from to o
 script-in _ from to h o = absurd h
 
--- and from tokens that are in order
-pub SpansInOrder-yield : (t : Tree) (from to : ℕ) → Fits grammar.script t → Ordered from to (yield t) → SpansInOrder from to (script_of t)
-SpansInOrder-yield t from to h o = script-in t from to h (Ordered-tree t from to o)
+-- a lexeme stands where its token does
+lexemes_of-ordered : (text : List ℕ) (tokens : List Token) (from to : ℕ) → TokensInOrder from tokens to → Ordered from to (lexemes_of text tokens)
+lexemes_of-ordered text [] from to o = o
+lexemes_of-ordered text (token ∷ rest) from to o = (o.0, o.1, lexemes_of-ordered text rest token.at.end to o.2)
+
+-- the statements that tokens in order parse to are in order
+pub Parses-in_order : (text : List ℕ) (tokens : List Token) (commands : List Command) → TokensInOrder 0 tokens (length text) → Parses text tokens commands
+    → SpansInOrder 0 (length text) commands
+Parses-in_order text tokens commands o parses =
+    let ordered : Ordered 0 (length text) (yield parses.tree) = rw parses.spells (lexemes_of-ordered text tokens 0 (length text) o) in
+    let made : SpansInOrder 0 (length text) (script_of parses.tree) = script-in parses.tree 0 (length text) parses.fits (Ordered-tree parses.tree 0 (length text) ordered) in
+    rw parses.means at made
+
+-- and so are those of a script, whose bytes spell the tokens
+pub Parses-spans : (text : List ℕ) (tokens : List Token) (commands : List Command) → Spells 0 text tokens → Parses text tokens commands
+    → SpansInOrder 0 (length text) commands
+Parses-spans text tokens commands spelled parses =
+    let same : 0 + length text ≡ length text = omega arith in
+    Parses-in_order text tokens commands (rw same at (TokensInOrder-spelled 0 text tokens spelled)) parses

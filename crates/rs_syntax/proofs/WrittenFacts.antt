@@ -1,16 +1,21 @@
--- The statements that a tree stands for are well written, where the numbers of its tokens are in range.
-use Rattle.std.proofs.Common.{ℕ, zero, suc, ◌≡◌, ◌≤◌, List, [], ◌∷◌, ◌++◌, length, Bool, true, false, refl, arith}
+-- The statements that the tokens of a script parse to are well written.
+use Rattle.std.proofs.Common.{ℕ, zero, suc, ◌≡◌, ◌≤◌, List, [], ◌∷◌, ◌++◌, length, Bool, true, false, refl, sym, subst, arith}
 use Rattle.std.specs.Prelude.{ℤ, pos, negsuc, nat_abs, neg_ℤ, map, IfSome, if◌then◌else◌}
 use Rattle.std.specs.List.{AllByRecursion}
 use Rattle.std.proofs.lemmas.Int.{ints}
 use Rattle.rs_value.specs.Number.{greatest_int}
+use Rattle.rs_lex.specs.Spelling.{Spells}
+use Rattle.rs_lex.specs.declared.token.Token.{Token}
 use Rattle.rs_grammar.specs.Grammar.{Tree, Leaf, Nothing, Pair, This, That, More, Node, yield}
 use Rattle.rs_grammar.specs.declared.lexeme.Lexeme.{Lexeme}
+use Rattle.rs_grammar.proofs.LexemeFacts.{IsFront-whole}
 use Rattle.rs_syntax.specs.Numbers.{IsNumber, AreNumbers}
+use Rattle.rs_syntax.specs.Scripts.{Parses}
 use Rattle.rs_syntax.specs.Statements.{signed_of, arg_in, arg_of, args_of, term_of, terms_of, block_of, right_of, select_of, columns_of, create_in, create_of, statement_in, statement_of, statements_of, script_of}
-use Rattle.rs_syntax.specs.Syntax.{Block, Explain, ExplainAnalyze}
+use Rattle.rs_syntax.specs.Syntax.{Block, Command, Explain, ExplainAnalyze}
 use Rattle.rs_syntax.specs.Trees.{leaf, last, part, inside, of_rule, last_of_rule, if_there, is_there, items_of, listed}
 use Rattle.rs_value.specs.declared.set_op.SetOp.{SetOp}
+use Rattle.rs_syntax.proofs.Numbers.{AreNumbers-lexemes}
 use Rattle.rs_syntax.specs.Written.{IsWrittenArg, AreWrittenArgs, IsWrittenBlock, IsWrittenTerm, IsWrittenQuery, IsWritten, AreWritten}
 
 -- the numbers of a tree's tokens are such that a script can write them
@@ -164,6 +169,8 @@ script_of-written : (t : Tree) → HasNumbers t → AreWritten (script_of t)
 script_of-written (This t) h = statements_of-written t h
 script_of-written t h = tt
 
--- and from tokens whose numbers are such
-pub AreWritten-yield : (t : Tree) → AreNumbers (yield t) → AreWritten (script_of t)
-AreWritten-yield t h = script_of-written t (HasNumbers-yield t h)
+pub AreWritten-parsed : (script : List ℕ) (tokens : List Token) (commands : List Command) → Spells 0 script tokens → Parses script tokens commands
+    → AreWritten commands
+AreWritten-parsed script tokens commands spelled h =
+    subst AreWritten h.means (script_of-written h.tree (HasNumbers-yield h.tree
+    (subst AreNumbers (sym h.spells) (AreNumbers-lexemes script tokens (IsFront-whole script tokens spelled)))))

@@ -8,5 +8,7 @@ pub mod Numbers
 pub mod Reads
 pub mod Makes
 pub mod Cases
+pub mod Scripts
+pub mod Cut
 pub mod Spans
 pub mod Written

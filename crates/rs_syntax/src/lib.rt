@@ -1,14 +1,17 @@
 //! Statements of query scripts, and the parser that reads them.
 #![tactic(auto)]
 
+mod fault;
 mod name;
 mod node;
 mod parser;
+mod script;
 mod select;
 mod statement;
 
+pub use fault::SyntaxFault;
 pub use name::{Arg, ColRef, Name};
 pub use node::{Node, Op};
-pub use parser::{Fault as ParserFault, Parser};
+pub use script::{one_list_of_statements, one_refusal, parse};
 pub use select::{BlockSyn, Items, Select, TermSyn};
 pub use statement::Statement;

@@ -20,7 +20,7 @@ use std::alloc::Global;
 
 impl Parser {
     /// `block [ set_operator block ] ORDER BY terms [ DESC ] [ LIMIT number ]`
-    pub(crate) fn select(&mut self, alloc: Global) -> Result<Select, Fault>
+    pub fn select(&mut self, alloc: Global) -> Result<Select, Fault>
         ensures { Reads (Use select) select_of query_of self.old self.new result }
     {
         let left = self.block(alloc)?;
@@ -68,7 +68,7 @@ impl Parser {
     }
 
     /// A word and a number, where the word stands there: `[ LIMIT number ]` or `[ COST number ]`.
-    pub(crate) fn numbered(&mut self, kind: TokenKind) -> Result<Option<(i64, Span)>, Fault>
+    pub fn numbered(&mut self, kind: TokenKind) -> Result<Option<(i64, Span)>, Fault>
         ensures { Reads (optional (word kind ⨟ word Number)) (if_there limit_of) (λ n. n) self.old self.new result }
     {
         if !self.at(kind) {

@@ -26,7 +26,7 @@ pub struct When {
 impl Parser {
     /// `CASE when { when } ELSE expr END`
     #[cycle(expr)]
-    pub(crate) fn case(&mut self, alloc: Global) -> Result<Node, Fault>
+    pub fn case(&mut self, alloc: Global) -> Result<Node, Fault>
         ensures { Reads (Use case) case_of expression_of self.old self.new result }
     {
         let from = self.start();

@@ -30,7 +30,7 @@ enum Word {
 
 impl Parser {
     /// `conj { OR conj }`
-    pub(crate) fn expr(&mut self, alloc: Global) -> Result<Node, Fault>
+    pub fn expr(&mut self, alloc: Global) -> Result<Node, Fault>
         ensures { Reads (Use expr) expr_of expression_of self.old self.new result }
     {
         self.chain(alloc, Level::Or)
@@ -39,7 +39,7 @@ impl Parser {
     /// What the operators of a level join: `conj { OR conj }`, `neg { AND neg }`, `prod { ( "+" | "-" ) prod }` or
     /// `sign { ( "*" | "/" ) sign }`.
     #[cycle(expr)]
-    pub(crate) fn chain(&mut self, alloc: Global, level: Level) -> Result<Node, Fault>
+    pub fn chain(&mut self, alloc: Global, level: Level) -> Result<Node, Fault>
         ensures { Reads (Use (rule_at level)) (chain_of level) expression_of self.old self.new result }
     {
         let from = self.start();
@@ -207,7 +207,7 @@ impl Parser {
 
     /// An expression, and a token of this kind behind it.
     #[cycle(expr)]
-    pub(crate) fn expr_before(&mut self, alloc: Global, kind: TokenKind) -> Result<Node, Fault>
+    pub fn expr_before(&mut self, alloc: Global, kind: TokenKind) -> Result<Node, Fault>
         ensures { Reads (Use expr ⨟ word kind) first_expr_of expression_of self.old self.new result }
     {
         let node = self.chain(alloc, Level::Or)?;

@@ -32,7 +32,7 @@ pub enum Operator {
 
 impl Parser {
     /// Whether the next token is an operator of this level.
-    pub(crate) fn at_operator(&self, level: Level) -> bool
+    pub fn at_operator(&self, level: Level) -> bool
         ensures { result ≡ next_is (operators level) self.now.rest }
     {
         match level {
@@ -44,7 +44,7 @@ impl Parser {
     }
 
     /// An operator of this level.
-    pub(crate) fn operator(&mut self, level: Level) -> Result<Operator, Fault>
+    pub fn operator(&mut self, level: Level) -> Result<Operator, Fault>
         ensures { Reads (One (operators level)) (operator_of level) (λ o. o) self.old self.new result }
     {
         match level {
@@ -92,7 +92,7 @@ impl Parser {
     }
 
     /// `"=" | "<>" | "<" | "<=" | ">" | ">="`
-    pub(crate) fn comparison(&mut self) -> Result<Rel, Fault>
+    pub fn comparison(&mut self) -> Result<Rel, Fault>
         ensures { Reads (One comparisons) rel_of (λ rel. rel) self.old self.new result }
     {
         let kind = self.any_of(&COMPARISONS)?;

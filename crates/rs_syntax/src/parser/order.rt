@@ -14,10 +14,7 @@ use std::alloc::Global;
 
 impl Parser {
     /// `ORDER BY terms [ DESC ] [ LIMIT number ]`
-    pub(crate) fn order(
-        &mut self,
-        alloc: Global,
-    ) -> Result<(List<TermSyn>, Option<(i64, Span)>), Fault>
+    pub fn order(&mut self, alloc: Global) -> Result<(List<TermSyn>, Option<(i64, Span)>), Fault>
         ensures { Reads (word Order ⨟ word By ⨟ Use terms ⨟ optional (word Desc) ⨟ optional (word Limit ⨟ word Number))
             (λ t. (terms_of (part 2 t), if_there limit_of (last 4 t))) (λ o. o) self.old self.new result }
     {

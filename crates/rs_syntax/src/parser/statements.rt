@@ -10,7 +10,7 @@ use rs_grammar::TokenKind;
 use std::alloc::Global;
 
 impl Parser {
-    /// The statements of a script: `{ statement ";" } [ statement ]`.
+    /// `{ statement ";" } [ statement ]`
     pub fn script(&mut self, alloc: Global) -> Result<Vec<Statement>, Fault>
         ensures { Reads script script_of (λ s. commands_of s.items) self.old self.new result }
     {

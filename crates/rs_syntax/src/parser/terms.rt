@@ -15,7 +15,7 @@ use std::alloc::Global;
 
 impl Parser {
     /// `term { "+" term }`
-    pub(crate) fn terms(&mut self, alloc: Global) -> Result<List<TermSyn>, Fault>
+    pub fn terms(&mut self, alloc: Global) -> Result<List<TermSyn>, Fault>
         ensures { Reads (Use terms) terms_of (λ t. t) self.old self.new result }
     {
         let mut terms = Vec::new(alloc);
@@ -63,7 +63,7 @@ impl Parser {
     }
 
     /// `arg { "," arg }`
-    pub(crate) fn args(&mut self, alloc: Global) -> Result<List<Arg>, Fault>
+    pub fn args(&mut self, alloc: Global) -> Result<List<Arg>, Fault>
         ensures { Reads (Use args) args_of (λ a. a) self.old self.new result }
     {
         let mut args = Vec::new(alloc);

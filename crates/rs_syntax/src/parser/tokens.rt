@@ -34,7 +34,7 @@ fn left_behind(kind: TokenKind, left: u32) -> Option<u32>
 
 impl Parser {
     /// Whether the next token is of this kind.
-    pub(crate) fn at(&self, kind: TokenKind) -> bool
+    pub fn at(&self, kind: TokenKind) -> bool
         ensures { result ≡ next_is (kind ∷ []) self.now.rest }
     {
         match self.reversed.last() {
@@ -44,7 +44,7 @@ impl Parser {
     }
 
     /// Whether the next token is of one of these kinds.
-    pub(crate) fn at_any(&self, kinds: &[TokenKind]) -> bool
+    pub fn at_any(&self, kinds: &[TokenKind]) -> bool
         ensures { result ≡ next_is kinds.now self.now.rest }
     {
         match self.reversed.last() {
@@ -54,7 +54,7 @@ impl Parser {
     }
 
     /// Whether the next token may be a name.
-    pub(crate) fn at_name(&self) -> bool
+    pub fn at_name(&self) -> bool
         ensures { result ≡ next_is names self.now.rest }
     {
         match self.reversed.last() {
@@ -64,7 +64,7 @@ impl Parser {
     }
 
     /// Whether the next token may be a name that is no function's.
-    pub(crate) fn at_plain_name(&self) -> bool
+    pub fn at_plain_name(&self) -> bool
         ensures { result ≡ next_is plain_names self.now.rest }
     {
         match self.reversed.last() {
@@ -88,7 +88,7 @@ impl Parser {
     }
 
     /// Where the next token starts.
-    pub(crate) fn start(&self) -> u32
+    pub fn start(&self) -> u32
         ensures { result ≡ start_of self.now.rest }
     {
         match self.reversed.last() {
@@ -98,7 +98,7 @@ impl Parser {
     }
 
     /// From a place to where the last token ended.
-    pub(crate) fn since(&self, from: u32) -> Span
+    pub fn since(&self, from: u32) -> Span
         ensures { result ≡ span from self.now.last }
     {
         Span {
@@ -108,7 +108,7 @@ impl Parser {
     }
 
     /// Takes the next token, if it is one that may stand there.
-    pub(crate) fn take(&mut self, accepted: bool) -> Result<Lexeme, Fault>
+    pub fn take(&mut self, accepted: bool) -> Result<Lexeme, Fault>
         ensures reads { (kinds : List TokenKind) → accepted ≡ next_is kinds self.old.rest → Reads (One kinds) leaf (λ l. l) self.old self.new result }
         ensures in_range { IfOk result (λ l. IsNumber l.number) }
     {
@@ -130,7 +130,7 @@ impl Parser {
     }
 
     /// Takes a token of this kind, and says where it stands.
-    pub(crate) fn expect(&mut self, kind: TokenKind) -> Result<Span, Fault>
+    pub fn expect(&mut self, kind: TokenKind) -> Result<Span, Fault>
         ensures { Reads (word kind) leaf_span (λ at. at) self.old self.new result }
     {
         let accepted = self.at(kind);
@@ -139,7 +139,7 @@ impl Parser {
     }
 
     /// Takes a token of this kind if it stands there, and says whether it did.
-    pub(crate) fn accept(&mut self, kind: TokenKind) -> Result<bool, Fault>
+    pub fn accept(&mut self, kind: TokenKind) -> Result<bool, Fault>
         ensures { Reads (optional (word kind)) is_there (λ there. there) self.old self.new result }
     {
         if !self.at(kind) {
@@ -150,7 +150,7 @@ impl Parser {
     }
 
     /// Takes a token of one of these kinds.
-    pub(crate) fn any_of(&mut self, kinds: &[TokenKind]) -> Result<TokenKind, Fault>
+    pub fn any_of(&mut self, kinds: &[TokenKind]) -> Result<TokenKind, Fault>
         ensures { Reads (One kinds.now) kind_at (λ kind. kind) self.old self.new result }
     {
         let accepted = self.at_any(kinds);
@@ -158,7 +158,7 @@ impl Parser {
         Ok(lexeme.kind)
     }
 
-    pub(crate) fn name(&mut self) -> Result<Name, Fault>
+    pub fn name(&mut self) -> Result<Name, Fault>
         ensures { Reads name_part leaf_name (λ name. name) self.old self.new result }
     {
         let accepted = self.at_name();
@@ -167,7 +167,7 @@ impl Parser {
     }
 
     /// A name that is no function's.
-    pub(crate) fn plain_name(&mut self) -> Result<Name, Fault>
+    pub fn plain_name(&mut self) -> Result<Name, Fault>
         ensures { Reads (One plain_names) leaf_name (λ name. name) self.old self.new result }
     {
         let accepted = self.at_plain_name();
@@ -175,7 +175,7 @@ impl Parser {
         Ok(Name { text, at })
     }
 
-    pub(crate) fn number(&mut self) -> Result<(i64, Span), Fault>
+    pub fn number(&mut self) -> Result<(i64, Span), Fault>
         ensures reads { Reads (word Number) leaf_number (λ number. number) self.old self.new result }
         ensures in_range { IfOk result (λ number. IsNumber number.0) }
     {
@@ -184,7 +184,7 @@ impl Parser {
         Ok((lexeme.number, lexeme.at))
     }
 
-    pub(crate) fn literal(&mut self) -> Result<(Text, Span), Fault>
+    pub fn literal(&mut self) -> Result<(Text, Span), Fault>
         ensures { Reads (word Literal) leaf_text (λ text. text) self.old self.new result }
     {
         let accepted = self.at(TokenKind::Literal);

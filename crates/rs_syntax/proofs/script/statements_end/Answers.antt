@@ -1,7 +1,7 @@
 use Rattle.std.proofs.Common.{inr, arith, true, false, ◌∙◌}
-use Rattle.rs_parse.proofs.Cutting.{EndsLast-here, Within-more, statements_ended-more}
-use Rattle.rs_parse.proofs.script.statements_end.Goals as goal
-use Rattle.rs_parse.proofs.script.statements_end.Goals.{then-is+else-ended-eq-MOST_STATEMENTS, else-is}
+use Rattle.rs_syntax.proofs.Cutting.{EndsLast-here, Within-more, statements_ended-more}
+use Rattle.rs_syntax.proofs.script.statements_end.Goals as goal
+use Rattle.rs_syntax.proofs.script.statements_end.Goals.{then-is+else-ended-eq-MOST_STATEMENTS, else-is}
 
 pub returns-then-ended-eq-MOST_STATEMENTS-clause-cut : goal.returns-then-ended-eq-MOST_STATEMENTS-clause-cut
 returns-then-ended-eq-MOST_STATEMENTS-clause-cut c =

@@ -1,5 +1,5 @@
-use Rattle.rs_parse.proofs.ScriptFacts.{Refuses-one, IsSound-not_refused}
-use Rattle.rs_parse.proofs.script.one_refusal.Goals as goal
+use Rattle.rs_syntax.proofs.ScriptFacts.{Refuses-one, IsSound-not_refused}
+use Rattle.rs_syntax.proofs.script.one_refusal.Goals as goal
 
 pub returns-clause-one : goal.returns-clause-one
 returns-clause-one c = λ text tokens a b h k. Refuses-one text tokens a b h k

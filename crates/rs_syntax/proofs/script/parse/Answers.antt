@@ -1,16 +1,17 @@
 use Rattle.std.proofs.Common.{◌≡◌, ◌∙◌, inl, inr, sym, ap, refl, subst, drop, length, Err, true, false, []}
 use Rattle.rs_grammar.specs.Grammar.{script}
+use Rattle.rs_syntax.specs.Cut.{refusal_of}
 use Rattle.rs_syntax.specs.Reads.{Halts, Found}
+use Rattle.rs_syntax.specs.Scripts.{Refuses, lexemes_of}
 use Rattle.rs_syntax.specs.Statements.{script_of}
 use Rattle.rs_syntax.specs.Syntax.{commands_of}
 use Rattle.rs_syntax.specs.declared.parser.Fault.TheVariants.{Expected, TooDeep}
 use Rattle.rs_syntax.proofs.Numbers.{AreNumbers-lexemes, AreNumbers-take}
-use Rattle.rs_parse.proofs.ScriptFacts.{Given, Given-made, begin, begin-made, rest_of, none-behind, some-behind, Refuses-one, IsSound-not_refused, Halts-refused, Halts-too_deep, Read-refused, Read-too_many_refused, Read-parses, Read-sound, Read-one}
+use Rattle.rs_syntax.proofs.ScriptFacts.{Given, Given-made, begin, begin-made, rest_of, none-behind, some-behind, Refuses-one, IsSound-not_refused, Halts-refused, Halts-too_deep, Read-refused, Read-too_many_refused, Read-parses, Read-sound, Read-one}
 use Rattle.rs_grammar.proofs.LexemeFacts.{IsFront-whole}
-use Rattle.rs_parse.specs.Cut.{refusal_of}
-use Rattle.rs_parse.specs.Scripts.{Refuses, lexemes_of}
-use Rattle.rs_parse.proofs.ParsesFacts.{AreWritten-parsed, Parses-spans}
-use Rattle.rs_parse.proofs.script.parse.Goals as goal
+use Rattle.rs_syntax.proofs.SpanFacts.{Parses-spans}
+use Rattle.rs_syntax.proofs.WrittenFacts.{AreWritten-parsed}
+use Rattle.rs_syntax.proofs.script.parse.Goals as goal
 
 pub new-parser-requires : goal.new-parser-requires
 new-parser-requires c =

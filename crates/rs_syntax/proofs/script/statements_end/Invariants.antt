@@ -1,6 +1,6 @@
 use Rattle.std.proofs.Common.{◌≡◌, ◌<◌, take}
 use Rattle.rs_grammar.specs.Places.{statements_ended, most_statements, IsWithinStatements}
-use Rattle.rs_parse.proofs.script.statements_end.Given as goal
+use Rattle.rs_syntax.proofs.script.statements_end.Given as goal
 
 abbrev pub invariant-loop-index : goal.invariant-loop-index
 invariant-loop-index l = record {

@@ -5,7 +5,7 @@ use Rattle.std.proofs.lemmas.List.{take_more, take-append-le}
 use Rattle.std.proofs.lemmas.Bool.{cases_lt}
 use Rattle.rs_grammar.specs.Places.{statements_ended, is_semicolon, most_statements, IsWithinStatements}
 use Rattle.rs_grammar.specs.declared.lexeme.Lexeme.{Lexeme}
-use Rattle.rs_parse.specs.Cut.{EndsLast}
+use Rattle.rs_syntax.specs.Cut.{EndsLast}
 
 -- one more token ends a statement more, if it is `;`
 statements_ended-push : (xs : List Lexeme) (l : Lexeme) → statements_ended (xs ++ l ∷ []) ≡ statements_ended xs + (if is_semicolon l then 1 else 0)

@@ -16,21 +16,21 @@ use Rattle.rs_grammar.specs.Reading as reading
 use Rattle.rs_grammar.specs.declared.lexeme.Lexeme.{Lexeme}
 use Rattle.rs_grammar.proofs.Computed.{spell, spell-spells, Outcome, Got, Stuck, NoFuel, run, Says, run-says}
 use Rattle.rs_grammar.proofs.Derivation.{Front, Fails-front}
+use Rattle.rs_syntax.specs.Cut.{refusal_of}
 use Rattle.rs_syntax.specs.Expressions.{expr_of}
+use Rattle.rs_syntax.specs.Scripts.{Parses, Refuses, IsSound, lexemes_of}
 use Rattle.rs_syntax.specs.Statements.{script_of}
 use Rattle.rs_syntax.specs.Syntax.{Expression, Int, Column, Arith, Compare, And, Not, Command, CreateTable, CreatePredicate, Ask, Close}
 use Rattle.rs_syntax.specs.Trees.{span, starts_at, ends_at}
+use Rattle.rs_syntax.specs.declared.fault.SyntaxFault.{SyntaxFault}
+use Rattle.rs_syntax.specs.declared.fault.SyntaxFault.TheVariants as fault
 use Rattle.rs_syntax.specs.declared.name.Name.{Name}
 use Rattle.rs_syntax.specs.declared.name.ColRef.{ColRef}
 use Rattle.rs_syntax.specs.declared.name.Arg.TheVariants as arg
 use Rattle.rs_syntax.specs.declared.node.Op.TheVariants.{Sub}
 use Rattle.rs_syntax.specs.declared.select.Items.TheVariants as items
 use Rattle.rs_syntax.specs.declared.select.TermSyn.{TermSyn}
-use Rattle.rs_parse.specs.Cut.{refusal_of}
-use Rattle.rs_parse.specs.Scripts.{Parses, Refuses, IsSound, lexemes_of}
-use Rattle.rs_parse.specs.declared.fault.SyntaxFault.{SyntaxFault}
-use Rattle.rs_parse.specs.declared.fault.SyntaxFault.TheVariants as fault
-use Rattle.rs_parse.proofs.ScriptFacts.{Given, begin, Halts-refused, Halts-too_deep, Read-refused, Read-parses, Read-sound}
+use Rattle.rs_syntax.proofs.ScriptFacts.{Given, begin, Halts-refused, Halts-too_deep, Read-refused, Read-parses, Read-sound}
 
 -- no more statements end than there are tokens
 at_most_one : (b : Bool) → (if b then 1 else 0) ≤ 1

@@ -2,17 +2,18 @@ ghost use Rattle.std.specs.Prelude.{◌≡◌, ◌⊎◌, ◌≤◌, Err, IfOk, 
 ghost use Rattle.rs_grammar.specs.Places.{IsWithinStatements};
 ghost use Rattle.rs_lex.specs.Spelling.{Spells};
 ghost use Rattle.rs_lex.specs.declared.token.Token.{Token};
+ghost use Rattle.rs_syntax.specs.Cut.{EndsLast, refusal_of};
+ghost use Rattle.rs_syntax.specs.Scripts.{IsSound, Parses, Refuses};
 ghost use Rattle.rs_syntax.specs.Spans.{SpansInOrder};
 ghost use Rattle.rs_syntax.specs.Syntax.{Command, commands_of};
 ghost use Rattle.rs_syntax.specs.Written.{AreWritten};
-ghost use Rattle.rs_parse.specs.Cut.{EndsLast, refusal_of};
-ghost use Rattle.rs_parse.specs.Scripts.{IsSound, Parses, Refuses};
-ghost use Rattle.rs_parse.specs.declared.fault.SyntaxFault.{SyntaxFault};
+ghost use Rattle.rs_syntax.specs.declared.fault.SyntaxFault.{SyntaxFault};
 
 use crate::fault::SyntaxFault;
+use crate::parser::{Fault, Parser};
+use crate::statement::Statement;
 use rs_grammar::{Lexeme, TokenKind, lexemes};
 use rs_lex::Token;
-use rs_syntax::{Parser, ParserFault, Statement};
 use rs_value::Text;
 use std::alloc::Global;
 
@@ -43,9 +44,9 @@ pub fn parse(alloc: Global, script: &Text, tokens: &[Token]) -> Result<Vec<State
     let mut parser = Parser::new(lexemes);
     let statements = match parser.script(alloc) {
         Ok(statements) => statements,
-        Err(ParserFault::Expected) => return Err(refusal(&parser, more, script, false)),
-        Err(ParserFault::TooDeep) => return Err(refusal(&parser, more, script, true)),
-        Err(ParserFault::Memory) => return Err(SyntaxFault::Memory),
+        Err(Fault::Expected) => return Err(refusal(&parser, more, script, false)),
+        Err(Fault::TooDeep) => return Err(refusal(&parser, more, script, true)),
+        Err(Fault::Memory) => return Err(SyntaxFault::Memory),
     };
     if !parser.is_done() {
         return Err(refusal(&parser, more, script, false));

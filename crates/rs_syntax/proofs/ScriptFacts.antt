@@ -15,14 +15,14 @@ use Rattle.rs_grammar.proofs.Derivation.{Front, Deep, Fails-front, Fails-deep, R
 use Rattle.rs_grammar.proofs.OneTree.{script-one}
 use Rattle.rs_grammar.proofs.Verdict.{Begins, IsCut, unexpected, IsRefused-one, Fails-unexpected, Fails-end, Fails-too_deep, Fails-too_many, Read-unexpected, Read-too_many, Read-whole, Read-none}
 use Rattle.rs_lex.specs.declared.token.Token.{Token}
+use Rattle.rs_syntax.specs.Cut.{EndsLast, refusal_of}
 use Rattle.rs_syntax.specs.Reads.{Halts}
+use Rattle.rs_syntax.specs.Scripts.{Parses, Refuses, IsSound, lexemes_of, byte_in, byte_at, fault_of}
 use Rattle.rs_syntax.specs.Statements.{script_of}
 use Rattle.rs_syntax.specs.Syntax.{Command}
+use Rattle.rs_syntax.specs.declared.fault.SyntaxFault.{SyntaxFault}
+use Rattle.rs_syntax.specs.declared.fault.SyntaxFault.TheVariants as fault
 use Rattle.rs_syntax.specs.declared.parser.Fault.TheVariants as parser
-use Rattle.rs_parse.specs.Cut.{EndsLast, refusal_of}
-use Rattle.rs_parse.specs.Scripts.{Parses, Refuses, IsSound, lexemes_of, byte_in, byte_at, fault_of}
-use Rattle.rs_parse.specs.declared.fault.SyntaxFault.{SyntaxFault}
-use Rattle.rs_parse.specs.declared.fault.SyntaxFault.TheVariants as fault
 
 -- tokens parse to one list of statements at most
 pub Parses-one : (text : List ℕ) (tokens : List Token) (a b : List Command) → Parses text tokens a → Parses text tokens b → a ≡ b

@@ -5,8 +5,8 @@ use Rattle.rs_grammar.specs.Places.{is_semicolon, statements_ended, most_stateme
 use Rattle.rs_grammar.specs.declared.kind.TokenKind.TheVariants.{Foreign}
 use Rattle.rs_grammar.specs.declared.lexeme.Lexeme.{Lexeme}
 use Rattle.rs_lex.specs.declared.token.Token.{Token}
-use Rattle.rs_parse.specs.declared.fault.SyntaxFault.{SyntaxFault}
-use Rattle.rs_parse.specs.declared.fault.SyntaxFault.TheVariants as fault
+use Rattle.rs_syntax.specs.declared.fault.SyntaxFault.{SyntaxFault}
+use Rattle.rs_syntax.specs.declared.fault.SyntaxFault.TheVariants as fault
 
 -- the last token is the `;` that ends the last statement that a script may have
 pub record EndsLast (kept : List Lexeme) : Type 0 where

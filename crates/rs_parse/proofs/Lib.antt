@@ -1,4 +1,0 @@
-pub mod Cutting
-pub mod ScriptFacts
-pub mod ParsesFacts
-mod WorkedScripts

@@ -1,5 +1,0 @@
-use Rattle.rs_parse.proofs.ScriptFacts.{Parses-one}
-use Rattle.rs_parse.proofs.script.one_list_of_statements.Goals as goal
-
-pub returns : goal.returns
-returns c = λ text tokens a b h k. Parses-one text tokens a b h k
