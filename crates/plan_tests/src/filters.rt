@@ -7,7 +7,9 @@ ghost use Rattle.plan_tests.specs.Pair.{HasPredicate, IsPair};
 
 use crate::query::{catalogue, formed_pair};
 use rs_catalog::Catalog;
-use rs_filter::{BlockMatch, passes, project, sides_and_matches_are_combinations};
+use rs_filter::{
+    BlockMatch, JoinConditions, KeptList, passes, project, sides_and_matches_are_combinations,
+};
 use rs_query::Block;
 use rs_rank::{Ids, Matcher, RankRow};
 use rs_value::Value;
@@ -53,8 +55,9 @@ fn assert_passes(
     requires mask { row.now.ids.mask ≡ 3 }
     requires rows { HasRows catalog.now block.now 3 row.now.ids.rows }
 {
-    let with_condition = passes(alloc, catalog, block, 1, row)?;
-    let without = passes(alloc, catalog, block, 0, row)?;
+    let mut cells = Vec::new(alloc);
+    let with_condition = passes(catalog, block, 1, row, &mut cells)?;
+    let without = passes(catalog, block, 0, row, &mut cells)?;
     assert!(rt; with_condition == want && without);
     Ok(())
 }
@@ -174,7 +177,9 @@ fn assert_pairs(rt: &impl Abort, alloc: Global, catalog: &Catalog) -> Result<(),
     requires predicate { HasPredicate catalog.now }
 {
     let block = formed_pair(rt, alloc, catalog, false)?;
-    let mut matcher = BlockMatch::new(alloc, catalog, &block, 1, 2);
+    let conditions = JoinConditions::new(alloc, catalog, &block, 1, 2)?;
+    let mut cells = KeptList::new(alloc);
+    let mut matcher = BlockMatch::new(catalog, &block, &conditions, &mut cells);
     assert_matches(rt, &mut matcher)
 }
 

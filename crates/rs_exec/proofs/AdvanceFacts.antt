@@ -1,15 +1,12 @@
 -- A cursor that stands and isn't over asks its plan once more.
-use Rattle.std.proofs.Common.{◌≡◌, ◌∙◌, ℕ, suc, ◌≤◌, false, inl, inr, refl, sym, ap, subst}
+use Rattle.std.proofs.Common.{◌≡◌, ◌∙◌, suc, false, inl, inr, refl, sym, ap, subst}
 use Rattle.std.specs.Prelude.{Option, Some, None, Result, Ok, Err, if◌then◌else◌, option_map, slice_get}
-use Rattle.std.specs.List.{AllByRecursion}
 use Rattle.rs_expr.specs.InOrder.{Inquires}
 use Rattle.rs_expr.specs.Scoring.{ScorerState}
-use Rattle.rs_rank.specs.Weights.{IsWeights}
 use Rattle.rs_rank.specs.declared.answer.Answer.{Answer}
 use Rattle.rs_rank.specs.declared.row.RankRow.{RankRow}
 use Rattle.rs_catalog.specs.Catalogue.{Catalogue}
-use Rattle.rs_query.specs.Answers.{weights_of}
-use Rattle.rs_query.specs.Tables.{all_entries, sizes_of}
+use Rattle.rs_query.specs.Tables.{all_entries}
 use Rattle.rs_query.proofs.QuestionFacts.{Gave-ok, Stopped-behind}
 use Rattle.rs_plan.specs.Calls.{questions_of_ask}
 use Rattle.rs_plan.specs.Lists.{World, block_in, list_of, list_of_plan}
@@ -33,22 +30,20 @@ module _ (catalogue : Catalogue) (cursor : CursorState) (old : ScorerState) (sta
   root-number : number_in cursor.root ≡ 1
   root-number = node-number w 1 cursor.root stands.nodes
 
-  pub root-can : ((n : ℕ) → AllByRecursion (λ size. size ≤ 131072) (sizes_of catalogue (block_in cursor.query n))) → IsWeights (weights_of (block_in cursor.query 1))
-      → is_over (world_of catalogue old.answer cursor.query) (plan_of cursor) (asks_of cursor) ≡ false
-      → CanAsk catalogue old.answer cursor.query (number_in cursor.root) (tree_in cursor.root) (asked_in cursor.root)
-  root-can few weights more =
-      subst (λ n. CanAsk catalogue old.answer cursor.query n (tree_in cursor.root) (asked_in cursor.root)) (sym root-number)
-      (cursor-can catalogue old.answer cursor stands few weights more)
+  pub root-can : is_over (world_of catalogue old.answer cursor.query) (plan_of cursor) (asks_of cursor) ≡ false
+      → CanAsk (world_of catalogue old.answer cursor.query) (number_in cursor.root) (tree_in cursor.root) (asked_in cursor.root)
+  root-can more =
+      subst (λ n. CanAsk (world_of catalogue old.answer cursor.query) n (tree_in cursor.root) (asked_in cursor.root)) (sym root-number)
+      (cursor-can catalogue old.answer cursor stands more)
 
   pub root-stands : Stands (world_of catalogue old.answer cursor.query) (number_in cursor.root) cursor.root
   root-stands = subst (λ n. Stands w n cursor.root) (sym root-number) stands.nodes
 
-  pub root-after : ((n : ℕ) → AllByRecursion (λ size. size ≤ 131072) (sizes_of catalogue (block_in cursor.query n))) → IsWeights (weights_of (block_in cursor.query 1))
-      → is_over (world_of catalogue old.answer cursor.query) (plan_of cursor) (asks_of cursor) ≡ false → (root : Node)
+  pub root-after : is_over (world_of catalogue old.answer cursor.query) (plan_of cursor) (asks_of cursor) ≡ false → (root : Node)
       → NodeAfter (world_of catalogue old.answer cursor.query) (number_in cursor.root) (tree_in cursor.root) (asked_in cursor.root) root
       → StandsFor catalogue old.answer (record cursor { root = root })
-  root-after few weights more root after =
-      cursor-after catalogue old.answer cursor root stands (cursor-can catalogue old.answer cursor stands few weights more)
+  root-after more root after =
+      cursor-after catalogue old.answer cursor root stands (cursor-can catalogue old.answer cursor stands more)
       (subst (λ n. NodeAfter w n (tree_in cursor.root) (asked_in cursor.root) root) root-number after)
 
   -- a row of its list has all entries of its block

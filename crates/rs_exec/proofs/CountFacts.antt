@@ -1,7 +1,9 @@
 -- What the nodes of a plan that stand count is what the definition says.
-use Rattle.std.proofs.Common.{◌≡◌, ◌∙◌, ℕ, zero, suc, List, [], ◌∷◌, ◌++◌, Box, Global, refl, sym, ap, ap₂, subst}
+use Rattle.std.proofs.Common.{◌≡◌, ◌∙◌, ℕ, zero, suc, List, [], ◌∷◌, ◌++◌, Box, Global, refl, sym, ap, ap₂, subst, length, ◌+◌}
 use Rattle.std.specs.Prelude.{Some, None, Result, Ok, Err, slice_get}
-use Rattle.rs_plan.specs.Counts.{counts, counts_at}
+use Rattle.std.proofs.lemmas.List.{length-append}
+use Rattle.rs_order.specs.Schedule.{Left, Right}
+use Rattle.rs_plan.specs.Counts.{counts, counts_at, asked_of}
 use Rattle.rs_plan.specs.declared.counts.Counts.{Counts}
 use Rattle.rs_plan.specs.Lists.{World}
 use Rattle.rs_plan.specs.Trees.{Distinct, NestedJoin, Rank, SetOperator, PlanTree}
@@ -19,6 +21,10 @@ use Rattle.rs_exec.specs.declared.scan.TableNode.{TableNode}
 use Rattle.rs_exec.specs.declared.set.SetNode.{SetNode}
 use Rattle.rs_exec.specs.Nodes.{asked_in, at_or_past, counts_in, tree_in}
 use Rattle.rs_exec.specs.Standing.{Stands}
+
+-- lists that are as long as others are so together
+both-lengths : {A B : Type 0} (xs ys : List A) (us vs : List B) → length xs ≡ length us → length ys ≡ length vs → length (xs ++ ys) ≡ length (us ++ vs)
+both-lengths xs ys us vs first second = length-append xs ys ∙ ap₂ (λ (n m : ℕ). n + m) first second ∙ sym (length-append us vs)
 
 -- a join counts the same whichever way it is done
 counts-with : (w : World) (number : ℕ) (core : JoinCore) (l r : PlanTree) (a : ℕ) → counts w number (tree_with core l r) a ≡ counts w number (NestedJoin l r) a
@@ -50,6 +56,22 @@ counts-stand w number (node.Set' head p left q right) is =
     ∙ ap₂ (λ (on_left on_right : List Counts). counts_at w 1 (SetOperator (tree_in left) (tree_in right)) head.tally.asked ∷ on_left ++ on_right)
     (counts-stand w 1 left is.2 ∙ ap (counts w 1 (tree_in left)) is.1.left_asked)
     (counts-stand w 2 right is.3 ∙ ap (counts w 2 (tree_in right)) is.1.right_asked))
+
+-- a node has as many counts as its tree, whatever was asked
+pub counts-length : (w : World) (number : ℕ) (n : Node) (a : ℕ) → length (counts_in n) ≡ length (counts w number (tree_in n) a)
+counts-length w number (node.SeqScan head) a = refl
+counts-length w number (node.RankScan head) a = refl
+counts-length w number (node.Rank' head p child) a = ap suc (counts-length w number child (asked_of w number (Rank head.term (tree_in child)) a Left))
+counts-length w number (node.Join' head p left q right) a =
+    ap suc (both-lengths (counts_in left) (counts_in right)
+    (counts w number (tree_in left) (asked_of w number (NestedJoin (tree_in left) (tree_in right)) a Left)) (counts w number (tree_in right) (asked_of w number (NestedJoin (tree_in left) (tree_in right)) a Right))
+    (counts-length w number left (asked_of w number (NestedJoin (tree_in left) (tree_in right)) a Left)) (counts-length w number right (asked_of w number (NestedJoin (tree_in left) (tree_in right)) a Right)))
+    ∙ sym (ap (λ (all : List Counts). length all) (counts-with w number head.core (tree_in left) (tree_in right) a))
+counts-length w number (node.Distinct' head p child) a = ap suc (counts-length w number child (asked_of w number (Distinct (tree_in child)) a Left))
+counts-length w number (node.Set' head p left q right) a =
+    ap suc (both-lengths (counts_in left) (counts_in right)
+    (counts w 1 (tree_in left) (asked_of w number (SetOperator (tree_in left) (tree_in right)) a Left)) (counts w 2 (tree_in right) (asked_of w number (SetOperator (tree_in left) (tree_in right)) a Right))
+    (counts-length w 1 left (asked_of w number (SetOperator (tree_in left) (tree_in right)) a Left)) (counts-length w 2 right (asked_of w number (SetOperator (tree_in left) (tree_in right)) a Right)))
 
 -- what is found in a list; past its end, in the next one
 abbrev or_past : {A : Type 0} → Result A ℕ → List A → Result A ℕ

@@ -36,10 +36,11 @@ first-block (One block limit) = refl
 first-block (Set op left right limit) = inl refl
 
 -- a cursor whose nodes were made for a plan stands
-pub cursor-start : (catalogue : Catalogue) (answer : Answering) (query : Query) (tree : PlanTree) (root : Node) → IsQuery catalogue query → IsWeights (weights_of (block_in query 1)) → IsPlan catalogue query tree
+pub cursor-start : (catalogue : Catalogue) (answer : Answering) (query : Query) (tree : PlanTree) (root : Node) → IsQuery catalogue query → IsPlan catalogue query tree
+    → ((number : ℕ) → AllByRecursion (λ size. size ≤ 131072) (sizes_of catalogue (block_in query number))) → IsWeights (weights_of (block_in query 1))
     → HoldIndexes answer catalogue tree → IsQueryStart catalogue query tree root
     → StandsFor catalogue answer (record { query = query; root = root; failed = false })
-cursor-start catalogue answer query tree root formed weights plan indexes is =
+cursor-start catalogue answer query tree root formed plan tables weights indexes is =
     let w = world_of catalogue answer query in
     let same = query-tree catalogue query tree root is in
     let unasked = query-asked catalogue query tree root is in
@@ -48,16 +49,17 @@ cursor-start catalogue answer query tree root formed weights plan indexes is =
       query = formed;
       plan = subst (IsPlan catalogue query) (sym same) plan;
       indexes = subst (HoldIndexes answer catalogue) (sym same) indexes;
+      tables = tables;
+      weights = weights;
       nodes = query-stands catalogue answer query tree root formed weights plan is;
       asks = omega arith;
     }
 
 -- a cursor that stands and isn't over can ask its plan once more
 pub cursor-can : (catalogue : Catalogue) (answer : Answering) (cursor : CursorState) → StandsFor catalogue answer cursor
-    → ((n : ℕ) → AllByRecursion (λ size. size ≤ 131072) (sizes_of catalogue (block_in cursor.query n))) → IsWeights (weights_of (block_in cursor.query 1))
     → is_over (world_of catalogue answer cursor.query) (plan_of cursor) (asks_of cursor) ≡ false
-    → CanAsk catalogue answer cursor.query 1 (plan_of cursor) (asks_of cursor)
-cursor-can catalogue answer cursor stands few weights more =
+    → CanAsk (world_of catalogue answer cursor.query) 1 (plan_of cursor) (asks_of cursor)
+cursor-can catalogue answer cursor stands more =
     let w = world_of catalogue answer cursor.query in
     let tree = plan_of cursor in
     let part = plan-part catalogue cursor.query tree stands.plan in
@@ -67,16 +69,16 @@ cursor-can catalogue answer cursor stands few weights more =
       number_is = number;
       part = part;
       indexes = stands.indexes;
-      weights = weights;
+      weights = stands.weights;
       more = ltb-false (length (list_of_plan w tree)) (asks_of cursor)
           (or_parts (is_limit (limit_of cursor.query) (asks_of cursor)) (nat_lt (length (list_of_plan w tree)) (asks_of cursor)) more).1;
-      tables = few;
-      few = list-few-of catalogue answer cursor.query 1 tree number few part;
+      tables = stands.tables;
+      few = list-few-of catalogue answer cursor.query 1 tree number stands.tables part;
     }
 
 -- and stands after it
 pub cursor-after : (catalogue : Catalogue) (answer : Answering) (cursor : CursorState) (root : Node) → StandsFor catalogue answer cursor
-    → CanAsk catalogue answer cursor.query 1 (plan_of cursor) (asks_of cursor)
+    → CanAsk (world_of catalogue answer cursor.query) 1 (plan_of cursor) (asks_of cursor)
     → NodeAfter (world_of catalogue answer cursor.query) 1 (plan_of cursor) (asks_of cursor) root
     → StandsFor catalogue answer (record cursor { root = root })
 cursor-after catalogue answer cursor root stands can after =
@@ -89,6 +91,8 @@ cursor-after catalogue answer cursor root stands can after =
       query = stands.query;
       plan = subst (IsPlan catalogue cursor.query) (sym after.tree_is) stands.plan;
       indexes = subst (HoldIndexes answer catalogue) (sym after.tree_is) stands.indexes;
+      tables = stands.tables;
+      weights = stands.weights;
       nodes = after.stands;
       asks = omega arith;
     }

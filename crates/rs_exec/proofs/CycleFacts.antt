@@ -102,26 +102,28 @@ module _ (catalogue : Catalogue) (answer : Answering) (query : Query) where
   w = world_of catalogue answer query
 
   -- the scan of a table is one of an entry
-  pub table-entry : (head : TableNode) → CanAsk catalogue answer query head.block (SeqScan head.entry) head.tally.asked
-      → head ≡ table_node_after (world_of catalogue answer query) head.block head.entry head.tally.asked → ScansEntry catalogue query head.block head.entry head.scan.rows
+  pub table-entry : (head : TableNode) → CanAsk (world_of catalogue answer query) head.block (SeqScan head.entry) head.tally.asked
+      → head ≡ table_node_after (world_of catalogue answer query) head.block head.entry head.tally.asked → ScansEntry catalogue query head.block head.entry head.scan.rows head.conjuncts
   table-entry head can keeps = record {
     formed = can.formed;
     is_entry = can.part;
     all = ap (λ (h : TableNode). h.scan.rows) keeps
         ∙ sym (size-is w head.block (few-entries catalogue query head.block can.formed) (sizes-are catalogue answer query head.block can.number_is) head.entry can.part);
+    within = ap (λ (h : TableNode). h.conjuncts) keeps;
   }
 
-  pub index-entry : (head : IndexNode) → CanAsk catalogue answer query head.block (RankScan head.entry head.term head.scan.index) head.tally.asked
-      → head ≡ index_node_after (world_of catalogue answer query) head.block head.entry head.term head.scan.index head.tally.asked → ScansEntry catalogue query head.block head.entry head.scan.rows
+  pub index-entry : (head : IndexNode) → CanAsk (world_of catalogue answer query) head.block (RankScan head.entry head.term head.scan.index) head.tally.asked
+      → head ≡ index_node_after (world_of catalogue answer query) head.block head.entry head.term head.scan.index head.tally.asked → ScansEntry catalogue query head.block head.entry head.scan.rows head.conjuncts
   index-entry head can keeps = record {
     formed = can.formed;
     is_entry = can.part.is_entry;
     all = ap (λ (h : IndexNode). h.scan.rows) keeps
         ∙ sym (size-is w head.block (few-entries catalogue query head.block can.formed) (sizes-are catalogue answer query head.block can.number_is) head.entry can.part.is_entry);
+    within = ap (λ (h : IndexNode). h.conjuncts) keeps;
   }
 
   -- the index of a scan is one of the entry's table
-  pub index-view : (head : IndexNode) → CanAsk catalogue answer query head.block (RankScan head.entry head.term head.scan.index) head.tally.asked
+  pub index-view : (head : IndexNode) → CanAsk (world_of catalogue answer query) head.block (RankScan head.entry head.term head.scan.index) head.tally.asked
       → head ≡ index_node_after (world_of catalogue answer query) head.block head.entry head.term head.scan.index head.tally.asked
       → (def : IndexDef) → option_map (λ (i : RankIndex). i.def) (slice_get catalogue.indexes head.scan.index) ≡ Some def → head.scan.rows ≡ length (rows_for catalogue def)
   index-view head can keeps def is =
@@ -141,7 +143,7 @@ module _ (catalogue : Catalogue) (answer : Answering) (query : Query) where
     tally = tally_with row head.tally;
   }
 
-  module _ (old : ScorerState) (same : answer ≡ old.answer) (head new : TableNode) (can : CanAsk catalogue answer query head.block (SeqScan head.entry) head.tally.asked)
+  module _ (old : ScorerState) (same : answer ≡ old.answer) (head new : TableNode) (can : CanAsk (world_of catalogue answer query) head.block (SeqScan head.entry) head.tally.asked)
       (keeps : head ≡ table_node_after (world_of catalogue answer query) head.block head.entry head.tally.asked) where
     pub table-gave : (row : Option RankRow) → row ≡ next_drawn (passes catalogue query) (rows_of_table head.scan) head.scan.drawn
         → new ≡ record head { scan = record head.scan { drawn = drawn_then (passes catalogue query) (rows_of_table head.scan) head.scan.drawn }; tally = tally_with row head.tally }
@@ -173,7 +175,7 @@ module _ (catalogue : Catalogue) (answer : Answering) (query : Query) where
     tally = tally_with row head.tally;
   }
 
-  module _ (old : ScorerState) (same : answer ≡ old.answer) (head new : IndexNode) (can : CanAsk catalogue answer query head.block (RankScan head.entry head.term head.scan.index) head.tally.asked)
+  module _ (old : ScorerState) (same : answer ≡ old.answer) (head new : IndexNode) (can : CanAsk (world_of catalogue answer query) head.block (RankScan head.entry head.term head.scan.index) head.tally.asked)
       (keeps : head ≡ index_node_after (world_of catalogue answer query) head.block head.entry head.term head.scan.index head.tally.asked) where
     pub index-gave : (row : Option RankRow) → row ≡ next_drawn (passes catalogue query) (rows_of_index catalogue head.scan) head.scan.drawn
         → new ≡ record head { scan = record head.scan { drawn = drawn_then (passes catalogue query) (rows_of_index catalogue head.scan) head.scan.drawn }; tally = tally_with row head.tally }
@@ -228,16 +230,16 @@ pub record Turn (catalogue : Catalogue) (query : Query) (number term : ℕ) (tre
   pub between : Between (world_of catalogue old.answer query) number term tree a (asked_in child) head old now
 
 module _ {catalogue : Catalogue} {query : Query} {number term : ℕ} {tree : PlanTree} {a : ℕ} {old : ScorerState} {head : RankNode} {child : Node} {now : ScorerState}
-    (turn : Turn catalogue query number term tree a old head child now) (can : CanAsk catalogue old.answer query number (Rank term tree) a) where
+    (turn : Turn catalogue query number term tree a old head child now) (can : CanAsk (world_of catalogue old.answer query) number (Rank term tree) a) where
   abbrev whole : World
   whole = world_of catalogue old.answer query
 
   -- the input is asked once more
   module _ (need : ask_of head.core ≡ Need) where
-    pub input-can : CanAsk catalogue now.answer query (number_in child) (tree_in child) (asked_in child)
+    pub input-can : CanAsk (world_of catalogue now.answer query) (number_in child) (tree_in child) (asked_in child)
     input-can =
-        subst (λ n. CanAsk catalogue now.answer query n (tree_in child) (asked_in child)) (sym turn.number_is)
-        (subst (λ t. CanAsk catalogue now.answer query number t (asked_in child)) (sym turn.tree_is)
+        subst (λ n. CanAsk (world_of catalogue now.answer query) n (tree_in child) (asked_in child)) (sym turn.number_is)
+        (subst (λ t. CanAsk (world_of catalogue now.answer query) number t (asked_in child)) (sym turn.tree_is)
         (between-can catalogue query number term tree a old can head (asked_in child) now turn.between need))
 
     pub input-stands : Stands (world_of catalogue now.answer query) (number_in child) child

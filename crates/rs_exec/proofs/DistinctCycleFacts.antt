@@ -53,7 +53,7 @@ pub record DropsTurn (catalogue : Catalogue) (query : Query) (number : ℕ) (tre
 
 -- at its start
 pub drops_turn-start : (catalogue : Catalogue) (query : Query) (head : DistinctNode) (child : Node) (old : ScorerState)
-    → CanAsk catalogue old.answer query (number_in child) (Distinct (tree_in child)) head.tally.asked
+    → CanAsk (world_of catalogue old.answer query) (number_in child) (Distinct (tree_in child)) head.tally.asked
     → DropsStand (world_of catalogue old.answer query) (number_in child) head (tree_in child) (asked_in child)
     → Stands (world_of catalogue old.answer query) (number_in child) child
     → (tally : Tally) → tally ≡ record head.tally { asked = head.tally.asked + 1 }
@@ -82,7 +82,7 @@ fed-row b row given is = (elim b as (λ b. Some given ≡ (if b then None else S
 ]) is
 
 module _ {catalogue : Catalogue} {query : Query} {number : ℕ} {tree : PlanTree} {a : ℕ} {old : ScorerState} {head : DistinctNode} {child : Node} {now : ScorerState}
-    (turn : DropsTurn catalogue query number tree a old head child now) (can : CanAsk catalogue old.answer query number (Distinct tree) a) where
+    (turn : DropsTurn catalogue query number tree a old head child now) (can : CanAsk (world_of catalogue old.answer query) number (Distinct tree) a) where
   abbrev whole : World
   whole = world_of catalogue old.answer query
 
@@ -96,10 +96,10 @@ module _ {catalogue : Catalogue} {query : Query} {number : ℕ} {tree : PlanTree
       let gave = turn.gave_is in
       omega arith
 
-  pub drops_turn-can : CanAsk catalogue now.answer query (number_in child) (tree_in child) (asked_in child)
+  pub drops_turn-can : CanAsk (world_of catalogue now.answer query) (number_in child) (tree_in child) (asked_in child)
   drops_turn-can =
-      subst (λ n. CanAsk catalogue now.answer query n (tree_in child) (asked_in child)) (sym turn.number_is)
-      (subst (λ t. CanAsk catalogue now.answer query number t (asked_in child)) (sym turn.tree_is)
+      subst (λ n. CanAsk (world_of catalogue now.answer query) n (tree_in child) (asked_in child)) (sym turn.number_is)
+      (subst (λ t. CanAsk (world_of catalogue now.answer query) number t (asked_in child)) (sym turn.tree_is)
       (drops-can catalogue query number tree a old can (asked_in child) head.core now turn.between))
 
   pub drops_turn-stands : Stands (world_of catalogue now.answer query) (number_in child) child

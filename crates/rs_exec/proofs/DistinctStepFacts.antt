@@ -233,7 +233,7 @@ pub record DropsAsked (w : World) (number : ℕ) (child : PlanTree) (a asks : �
 
 -- an operator that can be asked once more
 module _ (catalogue : Catalogue) (query : Query) (number : ℕ) (child : PlanTree) (a : ℕ) (old : ScorerState)
-    (can : CanAsk catalogue old.answer query number (Distinct child) a) where
+    (can : CanAsk (world_of catalogue old.answer query) number (Distinct child) a) where
   abbrev world : World
   world = world_of catalogue old.answer query
 
@@ -285,9 +285,9 @@ module _ (catalogue : Catalogue) (query : Query) (number : ℕ) (child : PlanTre
     drops-inside = inside
 
     -- its input can be asked once more
-    pub drops-can : CanAsk catalogue now.answer query number child asks
+    pub drops-can : CanAsk (world_of catalogue now.answer query) number child asks
     drops-can =
-        subst (λ answer. CanAsk catalogue answer query number child asks) (sym drops.all_asked.keeps.answer)
+        subst (λ answer. CanAsk (world_of catalogue answer query) number child asks) (sym drops.all_asked.keeps.answer)
         (record {
           formed = can.formed;
           number_is = can.number_is;

@@ -3,6 +3,8 @@ use Rattle.std.proofs.Common.{ℕ, suc, ◌≡◌, ◌∙◌, ◌+◌, ◌-◌, 
 use Rattle.std.specs.Box.{with_value}
 use Rattle.std.specs.List.{AllByRecursion}
 use Rattle.std.specs.Prelude.{Bool, Option, Some, None, Result, Ok, Err, if◌then◌else◌, is_some}
+use Rattle.rs_filter.specs.declared.conditions.JoinConditions.{JoinConditions}
+use Rattle.rs_filter.specs.Conditions.{AreConditions, conditions_of}
 use Rattle.rs_order.specs.Schedule.{Left, Right}
 use Rattle.rs_expr.specs.InOrder.{Inquires, Inquiry}
 use Rattle.rs_expr.specs.Scoring.{ScorerState}
@@ -21,7 +23,7 @@ use Rattle.rs_plan.specs.Lists.{World, block_in, list_of}
 use Rattle.rs_plan.specs.Trees.{NestedJoin, PlanTree, entries}
 use Rattle.rs_exec.specs.Asked.{Asked, CanAsk, JoinAfter, NodeAfter}
 use Rattle.rs_exec.specs.Asking.{next_row, world_of}
-use Rattle.rs_exec.specs.Cores.{HasValues, core_like, core_with, joined_in, tree_with}
+use Rattle.rs_exec.specs.Cores.{HasValues, core_like, core_with, joined_in, tree_with, CanTakeLeft, CanTakeRight, left_taken, right_taken}
 use Rattle.rs_exec.specs.Nodes.{asked_in, number_in, tree_in}
 use Rattle.rs_exec.specs.Standing.{JoinStands, Stands, join_node_after, joined_from}
 use Rattle.rs_exec.specs.declared.fault.ExecFault.{ExecFault}
@@ -100,8 +102,7 @@ pub record JoinTurn (catalogue : Catalogue) (query : Query) (number : ℕ) (core
   pub left_stands : Stands (world_of catalogue old.answer query) number on_left
   pub right_stands : Stands (world_of catalogue old.answer query) number on_right
   pub block_is : head.block ≡ number
-  pub left_is : head.left ≡ entries left
-  pub right_is : head.right ≡ entries right
+  pub conditions_are : head.conditions ≡ conditions_of catalogue (block_in query number) (entries left) (entries right)
   pub asked_is : head.tally.asked ≡ suc a
   pub gave_is : head.tally.gave ≡ a
   pub kind_is : (l r : PlanTree) → tree_with head.core l r ≡ tree_with core l r
@@ -110,7 +111,7 @@ pub record JoinTurn (catalogue : Catalogue) (query : Query) (number : ℕ) (core
 
 -- at its start
 pub turn-start : (catalogue : Catalogue) (query : Query) (head : JoinNode) (on_left on_right : Node) (old : ScorerState)
-    → CanAsk catalogue old.answer query head.block (NestedJoin (tree_in on_left) (tree_in on_right)) head.tally.asked
+    → CanAsk (world_of catalogue old.answer query) head.block (NestedJoin (tree_in on_left) (tree_in on_right)) head.tally.asked
     → JoinStands (world_of catalogue old.answer query) head.block head (tree_in on_left) (tree_in on_right) (asked_in on_left) (asked_in on_right)
     → Stands (world_of catalogue old.answer query) head.block on_left → Stands (world_of catalogue old.answer query) head.block on_right
     → (tally : Tally) → tally ≡ record head.tally { asked = head.tally.asked + 1 }
@@ -132,8 +133,7 @@ turn-start catalogue query head on_left on_right old can stands left right tally
       left_stands = left;
       right_stands = right;
       block_is = refl;
-      left_is = ap (λ (n : JoinNode). n.left) stands.keeps;
-      right_is = ap (λ (n : JoinNode). n.right) stands.keeps;
+      conditions_are = ap (λ (n : JoinNode). n.conditions) stands.keeps;
       asked_is = ap (λ (t : Tally). t.asked) asks ∙ one;
       gave_is = ap (λ (t : Tally). t.gave) asks ∙ ap (λ (n : JoinNode). n.tally.gave) stands.keeps ∙ all;
       kind_is = λ l r. refl;
@@ -144,41 +144,53 @@ turn-start catalogue query head on_left on_right old can stands left right tally
     }
 
 module _ {catalogue : Catalogue} {query : Query} {number : ℕ} {core : JoinCore} {left right : PlanTree} {a : ℕ} {old : ScorerState} {head : JoinNode} {on_left on_right : Node} {now : ScorerState}
-    (turn : JoinTurn catalogue query number core left right a old head on_left on_right now) (can : CanAsk catalogue old.answer query number (NestedJoin left right) a) where
+    (turn : JoinTurn catalogue query number core left right a old head on_left on_right now) (can : CanAsk (world_of catalogue old.answer query) number (NestedJoin left right) a) where
   abbrev whole : World
   whole = world_of catalogue old.answer query
 
-  -- what matches its rows
-  matches-is : joins catalogue (block_in query head.block) head.left head.right ≡ joins catalogue (block_in query number) (entries left) (entries right)
-  matches-is =
-      ap (λ b. joins catalogue (block_in query b) head.left head.right) turn.block_is
-      ∙ ap (λ m. joins catalogue (block_in query number) m head.right) turn.left_is
-      ∙ ap (λ m. joins catalogue (block_in query number) (entries left) m) turn.right_is
+  -- the masks of its sides
+  left-is : head.conditions.left ≡ entries left
+  left-is = ap (λ (k : JoinConditions). k.left) turn.conditions_are
 
-  pub turn-block : IsBlock catalogue (block_in query head.block)
+  right-is : head.conditions.right ≡ entries right
+  right-is = ap (λ (k : JoinConditions). k.right) turn.conditions_are
+
+  -- what matches its rows
+  matches-is : joins catalogue (block_in query head.block) head.conditions.left head.conditions.right ≡ joins catalogue (block_in query number) (entries left) (entries right)
+  matches-is =
+      ap (λ b. joins catalogue (block_in query b) head.conditions.left head.conditions.right) turn.block_is
+      ∙ ap (λ m. joins catalogue (block_in query number) m head.conditions.right) left-is
+      ∙ ap (λ m. joins catalogue (block_in query number) (entries left) m) right-is
+
+  turn-block : IsBlock catalogue (block_in query head.block)
   turn-block = block-formed catalogue query head.block can.formed
 
-  pub turn-fits : Fits (joins catalogue (block_in query head.block) head.left head.right) (joined_in head.core)
+  turn-fits : Fits (joins catalogue (block_in query head.block) head.conditions.left head.conditions.right) (joined_in head.core)
   turn-fits =
       subst (λ (matches : RankRow → RankRow → Bool). Fits matches (joined_in head.core)) (sym matches-is)
       (between-fits catalogue query number left right a old can (asked_in on_left) (asked_in on_right) (joined_in head.core) now turn.between)
 
-  pub turn-apart : AreDisjoint head.left head.right
-  turn-apart = subst₂ AreDisjoint (sym turn.left_is) (sym turn.right_is) can.part.2.apart
+  turn-apart : AreDisjoint head.conditions.left head.conditions.right
+  turn-apart = subst₂ AreDisjoint (sym left-is) (sym right-is) can.part.2.apart
 
-  pub turn-values : HasValues catalogue (block_in query head.block) head.left head.right head.core
-  turn-values = subst₂ (λ l r. HasValues catalogue (block_in query head.block) l r head.core) (sym turn.left_is) (sym turn.right_is)
+  turn-values : HasValues catalogue (block_in query head.block) head.conditions.left head.conditions.right head.core
+  turn-values = subst₂ (λ l r. HasValues catalogue (block_in query head.block) l r head.core) (sym left-is) (sym right-is)
       (subst (λ b. HasValues catalogue (block_in query b) (entries left) (entries right) head.core) (sym turn.block_is) turn.values)
 
+  turn-conditions : AreConditions catalogue (block_in query head.block) head.conditions
+  turn-conditions =
+      subst (λ b. AreConditions catalogue (block_in query b) head.conditions) (sym turn.block_is)
+      (turn.conditions_are ∙ sym (ap₂ (conditions_of catalogue (block_in query number)) left-is right-is))
+
   -- the rows that were drawn are rows of their sides
-  pub turn-lefts : AllByRecursion (λ (row : RankRow). is_side catalogue (block_in query head.block) head.left row ≡ true) (joined_in head.core).lefts
+  turn-lefts : AllByRecursion (λ (row : RankRow). is_side catalogue (block_in query head.block) head.conditions.left row ≡ true) (joined_in head.core).lefts
   turn-lefts =
-      subst₂ (λ b m. AllByRecursion (λ (row : RankRow). is_side catalogue (block_in query b) m row ≡ true) (joined_in head.core).lefts) (sym turn.block_is) (sym turn.left_is)
+      subst₂ (λ b m. AllByRecursion (λ (row : RankRow). is_side catalogue (block_in query b) m row ≡ true) (joined_in head.core).lefts) (sym turn.block_is) (sym left-is)
       (between-lefts catalogue query number left right a old can (asked_in on_left) (asked_in on_right) (joined_in head.core) now turn.between)
 
-  pub turn-rights : AllByRecursion (λ (row : RankRow). is_side catalogue (block_in query head.block) head.right row ≡ true) (joined_in head.core).rights
+  turn-rights : AllByRecursion (λ (row : RankRow). is_side catalogue (block_in query head.block) head.conditions.right row ≡ true) (joined_in head.core).rights
   turn-rights =
-      subst₂ (λ b m. AllByRecursion (λ (row : RankRow). is_side catalogue (block_in query b) m row ≡ true) (joined_in head.core).rights) (sym turn.block_is) (sym turn.right_is)
+      subst₂ (λ b m. AllByRecursion (λ (row : RankRow). is_side catalogue (block_in query b) m row ≡ true) (joined_in head.core).rights) (sym turn.block_is) (sym right-is)
       (between-rights catalogue query number left right a old can (asked_in on_left) (asked_in on_right) (joined_in head.core) now turn.between)
 
   pub turn-alive : (joined_in head.core).ripple.spent ≡ false
@@ -186,10 +198,10 @@ module _ {catalogue : Catalogue} {query : Query} {number : ℕ} {core : JoinCore
 
   -- the left side is asked once more
   module _ (need : ask_of (joined_in head.core).ripple ≡ NeedLeft) where
-    pub turn-left_can : CanAsk catalogue now.answer query (number_in on_left) (tree_in on_left) (asked_in on_left)
+    pub turn-left_can : CanAsk (world_of catalogue now.answer query) (number_in on_left) (tree_in on_left) (asked_in on_left)
     turn-left_can =
-        subst (λ n. CanAsk catalogue now.answer query n (tree_in on_left) (asked_in on_left)) (sym (node-number whole number on_left turn.left_stands))
-        (subst (λ t. CanAsk catalogue now.answer query number t (asked_in on_left)) (sym turn.left_tree)
+        subst (λ n. CanAsk (world_of catalogue now.answer query) n (tree_in on_left) (asked_in on_left)) (sym (node-number whole number on_left turn.left_stands))
+        (subst (λ t. CanAsk (world_of catalogue now.answer query) number t (asked_in on_left)) (sym turn.left_tree)
         (left-can catalogue query number left right a old can (asked_in on_left) (asked_in on_right) (joined_in head.core) now turn.between need))
 
     pub turn-left_stands : Stands (world_of catalogue now.answer query) (number_in on_left) on_left
@@ -235,8 +247,7 @@ module _ {catalogue : Catalogue} {query : Query} {number : ℕ} {core : JoinCore
             (subst (λ answer. Stands (world_of catalogue answer query) (number_in on_left) next) turn.between.all_asked.keeps.answer after.stands));
         right_stands = turn.right_stands;
         block_is = ap (λ (n : JoinNode). n.block) is ∙ turn.block_is;
-        left_is = ap (λ (n : JoinNode). n.left) is ∙ turn.left_is;
-        right_is = ap (λ (n : JoinNode). n.right) is ∙ turn.right_is;
+        conditions_are = ap (λ (n : JoinNode). n.conditions) is ∙ turn.conditions_are;
         asked_is = ap (λ (n : JoinNode). n.tally.asked) is ∙ turn.asked_is;
         gave_is = ap (λ (n : JoinNode). n.tally.gave) is ∙ turn.gave_is;
         kind_is = λ l r. ap (λ (n : JoinNode). tree_with n.core l r) is ∙ kind l r ∙ turn.kind_is l r;
@@ -251,22 +262,35 @@ module _ {catalogue : Catalogue} {query : Query} {number : ℕ} {core : JoinCore
       left-below = left-same (Ok (Some row)) asked
           (subst (λ (r : Option RankRow). Inquires Memory (next_row (world_of catalogue now.answer query) (number_in on_left) (tree_in on_left) (asked_in on_left)) (Ok r) now asked) is_row answered)
 
-      pub turn-left_feeds : CanFeedLeft row (joined_in head.core)
+      turn-left_feeds : CanFeedLeft row (joined_in head.core)
       turn-left_feeds = left-feeds catalogue query number left right a old can (asked_in on_left) (asked_in on_right) (joined_in head.core) now turn.between need asked row left-below
 
-      pub turn-left_rows : HasRows catalogue (block_in query head.block) head.left row.ids.rows
+      turn-left_rows : HasRows catalogue (block_in query head.block) head.conditions.left row.ids.rows
       turn-left_rows =
-          subst₂ (λ b m. HasRows catalogue (block_in query b) m row.ids.rows) (sym turn.block_is) (sym turn.left_is)
+          subst₂ (λ b m. HasRows catalogue (block_in query b) m row.ids.rows) (sym turn.block_is) (sym left-is)
           (left-rows catalogue query number left right a old can (asked_in on_left) (asked_in on_right) (joined_in head.core) now turn.between need asked row left-below)
 
-      pub turn-left_side : is_side catalogue (block_in query head.block) head.left row ≡ true
+      turn-left_side : is_side catalogue (block_in query head.block) head.conditions.left row ≡ true
       turn-left_side =
-          subst₂ (λ b m. is_side catalogue (block_in query b) m row ≡ true) (sym turn.block_is) (sym turn.left_is)
+          subst₂ (λ b m. is_side catalogue (block_in query b) m row ≡ true) (sym turn.block_is) (sym left-is)
           (left-side catalogue query number left right a old can (asked_in on_left) (asked_in on_right) (joined_in head.core) now turn.between need asked row left-below)
+
+      pub turn-left_takes : CanTakeLeft catalogue (block_in query head.block) head.conditions row head.core
+      turn-left_takes = record {
+        block_is = turn-block;
+        conditions_are = turn-conditions;
+        apart = turn-apart;
+        values = turn-values;
+        next = turn-left_feeds;
+        rows = turn-left_rows;
+        side = turn-left_side;
+        sides = turn-rights;
+        fits = turn-fits;
+      }
 
       -- the row is taken
       pub turn-left_fed : (fed : JoinNode) (next : Node)
-          → fed ≡ record head { core = core_like head.core catalogue (block_in query head.block) head.left head.right (fed_left (joins catalogue (block_in query head.block) head.left head.right) row (joined_in head.core)) }
+          → fed ≡ record head { core = left_taken catalogue (block_in query head.block) head.conditions row head.core }
           → NodeAfter (world_of catalogue now.answer query) (number_in on_left) (tree_in on_left) (asked_in on_left) next
           → JoinTurn catalogue query number core left right a old fed next on_right asked
       turn-left_fed fed next is after =
@@ -274,8 +298,8 @@ module _ {catalogue : Catalogue} {query : Query} {number : ℕ} {core : JoinCore
           let taken = fed_left (joins catalogue b (entries left) (entries right)) row (joined_in head.core) in
           left-turn next after (core_like head.core catalogue b (entries left) (entries right) taken) fed asked
           (is ∙ (λ i. record head {
-            core = core_like head.core catalogue (block_in query (turn.block_is i)) (turn.left_is i) (turn.right_is i)
-                (fed_left (joins catalogue (block_in query (turn.block_is i)) (turn.left_is i) (turn.right_is i)) row (joined_in head.core));
+            core = core_like head.core catalogue (block_in query (turn.block_is i)) (left-is i) (right-is i)
+                (fed_left (joins catalogue (block_in query (turn.block_is i)) (left-is i) (right-is i)) row (joined_in head.core));
           }))
           (like-has catalogue b (entries left) (entries right) head.core taken)
           (tree-like catalogue b (entries left) (entries right) head.core taken)
@@ -310,10 +334,10 @@ module _ {catalogue : Catalogue} {query : Query} {number : ℕ} {core : JoinCore
 
   -- the right side is asked once more
   module _ (need : ask_of (joined_in head.core).ripple ≡ NeedRight) where
-    pub turn-right_can : CanAsk catalogue now.answer query (number_in on_right) (tree_in on_right) (asked_in on_right)
+    pub turn-right_can : CanAsk (world_of catalogue now.answer query) (number_in on_right) (tree_in on_right) (asked_in on_right)
     turn-right_can =
-        subst (λ n. CanAsk catalogue now.answer query n (tree_in on_right) (asked_in on_right)) (sym (node-number whole number on_right turn.right_stands))
-        (subst (λ t. CanAsk catalogue now.answer query number t (asked_in on_right)) (sym turn.right_tree)
+        subst (λ n. CanAsk (world_of catalogue now.answer query) n (tree_in on_right) (asked_in on_right)) (sym (node-number whole number on_right turn.right_stands))
+        (subst (λ t. CanAsk (world_of catalogue now.answer query) number t (asked_in on_right)) (sym turn.right_tree)
         (right-can catalogue query number left right a old can (asked_in on_left) (asked_in on_right) (joined_in head.core) now turn.between need))
 
     pub turn-right_stands : Stands (world_of catalogue now.answer query) (number_in on_right) on_right
@@ -359,8 +383,7 @@ module _ {catalogue : Catalogue} {query : Query} {number : ℕ} {core : JoinCore
             (subst (λ answer. Stands (world_of catalogue answer query) (number_in on_right) next) turn.between.all_asked.keeps.answer after.stands));
         left_stands = turn.left_stands;
         block_is = ap (λ (n : JoinNode). n.block) is ∙ turn.block_is;
-        left_is = ap (λ (n : JoinNode). n.left) is ∙ turn.left_is;
-        right_is = ap (λ (n : JoinNode). n.right) is ∙ turn.right_is;
+        conditions_are = ap (λ (n : JoinNode). n.conditions) is ∙ turn.conditions_are;
         asked_is = ap (λ (n : JoinNode). n.tally.asked) is ∙ turn.asked_is;
         gave_is = ap (λ (n : JoinNode). n.tally.gave) is ∙ turn.gave_is;
         kind_is = λ l r. ap (λ (n : JoinNode). tree_with n.core l r) is ∙ kind l r ∙ turn.kind_is l r;
@@ -375,22 +398,35 @@ module _ {catalogue : Catalogue} {query : Query} {number : ℕ} {core : JoinCore
       right-below = right-same (Ok (Some row)) asked
           (subst (λ (r : Option RankRow). Inquires Memory (next_row (world_of catalogue now.answer query) (number_in on_right) (tree_in on_right) (asked_in on_right)) (Ok r) now asked) is_row answered)
 
-      pub turn-right_feeds : CanFeedRight row (joined_in head.core)
+      turn-right_feeds : CanFeedRight row (joined_in head.core)
       turn-right_feeds = right-feeds catalogue query number left right a old can (asked_in on_left) (asked_in on_right) (joined_in head.core) now turn.between need asked row right-below
 
-      pub turn-right_rows : HasRows catalogue (block_in query head.block) head.right row.ids.rows
+      turn-right_rows : HasRows catalogue (block_in query head.block) head.conditions.right row.ids.rows
       turn-right_rows =
-          subst₂ (λ b m. HasRows catalogue (block_in query b) m row.ids.rows) (sym turn.block_is) (sym turn.right_is)
+          subst₂ (λ b m. HasRows catalogue (block_in query b) m row.ids.rows) (sym turn.block_is) (sym right-is)
           (right-rows catalogue query number left right a old can (asked_in on_left) (asked_in on_right) (joined_in head.core) now turn.between need asked row right-below)
 
-      pub turn-right_side : is_side catalogue (block_in query head.block) head.right row ≡ true
+      turn-right_side : is_side catalogue (block_in query head.block) head.conditions.right row ≡ true
       turn-right_side =
-          subst₂ (λ b m. is_side catalogue (block_in query b) m row ≡ true) (sym turn.block_is) (sym turn.right_is)
+          subst₂ (λ b m. is_side catalogue (block_in query b) m row ≡ true) (sym turn.block_is) (sym right-is)
           (right-side catalogue query number left right a old can (asked_in on_left) (asked_in on_right) (joined_in head.core) now turn.between need asked row right-below)
+
+      pub turn-right_takes : CanTakeRight catalogue (block_in query head.block) head.conditions row head.core
+      turn-right_takes = record {
+        block_is = turn-block;
+        conditions_are = turn-conditions;
+        apart = turn-apart;
+        values = turn-values;
+        next = turn-right_feeds;
+        rows = turn-right_rows;
+        side = turn-right_side;
+        sides = turn-lefts;
+        fits = turn-fits;
+      }
 
       -- the row is taken
       pub turn-right_fed : (fed : JoinNode) (next : Node)
-          → fed ≡ record head { core = core_like head.core catalogue (block_in query head.block) head.left head.right (fed_right (joins catalogue (block_in query head.block) head.left head.right) row (joined_in head.core)) }
+          → fed ≡ record head { core = right_taken catalogue (block_in query head.block) head.conditions row head.core }
           → NodeAfter (world_of catalogue now.answer query) (number_in on_right) (tree_in on_right) (asked_in on_right) next
           → JoinTurn catalogue query number core left right a old fed on_left next asked
       turn-right_fed fed next is after =
@@ -398,8 +434,8 @@ module _ {catalogue : Catalogue} {query : Query} {number : ℕ} {core : JoinCore
           let taken = fed_right (joins catalogue b (entries left) (entries right)) row (joined_in head.core) in
           right-turn next after (core_like head.core catalogue b (entries left) (entries right) taken) fed asked
           (is ∙ (λ i. record head {
-            core = core_like head.core catalogue (block_in query (turn.block_is i)) (turn.left_is i) (turn.right_is i)
-                (fed_right (joins catalogue (block_in query (turn.block_is i)) (turn.left_is i) (turn.right_is i)) row (joined_in head.core));
+            core = core_like head.core catalogue (block_in query (turn.block_is i)) (left-is i) (right-is i)
+                (fed_right (joins catalogue (block_in query (turn.block_is i)) (left-is i) (right-is i)) row (joined_in head.core));
           }))
           (like-has catalogue b (entries left) (entries right) head.core taken)
           (tree-like catalogue b (entries left) (entries right) head.core taken)
@@ -436,19 +472,19 @@ module _ {catalogue : Catalogue} {query : Query} {number : ℕ} {core : JoinCore
   after-is : (after : JoinNode) (joined : Joined) (row : Option RankRow)
       → AskedAll (world_of catalogue old.answer query) number left right a (asked_in on_left) (asked_in on_right) row joined old now
       → joined_in after.core ≡ joined → HasValues catalogue (block_in query number) (entries left) (entries right) after.core
-      → ((l r : PlanTree) → tree_with after.core l r ≡ tree_with head.core l r) → after.block ≡ head.block → after.left ≡ head.left → after.right ≡ head.right → after.tally.asked ≡ head.tally.asked
+      → ((l r : PlanTree) → tree_with after.core l r ≡ tree_with head.core l r) → after.block ≡ head.block → after.conditions ≡ head.conditions → after.tally.asked ≡ head.tally.asked
       → after.tally.gave ≡ gave_of (world_of catalogue old.answer query) number (NestedJoin left right) (suc a)
       → Asked (world_of catalogue old.answer query) number (NestedJoin left right) a
       (JoinAfter (world_of catalogue old.answer query) number core (NestedJoin left right) a after on_left on_right) (Ok row) old now
-  after-is after joined row all joined_is has kind block_is left_is right_is asked_is gave_is =
+  after-is after joined row all joined_is has kind block_is conditions_are asked_is gave_is =
       let is_asked : after.tally.asked ≡ suc a = asked_is ∙ turn.asked_is in
       let like = core_like after.core catalogue (block_in query number) (entries left) (entries right) in
       let keeps : after ≡ join_node_after whole number after.core left right (suc a) =
       λ i. record {
         core = (has ∙ ap like (joined_is ∙ all.keeps)) i;
         block = (block_is ∙ turn.block_is) i;
-        left = (left_is ∙ turn.left_is) i;
-        right = (right_is ∙ turn.right_is) i;
+        conditions = (conditions_are ∙ turn.conditions_are) i;
+        cells = tt;
         tally = record { asked = is_asked i; gave = gave_is i };
       } in
       record {
@@ -489,7 +525,7 @@ module _ {catalogue : Catalogue} {query : Query} {number : ℕ} {core : JoinCore
       (subst (λ (n : JoinNode). HasValues catalogue (block_in query number) (entries left) (entries right) n.core) (sym is)
       (with-has catalogue (block_in query number) (entries left) (entries right) head.core ripple turn.values))
       (λ l r. ap (λ (n : JoinNode). tree_with n.core l r) is ∙ tree-with head.core ripple l r)
-      (ap (λ (n : JoinNode). n.block) is) (ap (λ (n : JoinNode). n.left) is) (ap (λ (n : JoinNode). n.right) is)
+      (ap (λ (n : JoinNode). n.block) is) (ap (λ (n : JoinNode). n.conditions) is)
       (ap (λ (n : JoinNode). n.tally.asked) is)
       (ap (λ (n : JoinNode). n.tally.gave) is
       ∙ ap (λ (n : ℕ). if is_some row then n + 1 else n) (turn.gave_is ∙ sym most-given)
@@ -503,7 +539,7 @@ module _ {catalogue : Catalogue} {query : Query} {number : ℕ} {core : JoinCore
   turn-over end =
       let rows = list_of whole number (NestedJoin left right) in
       let all = end-after catalogue query number left right a old can (asked_in on_left) (asked_in on_right) (joined_in head.core) now turn.between end in
-      after-is head (joined_in head.core) None all refl turn.values (λ l r. refl) refl refl refl refl
+      after-is head (joined_in head.core) None all refl turn.values (λ l r. refl) refl refl refl
       (turn.gave_is ∙ sym most-given
       ∙ ap (λ (r : Option RankRow). if is_some r then min a (length rows) + 1 else min a (length rows)) all.value
       ∙ tally-more rows a)

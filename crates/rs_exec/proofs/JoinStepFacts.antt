@@ -10,7 +10,7 @@ use Rattle.rs_order.proofs.EachFacts.{each-slice_get, each-take, each-weaker}
 use Rattle.rs_order.specs.Asks.{bar_after}
 use Rattle.rs_order.specs.Schedule.{JoinSide, Left, Right, SideAsk, is_of_side}
 use Rattle.rs_rank.specs.Keys.{key_cmp}
-use Rattle.rs_rank.specs.Turns.{join_schedule}
+use Rattle.rs_rank.specs.Turns.{join_schedule, left_asks, right_asks}
 use Rattle.rs_rank.specs.declared.ask.JoinAsk.TheVariants.{End, NeedLeft, NeedRight, Ready}
 use Rattle.rs_rank.specs.declared.key.Key.{Key}
 use Rattle.rs_rank.specs.declared.row.RankRow.{RankRow}
@@ -28,15 +28,15 @@ use Rattle.rs_ripple.specs.Ripple.{ask_of, taken_for}
 use Rattle.rs_ripple.specs.Stands.{BeginsWith, Join, answer_key, answers, asked, merged_key, schedule_of, side_keys}
 use Rattle.rs_ripple.proofs.AfterFacts.{left-open, right-open}
 use Rattle.rs_ripple.proofs.JoinLawFacts.{is-now, left-can-feed, left-end-stands, left-fed-stands, right-can-feed, right-end-stands, right-fed-stands, stands-fits, taken-join-stands}
-use Rattle.rs_ripple.proofs.LawFacts.{taken-is}
+use Rattle.rs_ripple.proofs.LawFacts.{taken-is, left-exact, right-exact}
 use Rattle.rs_ripple.proofs.ScheduleFacts.{BeginsWith-itself, asked-left, asked-right, schedule_of-more}
 use Rattle.rs_ripple.proofs.StandFacts.{Tells, stands-tells}
-use Rattle.rs_plan.specs.Asks.{child_asks}
+use Rattle.rs_plan.specs.Asks.{child_asks, bar_of, keys_of}
 use Rattle.rs_plan.specs.Calls.{questions, questions_of_ask, side_part}
 use Rattle.rs_plan.specs.Counts.{asked_of, gave_of}
 use Rattle.rs_plan.specs.Lists.{World, block_in, list_of}
 use Rattle.rs_plan.specs.Plans.{IsPart}
-use Rattle.rs_plan.specs.Trees.{NestedJoin, PlanTree, entries}
+use Rattle.rs_plan.specs.Trees.{NestedJoin, PlanTree, entries, HashJoin}
 use Rattle.rs_exec.specs.Asked.{CanAsk}
 use Rattle.rs_exec.specs.Asking.{exec_faults, next_row, world_of}
 use Rattle.rs_exec.specs.Indexes.{HoldIndexes}
@@ -107,6 +107,24 @@ module _ (w : World) (number : ℕ) (left right : PlanTree) (parts : CanJoinPart
   pub join-asked : (n : ℕ) (side : JoinSide) → asked_of w number (NestedJoin left right) n side ≡ asked side (schedule_of (join_for w number left right) (list_of w number left) (list_of w number right) n)
   join-asked n side = ap (λ (asks : List SideAsk). length (filter (is_of_side side) asks)) (join-schedule n)
 
+  -- so many of each side
+  bar-same : (n : ℕ) → bar_after (answer_key j) (answers j lefts rights) n ≡ bar_of w number (NestedJoin left right) n
+  bar-same n =
+      sym (bar_after-map (answer_key j) (list_of w number (NestedJoin left right)) n
+      ∙ ap (λ (rows : List RankRow). bar_after (answer_key j) rows n) (join-list w number left right parts))
+
+  pub join-left_asks : (n : ℕ) → asked_of w number (NestedJoin left right) (suc n) Left
+      ≡ left_asks key_cmp (merged_key (join_for w number left right)) (keys_of w number left) (keys_of w number right) (bar_of w number (NestedJoin left right) n)
+  join-left_asks n =
+      join-asked (suc n) Left ∙ left-exact j lefts rights n (join-sides w number left right parts)
+      ∙ ap (left_asks key_cmp (merged_key j) (side_keys j j.left lefts) (side_keys j j.right rights)) (bar-same n)
+
+  pub join-right_asks : (n : ℕ) → asked_of w number (NestedJoin left right) (suc n) Right
+      ≡ right_asks key_cmp (merged_key (join_for w number left right)) (keys_of w number left) (keys_of w number right) (bar_of w number (NestedJoin left right) n)
+  join-right_asks n =
+      join-asked (suc n) Right ∙ right-exact j lefts rights n (join-sides w number left right parts)
+      ∙ ap (right_asks key_cmp (merged_key j) (side_keys j j.left lefts) (side_keys j j.right rights)) (bar-same n)
+
   -- the questions of one ask, in two parts
   pub join-questions : (a : ℕ) (more rest : List SideAsk) → schedule_of (join_for w number left right) (list_of w number left) (list_of w number right) (suc a) ≡ (schedule_of (join_for w number left right) (list_of w number left) (list_of w number right) a ++ more) ++ rest
       → questions_of_ask w number (NestedJoin left right) (suc a) ≡ flat_map (side_part (questions w number left) (questions w number right)) more ++ flat_map (side_part (questions w number left) (questions w number right)) rest
@@ -149,9 +167,14 @@ module _ (w : World) (number : ℕ) (left right : PlanTree) (parts : CanJoinPart
         all_asked = AllAsked-none old.answer w.catalogue old;
       }
 
+-- a hash join asks as a nested one does
+pub hash-asks : (w : World) (number : ℕ) (left right : PlanTree) (n : ℕ) → child_asks w number (HashJoin left right) n ≡ child_asks w number (NestedJoin left right) n
+hash-asks w number left right zero = refl
+hash-asks w number left right (suc n) = refl
+
 -- a join that can be asked once more
 module _ (catalogue : Catalogue) (query : Query) (number : ℕ) (left right : PlanTree) (a : ℕ) (old : ScorerState)
-    (can : CanAsk catalogue old.answer query number (NestedJoin left right) a) where
+    (can : CanAsk (world_of catalogue old.answer query) number (NestedJoin left right) a) where
   abbrev world : World
   world = world_of catalogue old.answer query
 
@@ -171,9 +194,9 @@ module _ (catalogue : Catalogue) (query : Query) (number : ℕ) (left right : Pl
 
   -- a side of it, once it is known that it was asked no further than to its end
   side-can : (side : PlanTree) (asks : ℕ) (now : ScorerState) → IsPart catalogue (block_in query number) side → HoldIndexes old.answer catalogue side
-      → asks ≤ length (list_of (world_of catalogue old.answer query) number side) → now.answer ≡ old.answer → CanAsk catalogue now.answer query number side asks
+      → asks ≤ length (list_of (world_of catalogue old.answer query) number side) → now.answer ≡ old.answer → CanAsk (world_of catalogue now.answer query) number side asks
   side-can side asks now part indexes most same =
-      subst (λ answer. CanAsk catalogue answer query number side asks) (sym same)
+      subst (λ answer. CanAsk (world_of catalogue answer query) number side asks) (sym same)
       (record {
         formed = can.formed;
         number_is = can.number_is;
@@ -298,7 +321,7 @@ module _ (catalogue : Catalogue) (query : Query) (number : ℕ) (left right : Pl
           ≡ questions_of_ask (world_of catalogue old.answer query) number left (suc left_asks)
       left-is = ap (λ n. questions_of_ask world number left (suc n)) (sym between.left_asked)
 
-      pub left-can : CanAsk catalogue now.answer query number left left_asks
+      pub left-can : CanAsk (world_of catalogue now.answer query) number left left_asks
       left-can =
           let most = left-open jn left_rows right_rows between.made a joined between.keeps need in
           let same = between.left_asked in
@@ -375,7 +398,7 @@ module _ (catalogue : Catalogue) (query : Query) (number : ℕ) (left right : Pl
           ≡ questions_of_ask (world_of catalogue old.answer query) number right (suc right_asks)
       right-is = ap (λ n. questions_of_ask world number right (suc n)) (sym between.right_asked)
 
-      pub right-can : CanAsk catalogue now.answer query number right right_asks
+      pub right-can : CanAsk (world_of catalogue now.answer query) number right right_asks
       right-can =
           let most = right-open jn left_rows right_rows between.made a joined between.keeps need in
           let same = between.right_asked in

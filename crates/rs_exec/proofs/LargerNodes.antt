@@ -1,7 +1,9 @@
 -- A cursor that stands goes on to stand in a larger catalogue: it reads nothing of what joined.
 use Rattle.std.proofs.Common.{◌≡◌, ◌∙◌, ℕ, zero, suc, ◌-◌, ◌≤◌, ◌==◌, false, List, [], ◌∷◌, length, map, take, bit_or, refl, sym, ap, subst}
 use Rattle.std.specs.Prelude.{if◌then◌else◌, min, nat_le, slice_get, slice_index, unwrap_or}
-use Rattle.std.specs.List.{filter}
+use Rattle.std.specs.List.{filter, AllByRecursion}
+use Rattle.rs_query.specs.Tables.{sizes_of}
+use Rattle.rs_filter.specs.Conditions.{conditions_of}
 use Rattle.rs_order.specs.Asks.{bar_after}
 use Rattle.rs_order.specs.Schedule.{JoinSide, Left, Right, SideAsk, is_of_side}
 use Rattle.rs_order.specs.Sorting.{sorted}
@@ -36,6 +38,7 @@ use Rattle.rs_rank.specs.Turns.{join_schedule}
 use Rattle.rs_ripple.specs.After.{joined_after}
 use Rattle.rs_ripple.specs.Joined.{Joined}
 use Rattle.rs_exec.specs.Cores.{core_like, tree_with, with_values}
+use Rattle.rs_exec.specs.Drawing.{entry_conjuncts}
 use Rattle.rs_exec.specs.Covering.{Covers, CoversBlock}
 use Rattle.rs_exec.specs.Joining.{side_for}
 use Rattle.rs_exec.specs.Indexes.{HoldIndexes}
@@ -52,6 +55,10 @@ use Rattle.rs_exec.specs.declared.node.Node.TheVariants as node
 use Rattle.rs_exec.proofs.CoversFacts.{block-covered, covers}
 use Rattle.rs_exec.proofs.LargerFacts.{base-same, combinations-same, indexes-larger, joined, joins-same, left_values-same, outputs-same, plan-larger, query-larger, ranking-same, right_values-same, size-same, worths-same}
 use Rattle.rs_exec.proofs.PlacesFacts.{part-of, plan-part}
+
+-- the tables of a block are as large
+tables-same : (catalogue more : Catalogue) (block : Block) → CoversBlock catalogue block → sizes_of (joined catalogue more) block ≡ sizes_of catalogue block
+tables-same catalogue more block covered = λ i. map (size-same catalogue more block covered i) (1 ∷ 2 ∷ 3 ∷ 4 ∷ 5 ∷ 6 ∷ [])
 
 -- a query sees the same rows of its tables
 view-same : (catalogue more : Catalogue) (query : Query) → Covers catalogue query → all_rows (joined catalogue more) query ≡ all_rows catalogue query
@@ -193,6 +200,8 @@ module _ (catalogue more : Catalogue) (answer : Answering) (query : Query) (cove
     };
     block = number;
     entry = entry;
+    conjuncts = entry_conjuncts (block_in query number) entry;
+    cells = tt;
     tally = record { asked = a; gave = gave-same number (SeqScan entry) a i };
   }
 
@@ -213,6 +222,8 @@ module _ (catalogue more : Catalogue) (answer : Answering) (query : Query) (cove
         block = number;
         entry = entry;
         term = term;
+        conjuncts = entry_conjuncts (block_in query number) entry;
+        cells = tt;
         tally = record { asked = a; gave = gave-same number (RankScan entry term index) a i };
       }
 
@@ -253,6 +264,11 @@ module _ (catalogue more : Catalogue) (answer : Answering) (query : Query) (cove
     rights = with_values (right_values-same catalogue more (block_in query number) (block-is number) i left right) (same i).rights;
   })
 
+  conditions-same : (number left right : ℕ) → conditions_of (joined catalogue more) (block_in query number) left right ≡ conditions_of catalogue (block_in query number) left right
+  conditions-same number left right = λ i. record (conditions_of catalogue (block_in query number) left right) {
+    sizes = tables-same catalogue more (block_in query number) (block-is number) i;
+  }
+
   join-same : (number : ℕ) (core : JoinCore) (left right : PlanTree) → (a : ℕ)
       → join_node_after large number core left right a ≡ join_node_after small number core left right a
   join-same number core left right a =
@@ -263,8 +279,8 @@ module _ (catalogue more : Catalogue) (answer : Answering) (query : Query) (cove
       λ i. record {
         core = kept i;
         block = number;
-        left = entries left;
-        right = entries right;
+        conditions = conditions-same number (entries left) (entries right) i;
+        cells = tt;
         tally = record { asked = a; gave = gave-same number (NestedJoin left right) a i };
       }
 
@@ -340,6 +356,9 @@ cursor-larger catalogue more answer cursor stands =
       query = query-larger catalogue more query stands.query;
       plan = plan-larger catalogue more query tree stands.plan;
       indexes = indexes_of-larger catalogue more query 1 covered answer tree part stands.indexes;
+      tables = λ number. subst (AllByRecursion (λ size. size ≤ 131072))
+          (sym (tables-same catalogue more (block_in query number) (block-covered catalogue query number covered))) (stands.tables number);
+      weights = stands.weights;
       nodes = stands-larger catalogue more answer query covered 1 cursor.root part stands.nodes;
       asks = subst (λ (rows : List RankRow). asks_of cursor ≤ suc (length rows)) (sym (list-same catalogue more answer query covered 1 tree)) stands.asks;
     }

@@ -19,11 +19,11 @@ use Rattle.rs_query.specs.Tables.{HasRows, size_of, sizes_of}
 use Rattle.rs_query.specs.declared.block.Block.{Block}
 use Rattle.rs_query.specs.declared.query.Query.{Query}
 use Rattle.rs_query.proofs.ExtendFacts.{HasRows-choice}
-use Rattle.rs_query.proofs.WithinFacts.{all_hold-within}
+use Rattle.rs_query.proofs.WithinFacts.{AreInside-within, all_hold-within}
 use Rattle.rs_scan.specs.Scans.{IndexScan, IsOfAllRows, TableScan, entries_in, entry_row, rows_of_index, rows_of_table, scored}
 use Rattle.rs_scan.proofs.ScanFacts.{length-rows_from, slice_get-rows_from}
 use Rattle.rs_plan.specs.Lists.{block_in}
-use Rattle.rs_exec.specs.Drawing.{ScansEntry, drawn_then, next_drawn, passes, tally_with}
+use Rattle.rs_exec.specs.Drawing.{ScansEntry, entry_conjuncts, drawn_then, next_drawn, passes, tally_with}
 use Rattle.rs_exec.specs.declared.scan.IndexNode.{IndexNode}
 use Rattle.rs_exec.specs.declared.scan.TableNode.{TableNode}
 use Rattle.rs_exec.specs.declared.tally.Tally.{Tally}
@@ -101,12 +101,12 @@ choice-entry catalogue bound block (suc (suc (suc (suc (suc zero))))) number sum
 choice-entry catalogue bound block (suc (suc (suc (suc (suc (suc zero)))))) number sum least few some most = (refl, (refl, (refl, (refl, (refl, ((some, most), tt))))))
 choice-entry catalogue bound block (suc (suc (suc (suc (suc (suc (suc entry))))))) number sum least few some most = absurd (omega arith)
 
--- a row of an entry, where its block, the mask of the entry, and the mask of the conjuncts that speak of it alone are given
-module _ (catalogue : Catalogue) (query : Query) (bound : Block) (block entry rows mask conjuncts : ℕ) (row : RankRow) (is : IsOfEntry block entry rows row)
-    (is_block : bound ≡ block_in query block) (is_mask : mask ≡ mask_of entry) where
+-- a row of an entry, where its block and the mask of the conjuncts that are looked at are given
+module _ (catalogue : Catalogue) (query : Query) (bound : Block) (block entry rows first conjuncts : ℕ) (row : RankRow) (is : IsOfEntry block entry rows row)
+    (is_block : bound ≡ block_in query block) (scans : ScansEntry catalogue query block entry rows first) (same : conjuncts ≡ first) where
   -- it has a row of the table of the entry
-  pub entry-rows : ScansEntry catalogue query block entry rows → HasRows catalogue bound row.ids.mask row.ids.rows
-  entry-rows scans =
+  pub entry-rows : HasRows catalogue bound row.ids.mask row.ids.rows
+  entry-rows =
       let formed = block-formed catalogue query block scans.formed in
       let few = formed.most_entries in
       let last = scans.is_entry.most in
@@ -118,17 +118,21 @@ module _ (catalogue : Catalogue) (query : Query) (bound : Block) (block entry ro
       (HasRows-choice catalogue (block_in query block) (mask_of entry) (entry_row block entry is.number is.sum).ids.rows few
       (choice-entry catalogue (block_in query block) block entry is.number is.sum scans.is_entry.some (omega arith) some (omega arith))))
 
-  -- the conjuncts speak of its entries alone
-  pub entry-inside : AreInside conjuncts mask bound.conjuncts → AreInside conjuncts row.ids.mask bound.conjuncts
-  entry-inside inside =
-      subst (λ m. AreInside conjuncts m bound.conjuncts) (is_mask ∙ sym (ap (λ (r : RankRow). r.ids.mask) is.row_is)) inside
+  -- the conjuncts are those that speak of its entries alone
+  entry-conjuncts : conjuncts ≡ conjuncts_within row.ids.mask bound.conjuncts
+  entry-conjuncts =
+      same ∙ scans.within ∙ ap (λ (b : Block). entry_conjuncts b entry) (sym is_block)
+      ∙ ap (λ m. conjuncts_within m bound.conjuncts) (sym (ap (λ (r : RankRow). r.ids.mask) is.row_is))
+
+  pub entry-inside : AreInside conjuncts row.ids.mask bound.conjuncts
+  entry-inside =
+      subst (λ n. AreInside n row.ids.mask bound.conjuncts) (sym entry-conjuncts) (AreInside-within row.ids.mask bound.conjuncts)
 
   -- they hold where it passes
-  pub entry-passes : (holds : Bool) → conjuncts ≡ conjuncts_within mask bound.conjuncts → holds ≡ all_hold catalogue bound conjuncts row.ids.rows bound.conjuncts → holds ≡ passes catalogue query row
-  entry-passes holds within is_holds =
+  pub entry-passes : (holds : Bool) → holds ≡ all_hold catalogue bound conjuncts row.ids.rows bound.conjuncts → holds ≡ passes catalogue query row
+  entry-passes holds is_holds =
       is_holds
-      ∙ ap (λ n. all_hold catalogue bound n row.ids.rows bound.conjuncts) within
-      ∙ ap (λ m. all_hold catalogue bound (conjuncts_within m bound.conjuncts) row.ids.rows bound.conjuncts) (is_mask ∙ sym (ap (λ (r : RankRow). r.ids.mask) is.row_is))
+      ∙ ap (λ n. all_hold catalogue bound n row.ids.rows bound.conjuncts) entry-conjuncts
       ∙ all_hold-within catalogue bound row.ids.mask row.ids.rows
       ∙ ap (λ (b : Block). satisfies catalogue b row.ids.mask row.ids.rows) (is_block ∙ ap (block_in query) (sym (ap (λ (r : RankRow). r.ids.block) is.row_is)))
 
@@ -234,7 +238,7 @@ module _ (catalogue : Catalogue) (old loop : IndexNode) (is : loop ≡ index_ask
   index-view all = subst (λ (node : IndexNode). IsOfAllRows catalogue node.scan) (sym is) all
 
   -- a row that is drawn is of its entry
-  pub index-row : (query : Query) (row : RankRow) → ScansEntry catalogue query old.block old.entry old.scan.rows → old.scan.entry ≡ old.entry → old.scan.block ≡ old.block
+  pub index-row : (query : Query) (row : RankRow) → ScansEntry catalogue query old.block old.entry old.scan.rows old.conjuncts → old.scan.entry ≡ old.entry → old.scan.block ≡ old.block
       → 1 ≤ slice_index row.ids.rows (loop.scan.entry - 1) → slice_get (rows_of_index catalogue old.scan) loop.scan.drawn ≡ Some row → IsOfEntry old.block old.entry old.scan.rows row
   index-row query row scans same_entry same_block number there =
       go (slice_get seen loop.scan.drawn) refl (sym (slice_get-map made seen loop.scan.drawn) ∙ there) where

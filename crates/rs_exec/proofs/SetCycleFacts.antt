@@ -73,7 +73,7 @@ pub record SetTurn (catalogue : Catalogue) (query : Query) (left right : PlanTre
 
 -- at its start
 pub set_turn-start : (catalogue : Catalogue) (query : Query) (head : SetNode) (on_left on_right : Node) (old : ScorerState)
-    → CanAsk catalogue old.answer query 1 (SetOperator (tree_in on_left) (tree_in on_right)) head.tally.asked
+    → CanAsk (world_of catalogue old.answer query) 1 (SetOperator (tree_in on_left) (tree_in on_right)) head.tally.asked
     → SetStands (world_of catalogue old.answer query) head (tree_in on_left) (tree_in on_right) (asked_in on_left) (asked_in on_right)
     → Stands (world_of catalogue old.answer query) 1 on_left → Stands (world_of catalogue old.answer query) 2 on_right
     → (tally : Tally) → tally ≡ record head.tally { asked = head.tally.asked + 1 }
@@ -96,7 +96,7 @@ set_turn-start catalogue query head on_left on_right old can stands left right t
     }
 
 module _ {catalogue : Catalogue} {query : Query} {left right : PlanTree} {a : ℕ} {old : ScorerState} {head : SetNode} {on_left on_right : Node} {now : ScorerState}
-    (turn : SetTurn catalogue query left right a old head on_left on_right now) (can : CanAsk catalogue old.answer query 1 (SetOperator left right) a) where
+    (turn : SetTurn catalogue query left right a old head on_left on_right now) (can : CanAsk (world_of catalogue old.answer query) 1 (SetOperator left right) a) where
   abbrev whole : World
   whole = world_of catalogue old.answer query
 
@@ -108,10 +108,10 @@ module _ {catalogue : Catalogue} {query : Query} {left right : PlanTree} {a : �
 
   -- the left side is asked once more
   module _ (need : core_ask head.core ≡ NeedLeft) where
-    pub set_turn-left_can : CanAsk catalogue now.answer query (number_in on_left) (tree_in on_left) (asked_in on_left)
+    pub set_turn-left_can : CanAsk (world_of catalogue now.answer query) (number_in on_left) (tree_in on_left) (asked_in on_left)
     set_turn-left_can =
-        subst (λ n. CanAsk catalogue now.answer query n (tree_in on_left) (asked_in on_left)) (sym (node-number whole 1 on_left turn.left_stands))
-        (subst (λ t. CanAsk catalogue now.answer query 1 t (asked_in on_left)) (sym turn.left_tree) (set-left_can catalogue query left right a old can (asked_in on_left) (asked_in on_right) head.core now turn.between need))
+        subst (λ n. CanAsk (world_of catalogue now.answer query) n (tree_in on_left) (asked_in on_left)) (sym (node-number whole 1 on_left turn.left_stands))
+        (subst (λ t. CanAsk (world_of catalogue now.answer query) 1 t (asked_in on_left)) (sym turn.left_tree) (set-left_can catalogue query left right a old can (asked_in on_left) (asked_in on_right) head.core now turn.between need))
 
     pub set_turn-left_stands : Stands (world_of catalogue now.answer query) (number_in on_left) on_left
     set_turn-left_stands =
@@ -197,10 +197,10 @@ module _ {catalogue : Catalogue} {query : Query} {left right : PlanTree} {a : �
 
   -- the right side is asked once more
   module _ (need : core_ask head.core ≡ NeedRight) where
-    pub set_turn-right_can : CanAsk catalogue now.answer query (number_in on_right) (tree_in on_right) (asked_in on_right)
+    pub set_turn-right_can : CanAsk (world_of catalogue now.answer query) (number_in on_right) (tree_in on_right) (asked_in on_right)
     set_turn-right_can =
-        subst (λ n. CanAsk catalogue now.answer query n (tree_in on_right) (asked_in on_right)) (sym (node-number whole 2 on_right turn.right_stands))
-        (subst (λ t. CanAsk catalogue now.answer query 2 t (asked_in on_right)) (sym turn.right_tree) (set-right_can catalogue query left right a old can (asked_in on_left) (asked_in on_right) head.core now turn.between need))
+        subst (λ n. CanAsk (world_of catalogue now.answer query) n (tree_in on_right) (asked_in on_right)) (sym (node-number whole 2 on_right turn.right_stands))
+        (subst (λ t. CanAsk (world_of catalogue now.answer query) 2 t (asked_in on_right)) (sym turn.right_tree) (set-right_can catalogue query left right a old can (asked_in on_left) (asked_in on_right) head.core now turn.between need))
 
     pub set_turn-right_stands : Stands (world_of catalogue now.answer query) (number_in on_right) on_right
     set_turn-right_stands =

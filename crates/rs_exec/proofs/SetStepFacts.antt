@@ -156,7 +156,7 @@ pub record SetAsked (w : World) (left right : PlanTree) (a left_asks right_asks 
       (child_asks w 1 (SetOperator left right) (suc a)) (gave_of w 1 (SetOperator left right) (suc a)) core
 
 -- the operator can be asked once more
-module _ (catalogue : Catalogue) (query : Query) (left right : PlanTree) (a : ℕ) (old : ScorerState) (can : CanAsk catalogue old.answer query 1 (SetOperator left right) a) where
+module _ (catalogue : Catalogue) (query : Query) (left right : PlanTree) (a : ℕ) (old : ScorerState) (can : CanAsk (world_of catalogue old.answer query) 1 (SetOperator left right) a) where
   abbrev w : World
   w = world_of catalogue old.answer query
 
@@ -256,9 +256,9 @@ module _ (catalogue : Catalogue) (query : Query) (left right : PlanTree) (a : �
     module _ (x : SideAsk) (number : ℕ) (side : PlanTree) (asks : ℕ)
         (is : side_part (questions (world_of catalogue old.answer query) 1 left) (questions (world_of catalogue old.answer query) 2 right) x ≡ questions_of_ask (world_of catalogue old.answer query) number side (suc asks)) where
       side-can : HasBlock query number → IsPart catalogue (block_in query number) side → HoldIndexes old.answer catalogue side
-          → asks ≤ length (list_of (world_of catalogue old.answer query) number side) → CanAsk catalogue now.answer query number side asks
+          → asks ≤ length (list_of (world_of catalogue old.answer query) number side) → CanAsk (world_of catalogue now.answer query) number side asks
       side-can has part indexes most =
-          subst (λ answer. CanAsk catalogue answer query number side asks) (sym between.all_asked.keeps.answer)
+          subst (λ answer. CanAsk (world_of catalogue answer query) number side asks) (sym between.all_asked.keeps.answer)
           (record {
             formed = can.formed;
             number_is = has;
@@ -323,7 +323,7 @@ module _ (catalogue : Catalogue) (query : Query) (left right : PlanTree) (a : �
           ≡ questions_of_ask (world_of catalogue old.answer query) 1 left (suc left_asks)
       left-is = ap (λ n. questions_of_ask w 1 left (suc n)) (sym between.left_asked)
 
-      pub set-left_can : CanAsk catalogue now.answer query 1 left left_asks
+      pub set-left_can : CanAsk (world_of catalogue now.answer query) 1 left left_asks
       set-left_can =
           let most = left-open s (operator_of query) lefts rights between.made a left-told in
           let same = between.left_asked in
@@ -409,7 +409,7 @@ module _ (catalogue : Catalogue) (query : Query) (left right : PlanTree) (a : �
           ≡ questions_of_ask (world_of catalogue old.answer query) 2 right (suc right_asks)
       right-is = ap (λ n. questions_of_ask w 2 right (suc n)) (sym between.right_asked)
 
-      pub set-right_can : CanAsk catalogue now.answer query 2 right right_asks
+      pub set-right_can : CanAsk (world_of catalogue now.answer query) 2 right right_asks
       set-right_can =
           let most = right-open s (operator_of query) lefts rights between.made a right-told in
           let same = between.right_asked in

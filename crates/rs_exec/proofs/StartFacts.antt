@@ -2,12 +2,12 @@
 use Rattle.std.proofs.Common.{◌≡◌, ◌∙◌, ℕ, zero, suc, ◌-◌, ◌≤◌, Bool, false, List, [], ◌∷◌, length, map, None, refl, sym, ap, ap₂, subst, arith}
 use Rattle.std.specs.Prelude.{min, nat_lt, slice_get, slice_index, unwrap_or}
 use Rattle.std.proofs.lemmas.Bool.Decides.{nat_tests}
+use Rattle.rs_filter.specs.Conditions.{conditions_of}
 use Rattle.rs_filter.specs.Distinct.{new_distinct}
 use Rattle.rs_mu.specs.Mu.{new_mu}
 use Rattle.rs_query.specs.Answers.{weights_of}
 use Rattle.rs_query.specs.Tables.{size_of, sizes_of}
 use Rattle.rs_query.specs.declared.block.Block.{Block}
-use Rattle.rs_scan.specs.Scans.{new_index_scan, new_table_scan}
 use Rattle.rs_catalog.specs.Catalogue.{Catalogue}
 use Rattle.rs_rank.specs.declared.weights.Weights.{Weights}
 use Rattle.rs_plan.specs.Counts.{size_at}
@@ -22,7 +22,7 @@ use Rattle.rs_exec.specs.Distincts.{DropsStand, distinct_node_after}
 use Rattle.rs_exec.specs.Joining.{join_for, side_for}
 use Rattle.rs_exec.specs.Nodes.{asked_in, tree_in}
 use Rattle.rs_exec.specs.Standing.{HeadStands, JoinStands, Stands, core_after, index_node_after, join_node_after, joined_from, rank_node_after, table_node_after, tally_after}
-use Rattle.rs_exec.specs.Starting.{IsStart, no_tally}
+use Rattle.rs_exec.specs.Starting.{IsStart, no_tally, new_table_node, new_index_node}
 use Rattle.rs_exec.specs.declared.distinct.DistinctNode.{DistinctNode}
 use Rattle.rs_exec.specs.declared.join.JoinNode.{JoinNode}
 use Rattle.rs_exec.specs.declared.join_core.JoinCore.{JoinCore}
@@ -154,8 +154,14 @@ distinct-none w number child =
     ap (λ (gave : ℕ). record { core = new_distinct; tally = record { asked = 0; gave = gave } }) (none-given (length (list_of w number (Distinct child))))
 
 -- a join of which nothing is drawn
-abbrev new_join : JoinCore → ℕ → PlanTree → PlanTree → JoinNode
-new_join core number left right = record { core = core; block = number; left = entries left; right = entries right; tally = no_tally }
+abbrev new_join : World → JoinCore → ℕ → PlanTree → PlanTree → JoinNode
+new_join w core number left right = record {
+  core = core;
+  block = number;
+  conditions = conditions_of w.catalogue (numbered_block w number) (entries left) (entries right);
+  cells = tt;
+  tally = no_tally;
+}
 
 -- a core of either kind
 data JoinKind : Type 0 where
@@ -184,11 +190,11 @@ core-none values w number left right =
     ap (λ (d : Joined). Hash (hashed_with w.catalogue (numbered_block w number) (entries left) (entries right) d)) (joined-none w number left right)
 
 join-none : (kind : JoinKind) (w : World) (number : ℕ) (left right : PlanTree)
-    → new_join (new_core kind (weights_in w) left right) number left right ≡ join_node_after w number (new_core kind (weights_in w) left right) left right 0
+    → new_join w (new_core kind (weights_in w) left right) number left right ≡ join_node_after w number (new_core kind (weights_in w) left right) left right 0
 join-none kind w number left right =
     let own = new_core kind (weights_in w) left right in
     let like = core_like own w.catalogue (numbered_block w number) (entries left) (entries right) in
-    let node : JoinCore → ℕ → JoinNode = λ core gave. record { core = core; block = number; left = entries left; right = entries right; tally = record { asked = 0; gave = gave } } in
+    let node : JoinCore → ℕ → JoinNode = λ core gave. record (new_join w core number left right) { tally = record { asked = 0; gave = gave } } in
     ap (λ (core : JoinCore). node core 0) (core-none kind w number left right)
     ∙ ap (λ (gave : ℕ). node (like (joined_from w number left right 0 0 gave)) gave) (none-given (length (list_of w number (NestedJoin left right))))
 
@@ -202,12 +208,12 @@ module _ (w : World) (number : ℕ) (most : length (numbered_block w number).fro
 
   module _ (weights : weights_of (numbered_block w number) ≡ weights_in w) where
     -- a join of two sides that weren't asked
-    join-starts : (kind : JoinKind) (left right : PlanTree) (l r : Node) (head : JoinNode) → head ≡ new_join (new_core kind (weights_of (numbered_block w number)) left right) number left right
+    join-starts : (kind : JoinKind) (left right : PlanTree) (l r : Node) (head : JoinNode) → head ≡ new_join w (new_core kind (weights_of (numbered_block w number)) left right) number left right
         → tree_in l ≡ left → tree_in r ≡ right → asked_in l ≡ 0 → asked_in r ≡ 0 → JoinStands w number head (tree_in l) (tree_in r) (asked_in l) (asked_in r)
     join-starts kind left right l r head is on_left on_right left_asked right_asked =
-        let same : head ≡ new_join (new_core kind (weights_in w) (tree_in l) (tree_in r)) number (tree_in l) (tree_in r) =
-        is ∙ ap (λ (ws : Weights). new_join (new_core kind ws left right) number left right) weights
-        ∙ ap₂ (λ (x y : PlanTree). new_join (new_core kind (weights_in w) x y) number x y) (sym on_left) (sym on_right) in
+        let same : head ≡ new_join w (new_core kind (weights_in w) (tree_in l) (tree_in r)) number (tree_in l) (tree_in r) =
+        is ∙ ap (λ (ws : Weights). new_join w (new_core kind ws left right) number left right) weights
+        ∙ ap₂ (λ (x y : PlanTree). new_join w (new_core kind (weights_in w) x y) number x y) (sym on_left) (sym on_right) in
         subst (λ (h : JoinNode). JoinStands w number h (tree_in l) (tree_in r) (asked_in l) (asked_in r)) (sym same) (record {
           keeps = join-none kind w number (tree_in l) (tree_in r);
           left_asked = left_asked;
@@ -217,8 +223,8 @@ module _ (w : World) (number : ℕ) (most : length (numbered_block w number).fro
     pub start-stands : (tree : PlanTree) (n : Node) → IsPart w.catalogue (numbered_block w number) tree → IsStart w.catalogue (numbered_block w number) number tree n → Stands w number n
     start-stands (SeqScan entry) (node.SeqScan head) part is =
         subst (λ (h : TableNode). h ≡ table_node_after w number h.entry h.tally.asked) (sym is)
-        (ap (λ (rows : ℕ). record { scan = new_table_scan entry number rows; block = number; entry = entry; tally = no_tally }) (size-is entry part)
-        ∙ ap (λ (tally : Tally). record { scan = new_table_scan entry number (size_at w number entry); block = number; entry = entry; tally = tally })
+        (ap (new_table_node (numbered_block w number) number entry) (size-is entry part)
+        ∙ ap (λ (tally : Tally). record (new_table_node (numbered_block w number) number entry (size_at w number entry)) { tally = tally })
         (tally-none w number (SeqScan entry)))
     start-stands (SeqScan entry) (node.RankScan head) part is = absurd is
     start-stands (SeqScan entry) (node.Rank' head p below) part is = absurd is
@@ -228,27 +234,10 @@ module _ (w : World) (number : ℕ) (most : length (numbered_block w number).fro
     start-stands (RankScan entry term index) (node.SeqScan head) part is = absurd is
     start-stands (RankScan entry term index) (node.RankScan head) part is =
         subst (λ (h : IndexNode). h ≡ index_node_after w number h.entry h.term h.scan.index h.tally.asked) (sym is)
-        (ap (λ (rows : ℕ). record {
-          scan = new_index_scan index entry number (slice_index (weights_of (numbered_block w number)).weight (term - 1)) rows;
-          block = number;
-          entry = entry;
-          term = term;
-          tally = no_tally;
-        }) (size-is entry part.is_entry)
-        ∙ ap (λ (ws : Weights). record {
-          scan = new_index_scan index entry number (slice_index ws.weight (term - 1)) (size_at w number entry);
-          block = number;
-          entry = entry;
-          term = term;
-          tally = no_tally;
-        }) weights
-        ∙ ap (λ (tally : Tally). record {
-          scan = new_index_scan index entry number (slice_index (weights_in w).weight (term - 1)) (size_at w number entry);
-          block = number;
-          entry = entry;
-          term = term;
-          tally = tally;
-        }) (tally-none w number (RankScan entry term index)))
+        (ap (new_index_node (numbered_block w number) number entry term index (slice_index (weights_of (numbered_block w number)).weight (term - 1))) (size-is entry part.is_entry)
+        ∙ ap (λ (ws : Weights). new_index_node (numbered_block w number) number entry term index (slice_index ws.weight (term - 1)) (size_at w number entry)) weights
+        ∙ ap (λ (tally : Tally). record (new_index_node (numbered_block w number) number entry term index (slice_index (weights_in w).weight (term - 1)) (size_at w number entry)) { tally = tally })
+        (tally-none w number (RankScan entry term index)))
     start-stands (RankScan entry term index) (node.Rank' head p below) part is = absurd is
     start-stands (RankScan entry term index) (node.Join' head p l q r) part is = absurd is
     start-stands (RankScan entry term index) (node.Set' head p l q r) part is = absurd is

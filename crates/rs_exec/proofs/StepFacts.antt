@@ -122,7 +122,7 @@ head-is n core term tally calls p q r s =
 
 -- the operator can be asked once more
 module _ (catalogue : Catalogue) (query : Query) (number term : ℕ) (child : PlanTree) (a : ℕ) (old : ScorerState)
-    (can : CanAsk catalogue old.answer query number (Rank term child) a) where
+    (can : CanAsk (world_of catalogue old.answer query) number (Rank term child) a) where
   abbrev w : World
   w = world_of catalogue old.answer query
 
@@ -170,14 +170,14 @@ module _ (catalogue : Catalogue) (query : Query) (number term : ℕ) (child : Pl
 
   -- where the core needs a row, its input can be asked once more
   pub between-can : (head : RankNode) (asks : ℕ) (now : ScorerState) → Between w number term child a asks head old now → ask_of head.core ≡ Need
-      → CanAsk catalogue now.answer query number child asks
+      → CanAsk (world_of catalogue now.answer query) number child asks
   between-can head asks now between need =
       let input = rank-input w number term child can.formed can.part weights in
       let less = subst (Tells e (list_of w number child) asks a) need (stands-tells e (list_of w number child) asks a head.core between.core) in
       let most = asks-most e (list_of w number child) input (suc a) in
       let size = same-length in
       let few = can.few in
-      subst (λ answer. CanAsk catalogue answer query number child asks) (sym between.all_asked.keeps.answer)
+      subst (λ answer. CanAsk (world_of catalogue answer query) number child asks) (sym between.all_asked.keeps.answer)
       (record { formed = can.formed; number_is = can.number_is; part = can.part.0; indexes = can.indexes; weights = can.weights; more = omega arith; tables = can.tables; few = omega arith })
 
   -- a row of the input has the entries of the term of its block

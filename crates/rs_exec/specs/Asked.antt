@@ -2,15 +2,14 @@
 use Rattle.std.specs.Prelude.{ℕ, suc, ◌≡◌, ◌⊎◌, ◌≤◌, ◌^◌, length, Option, Result, IsOk}
 use Rattle.std.specs.List.{AllByRecursion}
 use Rattle.rs_expr.specs.InOrder.{Inquires}
-use Rattle.rs_expr.specs.Scoring.{Answering, ScorerState}
+use Rattle.rs_expr.specs.Scoring.{ScorerState}
 use Rattle.rs_rank.specs.declared.row.RankRow.{RankRow}
 use Rattle.rs_rank.specs.Weights.{IsWeights}
-use Rattle.rs_catalog.specs.Catalogue.{Catalogue}
 use Rattle.rs_query.specs.Tables.{sizes_of}
 use Rattle.rs_query.specs.WellFormed.{IsQuery}
 use Rattle.rs_query.specs.declared.query.Query.{Query}
 use Rattle.rs_query.specs.declared.query.Query.TheVariants.{One, Set}
-use Rattle.rs_plan.specs.Lists.{World, block_in, list_of, weights_in}
+use Rattle.rs_plan.specs.Lists.{World, list_of, numbered_block, weights_in}
 use Rattle.rs_plan.specs.Trees.{Distinct, NestedJoin, Rank, SetOperator, PlanTree}
 use Rattle.rs_exec.specs.declared.distinct.DistinctNode.{DistinctNode}
 use Rattle.rs_exec.specs.declared.fault.ExecFault.{ExecFault}
@@ -20,7 +19,7 @@ use Rattle.rs_exec.specs.declared.join_core.JoinCore.{JoinCore}
 use Rattle.rs_exec.specs.declared.node.Node.{Node}
 use Rattle.rs_exec.specs.declared.rank.RankNode.{RankNode}
 use Rattle.rs_exec.specs.declared.set.SetNode.{SetNode}
-use Rattle.rs_exec.specs.Asking.{next_row, world_of}
+use Rattle.rs_exec.specs.Asking.{next_row}
 use Rattle.rs_exec.specs.Cores.{tree_with}
 use Rattle.rs_exec.specs.Distincts.{DropsStand}
 use Rattle.rs_exec.specs.Indexes.{HoldIndexes}
@@ -36,15 +35,15 @@ HasBlock (Set op left right limit) number = (number ≡ 1) ⊎ (number ≡ 2)
 
 -- a part of a plan of a block can be asked once more: the query and the part are those of the catalogue, its indexes hold the
 -- answers, the weights are within their limits, no ask found its end, and no table, and so no list, has more rows than it may have
-pub record CanAsk (catalogue : Catalogue) (answer : Answering) (query : Query) (number : ℕ) (tree : PlanTree) (asked : ℕ) : Type 0 where
-  pub formed : IsQuery catalogue query
-  pub number_is : HasBlock query number
-  pub part : IsPartOf catalogue query number tree
-  pub indexes : HoldIndexes answer catalogue tree
-  pub weights : IsWeights (weights_in (world_of catalogue answer query))
-  pub more : asked ≤ length (list_of (world_of catalogue answer query) number tree)
-  pub tables : (n : ℕ) → AllByRecursion (λ size. size ≤ 131072) (sizes_of catalogue (block_in query n))
-  pub few : length (list_of (world_of catalogue answer query) number tree) ≤ 2 ^ 103
+pub record CanAsk (w : World) (number : ℕ) (tree : PlanTree) (asked : ℕ) : Type 0 where
+  pub formed : IsQuery w.catalogue w.query
+  pub number_is : HasBlock w.query number
+  pub part : IsPartOf w.catalogue w.query number tree
+  pub indexes : HoldIndexes w.answer w.catalogue tree
+  pub weights : IsWeights (weights_in w)
+  pub more : asked ≤ length (list_of w number tree)
+  pub tables : (n : ℕ) → AllByRecursion (λ size. size ≤ 131072) (sizes_of w.catalogue (numbered_block w n))
+  pub few : length (list_of w number tree) ≤ 2 ^ 103
 
 -- what holds of a node after an ask that was answered: it is of the same tree and block, was asked once more, and stands
 pub record NodeAfter (w : World) (number : ℕ) (tree : PlanTree) (asked : ℕ) (node : Node) : Type 0 where
@@ -92,3 +91,58 @@ pub record SetAfter (w : World) (tree : PlanTree) (asked : ℕ) (head : SetNode)
 pub record Asked (w : World) (number : ℕ) (tree : PlanTree) (asked : ℕ) (After : Type 0) (result : Result (Option RankRow) ExecFault) (before after : ScorerState) : Type 0 where
   pub inquires : Inquires Memory (next_row w number tree asked) result before after
   pub leaves : IsOk result → After
+
+-- a node can be asked once more, and what one ask of it did
+abbrev pub CanAskNode : World → Node → Type 0
+CanAskNode w node = CanAsk w (number_in node) (tree_in node) (asked_in node)
+
+abbrev pub NodeAsked : World → Node → Node → Result (Option RankRow) ExecFault → ScorerState → ScorerState → Type 0
+NodeAsked w node new = Asked w (number_in node) (tree_in node) (asked_in node) (NodeAfter w (number_in node) (tree_in node) (asked_in node) new)
+
+-- the same of a rank operator and its input, which are held apart
+abbrev pub CanAskRank : World → RankNode → Node → Type 0
+CanAskRank w head child = CanAsk w (number_in child) (Rank head.term (tree_in child)) head.tally.asked
+
+abbrev pub RankStands : World → RankNode → Node → Type 0
+RankStands w head child = HeadStands w (number_in child) head (tree_in child) (asked_in child)
+
+abbrev pub RankAsked : World → RankNode → Node → RankNode → Node → Result (Option RankRow) ExecFault → ScorerState → ScorerState → Type 0
+RankAsked w head child new new_child =
+    Asked w (number_in child) (Rank head.term (tree_in child)) head.tally.asked
+    (RankAfter w (number_in child) (Rank head.term (tree_in child)) head.tally.asked new new_child)
+
+-- of a join and its sides
+abbrev pub CanAskJoin : World → JoinNode → Node → Node → Type 0
+CanAskJoin w head left right = CanAsk w head.block (NestedJoin (tree_in left) (tree_in right)) head.tally.asked
+
+abbrev pub JoinNodeStands : World → JoinNode → Node → Node → Type 0
+JoinNodeStands w head left right = JoinStands w head.block head (tree_in left) (tree_in right) (asked_in left) (asked_in right)
+
+abbrev pub JoinAsked : World → JoinNode → Node → Node → JoinNode → Node → Node → Result (Option RankRow) ExecFault → ScorerState → ScorerState → Type 0
+JoinAsked w head left right new new_left new_right =
+    Asked w head.block (NestedJoin (tree_in left) (tree_in right)) head.tally.asked
+    (JoinAfter w head.block head.core (NestedJoin (tree_in left) (tree_in right)) head.tally.asked new new_left new_right)
+
+-- of an operator that drops duplicates and its input
+abbrev pub CanAskDistinct : World → DistinctNode → Node → Type 0
+CanAskDistinct w head child = CanAsk w (number_in child) (Distinct (tree_in child)) head.tally.asked
+
+abbrev pub DistinctStands : World → DistinctNode → Node → Type 0
+DistinctStands w head child = DropsStand w (number_in child) head (tree_in child) (asked_in child)
+
+abbrev pub DistinctAsked : World → DistinctNode → Node → DistinctNode → Node → Result (Option RankRow) ExecFault → ScorerState → ScorerState → Type 0
+DistinctAsked w head child new new_child =
+    Asked w (number_in child) (Distinct (tree_in child)) head.tally.asked
+    (DistinctAfter w (number_in child) (Distinct (tree_in child)) head.tally.asked new new_child)
+
+-- of a set operator and its sides
+abbrev pub CanAskSet : World → SetNode → Node → Node → Type 0
+CanAskSet w head left right = CanAsk w 1 (SetOperator (tree_in left) (tree_in right)) head.tally.asked
+
+abbrev pub SetNodeStands : World → SetNode → Node → Node → Type 0
+SetNodeStands w head left right = SetStands w head (tree_in left) (tree_in right) (asked_in left) (asked_in right)
+
+abbrev pub SetAsked : World → SetNode → Node → Node → SetNode → Node → Node → Result (Option RankRow) ExecFault → ScorerState → ScorerState → Type 0
+SetAsked w head left right new new_left new_right =
+    Asked w 1 (SetOperator (tree_in left) (tree_in right)) head.tally.asked
+    (SetAfter w (SetOperator (tree_in left) (tree_in right)) head.tally.asked new new_left new_right)

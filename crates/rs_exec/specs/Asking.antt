@@ -1,7 +1,7 @@
 -- What one ask of a node of a plan gives, and which questions it puts to the scorer.
 use Rattle.std.specs.Prelude.{ℕ, suc, Option, slice_get}
 use Rattle.rs_expr.specs.InOrder.{Inquiry}
-use Rattle.rs_expr.specs.Scoring.{Answering}
+use Rattle.rs_expr.specs.Scoring.{Answering, ScorerState}
 use Rattle.rs_rank.specs.declared.row.RankRow.{RankRow}
 use Rattle.rs_catalog.specs.Catalogue.{Catalogue}
 use Rattle.rs_query.specs.Questions.{Faults, asking}
@@ -10,12 +10,17 @@ use Rattle.rs_query.specs.declared.query.Query.{Query}
 use Rattle.rs_plan.specs.Calls.{questions_of_ask}
 use Rattle.rs_plan.specs.Lists.{World, list_of}
 use Rattle.rs_plan.specs.Trees.{PlanTree}
+use Rattle.rs_exec.specs.declared.context.QueryContext.{QueryContext}
 use Rattle.rs_exec.specs.declared.fault.ExecFault.{ExecFault}
 use Rattle.rs_exec.specs.declared.fault.ExecFault.TheVariants.{BadScore, Probe}
 
 -- a query that sees all rows of its tables
 abbrev pub world_of : Catalogue → Answering → Query → World
 world_of catalogue answer query = record { catalogue = catalogue; answer = answer; query = query; view = all_rows catalogue query }
+
+-- what the nodes of a query see, where a scorer is in this state
+abbrev pub world_in : QueryContext → ScorerState → World
+world_in context scorer = world_of context.catalog.now scorer.answer context.query.now
 
 -- what a cursor tells of a question that ends an ask
 abbrev pub exec_faults : Faults ExecFault

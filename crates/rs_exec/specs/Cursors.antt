@@ -1,18 +1,21 @@
 -- Cursors: over which rows they are, when they stand for a catalogue and a scorer, and what their next row is.
 use Rattle.std.specs.Prelude.{ℕ, suc, ◌≡◌, ◌≤◌, ◌||◌, Bool, true, false, nat_le, nat_lt, List, [], length, map, Option, Some, None, option_map, slice_get, Result, Ok, Err, if◌then◌else◌}
+use Rattle.std.specs.List.{AllByRecursion}
 use Rattle.rs_expr.specs.InOrder.{Inquiry}
 use Rattle.rs_expr.specs.Scoring.{Answering}
 use Rattle.rs_rank.specs.declared.answer.Answer.{Answer}
 use Rattle.rs_rank.specs.declared.row.RankRow.{RankRow}
+use Rattle.rs_rank.specs.Weights.{IsWeights}
 use Rattle.rs_catalog.specs.Catalogue.{Catalogue}
-use Rattle.rs_query.specs.Answers.{limit_of}
+use Rattle.rs_query.specs.Answers.{limit_of, weights_of}
 use Rattle.rs_query.specs.Meaning.{outputs_of}
 use Rattle.rs_query.specs.Questions.{asking}
+use Rattle.rs_query.specs.Tables.{sizes_of}
 use Rattle.rs_query.specs.WellFormed.{AreSameTerms, IsQuery}
 use Rattle.rs_query.specs.declared.query.Query.{Query}
 use Rattle.rs_query.specs.declared.query.Query.TheVariants.{One, Set}
 use Rattle.rs_plan.specs.Calls.{questions_of_ask}
-use Rattle.rs_plan.specs.Lists.{World, numbered_block, list_of_plan}
+use Rattle.rs_plan.specs.Lists.{World, block_in, numbered_block, list_of_plan}
 use Rattle.rs_plan.specs.Plans.{IsPlan}
 use Rattle.rs_plan.specs.Trees.{PlanTree}
 use Rattle.rs_exec.specs.declared.fault.ExecFault.{ExecFault}
@@ -89,12 +92,14 @@ pub record IsNew (query : Query) (tree : PlanTree) (cursor : CursorState) : Type
   pub sound : cursor.failed ≡ false
 
 -- a cursor stands for a catalogue and a scorer of these answers: its query and its plan are those of the catalogue, the indexes of
--- its plan hold the answers, and all that it keeps is what so many asks give
+-- its plan hold the answers, its tables and weights are within their limits, and all that it keeps is what so many asks give
 pub record StandsFor (catalogue : Catalogue) (answer : Answering) (cursor : CursorState) : Type 0 where
   pub sound : cursor.failed ≡ false
   pub query : IsQuery catalogue cursor.query
   pub plan : IsPlan catalogue cursor.query (plan_of cursor)
   pub indexes : HoldIndexes answer catalogue (plan_of cursor)
+  pub tables : (number : ℕ) → AllByRecursion (λ size. size ≤ 131072) (sizes_of catalogue (block_in cursor.query number))
+  pub weights : IsWeights (weights_of (block_in cursor.query 1))
   pub nodes : Stands (world_of catalogue answer cursor.query) 1 cursor.root
   pub asks : asks_of cursor ≤ suc (length (list_of_plan (world_of catalogue answer cursor.query) (plan_of cursor)))
 

@@ -1,11 +1,14 @@
 -- How a scan finds its next row: it draws until a row satisfies the conjuncts that speak of its entry alone.
 use Rattle.std.specs.Prelude.{ℕ, ◌≡◌, ◌≤◌, ◌+◌, ◌^◌, Bool, List, length, drop, Option, is_some, if◌then◌else◌}
+use Rattle.rs_rank.specs.Masks.{mask_of}
 use Rattle.rs_rank.specs.declared.row.RankRow.{RankRow}
 use Rattle.rs_catalog.specs.Catalogue.{Catalogue}
 use Rattle.rs_query.specs.Combinations.{satisfies}
+use Rattle.rs_query.specs.Meaning.{conjuncts_within}
 use Rattle.rs_query.specs.Questions.{first_of, through_first}
 use Rattle.rs_query.specs.Tables.{size_of}
 use Rattle.rs_query.specs.WellFormed.{IsQuery}
+use Rattle.rs_query.specs.declared.block.Block.{Block}
 use Rattle.rs_query.specs.declared.query.Query.{Query}
 use Rattle.rs_plan.specs.Lists.{block_in}
 use Rattle.rs_plan.specs.Plans.{IsEntryNumber}
@@ -31,8 +34,13 @@ pub record IsSmall (tally : Tally) : Type 0 where
   pub asked : tally.asked ≤ 2 ^ 103
   pub gave : tally.gave ≤ 2 ^ 103
 
--- a scan of an entry of a block, whose view is all rows of the entry's table
-pub record ScansEntry (catalogue : Catalogue) (query : Query) (block entry rows : ℕ) : Type 0 where
+-- the mask of the conjuncts that speak of an entry of a block alone
+abbrev pub entry_conjuncts : Block → ℕ → ℕ
+entry_conjuncts block entry = conjuncts_within (mask_of entry) block.conjuncts
+
+-- a scan of an entry of a block that looks at the conjuncts of this mask, and whose view is all rows of the entry's table
+pub record ScansEntry (catalogue : Catalogue) (query : Query) (block entry rows conjuncts : ℕ) : Type 0 where
   pub formed : IsQuery catalogue query
   pub is_entry : IsEntryNumber (block_in query block) entry
   pub all : rows ≡ size_of catalogue (block_in query block) entry
+  pub within : conjuncts ≡ entry_conjuncts (block_in query block) entry

@@ -8,6 +8,7 @@ use Rattle.rs_mu.specs.Stands.{Evaluation, state_after}
 use Rattle.rs_plan.specs.Counts.{asked_of, drawn_of, gave_of, size_at}
 use Rattle.rs_plan.specs.Lists.{World, list_of, numbered_block, weights_in, worths}
 use Rattle.rs_plan.specs.Trees.{NestedJoin, Rank, RankScan, SeqScan, PlanTree, entries, terms}
+use Rattle.rs_filter.specs.Conditions.{conditions_of}
 use Rattle.rs_ripple.specs.After.{joined_after}
 use Rattle.rs_ripple.specs.Joined.{Joined}
 use Rattle.rs_exec.specs.declared.join.JoinNode.{JoinNode}
@@ -20,6 +21,7 @@ use Rattle.rs_exec.specs.declared.tally.Tally.{Tally}
 use Rattle.rs_exec.specs.declared.join_core.JoinCore.{JoinCore}
 use Rattle.rs_exec.specs.Cores.{core_like}
 use Rattle.rs_exec.specs.Distincts.{DropsStand}
+use Rattle.rs_exec.specs.Drawing.{entry_conjuncts}
 use Rattle.rs_exec.specs.Joining.{join_for}
 use Rattle.rs_exec.specs.Nodes.{asked_in, tree_in}
 use Rattle.rs_exec.specs.SetNodes.{SetStands}
@@ -34,6 +36,8 @@ table_node_after w number entry a = record {
   scan = record { entry = entry; block = number; rows = size_at w number entry; drawn = drawn_of w number (SeqScan entry) a };
   block = number;
   entry = entry;
+  conjuncts = entry_conjuncts (numbered_block w number) entry;
+  cells = tt;
   tally = tally_after w number (SeqScan entry) a;
 }
 
@@ -51,6 +55,8 @@ index_node_after w number entry term index a = record {
   block = number;
   entry = entry;
   term = term;
+  conjuncts = entry_conjuncts (numbered_block w number) entry;
+  cells = tt;
   tally = tally_after w number (RankScan entry term index) a;
 }
 
@@ -94,8 +100,8 @@ join_node_after w number core left right a = record {
   core = core_like core w.catalogue (numbered_block w number) (entries left) (entries right) (joined_from w number left right
       (asked_of w number (NestedJoin left right) a Left) (asked_of w number (NestedJoin left right) a Right) (gave_of w number (NestedJoin left right) a));
   block = number;
-  left = entries left;
-  right = entries right;
+  conditions = conditions_of w.catalogue (numbered_block w number) (entries left) (entries right);
+  cells = tt;
   tally = tally_after w number (NestedJoin left right) a;
 }
 

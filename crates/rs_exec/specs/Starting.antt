@@ -1,6 +1,7 @@
 -- The nodes of a plan at its start: nothing is drawn, held or asked.
 use Rattle.std.specs.Prelude.{ℕ, ◌≡◌, ◌-◌, slice_index}
 use Rattle.rs_catalog.specs.Catalogue.{Catalogue}
+use Rattle.rs_filter.specs.Conditions.{conditions_of}
 use Rattle.rs_filter.specs.Distinct.{new_distinct}
 use Rattle.rs_mu.specs.Mu.{new_mu}
 use Rattle.rs_query.specs.Answers.{weights_of}
@@ -21,24 +22,43 @@ use Rattle.rs_exec.specs.declared.node.Node.TheVariants as node
 use Rattle.rs_exec.specs.declared.rank.RankNode.{RankNode}
 use Rattle.rs_exec.specs.declared.tally.Tally.{Tally}
 use Rattle.rs_exec.specs.declared.set.SetNode.{SetNode}
+use Rattle.rs_exec.specs.declared.scan.IndexNode.{IndexNode}
+use Rattle.rs_exec.specs.declared.scan.TableNode.{TableNode}
+use Rattle.rs_exec.specs.Drawing.{entry_conjuncts}
 use Rattle.rs_exec.specs.Joining.{side_for}
 use Rattle.rs_exec.specs.SetCores.{new_core}
 
 abbrev pub no_tally : Tally
 no_tally = record { asked = 0; gave = 0 }
 
+-- a scan of a table, and one of an index, whose view is the first rows, so many
+abbrev pub new_table_node : Block → ℕ → ℕ → ℕ → TableNode
+new_table_node block number entry rows = record {
+  scan = new_table_scan entry number rows;
+  block = number;
+  entry = entry;
+  conjuncts = entry_conjuncts block entry;
+  cells = tt;
+  tally = no_tally;
+}
+
+abbrev pub new_index_node : Block → ℕ → ℕ → ℕ → ℕ → ℕ → ℕ → IndexNode
+new_index_node block number entry term index weight rows = record {
+  scan = new_index_scan index entry number weight rows;
+  block = number;
+  entry = entry;
+  term = term;
+  conjuncts = entry_conjuncts block entry;
+  cells = tt;
+  tally = no_tally;
+}
+
 -- the nodes of this tree, of a block of this number, before any ask
 abbrev pub IsStart : Catalogue → Block → ℕ → PlanTree → Node → Type 0
 IsStart catalogue block number (SeqScan entry) (node.SeqScan head) =
-    head ≡ record { scan = new_table_scan entry number (size_of catalogue block entry); block = number; entry = entry; tally = no_tally }
+    head ≡ new_table_node block number entry (size_of catalogue block entry)
 IsStart catalogue block number (RankScan entry term index) (node.RankScan head) =
-    head ≡ record {
-      scan = new_index_scan index entry number (slice_index (weights_of block).weight (term - 1)) (size_of catalogue block entry);
-      block = number;
-      entry = entry;
-      term = term;
-      tally = no_tally;
-    }
+    head ≡ new_index_node block number entry term index (slice_index (weights_of block).weight (term - 1)) (size_of catalogue block entry)
 IsStart catalogue block number (Rank term child) (node.Rank' head p below) =
     (head ≡ record { core = new_mu (weights_of block) (terms child) term; term = term; args = tt; tally = no_tally; calls = 0 })
     × IsStart catalogue block number child below
@@ -46,8 +66,8 @@ IsStart catalogue block number (HashJoin left right) (node.Join' head p on_left 
     (head ≡ record {
       core = Hash (new_hashed (weights_of block) (side_for left) (side_for right));
       block = number;
-      left = entries left;
-      right = entries right;
+      conditions = conditions_of catalogue block (entries left) (entries right);
+      cells = tt;
       tally = no_tally;
     })
     × IsStart catalogue block number left on_left × IsStart catalogue block number right on_right
@@ -55,8 +75,8 @@ IsStart catalogue block number (NestedJoin left right) (node.Join' head p on_lef
     (head ≡ record {
       core = Nested (new_joined (weights_of block) (side_for left) (side_for right));
       block = number;
-      left = entries left;
-      right = entries right;
+      conditions = conditions_of catalogue block (entries left) (entries right);
+      cells = tt;
       tally = no_tally;
     })
     × IsStart catalogue block number left on_left × IsStart catalogue block number right on_right

@@ -1,10 +1,10 @@
-ghost use Rattle.std.specs.Prelude.{◌≡◌, ◌≤◌, ℕ, IfOk, None, Ok, is_err, slice_get, false};
+ghost use Rattle.std.specs.Prelude.{◌≡◌, ◌↔◌, ◌≤◌, ℕ, IfOk, None, Ok, is_err, length, slice_get};
 ghost use Rattle.std.specs.List.{AllByRecursion};
 ghost use Rattle.rs_expr.specs.InOrder.{Inquires};
 ghost use Rattle.rs_expr.specs.Scoring.{Answering};
 ghost use Rattle.rs_catalog.specs.Catalogue.{Catalogue};
 ghost use Rattle.rs_plan.specs.Counts.{counts_of_plan};
-ghost use Rattle.rs_plan.specs.Lists.{block_in};
+ghost use Rattle.rs_plan.specs.Lists.{World, block_in};
 ghost use Rattle.rs_plan.specs.Plans.{IsPlan};
 ghost use Rattle.rs_plan.specs.Shapes.{tree_of};
 ghost use Rattle.rs_query.specs.Answers.{limit_of, weights_of};
@@ -16,9 +16,9 @@ ghost use Rattle.rs_exec.specs.Cursors.{CanGo, IsNew, IsOver, StandsFor, asks_af
 ghost use Rattle.rs_exec.specs.Indexes.{HoldIndexes};
 ghost use Rattle.rs_exec.specs.Outputs.{CanPutOut, values_for};
 
+use crate::context::QueryContext;
 use crate::fault::ExecFault;
 use crate::node::Node;
-use crate::output::outputs;
 use rs_catalog::Catalog;
 use rs_expr::Scorer;
 use rs_plan::{Counts, Plan};
@@ -117,8 +117,8 @@ impl Cursor {
     /// What the node at a place of the plan has done so far, or None past the last one. A node stands before its children, the
     /// first one at 0. It takes no memory.
     pub fn counts(&self, node: u8) -> Option<Counts>
-        requires { self.now.failed ≡ false }
-        ensures { (catalogue : Catalogue) (answer : Answering) → StandsFor catalogue answer self.now
+        ensures past { (w : World) (n : ℕ) → (result ≡ None) ↔ (length (counts_of_plan w (plan_of self.now) n) ≤ node) }
+        ensures counts { (catalogue : Catalogue) (answer : Answering) → StandsFor catalogue answer self.now
             → result ≡ slice_get (counts_of_plan (world_of catalogue answer self.now.query) (plan_of self.now) (asks_of self.now)) node }
     {
         self.root.counts_at(node)
@@ -144,10 +144,13 @@ impl Cursor {
         if self.is_over() {
             return Ok(None);
         }
-        // So no count and no sum can pass its type.
-        limits_hold(catalog, &self.query);
-        match self.root.next(self.alloc, catalog, &self.query, scorer)? {
-            Some(row) => Ok(Some(answer_for(self.alloc, catalog, &self.query, &row)?)),
+        let context = QueryContext {
+            alloc: self.alloc,
+            catalog,
+            query: &self.query,
+        };
+        match self.root.next(&context, scorer)? {
+            Some(row) => Ok(Some(answer_for(&context, &row)?)),
             None => Ok(None),
         }
     }
@@ -183,20 +186,15 @@ fn limit_of(query: &Query) -> Option<u32>
 }
 
 /// The row with its score and its output values.
-fn answer_for(
-    alloc: Global,
-    catalog: &Catalog,
-    query: &Query,
-    row: &RankRow,
-) -> Result<Answer, Memory>
-    requires { CanPutOut catalog.now query.now row.now }
+fn answer_for(context: &QueryContext<'_>, row: &RankRow) -> Result<Answer, Memory>
+    requires { CanPutOut context.now.catalog.now context.now.query.now row.now }
     ensures { IfOk result (λ answer. answer ≡ record {
       ids = row.now.ids;
       score = row.now.sum;
-      values = values_for catalog.now query.now row.now;
+      values = values_for context.now.catalog.now context.now.query.now row.now;
     }) }
 {
-    let values = outputs(alloc, catalog, query, row)?;
+    let values = context.outputs(row)?;
     Ok(Answer {
         ids: row.ids,
         score: row.sum,

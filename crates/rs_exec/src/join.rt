@@ -1,35 +1,27 @@
 //! The rank joins as a node.
 
-ghost use Rattle.std.specs.Prelude.{◌≡◌, ◌<◌, ◌+◌, ◌-◌, ◌^◌, OnOk, is_some, if◌then◌else◌, false, true};
-ghost use Rattle.std.specs.List.{AllByRecursion};
-ghost use Rattle.rs_filter.specs.Matching.{is_side, joins};
+ghost use Rattle.std.specs.Prelude.{◌≡◌, ◌<◌, ◌+◌, ◌-◌, ◌^◌, OnOk, is_some, if◌then◌else◌, false};
 ghost use Rattle.rs_plan.specs.Lists.{block_in};
-ghost use Rattle.rs_plan.specs.Trees.{NestedJoin};
-ghost use Rattle.rs_query.specs.WellFormed.{IsBlock};
 ghost use Rattle.rs_rank.specs.declared.ask.JoinAsk.TheVariants.{NeedLeft, NeedRight, Ready};
-ghost use Rattle.rs_query.specs.Tables.{HasRows};
-ghost use Rattle.rs_rank.specs.Masks.{AreDisjoint};
 ghost use Rattle.rs_hrjn.specs.Hashed.{new_hashed};
-ghost use Rattle.rs_ripple.specs.Joined.{CanFeedLeft, CanFeedRight, Fits, fed_left, fed_right, new_joined};
+ghost use Rattle.rs_ripple.specs.Joined.{new_joined};
 ghost use Rattle.rs_ripple.specs.Ripple.{CanEnd, CanJoin, ask_of, left_ended, left_for, right_ended, taken_for};
-ghost use Rattle.rs_exec.specs.Cores.{HasValues, core_like, core_with, joined_in};
+ghost use Rattle.rs_exec.specs.Cores.{CanTakeLeft, CanTakeRight, core_with, joined_in, left_taken, right_taken};
 ghost use Rattle.rs_exec.specs.declared.join_core.JoinCore.TheVariants.{Hash, Nested};
-ghost use Rattle.rs_exec.specs.Asked.{Asked, CanAsk, JoinAfter};
-ghost use Rattle.rs_exec.specs.Asking.{world_of};
-ghost use Rattle.rs_exec.specs.Nodes.{asked_in, tree_in};
-ghost use Rattle.rs_exec.specs.Standing.{JoinStands, Stands};
+ghost use Rattle.rs_exec.specs.Asked.{CanAskJoin, JoinAsked, JoinNodeStands};
+ghost use Rattle.rs_exec.specs.Asking.{world_in};
+ghost use Rattle.rs_exec.specs.Standing.{Stands};
 
-use crate::block::block_of;
+use crate::context::QueryContext;
 use crate::fault::ExecFault;
 use crate::join_core::JoinCore;
 use crate::node::Node;
 use crate::tally::Tally;
-use rs_catalog::Catalog;
 use rs_expr::Scorer;
+use rs_filter::{JoinConditions, KeptList};
 use rs_hrjn::Hrjn;
 use rs_nrjn::Nrjn;
 use rs_plan::Counts;
-use rs_query::Query;
 use rs_rank::{JoinAsk, RankRow, Weights};
 use rs_ripple::Side;
 use rs_value::Memory;
@@ -39,10 +31,11 @@ use std::alloc::Global;
 #[derive(Drop)]
 pub(crate) struct JoinNode {
     pub(crate) core: JoinCore,
-    /// The number of its block, and the masks of the entries of its sides in there.
+    /// The number of its block.
     pub(crate) block: u8,
-    pub(crate) left: u8,
-    pub(crate) right: u8,
+    /// What it looks at of two rows, and the last cells that this looked at.
+    pub(crate) conditions: JoinConditions,
+    pub(crate) cells: KeptList,
     pub(crate) tally: Tally,
 }
 
@@ -54,21 +47,22 @@ impl JoinNode {
         block: u8,
         left: Side,
         right: Side,
+        conditions: JoinConditions,
     ) -> JoinNode
         requires { CanJoin weights left right }
         ensures { result ≡ record {
           core = Nested (new_joined weights left right);
           block = block;
-          left = left.mask;
-          right = right.mask;
+          conditions = conditions;
+          cells = tt;
           tally = record { asked = 0; gave = 0 };
         } }
     {
         JoinNode {
             core: JoinCore::Nested(Nrjn::new(alloc, weights, left, right)),
             block,
-            left: left.mask,
-            right: right.mask,
+            conditions,
+            cells: KeptList::new(alloc),
             tally: Tally::new(),
         }
     }
@@ -80,21 +74,22 @@ impl JoinNode {
         block: u8,
         left: Side,
         right: Side,
+        conditions: JoinConditions,
     ) -> JoinNode
         requires { CanJoin weights left right }
         ensures { result ≡ record {
           core = Hash (new_hashed weights left right);
           block = block;
-          left = left.mask;
-          right = right.mask;
+          conditions = conditions;
+          cells = tt;
           tally = record { asked = 0; gave = 0 };
         } }
     {
         JoinNode {
             core: JoinCore::Hash(Hrjn::new(alloc, weights, left, right)),
             block,
-            left: left.mask,
-            right: right.mask,
+            conditions,
+            cells: KeptList::new(alloc),
             tally: Tally::new(),
         }
     }
@@ -108,57 +103,39 @@ impl JoinNode {
     }
 
     /// Takes the left side's next row, and finds the right rows drawn so far that it matches.
-    fn feed_left(
-        &mut self,
-        row: RankRow,
-        alloc: Global,
-        catalog: &Catalog,
-        query: &Query,
-    ) -> Result<(), Memory>
-        requires block { IsBlock catalog.now (block_in query.now self.old.block) }
-        requires apart { AreDisjoint self.old.left self.old.right }
-        requires values { HasValues catalog.now (block_in query.now self.old.block) self.old.left self.old.right self.old.core }
-        requires row { CanFeedLeft row (joined_in self.old.core) }
-        requires rows { HasRows catalog.now (block_in query.now self.old.block) self.old.left row.ids.rows }
-        requires side { is_side catalog.now (block_in query.now self.old.block) self.old.left row ≡ true }
-        requires sides { AllByRecursion (λ other. is_side catalog.now (block_in query.now self.old.block) self.old.right other ≡ true)
-            (joined_in self.old.core).rights }
-        requires fits { Fits (joins catalog.now (block_in query.now self.old.block) self.old.left self.old.right) (joined_in self.old.core) }
+    fn feed_left(&mut self, row: RankRow, context: &QueryContext<'_>) -> Result<(), Memory>
+        requires { CanTakeLeft context.now.catalog.now (block_in context.now.query.now self.old.block) self.old.conditions row self.old.core }
         ensures { OnOk result (self.new ≡ record self.old {
-          core = core_like self.old.core catalog.now (block_in query.now self.old.block) self.old.left self.old.right
-              (fed_left (joins catalog.now (block_in query.now self.old.block) self.old.left self.old.right) row (joined_in self.old.core));
+          core = left_taken context.now.catalog.now (block_in context.now.query.now self.old.block) self.old.conditions row self.old.core;
         }) }
     {
-        let block = block_of(query, self.block);
-        self.core
-            .feed_left(row, alloc, catalog, block, self.left, self.right)
+        let block = context.block(self.block);
+        self.core.feed_left(
+            row,
+            context.alloc,
+            context.catalog,
+            block,
+            &self.conditions,
+            &mut self.cells,
+        )
     }
 
     /// Takes the right side's next row, and finds the left rows drawn so far that it matches.
-    fn feed_right(
-        &mut self,
-        row: RankRow,
-        alloc: Global,
-        catalog: &Catalog,
-        query: &Query,
-    ) -> Result<(), Memory>
-        requires block { IsBlock catalog.now (block_in query.now self.old.block) }
-        requires apart { AreDisjoint self.old.left self.old.right }
-        requires values { HasValues catalog.now (block_in query.now self.old.block) self.old.left self.old.right self.old.core }
-        requires row { CanFeedRight row (joined_in self.old.core) }
-        requires rows { HasRows catalog.now (block_in query.now self.old.block) self.old.right row.ids.rows }
-        requires side { is_side catalog.now (block_in query.now self.old.block) self.old.right row ≡ true }
-        requires sides { AllByRecursion (λ other. is_side catalog.now (block_in query.now self.old.block) self.old.left other ≡ true)
-            (joined_in self.old.core).lefts }
-        requires fits { Fits (joins catalog.now (block_in query.now self.old.block) self.old.left self.old.right) (joined_in self.old.core) }
+    fn feed_right(&mut self, row: RankRow, context: &QueryContext<'_>) -> Result<(), Memory>
+        requires { CanTakeRight context.now.catalog.now (block_in context.now.query.now self.old.block) self.old.conditions row self.old.core }
         ensures { OnOk result (self.new ≡ record self.old {
-          core = core_like self.old.core catalog.now (block_in query.now self.old.block) self.old.left self.old.right
-              (fed_right (joins catalog.now (block_in query.now self.old.block) self.old.left self.old.right) row (joined_in self.old.core));
+          core = right_taken context.now.catalog.now (block_in context.now.query.now self.old.block) self.old.conditions row self.old.core;
         }) }
     {
-        let block = block_of(query, self.block);
-        self.core
-            .feed_right(row, alloc, catalog, block, self.left, self.right)
+        let block = context.block(self.block);
+        self.core.feed_right(
+            row,
+            context.alloc,
+            context.catalog,
+            block,
+            &self.conditions,
+            &mut self.cells,
+        )
     }
 
     /// The left side has no row more.
@@ -214,29 +191,24 @@ pub(crate) fn next_joined<S: Scorer>(
     head: &mut JoinNode,
     left: &mut Node,
     right: &mut Node,
-    alloc: Global,
-    catalog: &Catalog,
-    query: &Query,
+    context: &QueryContext<'_>,
     scorer: &mut S,
 ) -> Result<Option<RankRow>, ExecFault>
-    requires can { CanAsk catalog.now (S.state scorer.old).answer query.now head.old.block (NestedJoin (tree_in left.old) (tree_in right.old)) head.old.tally.asked }
-    requires head { JoinStands (world_of catalog.now (S.state scorer.old).answer query.now) head.old.block head.old (tree_in left.old) (tree_in right.old) (asked_in left.old) (asked_in right.old) }
-    requires left { Stands (world_of catalog.now (S.state scorer.old).answer query.now) head.old.block left.old }
-    requires right { Stands (world_of catalog.now (S.state scorer.old).answer query.now) head.old.block right.old }
-    ensures { Asked (world_of catalog.now (S.state scorer.old).answer query.now) head.old.block (NestedJoin (tree_in left.old) (tree_in right.old)) head.old.tally.asked
-        (JoinAfter (world_of catalog.now (S.state scorer.old).answer query.now) head.old.block head.old.core (NestedJoin (tree_in left.old) (tree_in right.old))
-        head.old.tally.asked head.new left.new right.new)
-        result (S.state scorer.old) (S.state scorer.new) }
+    requires can { CanAskJoin (world_in context.now (S.state scorer.old)) head.old left.old right.old }
+    requires head { JoinNodeStands (world_in context.now (S.state scorer.old)) head.old left.old right.old }
+    requires left { Stands (world_in context.now (S.state scorer.old)) head.old.block left.old }
+    requires right { Stands (world_in context.now (S.state scorer.old)) head.old.block right.old }
+    ensures { JoinAsked (world_in context.now (S.state scorer.old)) head.old left.old right.old head.new left.new right.new result (S.state scorer.old) (S.state scorer.new) }
 {
     head.tally.ask();
     loop {
         match head.ask() {
-            JoinAsk::NeedLeft => match left.next(alloc, catalog, query, scorer)? {
-                Some(row) => head.feed_left(row, alloc, catalog, query)?,
+            JoinAsk::NeedLeft => match left.next(context, scorer)? {
+                Some(row) => head.feed_left(row, context)?,
                 None => head.end_left(),
             },
-            JoinAsk::NeedRight => match right.next(alloc, catalog, query, scorer)? {
-                Some(row) => head.feed_right(row, alloc, catalog, query)?,
+            JoinAsk::NeedRight => match right.next(context, scorer)? {
+                Some(row) => head.feed_right(row, context)?,
                 None => head.end_right(),
             },
             JoinAsk::Ready => return Ok(head.give()),

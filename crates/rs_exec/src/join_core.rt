@@ -1,18 +1,12 @@
 //! How a join finds the pairs that match.
 
-ghost use Rattle.std.specs.Prelude.{◌≡◌, OnOk, false, true};
-ghost use Rattle.std.specs.List.{AllByRecursion};
-ghost use Rattle.rs_filter.specs.Matching.{is_side, joins};
-ghost use Rattle.rs_query.specs.Tables.{HasRows};
-ghost use Rattle.rs_query.specs.WellFormed.{IsBlock};
-ghost use Rattle.rs_rank.specs.Masks.{AreDisjoint};
+ghost use Rattle.std.specs.Prelude.{◌≡◌, OnOk, false};
 ghost use Rattle.rs_rank.specs.declared.ask.JoinAsk.TheVariants.{NeedLeft, NeedRight, Ready};
-ghost use Rattle.rs_ripple.specs.Joined.{CanFeedLeft, CanFeedRight, Fits, fed_left, fed_right};
 ghost use Rattle.rs_ripple.specs.Ripple.{CanEnd, ask_of, left_ended, left_for, right_ended, taken_for};
-ghost use Rattle.rs_exec.specs.Cores.{HasValues, core_like, core_with, joined_in};
+ghost use Rattle.rs_exec.specs.Cores.{CanTakeLeft, CanTakeRight, core_with, joined_in, left_taken, right_taken};
 
 use rs_catalog::Catalog;
-use rs_filter::{BlockMatch, is_equi_join, left_values, right_values};
+use rs_filter::{BlockMatch, JoinConditions, KeptList, left_values, right_values};
 use rs_hrjn::Hrjn;
 use rs_nrjn::Nrjn;
 use rs_query::Block;
@@ -41,68 +35,48 @@ impl JoinCore {
         }
     }
 
-    /// Takes the left side's next row, and finds the right rows drawn so far that it matches. The sides have the entries of
-    /// these masks.
+    /// Takes the left side's next row, and finds the right rows drawn so far that it matches by these conditions.
     pub(crate) fn feed_left(
         &mut self,
         row: RankRow,
         alloc: Global,
         catalog: &Catalog,
         block: &Block,
-        left: u8,
-        right: u8,
+        conditions: &JoinConditions,
+        cells: &mut KeptList,
     ) -> Result<(), Memory>
-        requires block { IsBlock catalog.now block.now }
-        requires apart { AreDisjoint left right }
-        requires values { HasValues catalog.now block.now left right self.old }
-        requires row { CanFeedLeft row (joined_in self.old) }
-        requires rows { HasRows catalog.now block.now left row.ids.rows }
-        requires side { is_side catalog.now block.now left row ≡ true }
-        requires sides { AllByRecursion (λ other. is_side catalog.now block.now right other ≡ true) (joined_in self.old).rights }
-        requires fits { Fits (joins catalog.now block.now left right) (joined_in self.old) }
-        ensures { OnOk result (self.new ≡ core_like self.old catalog.now block.now left right
-            (fed_left (joins catalog.now block.now left right) row (joined_in self.old))) }
+        requires { CanTakeLeft catalog.now block.now conditions.now row self.old }
+        ensures { OnOk result (self.new ≡ left_taken catalog.now block.now conditions.now row self.old) }
     {
-        let mut matcher = BlockMatch::new(alloc, catalog, block, left, right);
+        let mut matcher = BlockMatch::new(catalog, block, conditions, cells);
         match self {
             JoinCore::Nested(core) => core.feed_left(row, &mut matcher),
             JoinCore::Hash(core) => {
-                let values = left_values(alloc, catalog, block, left, right, &row.ids)?;
-                let exact = is_equi_join(catalog, block, left, right);
-                core.feed_left(row, values, exact, &mut matcher)
+                let values = left_values(alloc, catalog, block, conditions, &row.ids)?;
+                core.feed_left(row, values, conditions.exact, &mut matcher)
             }
         }
     }
 
-    /// Takes the right side's next row, and finds the left rows drawn so far that it matches. The sides have the entries of
-    /// these masks.
+    /// Takes the right side's next row, and finds the left rows drawn so far that it matches by these conditions.
     pub(crate) fn feed_right(
         &mut self,
         row: RankRow,
         alloc: Global,
         catalog: &Catalog,
         block: &Block,
-        left: u8,
-        right: u8,
+        conditions: &JoinConditions,
+        cells: &mut KeptList,
     ) -> Result<(), Memory>
-        requires block { IsBlock catalog.now block.now }
-        requires apart { AreDisjoint left right }
-        requires values { HasValues catalog.now block.now left right self.old }
-        requires row { CanFeedRight row (joined_in self.old) }
-        requires rows { HasRows catalog.now block.now right row.ids.rows }
-        requires side { is_side catalog.now block.now right row ≡ true }
-        requires sides { AllByRecursion (λ other. is_side catalog.now block.now left other ≡ true) (joined_in self.old).lefts }
-        requires fits { Fits (joins catalog.now block.now left right) (joined_in self.old) }
-        ensures { OnOk result (self.new ≡ core_like self.old catalog.now block.now left right
-            (fed_right (joins catalog.now block.now left right) row (joined_in self.old))) }
+        requires { CanTakeRight catalog.now block.now conditions.now row self.old }
+        ensures { OnOk result (self.new ≡ right_taken catalog.now block.now conditions.now row self.old) }
     {
-        let mut matcher = BlockMatch::new(alloc, catalog, block, left, right);
+        let mut matcher = BlockMatch::new(catalog, block, conditions, cells);
         match self {
             JoinCore::Nested(core) => core.feed_right(row, &mut matcher),
             JoinCore::Hash(core) => {
-                let values = right_values(alloc, catalog, block, left, right, &row.ids)?;
-                let exact = is_equi_join(catalog, block, left, right);
-                core.feed_right(row, values, exact, &mut matcher)
+                let values = right_values(alloc, catalog, block, conditions, &row.ids)?;
+                core.feed_right(row, values, conditions.exact, &mut matcher)
             }
         }
     }

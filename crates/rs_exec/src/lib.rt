@@ -2,7 +2,7 @@
 //! once it is wanted, and the scorer is called only where the plan's operators need it. It executes each valid plan.
 #![tactic(auto)]
 
-mod block;
+mod context;
 mod cursor;
 mod distinct;
 mod distinct_laws;
@@ -13,7 +13,6 @@ mod join_core;
 mod join_laws;
 mod laws;
 mod node;
-mod output;
 mod rank;
 mod scan;
 mod score;
@@ -27,7 +26,7 @@ pub use cursor::Cursor;
 pub use distinct_laws::distinct_gives_the_first_rows;
 pub use fault::ExecFault;
 pub use held::indexes_go_on_to_hold_answers;
-pub use join_laws::joins_give_the_pairs_that_match;
+pub use join_laws::{joins_ask_their_sides, joins_give_the_pairs_that_match};
 pub use laws::{
     cursors_stand_in_larger_catalogues, plans_ask_the_same_in_larger_catalogues,
     plans_give_the_answer, plans_give_the_same_rows, rows_give_the_parts_in_turn,

@@ -1,9 +1,10 @@
 ghost use Rattle.std.specs.Prelude.{◌≡◌, ◌∷◌, [], slice_get};
-ghost use Rattle.rs_exec.specs.Asked.{Asked, CanAsk, NodeAfter};
-ghost use Rattle.rs_exec.specs.Asking.{world_of};
-ghost use Rattle.rs_exec.specs.Nodes.{asked_in, at_or_past, counts_in, number_in, tally_in, tree_in};
+ghost use Rattle.rs_exec.specs.Asked.{CanAskNode, NodeAsked};
+ghost use Rattle.rs_exec.specs.Asking.{world_in};
+ghost use Rattle.rs_exec.specs.Nodes.{at_or_past, counts_in, number_in, tally_in};
 ghost use Rattle.rs_exec.specs.Standing.{Stands};
 
+use crate::context::QueryContext;
 use crate::distinct::{DistinctNode, next_distinct};
 use crate::fault::ExecFault;
 use crate::join::{JoinNode, next_joined};
@@ -11,12 +12,9 @@ use crate::rank::{RankNode, next_ranked};
 use crate::scan::{IndexNode, TableNode};
 use crate::set::{SetNode, next_combined};
 use crate::tally::Tally;
-use rs_catalog::Catalog;
 use rs_expr::Scorer;
 use rs_plan::Counts;
-use rs_query::Query;
 use rs_rank::RankRow;
-use std::alloc::Global;
 
 /// A node of a plan that is executed, with all nodes below it.
 #[derive(Drop)]
@@ -35,30 +33,20 @@ impl Node {
     #[cycle(next)]
     pub(crate) fn next<S: Scorer>(
         &mut self,
-        alloc: Global,
-        catalog: &Catalog,
-        query: &Query,
+        context: &QueryContext<'_>,
         scorer: &mut S,
     ) -> Result<Option<RankRow>, ExecFault>
-        requires can { CanAsk catalog.now (S.state scorer.old).answer query.now (number_in self.old) (tree_in self.old) (asked_in self.old) }
-        requires stands { Stands (world_of catalog.now (S.state scorer.old).answer query.now) (number_in self.old) self.old }
-        ensures { Asked (world_of catalog.now (S.state scorer.old).answer query.now) (number_in self.old) (tree_in self.old) (asked_in self.old)
-            (NodeAfter (world_of catalog.now (S.state scorer.old).answer query.now) (number_in self.old) (tree_in self.old) (asked_in self.old) self.new)
-            result (S.state scorer.old) (S.state scorer.new) }
+        requires can { CanAskNode (world_in context.now (S.state scorer.old)) self.old }
+        requires stands { Stands (world_in context.now (S.state scorer.old)) (number_in self.old) self.old }
+        ensures { NodeAsked (world_in context.now (S.state scorer.old)) self.old self.new result (S.state scorer.old) (S.state scorer.new) }
     {
         match self {
-            Node::SeqScan(head) => Ok(head.next(alloc, catalog, query)?),
-            Node::RankScan(head) => Ok(head.next(alloc, catalog, query)?),
-            Node::Rank(head, child) => next_ranked(head, child, alloc, catalog, query, scorer),
-            Node::Join(head, left, right) => {
-                next_joined(head, left, right, alloc, catalog, query, scorer)
-            }
-            Node::Distinct(head, child) => {
-                next_distinct(head, child, alloc, catalog, query, scorer)
-            }
-            Node::Set(head, left, right) => {
-                next_combined(head, left, right, alloc, catalog, query, scorer)
-            }
+            Node::SeqScan(head) => Ok(head.next(context)?),
+            Node::RankScan(head) => Ok(head.next(context)?),
+            Node::Rank(head, child) => next_ranked(head, child, context, scorer),
+            Node::Join(head, left, right) => { next_joined(head, left, right, context, scorer) }
+            Node::Distinct(head, child) => { next_distinct(head, child, context, scorer) }
+            Node::Set(head, left, right) => { next_combined(head, left, right, context, scorer) }
         }
     }
 

@@ -4,30 +4,28 @@ ghost use Rattle.std.specs.Prelude.{◌≡◌, ◌≤◌, ◌<◌, ◌+◌, ◌-
 ghost use Rattle.rs_expr.specs.InOrder.{Inquires};
 ghost use Rattle.rs_mu.specs.Mu.{CanEnd, CanFeed, IsNewTerm, ask_of, left_for, new_mu, taken_for};
 ghost use Rattle.rs_plan.specs.Lists.{block_in};
-ghost use Rattle.rs_plan.specs.Trees.{Rank};
 ghost use Rattle.rs_query.specs.Meaning.{is_inside};
 ghost use Rattle.rs_query.specs.Tables.{HasRows};
 ghost use Rattle.rs_query.specs.WellFormed.{IsBlock};
 ghost use Rattle.rs_query.specs.declared.term.Term.{Term as BoundTerm};
 ghost use Rattle.rs_rank.specs.Weights.{IsWeights};
 ghost use Rattle.rs_rank.specs.declared.ask.Ask.TheVariants.{Need};
-ghost use Rattle.rs_exec.specs.Asked.{Asked, CanAsk, RankAfter};
-ghost use Rattle.rs_exec.specs.Asking.{world_of};
+ghost use Rattle.rs_exec.specs.Asked.{CanAskRank, RankAsked, RankStands};
+ghost use Rattle.rs_exec.specs.Asking.{world_in};
 ghost use Rattle.rs_exec.specs.Drawing.{IsSmall, tally_with};
 ghost use Rattle.rs_exec.specs.Feeding.{CanTake, feeding, left_by};
-ghost use Rattle.rs_exec.specs.Nodes.{asked_in, number_in, tree_in};
-ghost use Rattle.rs_exec.specs.Standing.{HeadStands, Stands};
+ghost use Rattle.rs_exec.specs.Nodes.{number_in};
+ghost use Rattle.rs_exec.specs.Standing.{Stands};
 
-use crate::block::block_of;
+use crate::context::QueryContext;
 use crate::fault::ExecFault;
 use crate::node::Node;
-use crate::score::{CallArgs, ask_term};
+use crate::score::ask_term;
 use crate::tally::Tally;
-use rs_catalog::Catalog;
 use rs_expr::Scorer;
+use rs_filter::KeptList;
 use rs_mu::MuCore;
 use rs_plan::Counts;
-use rs_query::Query;
 use rs_rank::{Ask, RankRow, Weights};
 use std::alloc::Global;
 
@@ -37,7 +35,8 @@ pub(crate) struct RankNode {
     pub(crate) core: MuCore,
     /// The number of its term.
     pub(crate) term: u8,
-    pub(crate) args: CallArgs,
+    /// The arguments of its last call.
+    pub(crate) args: KeptList,
     pub(crate) tally: Tally,
     /// How many calls it made.
     pub(crate) calls: u128,
@@ -59,7 +58,7 @@ impl RankNode {
         RankNode {
             core: MuCore::new(alloc, weights, terms, term),
             term,
-            args: CallArgs::new(alloc),
+            args: KeptList::new(alloc),
             tally: Tally::new(),
             calls: 0,
         }
@@ -69,19 +68,18 @@ impl RankNode {
     fn feed<S: Scorer>(
         &mut self,
         row: RankRow,
-        catalog: &Catalog,
-        query: &Query,
+        context: &QueryContext<'_>,
         scorer: &mut S,
     ) -> Result<(), ExecFault>
-        requires can { CanTake catalog.now (S.state scorer.old).answer query.now row self.old }
-        ensures { (term : BoundTerm) → slice_get (block_in query.now row.ids.block).terms (self.old.term - 1) ≡ Some term
+        requires can { CanTake context.now.catalog.now (S.state scorer.old).answer context.now.query.now row self.old }
+        ensures { (term : BoundTerm) → slice_get (block_in context.now.query.now row.ids.block).terms (self.old.term - 1) ≡ Some term
             → Inquires ExecFault.Memory
-            (feeding (S.state scorer.old).answer catalog.now query.now row term self.old)
+            (feeding (S.state scorer.old).answer context.now.catalog.now context.now.query.now row term self.old)
             (left_by result self.new) (S.state scorer.old) (S.state scorer.new) }
     {
-        let block = block_of(query, row.ids.block);
+        let block = context.block(row.ids.block);
         let worth = ask_term(
-            catalog,
+            context.catalog,
             block,
             self.term,
             &row.ids,
@@ -145,23 +143,18 @@ impl RankNode {
 pub(crate) fn next_ranked<S: Scorer>(
     head: &mut RankNode,
     child: &mut Node,
-    alloc: Global,
-    catalog: &Catalog,
-    query: &Query,
+    context: &QueryContext<'_>,
     scorer: &mut S,
 ) -> Result<Option<RankRow>, ExecFault>
-    requires can { CanAsk catalog.now (S.state scorer.old).answer query.now (number_in child.old) (Rank head.old.term (tree_in child.old)) head.old.tally.asked }
-    requires head { HeadStands (world_of catalog.now (S.state scorer.old).answer query.now) (number_in child.old) head.old (tree_in child.old) (asked_in child.old) }
-    requires child { Stands (world_of catalog.now (S.state scorer.old).answer query.now) (number_in child.old) child.old }
-    ensures { Asked (world_of catalog.now (S.state scorer.old).answer query.now) (number_in child.old) (Rank head.old.term (tree_in child.old)) head.old.tally.asked
-        (RankAfter (world_of catalog.now (S.state scorer.old).answer query.now) (number_in child.old) (Rank head.old.term (tree_in child.old))
-        head.old.tally.asked head.new child.new)
-        result (S.state scorer.old) (S.state scorer.new) }
+    requires can { CanAskRank (world_in context.now (S.state scorer.old)) head.old child.old }
+    requires head { RankStands (world_in context.now (S.state scorer.old)) head.old child.old }
+    requires child { Stands (world_in context.now (S.state scorer.old)) (number_in child.old) child.old }
+    ensures { RankAsked (world_in context.now (S.state scorer.old)) head.old child.old head.new child.new result (S.state scorer.old) (S.state scorer.new) }
 {
     head.tally.ask();
     while head.needs() {
-        match child.next(alloc, catalog, query, scorer)? {
-            Some(row) => head.feed(row, catalog, query, scorer)?,
+        match child.next(context, scorer)? {
+            Some(row) => head.feed(row, context, scorer)?,
             None => head.end(),
         }
     }

@@ -1,16 +1,14 @@
 //! Scans as nodes: they draw until a row satisfies the conjuncts that speak of its entry alone.
 
-ghost use Rattle.std.specs.Prelude.{◌≡◌, ◌≤◌, ◌<◌, IfOk, length};
-ghost use Rattle.rs_scan.specs.Scans.{IsOfAllRows, new_index_scan, new_table_scan, rows_of_index, rows_of_table};
+ghost use Rattle.std.specs.Prelude.{◌≡◌, ◌<◌, IfOk, length};
+ghost use Rattle.rs_scan.specs.Scans.{IsOfAllRows, rows_of_index, rows_of_table};
 ghost use Rattle.rs_exec.specs.Drawing.{IsSmall, ScansEntry, drawn_then, next_drawn, passes, tally_with};
 
-use crate::block::block_of;
+use crate::context::QueryContext;
 use crate::tally::Tally;
-use rs_catalog::Catalog;
-use rs_filter::passes;
+use rs_filter::{KeptList, passes};
 use rs_plan::Counts;
-use rs_query::Query;
-use rs_rank::{RankRow, mask_of};
+use rs_rank::RankRow;
 use rs_scan::{RankScan, SeqScan};
 use rs_value::Memory;
 use std::alloc::Global;
@@ -22,51 +20,62 @@ pub(crate) struct TableNode {
     /// The number of its block, and that of its entry in there.
     pub(crate) block: u8,
     pub(crate) entry: u8,
+    /// The mask of the conjuncts that speak of the entry alone, and the last cells that they looked at.
+    pub(crate) conjuncts: u32,
+    pub(crate) cells: KeptList,
     pub(crate) tally: Tally,
 }
 
 impl TableNode {
-    /// A scan of an entry, from 1 to 6, whose view is the first rows of the table, so many. Nothing is drawn.
-    pub(crate) fn new(block: u8, entry: u8, rows: u32) -> TableNode
-        requires least { 1 ≤ entry }
-        requires most { entry ≤ 6 }
+    /// A node over a scan of an entry, of a block of this number, with the mask of the conjuncts that speak of the entry alone.
+    pub(crate) fn new(
+        alloc: Global,
+        scan: SeqScan,
+        block: u8,
+        entry: u8,
+        conjuncts: u32,
+    ) -> TableNode
         ensures { result ≡ record {
-          scan = new_table_scan entry block rows;
+          scan = scan;
           block = block;
           entry = entry;
+          conjuncts = conjuncts;
+          cells = tt;
           tally = record { asked = 0; gave = 0 };
         } }
     {
         TableNode {
-            scan: SeqScan::new(entry, block, rows),
+            scan,
             block,
             entry,
+            conjuncts,
+            cells: KeptList::new(alloc),
             tally: Tally::new(),
         }
     }
 
     /// The next row that satisfies the conjuncts of its entry.
-    pub(crate) fn next(
-        &mut self,
-        alloc: Global,
-        catalog: &Catalog,
-        query: &Query,
-    ) -> Result<Option<RankRow>, Memory>
-        requires entry { ScansEntry catalog.now query.now self.old.block self.old.entry self.old.scan.rows }
+    pub(crate) fn next(&mut self, context: &QueryContext<'_>) -> Result<Option<RankRow>, Memory>
+        requires entry { ScansEntry context.now.catalog.now context.now.query.now self.old.block self.old.entry self.old.scan.rows self.old.conjuncts }
         requires same_entry { self.old.scan.entry ≡ self.old.entry }
         requires same_block { self.old.scan.block ≡ self.old.block }
         requires small { IsSmall self.old.tally }
-        ensures row { IfOk result (λ row. row ≡ next_drawn (passes catalog.now query.now) (rows_of_table self.old.scan) self.old.scan.drawn) }
+        ensures row { IfOk result (λ row. row ≡ next_drawn (passes context.now.catalog.now context.now.query.now) (rows_of_table self.old.scan) self.old.scan.drawn) }
         ensures after { IfOk result (λ row. self.new ≡ record self.old {
-          scan = record self.old.scan { drawn = drawn_then (passes catalog.now query.now) (rows_of_table self.old.scan) self.old.scan.drawn };
+          scan = record self.old.scan { drawn = drawn_then (passes context.now.catalog.now context.now.query.now) (rows_of_table self.old.scan) self.old.scan.drawn };
           tally = tally_with row self.old.tally;
         }) }
     {
-        let block = block_of(query, self.block);
-        let conjuncts = block.within(mask_of(self.entry));
+        let block = context.block(self.block);
         self.tally.ask();
         while let Some(row) = self.scan.next() {
-            if passes(alloc, catalog, block, conjuncts, &row)? {
+            if passes(
+                context.catalog,
+                block,
+                self.conjuncts,
+                &row,
+                self.cells.list(),
+            )? {
                 self.tally.give();
                 return Ok(Some(row));
             }
@@ -95,63 +104,68 @@ pub(crate) struct IndexNode {
     pub(crate) block: u8,
     pub(crate) entry: u8,
     pub(crate) term: u8,
+    /// The mask of the conjuncts that speak of the entry alone, and the last cells that they looked at.
+    pub(crate) conjuncts: u32,
+    pub(crate) cells: KeptList,
     pub(crate) tally: Tally,
 }
 
 impl IndexNode {
-    /// A scan of an entry, from 1 to 6, by an index for a term of this weight. Its view is the first rows of the table, so
-    /// many. Nothing is drawn.
+    /// A node over a scan of an entry by an index for a term, of a block of this number, with the mask of the conjuncts that speak of
+    /// the entry alone.
     pub(crate) fn new(
+        alloc: Global,
+        scan: RankScan,
         block: u8,
         entry: u8,
         term: u8,
-        index: u8,
-        weight: u32,
-        rows: u32,
+        conjuncts: u32,
     ) -> IndexNode
-        requires least { 1 ≤ entry }
-        requires most { entry ≤ 6 }
         ensures { result ≡ record {
-          scan = new_index_scan index entry block weight rows;
+          scan = scan;
           block = block;
           entry = entry;
           term = term;
+          conjuncts = conjuncts;
+          cells = tt;
           tally = record { asked = 0; gave = 0 };
         } }
     {
         IndexNode {
-            scan: RankScan::new(index, entry, block, weight, rows),
+            scan,
             block,
             entry,
             term,
+            conjuncts,
+            cells: KeptList::new(alloc),
             tally: Tally::new(),
         }
     }
 
     /// The next row that satisfies the conjuncts of its entry.
-    pub(crate) fn next(
-        &mut self,
-        alloc: Global,
-        catalog: &Catalog,
-        query: &Query,
-    ) -> Result<Option<RankRow>, Memory>
-        requires entry { ScansEntry catalog.now query.now self.old.block self.old.entry self.old.scan.rows }
+    pub(crate) fn next(&mut self, context: &QueryContext<'_>) -> Result<Option<RankRow>, Memory>
+        requires entry { ScansEntry context.now.catalog.now context.now.query.now self.old.block self.old.entry self.old.scan.rows self.old.conjuncts }
         requires same_entry { self.old.scan.entry ≡ self.old.entry }
         requires same_block { self.old.scan.block ≡ self.old.block }
-        requires index { self.old.scan.index < length catalog.now.indexes }
-        requires view { IsOfAllRows catalog.now self.old.scan }
+        requires index { self.old.scan.index < length context.now.catalog.now.indexes }
+        requires view { IsOfAllRows context.now.catalog.now self.old.scan }
         requires small { IsSmall self.old.tally }
-        ensures row { IfOk result (λ row. row ≡ next_drawn (passes catalog.now query.now) (rows_of_index catalog.now self.old.scan) self.old.scan.drawn) }
+        ensures row { IfOk result (λ row. row ≡ next_drawn (passes context.now.catalog.now context.now.query.now) (rows_of_index context.now.catalog.now self.old.scan) self.old.scan.drawn) }
         ensures after { IfOk result (λ row. self.new ≡ record self.old {
-          scan = record self.old.scan { drawn = drawn_then (passes catalog.now query.now) (rows_of_index catalog.now self.old.scan) self.old.scan.drawn };
+          scan = record self.old.scan { drawn = drawn_then (passes context.now.catalog.now context.now.query.now) (rows_of_index context.now.catalog.now self.old.scan) self.old.scan.drawn };
           tally = tally_with row self.old.tally;
         }) }
     {
-        let block = block_of(query, self.block);
-        let conjuncts = block.within(mask_of(self.entry));
+        let block = context.block(self.block);
         self.tally.ask();
-        while let Some(row) = self.scan.next(catalog) {
-            if passes(alloc, catalog, block, conjuncts, &row)? {
+        while let Some(row) = self.scan.next(context.catalog) {
+            if passes(
+                context.catalog,
+                block,
+                self.conjuncts,
+                &row,
+                self.cells.list(),
+            )? {
                 self.tally.give();
                 return Ok(Some(row));
             }

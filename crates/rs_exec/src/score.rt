@@ -15,37 +15,6 @@ use rs_expr::{Scorer, ScorerFault, score_within};
 use rs_query::{Block, Term};
 use rs_rank::Ids;
 use rs_value::Value;
-use std::alloc::Global;
-use std::marker::Model;
-
-/// The list for the arguments of a call. It is kept from call to call, so that a call takes no memory once the list has grown.
-/// Clauses don't see what is in it: each call makes that anew.
-#[derive(Drop)]
-pub(crate) struct CallArgs {
-    values: Vec<Value>,
-}
-
-impl Model for CallArgs {
-    ghost use Rattle.std.specs.Prelude.{⊤};
-
-    ghost Value = { ⊤ };
-
-    ghost view = { λ _. tt };
-}
-
-impl CallArgs {
-    /// An empty list, without memory.
-    pub(crate) fn new(alloc: Global) -> CallArgs {
-        CallArgs {
-            values: Vec::new(alloc),
-        }
-    }
-
-    /// The list, to be filled.
-    pub(crate) fn list(&mut self) -> &mut Vec<Value> {
-        &mut self.values
-    }
-}
 
 /// What a term, counted from 1, is worth on a row that has all entries of the term. The scorer is called once, with its arguments
 /// in a list that is kept from call to call.

@@ -1,27 +1,22 @@
 //! The set operators as a node. Its two sides are plans of the two blocks of the query.
 
 ghost use Rattle.std.specs.Prelude.{◌≡◌, ◌<◌, ◌+◌, ◌-◌, ◌^◌, OnOk, is_some, if◌then◌else◌, false};
-ghost use Rattle.rs_plan.specs.Trees.{SetOperator};
 ghost use Rattle.rs_rank.specs.Rows.{HasSum};
 ghost use Rattle.rs_rank.specs.Weights.{IsWeights};
 ghost use Rattle.rs_rank.specs.declared.ask.JoinAsk.TheVariants.{NeedLeft, NeedRight};
-ghost use Rattle.rs_exec.specs.Asked.{Asked, CanAsk, SetAfter};
-ghost use Rattle.rs_exec.specs.Asking.{world_of};
-ghost use Rattle.rs_exec.specs.Nodes.{asked_in, tree_in};
+ghost use Rattle.rs_exec.specs.Asked.{CanAskSet, SetAsked, SetNodeStands};
+ghost use Rattle.rs_exec.specs.Asking.{world_in};
 ghost use Rattle.rs_exec.specs.Outputs.{CanPutOut, values_for};
 ghost use Rattle.rs_exec.specs.SetCores.{core_ask, is_spent, left_ended, left_fed, left_in, new_core, right_ended, right_fed, taken_from, terms_of_core, weights_of_core};
-ghost use Rattle.rs_exec.specs.SetNodes.{SetStands};
 ghost use Rattle.rs_exec.specs.Standing.{Stands};
 
+use crate::context::QueryContext;
 use crate::fault::ExecFault;
 use crate::node::Node;
-use crate::output::outputs;
 use crate::set_core::SetCore;
 use crate::tally::Tally;
-use rs_catalog::Catalog;
 use rs_expr::Scorer;
 use rs_plan::Counts;
-use rs_query::Query;
 use rs_rank::{JoinAsk, RankRow, Weights};
 use rs_value::{Memory, SetOp};
 use std::alloc::Global;
@@ -54,38 +49,26 @@ impl SetNode {
     }
 
     /// Takes the left side's next row.
-    fn feed_left(
-        &mut self,
-        row: RankRow,
-        alloc: Global,
-        catalog: &Catalog,
-        query: &Query,
-    ) -> Result<(), Memory>
+    fn feed_left(&mut self, row: RankRow, context: &QueryContext<'_>) -> Result<(), Memory>
         requires alive { is_spent self.old.core ≡ false }
         requires need { core_ask self.old.core ≡ NeedLeft }
-        requires row { CanPutOut catalog.now query.now row }
+        requires row { CanPutOut context.now.catalog.now context.now.query.now row }
         requires sum { HasSum (weights_of_core self.old.core) (terms_of_core self.old.core) row }
-        ensures { OnOk result (self.new ≡ record self.old { core = left_fed row (values_for catalog.now query.now row) self.old.core }) }
+        ensures { OnOk result (self.new ≡ record self.old { core = left_fed row (values_for context.now.catalog.now context.now.query.now row) self.old.core }) }
     {
-        let values = outputs(alloc, catalog, query, &row)?;
+        let values = context.outputs(&row)?;
         self.core.feed_left(row, values)
     }
 
     /// Takes the right side's next row.
-    fn feed_right(
-        &mut self,
-        row: RankRow,
-        alloc: Global,
-        catalog: &Catalog,
-        query: &Query,
-    ) -> Result<(), Memory>
+    fn feed_right(&mut self, row: RankRow, context: &QueryContext<'_>) -> Result<(), Memory>
         requires alive { is_spent self.old.core ≡ false }
         requires need { core_ask self.old.core ≡ NeedRight }
-        requires row { CanPutOut catalog.now query.now row }
+        requires row { CanPutOut context.now.catalog.now context.now.query.now row }
         requires sum { HasSum (weights_of_core self.old.core) (terms_of_core self.old.core) row }
-        ensures { OnOk result (self.new ≡ record self.old { core = right_fed row (values_for catalog.now query.now row) self.old.core }) }
+        ensures { OnOk result (self.new ≡ record self.old { core = right_fed row (values_for context.now.catalog.now context.now.query.now row) self.old.core }) }
     {
-        let values = outputs(alloc, catalog, query, &row)?;
+        let values = context.outputs(&row)?;
         self.core.feed_right(row, values)
     }
 
@@ -143,29 +126,24 @@ pub(crate) fn next_combined<S: Scorer>(
     head: &mut SetNode,
     left: &mut Node,
     right: &mut Node,
-    alloc: Global,
-    catalog: &Catalog,
-    query: &Query,
+    context: &QueryContext<'_>,
     scorer: &mut S,
 ) -> Result<Option<RankRow>, ExecFault>
-    requires can { CanAsk catalog.now (S.state scorer.old).answer query.now 1 (SetOperator (tree_in left.old) (tree_in right.old)) head.old.tally.asked }
-    requires head { SetStands (world_of catalog.now (S.state scorer.old).answer query.now) head.old (tree_in left.old) (tree_in right.old) (asked_in left.old) (asked_in right.old) }
-    requires left { Stands (world_of catalog.now (S.state scorer.old).answer query.now) 1 left.old }
-    requires right { Stands (world_of catalog.now (S.state scorer.old).answer query.now) 2 right.old }
-    ensures { Asked (world_of catalog.now (S.state scorer.old).answer query.now) 1 (SetOperator (tree_in left.old) (tree_in right.old)) head.old.tally.asked
-        (SetAfter (world_of catalog.now (S.state scorer.old).answer query.now) (SetOperator (tree_in left.old) (tree_in right.old))
-        head.old.tally.asked head.new left.new right.new)
-        result (S.state scorer.old) (S.state scorer.new) }
+    requires can { CanAskSet (world_in context.now (S.state scorer.old)) head.old left.old right.old }
+    requires head { SetNodeStands (world_in context.now (S.state scorer.old)) head.old left.old right.old }
+    requires left { Stands (world_in context.now (S.state scorer.old)) 1 left.old }
+    requires right { Stands (world_in context.now (S.state scorer.old)) 2 right.old }
+    ensures { SetAsked (world_in context.now (S.state scorer.old)) head.old left.old right.old head.new left.new right.new result (S.state scorer.old) (S.state scorer.new) }
 {
     head.tally.ask();
     loop {
         match head.ask() {
-            JoinAsk::NeedLeft => match left.next(alloc, catalog, query, scorer)? {
-                Some(row) => head.feed_left(row, alloc, catalog, query)?,
+            JoinAsk::NeedLeft => match left.next(context, scorer)? {
+                Some(row) => head.feed_left(row, context)?,
                 None => head.end_left(),
             },
-            JoinAsk::NeedRight => match right.next(alloc, catalog, query, scorer)? {
-                Some(row) => head.feed_right(row, alloc, catalog, query)?,
+            JoinAsk::NeedRight => match right.next(context, scorer)? {
+                Some(row) => head.feed_right(row, context)?,
                 None => head.end_right(),
             },
             JoinAsk::Ready => return Ok(head.give()),

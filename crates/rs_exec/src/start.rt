@@ -17,9 +17,12 @@ use crate::rank::RankNode;
 use crate::scan::{IndexNode, TableNode};
 use crate::set::SetNode;
 use rs_catalog::Catalog;
+use rs_filter::JoinConditions;
 use rs_plan::Plan;
 use rs_query::{Block, Query};
+use rs_rank::mask_of;
 use rs_ripple::Side;
+use rs_scan::{RankScan, SeqScan};
 use rs_value::{Memory, SetOp};
 use std::alloc::Global;
 
@@ -99,12 +102,17 @@ impl Node {
         match plan {
             Plan::SeqScan { entry } => {
                 let rows = size_of(catalog, block, *entry);
-                Ok(Node::SeqScan(TableNode::new(number, *entry, rows)))
+                let conjuncts = block.within(mask_of(*entry));
+                let scan = SeqScan::new(*entry, number, rows);
+                let head = TableNode::new(alloc, scan, number, *entry, conjuncts);
+                Ok(Node::SeqScan(head))
             }
             Plan::RankScan { entry, term, index } => {
                 let weight = block.weights().weight[*term as usize - 1];
                 let rows = size_of(catalog, block, *entry);
-                let head = IndexNode::new(number, *entry, *term, *index, weight, rows);
+                let conjuncts = block.within(mask_of(*entry));
+                let scan = RankScan::new(*index, *entry, number, weight, rows);
+                let head = IndexNode::new(alloc, scan, number, *entry, *term, conjuncts);
                 Ok(Node::RankScan(head))
             }
             Plan::Rank { term, child } => {
@@ -116,18 +124,36 @@ impl Node {
                 let weights = block.weights();
                 let left_side = side_of(left);
                 let right_side = side_of(right);
+                let conditions = JoinConditions::new(
+                    alloc,
+                    catalog,
+                    block,
+                    left_side.mask,
+                    right_side.mask,
+                )?;
                 let on_left = boxed(alloc, Node::start(alloc, catalog, block, number, left)?)?;
                 let on_right = boxed(alloc, Node::start(alloc, catalog, block, number, right)?)?;
-                let head = JoinNode::hash(alloc, weights, number, left_side, right_side);
+                let head = JoinNode::hash(
+                    alloc, weights, number, left_side, right_side, conditions,
+                );
                 Ok(join_over(head, on_left, on_right))
             }
             Plan::NestedJoin { left, right } => {
                 let weights = block.weights();
                 let left_side = side_of(left);
                 let right_side = side_of(right);
+                let conditions = JoinConditions::new(
+                    alloc,
+                    catalog,
+                    block,
+                    left_side.mask,
+                    right_side.mask,
+                )?;
                 let on_left = boxed(alloc, Node::start(alloc, catalog, block, number, left)?)?;
                 let on_right = boxed(alloc, Node::start(alloc, catalog, block, number, right)?)?;
-                let head = JoinNode::nested(alloc, weights, number, left_side, right_side);
+                let head = JoinNode::nested(
+                    alloc, weights, number, left_side, right_side, conditions,
+                );
                 Ok(join_over(head, on_left, on_right))
             }
             Plan::Distinct { child } => {

@@ -1,10 +1,10 @@
 -- The columns that a conjunct equates across two sides, and the join values of the first conjuncts.
-use Rattle.std.proofs.Common.{◌≡◌, ◌∙◌, ℕ, ◌+◌, ◌++◌, ◌&&◌, ◌⊎◌, inl, inr, Bool, true, false, cond, List, [], ◌∷◌, map, take, Option, Some, None, sym, ap, subst, append-nil, refl}
-use Rattle.std.specs.List.{flat_map}
+use Rattle.std.proofs.Common.{◌≡◌, ◌∙◌, ℕ, ◌+◌, ◌<◌, ◌++◌, ◌&&◌, ◌⊎◌, inl, inr, Bool, true, false, cond, List, [], ◌∷◌, map, take, get_or, length, Option, Some, None, sym, ap, subst, refl, ap₂}
+use Rattle.std.specs.List.{AllByRecursion, flat_map}
 use Rattle.std.specs.Prelude.{slice_get}
 use Rattle.std.proofs.lemmas.Bool.{true≢false}
-use Rattle.std.proofs.lemmas.Grind.{flat_map-append}
-use Rattle.rs_order.proofs.EachFacts.{each-slice_get}
+use Rattle.std.proofs.lemmas.List.{map-append, take_more}
+use Rattle.rs_order.proofs.EachFacts.{each-append, each-behind, each-front, each-push, each-slice_get}
 use Rattle.rs_rank.specs.Masks.{has_number}
 use Rattle.rs_value.specs.Value.{fits}
 use Rattle.rs_value.specs.declared.kind.Kind.{Kind}
@@ -20,12 +20,13 @@ use Rattle.rs_catalog.specs.Catalogue.{Catalogue}
 use Rattle.rs_query.specs.declared.block.Block.{Block}
 use Rattle.rs_query.specs.Conjuncts.{ConjunctDef}
 use Rattle.rs_query.specs.Meaning.{column_value}
-use Rattle.rs_query.specs.WellFormed.{IsColumn, IsConjunct, column_kind, equated, has_kind}
+use Rattle.rs_query.specs.WellFormed.{IsBlock, IsColumn, IsConjunct, column_kind, equated, has_kind}
 use Rattle.rs_query.proofs.CellFacts.{kind-at}
 use Rattle.rs_query.proofs.EquatedFacts.{conjunct-equated}
-use Rattle.rs_query.proofs.ListFacts.{take-slice_get}
+use Rattle.rs_filter.specs.Conditions.{AreConditions, equated_columns}
 use Rattle.rs_filter.specs.JoinValues.{compared, equated_across, in_sides}
 use Rattle.rs_filter.specs.Matching.{is_across}
+use Rattle.rs_filter.specs.declared.conditions.JoinConditions.{JoinConditions}
 use Rattle.rs_filter.proofs.SideFacts.{and-first, and-second}
 
 -- the join values of one conjunct, of the columns of one side
@@ -33,12 +34,15 @@ abbrev pub values_of : Catalogue → Block → ℕ → ℕ → List ℕ → ((�
 values_of catalogue block left right rows own c =
     map (λ (pair : (ℕ × ℕ) × (ℕ × ℕ)). compared c.condition (column_value catalogue block rows (own pair))) (equated_across left right c)
 
--- those of one conjunct more
-pub values-more : {A B : Type 0} (f : A → List B) (xs : List A) (i : ℕ) (x : A) (made piece after : List B) → slice_get xs i ≡ Some x
-    → made ≡ flat_map f (take i xs) → piece ≡ f x → after ≡ made ++ piece → after ≡ flat_map f (take (i + 1) xs)
-values-more f xs i x made piece after there made_is piece_is after_is =
-    after_is ∙ ap (λ m. m ++ piece) made_is ∙ ap (λ p. flat_map f (take i xs) ++ p) (piece_is ∙ sym (append-nil (f x)))
-    ∙ sym (ap (flat_map f) (take-slice_get xs i x there) ∙ flat_map-append f (take i xs) (x ∷ []))
+-- what is read of one item more
+pub read-more : {X Y : Type 0} (f : X → Y) (xs : List X) (i : ℕ) (default : X) (made after : List Y) (v : Y) → i < length xs → made ≡ map f (take i xs) → v ≡ f (get_or xs i default)
+    → after ≡ made ++ v ∷ [] → after ≡ map f (take (i + 1) xs)
+read-more f xs i default made after v within so_far here is =
+    is ∙ ap₂ (λ m x. m ++ x ∷ []) so_far here ∙ sym (ap (map f) (take_more xs i default within) ∙ map-append f (take i xs) (get_or xs i default ∷ []))
+
+-- and what holds of one item more
+pub each-more : {X : Type 0} (P : X → Type 0) (xs : List X) (i : ℕ) (default : X) → i < length xs → AllByRecursion P (take i xs) → P (get_or xs i default) → AllByRecursion P (take (i + 1) xs)
+each-more P xs i default within so_far here = subst (AllByRecursion P) (sym (take_more xs i default within)) (each-push P (take i xs) (get_or xs i default) so_far here)
 
 -- two columns, where each side has one of them
 pub record AreInSides (left right : ℕ) (o : Option ((ℕ × ℕ) × (ℕ × ℕ))) (pair : (ℕ × ℕ) × (ℕ × ℕ)) : Type 0 where
@@ -137,3 +141,75 @@ module _ (catalogue : Catalogue) (block : Block) where
     go : (b : Bool) → cond b (in_sides left right c.equality) [] ≡ pair ∷ [] → AreAcross left right c pair
     go true f = sides f
     go false f = absurd (cc)
+
+  -- no pair of columns, or one
+  equated-form : (left right : ℕ) (c : ConjunctDef) → (equated_across left right c ≡ []) ⊎ ((pair : (ℕ × ℕ) × (ℕ × ℕ)) × (equated_across left right c ≡ pair ∷ []))
+  equated-form left right c = go (is_across left right c) where
+    pick : (u v : Bool) (p : (ℕ × ℕ) × (ℕ × ℕ)) → (cond u (p ∷ []) (cond v ((p.1, p.0) ∷ []) []) ≡ []) ⊎ ((pair : (ℕ × ℕ) × (ℕ × ℕ)) × (cond u (p ∷ []) (cond v ((p.1, p.0) ∷ []) []) ≡ pair ∷ []))
+    pick true v p = inr (p, refl)
+    pick false true p = inr ((p.1, p.0), refl)
+    pick false false p = inl refl
+
+    sides : (o : Option ((ℕ × ℕ) × (ℕ × ℕ))) → (in_sides left right o ≡ []) ⊎ ((pair : (ℕ × ℕ) × (ℕ × ℕ)) × (in_sides left right o ≡ pair ∷ []))
+    sides None = inl refl
+    sides (Some p) = pick (has_number left p.0.0 && has_number right p.1.0) (has_number right p.0.0 && has_number left p.1.0) p
+
+    go : (b : Bool) → (cond b (in_sides left right c.equality) [] ≡ []) ⊎ ((pair : (ℕ × ℕ) × (ℕ × ℕ)) × (cond b (in_sides left right c.equality) [] ≡ pair ∷ []))
+    go true = sides c.equality
+    go false = inl refl
+
+  -- each pair of columns that conjuncts equate across the sides has a column of each
+  pub record AreColumns (left right : ℕ) (pair : (ℕ × ℕ) × (ℕ × ℕ)) : Type 0 where
+    pub on_left : has_number left pair.0.0 ≡ true
+    pub on_right : has_number right pair.1.0 ≡ true
+    pub left_column : IsColumn catalogue block pair.0
+    pub right_column : IsColumn catalogue block pair.1
+
+  pub each-equated : (left right : ℕ) (conjuncts : List ConjunctDef) → AllByRecursion (IsConjunct catalogue block) conjuncts → AllByRecursion (AreColumns left right) (equated_columns left right conjuncts)
+  each-equated left right [] each = tt
+  each-equated left right (c ∷ rest) each =
+      each-append (AreColumns left right) (equated_across left right c) (equated_columns left right rest)
+      (elim (equated-form left right c) [
+        | inl none ↦ subst (AllByRecursion (AreColumns left right)) (sym none) tt
+        | inr one ↦
+            let across = across-columns left right c each.0 one.0 one.1 in
+            subst (AllByRecursion (AreColumns left right)) (sym one.1)
+            (record { on_left = across.on_left; on_right = across.on_right; left_column = across.left_column.is_column; right_column = across.right_column.is_column }, tt)
+      ])
+      (each-equated left right rest each.1)
+
+  -- the cells of these columns are the join values, since each has the kind of its column
+  module _ (left right : ℕ) (rows : List ℕ) (own : (ℕ × ℕ) × (ℕ × ℕ) → ℕ × ℕ)
+      (self : (c : ConjunctDef) → IsConjunct catalogue block c → (pair : (ℕ × ℕ) × (ℕ × ℕ)) → equated_across left right c ≡ pair ∷ [] → (v : Value) → HasKindOf (own pair) v → compared c.condition v ≡ v) where
+    abbrev read : (ℕ × ℕ) × (ℕ × ℕ) → Value
+    read pair = column_value catalogue block rows (own pair)
+
+    pub values-read : (conjuncts : List ConjunctDef) → AllByRecursion (IsConjunct catalogue block) conjuncts
+        → AllByRecursion (λ (pair : (ℕ × ℕ) × (ℕ × ℕ)). HasKindOf (own pair) (column_value catalogue block rows (own pair))) (equated_columns left right conjuncts)
+        → map (λ (pair : (ℕ × ℕ) × (ℕ × ℕ)). column_value catalogue block rows (own pair)) (equated_columns left right conjuncts)
+        ≡ flat_map (values_of catalogue block left right rows own) conjuncts
+    values-read [] each kinds = refl
+    values-read (c ∷ rest) each kinds =
+        map-append read (equated_across left right c) (equated_columns left right rest)
+        ∙ ap₂ (λ (xs ys : List Value). xs ++ ys) one
+        (values-read rest each.1 (each-behind (λ (pair : (ℕ × ℕ) × (ℕ × ℕ)). HasKindOf (own pair) (read pair)) (equated_across left right c) (equated_columns left right rest) kinds))
+      where
+        front : AllByRecursion (λ (pair : (ℕ × ℕ) × (ℕ × ℕ)). HasKindOf (own pair) (read pair)) (equated_across left right c)
+        front = each-front (λ (pair : (ℕ × ℕ) × (ℕ × ℕ)). HasKindOf (own pair) (read pair)) (equated_across left right c) (equated_columns left right rest) kinds
+
+        one : map read (equated_across left right c) ≡ values_of catalogue block left right rows own c
+        one = elim (equated-form left right c) [
+          | inl none ↦ ap (map read) none ∙ sym (ap (map (λ (pair : (ℕ × ℕ) × (ℕ × ℕ)). compared c.condition (read pair))) none)
+          | inr pair ↦
+              let kind = subst (AllByRecursion (λ (p : (ℕ × ℕ) × (ℕ × ℕ)). HasKindOf (own p) (read p))) pair.1 front in
+              ap (map read) pair.1
+              ∙ ap (λ (v : Value). v ∷ []) (sym (self c each.0 pair.0 pair.1 (read pair.0) kind.0))
+              ∙ sym (ap (map (λ (p : (ℕ × ℕ) × (ℕ × ℕ)). compared c.condition (read p))) pair.1)
+        ]
+
+  -- so do those that a join looks at
+  pub conditions-columns : (conditions : JoinConditions) → IsBlock catalogue block → AreConditions catalogue block conditions
+      → AllByRecursion (AreColumns conditions.left conditions.right) conditions.columns
+  conditions-columns conditions is are =
+      subst (AllByRecursion (AreColumns conditions.left conditions.right)) (sym (ap (λ (k : JoinConditions). k.columns) are))
+      (each-equated conditions.left conditions.right block.conjuncts is.conjuncts)

@@ -1,3 +1,4 @@
+pub mod Conditions
 pub mod Distinct
 pub mod JoinValues
 pub mod Matching

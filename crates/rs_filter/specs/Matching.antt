@@ -1,5 +1,5 @@
 -- Which rows of two sides of a join match.
-use Rattle.std.specs.Prelude.{ℕ, ◌≡◌, ◌≤◌, ◌-◌, ◌/◌, ◌%◌, ◌==◌, ◌&&◌, Bool, true, false, not, nat_le, List, [], ◌∷◌, bit_or, if◌then◌else◌}
+use Rattle.std.specs.Prelude.{ℕ, ◌≤◌, ◌-◌, ◌/◌, ◌%◌, ◌==◌, ◌&&◌, Bool, true, false, not, nat_le, List, [], ◌∷◌, bit_or, if◌then◌else◌}
 use Rattle.std.specs.List.{list_all}
 use Rattle.rs_rank.specs.declared.row.RankRow.{RankRow}
 use Rattle.rs_rank.specs.Ids.{merge_rows}
@@ -57,11 +57,6 @@ new_matching catalogue block left right = record { catalogue = catalogue; block 
 -- the mask of the conjuncts that speak of both sides: those of both together, without those of one side
 abbrev pub conjuncts_across : ℕ → ℕ → List ConjunctDef → ℕ
 conjuncts_across left right conjuncts = conjuncts_within (bit_or left right) conjuncts - bit_or (conjuncts_within left conjuncts) (conjuncts_within right conjuncts)
-
--- what rows are checked against: the sizes and the conjuncts that are kept are those of the block
-pub record AreChecks (catalogue : Catalogue) (block : Block) (left right : ℕ) (sizes : List ℕ) (conjuncts : ℕ) : Type 0 where
-  pub sizes_are : sizes ≡ sizes_of catalogue block
-  pub conjuncts_are : conjuncts ≡ conjuncts_across left right block.conjuncts
 
 -- a view gives each entry a number of rows, at most those of its table
 abbrev pub IsView : List ℕ → List ℕ → Type 0

@@ -10,20 +10,20 @@ use rs_value::{Memory, Value};
 use std::alloc::Global;
 
 /// Whether every conjunct in a mask holds of a row. The first conjunct has the lowest bit, and the row has all entries of which
-/// these conjuncts speak.
+/// these conjuncts speak. What they look at is put into a list, which is to be kept from call to call for its memory.
 pub fn passes(
-    alloc: Global,
     catalog: &Catalog,
     block: &Block,
     conjuncts: u32,
     row: &RankRow,
+    cells: &mut Vec<Value>,
 ) -> Result<bool, Memory>
     requires block { IsBlock catalog.now block.now }
     requires inside { AreInside conjuncts row.now.ids.mask block.now.conjuncts }
     requires rows { HasRows catalog.now block.now row.now.ids.mask row.now.ids.rows }
     ensures { IfOk result (λ passes. passes ≡ all_hold catalog.now block.now conjuncts row.now.ids.rows block.now.conjuncts) }
 {
-    block.holds(alloc, catalog, conjuncts, &row.ids)
+    block.holds_with(catalog, conjuncts, &row.ids, cells)
 }
 
 /// The values of the output columns of a row, which has all entries of these columns.

@@ -9,64 +9,68 @@ ghost use Rattle.rs_rank.specs.Masks.{has_number};
 ghost use Rattle.rs_value.specs.Value.{fits};
 ghost use Rattle.rs_value.specs.declared.kind.Kind.{Kind as ValueKind};
 ghost use Rattle.rs_value.specs.declared.value.Value.TheVariants as value;
+ghost use Rattle.rs_filter.specs.Conditions.{AreConditions};
 ghost use Rattle.rs_filter.specs.JoinValues.{equated_across, in_sides, is_equi, left_values, right_values};
 ghost use Rattle.rs_filter.specs.Matching.{is_across};
 
+use crate::conditions::JoinConditions;
 use rs_catalog::Catalog;
 use rs_query::{Block, Conjunct};
 use rs_rank::{Ids, has_number, union};
 use rs_value::{Memory, Text, Value};
 use std::alloc::Global;
 
-/// The join values of a row of the left side of a join, in the order of the conjuncts. The sides have the entries of these
-/// masks.
+/// The join values of a row of the left side of a join by these conditions, in the order of the conjuncts.
 pub fn left_values(
     alloc: Global,
     catalog: &Catalog,
     block: &Block,
-    left: u8,
-    right: u8,
+    conditions: &JoinConditions,
     ids: &Ids,
 ) -> Result<Vec<Value>, Memory>
     requires block { IsBlock catalog.now block.now }
-    requires rows { HasRows catalog.now block.now left ids.now.rows }
-    ensures { IfOk result (λ values. values.items ≡ left_values catalog.now block.now left right ids.now.rows) }
+    requires conditions { AreConditions catalog.now block.now conditions.now }
+    requires rows { HasRows catalog.now block.now conditions.now.left ids.now.rows }
+    ensures { IfOk result (λ values. values.items ≡ left_values catalog.now block.now conditions.now.left conditions.now.right ids.now.rows) }
 {
-    let mut values = Vec::new(alloc);
-    for conjunct in block.conjuncts.items() {
-        if let Some((column, _)) = equated_across(catalog, block, conjunct, left, right) {
-            push_copy(&mut values, cell(catalog, block, left, column, ids))?;
-        }
+    let columns = conditions.columns.items();
+    let mut values = Vec::with_capacity(alloc, columns.len())?;
+    for pair in columns {
+        push_copy(
+            &mut values,
+            cell(catalog, block, conditions.left, pair.0, ids),
+        )?;
     }
     Ok(values)
 }
 
-/// The join values of a row of the right side of a join, in the order of the conjuncts. The sides have the entries of these
-/// masks.
+/// The join values of a row of the right side of a join by these conditions, in the order of the conjuncts.
 pub fn right_values(
     alloc: Global,
     catalog: &Catalog,
     block: &Block,
-    left: u8,
-    right: u8,
+    conditions: &JoinConditions,
     ids: &Ids,
 ) -> Result<Vec<Value>, Memory>
     requires block { IsBlock catalog.now block.now }
-    requires rows { HasRows catalog.now block.now right ids.now.rows }
-    ensures { IfOk result (λ values. values.items ≡ right_values catalog.now block.now left right ids.now.rows) }
+    requires conditions { AreConditions catalog.now block.now conditions.now }
+    requires rows { HasRows catalog.now block.now conditions.now.right ids.now.rows }
+    ensures { IfOk result (λ values. values.items ≡ right_values catalog.now block.now conditions.now.left conditions.now.right ids.now.rows) }
 {
-    let mut values = Vec::new(alloc);
-    for conjunct in block.conjuncts.items() {
-        if let Some((_, column)) = equated_across(catalog, block, conjunct, left, right) {
-            push_copy(&mut values, cell(catalog, block, right, column, ids))?;
-        }
+    let columns = conditions.columns.items();
+    let mut values = Vec::with_capacity(alloc, columns.len())?;
+    for pair in columns {
+        push_copy(
+            &mut values,
+            cell(catalog, block, conditions.right, pair.1, ids),
+        )?;
     }
     Ok(values)
 }
 
 /// Whether each conjunct that speaks of both sides equates a column of the one with a column of the other. Then rows of the two
 /// sides that have equal join values match, and a join that looks among these alone need not ask whether they do.
-pub fn is_equi_join(catalog: &Catalog, block: &Block, left: u8, right: u8) -> bool
+pub(crate) fn is_equi_join(catalog: &Catalog, block: &Block, left: u8, right: u8) -> bool
     requires block { IsBlock catalog.now block.now }
     ensures { result ≡ is_equi left right block.now.conjuncts }
 {
@@ -80,7 +84,7 @@ pub fn is_equi_join(catalog: &Catalog, block: &Block, left: u8, right: u8) -> bo
 }
 
 /// The columns that a conjunct equates, that of the left side first, where it speaks of both sides.
-fn equated_across(
+pub(crate) fn equated_across(
     catalog: &Catalog,
     block: &Block,
     conjunct: &Conjunct,

@@ -11,7 +11,7 @@ use Rattle.rs_exec.specs.declared.node.Node.{Node}
 use Rattle.rs_exec.specs.declared.node.Node.TheVariants as node
 use Rattle.rs_exec.proofs.CycleFacts.{end-kept, given, height, index-entry, index-gave, index-view, input-can, input-failed, input-stands, next-nearer, rank-asked, row-can, row-failed, row-kept, still-stopped, table-entry, table-gave}
 use Rattle.rs_exec.proofs.DistinctCycleFacts.{distinct-asked, drops_turn-can, drops_turn-dropped, drops_turn-failed, drops_turn-given, drops_turn-over, drops_turn-puts, drops_turn-stands, drops_turn-start, drops_turn-stopped}
-use Rattle.rs_exec.proofs.JoinCycleFacts.{join-asked-node, turn-apart, turn-block, turn-fits, turn-given, turn-left_can, turn-left_ended, turn-left_failed, turn-left_fed, turn-left_feeds, turn-left_nearer, turn-left_rows, turn-left_side, turn-left_stands, turn-left_stopped, turn-lefts, turn-over, turn-right_can, turn-right_ended, turn-right_failed, turn-right_fed, turn-right_feeds, turn-right_nearer, turn-right_rows, turn-right_side, turn-right_stands, turn-right_stopped, turn-rights, turn-start, turn-values}
+use Rattle.rs_exec.proofs.JoinCycleFacts.{join-asked-node, turn-given, turn-left_can, turn-left_ended, turn-left_failed, turn-left_fed, turn-left_nearer, turn-left_stands, turn-left_stopped, turn-left_takes, turn-over, turn-right_can, turn-right_ended, turn-right_failed, turn-right_fed, turn-right_nearer, turn-right_stands, turn-right_stopped, turn-right_takes, turn-start}
 use Rattle.rs_exec.proofs.SetCycleFacts.{set-asked-node, set_turn-alive, set_turn-given, set_turn-left_can, set_turn-left_ended, set_turn-left_failed, set_turn-left_fed, set_turn-left_nearer, set_turn-left_puts, set_turn-left_stands, set_turn-left_stopped, set_turn-left_sum, set_turn-over, set_turn-right_can, set_turn-right_ended, set_turn-right_failed, set_turn-right_fed, set_turn-right_nearer, set_turn-right_puts, set_turn-right_stands, set_turn-right_stopped, set_turn-right_sum, set_turn-small, set_turn-start}
 use Rattle.rs_exec.proofs.StepFacts.{Between, between-start}
 use Rattle.rs_exec.proofs.+next.Goals as goal
@@ -19,14 +19,14 @@ use Rattle.rs_exec.proofs.+next.Goals as goal
 pub node::Node::next-next-requires-clause-entry : goal.node::Node::next-next-requires-clause-entry
 node::Node::next-next-requires-clause-entry g t c =
     let answer = (g.S.Scorer.state c.args.scorer.now).answer in
-    let can = subst (λ (n : Node). CanAsk c.args.catalog.now answer c.args.query.now (number_in n) (tree_in n) (asked_in n)) c.in-SeqScan.is c.requires.can in
-    let stands = subst (λ (n : Node). Stands (world_of c.args.catalog.now answer c.args.query.now) (number_in n) n) c.in-SeqScan.is c.requires.stands in
-    table-entry c.args.catalog.now answer c.args.query.now c.in-SeqScan.head can stands
+    let can = subst (λ (n : Node). CanAsk (world_of c.args.context.now.catalog.now answer c.args.context.now.query.now) (number_in n) (tree_in n) (asked_in n)) c.in-SeqScan.is c.requires.can in
+    let stands = subst (λ (n : Node). Stands (world_of c.args.context.now.catalog.now answer c.args.context.now.query.now) (number_in n) n) c.in-SeqScan.is c.requires.stands in
+    table-entry c.args.context.now.catalog.now answer c.args.context.now.query.now c.in-SeqScan.head can stands
 
 pub node::Node::next-returns-in_err-next-in-SeqScan : goal.node::Node::next-returns-in_err-next-in-SeqScan
 node::Node::next-returns-in_err-next-in-SeqScan g t c =
     let old = g.S.Scorer.state c.args.scorer.now in
-    let w = world_of c.args.catalog.now old.answer c.args.query.now in
+    let w = world_of c.args.context.now.catalog.now old.answer c.args.context.now.query.now in
     let self = c.args.self.now in
     still-stopped w (number_in self) (tree_in self) (asked_in self) (ap (λ (n : Node). questions_of_ask w (number_in n) (tree_in n) (suc (asked_in n))) c.in-SeqScan.is)
     (NodeAfter w (number_in self) (tree_in self) (asked_in self) (node.SeqScan c.next.new.self)) old refl c.from_residual.result
@@ -35,21 +35,21 @@ node::Node::next-returns-in_err-next-in-SeqScan g t c =
 pub node::Node::next-next-requires-in-RankScan-clause-entry : goal.node::Node::next-next-requires-in-RankScan-clause-entry
 node::Node::next-next-requires-in-RankScan-clause-entry g t c =
     let answer = (g.S.Scorer.state c.args.scorer.now).answer in
-    let can = subst (λ (n : Node). CanAsk c.args.catalog.now answer c.args.query.now (number_in n) (tree_in n) (asked_in n)) c.in-RankScan.is c.requires.can in
-    let stands = subst (λ (n : Node). Stands (world_of c.args.catalog.now answer c.args.query.now) (number_in n) n) c.in-RankScan.is c.requires.stands in
-    index-entry c.args.catalog.now answer c.args.query.now c.in-RankScan.head can stands
+    let can = subst (λ (n : Node). CanAsk (world_of c.args.context.now.catalog.now answer c.args.context.now.query.now) (number_in n) (tree_in n) (asked_in n)) c.in-RankScan.is c.requires.can in
+    let stands = subst (λ (n : Node). Stands (world_of c.args.context.now.catalog.now answer c.args.context.now.query.now) (number_in n) n) c.in-RankScan.is c.requires.stands in
+    index-entry c.args.context.now.catalog.now answer c.args.context.now.query.now c.in-RankScan.head can stands
 
 pub node::Node::next-next-requires-in-RankScan-clause-view : goal.node::Node::next-next-requires-in-RankScan-clause-view
 node::Node::next-next-requires-in-RankScan-clause-view g t c =
     let answer = (g.S.Scorer.state c.args.scorer.now).answer in
-    let can = subst (λ (n : Node). CanAsk c.args.catalog.now answer c.args.query.now (number_in n) (tree_in n) (asked_in n)) c.in-RankScan.is c.requires.can in
-    let stands = subst (λ (n : Node). Stands (world_of c.args.catalog.now answer c.args.query.now) (number_in n) n) c.in-RankScan.is c.requires.stands in
-    index-view c.args.catalog.now answer c.args.query.now c.in-RankScan.head can stands
+    let can = subst (λ (n : Node). CanAsk (world_of c.args.context.now.catalog.now answer c.args.context.now.query.now) (number_in n) (tree_in n) (asked_in n)) c.in-RankScan.is c.requires.can in
+    let stands = subst (λ (n : Node). Stands (world_of c.args.context.now.catalog.now answer c.args.context.now.query.now) (number_in n) n) c.in-RankScan.is c.requires.stands in
+    index-view c.args.context.now.catalog.now answer c.args.context.now.query.now c.in-RankScan.head can stands
 
 pub node::Node::next-returns-in_err-next-in-RankScan : goal.node::Node::next-returns-in_err-next-in-RankScan
 node::Node::next-returns-in_err-next-in-RankScan g t c =
     let old = g.S.Scorer.state c.args.scorer.now in
-    let w = world_of c.args.catalog.now old.answer c.args.query.now in
+    let w = world_of c.args.context.now.catalog.now old.answer c.args.context.now.query.now in
     let self = c.args.self.now in
     still-stopped w (number_in self) (tree_in self) (asked_in self) (ap (λ (n : Node). questions_of_ask w (number_in n) (tree_in n) (suc (asked_in n))) c.in-RankScan.is)
     (NodeAfter w (number_in self) (tree_in self) (asked_in self) (node.RankScan c.next-in-RankScan.new.self)) old refl c.from_residual-in_err-next-in-RankScan.result
@@ -58,105 +58,105 @@ node::Node::next-returns-in_err-next-in-RankScan g t c =
 pub node::Node::next-returns-in_ok-next-in-SeqScan : goal.node::Node::next-returns-in_ok-next-in-SeqScan
 node::Node::next-returns-in_ok-next-in-SeqScan g t c =
     let old = g.S.Scorer.state c.args.scorer.now in
-    let w = world_of c.args.catalog.now old.answer c.args.query.now in
-    let can = subst (λ (n : Node). CanAsk c.args.catalog.now old.answer c.args.query.now (number_in n) (tree_in n) (asked_in n)) c.in-SeqScan.is c.requires.can in
+    let w = world_of c.args.context.now.catalog.now old.answer c.args.context.now.query.now in
+    let can = subst (λ (n : Node). CanAsk (world_of c.args.context.now.catalog.now old.answer c.args.context.now.query.now) (number_in n) (tree_in n) (asked_in n)) c.in-SeqScan.is c.requires.can in
     let stands = subst (λ (n : Node). Stands w (number_in n) n) c.in-SeqScan.is c.requires.stands in
     let row = c.in_ok-next-in-SeqScan.field-0 in
     subst (λ (n : Node). Asked w (number_in n) (tree_in n) (asked_in n) (NodeAfter w (number_in n) (tree_in n) (asked_in n) (node.SeqScan c.next.new.self)) (Ok row) old old) (sym c.in-SeqScan.is)
-    (table-gave c.args.catalog.now old.answer c.args.query.now old refl c.in-SeqScan.head c.next.new.self can stands row c.in_ok-next-in-SeqScan.ensures.row c.in_ok-next-in-SeqScan.ensures.after)
+    (table-gave c.args.context.now.catalog.now old.answer c.args.context.now.query.now old refl c.in-SeqScan.head c.next.new.self can stands row c.in_ok-next-in-SeqScan.ensures.row c.in_ok-next-in-SeqScan.ensures.after)
 
 pub node::Node::next-returns-in_ok-next-in-RankScan : goal.node::Node::next-returns-in_ok-next-in-RankScan
 node::Node::next-returns-in_ok-next-in-RankScan g t c =
     let old = g.S.Scorer.state c.args.scorer.now in
-    let w = world_of c.args.catalog.now old.answer c.args.query.now in
-    let can = subst (λ (n : Node). CanAsk c.args.catalog.now old.answer c.args.query.now (number_in n) (tree_in n) (asked_in n)) c.in-RankScan.is c.requires.can in
+    let w = world_of c.args.context.now.catalog.now old.answer c.args.context.now.query.now in
+    let can = subst (λ (n : Node). CanAsk (world_of c.args.context.now.catalog.now old.answer c.args.context.now.query.now) (number_in n) (tree_in n) (asked_in n)) c.in-RankScan.is c.requires.can in
     let stands = subst (λ (n : Node). Stands w (number_in n) n) c.in-RankScan.is c.requires.stands in
     let row = c.in_ok-next-in-RankScan.field-0 in
     subst (λ (n : Node). Asked w (number_in n) (tree_in n) (asked_in n) (NodeAfter w (number_in n) (tree_in n) (asked_in n) (node.RankScan c.next-in-RankScan.new.self)) (Ok row) old old) (sym c.in-RankScan.is)
-    (index-gave c.args.catalog.now old.answer c.args.query.now old refl c.in-RankScan.head c.next-in-RankScan.new.self can stands row
+    (index-gave c.args.context.now.catalog.now old.answer c.args.context.now.query.now old refl c.in-RankScan.head c.next-in-RankScan.new.self can stands row
     c.in_ok-next-in-RankScan.ensures.row c.in_ok-next-in-RankScan.ensures.after)
 
 pub node::Node::next-returns-in-Rank : goal.node::Node::next-returns-in-Rank
 node::Node::next-returns-in-Rank g t c =
     let old = g.S.Scorer.state c.args.scorer.now in
-    rank-asked (world_of c.args.catalog.now old.answer c.args.query.now) c.args.self.now c.in-Rank.head c.next_ranked.new.head c.in-Rank.child c.deref_mut.result.now c.next_ranked.new.child
+    rank-asked (world_of c.args.context.now.catalog.now old.answer c.args.context.now.query.now) c.args.self.now c.in-Rank.head c.next_ranked.new.head c.in-Rank.child c.deref_mut.result.now c.next_ranked.new.child
     c.next_ranked.result old (g.S.Scorer.state c.next_ranked.new.scorer) c.in-Rank.is c.deref_mut.ensures.value c.next_ranked.ensures
 
-pub rank::next_ranked-loop-alloc-init : goal.rank::next_ranked-loop-alloc-init
-rank::next_ranked-loop-alloc-init g t c =
+pub rank::next_ranked-loop-child-init : goal.rank::next_ranked-loop-child-init
+rank::next_ranked-loop-child-init g t c =
     let old = g.S.Scorer.state c.args.scorer.now in
     let head = c.args.head.now in
     let child = c.args.child.now in
-    let w = world_of c.args.catalog.now old.answer c.args.query.now in
+    let w = world_of c.args.context.now.catalog.now old.answer c.args.context.now.query.now in
     record {
       number_is = refl;
       tree_is = refl;
       stands = c.requires.child;
       between = subst (λ tally. Between w (number_in child) head.term (tree_in child) head.tally.asked (asked_in child)
           (record { core = head.core; term = head.term; args = tt; tally = tally; calls = head.calls }) old old) (sym c.ask.ensures)
-          (between-start c.args.catalog.now c.args.query.now (number_in child) head.term (tree_in child) head.tally.asked old c.requires.can head (asked_in child) refl refl
+          (between-start c.args.context.now.catalog.now c.args.context.now.query.now (number_in child) head.term (tree_in child) head.tally.asked old c.requires.can head (asked_in child) refl refl
           c.requires.head.keeps c.requires.head.asked);
     }
 
 pub rank::next_ranked-next-requires : goal.rank::next_ranked-next-requires
 rank::next_ranked-next-requires g t c κs within =
     let less = c.decreases in
-    let same = ap height c.loop-alloc.invariant.tree_is in
-    let need = c.needs.ensures.needs c.loop-alloc-test.true in
-    (omega arith, (within, (input-can c.loop-alloc.invariant c.requires.can need, input-stands c.loop-alloc.invariant c.requires.can need)))
+    let same = ap height c.loop-child.invariant.tree_is in
+    let need = c.needs.ensures.needs c.loop-child-test.true in
+    (omega arith, (within, (input-can c.loop-child.invariant c.requires.can need, input-stands c.loop-child.invariant c.requires.can need)))
 
 pub rank::next_ranked-returns-in_err-row : goal.rank::next_ranked-returns-in_err-row
 rank::next_ranked-returns-in_err-row g t c =
-    input-failed c.loop-alloc.invariant c.requires.can (c.needs.ensures.needs c.loop-alloc-test.true) _ c.in_err-row.field-0.0 c.from_residual.result (g.S.Scorer.state c.next.new.scorer)
+    input-failed c.loop-child.invariant c.requires.can (c.needs.ensures.needs c.loop-child-test.true) _ c.in_err-row.field-0.0 c.from_residual.result (g.S.Scorer.state c.next.new.scorer)
     (given-err c.from_residual.result c.in_err-row.field-0.0 c.from_residual.ensures) c.in_err-row.ensures.inquires
 
 pub rank::next_ranked-feed-requires : goal.rank::next_ranked-feed-requires
 rank::next_ranked-feed-requires g t c =
     record {
-      can = row-can c.loop-alloc.invariant c.requires.can (c.needs.ensures.needs c.loop-alloc-test.true)
+      can = row-can c.loop-child.invariant c.requires.can (c.needs.ensures.needs c.loop-child-test.true)
           c.in-Some.row c.in_ok-row.field-0 c.in-Some.is (g.S.Scorer.state c.next.new.scorer) c.in_ok-row.ensures.inquires;
     }
 
-pub rank::next_ranked-loop-alloc-smaller-in-Continue-branch-3 : goal.rank::next_ranked-loop-alloc-smaller-in-Continue-branch-3
-rank::next_ranked-loop-alloc-smaller-in-Continue-branch-3 g t c =
-    next-nearer c.loop-alloc.invariant c.requires.can (c.needs.ensures.needs c.loop-alloc-test.true) c.next.new.self (c.in_ok-row.ensures.leaves refl)
+pub rank::next_ranked-loop-child-smaller-in-Continue-branch-3 : goal.rank::next_ranked-loop-child-smaller-in-Continue-branch-3
+rank::next_ranked-loop-child-smaller-in-Continue-branch-3 g t c =
+    next-nearer c.loop-child.invariant c.requires.can (c.needs.ensures.needs c.loop-child-test.true) c.next.new.self (c.in_ok-row.ensures.leaves refl)
 
-pub rank::next_ranked-loop-alloc-preserved-in-Continue-branch-3 : goal.rank::next_ranked-loop-alloc-preserved-in-Continue-branch-3
-rank::next_ranked-loop-alloc-preserved-in-Continue-branch-3 g t c =
-    row-kept c.loop-alloc.invariant c.requires.can (c.needs.ensures.needs c.loop-alloc-test.true)
+pub rank::next_ranked-loop-child-preserved-in-Continue-branch-3 : goal.rank::next_ranked-loop-child-preserved-in-Continue-branch-3
+rank::next_ranked-loop-child-preserved-in-Continue-branch-3 g t c =
+    row-kept c.loop-child.invariant c.requires.can (c.needs.ensures.needs c.loop-child-test.true)
     c.in-Some.row c.in_ok-row.field-0 c.in-Some.is (g.S.Scorer.state c.next.new.scorer) c.in_ok-row.ensures.inquires
     c.feed.new.self (g.S.Scorer.state c.feed.new.scorer) c.next.new.self c.in_ok-feed-in-Some.ensures (c.in_ok-row.ensures.leaves refl)
 
 pub rank::next_ranked-returns-in_err-feed-in-Some : goal.rank::next_ranked-returns-in_err-feed-in-Some
 rank::next_ranked-returns-in_err-feed-in-Some g t c =
-    row-failed c.loop-alloc.invariant c.requires.can (c.needs.ensures.needs c.loop-alloc-test.true)
+    row-failed c.loop-child.invariant c.requires.can (c.needs.ensures.needs c.loop-child-test.true)
     c.in-Some.row c.in_ok-row.field-0 c.in-Some.is (g.S.Scorer.state c.next.new.scorer) c.in_ok-row.ensures.inquires
     _ c.in_err-feed-in-Some.field-0.0 c.from_residual-in_err-feed-in-Some.result (g.S.Scorer.state c.feed.new.scorer)
     (given-err c.from_residual-in_err-feed-in-Some.result c.in_err-feed-in-Some.field-0.0 c.from_residual-in_err-feed-in-Some.ensures) c.in_err-feed-in-Some.ensures
 
-pub rank::next_ranked-loop-alloc-smaller : goal.rank::next_ranked-loop-alloc-smaller
-rank::next_ranked-loop-alloc-smaller g t c =
-    next-nearer c.loop-alloc.invariant c.requires.can (c.needs.ensures.needs c.loop-alloc-test.true) c.next.new.self (c.in_ok-row.ensures.leaves refl)
+pub rank::next_ranked-loop-child-smaller : goal.rank::next_ranked-loop-child-smaller
+rank::next_ranked-loop-child-smaller g t c =
+    next-nearer c.loop-child.invariant c.requires.can (c.needs.ensures.needs c.loop-child-test.true) c.next.new.self (c.in_ok-row.ensures.leaves refl)
 
-pub rank::next_ranked-loop-alloc-preserved : goal.rank::next_ranked-loop-alloc-preserved
-rank::next_ranked-loop-alloc-preserved g t c =
-    end-kept c.loop-alloc.invariant c.requires.can (c.needs.ensures.needs c.loop-alloc-test.true)
+pub rank::next_ranked-loop-child-preserved : goal.rank::next_ranked-loop-child-preserved
+rank::next_ranked-loop-child-preserved g t c =
+    end-kept c.loop-child.invariant c.requires.can (c.needs.ensures.needs c.loop-child-test.true)
     c.in_ok-row.field-0 c.in-None.is (g.S.Scorer.state c.next.new.scorer) c.end.new.self c.next.new.self c.end.ensures c.in_ok-row.ensures.inquires (c.in_ok-row.ensures.leaves refl)
 
 pub rank::next_ranked-returns : goal.rank::next_ranked-returns
 rank::next_ranked-returns g t c =
-    given c.loop-alloc.invariant c.requires.can c.give.new.self c.give.result (c.needs.ensures.rests c.loop-alloc-test.false) c.give.ensures.row c.give.ensures.after
+    given c.loop-child.invariant c.requires.can c.give.new.self c.give.result (c.needs.ensures.rests c.loop-child-test.false) c.give.ensures.row c.give.ensures.after
 
 pub node::Node::next-returns-in-Join : goal.node::Node::next-returns-in-Join
 node::Node::next-returns-in-Join g t c =
     let old = g.S.Scorer.state c.args.scorer.now in
-    join-asked-node (world_of c.args.catalog.now old.answer c.args.query.now) c.args.self.now c.in-Join.head c.next_joined.new.head c.in-Join.left c.in-Join.right
+    join-asked-node (world_of c.args.context.now.catalog.now old.answer c.args.context.now.query.now) c.args.self.now c.in-Join.head c.next_joined.new.head c.in-Join.left c.in-Join.right
     c.deref_mut-in-Join.result.now c.deref_mut-in-Join-2.result.now c.next_joined.new.left c.next_joined.new.right
     c.next_joined.result old (g.S.Scorer.state c.next_joined.new.scorer) c.in-Join.is c.deref_mut-in-Join.ensures.value c.deref_mut-in-Join-2.ensures.value c.next_joined.ensures
 
 pub join::next_joined-loop-left-init : goal.join::next_joined-loop-left-init
 join::next_joined-loop-left-init g t c =
-    turn-start c.args.catalog.now c.args.query.now c.args.head.now c.args.left.now c.args.right.now (g.S.Scorer.state c.args.scorer.now)
+    turn-start c.args.context.now.catalog.now c.args.context.now.query.now c.args.head.now c.args.left.now c.args.right.now (g.S.Scorer.state c.args.scorer.now)
     c.requires.can c.requires.head c.requires.left c.requires.right c.ask.new.self c.ask.ensures
 
 pub join::next_joined-next-requires : goal.join::next_joined-next-requires
@@ -171,35 +171,10 @@ join::next_joined-returns-in_err-row-in-NeedLeft g t c =
     turn-left_failed c.loop-left.invariant c.requires.can (sym c.in-NeedLeft.ensures) _ c.in_err-row-in-NeedLeft.field-0.0 c.from_residual.result (g.S.Scorer.state c.next.new.scorer)
     (given-err c.from_residual.result c.in_err-row-in-NeedLeft.field-0.0 c.from_residual.ensures) c.in_err-row-in-NeedLeft.ensures.inquires
 
-pub join::next_joined-feed_left-requires-clause-block : goal.join::next_joined-feed_left-requires-clause-block
-join::next_joined-feed_left-requires-clause-block g t c = turn-block c.loop-left.invariant c.requires.can
-
-pub join::next_joined-feed_left-requires-clause-apart : goal.join::next_joined-feed_left-requires-clause-apart
-join::next_joined-feed_left-requires-clause-apart g t c = turn-apart c.loop-left.invariant c.requires.can
-
-pub join::next_joined-feed_left-requires-clause-values : goal.join::next_joined-feed_left-requires-clause-values
-join::next_joined-feed_left-requires-clause-values g t c = turn-values c.loop-left.invariant c.requires.can
-
-pub join::next_joined-feed_left-requires-clause-rows : goal.join::next_joined-feed_left-requires-clause-rows
-join::next_joined-feed_left-requires-clause-rows g t c =
-    turn-left_rows c.loop-left.invariant c.requires.can (sym c.in-NeedLeft.ensures) c.in-Some.row c.in_ok-row-in-NeedLeft.field-0 c.in-Some.is
+pub join::next_joined-feed_left-requires : goal.join::next_joined-feed_left-requires
+join::next_joined-feed_left-requires g t c =
+    turn-left_takes c.loop-left.invariant c.requires.can (sym c.in-NeedLeft.ensures) c.in-Some.row c.in_ok-row-in-NeedLeft.field-0 c.in-Some.is
     (g.S.Scorer.state c.next.new.scorer) c.in_ok-row-in-NeedLeft.ensures.inquires
-
-pub join::next_joined-feed_left-requires-clause-row : goal.join::next_joined-feed_left-requires-clause-row
-join::next_joined-feed_left-requires-clause-row g t c =
-    turn-left_feeds c.loop-left.invariant c.requires.can (sym c.in-NeedLeft.ensures) c.in-Some.row c.in_ok-row-in-NeedLeft.field-0 c.in-Some.is
-    (g.S.Scorer.state c.next.new.scorer) c.in_ok-row-in-NeedLeft.ensures.inquires
-
-pub join::next_joined-feed_left-requires-clause-side : goal.join::next_joined-feed_left-requires-clause-side
-join::next_joined-feed_left-requires-clause-side g t c =
-    turn-left_side c.loop-left.invariant c.requires.can (sym c.in-NeedLeft.ensures) c.in-Some.row c.in_ok-row-in-NeedLeft.field-0 c.in-Some.is
-    (g.S.Scorer.state c.next.new.scorer) c.in_ok-row-in-NeedLeft.ensures.inquires
-
-pub join::next_joined-feed_left-requires-clause-sides : goal.join::next_joined-feed_left-requires-clause-sides
-join::next_joined-feed_left-requires-clause-sides g t c = turn-rights c.loop-left.invariant c.requires.can
-
-pub join::next_joined-feed_left-requires-clause-fits : goal.join::next_joined-feed_left-requires-clause-fits
-join::next_joined-feed_left-requires-clause-fits g t c = turn-fits c.loop-left.invariant c.requires.can
 
 pub join::next_joined-loop-left-smaller-in-Continue-branch-3 : goal.join::next_joined-loop-left-smaller-in-Continue-branch-3
 join::next_joined-loop-left-smaller-in-Continue-branch-3 g t c =
@@ -236,35 +211,10 @@ join::next_joined-returns-in_err-row-in-NeedRight g t c =
     turn-right_failed c.loop-left.invariant c.requires.can (sym c.in-NeedRight.ensures) _ c.in_err-row-in-NeedRight.field-0.0 c.from_residual-in_err-row-in-NeedRight.result (g.S.Scorer.state c.next-in-NeedRight.new.scorer)
     (given-err c.from_residual-in_err-row-in-NeedRight.result c.in_err-row-in-NeedRight.field-0.0 c.from_residual-in_err-row-in-NeedRight.ensures) c.in_err-row-in-NeedRight.ensures.inquires
 
-pub join::next_joined-feed_right-requires-clause-block : goal.join::next_joined-feed_right-requires-clause-block
-join::next_joined-feed_right-requires-clause-block g t c = turn-block c.loop-left.invariant c.requires.can
-
-pub join::next_joined-feed_right-requires-clause-apart : goal.join::next_joined-feed_right-requires-clause-apart
-join::next_joined-feed_right-requires-clause-apart g t c = turn-apart c.loop-left.invariant c.requires.can
-
-pub join::next_joined-feed_right-requires-clause-values : goal.join::next_joined-feed_right-requires-clause-values
-join::next_joined-feed_right-requires-clause-values g t c = turn-values c.loop-left.invariant c.requires.can
-
-pub join::next_joined-feed_right-requires-clause-rows : goal.join::next_joined-feed_right-requires-clause-rows
-join::next_joined-feed_right-requires-clause-rows g t c =
-    turn-right_rows c.loop-left.invariant c.requires.can (sym c.in-NeedRight.ensures) c.in-Some-2.row c.in_ok-row-in-NeedRight.field-0 c.in-Some-2.is
+pub join::next_joined-feed_right-requires : goal.join::next_joined-feed_right-requires
+join::next_joined-feed_right-requires g t c =
+    turn-right_takes c.loop-left.invariant c.requires.can (sym c.in-NeedRight.ensures) c.in-Some-2.row c.in_ok-row-in-NeedRight.field-0 c.in-Some-2.is
     (g.S.Scorer.state c.next-in-NeedRight.new.scorer) c.in_ok-row-in-NeedRight.ensures.inquires
-
-pub join::next_joined-feed_right-requires-clause-row : goal.join::next_joined-feed_right-requires-clause-row
-join::next_joined-feed_right-requires-clause-row g t c =
-    turn-right_feeds c.loop-left.invariant c.requires.can (sym c.in-NeedRight.ensures) c.in-Some-2.row c.in_ok-row-in-NeedRight.field-0 c.in-Some-2.is
-    (g.S.Scorer.state c.next-in-NeedRight.new.scorer) c.in_ok-row-in-NeedRight.ensures.inquires
-
-pub join::next_joined-feed_right-requires-clause-side : goal.join::next_joined-feed_right-requires-clause-side
-join::next_joined-feed_right-requires-clause-side g t c =
-    turn-right_side c.loop-left.invariant c.requires.can (sym c.in-NeedRight.ensures) c.in-Some-2.row c.in_ok-row-in-NeedRight.field-0 c.in-Some-2.is
-    (g.S.Scorer.state c.next-in-NeedRight.new.scorer) c.in_ok-row-in-NeedRight.ensures.inquires
-
-pub join::next_joined-feed_right-requires-clause-sides : goal.join::next_joined-feed_right-requires-clause-sides
-join::next_joined-feed_right-requires-clause-sides g t c = turn-lefts c.loop-left.invariant c.requires.can
-
-pub join::next_joined-feed_right-requires-clause-fits : goal.join::next_joined-feed_right-requires-clause-fits
-join::next_joined-feed_right-requires-clause-fits g t c = turn-fits c.loop-left.invariant c.requires.can
 
 pub join::next_joined-loop-left-smaller-in-Continue-branch-6 : goal.join::next_joined-loop-left-smaller-in-Continue-branch-6
 join::next_joined-loop-left-smaller-in-Continue-branch-6 g t c =
@@ -299,12 +249,12 @@ join::next_joined-returns-in-End g t c = turn-over c.loop-left.invariant c.requi
 pub node::Node::next-returns-in-Distinct : goal.node::Node::next-returns-in-Distinct
 node::Node::next-returns-in-Distinct g t c =
     let old = g.S.Scorer.state c.args.scorer.now in
-    distinct-asked (world_of c.args.catalog.now old.answer c.args.query.now) c.args.self.now c.in-Distinct.head c.next_distinct.new.head c.in-Distinct.child c.deref_mut-in-Distinct.result.now c.next_distinct.new.child
+    distinct-asked (world_of c.args.context.now.catalog.now old.answer c.args.context.now.query.now) c.args.self.now c.in-Distinct.head c.next_distinct.new.head c.in-Distinct.child c.deref_mut-in-Distinct.result.now c.next_distinct.new.child
     c.next_distinct.result old (g.S.Scorer.state c.next_distinct.new.scorer) c.in-Distinct.is c.deref_mut-in-Distinct.ensures.value c.next_distinct.ensures
 
 pub distinct::next_distinct-loop-row-init : goal.distinct::next_distinct-loop-row-init
 distinct::next_distinct-loop-row-init g t c =
-    drops_turn-start c.args.catalog.now c.args.query.now c.args.head.now c.args.child.now (g.S.Scorer.state c.args.scorer.now)
+    drops_turn-start c.args.context.now.catalog.now c.args.context.now.query.now c.args.head.now c.args.child.now (g.S.Scorer.state c.args.scorer.now)
     c.requires.can c.requires.head c.requires.child c.ask.new.self c.ask.ensures
 
 pub distinct::next_distinct-next-requires : goal.distinct::next_distinct-next-requires
@@ -347,13 +297,13 @@ distinct::next_distinct-returns g t c =
 pub node::Node::next-returns-in-Set : goal.node::Node::next-returns-in-Set
 node::Node::next-returns-in-Set g t c =
     let old = g.S.Scorer.state c.args.scorer.now in
-    set-asked-node (world_of c.args.catalog.now old.answer c.args.query.now) c.args.self.now c.in-Set.head c.next_combined.new.head c.in-Set.left c.in-Set.right
+    set-asked-node (world_of c.args.context.now.catalog.now old.answer c.args.context.now.query.now) c.args.self.now c.in-Set.head c.next_combined.new.head c.in-Set.left c.in-Set.right
     c.deref_mut-in-Set.result.now c.deref_mut-in-Set-2.result.now c.next_combined.new.left c.next_combined.new.right
     c.next_combined.result old (g.S.Scorer.state c.next_combined.new.scorer) c.in-Set.is c.deref_mut-in-Set.ensures.value c.deref_mut-in-Set-2.ensures.value c.next_combined.ensures
 
 pub set::next_combined-loop-left-init : goal.set::next_combined-loop-left-init
 set::next_combined-loop-left-init g t c =
-    set_turn-start c.args.catalog.now c.args.query.now c.args.head.now c.args.left.now c.args.right.now (g.S.Scorer.state c.args.scorer.now)
+    set_turn-start c.args.context.now.catalog.now c.args.context.now.query.now c.args.head.now c.args.left.now c.args.right.now (g.S.Scorer.state c.args.scorer.now)
     c.requires.can c.requires.head c.requires.left c.requires.right c.ask.new.self c.ask.ensures
 
 pub set::next_combined-ask-requires-in-loop-left : goal.set::next_combined-ask-requires-in-loop-left

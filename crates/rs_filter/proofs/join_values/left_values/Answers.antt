@@ -1,53 +1,66 @@
--- A conjunct that equates columns across the sides gives one value more, and each other one none.
-use Rattle.std.proofs.Common.{◌≡◌, ◌∙◌, ◌<◌, ℕ, [], ◌∷◌, Some, get_or, length, map, append-nil, refl, sym, ap}
-use Rattle.std.specs.Prelude.{slice_get}
-use Rattle.std.proofs.lemmas.Option.{slice_get_read}
-use Rattle.rs_order.proofs.EachFacts.{each-slice_get}
+-- Each column gives its cell, which is what a comparison looks at, since it has the column's kind.
+use Rattle.std.proofs.Common.{◌≡◌, ◌∙◌, ℕ, ◌+◌, ◌≤◌, List, get_or, length, map, take, sym, ap, subst, arith}
+use Rattle.std.specs.List.{AllByRecursion}
+use Rattle.std.proofs.lemmas.List.{take_all}
+use Rattle.rs_order.proofs.EachFacts.{each-get_or}
 use Rattle.rs_value.specs.declared.value.Value.{Value}
-use Rattle.rs_query.specs.Conjuncts.{ConjunctDef}
 use Rattle.rs_query.specs.Meaning.{column_value}
-use Rattle.rs_query.specs.WellFormed.{IsConjunct}
-use Rattle.rs_filter.specs.JoinValues.{compared, equated_across}
-use Rattle.rs_filter.proofs.JoinColumnFacts.{across-columns, values-more, values_of}
+use Rattle.rs_filter.specs.declared.conditions.JoinConditions.{JoinConditions}
+use Rattle.rs_filter.proofs.JoinColumnFacts.{AreColumns, HasKindOf, across-columns, conditions-columns, each-more, read-more, values-read}
 use Rattle.rs_filter.proofs.join_values.left_values.Goals as goal
-use Rattle.rs_filter.proofs.join_values.left_values.Goals.{in-Some+in_ok-push_copy, in_default}
 
 pub cell-requires-clause-column : goal.cell-requires-clause-column
 cell-requires-clause-column c =
-    let place = c.loop-conjunct.conjunct-index in
-    let conjuncts = c.args.block.now.conjuncts in
-    let conjunct : ConjunctDef = c.conjunct-item.result in
-    let is : conjunct ≡ get_or conjuncts place conjunct = rw (c.deref-conjunct-items.ensures.value, c.items.ensures) at c.conjunct-item.is in
-    let within : place < length conjuncts = rw (c.deref-conjunct-items.ensures.value, c.items.ensures) at c.loop-conjunct-test.true in
-    let at : slice_get conjuncts place ≡ Some conjunct = slice_get_read conjuncts (length conjuncts) place conjunct refl within is in
-    let formed = each-slice_get (IsConjunct c.args.catalog.now c.args.block.now) conjuncts place conjunct c.requires.block.conjuncts at in
-    (across-columns c.args.catalog.now c.args.block.now c.args.left c.args.right conjunct formed (c.in-Some.column, c.in-Some.field-0-1) c.in-Some.ensures).left_column.is_column
+    let k = c.args.conditions.now in
+    let all = conditions-columns c.args.catalog.now c.args.block.now k c.requires.block c.requires.conditions in
+    (each-get_or (AreColumns c.args.catalog.now c.args.block.now k.left k.right) c.deref-pair-items.result.now c.loop-pair.pair-index ((0, 0), (0, 0))
+    (subst (AllByRecursion (AreColumns c.args.catalog.now c.args.block.now k.left k.right)) (sym (c.deref-pair-items.ensures.value ∙ c.items-columns.ensures)) all) c.loop-pair-test.true).left_column
 
-pub loop-conjunct-preserved : goal.loop-conjunct-preserved
-loop-conjunct-preserved c =
-    let place = c.loop-conjunct.conjunct-index in
-    let conjuncts = c.args.block.now.conjuncts in
-    let conjunct : ConjunctDef = c.conjunct-item.result in
-    let is : conjunct ≡ get_or conjuncts place conjunct = rw (c.deref-conjunct-items.ensures.value, c.items.ensures) at c.conjunct-item.is in
-    let within : place < length conjuncts = rw (c.deref-conjunct-items.ensures.value, c.items.ensures) at c.loop-conjunct-test.true in
-    let at : slice_get conjuncts place ≡ Some conjunct = slice_get_read conjuncts (length conjuncts) place conjunct refl within is in
-    let formed = each-slice_get (IsConjunct c.args.catalog.now c.args.block.now) conjuncts place conjunct c.requires.block.conjuncts at in
+pub cell-requires-clause-inside : goal.cell-requires-clause-inside
+cell-requires-clause-inside c =
+    let k = c.args.conditions.now in
+    let all = conditions-columns c.args.catalog.now c.args.block.now k c.requires.block c.requires.conditions in
+    (each-get_or (AreColumns c.args.catalog.now c.args.block.now k.left k.right) c.deref-pair-items.result.now c.loop-pair.pair-index ((0, 0), (0, 0))
+    (subst (AllByRecursion (AreColumns c.args.catalog.now c.args.block.now k.left k.right)) (sym (c.deref-pair-items.ensures.value ∙ c.items-columns.ensures)) all) c.loop-pair-test.true).on_left
+
+pub loop-pair-preserved : goal.loop-pair-preserved
+loop-pair-preserved c =
+    let catalogue = c.args.catalog.now in
+    let block = c.args.block.now in
+    let rows = c.args.ids.now.rows in
+    let seen = c.deref-pair-items.result.now in
+    let i = c.loop-pair.pair-index in
+    let own : (ℕ × ℕ) × (ℕ × ℕ) → ℕ × ℕ = λ pair. pair.0 in
+    let read : (ℕ × ℕ) × (ℕ × ℕ) → Value = λ pair. column_value catalogue block rows (own pair) in
+    let has : (ℕ × ℕ) × (ℕ × ℕ) → Type 0 = λ pair. HasKindOf catalogue block (own pair) (read pair) in
+    let same = c.deref-pair-items.ensures.value ∙ c.items-columns.ensures in
+    let value = c.cell.ensures.value in
+    record {
+      values_are = subst (λ (columns : List ((ℕ × ℕ) × (ℕ × ℕ))). c.push_copy.new.values.items ≡ map read (take (i + 1) columns)) same
+          (read-more read seen i ((0, 0), (0, 0)) c.loop-pair.values.items c.push_copy.new.values.items c.cell.result.now c.loop-pair-test.true
+          (subst (λ (columns : List ((ℕ × ℕ) × (ℕ × ℕ))). c.loop-pair.values.items ≡ map read (take i columns)) (sym same) c.loop-pair.invariant.values_are)
+          value c.in_ok-push_copy.ensures);
+      kinds = subst (λ (columns : List ((ℕ × ℕ) × (ℕ × ℕ))). AllByRecursion has (take (i + 1) columns)) same
+          (each-more has seen i ((0, 0), (0, 0)) c.loop-pair-test.true
+          (subst (λ (columns : List ((ℕ × ℕ) × (ℕ × ℕ))). AllByRecursion has (take i columns)) (sym same) c.loop-pair.invariant.kinds)
+          (subst (HasKindOf catalogue block (own (get_or seen i ((0, 0), (0, 0))))) value c.cell.ensures.fit));
+    }
+
+pub returns : goal.returns
+returns c =
+    let catalogue = c.args.catalog.now in
+    let block = c.args.block.now in
+    let k = c.args.conditions.now in
     let rows = c.args.ids.now.rows in
     let own : (ℕ × ℕ) × (ℕ × ℕ) → ℕ × ℕ = λ pair. pair.0 in
-    let all = values_of c.args.catalog.now c.args.block.now c.args.left c.args.right rows own in
-    elim c.match-equated_across.branch [
-      | in-Some+in_ok-push_copy w ↦
-          let across = across-columns c.args.catalog.now c.args.block.now c.args.left c.args.right conjunct formed (w.in-Some.column, w.in-Some.field-0-1) w.in-Some.ensures in
-          let value = w.cell.result.now in
-          let is_value : value ∷ [] ≡ all conjunct =
-          ap (λ (v : Value). v ∷ []) (sym (across.left_column.self value w.cell.ensures.fit) ∙ ap (compared conjunct.condition) w.cell.ensures.value)
-          ∙ sym (ap (map (λ (pair : (ℕ × ℕ) × (ℕ × ℕ)). compared conjunct.condition (column_value c.args.catalog.now c.args.block.now rows (own pair)))) w.in-Some.ensures) in
-          values-more all conjuncts place conjunct c.loop-conjunct.values.items (value ∷ []) c.match-equated_across.values.items at c.loop-conjunct.invariant is_value
-          (ap (λ made. made.items) w.values-is ∙ w.in_ok-push_copy.ensures)
-      | in_default w ↦
-          let none : equated_across c.args.left c.args.right conjunct ≡ [] = w.in_default.ensures in
-          let is_value : [] ≡ all conjunct =
-          sym (ap (map (λ (pair : (ℕ × ℕ) × (ℕ × ℕ)). compared conjunct.condition (column_value c.args.catalog.now c.args.block.now rows (own pair)))) none) in
-          values-more all conjuncts place conjunct c.loop-conjunct.values.items [] c.match-equated_across.values.items at c.loop-conjunct.invariant is_value
-          (ap (λ made. made.items) w.values-is ∙ sym (append-nil c.loop-conjunct.values.items))
-    ]
+    let read : (ℕ × ℕ) × (ℕ × ℕ) → Value = λ pair. column_value catalogue block rows (own pair) in
+    let has : (ℕ × ℕ) × (ℕ × ℕ) → Type 0 = λ pair. HasKindOf catalogue block (own pair) (read pair) in
+    let size : length c.deref-pair-items.result.now ≡ length k.columns = ap length (c.deref-pair-items.ensures.value ∙ c.items-columns.ensures) in
+    let end = c.loop-pair-test.false in
+    let most : length k.columns ≤ c.loop-pair.pair-index = omega arith in
+    let whole = take_all c.loop-pair.pair-index k.columns most ∙ ap (λ (conditions : JoinConditions). conditions.columns) c.requires.conditions in
+    c.loop-pair.invariant.values_are
+    ∙ ap (map read) whole
+    ∙ values-read catalogue block k.left k.right rows own
+    (λ conjunct is pair e. (across-columns catalogue block k.left k.right conjunct is pair e).left_column.self)
+    block.conjuncts c.requires.block.conjuncts (subst (AllByRecursion has) whole c.loop-pair.invariant.kinds)

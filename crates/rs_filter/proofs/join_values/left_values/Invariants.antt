@@ -1,9 +1,12 @@
--- The values so far are those of the first conjuncts.
-use Rattle.std.proofs.Common.{◌≡◌, ℕ, take}
-use Rattle.std.specs.List.{flat_map}
-use Rattle.rs_filter.proofs.JoinColumnFacts.{values_of}
+-- The values so far are the cells of the first columns, each of its column's kind.
+use Rattle.std.proofs.Common.{◌≡◌, ℕ, map, take}
+use Rattle.std.specs.List.{AllByRecursion}
+use Rattle.rs_query.specs.Meaning.{column_value}
+use Rattle.rs_filter.proofs.JoinColumnFacts.{HasKindOf}
 use Rattle.rs_filter.proofs.join_values.left_values.Given as goal
 
-abbrev pub invariant-loop-conjunct : goal.invariant-loop-conjunct
-invariant-loop-conjunct l =
-    l.values.items ≡ flat_map (values_of l.catalog l.block l.left l.right l.ids.rows (λ (pair : (ℕ × ℕ) × (ℕ × ℕ)). pair.0)) (take l.conjunct-index l.block.conjuncts)
+abbrev pub invariant-loop-pair : goal.invariant-loop-pair
+invariant-loop-pair l = record {
+  values_are : l.values.items ≡ map (λ (pair : (ℕ × ℕ) × (ℕ × ℕ)). column_value l.catalog l.block l.ids.rows pair.0) (take l.pair-index l.conditions.columns);
+  kinds : AllByRecursion (λ (pair : (ℕ × ℕ) × (ℕ × ℕ)). HasKindOf l.catalog l.block pair.0 (column_value l.catalog l.block l.ids.rows pair.0)) (take l.pair-index l.conditions.columns);
+}

@@ -18,7 +18,6 @@ next-requires-clause-can g c =
     let stands = subst (StandsFor catalogue old.answer) (sym c.self.view_is) c.requires in
     let more = sym (c.is_over.ensures catalogue old.answer c.requires) ∙ c.if-is_over.false in
     root-can catalogue cursor old stands
-    c.limits_hold.ensures.rows c.limits_hold.ensures.weights
     (ap (λ (k : CursorState). is_over (world_of catalogue old.answer k.query) (plan_of k) (asks_of k)) c.self.view_is ∙ more)
 
 pub next-requires-clause-stands : goal.next-requires-clause-stands
@@ -92,9 +91,8 @@ returns-clause-stands g c =
     let stands = subst (StandsFor catalogue old.answer) (sym c.self.view_is) c.requires in
     let more = ap (λ (k : CursorState). is_over (world_of catalogue old.answer k.query) (plan_of k) (asks_of k)) c.self.view_is
     ∙ sym (c.is_over.ensures catalogue old.answer c.requires) ∙ c.if-is_over.false in
-    let after = root-after catalogue cursor old stands
-    c.limits_hold.ensures.rows c.limits_hold.ensures.weights more c.next.new.self (c.in_ok-row.ensures.leaves refl) in
+    let after = root-after catalogue cursor old stands more c.next.new.self (c.in_ok-row.ensures.leaves refl) in
     elim c.match-branch-2.branch [
-      | in-Some+in_ok-answer_for-in-Some b ↦ rw b.result-is after
-      | in-None b ↦ rw b.result-is after
+      | in-Some+in_ok-answer_for-in-Some b ↦ rw (b.result-is, b.self-inside-is) after
+      | in-None b ↦ rw (b.result-is, b.self-inside-is) after
     ]

@@ -14,4 +14,4 @@ returns-in-Ok-clause-new c = record {
 
 pub returns-in-Ok-clause-stands : goal.returns-in-Ok-clause-stands
 returns-in-Ok-clause-stands c = λ answer holds.
-    cursor-start c.args.catalog.now answer c.args.query (tree_of c.args.plan.now) c.in-Ok.root c.requires.query c.limits_hold.ensures.weights c.requires.plan holds c.in-Ok.ensures
+    cursor-start c.args.catalog.now answer c.args.query (tree_of c.args.plan.now) c.in-Ok.root c.requires.query c.requires.plan c.limits_hold.ensures.rows c.limits_hold.ensures.weights holds c.in-Ok.ensures

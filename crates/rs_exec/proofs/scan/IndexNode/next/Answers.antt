@@ -3,6 +3,7 @@ use Rattle.std.proofs.Common.{◌≡◌, ◌∙◌, ◌+◌, Some, None, sym, ap
 use Rattle.std.proofs.lemmas.Option.{none-some}
 use Rattle.rs_scan.specs.Scans.{IndexScan, rows_of_index}
 use Rattle.rs_exec.specs.Drawing.{passes}
+use Rattle.rs_exec.specs.declared.scan.IndexNode.{IndexNode}
 use Rattle.rs_exec.proofs.NextFacts.{NonePassed, ended, entry-inside, entry-passes, entry-rows, index-drew, index-ended, index-gave, index-goes_on, index-nearer, index-place, index-row, index-stayed, index-there, index-view, none-more, passed}
 use Rattle.rs_exec.proofs.scan.IndexNode.next.Goals as goal
 
@@ -12,10 +13,10 @@ passes-requires-clause-inside c =
     let loop = c.loop-row.self in
     let is = c.loop-row.invariant.self_is in
     let row = c.in-Some.row in
-    let there = index-place c.args.catalog.now old loop is (Some row) c.in-Some.ensures.row in
-    let of_entry = index-row c.args.catalog.now old loop is c.args.query.now row c.requires.entry c.requires.same_entry c.requires.same_block c.in-Some.ensures.number there in
-    entry-inside c.args.catalog.now c.args.query.now c.block_of-block.result.now old.block old.entry old.scan.rows c.mask_of.result c.within-conjuncts.result row of_entry
-    c.block_of-block.ensures c.mask_of.ensures c.within-conjuncts.ensures.inside
+    let there = index-place c.args.context.now.catalog.now old loop is (Some row) c.in-Some.ensures.row in
+    let of_entry = index-row c.args.context.now.catalog.now old loop is c.args.context.now.query.now row c.requires.entry c.requires.same_entry c.requires.same_block c.in-Some.ensures.number there in
+    entry-inside c.args.context.now.catalog.now c.args.context.now.query.now c.block-block.result.now old.block old.entry old.scan.rows old.conjuncts loop.conjuncts row of_entry
+    c.block-block.ensures c.requires.entry (ap (λ (node : IndexNode). node.conjuncts) is)
 
 pub passes-requires-clause-rows : goal.passes-requires-clause-rows
 passes-requires-clause-rows c =
@@ -23,16 +24,16 @@ passes-requires-clause-rows c =
     let loop = c.loop-row.self in
     let is = c.loop-row.invariant.self_is in
     let row = c.in-Some.row in
-    let there = index-place c.args.catalog.now old loop is (Some row) c.in-Some.ensures.row in
-    let of_entry = index-row c.args.catalog.now old loop is c.args.query.now row c.requires.entry c.requires.same_entry c.requires.same_block c.in-Some.ensures.number there in
-    entry-rows c.args.catalog.now c.args.query.now c.block_of-block.result.now old.block old.entry old.scan.rows c.mask_of.result c.within-conjuncts.result row of_entry
-    c.block_of-block.ensures c.mask_of.ensures c.requires.entry
+    let there = index-place c.args.context.now.catalog.now old loop is (Some row) c.in-Some.ensures.row in
+    let of_entry = index-row c.args.context.now.catalog.now old loop is c.args.context.now.query.now row c.requires.entry c.requires.same_entry c.requires.same_block c.in-Some.ensures.number there in
+    entry-rows c.args.context.now.catalog.now c.args.context.now.query.now c.block-block.result.now old.block old.entry old.scan.rows old.conjuncts loop.conjuncts row of_entry
+    c.block-block.ensures c.requires.entry (ap (λ (node : IndexNode). node.conjuncts) is)
 
 pub next-requires-clause-index : goal.next-requires-clause-index
-next-requires-clause-index c = index-there c.args.catalog.now c.args.self.now c.loop-row.self c.loop-row.invariant.self_is c.requires.index
+next-requires-clause-index c = index-there c.args.context.now.catalog.now c.args.self.now c.loop-row.self c.loop-row.invariant.self_is c.requires.index
 
 pub next-requires-clause-view : goal.next-requires-clause-view
-next-requires-clause-view c = index-view c.args.catalog.now c.args.self.now c.loop-row.self c.loop-row.invariant.self_is c.requires.view
+next-requires-clause-view c = index-view c.args.context.now.catalog.now c.args.self.now c.loop-row.self c.loop-row.invariant.self_is c.requires.view
 
 pub returns-then-branch-clause-row : goal.returns-then-branch-clause-row
 returns-then-branch-clause-row c =
@@ -40,11 +41,11 @@ returns-then-branch-clause-row c =
     let loop = c.loop-row.self in
     let is = c.loop-row.invariant.self_is in
     let row = c.in-Some.row in
-    let there = index-place c.args.catalog.now old loop is (Some row) c.in-Some.ensures.row in
-    let of_entry = index-row c.args.catalog.now old loop is c.args.query.now row c.requires.entry c.requires.same_entry c.requires.same_block c.in-Some.ensures.number there in
-    let test = entry-passes c.args.catalog.now c.args.query.now c.block_of-block.result.now old.block old.entry old.scan.rows c.mask_of.result c.within-conjuncts.result row of_entry
-    c.block_of-block.ensures c.mask_of.ensures c.in_ok-passes.field-0 c.within-conjuncts.ensures.value c.in_ok-passes.ensures in
-    let one = passed (passes c.args.catalog.now c.args.query.now) (rows_of_index c.args.catalog.now old.scan) old.scan.drawn loop.scan.drawn row there (sym test ∙ c.if-branch.true) c.loop-row.invariant.none in
+    let there = index-place c.args.context.now.catalog.now old loop is (Some row) c.in-Some.ensures.row in
+    let of_entry = index-row c.args.context.now.catalog.now old loop is c.args.context.now.query.now row c.requires.entry c.requires.same_entry c.requires.same_block c.in-Some.ensures.number there in
+    let test = entry-passes c.args.context.now.catalog.now c.args.context.now.query.now c.block-block.result.now old.block old.entry old.scan.rows old.conjuncts loop.conjuncts row of_entry
+    c.block-block.ensures c.requires.entry (ap (λ (node : IndexNode). node.conjuncts) is) c.in_ok-passes.field-0 c.in_ok-passes.ensures in
+    let one = passed (passes c.args.context.now.catalog.now c.args.context.now.query.now) (rows_of_index c.args.context.now.catalog.now old.scan) old.scan.drawn loop.scan.drawn row there (sym test ∙ c.if-branch.true) c.loop-row.invariant.none in
     one.next
 
 pub returns-then-branch-clause-after : goal.returns-then-branch-clause-after
@@ -53,14 +54,14 @@ returns-then-branch-clause-after c =
     let loop = c.loop-row.self in
     let is = c.loop-row.invariant.self_is in
     let row = c.in-Some.row in
-    let there = index-place c.args.catalog.now old loop is (Some row) c.in-Some.ensures.row in
-    let of_entry = index-row c.args.catalog.now old loop is c.args.query.now row c.requires.entry c.requires.same_entry c.requires.same_block c.in-Some.ensures.number there in
-    let test = entry-passes c.args.catalog.now c.args.query.now c.block_of-block.result.now old.block old.entry old.scan.rows c.mask_of.result c.within-conjuncts.result row of_entry
-    c.block_of-block.ensures c.mask_of.ensures c.in_ok-passes.field-0 c.within-conjuncts.ensures.value c.in_ok-passes.ensures in
-    let one = passed (passes c.args.catalog.now c.args.query.now) (rows_of_index c.args.catalog.now old.scan) old.scan.drawn loop.scan.drawn row there (sym test ∙ c.if-branch.true) c.loop-row.invariant.none in
+    let there = index-place c.args.context.now.catalog.now old loop is (Some row) c.in-Some.ensures.row in
+    let of_entry = index-row c.args.context.now.catalog.now old loop is c.args.context.now.query.now row c.requires.entry c.requires.same_entry c.requires.same_block c.in-Some.ensures.number there in
+    let test = entry-passes c.args.context.now.catalog.now c.args.context.now.query.now c.block-block.result.now old.block old.entry old.scan.rows old.conjuncts loop.conjuncts row of_entry
+    c.block-block.ensures c.requires.entry (ap (λ (node : IndexNode). node.conjuncts) is) c.in_ok-passes.field-0 c.in_ok-passes.ensures in
+    let one = passed (passes c.args.context.now.catalog.now c.args.context.now.query.now) (rows_of_index c.args.context.now.catalog.now old.scan) old.scan.drawn loop.scan.drawn row there (sym test ∙ c.if-branch.true) c.loop-row.invariant.none in
     let more : loop.scan.drawn ≡ loop.scan.rows → ⊥ = λ end. none-some row (sym (c.next.ensures.end.1 end) ∙ c.in-Some.is) in
-    let drew = index-drew c.args.catalog.now old loop is c.next.new.self c.next.ensures.most more c.next.ensures.after in
-    index-gave c.args.catalog.now old loop is c.next.new.self c.give.new.self row (loop.scan.drawn + 1) _ drew c.give.ensures one.drawn
+    let drew = index-drew c.args.context.now.catalog.now old loop is c.next.new.self c.next.ensures.most more c.next.ensures.after in
+    index-gave c.args.context.now.catalog.now old loop is c.next.new.self c.give.new.self row (loop.scan.drawn + 1) _ drew c.give.ensures one.drawn
 
 pub loop-row-smaller : goal.loop-row-smaller
 loop-row-smaller c =
@@ -69,8 +70,8 @@ loop-row-smaller c =
     let is = c.loop-row.invariant.self_is in
     let row = c.in-Some.row in
     let more : loop.scan.drawn ≡ loop.scan.rows → ⊥ = λ end. none-some row (sym (c.next.ensures.end.1 end) ∙ c.in-Some.is) in
-    let drew = index-drew c.args.catalog.now old loop is c.next.new.self c.next.ensures.most more c.next.ensures.after in
-    index-nearer c.args.catalog.now old loop is c.next.new.self c.next.ensures.most more drew
+    let drew = index-drew c.args.context.now.catalog.now old loop is c.next.new.self c.next.ensures.most more c.next.ensures.after in
+    index-nearer c.args.context.now.catalog.now old loop is c.next.new.self c.next.ensures.most more drew
 
 pub loop-row-preserved : goal.loop-row-preserved
 loop-row-preserved c =
@@ -78,16 +79,16 @@ loop-row-preserved c =
     let loop = c.loop-row.self in
     let is = c.loop-row.invariant.self_is in
     let row = c.in-Some.row in
-    let there = index-place c.args.catalog.now old loop is (Some row) c.in-Some.ensures.row in
-    let of_entry = index-row c.args.catalog.now old loop is c.args.query.now row c.requires.entry c.requires.same_entry c.requires.same_block c.in-Some.ensures.number there in
-    let test = entry-passes c.args.catalog.now c.args.query.now c.block_of-block.result.now old.block old.entry old.scan.rows c.mask_of.result c.within-conjuncts.result row of_entry
-    c.block_of-block.ensures c.mask_of.ensures c.in_ok-passes.field-0 c.within-conjuncts.ensures.value c.in_ok-passes.ensures in
+    let there = index-place c.args.context.now.catalog.now old loop is (Some row) c.in-Some.ensures.row in
+    let of_entry = index-row c.args.context.now.catalog.now old loop is c.args.context.now.query.now row c.requires.entry c.requires.same_entry c.requires.same_block c.in-Some.ensures.number there in
+    let test = entry-passes c.args.context.now.catalog.now c.args.context.now.query.now c.block-block.result.now old.block old.entry old.scan.rows old.conjuncts loop.conjuncts row of_entry
+    c.block-block.ensures c.requires.entry (ap (λ (node : IndexNode). node.conjuncts) is) c.in_ok-passes.field-0 c.in_ok-passes.ensures in
     let more : loop.scan.drawn ≡ loop.scan.rows → ⊥ = λ end. none-some row (sym (c.next.ensures.end.1 end) ∙ c.in-Some.is) in
-    let drew = index-drew c.args.catalog.now old loop is c.next.new.self c.next.ensures.most more c.next.ensures.after in
+    let drew = index-drew c.args.context.now.catalog.now old loop is c.next.new.self c.next.ensures.most more c.next.ensures.after in
     record {
-      none = subst (λ n. NonePassed (passes c.args.catalog.now c.args.query.now) (rows_of_index c.args.catalog.now old.scan) old.scan.drawn n) (sym (ap (λ (s : IndexScan). s.drawn) drew))
-          (none-more (passes c.args.catalog.now c.args.query.now) (rows_of_index c.args.catalog.now old.scan) old.scan.drawn loop.scan.drawn row there (sym test ∙ c.if-branch.false) c.loop-row.invariant.none);
-      self_is = index-goes_on c.args.catalog.now old loop is c.next.new.self (loop.scan.drawn + 1) drew;
+      none = subst (λ n. NonePassed (passes c.args.context.now.catalog.now c.args.context.now.query.now) (rows_of_index c.args.context.now.catalog.now old.scan) old.scan.drawn n) (sym (ap (λ (s : IndexScan). s.drawn) drew))
+          (none-more (passes c.args.context.now.catalog.now c.args.context.now.query.now) (rows_of_index c.args.context.now.catalog.now old.scan) old.scan.drawn loop.scan.drawn row there (sym test ∙ c.if-branch.false) c.loop-row.invariant.none);
+      self_is = index-goes_on c.args.context.now.catalog.now old loop is c.next.new.self (loop.scan.drawn + 1) drew;
     }
 
 pub returns-clause-row : goal.returns-clause-row
@@ -95,8 +96,8 @@ returns-clause-row c =
     let old = c.args.self.now in
     let loop = c.loop-row.self in
     let is = c.loop-row.invariant.self_is in
-    let past = index-place c.args.catalog.now old loop is None (sym c.in_default.is ∙ c.next.ensures.row) in
-    let end = ended (passes c.args.catalog.now c.args.query.now) (rows_of_index c.args.catalog.now old.scan) old.scan.drawn loop.scan.drawn past c.loop-row.invariant.none in
+    let past = index-place c.args.context.now.catalog.now old loop is None (sym c.in_default.is ∙ c.next.ensures.row) in
+    let end = ended (passes c.args.context.now.catalog.now c.args.context.now.query.now) (rows_of_index c.args.context.now.catalog.now old.scan) old.scan.drawn loop.scan.drawn past c.loop-row.invariant.none in
     end.next
 
 pub returns-clause-after : goal.returns-clause-after
@@ -104,8 +105,8 @@ returns-clause-after c =
     let old = c.args.self.now in
     let loop = c.loop-row.self in
     let is = c.loop-row.invariant.self_is in
-    let past = index-place c.args.catalog.now old loop is None (sym c.in_default.is ∙ c.next.ensures.row) in
-    let end = ended (passes c.args.catalog.now c.args.query.now) (rows_of_index c.args.catalog.now old.scan) old.scan.drawn loop.scan.drawn past c.loop-row.invariant.none in
+    let past = index-place c.args.context.now.catalog.now old loop is None (sym c.in_default.is ∙ c.next.ensures.row) in
+    let end = ended (passes c.args.context.now.catalog.now c.args.context.now.query.now) (rows_of_index c.args.context.now.catalog.now old.scan) old.scan.drawn loop.scan.drawn past c.loop-row.invariant.none in
     let at_end = c.next.ensures.end.0 c.in_default.is in
-    let stayed = index-stayed c.args.catalog.now old loop is c.next.new.self at_end c.next.ensures.after in
-    index-ended c.args.catalog.now old loop is c.next.new.self loop.scan.drawn _ stayed end.drawn
+    let stayed = index-stayed c.args.context.now.catalog.now old loop is c.next.new.self at_end c.next.ensures.after in
+    index-ended c.args.context.now.catalog.now old loop is c.next.new.self loop.scan.drawn _ stayed end.drawn

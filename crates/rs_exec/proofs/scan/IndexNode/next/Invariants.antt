@@ -7,7 +7,7 @@ use Rattle.rs_exec.proofs.scan.IndexNode.next.Given as goal
 
 abbrev pub invariant-loop-row : goal.invariant-loop-row
 invariant-loop-row l = record {
-  none : NonePassed (passes l.catalog l.query) (rows_of_index l.catalog l.fn.self.scan) l.fn.self.scan.drawn l.self.scan.drawn;
+  none : NonePassed (passes l.context.catalog.now l.context.query.now) (rows_of_index l.context.catalog.now l.fn.self.scan) l.fn.self.scan.drawn l.self.scan.drawn;
   self_is : l.self ≡ record l.fn.self {
     scan = record l.fn.self.scan { drawn = l.self.scan.drawn };
     tally = record l.fn.self.tally { asked = l.fn.self.tally.asked + 1 };

@@ -1,6 +1,6 @@
 -- What is inside one side is inside both together.
 use Rattle.rs_filter.proofs.AcrossFacts.{part-below}
-use Rattle.rs_filter.proofs.block_match.across.Goals as goal
+use Rattle.rs_filter.proofs.conditions.across.Goals as goal
 
 pub overflow_sub-result : goal.overflow_sub-result
 overflow_sub-result c =
