@@ -1,5 +1,5 @@
 -- What a rank operator keeps, and what each call does to it. The operator evaluates one term in addition.
-use Rattle.std.specs.Prelude.{ℕ, ◌≡◌, ◌≤◌, ◌+◌, ◌-◌, ◌*◌, ◌||◌, ⊤, Bool, false, not, List, [], ◌∷◌, Option, Some, None, bit_or, drop, map, slice_index, if◌then◌else◌}
+use Rattle.std.specs.Prelude.{ℕ, ◌≡◌, ◌≤◌, ◌+◌, ◌-◌, ◌*◌, ◌||◌, ⊤, Bool, false, not, List, [], Option, Some, None, bit_or, drop, map, slice_index, if◌then◌else◌}
 use Rattle.std.specs.List.{AllByRecursion}
 use Rattle.std.specs.Ordering.{is_gt}
 use Rattle.rs_order.specs.Sorting.{put}
