@@ -61,9 +61,9 @@ module _ (ripple : Ripple) (sides : CanJoin ripple.weights ripple.left.side ripp
   left_drawn-reached key own (Some t) (Some l) None left_keys right_keys block same behind reached = absurd reached
   left_drawn-reached key own (Some t) (Some l) (Some r) left_keys right_keys block same behind reached = (
     reached-later ripple.left.ended t (pair_key ripple l.last r.first) (pair_key ripple key r.first) reached.0
-    (IsBefore-merge_key ripple.weights ripple.left.side.terms ripple.right.side.terms l.last r.first key r.first
-    (can-merge l.last r.first left_keys.1 right_keys.0 (left_keys.2 ∙ sym block)) (can-merge key r.first own right_keys.0 (sym same))
-    (ap is_gt behind) (ap is_gt (tied_itself key_cmp-total r.first)) (inl behind)),
+        (IsBefore-merge_key ripple.weights ripple.left.side.terms ripple.right.side.terms l.last r.first key r.first
+        (can-merge l.last r.first left_keys.1 right_keys.0 (left_keys.2 ∙ sym block)) (can-merge key r.first own right_keys.0 (sym same))
+        (ap is_gt behind) (ap is_gt (tied_itself key_cmp-total r.first)) (inl behind)),
     reached.1,
   )
 
@@ -76,7 +76,7 @@ module _ (ripple : Ripple) (sides : CanJoin ripple.weights ripple.left.side ripp
   right_drawn-reached key own (Some t) (Some l) (Some r) left_keys right_keys block same behind reached = (
     reached.0,
     reached-later ripple.right.ended t (pair_key ripple l.first r.last) (pair_key ripple l.first key) reached.1
-    (IsBefore-merge_key ripple.weights ripple.left.side.terms ripple.right.side.terms l.first r.last l.first key
-    (can-merge l.first r.last left_keys.0 right_keys.1 (sym block ∙ sym right_keys.2)) (can-merge l.first key left_keys.0 own same)
-    (ap is_gt (tied_itself key_cmp-total l.first)) (ap is_gt behind) (inr behind)),
+        (IsBefore-merge_key ripple.weights ripple.left.side.terms ripple.right.side.terms l.first r.last l.first key
+        (can-merge l.first r.last left_keys.0 right_keys.1 (sym block ∙ sym right_keys.2)) (can-merge l.first key left_keys.0 own same)
+        (ap is_gt (tied_itself key_cmp-total l.first)) (ap is_gt behind) (inr behind)),
   )

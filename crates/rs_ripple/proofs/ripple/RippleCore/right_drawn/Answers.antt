@@ -12,15 +12,14 @@ invariant_of-self c =
     let key = c.args.key in
     let now : Ripple = record { weights = kept.weights; left = kept.left; right = kept.right; taken = kept.taken; held = rows_of_sums kept.held; spent = kept.spent } in
     let can = subst (CanDrawRight key) (sym c.self.view_is) c.requires in
-    let is = c.self.invariant.0 in
-    (
+    let is = c.self.invariant.0 in (
       search rules,
       search rules,
       search rules,
       search rules,
       search rules,
       subst (λ (input : Input). IsTakenReached kept.taken kept.left.drawn input.drawn (sides_of kept.weights kept.left input)) (sym c.draw.ensures)
-      (reached-sides (right_drawn key now) kept.taken kept.left.drawn (Some (drawn_with kept.right.drawn key))
-      (right_drawn-reached now is.sides key can.own kept.taken kept.left.drawn kept.right.drawn is.left_keys is.right_keys is.block can.left_block can.behind
-      (sides-reached now kept.taken kept.left.drawn kept.right.drawn c.self.invariant.5))),
+          (reached-sides (right_drawn key now) kept.taken kept.left.drawn (Some (drawn_with kept.right.drawn key))
+          (right_drawn-reached now is.sides key can.own kept.taken kept.left.drawn kept.right.drawn is.left_keys is.right_keys is.block can.left_block can.behind
+          (sides-reached now kept.taken kept.left.drawn kept.right.drawn c.self.invariant.5))),
     )
