@@ -1,6 +1,6 @@
 -- The pairs of two lists, of which keys rise along each of both: their keys are distinct, and those that a part of both
 -- lacks lie behind the key of the last item of the part and the first one of the other list.
-use Rattle.std.proofs.Common.{◌≡◌, ℕ, suc, Bool, true, List, [], ◌∷◌, ◌++◌, get_or, take, drop, map, Option, refl, sym, ◌∙◌, ap, subst, ◌⊎◌, inl, inr, arith}
+use Rattle.std.proofs.Common.{◌≡◌, ℕ, suc, Bool, true, List, [], ◌∷◌, ◌++◌, get_or, take, drop, Option, refl, sym, ◌∙◌, ap, subst, ◌⊎◌, inl, inr, arith}
 use Rattle.std.proofs.lemmas.List.{drop_all}
 use Rattle.std.proofs.lemmas.Option.{get_or_from_slice_get, slice_get_cases}
 use Rattle.std.specs.Cmp.{IsTotalOrder}

@@ -3,7 +3,6 @@ use Rattle.std.proofs.Common.{◌≡◌, Option, Some, None, bit_and, refl, sym,
 use Rattle.std.specs.Cmp.{tied_itself}
 use Rattle.std.specs.Ordering.{is_gt}
 use Rattle.rs_rank.specs.declared.key.Key.{Key}
-use Rattle.rs_rank.specs.Keys.{IsBefore, key_cmp}
 use Rattle.rs_rank.specs.Merging.{CanMerge}
 use Rattle.rs_rank.proofs.OrderFacts.{IsBefore-merge_key, key_cmp-total}
 use Rattle.rs_ripple.specs.declared.side.Drawn.{Drawn}

@@ -18,7 +18,7 @@ use Rattle.rs_rank.proofs.OrderFacts.{key_cmp-total}
 use Rattle.rs_ripple.specs.declared.side.Drawn.{Drawn}
 use Rattle.rs_ripple.specs.Joined.{Fits, IsJoined, Joined, end_left, end_right, is_behind, join_of, pairs_behind, rest_for}
 use Rattle.rs_ripple.specs.Pairs.{pairs}
-use Rattle.rs_ripple.specs.Ripple.{IsTakenReached, Ripple, ask_between, ask_drawn, ask_of, first_side, full_key, is_reached, left_ended, left_for, left_threshold, right_ended, right_threshold}
+use Rattle.rs_ripple.specs.Ripple.{IsTakenReached, Ripple, ask_between, ask_drawn, ask_of, first_side, full_key, is_reached, left_for, left_threshold, right_threshold}
 use Rattle.rs_ripple.proofs.PairFacts.{ordered-climbs}
 use Rattle.rs_ripple.proofs.ReachedFacts.{left_end-reached, right_end-reached}
 use Rattle.rs_ripple.proofs.SideFacts.{sides-grid}

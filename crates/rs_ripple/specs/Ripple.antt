@@ -1,6 +1,6 @@
 -- What the core of a rank join keeps, and what each call does to it. It draws the rows of two sides, each in the order of
 -- its keys, and holds the pairs that were found among them.
-use Rattle.std.specs.Prelude.{ℕ, ◌≡◌, ◌<◌, ◌^◌, ◌&&◌, Bool, true, false, not, List, [], ◌∷◌, Option, Some, None, bit_or, drop, if◌then◌else◌}
+use Rattle.std.specs.Prelude.{ℕ, ◌≡◌, ◌<◌, ◌^◌, ◌&&◌, Bool, true, false, not, List, [], Option, Some, None, bit_or, drop, if◌then◌else◌}
 use Rattle.std.specs.Ordering.{is_gt}
 use Rattle.rs_order.specs.Sorting.{put}
 use Rattle.rs_queue.specs.Queue.{has_key}
