@@ -2,9 +2,8 @@
 use Rattle.std.proofs.Common.{◌≡◌, ◌∙◌, ℕ, suc, ◌+◌, ◌-◌, ◌<◌, ◌≤◌, List, [], ◌∷◌, ◌++◌, length, drop, ap, arith, append-nil}
 use Rattle.std.proofs.lemmas.Grind.{flat_map-append}
 use Rattle.std.specs.List.{flat_map}
-use Rattle.rs_order.specs.Schedule.{Left, SideAsk}
+use Rattle.rs_order.specs.Schedule.{Left, SideAsk, asks_from}
 use Rattle.rs_query.specs.Questions.{Question}
-use Rattle.rs_plan.specs.Asks.{asks_from}
 use Rattle.rs_exec.proofs.RankFacts.{asks_from-split, drop-front}
 
 module _ (step : SideAsk → List Question) where

@@ -8,7 +8,7 @@ use Rattle.std.specs.Prelude.{None, Some, Option, Ok, Err, option_map, slice_get
 use Rattle.std.specs.declared.cmp.Ordering.{Ordering}
 use Rattle.rs_order.specs.Asks.{asks_for, bar_after, comes_before_bar}
 use Rattle.rs_order.specs.Climbing.{Climbs, Precedes}
-use Rattle.rs_order.specs.Schedule.{Left, SideAsk}
+use Rattle.rs_order.specs.Schedule.{Left, SideAsk, asks_from}
 use Rattle.rs_order.proofs.EachFacts.{each-map, each-slice_get}
 use Rattle.rs_order.proofs.PartFacts.{bar_after-slice_get}
 use Rattle.rs_rank.specs.Keys.{key_cmp}
@@ -31,7 +31,7 @@ use Rattle.rs_query.specs.WellFormed.{IsQuery, entries_mask}
 use Rattle.rs_query.specs.declared.query.Query.{Query}
 use Rattle.rs_query.proofs.EntryFacts.{items-inside}
 use Rattle.rs_query.proofs.QuestionFacts.{AllAsked, AllAsked-more, AllAsked-none, Ended-behind, Gave, Gave-ok, Inquires-fault, Stopped-within}
-use Rattle.rs_plan.specs.Asks.{asks_from, bar_of, child_asks, keys_of}
+use Rattle.rs_plan.specs.Asks.{bar_of, child_asks, keys_of}
 use Rattle.rs_plan.specs.Calls.{part_of, questions, questions_of_ask}
 use Rattle.rs_plan.specs.Counts.{asked_of}
 use Rattle.rs_plan.specs.Lists.{World, block_in, key_under, list_of, numbered_block, weights_in}

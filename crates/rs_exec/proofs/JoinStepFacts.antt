@@ -8,7 +8,8 @@ use Rattle.std.proofs.lemmas.List.Elements.{filter-append}
 use Rattle.std.proofs.lemmas.Option.{slice_get_past}
 use Rattle.rs_order.proofs.EachFacts.{each-slice_get, each-take, each-weaker}
 use Rattle.rs_order.specs.Asks.{bar_after}
-use Rattle.rs_order.specs.Schedule.{JoinSide, Left, Right, SideAsk, is_of_side}
+use Rattle.rs_order.specs.Schedule.{JoinSide, Left, Right, SideAsk, asked, is_of_side}
+use Rattle.rs_order.proofs.ScheduleFacts.{asked-left, asked-right}
 use Rattle.rs_rank.specs.Keys.{key_cmp}
 use Rattle.rs_rank.specs.Turns.{join_schedule, left_asks, right_asks}
 use Rattle.rs_rank.specs.declared.ask.JoinAsk.TheVariants.{End, NeedLeft, NeedRight, Ready}
@@ -25,11 +26,11 @@ use Rattle.rs_filter.specs.Matching.{IsView, is_side, joins}
 use Rattle.rs_ripple.specs.After.{joined_after}
 use Rattle.rs_ripple.specs.Joined.{CanFeedLeft, CanFeedRight, Fits, JoinStands, Joined, end_left, end_right, fed_left, fed_right, rest_for}
 use Rattle.rs_ripple.specs.Ripple.{ask_of, taken_for}
-use Rattle.rs_ripple.specs.Stands.{BeginsWith, Join, answer_key, answers, asked, merged_key, schedule_of, side_keys}
+use Rattle.rs_ripple.specs.Stands.{BeginsWith, Join, answer_key, answers, merged_key, schedule_of, side_keys}
 use Rattle.rs_ripple.proofs.AfterFacts.{left-open, right-open}
 use Rattle.rs_ripple.proofs.JoinLawFacts.{is-now, left-can-feed, left-end-stands, left-fed-stands, right-can-feed, right-end-stands, right-fed-stands, stands-fits, taken-join-stands}
 use Rattle.rs_ripple.proofs.LawFacts.{taken-is, left-exact, right-exact}
-use Rattle.rs_ripple.proofs.ScheduleFacts.{BeginsWith-itself, asked-left, asked-right, schedule_of-more}
+use Rattle.rs_ripple.proofs.ScheduleFacts.{BeginsWith-itself, schedule_of-more}
 use Rattle.rs_ripple.proofs.StandFacts.{Tells, stands-tells}
 use Rattle.rs_plan.specs.Asks.{child_asks, bar_of, keys_of}
 use Rattle.rs_plan.specs.Calls.{questions, questions_of_ask, side_part}

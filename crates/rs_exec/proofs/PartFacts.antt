@@ -3,13 +3,12 @@ use Rattle.std.proofs.Common.{◌≡◌, ◌∙◌, ℕ, zero, suc, ◌+◌, ◌
 use Rattle.std.proofs.lemmas.Grind.{flat_map-append}
 use Rattle.std.proofs.lemmas.List.{append-nil, map-append}
 use Rattle.std.specs.List.{flat_map}
-use Rattle.rs_order.specs.Schedule.{Left, SideAsk, numbers_from}
+use Rattle.rs_order.specs.Schedule.{Left, SideAsk, asks_from, numbers_from}
 use Rattle.rs_rank.specs.Weights.{IsWeights}
 use Rattle.rs_expr.specs.declared.scorer.Call.{Call}
 use Rattle.rs_query.specs.Questions.{Question, call_for}
 use Rattle.rs_query.specs.Tables.{sizes_of}
 use Rattle.rs_query.specs.WellFormed.{IsQuery}
-use Rattle.rs_plan.specs.Asks.{asks_from}
 use Rattle.rs_plan.specs.Calls.{calls_of_plan, part_of, part_of_plan, questions, questions_of_ask, rank_part, side_part}
 use Rattle.rs_plan.specs.Counts.{asked_of}
 use Rattle.rs_plan.specs.Lists.{World, numbered_block, list_of, sizes_in, weights_in}

@@ -5,7 +5,7 @@ use Rattle.std.proofs.lemmas.List.{length-map}
 use Rattle.std.proofs.lemmas.Option.{slice_get_within}
 use Rattle.std.specs.List.{AllByRecursion, filter, flat_map}
 use Rattle.rs_order.specs.Asks.{asks_for, comes_before_bar, bar_after}
-use Rattle.rs_order.specs.Schedule.{JoinSide, Left, SideAsk, is_of_side}
+use Rattle.rs_order.specs.Schedule.{JoinSide, Left, SideAsk, asks_from, is_of_side}
 use Rattle.rs_order.specs.Sorting.{sorted}
 use Rattle.rs_order.proofs.EachFacts.{each-weaker}
 use Rattle.rs_order.proofs.PartFacts.{sorted-map}
@@ -27,7 +27,7 @@ use Rattle.rs_query.specs.Questions.{Question}
 use Rattle.rs_query.specs.WellFormed.{IsQuery}
 use Rattle.rs_query.specs.declared.query.Query.{Query}
 use Rattle.rs_query.specs.declared.query.Query.TheVariants.{One, Set}
-use Rattle.rs_plan.specs.Asks.{asks_from, bar_of, keys_of}
+use Rattle.rs_plan.specs.Asks.{bar_of, keys_of}
 use Rattle.rs_plan.specs.Calls.{questions, questions_of_ask, rank_part}
 use Rattle.rs_plan.specs.Counts.{asked_of}
 use Rattle.rs_plan.specs.Lists.{World, block_in, numbered_block, key_under, list_of, row_under, sources, weights_in, worths}

@@ -6,18 +6,19 @@ use Rattle.std.specs.List.{filter}
 use Rattle.std.specs.Prelude.{Option}
 use Rattle.rs_order.specs.Asks.{asks_for}
 use Rattle.rs_order.specs.Climbing.{Climbs}
-use Rattle.rs_order.specs.Schedule.{JoinSide, Left, Right, SideAsk, ask_numbers, is_of_side, numbers_from, schedule}
+use Rattle.rs_order.specs.Schedule.{JoinSide, Left, Right, SideAsk, ask_numbers, asks_from, is_of_side, numbers_from, schedule}
 use Rattle.rs_order.proofs.ReorderFacts.{asks_for-most}
 use Rattle.rs_order.proofs.ScheduleFacts.{left_scheduled, right_scheduled}
 use Rattle.rs_rank.specs.Keys.{key_cmp}
 use Rattle.rs_rank.specs.declared.key.Key.{Key}
 use Rattle.rs_rank.proofs.OrderFacts.{key_cmp-total}
+use Rattle.rs_rank.specs.SetTurns.{one_by_one, set_schedule, wanted_for}
 use Rattle.rs_expr.specs.Scoring.{Answering}
 use Rattle.rs_catalog.specs.Catalogue.{Catalogue}
 use Rattle.rs_query.specs.Views.{View}
 use Rattle.rs_query.specs.declared.query.Query.{Query}
 use Rattle.rs_query.specs.declared.query.Query.TheVariants.{One, Set}
-use Rattle.rs_plan.specs.Asks.{asks_from, bar_of, keys_of, one_by_one, set_schedule, wanted_for}
+use Rattle.rs_plan.specs.Asks.{bar_of, keys_of}
 use Rattle.rs_plan.specs.Counts.{asked_of}
 use Rattle.rs_plan.specs.Lists.{World, key_under, list_of}
 use Rattle.rs_plan.specs.Trees.{SetOperator, PlanTree, terms}

@@ -5,17 +5,17 @@ use Rattle.std.proofs.lemmas.List.{map-append}
 use Rattle.std.specs.List.{AllByRecursion, filter}
 use Rattle.std.specs.Prelude.{None, Some, Option, option_map, slice_get}
 use Rattle.rs_order.specs.Asks.{asks_for, bar_after, comes_before_bar}
-use Rattle.rs_order.specs.Schedule.{Left, Right, SideAsk, Turn, asked_before, schedule}
+use Rattle.rs_order.specs.Schedule.{Left, Right, SideAsk, Turn, asked, asked_before, schedule}
 use Rattle.rs_outputs.specs.Rows.{OutputRow}
 use Rattle.rs_outputs.proofs.ListFacts.{filter-all}
 use Rattle.rs_rank.specs.Keys.{key_cmp}
 use Rattle.rs_rank.specs.Rows.{HasSum}
 use Rattle.rs_rank.specs.declared.ask.JoinAsk.TheVariants.{NeedLeft, NeedRight, Ready}
 use Rattle.rs_rank.specs.declared.key.Key.{Key}
-use Rattle.rs_setop.specs.Asks.{one_by_one}
+use Rattle.rs_rank.specs.SetTurns.{one_by_one}
 use Rattle.rs_setop.specs.Compared as compared
 use Rattle.rs_setop.specs.Heads as heads
-use Rattle.rs_setop.specs.Sides.{AreSides as AreSideRows, Sides, answers, asked, keys_of, row_key, schedule_of}
+use Rattle.rs_setop.specs.Sides.{AreSides as AreSideRows, Sides, answers, keys_of, row_key, schedule_of}
 use Rattle.rs_setop.specs.Stands.{ComparedStands, IsMerging, asks_behind, due, op_of, turns_left}
 use Rattle.rs_setop.specs.Union.{Union as UnionState}
 use Rattle.rs_setop.proofs.ComparedFacts as compared_facts

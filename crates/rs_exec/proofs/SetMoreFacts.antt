@@ -2,14 +2,14 @@
 use Rattle.std.proofs.Common.{◌≡◌, ◌∙◌, ℕ, zero, suc, ◌-◌, ◌≤◌, max, List, [], ◌∷◌, ◌++◌, length, take, drop, Option, refl, sym, ap, ap₂, arith, append_assoc}
 use Rattle.rs_order.specs.Asks.{IsNoFurther, asks_for, bar_after}
 use Rattle.rs_order.specs.Climbing.{Climbs}
-use Rattle.rs_order.specs.Schedule.{Left, Right, SideAsk, schedule}
+use Rattle.rs_order.specs.Schedule.{Left, Right, SideAsk, asks_from, schedule}
 use Rattle.rs_order.proofs.AscendingFacts.{Ascends-Climbs, schedule-begin}
 use Rattle.rs_order.proofs.AsksFacts.{asks_for-more, bar_after-later}
 use Rattle.rs_outputs.specs.Rows.{OutputRow}
 use Rattle.rs_rank.specs.Keys.{key_cmp}
 use Rattle.rs_rank.specs.declared.key.Key.{Key}
 use Rattle.rs_rank.proofs.OrderFacts.{key_cmp-total}
-use Rattle.rs_setop.specs.Asks.{asks_from, one_by_one, set_schedule, wanted_for}
+use Rattle.rs_rank.specs.SetTurns.{one_by_one, set_schedule, wanted_for}
 use Rattle.rs_setop.specs.Sides.{AreSides as AreSideRows, Sides, answers, keys_of, row_key, schedule_of}
 use Rattle.rs_setop.proofs.BaseFacts.{answers-climb}
 use Rattle.rs_value.specs.declared.set_op.SetOp.{SetOp}

@@ -5,7 +5,7 @@ use Rattle.std.specs.List.{AllByRecursion, filter}
 use Rattle.std.specs.Prelude.{Some, Option, nat_le, slice_get}
 use Rattle.rs_order.specs.Asks.{asks_for, bar_after, comes_before_bar}
 use Rattle.rs_order.specs.Climbing.{In}
-use Rattle.rs_order.specs.Schedule.{JoinSide, Left, Right, SideAsk, Turn, asked_before, schedule, turns_from, turns_of}
+use Rattle.rs_order.specs.Schedule.{JoinSide, Left, Right, SideAsk, Turn, asked, asked_before, asks_from, schedule, turns_from, turns_of}
 use Rattle.rs_order.proofs.ClimbingFacts.{AllByRecursion-from_In}
 use Rattle.rs_order.proofs.EachFacts.{each-append, each-slice_get}
 use Rattle.rs_order.proofs.ItemFacts.{In-filter-back, In-map-back}
@@ -13,8 +13,8 @@ use Rattle.rs_order.proofs.MergingFacts.{In-merged-back}
 use Rattle.rs_outputs.specs.Rows.{OutputRow}
 use Rattle.rs_rank.specs.Keys.{key_cmp}
 use Rattle.rs_rank.specs.declared.key.Key.{Key}
-use Rattle.rs_setop.specs.Asks.{asks_from, one_by_one, set_schedule, wanted_for}
-use Rattle.rs_setop.specs.Sides.{Sides, answers, asked, keys_of, row_key, schedule_of}
+use Rattle.rs_rank.specs.SetTurns.{one_by_one, set_schedule, wanted_for}
+use Rattle.rs_setop.specs.Sides.{Sides, answers, keys_of, row_key, schedule_of}
 use Rattle.rs_value.specs.declared.set_op.SetOp.{SetOp}
 use Rattle.rs_value.specs.declared.set_op.SetOp.TheVariants as op
 use Rattle.rs_exec.proofs.FewFacts.{filter-less}

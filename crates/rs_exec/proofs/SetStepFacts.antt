@@ -1,19 +1,20 @@
 -- One ask of a set operator, in steps: where it stands between two asks of its sides, and what each step does.
-use Rattle.std.proofs.Common.{◌≡◌, ◌∙◌, ℕ, zero, suc, ◌-◌, ◌+◌, ◌<◌, ◌≤◌, false, max, List, [], ◌∷◌, ◌++◌, length, map, drop, min, refl, sym, ap, subst, inl, inr, arith, append-nil, append_assoc}
+use Rattle.std.proofs.Common.{◌≡◌, ◌∙◌, ℕ, zero, suc, ◌-◌, ◌+◌, ◌<◌, ◌≤◌, false, List, [], ◌∷◌, ◌++◌, length, map, drop, min, refl, sym, ap, subst, inl, inr, arith, append-nil, append_assoc}
 use Rattle.std.proofs.lemmas.Grind.{flat_map-append}
 use Rattle.std.proofs.lemmas.List.{length-append, length-map}
 use Rattle.std.proofs.lemmas.List.Elements.{filter-append}
 use Rattle.std.proofs.lemmas.Option.{slice_get-map, slice_get_past}
 use Rattle.std.specs.List.{filter, flat_map}
 use Rattle.std.specs.Prelude.{None, Some, Option, Ok, Err, option_map, slice_get}
-use Rattle.rs_order.specs.Asks.{asks_for, bar_after}
-use Rattle.rs_order.specs.Schedule.{JoinSide, Left, Right, SideAsk, is_of_side}
-use Rattle.rs_rank.specs.Keys.{key_cmp}
+use Rattle.rs_order.specs.Asks.{bar_after}
+use Rattle.rs_order.specs.Schedule.{JoinSide, Left, Right, SideAsk, asked, is_of_side}
+use Rattle.rs_order.proofs.ScheduleFacts.{asked-left, asked-right}
 use Rattle.rs_rank.specs.Rows.{HasSum}
 use Rattle.rs_rank.specs.Weights.{IsWeights}
 use Rattle.rs_rank.specs.declared.ask.JoinAsk.TheVariants.{End, NeedLeft, NeedRight, Ready}
 use Rattle.rs_rank.specs.declared.key.Key.{Key}
 use Rattle.rs_rank.specs.declared.row.RankRow.{RankRow}
+use Rattle.rs_rank.specs.SetTurns.{set_schedule}
 use Rattle.rs_expr.specs.InOrder.{Inquires}
 use Rattle.rs_expr.specs.Scoring.{Answering, ScorerState}
 use Rattle.rs_catalog.specs.Catalogue.{Catalogue}
@@ -25,13 +26,10 @@ use Rattle.rs_query.specs.WellFormed.{IsQuery}
 use Rattle.rs_query.specs.declared.query.Query.{Query}
 use Rattle.rs_query.specs.declared.query.Query.TheVariants.{One, Set}
 use Rattle.rs_query.proofs.QuestionFacts.{AllAsked, AllAsked-more, AllAsked-none, Ended-behind, Gave, Gave-ok, Inquires-fault, Stopped-within}
-use Rattle.rs_setop.specs.Asks as setop
-use Rattle.rs_setop.specs.Sides.{AreSides as AreSideRows, Sides, answers, asked, keys_of as row_keys, row_key, schedule_of}
+use Rattle.rs_setop.specs.Sides.{AreSides as AreSideRows, Sides, answers, keys_of as row_keys, row_key, schedule_of}
 use Rattle.rs_setop.proofs.HeadFacts.{Tells}
-use Rattle.rs_setop.proofs.WalkFacts.{asked-left, asked-right}
-use Rattle.rs_value.specs.declared.set_op.SetOp.{SetOp}
 use Rattle.rs_value.specs.declared.set_op.SetOp.TheVariants as op
-use Rattle.rs_plan.specs.Asks.{bar_of, child_asks, keys_of, one_by_one, set_schedule, wanted_for, asks_from}
+use Rattle.rs_plan.specs.Asks.{bar_of, child_asks, keys_of}
 use Rattle.rs_plan.specs.Calls.{questions, questions_of_ask, side_part}
 use Rattle.rs_plan.specs.Counts.{asked_of, gave_of}
 use Rattle.rs_plan.specs.Lists.{World, block_in, key_under, list_of, weights_in}
@@ -53,20 +51,6 @@ use Rattle.rs_exec.proofs.RankFacts.{bar_after-map, drop-front}
 use Rattle.rs_exec.proofs.SetCoreFacts.{core-alive, core-begun, core-left-end, core-left-row, core-right-end, core-right-row, core-taken, core-tells}
 use Rattle.rs_exec.proofs.SetListFacts.{set-list, set-sides}
 use Rattle.rs_exec.proofs.SetOpenFacts.{left-open, right-open}
-
--- both definitions of the asks of INTERSECT and EXCEPT say the same
-one_by_one-same : (rights lefts : List Key) (n asks count : ℕ) → one_by_one rights lefts n asks count ≡ setop.one_by_one rights lefts n asks count
-one_by_one-same rights lefts n asks zero = refl
-one_by_one-same rights [] n asks (suc count) = refl
-one_by_one-same rights (left ∷ lefts) n asks (suc count) =
-    ap (λ (rest : List SideAsk). record { side = Left; number = n } ∷ asks_from Right (suc asks) (wanted_for rights left - asks) ++ rest)
-    (one_by_one-same rights lefts (suc n) (max asks (wanted_for rights left)) count)
-
-schedule-same : (o : SetOp) (lefts rights : List Key) (bar : Option Key) → set_schedule o lefts rights bar ≡ setop.set_schedule o lefts rights bar
-schedule-same op.UnionAll lefts rights bar = refl
-schedule-same op.Union lefts rights bar = refl
-schedule-same op.Intersect lefts rights bar = one_by_one-same rights lefts 1 0 (asks_for key_cmp (λ (k : Key). k) lefts bar)
-schedule-same op.Except lefts rights bar = one_by_one-same rights lefts 1 0 (asks_for key_cmp (λ (k : Key). k) lefts bar)
 
 -- the keys of rows with their output values
 keys-same : (w : World) (mask : ℕ) (rows : List RankRow) → map (λ (row : OutputRow). key_under w mask row.row) (map (output_row w) rows) ≡ map (key_under w mask) rows
@@ -117,11 +101,10 @@ set-facts catalogue answer view (Set o l r limit) number left right formed weigh
         let w = seen catalogue answer view (Set o l r limit) in
         let s = sides_for w left in
         let bar = bar_of w 1 (SetOperator left right) n in
-        schedule-same o (keys_of w 1 left) (keys_of w 2 right) bar
-        ∙ ap (λ (keys : List Key). setop.set_schedule o keys (keys_of w 2 right) bar) (sym (keys-same w (terms left) (list_of w 1 left)))
-        ∙ ap (λ (keys : List Key). setop.set_schedule o (row_keys s (outputs_in w 1 left)) keys bar)
+        ap (λ (keys : List Key). set_schedule o keys (keys_of w 2 right) bar) (sym (keys-same w (terms left) (list_of w 1 left)))
+        ∙ ap (λ (keys : List Key). set_schedule o (row_keys s (outputs_in w 1 left)) keys bar)
         (ap (λ m. map (key_under w m) (list_of w 2 right)) (sym parts.3) ∙ sym (keys-same w (terms left) (list_of w 2 right)))
-        ∙ ap (setop.set_schedule o (row_keys s (outputs_in w 1 left)) (row_keys s (outputs_in w 2 right)))
+        ∙ ap (set_schedule o (row_keys s (outputs_in w 1 left)) (row_keys s (outputs_in w 2 right)))
         (ap (λ (keys : List Key). bar_after (λ (k : Key). k) keys n) (sym (keys-same w (terms left) (list_of w 1 (SetOperator left right))))
         ∙ bar_after-map (row_key s) (outputs_in w 1 (SetOperator left right)) n
         ∙ ap (λ (rows : List OutputRow). bar_after (row_key s) rows n) list)

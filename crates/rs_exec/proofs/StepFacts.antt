@@ -9,7 +9,7 @@ use Rattle.rs_order.proofs.ReorderFacts.{asks_upto-none}
 use Rattle.rs_rank.specs.Keys.{key_cmp}
 use Rattle.rs_rank.specs.declared.ask.Ask.{Ask}
 use Rattle.std.specs.Prelude.{min, None, Some, Option, Ok, Err, slice_get}
-use Rattle.rs_order.specs.Schedule.{Left, SideAsk}
+use Rattle.rs_order.specs.Schedule.{Left, SideAsk, asks_from}
 use Rattle.rs_expr.specs.InOrder.{Inquires}
 use Rattle.rs_expr.specs.Scoring.{ScorerState}
 use Rattle.rs_rank.specs.Weights.{IsWeights}
@@ -26,7 +26,6 @@ use Rattle.rs_query.specs.Questions.{Question, question_of}
 use Rattle.rs_query.specs.declared.query.Query.{Query}
 use Rattle.rs_query.specs.declared.term.Term.{Term}
 use Rattle.rs_query.proofs.QuestionFacts.{AllAsked, AllAsked-more, AllAsked-none, Ended-behind, Gave-ok, Inquires-fault}
-use Rattle.rs_plan.specs.Asks.{asks_from}
 use Rattle.rs_plan.specs.Calls.{own_question, questions, questions_of_ask, rank_part}
 use Rattle.rs_plan.specs.Counts.{asked_of}
 use Rattle.rs_plan.specs.Lists.{World, block_in, numbered_block, list_of, weights_in}

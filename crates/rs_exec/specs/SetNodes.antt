@@ -4,7 +4,8 @@ use Rattle.rs_order.specs.Asks.{asks_for}
 use Rattle.rs_order.specs.Schedule.{Left, Right}
 use Rattle.rs_rank.specs.Keys.{key_cmp}
 use Rattle.rs_rank.specs.declared.key.Key.{Key}
-use Rattle.rs_plan.specs.Asks.{child_asks, wanted_for}
+use Rattle.rs_rank.specs.SetTurns.{wanted_for}
+use Rattle.rs_plan.specs.Asks.{child_asks}
 use Rattle.rs_plan.specs.Counts.{asked_of, gave_of}
 use Rattle.rs_plan.specs.Lists.{World, weights_in}
 use Rattle.rs_plan.specs.Trees.{SetOperator, PlanTree, terms}

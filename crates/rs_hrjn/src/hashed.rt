@@ -3,11 +3,13 @@ ghost use Rattle.std.specs.List.{AllByRecursion};
 ghost use Rattle.rs_hrjn.specs.Drawn.{alike};
 ghost use Rattle.rs_hrjn.specs.Hashed.{Hashed, HaveTheirValues, MatchTheirValues, hash_left, hash_right, joined_of, new_hashed, rows_at};
 ghost use Rattle.rs_rank.specs.declared.ask.JoinAsk.TheVariants.{NeedLeft, NeedRight, Ready};
+ghost use Rattle.rs_order.specs.Climbing.{Climbs};
+ghost use Rattle.rs_rank.specs.Keys.{key_cmp};
 ghost use Rattle.rs_rank.specs.declared.row.RankRow.{RankRow};
 ghost use Rattle.rs_rank.specs.Rows.{CanMergeRows, merge_row};
 ghost use Rattle.rs_ripple.specs.Joined.{CanFeedLeft, CanFeedRight, Fits};
 ghost use Rattle.rs_ripple.specs.Pairs.{pairs_against, pairs_with};
-ghost use Rattle.rs_ripple.specs.Ripple.{CanEnd, CanJoin, ask_of, left_ended, left_for, right_ended, taken_for};
+ghost use Rattle.rs_ripple.specs.Ripple.{CanEnd, CanJoin, HasReached, ask_of, left_ended, left_for, right_ended, taken_for};
 ghost use Rattle.rs_ripple.specs.Stands.{CanFindEach, found_each};
 
 use crate::drawn::DrawnRows;
@@ -57,10 +59,13 @@ impl Hrjn {
         }
     }
 
-    /// What the join does next.
+    /// What the join does next. The pairs that it holds are in the order of their keys, and the one taken last came at or
+    /// before both thresholds.
     pub fn ask(&self) -> JoinAsk
         requires { self.now.ripple.spent ≡ false }
-        ensures { result ≡ ask_of self.now.ripple }
+        ensures ask { result ≡ ask_of self.now.ripple }
+        ensures ordered { Climbs key_cmp (λ pair. pair.0) self.now.ripple.held }
+        ensures reached { HasReached self.now.ripple }
     {
         self.core.ask()
     }

@@ -2,10 +2,9 @@
 use Rattle.std.proofs.Common.{◌≡◌, ◌-◌, ◌≤◌, List, [], ◌∷◌, length, get_or, map, bit_or, refl, sym, ◌∙◌, subst}
 use Rattle.std.proofs.lemmas.List.{length-map}
 use Rattle.std.specs.List.{AllByRecursion}
-use Rattle.std.specs.declared.cmp.Ordering.{Ordering}
-use Rattle.rs_order.specs.Climbing.{Climbs, Differs, HasDistinctKeys, Precedes}
+use Rattle.rs_order.specs.Climbing.{Climbs, Differs, HasDistinctKeys}
 use Rattle.rs_order.specs.Sorting.{sorted}
-use Rattle.rs_order.proofs.ClimbingFacts.{AllByRecursion-In, AllByRecursion-from_In}
+use Rattle.rs_order.proofs.ClimbingFacts.{AllByRecursion-In, AllByRecursion-from_In, Climbs-map}
 use Rattle.rs_order.proofs.EachFacts.{each-map}
 use Rattle.rs_order.proofs.SortingFacts.{HasDistinctKeys-sorted, In-sorted-back}
 use Rattle.rs_rank.proofs.OrderFacts.{IsTied-of_parts, IsTied-parts}
@@ -23,11 +22,6 @@ use Rattle.rs_mu.proofs.StandFacts.{answers-map, key_cmp-total, length-sorted, r
 
 pub length-answers : (e : Evaluation) (rows : List RankRow) → length (answers e rows) ≡ length rows
 length-answers e rows = length-sorted key_cmp (new_key e) (map (with_worth e) rows) ∙ length-map rows (with_worth e)
-
--- keys rise also after a map that keeps them
-Climbs-map : {X Y K : Type 0} (cmp : K → K → Ordering) (key : Y → K) (f : X → Y) (xs : List X) → Climbs cmp (λ x. key (f x)) xs → Climbs cmp key (map f xs)
-Climbs-map cmp key f [] climbs = tt
-Climbs-map cmp key f (x ∷ xs) climbs = (each-map (Precedes cmp key (f x)) f xs climbs.0, Climbs-map cmp key f xs climbs.1)
 
 pub answers-climb : (e : Evaluation) (rows : List RankRow) → IsInput e rows → Climbs key_cmp (new_key e) (answers e rows)
 answers-climb e rows input =

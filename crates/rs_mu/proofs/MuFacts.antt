@@ -1,25 +1,26 @@
--- Sums with one more term, keys that no held row has, and what the first key held tells.
-use Rattle.std.proofs.Common.{◌≡◌, ℕ, ◌+◌, ◌-◌, ◌*◌, ◌<◌, ◌≤◌, ◌||◌, Bool, false, List, [], ◌∷◌, length, get_or, bit_or, Option, Some, None, refl, sym, ◌∙◌, ap, arith}
+-- Sums with one more term, keys that no held row has, and the keys of the rows held.
+use Rattle.std.proofs.Common.{◌≡◌, ℕ, ◌+◌, ◌-◌, ◌*◌, ◌<◌, ◌≤◌, ◌||◌, false, List, [], ◌∷◌, length, get_or, bit_or, refl, sym, ◌∙◌, ap, arith}
 use Rattle.std.proofs.lemmas.Nat.{mul-le}
-use Rattle.std.specs.Prelude.{⊤, if◌then◌else◌}
+use Rattle.std.specs.Prelude.{⊤}
 use Rattle.std.specs.List.{AllByRecursion, slice_get}
 use Rattle.std.specs.Option.{option_map}
 use Rattle.std.specs.Ordering.{is_eq}
 use Rattle.std.specs.declared.cmp.Ordering.TheVariants.{Less, Equal, Greater}
+use Rattle.rs_order.specs.Climbing.{Climbs}
+use Rattle.rs_order.proofs.ClimbingFacts.{Climbs-map}
 use Rattle.rs_queue.specs.Queue.{has_key}
 use Rattle.rs_queue.proofs.ItemFacts.{has_key-items}
 use Rattle.rs_rank.proofs.OrderFacts.{IsTied-parts}
 use Rattle.rs_rank.proofs.WeightFacts.{IsBound-sum, bound-limit, sum_inside-one}
-use Rattle.rs_rank.specs.declared.ask.Ask.{Ask}
-use Rattle.rs_rank.specs.declared.ask.Ask.TheVariants.{Need, Ready, End}
 use Rattle.rs_rank.specs.declared.key.Key.{Key}
 use Rattle.rs_rank.specs.declared.row.RankRow.{RankRow}
 use Rattle.rs_rank.specs.declared.weights.Weights.{Weights}
 use Rattle.rs_rank.specs.Keys.{key_cmp}
+use Rattle.rs_rank.specs.Rows.{first_key}
 use Rattle.rs_rank.specs.Masks.{mask_of}
 use Rattle.rs_rank.specs.Weights.{IsWeights, most_evaluated, rest, score_limit}
 use Rattle.rs_rank.specs.Ids.{AreOtherIds}
-use Rattle.rs_mu.specs.Mu.{IsNewTerm, ask_for, is_reached, rows_of_keys}
+use Rattle.rs_mu.specs.Mu.{HaveRest, IsNewTerm, rows_of_keys}
 use Rattle.rs_mu.proofs.KeyFacts.{row_without}
 
 -- a sum with the share of one more term is one that the terms can give
@@ -58,11 +59,19 @@ pub has_key-other_keys : (rest : ℕ) (key : Key) (pairs : List (Key × ⊤)) �
 has_key-other_keys rest key pairs all =
     sym (has_key-items key_cmp (row_without rest) key pairs) ∙ has_key-other_ids key (rows_of_keys rest pairs) all
 
--- what the operator does next is told by the first key
-abbrev pub ask_first : Option Key → Bool → Option Key → Ask
-ask_first last ended None = if ended then End else Need
-ask_first last ended (Some key) = if ended || is_reached last key then Ready else Need
+-- the first of the rows that keys stand for has the first key
+pub first_key-keys : (rest : ℕ) (pairs : List (Key × ⊤)) → first_key (rows_of_keys rest pairs) ≡ option_map (λ pair. pair.0) (slice_get pairs 0)
+first_key-keys rest [] = refl
+first_key-keys rest (pair ∷ pairs) = refl
 
-pub ask_for-keys : (last : Option Key) (ended : Bool) (rest : ℕ) (pairs : List (Key × ⊤)) (first : Option Key) → first ≡ option_map (λ pair. pair.0) (slice_get pairs 0) → ask_for last ended (rows_of_keys rest pairs) ≡ ask_first last ended first
-ask_for-keys last ended rest [] first is = ap (ask_first last ended) (sym is)
-ask_for-keys last ended rest (pair ∷ pairs) first is = ap (ask_first last ended) (sym is)
+-- their keys rise where those do
+pub rising-keys : (rest : ℕ) (pairs : List (Key × ⊤)) → Climbs key_cmp (λ pair. pair.0) pairs → Climbs key_cmp (λ pair. pair.0) (rows_of_keys rest pairs)
+rising-keys rest pairs climbs = Climbs-map key_cmp (λ (pair : Key × RankRow). pair.0) (λ (pair : Key × ⊤). (pair.0, record { ids = pair.0.ids; sum = pair.0.bound - rest })) pairs climbs
+
+-- each of these rows has its key, where the rest is in all of them
+pub keys-rest : (rest : ℕ) (pairs : List (Key × ⊤)) → HaveRest rest pairs → AllByRecursion (λ pair. pair.0 ≡ record { bound = pair.1.sum + rest; ids = pair.1.ids }) (rows_of_keys rest pairs)
+keys-rest rest [] have = tt
+keys-rest rest (pair ∷ pairs) have =
+    let within : rest ≤ pair.0.bound = have.0 in
+    let bound : pair.0.bound ≡ pair.0.bound - rest + rest = omega arith in
+    (ap (λ b. record { bound = b; ids = pair.0.ids }) bound, keys-rest rest pairs have.1)

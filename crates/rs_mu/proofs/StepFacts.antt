@@ -14,9 +14,9 @@ use Rattle.rs_rank.specs.declared.ask.Ask.TheVariants.{Need, Ready}
 use Rattle.rs_rank.specs.declared.key.Key.{Key}
 use Rattle.rs_rank.specs.declared.row.RankRow.{RankRow}
 use Rattle.rs_rank.specs.Keys.{key_cmp}
-use Rattle.rs_rank.specs.Rows.{HasSum}
+use Rattle.rs_rank.specs.Rows.{HasSum, first_row}
 use Rattle.rs_rank.specs.Ids.{AreOtherIds}
-use Rattle.rs_mu.specs.Mu.{CanEnd, CanFeed, IsBehind, Mu, ask_of, fed, first_row, left_for, taken_for}
+use Rattle.rs_mu.specs.Mu.{CanEnd, CanFeed, IsBehind, Mu, ask_of, fed, left_for, taken_for}
 use Rattle.rs_rank.specs.Rows.{HaveOtherIds}
 use Rattle.rs_order.specs.Last.{last_of}
 use Rattle.rs_mu.specs.Stands.{Evaluation, Stands, answers, new_key, old_key}

@@ -1,5 +1,5 @@
 -- What a rank operator keeps, and what each call does to it. The operator evaluates one term in addition.
-use Rattle.std.specs.Prelude.{ℕ, ◌≡◌, ◌≤◌, ◌+◌, ◌-◌, ◌*◌, ◌||◌, ⊤, Bool, false, not, List, [], ◌∷◌, Option, Some, None, bit_or, drop, map, slice_index, if◌then◌else◌}
+use Rattle.std.specs.Prelude.{ℕ, ◌≡◌, ◌≤◌, ◌+◌, ◌-◌, ◌*◌, ◌||◌, ⊤, Bool, false, not, List, [], Option, Some, None, bit_or, drop, map, slice_index, if◌then◌else◌}
 use Rattle.std.specs.List.{AllByRecursion}
 use Rattle.std.specs.Ordering.{is_gt}
 use Rattle.rs_order.specs.Sorting.{put}
@@ -11,7 +11,7 @@ use Rattle.rs_rank.specs.declared.weights.Weights.{Weights}
 use Rattle.rs_rank.specs.Ids.{AreOtherIds}
 use Rattle.rs_rank.specs.Keys.{IsBefore, key_cmp}
 use Rattle.rs_rank.specs.Masks.{has_number, mask_of}
-use Rattle.rs_rank.specs.Rows.{HasSum, key_of}
+use Rattle.rs_rank.specs.Rows.{HasSum, first_key, first_row, key_of}
 
 -- the terms that are evaluated below, and the one that is evaluated here; the key of the last row fed, by the terms
 -- below, and whether no more comes; the rows held, in the order of their keys by all these terms; and whether memory
@@ -50,10 +50,13 @@ abbrev pub is_reached : Option Key → Key → Bool
 is_reached None key = false
 is_reached (Some last) key = not (is_gt (key_cmp key last))
 
--- the first held row can be taken once it is reached, or no more comes
+-- the first held row can be taken once its key is reached, or no more comes
+abbrev pub ask_first : Option Key → Bool → Option Key → Ask
+ask_first last ended None = if ended then End else Need
+ask_first last ended (Some key) = if ended || is_reached last key then Ready else Need
+
 abbrev pub ask_for : Option Key → Bool → List (Key × RankRow) → Ask
-ask_for last ended [] = if ended then End else Need
-ask_for last ended (pair ∷ rest) = if ended || is_reached last pair.0 then Ready else Need
+ask_for last ended held = ask_first last ended (first_key held)
 
 abbrev pub ask_of : Mu → Ask
 ask_of mu = ask_for mu.last mu.ended mu.held
@@ -74,10 +77,6 @@ fed row worth mu = record mu {
 }
 
 -- the first held row, if it can be taken
-abbrev pub first_row : List (Key × RankRow) → Option RankRow
-first_row [] = None
-first_row (pair ∷ rest) = Some pair.1
-
 abbrev pub taken_for : Ask → Mu → Option RankRow
 taken_for Ready mu = first_row mu.held
 taken_for Need mu = None

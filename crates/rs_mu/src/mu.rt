@@ -1,8 +1,12 @@
 ghost use Rattle.std.specs.Prelude.{◌≡◌, ◌-◌, ◌*◌, ◌+◌, ◌≤◌, bit_or, false, true, slice_index, OnOk, OnErr};
+ghost use Rattle.std.specs.List.{AllByRecursion};
+ghost use Rattle.std.specs.Option.{option_map};
+ghost use Rattle.rs_order.specs.Climbing.{Climbs};
+ghost use Rattle.rs_rank.specs.Keys.{key_cmp};
 ghost use Rattle.rs_rank.specs.Masks.{mask_of};
 ghost use Rattle.rs_rank.specs.Rows.{HasSum};
 ghost use Rattle.rs_rank.specs.Weights.{IsWeights, score_limit};
-ghost use Rattle.rs_mu.specs.Mu.{CanEnd, CanFeed, IsNewTerm, ask_of, fed, is_reached, left_for, new_mu, scored, taken_for};
+ghost use Rattle.rs_mu.specs.Mu.{CanEnd, CanFeed, IsNewTerm, ask_first, ask_of, fed, full_key, is_reached, left_for, new_mu, scored, taken_for};
 
 use rs_queue::Queue;
 use rs_rank::{Ask, Key, RankRow, Weights, mask_of, union};
@@ -75,21 +79,14 @@ impl MuCore {
         }
     }
 
-    /// What the operator does next.
+    /// What the operator does next. What it holds is in the order of the keys, each row with its own.
     pub fn ask(&self) -> Ask
         requires { self.now.spent ≡ false }
-        ensures { result ≡ ask_of self.now }
+        ensures ask { result ≡ ask_of self.now }
+        ensures ordered { Climbs key_cmp (λ pair. pair.0) self.now.held }
+        ensures keys { AllByRecursion (λ pair. pair.0 ≡ full_key self.now pair.1) self.now.held }
     {
-        match self.held.peek() {
-            Some(first) => {
-                if self.ended || is_reached(&self.last, first) {
-                    Ask::Ready
-                } else {
-                    Ask::Need
-                }
-            }
-            None => { if self.ended { Ask::End } else { Ask::Need } }
-        }
+        ask_first(&self.last, self.ended, self.held.peek())
     }
 
     /// Takes the input's next row, and what the operator's term is worth on it.
@@ -163,6 +160,22 @@ fn key_with(row: &RankRow, rest: u64) -> Key
     Key {
         bound: row.sum + rest,
         ids: row.ids,
+    }
+}
+
+/// What is done next, by the key of the last row, whether no more comes, and the first key held.
+fn ask_first(last: &Option<Key>, ended: bool, first: Option<&Key>) -> Ask
+    ensures { result ≡ ask_first last.now ended (option_map (λ key. key.now) first.entry) }
+{
+    match first {
+        Some(first) => {
+            if ended || is_reached(last, first) {
+                Ask::Ready
+            } else {
+                Ask::Need
+            }
+        }
+        None => { if ended { Ask::End } else { Ask::Need } }
     }
 }
 

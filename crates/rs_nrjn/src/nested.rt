@@ -1,10 +1,12 @@
 ghost use Rattle.std.specs.Prelude.{◌≡◌, ◌+◌, ◌≤◌, Bool, false, true, length, OnOk, OnErr};
 ghost use Rattle.std.specs.List.{AllByRecursion};
+ghost use Rattle.rs_order.specs.Climbing.{Climbs};
+ghost use Rattle.rs_rank.specs.Keys.{key_cmp};
 ghost use Rattle.rs_rank.specs.declared.row.RankRow.{RankRow};
 ghost use Rattle.rs_rank.specs.Rows.{CanMergeRows, merge_row};
 ghost use Rattle.rs_ripple.specs.Joined.{CanFeedLeft, CanFeedRight, Fits, Joined, end_left, end_right, fed_left, fed_right, new_joined, rest_for};
 ghost use Rattle.rs_ripple.specs.Pairs.{pairs_against, pairs_with};
-ghost use Rattle.rs_ripple.specs.Ripple.{CanEnd, CanJoin, ask_of, taken_for};
+ghost use Rattle.rs_ripple.specs.Ripple.{CanEnd, CanJoin, HasReached, ask_of, taken_for};
 ghost use Rattle.rs_ripple.specs.Stands.{CanFindEach, found_each};
 ghost use Rattle.rs_rank.specs.declared.ask.JoinAsk.TheVariants.{NeedLeft, NeedRight, Ready};
 
@@ -53,10 +55,13 @@ impl Nrjn {
         }
     }
 
-    /// What the join does next.
+    /// What the join does next. The pairs that it holds are in the order of their keys, and the one taken last came at or
+    /// before both thresholds.
     pub fn ask(&self) -> JoinAsk
         requires { self.now.ripple.spent ≡ false }
-        ensures { result ≡ ask_of self.now.ripple }
+        ensures ask { result ≡ ask_of self.now.ripple }
+        ensures ordered { Climbs key_cmp (λ pair. pair.0) self.now.ripple.held }
+        ensures reached { HasReached self.now.ripple }
     {
         self.core.ask()
     }

@@ -1,10 +1,11 @@
 -- Lists whose keys rise: their items determine them.
-use Rattle.std.proofs.Common.{◌≡◌, ℕ, zero, suc, List, [], ◌∷◌, take, refl, sym, ◌∙◌, subst, ◌⊎◌, inl, inr}
+use Rattle.std.proofs.Common.{◌≡◌, ℕ, zero, suc, List, [], ◌∷◌, take, map, refl, sym, ◌∙◌, subst, ◌⊎◌, inl, inr}
 use Rattle.std.specs.List.{AllByRecursion}
 use Rattle.std.specs.Cmp.{IsTotalOrder, tied_itself}
 use Rattle.std.specs.declared.cmp.Ordering.TheVariants.{Less}
 use Rattle.std.specs.declared.cmp.Ordering.{Ordering}
 use Rattle.rs_order.specs.Climbing.{In, Precedes, Climbs, IsBeyond}
+use Rattle.rs_order.proofs.EachFacts.{each-map}
 
 -- what holds of each item of a list holds of an item in it
 pub AllByRecursion-In : {X : Type 0} (P : X → Type 0) (xs : List X) → AllByRecursion P xs → (z : X) → In z xs → P z
@@ -15,6 +16,11 @@ AllByRecursion-In P (x ∷ xs) all z h = elim h [ inl e ↦ subst P (sym e) all.
 pub AllByRecursion-from_In : {X : Type 0} (P : X → Type 0) (xs : List X) → ((z : X) → In z xs → P z) → AllByRecursion P xs
 AllByRecursion-from_In P [] holds = tt
 AllByRecursion-from_In P (x ∷ xs) holds = (holds x (inl refl), AllByRecursion-from_In P xs (λ z h. holds z (inr h)))
+
+-- the keys of what a function gives of each item rise where the items' own do
+pub Climbs-map : {X Y K : Type 0} (cmp : K → K → Ordering) (key : Y → K) (f : X → Y) (xs : List X) → Climbs cmp (λ x. key (f x)) xs → Climbs cmp key (map f xs)
+Climbs-map cmp key f [] climbs = tt
+Climbs-map cmp key f (x ∷ xs) climbs = (each-map (Precedes cmp key (f x)) f xs climbs.0, Climbs-map cmp key f xs climbs.1)
 
 -- no key comes before itself
 pub cmp-not_itself : {K : Type 0} (cmp : K → K → Ordering) → IsTotalOrder cmp → (a : K) → cmp a a ≡ Less → ⊥

@@ -1,6 +1,8 @@
 -- The asks of two sides, side by side.
-use Rattle.std.proofs.Common.{◌≡◌, ℕ, suc, true, false, cond, List, [], ◌∷◌, length, map, Option, refl, sym, ◌∙◌, ap, inl, inr, arith}
+use Rattle.std.proofs.Common.{◌≡◌, ℕ, zero, suc, ◌+◌, Bool, true, false, cond, List, [], ◌∷◌, ◌++◌, length, map, Option, refl, sym, ◌∙◌, ap, inl, inr, arith}
 use Rattle.std.proofs.lemmas.Bool.{cases_lt, true≢false}
+use Rattle.std.proofs.lemmas.List.{length-append, length-map}
+use Rattle.std.proofs.lemmas.List.Elements.{filter-append}
 use Rattle.std.specs.Cmp.{IsTotalOrder}
 use Rattle.std.specs.List.{AllByRecursion, filter}
 use Rattle.std.specs.Ordering.{is_gt}
@@ -9,7 +11,7 @@ use Rattle.rs_order.proofs.AsksFacts.{get_or-asked}
 use Rattle.rs_order.specs.Asks.{asks_for, comes_before_bar, those_before}
 use Rattle.rs_order.specs.Climbing.{Climbs}
 use Rattle.rs_order.specs.Merging.{merged, woven}
-use Rattle.rs_order.specs.Schedule.{JoinSide, Left, Right, Turn, asked_before, is_of_side, numbers_from, ask_numbers, schedule, turns_from}
+use Rattle.rs_order.specs.Schedule.{JoinSide, Left, Right, SideAsk, Turn, asked, asked_before, is_of_side, numbers_from, ask_numbers, schedule, turns_from}
 
 -- what is made of a list item by item, where the items of the second list add nothing
 module _ {X K A : Type 0} (cmp : K → K → Ordering) (key : X → K) (make : List X → A) (add : X → A → A) (step : (x : X) (xs : List X) → make (x ∷ xs) ≡ add x (make xs)) where
@@ -110,3 +112,36 @@ right_scheduled cmp o lefts rights bar climbs =
     (turns_from Left 2 lefts) (turns_from Right 2 rights)
     (other_adds_nothing cmp bar Right Left 2 lefts (λ number. refl))
     ∙ own_numbers cmp bar o Right 2 rights (λ number. refl) climbs)
+
+-- as many asks of a side as numbers
+length-numbers : (n count : ℕ) → length (numbers_from n count) ≡ count
+length-numbers n zero = refl
+length-numbers n (suc count) = ap suc (length-numbers (suc n) count)
+
+pub asked-numbers : (side : JoinSide) (asks : List SideAsk) (n count : ℕ) → ask_numbers side asks ≡ numbers_from n count → asked side asks ≡ count
+asked-numbers side asks n count e =
+    sym (length-map (filter (is_of_side side) asks) (λ (ask : SideAsk). ask.number)) ∙ ap (λ (numbers : List ℕ). length numbers) e ∙ length-numbers n count
+
+-- one ask more, of which this tells whether it is of the side
+asked-one : (side : JoinSide) (made : List SideAsk) (ask : SideAsk) → asked side (made ++ ask ∷ []) ≡ asked side made + cond (is_of_side side ask) 1 0
+asked-one side made ask =
+    ap (λ (asks : List SideAsk). length asks) (filter-append (is_of_side side) made (ask ∷ []))
+    ∙ length-append (filter (is_of_side side) made) (filter (is_of_side side) (ask ∷ []))
+    ∙ ap (λ n. asked side made + n) (one (is_of_side side ask))
+  where
+    one : (own : Bool) → length (cond own (ask ∷ []) []) ≡ cond own 1 0
+    one true = refl
+    one false = refl
+
+-- one ask more of a side is none of the other one
+pub asked-left : (made : List SideAsk) (n : ℕ) → (asked Left (made ++ record { side = Left; number = n } ∷ []) ≡ suc (asked Left made)) × (asked Right (made ++ record { side = Left; number = n } ∷ []) ≡ asked Right made)
+asked-left made n =
+    let own = asked-one Left made (record { side = Left; number = n }) in
+    let other = asked-one Right made (record { side = Left; number = n }) in
+    (omega arith, omega arith)
+
+pub asked-right : (made : List SideAsk) (n : ℕ) → (asked Left (made ++ record { side = Right; number = n } ∷ []) ≡ asked Left made) × (asked Right (made ++ record { side = Right; number = n } ∷ []) ≡ suc (asked Right made))
+asked-right made n =
+    let other = asked-one Left made (record { side = Right; number = n }) in
+    let own = asked-one Right made (record { side = Right; number = n }) in
+    (omega arith, omega arith)

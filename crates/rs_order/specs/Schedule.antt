@@ -1,5 +1,5 @@
 -- The order in which an operator asks its two sides, over the finished lists of the keys of their asks.
-use Rattle.std.specs.Prelude.{ℕ, zero, suc, Bool, true, false, List, [], ◌∷◌, map, Option}
+use Rattle.std.specs.Prelude.{ℕ, zero, suc, Bool, true, false, List, [], ◌∷◌, length, map, Option}
 use Rattle.std.specs.List.{filter}
 use Rattle.std.specs.declared.cmp.Ordering.{Ordering}
 use Rattle.rs_order.specs.Asks.{comes_before_bar}
@@ -50,3 +50,11 @@ ask_numbers side asks = map (λ ask. ask.number) (filter (is_of_side side) asks)
 abbrev pub numbers_from : ℕ → ℕ → List ℕ
 numbers_from n zero = []
 numbers_from n (suc count) = n ∷ numbers_from (suc n) count
+
+-- so many asks of a side, from this number on
+abbrev pub asks_from : JoinSide → ℕ → ℕ → List SideAsk
+asks_from side n count = map (λ number. record { side = side; number = number }) (numbers_from n count)
+
+-- how often a side was asked
+abbrev pub asked : JoinSide → List SideAsk → ℕ
+asked side made = length (filter (is_of_side side) made)

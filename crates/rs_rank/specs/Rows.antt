@@ -1,5 +1,5 @@
 -- Rows by the rows of their entries and the sum of their evaluated terms, and their keys.
-use Rattle.std.specs.Prelude.{ℕ, ◌≤◌, ◌+◌, List, [], ◌∷◌, map}
+use Rattle.std.specs.Prelude.{ℕ, ◌≤◌, ◌+◌, List, [], ◌∷◌, map, Option, Some, None}
 use Rattle.std.specs.List.{AllByRecursion}
 use Rattle.rs_rank.specs.declared.key.Key.{Key}
 use Rattle.rs_rank.specs.declared.row.RankRow.{RankRow}
@@ -33,3 +33,12 @@ pub record CanMergeRows (left right : RankRow) : Type 0 where
 -- the rows that keys and sums stand for, each with its key
 abbrev pub rows_of_sums : List (Key × ℕ) → List (Key × RankRow)
 rows_of_sums pairs = map (λ pair. (pair.0, record { ids = pair.0.ids; sum = pair.1 })) pairs
+
+-- the first of rows that are held with their keys, and its key
+abbrev pub first_row : List (Key × RankRow) → Option RankRow
+first_row [] = None
+first_row (pair ∷ rest) = Some pair.1
+
+abbrev pub first_key : List (Key × RankRow) → Option Key
+first_key [] = None
+first_key (pair ∷ rest) = Some pair.0

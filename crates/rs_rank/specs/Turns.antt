@@ -1,8 +1,12 @@
--- The order in which a join asks its two sides, over the finished lists of their keys.
-use Rattle.std.specs.Prelude.{ℕ, List, [], ◌∷◌, map, Option}
+-- The order in which a join asks its two sides, over the finished lists of their keys; and what the next ask of an operator of two
+-- sides is.
+use Rattle.std.specs.Prelude.{ℕ, suc, ◌≡◌, ◌<◌, ◌↔◌, List, [], ◌∷◌, length, map, Option, Some}
+use Rattle.std.specs.List.{slice_get}
 use Rattle.std.specs.declared.cmp.Ordering.{Ordering}
 use Rattle.rs_order.specs.Asks.{asks_for}
-use Rattle.rs_order.specs.Schedule.{Left, SideAsk, schedule}
+use Rattle.rs_order.specs.Schedule.{Left, Right, SideAsk, asked, schedule}
+use Rattle.rs_rank.specs.declared.ask.JoinAsk.{JoinAsk}
+use Rattle.rs_rank.specs.declared.ask.JoinAsk.TheVariants.{NeedLeft, NeedRight, Ready, End}
 
 -- the keys of the left rows, each merged with the first right row's
 abbrev pub left_keys : {K : Type 0} → (K → K → K) → List K → List K → List K
@@ -29,3 +33,11 @@ left_asks cmp merge lefts rights bar = asks_for cmp (λ key. key) (left_keys mer
 abbrev pub right_asks : {K : Type 0} → (K → K → Ordering) → (K → K → K) → List K → List K → Option K → ℕ
 right_asks cmp merge [] rights bar = 0
 right_asks cmp merge (left ∷ lefts) rights bar = asks_for cmp (λ key. key) (right_keys merge (left ∷ lefts) rights) bar
+
+-- what an operator of two sides does next is the next ask of the schedule for the next answer. It is ready exactly where all these
+-- asks are made and there is a next answer, and ends exactly where all are made and there is none
+pub record IsNextAsk (asks made : List SideAsk) (count all : ℕ) (ask : JoinAsk) : Type 0 where
+  pub left : (ask ≡ NeedLeft) ↔ (slice_get asks (length made) ≡ Some (record { side = Left; number = suc (asked Left made) }))
+  pub right : (ask ≡ NeedRight) ↔ (slice_get asks (length made) ≡ Some (record { side = Right; number = suc (asked Right made) }))
+  pub ready : (ask ≡ Ready) ↔ ((made ≡ asks) × (count < all))
+  pub end : (ask ≡ End) ↔ ((made ≡ asks) × (count ≡ all))

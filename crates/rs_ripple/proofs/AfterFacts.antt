@@ -2,13 +2,13 @@
 use Rattle.std.proofs.Common.{◌≡◌, ◌∙◌, ℕ, ◌≤◌, Bool, true, false, cond, List, length, Option, Some, None, sym, ap, subst, inl, inr, arith}
 use Rattle.std.proofs.lemmas.Bool.{cases_lt, lt-ltb}
 use Rattle.std.proofs.lemmas.List.{length-map}
-use Rattle.rs_order.specs.Schedule.{Left, Right, SideAsk}
+use Rattle.rs_order.specs.Schedule.{Left, Right, SideAsk, asked}
 use Rattle.rs_rank.specs.declared.ask.JoinAsk.TheVariants.{End, NeedLeft, NeedRight}
 use Rattle.rs_rank.specs.declared.row.RankRow.{RankRow}
 use Rattle.rs_ripple.specs.Joined.{JoinStands, Joined}
 use Rattle.rs_ripple.specs.declared.side.Drawn.{Drawn}
 use Rattle.rs_ripple.specs.Ripple.{Ripple, ask_between, ask_drawn, ask_of, left_threshold, pair_key, right_threshold}
-use Rattle.rs_ripple.specs.Stands.{Join, asked, side_key, side_keys}
+use Rattle.rs_ripple.specs.Stands.{Join, side_key, side_keys}
 use Rattle.rs_ripple.proofs.JoinedFacts.{not_left, not_right}
 
 -- a side that has ended isn't needed

@@ -4,7 +4,7 @@ use Rattle.std.proofs.Common.{◌≡◌, Bool, true, false, cond, List, [], ◌�
 use Rattle.std.specs.List.{AllByRecursion, filter}
 use Rattle.std.specs.declared.cmp.Ordering.TheVariants.{Less, Equal}
 use Rattle.rs_order.specs.Climbing.{Climbs, HasDistinctKeys, In, Precedes}
-use Rattle.rs_order.proofs.ClimbingFacts.{AllByRecursion-In, AllByRecursion-from_In}
+use Rattle.rs_order.proofs.ClimbingFacts.{AllByRecursion-In, AllByRecursion-from_In, Climbs-map}
 use Rattle.rs_order.proofs.EachFacts.{each-map, each-push}
 use Rattle.rs_order.proofs.ItemFacts.{Climbs-filter, In-right}
 use Rattle.rs_rank.specs.declared.ask.JoinAsk.TheVariants.{NeedRight}
@@ -16,14 +16,14 @@ use Rattle.rs_rank.proofs.OrderFacts.{key_cmp-total}
 use Rattle.rs_rank.proofs.WeightFacts.{most_evaluated-limit}
 use Rattle.rs_ripple.specs.declared.side.Drawn.{Drawn}
 use Rattle.rs_order.specs.Sorting.{put_each}
-use Rattle.rs_ripple.specs.Joined.{CanFeedRight, Fits, IsJoined, IsTakenReached, Joined, block_of, fed_right, is_behind, join_of, left_key, pairs_behind, right_key}
+use Rattle.rs_ripple.specs.Joined.{CanFeedRight, Fits, IsJoined, Joined, block_of, fed_right, is_behind, join_of, left_key, pairs_behind, right_key}
 use Rattle.rs_ripple.specs.Pairs.{pairs_against}
-use Rattle.rs_ripple.specs.Ripple.{HasDrawn, IsBehind, IsBehindDrawn, IsOfBlock, Ripple, ask_between, ask_drawn, drawn_with, full_key, is_reached, left_threshold, pair_key, right_drawn}
+use Rattle.rs_ripple.specs.Ripple.{HasDrawn, IsBehind, IsBehindDrawn, IsOfBlock, IsTakenReached, Ripple, ask_between, ask_drawn, drawn_with, full_key, is_reached, left_threshold, pair_key, right_drawn}
 use Rattle.rs_ripple.specs.Stands.{AreSidesOf, CanFindEach, IsRowOf, Join, drawn_of, found_each}
 use Rattle.rs_ripple.proofs.GrowFacts.{Grows, drop-grown, put_each-map}
 use Rattle.rs_ripple.proofs.JoinedFacts.{behind-test, has_drawn-in, has-ends, keys-push, not_right, others-push, reached-before, reached-later, rising-push, rows-of_block}
 use Rattle.rs_ripple.proofs.MoreFacts.{Climbs-last, Grows-filter, In-pairs_against, grows-right_item}
-use Rattle.rs_ripple.proofs.PairFacts.{Climbs-map, Grid, HasDistinctKeys-Climbs, IsPair, IsPair-within, ordered}
+use Rattle.rs_ripple.proofs.PairFacts.{Grid, HasDistinctKeys-Climbs, IsPair, IsPair-within, ordered}
 use Rattle.rs_ripple.proofs.SideFacts.{can_merge, left_row, merged_key-rows, pair-entries, pair-sum, sides-grid}
 use Rattle.rs_ripple.proofs.StepFacts.{can_find_each, found_each-held, key_of_pair, pair_of}
 

@@ -7,9 +7,10 @@ use Rattle.std.specs.Ordering.{is_lt}
 use Rattle.std.specs.declared.cmp.Ordering.{Ordering}
 use Rattle.std.specs.declared.cmp.Ordering.TheVariants.{Less}
 use Rattle.rs_order.specs.Climbing.{Climbs, In, Precedes}
-use Rattle.rs_order.specs.Schedule.{Left, Right, SideAsk}
+use Rattle.rs_order.specs.Schedule.{Left, Right, SideAsk, asked}
 use Rattle.rs_order.proofs.ClimbingFacts.{AllByRecursion-In, cmp-not_itself, cmp-not_both}
 use Rattle.rs_order.proofs.PartFacts.{In-slice_get, bar_after-slice_get, is_lt-Less, slice_get-shared, take-snoc}
+use Rattle.rs_order.proofs.ScheduleFacts.{asked-left, asked-right}
 use Rattle.rs_rank.specs.declared.ask.JoinAsk.TheVariants.{NeedLeft, NeedRight, Ready}
 use Rattle.rs_rank.specs.declared.key.Key.{Key}
 use Rattle.rs_rank.specs.declared.row.RankRow.{RankRow}
@@ -20,10 +21,9 @@ use Rattle.rs_rank.proofs.OrderFacts.{key_cmp-total}
 use Rattle.rs_ripple.specs.After.{joined_after}
 use Rattle.rs_ripple.specs.Joined.{CanFeedLeft, CanFeedRight, Fits, JoinStands, Joined, end_left, end_right, fed_left, fed_right, is_behind, left_key, rest_for, right_key}
 use Rattle.rs_ripple.specs.Ripple.{CanDrawLeft, CanDrawRight, CanEnd, Ripple, ask_of, drawn_with, taken_for}
-use Rattle.rs_ripple.specs.Stands.{AreSidesOf, IsRowOf, Join, answer_key, answers, asked, drawn_of, side_key, side_keys, state_after, taken_after}
+use Rattle.rs_ripple.specs.Stands.{AreSidesOf, IsRowOf, Join, answer_key, answers, drawn_of, side_key, side_keys, state_after, taken_after}
 use Rattle.rs_ripple.proofs.LawFacts.{left-asked, left-can, left-ended-stands, left-key, right-asked, right-can, right-ended-stands, right-key, settled-left, settled-now, settled-right, slice_get_none, still_open, taken-is, taken-stands}
 use Rattle.rs_ripple.proofs.PairFacts.{Grid-take, ordered-climbs}
-use Rattle.rs_ripple.proofs.ScheduleFacts.{asked-left, asked-right}
 use Rattle.rs_ripple.proofs.SideFacts.{sides-grid}
 use Rattle.rs_ripple.proofs.StepFacts.{kept-same, pair_of}
 

@@ -3,10 +3,10 @@ use Rattle.std.proofs.Common.{◌≡◌, ℕ, zero, suc, ◌+◌, ◌<◌, ◌�
 use Rattle.std.proofs.lemmas.Bool.{lt-ltb}
 use Rattle.std.proofs.lemmas.List.{drop-drop, drop-map, length-map, take_all}
 use Rattle.std.proofs.lemmas.Option.{slice_get-map, slice_get_within}
-use Rattle.std.specs.List.{filter, slice_get}
+use Rattle.std.specs.List.{slice_get}
 use Rattle.std.specs.Option.{option_map}
 use Rattle.std.specs.declared.cmp.Ordering.TheVariants.{Equal}
-use Rattle.rs_order.specs.Schedule.{JoinSide, Left, Right, SideAsk, is_of_side, numbers_from, ask_numbers}
+use Rattle.rs_order.specs.Schedule.{Left, Right, SideAsk, asked}
 use Rattle.rs_order.specs.Sorting.{put_each}
 use Rattle.rs_order.proofs.ClimbingFacts.{AllByRecursion-In, AllByRecursion-from_In}
 use Rattle.rs_order.proofs.EachFacts.{each-map}
@@ -15,17 +15,18 @@ use Rattle.rs_rank.specs.declared.ask.JoinAsk.TheVariants.{NeedLeft, NeedRight, 
 use Rattle.rs_rank.specs.declared.key.Key.{Key}
 use Rattle.rs_rank.specs.declared.row.RankRow.{RankRow}
 use Rattle.rs_rank.specs.Keys.{key_cmp}
-use Rattle.rs_rank.specs.Rows.{merge_row}
+use Rattle.rs_rank.specs.Rows.{merge_row, first_row, first_key}
 use Rattle.rs_rank.specs.Turns.{left_asks, right_asks}
 use Rattle.rs_rank.proofs.OrderFacts.{key_cmp-total}
 use Rattle.rs_rank.proofs.TurnFacts.{left_numbers, right_numbers}
 use Rattle.rs_order.specs.Asks.{bar_after}
+use Rattle.rs_order.proofs.ScheduleFacts.{asked-left, asked-numbers, asked-right}
 use Rattle.rs_ripple.specs.Pairs.{pairs_against, pairs_with}
-use Rattle.rs_ripple.specs.Ripple.{CanDrawLeft, CanDrawRight, IsBehindDrawn, IsOfBlock, IsKeyOf, Ripple, ask_of, drawn_with, first_key, first_row, left_drawn, left_ended, left_for, new_ripple, right_drawn, right_ended, taken_for}
-use Rattle.rs_ripple.specs.Stands.{AreFoundOf, AreSidesOf, BeginsWith, CanFindEach, IsRowOf, Join, Stands, answer_key, answers, asked, drawn_of, found_each, merged_key, schedule_of, side_key, side_keys, state_after, taken_after}
+use Rattle.rs_ripple.specs.Ripple.{CanDrawLeft, CanDrawRight, IsBehindDrawn, IsKeyOf, IsOfBlock, Ripple, ask_of, drawn_with, left_drawn, left_ended, left_for, new_ripple, right_drawn, right_ended, taken_for}
+use Rattle.rs_ripple.specs.Stands.{AreFoundOf, AreSidesOf, BeginsWith, CanFindEach, IsRowOf, Join, Stands, answer_key, answers, drawn_of, found_each, merged_key, schedule_of, side_key, side_keys, state_after, taken_after}
 use Rattle.rs_ripple.proofs.GrowFacts.{drop-grown, put_each-map}
 use Rattle.rs_ripple.proofs.NextFacts.{ltb-false}
-use Rattle.rs_ripple.proofs.ScheduleFacts.{BeginsWith-append, BeginsWith-itself, BeginsWith-more, asked-left, asked-right, schedule_of-more, settled-made}
+use Rattle.rs_ripple.proofs.ScheduleFacts.{BeginsWith-append, BeginsWith-itself, BeginsWith-more, schedule_of-more, settled-made}
 use Rattle.rs_ripple.proofs.StandFacts.{Tells, left-climbs, right-climbs, stands-tells}
 use Rattle.rs_ripple.proofs.StepFacts.{IsFindable, behind-drawn, block-drawn, can_find_each, drawn-more, fits, found_each-held, grows-left, grows-right, kept-same, key_of_pair, pair_of, part-back, row-key}
 
@@ -300,19 +301,12 @@ module _ (j : Join) (lefts rights : List RankRow) (made : List SideAsk) (count :
       key-of (row ∷ rows) = refl
 
 -- how often a schedule asks each side
-length-numbers : (n count : ℕ) → length (numbers_from n count) ≡ count
-length-numbers n zero = refl
-length-numbers n (suc count) = ap suc (length-numbers (suc n) count)
-
-asked-numbers : (side : JoinSide) (asks : List SideAsk) (n : ℕ) → ask_numbers side asks ≡ numbers_from 1 n → asked side asks ≡ n
-asked-numbers side asks n e = sym (length-map (filter (is_of_side side) asks) (λ (ask : SideAsk). ask.number)) ∙ ap length e ∙ length-numbers 1 n
-
 pub left-exact : (j : Join) (lefts rights : List RankRow) (n : ℕ) → AreSidesOf j lefts rights → asked Left (schedule_of j lefts rights (suc n)) ≡ left_asks key_cmp (merged_key j) (side_keys j j.left lefts) (side_keys j j.right rights) (bar_after (answer_key j) (answers j lefts rights) n)
 left-exact j lefts rights n input =
-    asked-numbers Left (schedule_of j lefts rights (suc n)) (left_asks key_cmp (merged_key j) (side_keys j j.left lefts) (side_keys j j.right rights) (bar_after (answer_key j) (answers j lefts rights) n))
+    asked-numbers Left (schedule_of j lefts rights (suc n)) 1 (left_asks key_cmp (merged_key j) (side_keys j j.left lefts) (side_keys j j.right rights) (bar_after (answer_key j) (answers j lefts rights) n))
     (left_numbers key_cmp key_cmp-total (merged_key j) (side_keys j j.left lefts) (side_keys j j.right rights) (bar_after (answer_key j) (answers j lefts rights) n) (left-climbs j lefts rights input))
 
 pub right-exact : (j : Join) (lefts rights : List RankRow) (n : ℕ) → AreSidesOf j lefts rights → asked Right (schedule_of j lefts rights (suc n)) ≡ right_asks key_cmp (merged_key j) (side_keys j j.left lefts) (side_keys j j.right rights) (bar_after (answer_key j) (answers j lefts rights) n)
 right-exact j lefts rights n input =
-    asked-numbers Right (schedule_of j lefts rights (suc n)) (right_asks key_cmp (merged_key j) (side_keys j j.left lefts) (side_keys j j.right rights) (bar_after (answer_key j) (answers j lefts rights) n))
+    asked-numbers Right (schedule_of j lefts rights (suc n)) 1 (right_asks key_cmp (merged_key j) (side_keys j j.left lefts) (side_keys j j.right rights) (bar_after (answer_key j) (answers j lefts rights) n))
     (right_numbers key_cmp key_cmp-total (merged_key j) (side_keys j j.left lefts) (side_keys j j.right rights) (bar_after (answer_key j) (answers j lefts rights) n) (right-climbs j lefts rights input))

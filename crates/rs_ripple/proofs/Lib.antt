@@ -10,6 +10,7 @@ pub mod LawFacts
 pub mod MoreFacts
 pub mod NextFacts
 pub mod PairFacts
+pub mod ReachedFacts
 pub mod RestFacts
 pub mod ScheduleFacts
 pub mod SideFacts

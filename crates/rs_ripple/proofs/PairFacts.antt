@@ -1,6 +1,6 @@
 -- The pairs of two lists, of which keys rise along each of both: their keys are distinct, and those that a part of both
 -- lacks lie behind the key of the last item of the part and the first one of the other list.
-use Rattle.std.proofs.Common.{◌≡◌, ℕ, suc, Bool, true, List, [], ◌∷◌, ◌++◌, get_or, take, drop, map, Option, refl, sym, ◌∙◌, ap, subst, ◌⊎◌, inl, inr, arith}
+use Rattle.std.proofs.Common.{◌≡◌, ℕ, suc, Bool, true, List, [], ◌∷◌, ◌++◌, get_or, take, drop, Option, refl, sym, ◌∙◌, ap, subst, ◌⊎◌, inl, inr, arith}
 use Rattle.std.proofs.lemmas.List.{drop_all}
 use Rattle.std.proofs.lemmas.Option.{get_or_from_slice_get, slice_get_cases}
 use Rattle.std.specs.Cmp.{IsTotalOrder}
@@ -10,18 +10,13 @@ use Rattle.std.specs.declared.cmp.Ordering.{Ordering}
 use Rattle.std.specs.declared.cmp.Ordering.TheVariants.{Less, Equal}
 use Rattle.rs_order.specs.Climbing.{Climbs, Differs, HasDistinctKeys, In, Precedes}
 use Rattle.rs_order.specs.Sorting.{sorted}
-use Rattle.rs_order.proofs.ClimbingFacts.{AllByRecursion-In, AllByRecursion-from_In}
-use Rattle.rs_order.proofs.EachFacts.{each-append, each-map, each-weaker}
+use Rattle.rs_order.proofs.ClimbingFacts.{AllByRecursion-In, AllByRecursion-from_In, Climbs-map}
+use Rattle.rs_order.proofs.EachFacts.{each-append, each-weaker}
 use Rattle.rs_order.proofs.ItemFacts.{Climbs-filter, In-filter, In-filter-back, In-flat_map, In-flat_map-back, In-map, In-map-back}
 use Rattle.rs_order.proofs.PartFacts.{Climbs-behind, Climbs-take, In-drop, In-parts, In-take}
 use Rattle.rs_order.proofs.SortingFacts.{Climbs-sorted, In-sorted, In-sorted-back}
 use Rattle.rs_ripple.specs.Pairs.{pairs, pairs_with}
 use Rattle.rs_ripple.proofs.BarFacts.{IsPast}
-
--- keys rise also after a map that keeps them
-pub Climbs-map : {X Y K : Type 0} (cmp : K → K → Ordering) (key : Y → K) (f : X → Y) (xs : List X) → Climbs cmp (λ x. key (f x)) xs → Climbs cmp key (map f xs)
-Climbs-map cmp key f [] climbs = tt
-Climbs-map cmp key f (x ∷ xs) climbs = (each-map (Precedes cmp key (f x)) f xs climbs.0, Climbs-map cmp key f xs climbs.1)
 
 -- keys that rise are distinct
 pub HasDistinctKeys-Climbs : {X K : Type 0} (cmp : K → K → Ordering) (key : X → K) (xs : List X) → Climbs cmp key xs → HasDistinctKeys cmp key xs

@@ -13,28 +13,17 @@ use Rattle.rs_rank.specs.declared.ask.JoinAsk.TheVariants.{NeedLeft, NeedRight, 
 use Rattle.rs_rank.specs.declared.key.Key.{Key}
 use Rattle.rs_rank.specs.declared.row.RankRow.{RankRow}
 use Rattle.rs_rank.specs.Keys.{key_cmp}
-use Rattle.rs_rank.specs.Rows.{merge_row}
+use Rattle.rs_rank.specs.Rows.{merge_row, first_key}
 use Rattle.rs_rank.proofs.OrderFacts.{key_cmp-total}
 use Rattle.rs_ripple.specs.declared.side.Drawn.{Drawn}
-use Rattle.rs_ripple.specs.Joined.{Fits, IsJoined, IsTakenReached, Joined, end_left, end_right, is_behind, join_of, pairs_behind, rest_for}
+use Rattle.rs_ripple.specs.Joined.{Fits, IsJoined, Joined, end_left, end_right, is_behind, join_of, pairs_behind, rest_for}
 use Rattle.rs_ripple.specs.Pairs.{pairs}
-use Rattle.rs_ripple.specs.Ripple.{Ripple, ask_between, ask_drawn, ask_of, first_key, first_side, full_key, is_reached, left_ended, left_for, left_threshold, right_ended, right_threshold}
+use Rattle.rs_ripple.specs.Ripple.{IsTakenReached, Ripple, ask_between, ask_drawn, ask_of, first_side, full_key, is_reached, left_for, left_threshold, right_threshold}
 use Rattle.rs_ripple.proofs.PairFacts.{ordered-climbs}
+use Rattle.rs_ripple.proofs.ReachedFacts.{left_end-reached, right_end-reached}
 use Rattle.rs_ripple.proofs.SideFacts.{sides-grid}
 
--- the end of a side puts its threshold beyond all keys
-left_end-reached : (ripple : Ripple) (taken : Option Key) (left right : Option Drawn) → IsTakenReached taken left right ripple → IsTakenReached taken left right (left_ended ripple)
-left_end-reached ripple None left right reached = tt
-left_end-reached ripple (Some t) None right reached = reached
-left_end-reached ripple (Some t) (Some l) None reached = reached
-left_end-reached ripple (Some t) (Some l) (Some r) reached = (refl, reached.1)
-
-right_end-reached : (ripple : Ripple) (taken : Option Key) (left right : Option Drawn) → IsTakenReached taken left right ripple → IsTakenReached taken left right (right_ended ripple)
-right_end-reached ripple None left right reached = tt
-right_end-reached ripple (Some t) None right reached = reached
-right_end-reached ripple (Some t) (Some l) None reached = reached
-right_end-reached ripple (Some t) (Some l) (Some r) reached = (reached.0, refl)
-
+-- the end of a side leaves the rows
 pub left_end-joined : (joined : Joined) → IsJoined joined → IsJoined (end_left joined)
 left_end-joined joined is = record {
   rows = is.rows;
@@ -76,7 +65,7 @@ ready-first left right (pair ∷ rest) e = let both = go (is_reached left pair.0
     go true false f = first_side-asks left right f
     go false b f = first_side-asks left right f
 
-ready-reached : (ripple : Ripple) (left right : Option Drawn) → ask_drawn left right ripple ≡ Ready → IsTakenReached (first_key ripple.held) left right (left_for Ready ripple)
+pub ready-reached : (ripple : Ripple) (left right : Option Drawn) → ask_drawn left right ripple ≡ Ready → IsTakenReached (first_key ripple.held) left right (left_for Ready ripple)
 ready-reached ripple None right e = ended-asks NeedLeft ripple.left.ended (λ f. cc) e
 ready-reached ripple (Some l) None e = ended-asks NeedRight ripple.right.ended (λ f. cc) e
 ready-reached ripple (Some l) (Some r) e =

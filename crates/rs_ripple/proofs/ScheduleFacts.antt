@@ -1,10 +1,9 @@
 -- The asks that were made begin the schedule: what that tells of the answers given, and one ask more.
-use Rattle.std.proofs.Common.{◌≡◌, ℕ, zero, suc, ◌≤◌, List, [], ◌∷◌, ◌++◌, append-nil, length, take, drop, Some, refl, sym, ◌∙◌, ap, ap₂, subst, arith}
+use Rattle.std.proofs.Common.{◌≡◌, ℕ, zero, suc, ◌≤◌, List, [], ◌∷◌, ◌++◌, length, take, drop, Some, refl, sym, ◌∙◌, ap, ap₂, subst, arith}
 use Rattle.std.proofs.lemmas.List.{length-map, take-map, take_all}
-use Rattle.std.proofs.lemmas.List.Elements.{filter-append}
-use Rattle.std.specs.List.{filter, slice_get}
+use Rattle.std.specs.List.{slice_get}
 use Rattle.rs_order.specs.Asks.{bar_after, those_before}
-use Rattle.rs_order.specs.Schedule.{Left, Right, SideAsk, Turn, is_of_side, turns_of}
+use Rattle.rs_order.specs.Schedule.{Left, Right, SideAsk, Turn, asked, turns_of}
 use Rattle.rs_order.specs.Sorting.{sorted}
 use Rattle.rs_order.proofs.AscendingFacts.{Ascends-Climbs, schedule-begin}
 use Rattle.rs_order.proofs.AsksFacts.{bar_after-later}
@@ -15,7 +14,7 @@ use Rattle.rs_rank.specs.Keys.{key_cmp}
 use Rattle.rs_rank.specs.Rows.{merge_row}
 use Rattle.rs_rank.specs.Turns.{left_keys, right_keys}
 use Rattle.rs_rank.proofs.OrderFacts.{key_cmp-total}
-use Rattle.rs_ripple.specs.Stands.{AreSidesOf, BeginsWith, Join, answer_key, answers, asked, merged_key, schedule_of, side_keys}
+use Rattle.rs_ripple.specs.Stands.{AreSidesOf, BeginsWith, Join, answer_key, answers, merged_key, schedule_of, side_keys}
 use Rattle.rs_ripple.proofs.PairFacts.{ordered-climbs}
 use Rattle.rs_ripple.proofs.SideFacts.{sides-grid}
 use Rattle.rs_ripple.proofs.StandFacts.{ascends, first_asks, left-climbs, pairs-none, right-climbs, settled-turns}
@@ -49,19 +48,6 @@ length-BeginsWith (m ∷ made) (f ∷ front) begins =
     let rest : front ≡ take (length front) made = cc in
     let le = length-BeginsWith made front rest in
     omega arith
-
--- one ask more of the left side is none of the right one
-pub asked-left : (made : List SideAsk) (n : ℕ) → (asked Left (made ++ record { side = Left; number = n } ∷ []) ≡ suc (asked Left made)) × (asked Right (made ++ record { side = Left; number = n } ∷ []) ≡ asked Right made)
-asked-left made n = (
-  ap length (filter-append (is_of_side Left) made (record { side = Left; number = n } ∷ [])) ∙ length-snoc (filter (is_of_side Left) made) (record { side = Left; number = n }),
-  ap length (filter-append (is_of_side Right) made (record { side = Left; number = n } ∷ []) ∙ append-nil (filter (is_of_side Right) made)),
-)
-
-pub asked-right : (made : List SideAsk) (n : ℕ) → (asked Left (made ++ record { side = Right; number = n } ∷ []) ≡ asked Left made) × (asked Right (made ++ record { side = Right; number = n } ∷ []) ≡ suc (asked Right made))
-asked-right made n = (
-  ap length (filter-append (is_of_side Left) made (record { side = Right; number = n } ∷ []) ∙ append-nil (filter (is_of_side Left) made)),
-  ap length (filter-append (is_of_side Right) made (record { side = Right; number = n } ∷ [])) ∙ length-snoc (filter (is_of_side Right) made) (record { side = Right; number = n }),
-)
 
 -- more answers go on with the asks
 pub schedule_of-more : (j : Join) (lefts rights : List RankRow) → AreSidesOf j lefts rights → (n : ℕ) → BeginsWith (schedule_of j lefts rights (suc n)) (schedule_of j lefts rights n)

@@ -9,10 +9,11 @@ use Rattle.std.specs.declared.cmp.Ordering.{Ordering}
 use Rattle.rs_order.specs.Asks.{comes_before_bar, bar_after, those_before}
 use Rattle.rs_order.specs.Climbing.{Ascends, Climbs, In, Precedes}
 use Rattle.rs_order.specs.Sorting.{sorted}
-use Rattle.rs_order.specs.Schedule.{Left, Right, SideAsk, Turn, turns_of}
+use Rattle.rs_order.specs.Schedule.{Left, Right, SideAsk, Turn, asked, turns_of}
 use Rattle.rs_order.proofs.EachFacts.{each-weaker}
 use Rattle.rs_order.proofs.ItemFacts.{In-filter, In-right}
 use Rattle.rs_order.proofs.PartFacts.{In-take, slice_get-drop, slice_get-shared}
+use Rattle.rs_order.proofs.ClimbingFacts.{Climbs-map}
 use Rattle.rs_rank.specs.declared.ask.JoinAsk.{JoinAsk}
 use Rattle.rs_rank.specs.declared.ask.JoinAsk.TheVariants.{NeedLeft, NeedRight, Ready, End}
 use Rattle.rs_rank.specs.declared.key.Key.{Key}
@@ -21,21 +22,19 @@ use Rattle.rs_rank.specs.Keys.{key_cmp}
 use Rattle.rs_rank.specs.Rows.{merge_row}
 use Rattle.rs_rank.specs.Turns.{left_keys, right_keys}
 use Rattle.rs_rank.proofs.OrderFacts.{key_cmp-total}
+use Rattle.rs_rank.proofs.TurnFacts as asks
 use Rattle.rs_ripple.specs.Pairs.{pairs}
 use Rattle.rs_ripple.specs.Ripple.{Ripple, ask_between, ask_of, first_side}
-use Rattle.rs_ripple.specs.Stands.{AreSidesOf, BeginsWith, Join, Stands, answer_key, answers, asked, merged_key, schedule_of, side_key, side_keys, state_after}
+use Rattle.rs_ripple.specs.Stands.{AreSidesOf, BeginsWith, Join, Stands, answer_key, answers, merged_key, schedule_of, side_key, side_keys, state_after}
 use Rattle.rs_ripple.proofs.BarFacts.{IsPast, IsSettledBy, reached_at, settled-None, settled-Some, settled-reached, bar_after-reached}
 use Rattle.rs_ripple.proofs.NextFacts.{IsNext, ask_between-is, first_bar, ltb-false, next_turn, past-first, threshold-is}
-use Rattle.rs_ripple.proofs.PairFacts.{Climbs-map, Grid-take, IsPair-parts, IsPair-within, In-ordered, In-ordered-back, left-past, ordered-climbs, right-past}
+use Rattle.rs_ripple.proofs.PairFacts.{Grid-take, IsPair-parts, IsPair-within, In-ordered, In-ordered-back, left-past, ordered-climbs, right-past}
 use Rattle.rs_ripple.proofs.SideFacts.{merged_key-rows, sides-grid}
 use Rattle.rs_ripple.proofs.TurnFacts.{Ascends-back, asks_in, before-all, before-each, before-front, before-none, before-split, before-whole, cut, turns-ascend, turns_between}
 
--- what an ask tells
+-- what an ask tells of the schedule for the next answer
 abbrev pub Tells : Join → List RankRow → List RankRow → List SideAsk → ℕ → JoinAsk → Type 0
-Tells j lefts rights made count NeedLeft = slice_get (schedule_of j lefts rights (suc count)) (length made) ≡ Some (record { side = Left; number = suc (asked Left made) })
-Tells j lefts rights made count NeedRight = slice_get (schedule_of j lefts rights (suc count)) (length made) ≡ Some (record { side = Right; number = suc (asked Right made) })
-Tells j lefts rights made count Ready = (made ≡ schedule_of j lefts rights (suc count)) × (count < length (answers j lefts rights))
-Tells j lefts rights made count End = (made ≡ schedule_of j lefts rights (suc count)) × (count ≡ length (answers j lefts rights))
+Tells j lefts rights made count ask = asks.Tells (schedule_of j lefts rights (suc count)) made count (length (answers j lefts rights)) ask
 
 slice_get-append : {X : Type 0} (xs ys : List X) (y : X) → slice_get (xs ++ y ∷ ys) (length xs) ≡ Some y
 slice_get-append [] ys y = refl

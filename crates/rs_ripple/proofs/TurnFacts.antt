@@ -10,12 +10,11 @@ use Rattle.std.specs.declared.cmp.Ordering.{Ordering}
 use Rattle.rs_order.specs.Asks.{comes_before_bar, those_before}
 use Rattle.rs_order.specs.Climbing.{Ascends, Climbs, In, IsNoLater}
 use Rattle.rs_order.specs.Merging.{merged}
-use Rattle.rs_order.specs.Schedule.{JoinSide, Left, Right, SideAsk, Turn, turns_from, turns_of}
+use Rattle.rs_order.specs.Schedule.{JoinSide, Left, Right, SideAsk, Turn, asked, turns_from, turns_of}
 use Rattle.rs_order.proofs.AscendingFacts.{Ascends-Climbs, Ascends-merged, those_before-begin}
 use Rattle.rs_order.proofs.ItemFacts.{In-filter-back}
 use Rattle.rs_order.proofs.MergingFacts.{merged-left, merged-right}
 use Rattle.rs_order.proofs.PartFacts.{In-take}
-use Rattle.rs_ripple.specs.Stands.{asked}
 
 -- the asks of turns
 abbrev pub asks_in : {K : Type 0} → List (Turn K) → List SideAsk

@@ -2,7 +2,7 @@
 use Rattle.std.specs.Prelude.{ℕ, ◌≡◌, Bool, true, List, [], ◌∷◌, ◌++◌, map, take, Option, Some, None}
 use Rattle.std.specs.List.{AllByRecursion, filter}
 use Rattle.std.specs.Ordering.{is_lt}
-use Rattle.rs_order.specs.Schedule.{Left, Right, SideAsk}
+use Rattle.rs_order.specs.Schedule.{Left, Right, SideAsk, asked}
 use Rattle.rs_order.specs.Sorting.{sorted}
 use Rattle.rs_rank.specs.declared.ask.JoinAsk.{JoinAsk}
 use Rattle.rs_rank.specs.declared.key.Key.{Key}
@@ -11,11 +11,10 @@ use Rattle.rs_rank.specs.declared.weights.Weights.{Weights}
 use Rattle.rs_rank.specs.Ids.{AreOtherIds}
 use Rattle.rs_rank.specs.Keys.{key_cmp}
 use Rattle.rs_rank.specs.Rows.{HasSum, key_of, merge_row}
-use Rattle.rs_ripple.specs.declared.side.Drawn.{Drawn}
 use Rattle.rs_ripple.specs.declared.side.Side.{Side}
 use Rattle.rs_ripple.specs.Pairs.{pairs}
-use Rattle.rs_ripple.specs.Ripple.{CanDrawLeft, CanDrawRight, Ripple, full_key, is_reached, left_drawn, left_ended, left_for, left_threshold, new_ripple, right_drawn, right_ended, right_threshold}
-use Rattle.rs_ripple.specs.Stands.{AreSidesOf, Join, Stands, asked, drawn_of}
+use Rattle.rs_ripple.specs.Ripple.{CanDrawLeft, CanDrawRight, HasReached, Ripple, full_key, left_drawn, left_ended, left_for, new_ripple, right_drawn, right_ended}
+use Rattle.rs_ripple.specs.Stands.{AreSidesOf, Join, Stands, drawn_of}
 
 -- the core, and the rows drawn of each side in the order in which they came
 pub record Joined : Type 0 where
@@ -108,20 +107,12 @@ join_of matches joined = record {
   matches = matches;
 }
 
--- a pair was taken only once it came at or before both thresholds
-abbrev pub IsTakenReached : Option Key → Option Drawn → Option Drawn → Ripple → Type 0
-IsTakenReached None left right ripple = Unit {0}
-IsTakenReached (Some taken) None right ripple = ⊥
-IsTakenReached (Some taken) (Some left) None ripple = ⊥
-IsTakenReached (Some taken) (Some left) (Some right) ripple =
-    (is_reached (left_threshold ripple left right) taken ≡ true) × (is_reached (right_threshold ripple left right) taken ≡ true)
-
 -- what holds of each join: its rows are those of two sides, whose first and last keys the core keeps
 pub record IsJoined (joined : Joined) : Type 0 where
   pub rows : (matches : RankRow → RankRow → Bool) → AreSidesOf (join_of matches joined) joined.lefts joined.rights
   pub left_keys : joined.ripple.left.drawn ≡ drawn_of (map (left_key joined.ripple) joined.lefts)
   pub right_keys : joined.ripple.right.drawn ≡ drawn_of (map (right_key joined.ripple) joined.rights)
-  pub reached : IsTakenReached joined.ripple.taken joined.ripple.left.drawn joined.ripple.right.drawn joined.ripple
+  pub reached : HasReached joined.ripple
 
 -- a join that keeps its rows stands where its core does, with the rows that were drawn
 pub record JoinStands (j : Join) (lefts rights : List RankRow) (made : List SideAsk) (count : ℕ) (joined : Joined) : Type 0 where

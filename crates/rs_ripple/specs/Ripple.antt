@@ -1,6 +1,6 @@
 -- What the core of a rank join keeps, and what each call does to it. It draws the rows of two sides, each in the order of
 -- its keys, and holds the pairs that were found among them.
-use Rattle.std.specs.Prelude.{ℕ, ◌≡◌, ◌<◌, ◌^◌, ◌&&◌, Bool, true, false, not, List, [], ◌∷◌, Option, Some, None, bit_or, drop, if◌then◌else◌}
+use Rattle.std.specs.Prelude.{ℕ, ◌≡◌, ◌<◌, ◌^◌, ◌&&◌, Bool, true, false, not, List, [], Option, Some, None, bit_or, drop, if◌then◌else◌}
 use Rattle.std.specs.Ordering.{is_gt}
 use Rattle.rs_order.specs.Sorting.{put}
 use Rattle.rs_queue.specs.Queue.{has_key}
@@ -13,7 +13,7 @@ use Rattle.rs_rank.specs.Ids.{IsIds}
 use Rattle.rs_rank.specs.Keys.{IsBefore, key_cmp}
 use Rattle.rs_rank.specs.Masks.{AreDisjoint}
 use Rattle.rs_rank.specs.Merging.{merge_key}
-use Rattle.rs_rank.specs.Rows.{HasSum, key_of}
+use Rattle.rs_rank.specs.Rows.{HasSum, first_key, first_row, key_of}
 use Rattle.rs_rank.specs.Weights.{IsBound, IsWeights}
 use Rattle.rs_ripple.specs.declared.side.Drawn.{Drawn}
 use Rattle.rs_ripple.specs.declared.side.Input.{Input}
@@ -78,11 +78,13 @@ first_side None (Some right) = NeedRight
 first_side (Some left) None = NeedLeft
 first_side (Some left) (Some right) = if is_gt (key_cmp left right) then NeedRight else NeedLeft
 
--- the first held pair can be taken once it comes at or before both thresholds
+-- the first held pair can be taken once its key comes at or before both thresholds
+abbrev pub ask_first : Option Key → Option Key → Option Key → JoinAsk
+ask_first left right None = first_side left right
+ask_first left right (Some key) = if is_reached left key && is_reached right key then Ready else first_side left right
+
 abbrev pub ask_between : Option Key → Option Key → List (Key × RankRow) → JoinAsk
-ask_between left right [] = first_side left right
-ask_between left right (pair ∷ rest) =
-    if is_reached left pair.0 && is_reached right pair.0 then Ready else first_side left right
+ask_between left right held = ask_first left right (first_key held)
 
 -- a side without a row is asked, the left one first; where such a side has ended there is no pair
 abbrev pub ask_drawn : Option Drawn → Option Drawn → Ripple → JoinAsk
@@ -122,16 +124,7 @@ right_ended ripple = record ripple { right = ended ripple.right }
 abbrev pub found : RankRow → Ripple → Ripple
 found row ripple = record ripple { held = put key_cmp (λ pair. pair.0) (full_key ripple row, row) ripple.held }
 
--- the first held pair, and its key
-abbrev pub first_row : List (Key × RankRow) → Option RankRow
-first_row [] = None
-first_row (pair ∷ rest) = Some pair.1
-
-abbrev pub first_key : List (Key × RankRow) → Option Key
-first_key [] = None
-first_key (pair ∷ rest) = Some pair.0
-
--- it is given if it can be taken
+-- the first held pair, if it can be taken
 abbrev pub taken_for : JoinAsk → Ripple → Option RankRow
 taken_for Ready ripple = first_row ripple.held
 taken_for NeedLeft ripple = None
@@ -226,3 +219,14 @@ pub record IsRipple (ripple : Ripple) : Type 0 where
   pub left_keys : AreKeysOf ripple.weights ripple.left.side ripple.left.drawn
   pub right_keys : AreKeysOf ripple.weights ripple.right.side ripple.right.drawn
   pub block : AreOfOneBlock ripple.left.drawn ripple.right.drawn
+
+-- a pair was taken only once it came at or before both thresholds
+abbrev pub IsTakenReached : Option Key → Option Drawn → Option Drawn → Ripple → Type 0
+IsTakenReached None left right ripple = Unit {0}
+IsTakenReached (Some taken) None right ripple = ⊥
+IsTakenReached (Some taken) (Some left) None ripple = ⊥
+IsTakenReached (Some taken) (Some left) (Some right) ripple =
+    (is_reached (left_threshold ripple left right) taken ≡ true) × (is_reached (right_threshold ripple left right) taken ≡ true)
+
+abbrev pub HasReached : Ripple → Type 0
+HasReached ripple = IsTakenReached ripple.taken ripple.left.drawn ripple.right.drawn ripple

@@ -1,11 +1,11 @@
 -- Where the core of a rank join stands, of the rows of its two sides, the asks that were made of them, and the answers that
 -- it gives.
 use Rattle.std.specs.Prelude.{ℕ, zero, suc, ◌≡◌, ◌≤◌, Bool, false, nat_lt, List, [], ◌∷◌, length, map, take, drop, Option, Some, None, bit_or}
-use Rattle.std.specs.List.{AllByRecursion, filter}
+use Rattle.std.specs.List.{AllByRecursion}
 use Rattle.rs_order.specs.Asks.{bar_after}
 use Rattle.rs_order.specs.Climbing.{Climbs, SameItems}
 use Rattle.rs_order.specs.Last.{last_from}
-use Rattle.rs_order.specs.Schedule.{JoinSide, Left, Right, SideAsk, is_of_side}
+use Rattle.rs_order.specs.Schedule.{Left, Right, SideAsk, asked}
 use Rattle.rs_order.specs.Sorting.{sorted}
 use Rattle.rs_rank.specs.declared.key.Key.{Key}
 use Rattle.rs_rank.specs.declared.row.RankRow.{RankRow}
@@ -77,10 +77,6 @@ schedule_of j lefts rights (suc n) =
 -- a list begins with another one
 abbrev pub BeginsWith : {X : Type 0} → List X → List X → Type 0
 BeginsWith xs front = front ≡ take (length front) xs
-
--- how often a side was asked
-abbrev pub asked : JoinSide → List SideAsk → ℕ
-asked side made = length (filter (is_of_side side) made)
 
 -- the first and the last of keys
 abbrev pub drawn_of : List Key → Option Drawn

@@ -3,12 +3,12 @@
 
 ghost use Rattle.std.specs.Prelude.{◌≡◌, ℕ, suc, List, [], ◌∷◌, ◌++◌, Some, None};
 ghost use Rattle.std.specs.List.{slice_get};
-ghost use Rattle.rs_order.specs.Schedule.{Left, Right, SideAsk};
+ghost use Rattle.rs_order.specs.Schedule.{Left, Right, SideAsk, asked};
 ghost use Rattle.rs_rank.specs.declared.ask.JoinAsk.TheVariants.{NeedLeft, NeedRight, Ready};
 ghost use Rattle.rs_rank.specs.declared.row.RankRow.{RankRow};
 ghost use Rattle.rs_ripple.specs.Joined.{CanFeedLeft, CanFeedRight, Fits, JoinStands, Joined, end_left, end_right, fed_left, fed_right, new_joined, rest_for};
 ghost use Rattle.rs_ripple.specs.Ripple.{CanEnd, ask_of, taken_for};
-ghost use Rattle.rs_ripple.specs.Stands.{AreSidesOf, Join, answers, asked};
+ghost use Rattle.rs_ripple.specs.Stands.{AreSidesOf, Join, answers};
 
 /// A new join stands at no ask and no answer.
 pub fn new_join_stands()

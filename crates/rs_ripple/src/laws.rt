@@ -1,19 +1,19 @@
 //! Laws of the core of a rank join over the rows of its two sides. It stands at the asks that were made, those behind the
 //! last rows among them, and a number of answers. The functions compute nothing; each is called for its contract.
 
-ghost use Rattle.std.specs.Prelude.{◌≡◌, ◌<◌, ◌↔◌, ℕ, suc, List, [], ◌∷◌, ◌++◌, length, take, Some, None};
+ghost use Rattle.std.specs.Prelude.{◌≡◌, ℕ, suc, List, [], ◌∷◌, ◌++◌, length, take, Some, None};
 ghost use Rattle.std.specs.List.{slice_get};
 ghost use Rattle.rs_order.specs.Asks.{bar_after};
 ghost use Rattle.rs_order.specs.Climbing.{Climbs};
-ghost use Rattle.rs_order.specs.Schedule.{Left, Right, SideAsk};
-ghost use Rattle.rs_rank.specs.declared.ask.JoinAsk.TheVariants.{NeedLeft, NeedRight, Ready, End};
+ghost use Rattle.rs_order.specs.Schedule.{Left, Right, SideAsk, asked};
+ghost use Rattle.rs_rank.specs.declared.ask.JoinAsk.TheVariants.{NeedLeft, NeedRight, Ready};
 ghost use Rattle.rs_rank.specs.declared.row.RankRow.{RankRow};
 ghost use Rattle.rs_rank.specs.Keys.{key_cmp};
 ghost use Rattle.rs_rank.specs.Rows.{merge_row};
-ghost use Rattle.rs_rank.specs.Turns.{left_asks, right_asks};
+ghost use Rattle.rs_rank.specs.Turns.{IsNextAsk, left_asks, right_asks};
 ghost use Rattle.rs_ripple.specs.Pairs.{pairs_against, pairs_with};
 ghost use Rattle.rs_ripple.specs.Ripple.{CanDrawLeft, CanDrawRight, CanEnd, Ripple, ask_of, left_drawn, left_ended, left_for, new_ripple, right_drawn, right_ended, taken_for};
-ghost use Rattle.rs_ripple.specs.Stands.{AreFoundOf, AreSidesOf, CanFindEach, Join, Stands, answer_key, answers, asked, found_each, merged_key, schedule_of, side_key, side_keys};
+ghost use Rattle.rs_ripple.specs.Stands.{AreFoundOf, AreSidesOf, CanFindEach, Join, Stands, answer_key, answers, found_each, merged_key, schedule_of, side_key, side_keys};
 
 /// A new core stands at no ask and no answer.
 pub fn new_core_stands()
@@ -81,22 +81,9 @@ pub fn taken_core_stands()
 /// What it does next is the next ask of the schedule for the next answer. It is ready exactly where all these asks are
 /// made and there is a next answer, and ends exactly where all are made and there is none.
 pub fn asks_of_core_are_exact()
-    ensures left { (j : Join) (lefts rights : List RankRow) (made : List SideAsk) (count : ℕ) (ripple : Ripple)
+    ensures { (j : Join) (lefts rights : List RankRow) (made : List SideAsk) (count : ℕ) (ripple : Ripple)
         → Stands j lefts rights made count ripple
-        → (ask_of ripple ≡ NeedLeft) ↔ (slice_get (schedule_of j lefts rights (suc count)) (length made)
-        ≡ Some (record { side = Left; number = suc (asked Left made) })) }
-    ensures right { (j : Join) (lefts rights : List RankRow) (made : List SideAsk) (count : ℕ) (ripple : Ripple)
-        → Stands j lefts rights made count ripple
-        → (ask_of ripple ≡ NeedRight) ↔ (slice_get (schedule_of j lefts rights (suc count)) (length made)
-        ≡ Some (record { side = Right; number = suc (asked Right made) })) }
-    ensures ready { (j : Join) (lefts rights : List RankRow) (made : List SideAsk) (count : ℕ) (ripple : Ripple)
-        → Stands j lefts rights made count ripple
-        → (ask_of ripple ≡ Ready)
-        ↔ ((made ≡ schedule_of j lefts rights (suc count)) × (count < length (answers j lefts rights))) }
-    ensures end { (j : Join) (lefts rights : List RankRow) (made : List SideAsk) (count : ℕ) (ripple : Ripple)
-        → Stands j lefts rights made count ripple
-        → (ask_of ripple ≡ End)
-        ↔ ((made ≡ schedule_of j lefts rights (suc count)) × (count ≡ length (answers j lefts rights))) }
+        → IsNextAsk (schedule_of j lefts rights (suc count)) made count (length (answers j lefts rights)) (ask_of ripple) }
 {}
 
 /// How often the schedule for a number of answers asks each side.

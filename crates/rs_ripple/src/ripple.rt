@@ -1,9 +1,12 @@
 ghost use Rattle.std.specs.Prelude.{◌≡◌, bit_or, false, true, if◌then◌else◌, OnOk, OnErr, Some};
 ghost use Rattle.rs_rank.specs.declared.ask.JoinAsk.TheVariants.{NeedLeft, NeedRight, Ready};
+ghost use Rattle.std.specs.Option.{option_map};
+ghost use Rattle.rs_order.specs.Climbing.{Climbs};
+ghost use Rattle.rs_rank.specs.Keys.{key_cmp};
 ghost use Rattle.rs_rank.specs.Merging.{CanMerge};
-ghost use Rattle.rs_rank.specs.Rows.{CanMergeRows, HasSum, key_of, merge_row};
+ghost use Rattle.rs_rank.specs.Rows.{CanMergeRows, HasSum, first_key, key_of, merge_row};
 ghost use Rattle.rs_ripple.specs.declared.side.Drawn.{Drawn};
-ghost use Rattle.rs_ripple.specs.Ripple.{CanDrawLeft, CanDrawRight, CanEnd, CanFind, CanJoin, IsRipple, ask_of, first_side, found, full_key, is_reached, left_drawn, left_ended, left_for, left_threshold, new_ripple, pair_key, right_drawn, right_ended, right_threshold, sides_of, taken_for};
+ghost use Rattle.rs_ripple.specs.Ripple.{CanDrawLeft, CanDrawRight, CanEnd, CanFind, CanJoin, HasReached, IsRipple, ask_first, ask_of, first_side, found, full_key, is_reached, left_drawn, left_ended, left_for, left_threshold, new_ripple, pair_key, right_drawn, right_ended, right_threshold, sides_of, taken_for};
 ghost use Rattle.rs_value.specs.Faults.{raised};
 
 use crate::side::{Input, Side};
@@ -42,7 +45,7 @@ impl Model for RippleCore {
     ghost use Rattle.std.specs.Prelude.{◌≡◌, bit_or};
     ghost use Rattle.rs_rank.specs.Rows.{rows_of_sums};
     ghost use Rattle.rs_rank.specs.Weights.{rest};
-    ghost use Rattle.rs_ripple.specs.Ripple.{AreThresholds, IsRipple, Ripple, sides_of};
+    ghost use Rattle.rs_ripple.specs.Ripple.{AreThresholds, IsRipple, IsTakenReached, Ripple, sides_of};
 
     ghost Value = { Ripple };
 
@@ -64,7 +67,8 @@ impl Model for RippleCore {
       spent = r.spent;
     }) × AreThresholds r.to_left r.to_right (sides_of r.weights r.left r.right)
         × (r.left_rest ≡ rest r.weights r.left.side.terms) × (r.right_rest ≡ rest r.weights r.right.side.terms)
-        × (r.above ≡ rest r.weights (bit_or r.left.side.terms r.right.side.terms)) };
+        × (r.above ≡ rest r.weights (bit_or r.left.side.terms r.right.side.terms))
+        × IsTakenReached r.taken r.left.drawn r.right.drawn (sides_of r.weights r.left r.right) };
 }
 
 impl RippleCore {
@@ -89,9 +93,20 @@ impl RippleCore {
         }
     }
 
-    /// What the join does next.
+    /// What the join does next. The pairs that it holds are in the order of their keys, and the one taken last came at or
+    /// before both thresholds.
     pub fn ask(&self) -> JoinAsk
         requires { self.now.spent ≡ false }
+        ensures ask { result ≡ ask_of self.now }
+        ensures ordered { Climbs key_cmp (λ pair. pair.0) self.now.held }
+        ensures reached { HasReached self.now }
+    {
+        self.ask_by(self.held.peek())
+    }
+
+    /// What the join does next, by the first key that it holds.
+    fn ask_by(&self, first: Option<&Key>) -> JoinAsk
+        requires { option_map (λ key. key.now) first ≡ first_key self.now.held }
         ensures { result ≡ ask_of self.now }
     {
         let Some(_) = &self.left.drawn else {
@@ -108,16 +123,7 @@ impl RippleCore {
                 JoinAsk::NeedRight
             };
         };
-        match self.held.peek() {
-            Some(first) => {
-                if is_reached(&self.to_left, first) && is_reached(&self.to_right, first) {
-                    JoinAsk::Ready
-                } else {
-                    first_side(&self.to_left, &self.to_right)
-                }
-            }
-            None => first_side(&self.to_left, &self.to_right),
-        }
+        ask_first(&self.to_left, &self.to_right, first)
     }
 
     /// The key of a left row, by the terms of its side.
@@ -337,6 +343,22 @@ impl RippleCore {
             }
             None => None,
         }
+    }
+}
+
+/// What is done next, by both thresholds and the first key held.
+fn ask_first(to_left: &Option<Key>, to_right: &Option<Key>, first: Option<&Key>) -> JoinAsk
+    ensures { result ≡ ask_first to_left.now to_right.now (option_map (λ key. key.now) first.entry) }
+{
+    match first {
+        Some(first) => {
+            if is_reached(to_left, first) && is_reached(to_right, first) {
+                JoinAsk::Ready
+            } else {
+                first_side(to_left, to_right)
+            }
+        }
+        None => first_side(to_left, to_right),
     }
 }
 

@@ -1,11 +1,9 @@
 -- How many rows have at least a bound, where keys rise, and how far that takes.
-use Rattle.std.proofs.Common.{◌≡◌, ℕ, zero, suc, ◌+◌, ◌-◌, ◌<◌, ◌≤◌, Bool, true, false, cond, nat_le, List, [], ◌∷◌, length, get_or, take, drop, map, Option, Some, None, refl, sym, ◌∙◌, ap, subst, inl, inr, arith, ltb}
+use Rattle.std.proofs.Common.{◌≡◌, ℕ, zero, suc, ◌<◌, ◌≤◌, true, false, cond, nat_le, List, [], ◌∷◌, length, get_or, drop, refl, sym, ◌∙◌, ap, subst, inl, inr, arith}
 use Rattle.std.proofs.lemmas.Bool.{cases_lt}
 use Rattle.std.proofs.lemmas.Bool.Decides.{nat_tests}
 use Rattle.std.proofs.lemmas.Cmp.{ranked}
-use Rattle.std.proofs.lemmas.Option.{slice_get_cases}
-use Rattle.std.specs.Cmp.Lexicographic.{slice_cmp}
-use Rattle.std.specs.List.{AllByRecursion, filter, slice_get}
+use Rattle.std.specs.List.{AllByRecursion, filter}
 use Rattle.std.specs.Ordering.{MatchOrdering, nat_cmp, ordering_then}
 use Rattle.std.specs.declared.cmp.Ordering.{Ordering}
 use Rattle.std.specs.declared.cmp.Ordering.TheVariants.{Less, Equal, Greater}
@@ -15,7 +13,6 @@ use Rattle.rs_order.proofs.ItemFacts.{filter-none}
 use Rattle.rs_order.proofs.PartFacts.{In-drop}
 use Rattle.rs_rank.specs.declared.key.Key.{Key}
 use Rattle.rs_rank.specs.Keys.{IsBefore, ids_cmp, key_cmp}
-use Rattle.rs_setop.specs.Asks.{wanted_for}
 
 -- a key that comes before another one has no lesser bound
 pub bound-falls : (a b : Key) → IsBefore a b → b.bound ≤ a.bound

@@ -1,39 +1,25 @@
 -- How far the right side of INTERSECT and EXCEPT is past a bound.
-use Rattle.std.proofs.Common.{◌≡◌, ℕ, zero, suc, ◌+◌, ◌-◌, ◌<◌, ◌≤◌, ◌||◌, Bool, true, false, not, cond, max, nat_le, List, [], ◌∷◌, ◌++◌, append-nil, length, get_or, take, drop, map, Option, Some, None, refl, sym, ◌∙◌, ap, ap₂, subst, inl, inr, arith, ltb}
-use Rattle.std.proofs.lemmas.Bool.{cases_lt, true≢false}
+use Rattle.std.proofs.Common.{◌≡◌, ℕ, zero, suc, ◌<◌, ◌≤◌, ◌||◌, true, false, nat_le, List, [], ◌∷◌, length, get_or, take, drop, refl, sym, ◌∙◌, ap, ap₂, subst, inl, inr, arith, ltb}
+use Rattle.std.proofs.lemmas.Bool.{cases_lt}
 use Rattle.std.proofs.lemmas.Bool.Decides.{nat_tests}
-use Rattle.std.proofs.lemmas.List.{append_assoc, length-map, map-append, take_all, drop_all}
-use Rattle.std.proofs.lemmas.List.Folds.{list_any-append}
+use Rattle.std.proofs.lemmas.List.{length-map}
 use Rattle.std.proofs.lemmas.Option.{slice_get_cases}
-use Rattle.std.specs.List.{AllByRecursion, filter, list_any, slice_get}
 use Rattle.std.specs.Option.{option_map}
-use Rattle.rs_order.specs.Asks.{asks_for, comes_before_bar}
-use Rattle.rs_order.specs.Climbing.{Climbs, In, Precedes}
+use Rattle.rs_order.specs.Climbing.{Climbs, In}
 use Rattle.rs_order.specs.Last.{last_of}
-use Rattle.rs_order.specs.Schedule.{Left, Right, SideAsk}
-use Rattle.rs_order.proofs.ClimbingFacts.{AllByRecursion-In}
-use Rattle.rs_order.proofs.EachFacts.{each-map}
+use Rattle.rs_order.proofs.ClimbingFacts.{Climbs-map}
 use Rattle.rs_order.proofs.ItemFacts.{In-map}
 use Rattle.rs_order.proofs.PartFacts.{last_of-take}
 use Rattle.rs_rank.specs.declared.key.Key.{Key}
 use Rattle.rs_rank.specs.Keys.{key_cmp}
-use Rattle.rs_value.specs.declared.value.Value.{Value}
-use Rattle.rs_outputs.specs.Seen.{has_list, same_values, with_list}
-use Rattle.rs_outputs.proofs.SameFacts.{same_values-itself, same_values-same}
-use Rattle.rs_setop.specs.Asks.{asks_from, one_by_one, wanted_for}
-use Rattle.rs_setop.specs.Reached.{Reach, is_below, is_past}
-use Rattle.rs_outputs.specs.Rows.{OutputRow, values_of, lists_from, lists_of}
-use Rattle.rs_setop.specs.Sides.{AreSides, Sides, keys_of, row_key}
-use Rattle.rs_setop.specs.Stands.{asks_behind, right_after}
+use Rattle.rs_setop.specs.Reached.{is_below, is_past}
+use Rattle.rs_outputs.specs.Rows.{OutputRow}
+use Rattle.rs_setop.specs.Sides.{Sides, keys_of, row_key}
+use Rattle.rs_setop.specs.Stands.{right_after}
 use Rattle.rs_setop.proofs.BoundFacts.{at_least, at_least-above, at_least-below, at_least-most, below-rest}
-use Rattle.rs_outputs.proofs.FirstFacts.{has_list-more}
 use Rattle.rs_outputs.proofs.ListFacts.{below, not_below}
 
--- keys rise with their rows
-Climbs-keys : (s : Sides) (rows : List OutputRow) → Climbs key_cmp (row_key s) rows → Climbs key_cmp (λ k. k) (keys_of s rows)
-Climbs-keys s [] climbs = tt
-Climbs-keys s (row ∷ rows) climbs = (each-map (Precedes key_cmp (λ (k : Key). k) (row_key s row)) (row_key s) rows climbs.0, Climbs-keys s rows climbs.1)
-
+-- the key of a row at a place
 keys-at : (s : Sides) (rows : List OutputRow) (i : ℕ) (d : OutputRow) → i < length rows → row_key s (get_or rows i d) ≡ get_or (keys_of s rows) i (row_key s d)
 keys-at s [] i d within = refl
 keys-at s (row ∷ rows) zero d within = refl
@@ -51,7 +37,7 @@ module _ (s : Sides) (rights : List OutputRow) (climbs : Climbs key_cmp (row_key
 
   past-at : (i : ℕ) (d : OutputRow) → i < length rights → is_past (right_after s rights (suc i)) bound ≡ nat_le wanted (suc i)
   past-at i d within =
-      let keys = Climbs-keys s rights climbs in
+      let keys = Climbs-map key_cmp (λ (k : Key). k) (row_key s) rights climbs in
       let count = length-map rights (row_key s) in
       let last : is_past (right_after s rights (suc i)) bound ≡ ltb (row_key s (get_or rights i d)).bound bound =
       ap₂ (λ b o. b || is_below (option_map (λ row. (row_key s row).bound) o) bound) (not_below (length rights) (suc i) (omega arith)) (last_of-take i rights d within) in
@@ -92,4 +78,4 @@ module _ (s : Sides) (rights : List OutputRow) (climbs : Climbs key_cmp (row_key
 
   -- then all rows still to come are below it
   pub rest-below : (asks : ℕ) → wanted ≤ asks → (row : OutputRow) → In row (drop asks rights) → (row_key s row).bound < bound
-  rest-below asks le row h = below-rest bound (keys_of s rights) asks (Climbs-keys s rights climbs) (omega arith) (row_key s row) (drop-keys s asks rights row h)
+  rest-below asks le row h = below-rest bound (keys_of s rights) asks (Climbs-map key_cmp (λ (k : Key). k) (row_key s) rights climbs) (omega arith) (row_key s row) (drop-keys s asks rights row h)

@@ -1,48 +1,45 @@
 -- Where INTERSECT and EXCEPT stand, and what each call does to that.
-use Rattle.std.proofs.Common.{◌≡◌, ℕ, zero, suc, ◌+◌, ◌-◌, ◌<◌, ◌≤◌, ◌&&◌, ◌||◌, Bool, true, false, not, cond, max, nat_le, List, [], ◌∷◌, ◌++◌, append-nil, length, take, drop, map, Option, Some, None, refl, sym, ◌∙◌, ap, ap₂, subst, inl, inr, arith}
-use Rattle.std.proofs.lemmas.Bool.{cases_lt, true≢false}
+use Rattle.std.proofs.Common.{◌≡◌, ℕ, zero, suc, ◌+◌, ◌-◌, ◌<◌, ◌≤◌, ◌||◌, Bool, true, false, not, cond, max, nat_le, List, [], ◌∷◌, ◌++◌, length, take, drop, Option, Some, None, refl, sym, ◌∙◌, ap, ap₂, subst, inl, inr, arith}
+use Rattle.std.proofs.lemmas.Bool.{true≢false}
 use Rattle.std.proofs.lemmas.Bool.Decides.{nat_tests}
 use Rattle.std.proofs.lemmas.List.{append_assoc, length-map, take-append-drop, take_all}
-use Rattle.std.proofs.lemmas.List.Folds.{list_any-append}
-use Rattle.std.proofs.lemmas.Option.{get_or_from_slice_get, slice_get_cases, slice_get_within}
+use Rattle.std.proofs.lemmas.Option.{get_or_from_slice_get, slice_get_within}
 use Rattle.std.specs.List.{AllByRecursion, filter, slice_get}
 use Rattle.std.specs.Option.{option_map}
 use Rattle.rs_order.specs.Asks.{asks_for, bar_after, comes_before_bar}
 use Rattle.rs_order.specs.Climbing.{Climbs, In, Precedes}
 use Rattle.rs_order.specs.Last.{last_of}
 use Rattle.rs_order.specs.Sorting.{sorted}
-use Rattle.rs_order.specs.Schedule.{Left, Right, SideAsk}
+use Rattle.rs_order.specs.Schedule.{Left, Right, SideAsk, asks_from, asked}
 use Rattle.rs_order.proofs.ClimbingFacts.{AllByRecursion-In, AllByRecursion-from_In}
 use Rattle.rs_order.proofs.EachFacts.{each-push, each-weaker}
 use Rattle.rs_order.proofs.ItemFacts.{In-filter-back, In-left, In-right}
-use Rattle.rs_order.proofs.PartFacts.{In-at, In-drop, In-slice_get, In-take, last_of-take, take-snoc}
+use Rattle.rs_order.proofs.PartFacts.{In-drop, last_of-take, take-snoc}
+use Rattle.rs_order.proofs.ScheduleFacts.{asked-left, asked-right}
 use Rattle.rs_rank.specs.declared.ask.JoinAsk.{JoinAsk}
 use Rattle.rs_rank.specs.declared.ask.JoinAsk.TheVariants.{NeedLeft, NeedRight, Ready, End}
 use Rattle.rs_rank.specs.declared.key.Key.{Key}
 use Rattle.rs_rank.specs.Keys.{key_cmp}
 use Rattle.rs_rank.specs.Weights.{rest as rest_of}
 use Rattle.rs_rank.proofs.OrderFacts.{key_cmp-total}
-use Rattle.rs_value.specs.declared.set_op.SetOp.{SetOp}
+use Rattle.rs_rank.specs.SetTurns.{one_by_one, wanted_for}
 use Rattle.rs_value.specs.declared.value.Value.{Value}
 use Rattle.rs_outputs.specs.Seen.{has_list, same_values, with_list}
 use Rattle.rs_outputs.proofs.SameFacts.{same_values-same}
 use Rattle.rs_setop.specs.declared.held.Head.{Head}
-use Rattle.rs_setop.specs.declared.held.Head.TheVariants.{Unknown, Held, Ended}
-use Rattle.rs_setop.specs.Asks.{asks_from, one_by_one, set_schedule, wanted_for}
-use Rattle.rs_setop.specs.Compared.{Comparison, ask_for, ask_of, is_other, is_out, is_unwanted, new_compared, passed, settled}
-use Rattle.rs_setop.specs.Held.{held_of, row_of}
-use Rattle.rs_setop.specs.Reached.{Reach, fed, is_past}
+use Rattle.rs_setop.specs.declared.held.Head.TheVariants.{Unknown}
+use Rattle.rs_setop.specs.Compared.{Comparison, ask_for, ask_of, is_other, new_compared, passed}
+use Rattle.rs_setop.specs.Reached.{Reach, fed}
 use Rattle.rs_outputs.specs.Rows.{OutputRow, firsts, occurs_in, values_of, lists_of, unseen}
 use Rattle.rs_setop.specs.Sets.{set_rows}
-use Rattle.rs_setop.specs.Sides.{AreSides, Sides, answers, asked, head_after, head_of, keys_of, row_key, schedule_of}
+use Rattle.rs_setop.specs.Sides.{AreSides, Sides, answers, head_after, head_of, keys_of, row_key, schedule_of}
 use Rattle.rs_setop.specs.Stands.{ComparedAt, ComparedStands, asks_behind, is_kept, due, op_of, right_after}
 use Rattle.rs_setop.proofs.BoundFacts.{at_least-most}
-use Rattle.rs_outputs.proofs.ValueFacts.{HasValues, has_list-of, has_list-with, lists_of-more, none-of_values, or-assoc, row-of_values}
+use Rattle.rs_outputs.proofs.ValueFacts.{has_list-of, has_list-with, lists_of-more, none-of_values, or-assoc}
 use Rattle.rs_setop.proofs.CompareFacts.{past-is, rest-below}
 use Rattle.rs_outputs.proofs.FirstFacts.{Climbs-firsts, In-firsts, In-unseen, unseen-new, unseen-none, unseen-seen}
-use Rattle.rs_outputs.proofs.ListFacts.{Climbs-filter, Climbs-rest, bar-rest, before-rest, below, distinct-climbs, item-behind, none-rest, not_before, not_before-itself, not_below, rest-none, rest-some, some-rest, sorted-of}
-use Rattle.rs_setop.proofs.UnionAllFacts.{bars-keep}
-use Rattle.rs_setop.proofs.WalkFacts.{asked-left, asked-right, due-none, due-some, head-known, head-unknown, known-or_not}
+use Rattle.rs_outputs.proofs.ListFacts.{Climbs-filter, Climbs-rest, bar-rest, before-rest, below, distinct-climbs, not_before, not_before-itself, not_below, rest-some, sorted-of}
+use Rattle.rs_setop.proofs.WalkFacts.{due-none, due-some, head-known, head-unknown, known-or_not}
 
 abbrev op_rows : Bool → List OutputRow → List OutputRow → List OutputRow
 op_rows shared lefts rights = firsts (filter (is_kept shared rights) lefts)

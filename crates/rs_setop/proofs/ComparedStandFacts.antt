@@ -1,50 +1,38 @@
 -- What each call does to where INTERSECT and EXCEPT stand, and what the next ask tells.
-use Rattle.std.proofs.Common.{◌≡◌, ℕ, zero, suc, ◌+◌, ◌-◌, ◌<◌, ◌≤◌, ◌&&◌, ◌||◌, Bool, true, false, not, cond, max, nat_le, List, [], ◌∷◌, ◌++◌, append-nil, length, take, drop, map, Option, Some, None, refl, sym, ◌∙◌, ap, ap₂, subst, inl, inr, arith}
-use Rattle.std.proofs.lemmas.Bool.{cases_lt, true≢false}
+use Rattle.std.proofs.Common.{◌≡◌, ℕ, suc, ◌+◌, ◌≤◌, ◌&&◌, Bool, true, false, not, cond, nat_le, List, [], ◌∷◌, ◌++◌, append-nil, length, take, drop, Option, Some, None, refl, sym, ◌∙◌, ap, ap₂, subst, arith}
 use Rattle.std.proofs.lemmas.Bool.Decides.{nat_tests}
-use Rattle.std.proofs.lemmas.List.{append_assoc, length-map, take-append-drop, take_all}
-use Rattle.std.proofs.lemmas.List.Folds.{list_any-append}
-use Rattle.std.proofs.lemmas.Option.{get_or_from_slice_get, slice_get_cases, slice_get_within}
-use Rattle.std.specs.List.{AllByRecursion, filter, slice_get}
+use Rattle.std.proofs.lemmas.Option.{slice_get_within}
+use Rattle.std.specs.List.{filter, slice_get}
 use Rattle.std.specs.Option.{option_map}
 use Rattle.rs_order.specs.Asks.{asks_for, bar_after, comes_before_bar}
-use Rattle.rs_order.specs.Climbing.{Climbs, In, Precedes}
-use Rattle.rs_order.specs.Last.{last_of}
-use Rattle.rs_order.specs.Sorting.{sorted}
-use Rattle.rs_order.specs.Schedule.{Left, Right, SideAsk}
-use Rattle.rs_order.proofs.ClimbingFacts.{AllByRecursion-In, AllByRecursion-from_In}
-use Rattle.rs_order.proofs.EachFacts.{each-push, each-weaker}
-use Rattle.rs_order.proofs.ItemFacts.{In-filter-back, In-left, In-right}
-use Rattle.rs_order.proofs.PartFacts.{bar_after-slice_get, In-at, In-drop, In-slice_get, In-take, last_of-take, take-snoc}
+use Rattle.rs_order.specs.Climbing.{Climbs, In}
+use Rattle.rs_order.specs.Schedule.{Left, Right, SideAsk, asked}
+use Rattle.rs_order.proofs.ClimbingFacts.{AllByRecursion-In}
+use Rattle.rs_order.proofs.ItemFacts.{In-left}
+use Rattle.rs_order.proofs.PartFacts.{bar_after-slice_get, In-slice_get, In-take}
+use Rattle.rs_order.proofs.ScheduleFacts.{asked-left, asked-right}
 use Rattle.rs_rank.specs.declared.ask.JoinAsk.{JoinAsk}
 use Rattle.rs_rank.specs.declared.ask.JoinAsk.TheVariants.{NeedLeft, NeedRight, Ready, End}
 use Rattle.rs_rank.specs.declared.key.Key.{Key}
 use Rattle.rs_rank.specs.Keys.{key_cmp}
 use Rattle.rs_rank.specs.Rows.{key_of}
 use Rattle.rs_rank.specs.Weights.{rest as rest_of}
-use Rattle.rs_rank.proofs.OrderFacts.{key_cmp-total}
-use Rattle.rs_value.specs.declared.set_op.SetOp.{SetOp}
+use Rattle.rs_rank.specs.SetTurns.{one_by_one, wanted_for}
 use Rattle.rs_value.specs.declared.value.Value.{Value}
-use Rattle.rs_outputs.specs.Seen.{has_list, same_values, with_list}
-use Rattle.rs_outputs.proofs.SameFacts.{same_values-same}
-use Rattle.rs_setop.specs.declared.held.Head.{Head}
-use Rattle.rs_setop.specs.declared.held.Head.TheVariants.{Unknown, Held, Ended}
-use Rattle.rs_setop.specs.Asks.{asks_from, one_by_one, set_schedule, wanted_for}
+use Rattle.rs_outputs.specs.Seen.{has_list, with_list}
+use Rattle.rs_setop.specs.declared.held.Head.TheVariants.{Unknown}
 use Rattle.rs_setop.specs.Compared.{Comparison, ask_of, is_other, is_out, is_unwanted, left_ended, left_fed, left_for, passed, right_ended, right_fed, settled, taken_for}
 use Rattle.rs_setop.specs.Held.{head_of_row, held_of, row_of}
-use Rattle.rs_setop.specs.Reached.{Reach, fed, is_past}
-use Rattle.rs_outputs.specs.Rows.{OutputRow, firsts, occurs_in, values_of, lists_of, unseen}
-use Rattle.rs_setop.specs.Sets.{set_rows}
-use Rattle.rs_setop.specs.Sides.{AreSides, Sides, answers, asked, head_after, head_of, keys_of, row_key, schedule_of}
+use Rattle.rs_setop.specs.Reached.{fed, is_past}
+use Rattle.rs_outputs.specs.Rows.{OutputRow, firsts, lists_of, unseen}
+use Rattle.rs_setop.specs.Sides.{AreSides, Sides, answers, head_of, keys_of, row_key, schedule_of}
 use Rattle.rs_setop.specs.Stands.{ComparedAt, ComparedStands, asks_behind, is_kept, due, op_of, right_after}
-use Rattle.rs_setop.proofs.BoundFacts.{at_least-most}
-use Rattle.rs_outputs.proofs.ValueFacts.{HasValues, has_list-of, has_list-with, lists_of-more, none-of_values, or-assoc, row-of_values}
-use Rattle.rs_setop.proofs.CompareFacts.{past-is, rest-below}
-use Rattle.rs_outputs.proofs.FirstFacts.{Climbs-firsts, In-firsts, In-unseen, unseen-new, unseen-none, unseen-seen}
-use Rattle.rs_outputs.proofs.ListFacts.{Climbs-filter, Climbs-rest, bar-rest, before-rest, below, distinct-climbs, item-behind, none-rest, not_before, not_before-itself, not_below, rest-none, rest-some, some-rest, sorted-of}
+use Rattle.rs_outputs.proofs.ValueFacts.{has_list-of, row-of_values}
+use Rattle.rs_setop.proofs.CompareFacts.{past-is}
+use Rattle.rs_outputs.proofs.ListFacts.{Climbs-rest, item-behind, none-rest, rest-none, rest-some, some-rest}
 use Rattle.rs_setop.proofs.UnionAllFacts.{bars-keep}
-use Rattle.rs_setop.proofs.WalkFacts.{asked-left, asked-right, due-none, due-some, head-known, head-unknown, known-or_not}
-use Rattle.rs_setop.proofs.ComparedFacts.{Shown, all-counted, answer-gone, asks-behind, asks-one, asks_behind-done, asks_behind-more, at_most, climbing, compared_of, is_kept-other, gone, known-values, left-known, more, other-gone, right-over, right-row, schedule-is, seen-gone, shows}
+use Rattle.rs_setop.proofs.WalkFacts.{due-none, due-some, head-known, head-unknown}
+use Rattle.rs_setop.proofs.ComparedFacts.{Shown, answer-gone, asks-behind, asks-one, asks_behind-done, asks_behind-more, at_most, climbing, compared_of, is_kept-other, gone, known-values, left-known, more, other-gone, right-over, right-row, schedule-is, seen-gone, shows}
 use Rattle.rs_setop.proofs.HeadFacts.{Tells}
 
 -- what a head and a reach tell of a held row

@@ -1,11 +1,12 @@
 -- What the next rows of both sides of a union tell: which side is due, and which row comes first.
-use Rattle.std.proofs.Common.{◌≡◌, ℕ, suc, ◌<◌, ◌≤◌, Bool, true, false, not, cond, List, [], ◌∷◌, length, drop, Option, Some, None, refl, sym, ◌∙◌, ap, ap₂, subst, ◌⊎◌, inl, inr}
+use Rattle.std.proofs.Common.{◌≡◌, ℕ, suc, ◌≤◌, Bool, true, false, not, cond, List, length, drop, Option, Some, None, refl, sym, ap, subst, ◌⊎◌, inl, inr}
 use Rattle.std.specs.List.{slice_get}
 use Rattle.std.specs.Ordering.{is_gt}
-use Rattle.rs_order.specs.Schedule.{Left, Right, SideAsk}
+use Rattle.rs_order.specs.Schedule.{SideAsk}
 use Rattle.rs_rank.specs.declared.ask.JoinAsk.{JoinAsk}
 use Rattle.rs_rank.specs.declared.ask.JoinAsk.TheVariants.{NeedLeft, NeedRight, Ready, End}
 use Rattle.rs_rank.specs.Keys.{key_cmp}
+use Rattle.rs_rank.proofs.TurnFacts as turns
 use Rattle.rs_value.specs.declared.set_op.SetOp.{SetOp}
 use Rattle.rs_setop.specs.declared.heads.Heads.{Heads}
 use Rattle.rs_setop.specs.declared.held.Head.{Head}
@@ -14,7 +15,7 @@ use Rattle.rs_setop.specs.declared.held.HeldRow.{HeldRow}
 use Rattle.rs_setop.specs.Heads.{ask_for, ask_of, first_of, without_first}
 use Rattle.rs_setop.specs.Held.{held_row}
 use Rattle.rs_outputs.specs.Rows.{OutputRow}
-use Rattle.rs_setop.specs.Sides.{Sides, answers, asked, head_after, head_of, row_key, schedule_of}
+use Rattle.rs_setop.specs.Sides.{Sides, answers, head_after, head_of, row_key, schedule_of}
 use Rattle.rs_outputs.proofs.ListFacts.{rest-none, rest-some}
 use Rattle.rs_setop.proofs.WalkFacts.{IsLeftFirst, IsRightFirst, head-known, head-unknown, known-or_not}
 
@@ -108,7 +109,4 @@ heads-show s lefts rights left right left_asks right_asks left_least left_most r
 
 -- what an ask tells of the schedule for the next answer
 abbrev pub Tells : Sides → SetOp → List OutputRow → List OutputRow → List SideAsk → ℕ → JoinAsk → Type 0
-Tells s op lefts rights made count NeedLeft = slice_get (schedule_of s op lefts rights (suc count)) (length made) ≡ Some (record { side = Left; number = suc (asked Left made) })
-Tells s op lefts rights made count NeedRight = slice_get (schedule_of s op lefts rights (suc count)) (length made) ≡ Some (record { side = Right; number = suc (asked Right made) })
-Tells s op lefts rights made count Ready = (made ≡ schedule_of s op lefts rights (suc count)) × (count < length (answers s op lefts rights))
-Tells s op lefts rights made count End = (made ≡ schedule_of s op lefts rights (suc count)) × (count ≡ length (answers s op lefts rights))
+Tells s op lefts rights made count ask = turns.Tells (schedule_of s op lefts rights (suc count)) made count (length (answers s op lefts rights)) ask

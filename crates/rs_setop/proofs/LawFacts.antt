@@ -1,74 +1,21 @@
 -- What the next ask is, and what a row or the end of a side does to UNION ALL and UNION.
-use Rattle.std.proofs.Common.{◌≡◌, ℕ, suc, ◌<◌, Bool, List, [], ◌∷◌, ◌++◌, length, Option, Some, None, refl, sym, ◌∙◌, ap, ap₂, subst, arith}
-use Rattle.std.proofs.lemmas.Option.{slice_get_past}
-use Rattle.std.specs.List.{AllByRecursion, slice_get}
-use Rattle.rs_order.specs.Climbing.{In}
-use Rattle.rs_order.specs.Schedule.{Left, Right, SideAsk}
+use Rattle.std.proofs.Common.{◌≡◌, ℕ, suc, Bool, List, [], ◌∷◌, ◌++◌, Option, Some, None, sym, ◌∙◌, ap, ap₂, subst}
+use Rattle.std.specs.List.{slice_get}
+use Rattle.rs_order.specs.Schedule.{Left, Right, SideAsk, asked}
 use Rattle.rs_order.proofs.ClimbingFacts.{AllByRecursion-In}
 use Rattle.rs_order.proofs.PartFacts.{In-slice_get}
-use Rattle.rs_rank.specs.declared.ask.JoinAsk.{JoinAsk}
-use Rattle.rs_rank.specs.declared.ask.JoinAsk.TheVariants.{NeedLeft, NeedRight, Ready, End}
+use Rattle.rs_rank.specs.declared.ask.JoinAsk.TheVariants.{NeedLeft, NeedRight}
 use Rattle.rs_rank.specs.Rows.{HasSum}
-use Rattle.rs_value.specs.declared.set_op.SetOp.{SetOp}
 use Rattle.rs_setop.specs.Compared.{Comparison}
 use Rattle.rs_setop.specs.Heads.{ask_of}
 use Rattle.rs_setop.specs.Held.{head_of_row}
 use Rattle.rs_outputs.specs.Rows.{OutputRow}
-use Rattle.rs_setop.specs.Sides.{AreSides, IsNextAsk, IsRowOf, Sides, answers, asked, head_of, schedule_of}
+use Rattle.rs_setop.specs.Sides.{AreSides, IsRowOf, Sides, head_of}
 use Rattle.rs_setop.specs.Stands.{ComparedStands, UnionAllStands, UnionStands}
 use Rattle.rs_setop.specs.Union as union
 use Rattle.rs_setop.specs.UnionAll as all
-use Rattle.rs_setop.proofs.HeadFacts.{Tells}
 use Rattle.rs_setop.proofs.UnionFacts as union_facts
 use Rattle.rs_setop.proofs.UnionAllFacts as all_facts
-
--- the asks of the two sides differ
-other_side : (ask other : SideAsk) → ask.side ≡ Left → other.side ≡ Right → Some ask ≡ Some other → ⊥
-other_side ask other left right e =
-    let same : ask ≡ other = cc in
-    differ (sym left ∙ ap (λ (a : SideAsk). a.side) same ∙ right)
-  where
-    differ : Left ≡ Right → ⊥
-    differ f = cc
-
--- no ask is behind those of a schedule that are all made
-none_behind : (asks made : List SideAsk) (ask : SideAsk) → made ≡ asks → slice_get asks (length made) ≡ Some ask → ⊥
-none_behind asks made ask e f =
-    let none : slice_get asks (length made) ≡ None = subst (λ m. slice_get asks (length m) ≡ None) (sym e) (slice_get_past asks (length asks) (omega arith)) in
-    none_some (sym none ∙ f)
-  where
-    none_some : None ≡ Some ask → ⊥
-    none_some g = cc
-
-not_less : (m n : ℕ) → m < n → m ≡ n → ⊥
-not_less m n less e = absurd (omega arith)
-
--- what an ask tells decides which one it is
-pub next-ask : (s : Sides) (op : SetOp) (lefts rights : List OutputRow) (made : List SideAsk) (count : ℕ) (ask : JoinAsk) → Tells s op lefts rights made count ask → IsNextAsk s op lefts rights made count ask
-next-ask s op lefts rights made count NeedLeft tells = record {
-  left = (λ e. tells, λ f. refl);
-  right = (λ e. absurd (cc), λ f. absurd (other_side (record { side = Left; number = suc (asked Left made) }) (record { side = Right; number = suc (asked Right made) }) refl refl (sym tells ∙ f)));
-  ready = (λ e. absurd (cc), λ both. absurd (none_behind (schedule_of s op lefts rights (suc count)) made (record { side = Left; number = suc (asked Left made) }) both.0 tells));
-  end = (λ e. absurd (cc), λ both. absurd (none_behind (schedule_of s op lefts rights (suc count)) made (record { side = Left; number = suc (asked Left made) }) both.0 tells));
-}
-next-ask s op lefts rights made count NeedRight tells = record {
-  left = (λ e. absurd (cc), λ f. absurd (other_side (record { side = Left; number = suc (asked Left made) }) (record { side = Right; number = suc (asked Right made) }) refl refl (sym f ∙ tells)));
-  right = (λ e. tells, λ f. refl);
-  ready = (λ e. absurd (cc), λ both. absurd (none_behind (schedule_of s op lefts rights (suc count)) made (record { side = Right; number = suc (asked Right made) }) both.0 tells));
-  end = (λ e. absurd (cc), λ both. absurd (none_behind (schedule_of s op lefts rights (suc count)) made (record { side = Right; number = suc (asked Right made) }) both.0 tells));
-}
-next-ask s op lefts rights made count Ready tells = record {
-  left = (λ e. absurd (cc), λ f. absurd (none_behind (schedule_of s op lefts rights (suc count)) made (record { side = Left; number = suc (asked Left made) }) tells.0 f));
-  right = (λ e. absurd (cc), λ f. absurd (none_behind (schedule_of s op lefts rights (suc count)) made (record { side = Right; number = suc (asked Right made) }) tells.0 f));
-  ready = (λ e. tells, λ f. refl);
-  end = (λ e. absurd (cc), λ both. absurd (not_less count (length (answers s op lefts rights)) tells.1 both.1));
-}
-next-ask s op lefts rights made count End tells = record {
-  left = (λ e. absurd (cc), λ f. absurd (none_behind (schedule_of s op lefts rights (suc count)) made (record { side = Left; number = suc (asked Left made) }) tells.0 f));
-  right = (λ e. absurd (cc), λ f. absurd (none_behind (schedule_of s op lefts rights (suc count)) made (record { side = Right; number = suc (asked Right made) }) tells.0 f));
-  ready = (λ e. absurd (cc), λ both. absurd (not_less count (length (answers s op lefts rights)) both.1 tells.1));
-  end = (λ e. tells, λ f. refl);
-}
 
 -- the rows of both sides have sums that the terms can give
 left-sum : (s : Sides) (lefts rights : List OutputRow) → AreSides s lefts rights → (n : ℕ) (row : OutputRow) → slice_get lefts n ≡ Some row → HasSum s.weights s.terms row.row

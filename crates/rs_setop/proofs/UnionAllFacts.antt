@@ -1,37 +1,32 @@
 -- Where UNION ALL stands, and what each call does to that.
-use Rattle.std.proofs.Common.{◌≡◌, ℕ, suc, ◌<◌, ◌≤◌, Bool, true, false, not, cond, List, [], ◌∷◌, ◌++◌, length, take, drop, Option, Some, None, refl, sym, ◌∙◌, ap, ap₂, subst, inl, inr, arith}
-use Rattle.std.proofs.lemmas.Bool.{true≢false}
-use Rattle.std.proofs.lemmas.Option.{slice_get_cases, slice_get_within}
-use Rattle.std.specs.List.{AllByRecursion, slice_get}
+use Rattle.std.proofs.Common.{◌≡◌, ℕ, suc, true, List, [], ◌∷◌, ◌++◌, Option, Some, refl, sym, ◌∙◌, ap, ap₂, subst, inl, inr, arith}
+use Rattle.std.proofs.lemmas.Option.{slice_get_within}
+use Rattle.std.specs.List.{slice_get}
 use Rattle.std.specs.Option.{option_map}
-use Rattle.rs_order.specs.Asks.{IsNoFurther, asks_for, bar_after, comes_before_bar}
-use Rattle.rs_order.specs.Climbing.{Climbs, HasDistinctKeys, In, Precedes}
+use Rattle.rs_order.specs.Asks.{bar_after, comes_before_bar}
+use Rattle.rs_order.specs.Climbing.{Climbs, HasDistinctKeys, In}
 use Rattle.rs_order.specs.Merging.{merged}
-use Rattle.rs_order.specs.Schedule.{Left, Right, SideAsk, Turn, asked_before, turns_from}
-use Rattle.rs_order.specs.Sorting.{sorted}
+use Rattle.rs_order.specs.Schedule.{Left, Right, SideAsk, Turn, asked_before, turns_from, asked}
 use Rattle.rs_order.proofs.AsksFacts.{bar_after-later, comes_before_bar-further}
 use Rattle.rs_order.proofs.ItemFacts.{In-append, In-left, In-right}
 use Rattle.rs_order.proofs.MergingFacts.{In-merged, In-merged-back}
+use Rattle.rs_order.proofs.ScheduleFacts.{asked-left, asked-right}
 use Rattle.rs_rank.specs.declared.ask.JoinAsk.{JoinAsk}
 use Rattle.rs_rank.specs.declared.ask.JoinAsk.TheVariants.{NeedLeft, NeedRight, Ready, End}
 use Rattle.rs_rank.specs.declared.key.Key.{Key}
-use Rattle.rs_rank.specs.declared.row.RankRow.{RankRow}
 use Rattle.rs_rank.specs.Keys.{key_cmp}
 use Rattle.rs_rank.proofs.OrderFacts.{key_cmp-total}
-use Rattle.rs_value.specs.declared.set_op.SetOp.{SetOp}
 use Rattle.rs_value.specs.declared.set_op.SetOp.TheVariants as op
 use Rattle.rs_setop.specs.declared.heads.Heads.{Heads}
-use Rattle.rs_setop.specs.declared.held.Head.{Head}
-use Rattle.rs_setop.specs.declared.held.Head.TheVariants.{Unknown, Held, Ended}
-use Rattle.rs_setop.specs.Heads.{ask_for, ask_of, first_of, left_is_first, without_first}
-use Rattle.rs_setop.specs.Held.{held_of, row_of, without_held}
+use Rattle.rs_setop.specs.Heads.{ask_of, first_of}
+use Rattle.rs_setop.specs.Held.{row_of}
 use Rattle.rs_outputs.specs.Rows.{OutputRow}
-use Rattle.rs_setop.specs.Sides.{AreSides, Sides, answers, asked, head_after, head_of, keys_of, row_key, schedule_of}
-use Rattle.rs_setop.specs.Stands.{IsMerging, UnionAllStands, heads_after, rows_left, turns_left}
+use Rattle.rs_setop.specs.Sides.{AreSides, Sides, answers, head_after, head_of, keys_of, row_key}
+use Rattle.rs_setop.specs.Stands.{UnionAllStands, heads_after, rows_left, turns_left}
 use Rattle.rs_setop.specs.UnionAll.{UnionAll, left_for, new_union_all, taken_for}
-use Rattle.rs_setop.proofs.HeadFacts.{AreOver, IsLeftNext, IsRightNext, Shows, Tells, heads-show}
-use Rattle.rs_outputs.proofs.ListFacts.{bar-rest, before-rest, distinct-append, distinct-climbs, none-rest, rest-none, rest-some, some-rest, sorted-of}
-use Rattle.rs_setop.proofs.WalkFacts.{IsLeftFirst, IsRightFirst, all-asked, asked-left, asked-right, head-known, head-unknown, known-or_not, left-asked, left-first, left-gone, next-left, next-right, none-left, nothing-asked, right-asked, right-first, right-gone, rows_left-climbs, sides-apart}
+use Rattle.rs_setop.proofs.HeadFacts.{Shows, Tells, heads-show}
+use Rattle.rs_outputs.proofs.ListFacts.{bar-rest, before-rest, distinct-append, distinct-climbs, none-rest, rest-none, some-rest, sorted-of}
+use Rattle.rs_setop.proofs.WalkFacts.{all-asked, head-known, head-unknown, left-asked, left-first, left-gone, next-left, next-right, none-left, nothing-asked, right-asked, right-first, right-gone, rows_left-climbs, sides-apart}
 
 -- the rows of both sides differ in their keys
 pub both-distinct : (s : Sides) (lefts rights : List OutputRow) → AreSides s lefts rights → HasDistinctKeys key_cmp (row_key s) (lefts ++ rights)

@@ -1,20 +1,21 @@
 -- Where UNION stands, and what each call does to that.
-use Rattle.std.proofs.Common.{◌≡◌, ℕ, suc, ◌<◌, ◌≤◌, Bool, true, false, not, cond, List, [], ◌∷◌, ◌++◌, ◌+◌, length, take, drop, map, Option, Some, None, refl, sym, ◌∙◌, ap, ap₂, subst, inl, inr, arith}
+use Rattle.std.proofs.Common.{◌≡◌, ℕ, suc, ◌<◌, true, false, cond, List, [], ◌∷◌, ◌++◌, ◌+◌, take, drop, Option, Some, refl, sym, ◌∙◌, ap, ap₂, subst, inl, inr, arith}
 use Rattle.std.proofs.lemmas.List.{map-append}
 use Rattle.std.proofs.lemmas.Option.{slice_get_within}
 use Rattle.std.specs.Cmp.{nat_cmp_is}
 use Rattle.std.specs.Cmp.Lexicographic.{slice_cmp}
-use Rattle.std.specs.List.{AllByRecursion, slice_get}
+use Rattle.std.specs.List.{slice_get}
 use Rattle.std.specs.Option.{option_map}
 use Rattle.std.specs.Ordering.{nat_cmp, ordering_then}
 use Rattle.std.specs.declared.cmp.Ordering.TheVariants.{Less, Equal}
 use Rattle.rs_order.specs.Asks.{bar_after, comes_before_bar}
 use Rattle.rs_order.specs.Climbing.{Climbs, In, Precedes}
 use Rattle.rs_order.specs.Merging.{merged}
-use Rattle.rs_order.specs.Schedule.{Left, Right, SideAsk, Turn, asked_before, turns_from}
+use Rattle.rs_order.specs.Schedule.{Left, Right, SideAsk, Turn, asked_before, turns_from, asked}
 use Rattle.rs_order.proofs.ClimbingFacts.{AllByRecursion-In, AllByRecursion-from_In}
 use Rattle.rs_order.proofs.ItemFacts.{In-left, In-right}
 use Rattle.rs_order.proofs.PartFacts.{take-snoc}
+use Rattle.rs_order.proofs.ScheduleFacts.{asked-left, asked-right}
 use Rattle.rs_rank.specs.declared.ask.JoinAsk.{JoinAsk}
 use Rattle.rs_rank.specs.declared.ask.JoinAsk.TheVariants.{NeedLeft, NeedRight, Ready, End}
 use Rattle.rs_rank.specs.declared.key.Key.{Key}
@@ -30,14 +31,14 @@ use Rattle.rs_setop.specs.declared.held.Head.TheVariants.{Unknown}
 use Rattle.rs_setop.specs.Heads.{ask_of, first_of, without_first}
 use Rattle.rs_setop.specs.Held.{row_of}
 use Rattle.rs_outputs.specs.Rows.{OutputRow, firsts, values_of, unseen}
-use Rattle.rs_setop.specs.Sides.{AreSides, IsRowOf, Sides, answers, asked, head_after, head_of, keys_of, row_key}
-use Rattle.rs_setop.specs.Stands.{IsMerging, UnionAt, UnionStands, heads_after, rows_left, turns_left}
+use Rattle.rs_setop.specs.Sides.{AreSides, IsRowOf, Sides, answers, head_after, head_of, keys_of, row_key}
+use Rattle.rs_setop.specs.Stands.{UnionAt, UnionStands, heads_after, rows_left, turns_left}
 use Rattle.rs_setop.specs.Union.{Union, first_was_taken, is_repeated, left_for, new_union, settled, taken_for, was_taken, with_taken}
 use Rattle.rs_outputs.proofs.FirstFacts.{Climbs-firsts, In-firsts, In-unseen, in_turn, in_turn-append, sorted-firsts, unseen-new, unseen-none, unseen-seen}
-use Rattle.rs_setop.proofs.HeadFacts.{AreOver, IsLeftNext, IsRightNext, Shows, Tells, as_held, heads-show, right-due}
+use Rattle.rs_setop.proofs.HeadFacts.{IsLeftNext, IsRightNext, Shows, Tells, as_held, heads-show, right-due}
 use Rattle.rs_outputs.proofs.ListFacts.{bar-rest, before-rest, none-rest, rest-none, some-rest}
 use Rattle.rs_setop.proofs.UnionAllFacts.{bars-keep, both-distinct, both-merged, merged-both}
-use Rattle.rs_setop.proofs.WalkFacts.{all-asked, asked-left, asked-right, head-known, head-unknown, left-asked, left-first, left-gone, next-left, next-right, none-left, nothing-asked, right-asked, right-first, right-gone, rows_left-climbs}
+use Rattle.rs_setop.proofs.WalkFacts.{all-asked, head-known, head-unknown, left-asked, left-first, left-gone, next-left, next-right, none-left, nothing-asked, right-asked, right-first, right-gone, rows_left-climbs}
 
 -- a left row comes before a right one with the same output values: they have the same bound, and its block comes first
 left-before : (s : Sides) (lefts rights : List OutputRow) → AreSides s lefts rights → (left right : OutputRow) → In left lefts → In right rights → right.values ≡ left.values → Precedes key_cmp (row_key s) left right

@@ -1,26 +1,26 @@
 -- Two sides of a union in the order of their keys: which row comes first, and which asks that takes.
-use Rattle.std.proofs.Common.{◌≡◌, ℕ, zero, suc, ◌+◌, ◌<◌, ◌≤◌, Bool, true, false, not, cond, List, [], ◌∷◌, ◌++◌, append-nil, length, take, drop, map, Option, Some, None, refl, sym, ◌∙◌, ap, ap₂, subst, ◌⊎◌, inl, inr, arith, ltb}
+use Rattle.std.proofs.Common.{◌≡◌, ℕ, suc, ◌<◌, ◌≤◌, true, false, cond, List, [], ◌∷◌, ◌++◌, append-nil, length, drop, map, Option, Some, refl, sym, ◌∙◌, ap, ap₂, subst, ◌⊎◌, inl, inr, arith}
 use Rattle.std.proofs.lemmas.Bool.{cases_lt}
 use Rattle.std.proofs.lemmas.List.{append_assoc, map-append}
 use Rattle.std.proofs.lemmas.List.Elements.{filter-append}
-use Rattle.std.specs.List.{AllByRecursion, filter, slice_get}
+use Rattle.std.specs.List.{filter, slice_get}
 use Rattle.std.specs.Ordering.{is_lt, is_gt}
 use Rattle.rs_order.specs.Asks.{comes_before_bar}
 use Rattle.rs_order.specs.Climbing.{Climbs, Differs, In, Precedes}
 use Rattle.rs_order.specs.Merging.{merged}
-use Rattle.rs_order.specs.Schedule.{JoinSide, Left, Right, SideAsk, Turn, asked_before, is_of_side, schedule, turns_from, turns_of}
+use Rattle.rs_order.specs.Schedule.{JoinSide, Left, Right, SideAsk, Turn, asked, asked_before, schedule, turns_from}
 use Rattle.rs_order.proofs.ClimbingFacts.{AllByRecursion-In}
 use Rattle.rs_order.proofs.EachFacts.{each-push, each-weaker}
 use Rattle.rs_order.proofs.ItemFacts.{In-map-back}
 use Rattle.rs_order.proofs.MergingFacts.{Climbs-merged, In-merged, In-merged-back, merged-left, merged-right}
 use Rattle.rs_order.proofs.PartFacts.{In-drop}
+use Rattle.rs_order.proofs.ScheduleFacts.{asked-left, asked-right}
 use Rattle.rs_rank.specs.declared.key.Key.{Key}
 use Rattle.rs_rank.specs.Keys.{key_cmp}
 use Rattle.rs_rank.proofs.OrderFacts.{IsTied-parts, key_cmp-total}
-use Rattle.rs_setop.specs.declared.held.Head.{Head}
 use Rattle.rs_setop.specs.declared.held.Head.TheVariants.{Unknown}
 use Rattle.rs_outputs.specs.Rows.{OutputRow}
-use Rattle.rs_setop.specs.Sides.{AreSides, IsRowOf, Sides, asked, head_after, head_of, keys_of, row_key}
+use Rattle.rs_setop.specs.Sides.{AreSides, IsRowOf, Sides, head_after, head_of, keys_of, row_key}
 use Rattle.rs_setop.specs.Stands.{IsMerging, due, rows_left, turns_left}
 use Rattle.rs_outputs.proofs.ListFacts.{Climbs-rest, below, filter-all, item-behind, none-before, not_before, not_before-itself, not_below, rest-some}
 
@@ -105,23 +105,6 @@ known-or_not gone asks least most =
       | inl less ↦ let e : asks ≡ suc gone = omega arith in inr e
       | inr le ↦ let e : asks ≡ gone = omega arith in inl e
     ]
-
-length-more : {X : Type 0} (xs : List X) (x : X) → length (xs ++ x ∷ []) ≡ suc (length xs)
-length-more [] x = refl
-length-more (y ∷ ys) x = ap suc (length-more ys x)
-
--- one ask more of a side is none of the other one
-pub asked-left : (made : List SideAsk) (n : ℕ) → (asked Left (made ++ record { side = Left; number = n } ∷ []) ≡ suc (asked Left made)) × (asked Right (made ++ record { side = Left; number = n } ∷ []) ≡ asked Right made)
-asked-left made n = (
-  ap length (filter-append (is_of_side Left) made (record { side = Left; number = n } ∷ [])) ∙ length-more (filter (is_of_side Left) made) (record { side = Left; number = n }),
-  ap length (filter-append (is_of_side Right) made (record { side = Left; number = n } ∷ []) ∙ append-nil (filter (is_of_side Right) made)),
-)
-
-pub asked-right : (made : List SideAsk) (n : ℕ) → (asked Left (made ++ record { side = Right; number = n } ∷ []) ≡ asked Left made) × (asked Right (made ++ record { side = Right; number = n } ∷ []) ≡ suc (asked Right made))
-asked-right made n = (
-  ap length (filter-append (is_of_side Left) made (record { side = Right; number = n } ∷ []) ∙ append-nil (filter (is_of_side Left) made)),
-  ap length (filter-append (is_of_side Right) made (record { side = Right; number = n } ∷ [])) ∙ length-more (filter (is_of_side Right) made) (record { side = Right; number = n }),
-)
 
 -- nothing was asked
 pub nothing-asked : (s : Sides) (lefts rights : List OutputRow) (bar : Option Key) → IsMerging s lefts rights [] bar 0 0 []

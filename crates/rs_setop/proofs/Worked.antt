@@ -1,7 +1,7 @@
 -- The set operators on rows worked by hand. Table u has 3, 1, 3, 4 and table w has 4, 2, 5, 5; the one term is half of a value.
-use Rattle.std.proofs.Common.{◌≡◌, ℕ, true, false, List, [], ◌∷◌, map, Option, Some, None, refl}
+use Rattle.std.proofs.Common.{◌≡◌, ℕ, true, false, List, [], ◌∷◌, Some, refl}
 use Rattle.std.specs.Prelude.{pos}
-use Rattle.rs_order.specs.Schedule.{Left, Right}
+use Rattle.rs_order.specs.Schedule.{Left, Right, asked}
 use Rattle.rs_rank.specs.declared.ask.JoinAsk.TheVariants.{NeedLeft, NeedRight, Ready, End}
 use Rattle.rs_rank.specs.declared.row.RankRow.{RankRow}
 use Rattle.rs_rank.specs.declared.weights.Weights.{Weights}
@@ -11,7 +11,7 @@ use Rattle.rs_value.specs.declared.value.Value.TheVariants.{Int}
 use Rattle.rs_setop.specs.Compared as compared
 use Rattle.rs_setop.specs.Heads.{ask_of}
 use Rattle.rs_outputs.specs.Rows.{OutputRow, values_of}
-use Rattle.rs_setop.specs.Sides.{Sides, answers, asked, schedule_of}
+use Rattle.rs_setop.specs.Sides.{Sides, answers, schedule_of}
 use Rattle.rs_setop.specs.Union as union
 use Rattle.rs_setop.specs.UnionAll as all
 

@@ -1,5 +1,5 @@
 -- What INTERSECT and EXCEPT keep, and what each call does to it.
-use Rattle.std.specs.Prelude.{ℕ, ◌&&◌, ◌||◌, Bool, true, false, not, List, [], Option, Some, None, if◌then◌else◌}
+use Rattle.std.specs.Prelude.{ℕ, ◌&&◌, Bool, true, false, not, List, [], Option, Some, None, if◌then◌else◌}
 use Rattle.rs_rank.specs.declared.ask.JoinAsk.{JoinAsk}
 use Rattle.rs_rank.specs.declared.ask.JoinAsk.TheVariants.{NeedLeft, NeedRight, Ready, End}
 use Rattle.rs_rank.specs.declared.row.RankRow.{RankRow}

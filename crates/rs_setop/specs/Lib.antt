@@ -1,4 +1,3 @@
-pub mod Asks
 pub mod Compared
 pub mod Heads
 pub mod Held

@@ -1,21 +1,19 @@
 -- The two sides of a set operator, and the answers that it gives of their rows.
-use Rattle.std.specs.Prelude.{ℕ, zero, suc, ◌≡◌, ◌<◌, ◌↔◌, ◌++◌, nat_lt, List, [], length, map, Option, Some, None, if◌then◌else◌}
-use Rattle.std.specs.List.{AllByRecursion, filter, slice_get}
+use Rattle.std.specs.Prelude.{ℕ, zero, suc, ◌≡◌, ◌<◌, ◌++◌, nat_lt, List, [], map, Option, Some, None, if◌then◌else◌}
+use Rattle.std.specs.List.{AllByRecursion, slice_get}
 use Rattle.rs_order.specs.Asks.{bar_after}
 use Rattle.rs_order.specs.Climbing.{Climbs, In}
-use Rattle.rs_order.specs.Schedule.{JoinSide, Left, Right, SideAsk, is_of_side}
+use Rattle.rs_order.specs.Schedule.{SideAsk}
 use Rattle.rs_order.specs.Sorting.{sorted}
-use Rattle.rs_rank.specs.declared.ask.JoinAsk.{JoinAsk}
-use Rattle.rs_rank.specs.declared.ask.JoinAsk.TheVariants.{NeedLeft, NeedRight, Ready, End}
 use Rattle.rs_rank.specs.declared.key.Key.{Key}
 use Rattle.rs_rank.specs.declared.weights.Weights.{Weights}
 use Rattle.rs_rank.specs.Keys.{ids_cmp, key_cmp}
 use Rattle.rs_rank.specs.Rows.{HasSum, key_of}
 use Rattle.rs_rank.specs.Weights.{IsWeights}
+use Rattle.rs_rank.specs.SetTurns.{set_schedule}
 use Rattle.rs_value.specs.declared.set_op.SetOp.{SetOp}
 use Rattle.rs_setop.specs.declared.held.Head.{Head}
 use Rattle.rs_setop.specs.declared.held.Head.TheVariants.{Unknown, Ended}
-use Rattle.rs_setop.specs.Asks.{set_schedule}
 use Rattle.rs_setop.specs.Held.{head_of_row}
 use Rattle.rs_outputs.specs.Rows.{OutputRow}
 use Rattle.rs_setop.specs.Sets.{set_rows}
@@ -71,20 +69,6 @@ abbrev pub schedule_of : Sides → SetOp → List OutputRow → List OutputRow �
 schedule_of s op lefts rights zero = []
 schedule_of s op lefts rights (suc n) =
     set_schedule op (keys_of s lefts) (keys_of s rights) (bar_after (row_key s) (answers s op lefts rights) n)
-
--- how often a side was asked
-abbrev pub asked : JoinSide → List SideAsk → ℕ
-asked side made = length (filter (is_of_side side) made)
-
--- what an operator does next is the next ask of the schedule for the next answer. It is ready exactly where all these asks are
--- made and there is a next answer, and ends exactly where all are made and there is none
-pub record IsNextAsk (s : Sides) (op : SetOp) (lefts rights : List OutputRow) (made : List SideAsk) (count : ℕ) (ask : JoinAsk) : Type 0 where
-  pub left : (ask ≡ NeedLeft)
-      ↔ (slice_get (schedule_of s op lefts rights (suc count)) (length made) ≡ Some (record { side = Left; number = suc (asked Left made) }))
-  pub right : (ask ≡ NeedRight)
-      ↔ (slice_get (schedule_of s op lefts rights (suc count)) (length made) ≡ Some (record { side = Right; number = suc (asked Right made) }))
-  pub ready : (ask ≡ Ready) ↔ ((made ≡ schedule_of s op lefts rights (suc count)) × (count < length (answers s op lefts rights)))
-  pub end : (ask ≡ End) ↔ ((made ≡ schedule_of s op lefts rights (suc count)) × (count ≡ length (answers s op lefts rights)))
 
 -- what is known of the next row of a side of which so many rows are gone, after so many asks
 abbrev pub head_of : Sides → Option OutputRow → Head

@@ -1,23 +1,23 @@
 -- Where a set operator stands, of the rows of its two sides, the asks that were made of them, and the answers that it gave.
-use Rattle.std.specs.Prelude.{ℕ, zero, suc, ◌≡◌, ◌≤◌, ◌+◌, ◌-◌, Bool, true, false, not, max, nat_lt, List, [], ◌∷◌, ◌++◌, length, map, take, drop, Option, Some, None, if◌then◌else◌}
+use Rattle.std.specs.Prelude.{ℕ, suc, ◌≡◌, ◌≤◌, ◌+◌, ◌-◌, Bool, true, false, not, max, nat_lt, List, [], ◌∷◌, ◌++◌, length, map, take, drop, Option, Some, if◌then◌else◌}
 use Rattle.std.specs.List.{AllByRecursion, filter, slice_get}
 use Rattle.std.specs.Option.{option_map}
 use Rattle.rs_order.specs.Asks.{bar_after, comes_before_bar}
 use Rattle.rs_order.specs.Last.{last_of}
 use Rattle.rs_order.specs.Merging.{merged}
-use Rattle.rs_order.specs.Schedule.{JoinSide, Left, Right, SideAsk, Turn, turns_from, turns_of}
+use Rattle.rs_order.specs.Schedule.{JoinSide, Left, Right, SideAsk, Turn, asked, asks_from, turns_from, turns_of}
 use Rattle.rs_rank.specs.declared.key.Key.{Key}
 use Rattle.rs_rank.specs.Keys.{key_cmp}
+use Rattle.rs_rank.specs.SetTurns.{one_by_one, wanted_for}
 use Rattle.rs_value.specs.declared.set_op.SetOp.{SetOp}
 use Rattle.rs_value.specs.declared.set_op.SetOp.TheVariants as op
 use Rattle.rs_value.specs.declared.value.Value.{Value}
-use Rattle.rs_outputs.specs.Seen.{has_list, with_list}
+use Rattle.rs_outputs.specs.Seen.{has_list}
 use Rattle.rs_setop.specs.declared.heads.Heads.{Heads}
-use Rattle.rs_setop.specs.Asks.{asks_from, one_by_one, wanted_for}
 use Rattle.rs_setop.specs.Compared.{Comparison, is_unwanted}
 use Rattle.rs_setop.specs.Reached.{Reach}
 use Rattle.rs_outputs.specs.Rows.{OutputRow, firsts, lists_of, occurs_in, unseen, values_of}
-use Rattle.rs_setop.specs.Sides.{AreSides, Sides, answers, asked, head_after, keys_of, row_key}
+use Rattle.rs_setop.specs.Sides.{AreSides, Sides, answers, head_after, keys_of, row_key}
 use Rattle.rs_setop.specs.Union.{Union, first_was_taken}
 use Rattle.rs_setop.specs.UnionAll.{UnionAll}
 

@@ -11,15 +11,61 @@ use rs_outputs::Outputs;
 use rs_rank::{JoinAsk, RankRow, Weights};
 use rs_value::{Memory, Value};
 use std::alloc::Global;
-use std::marker::Model;
+use std::marker::{Model, PhantomData};
 
-/// The rows of a left side that are compared by their output values with those of a right side: of INTERSECT those whose
-/// values are `shared`, of EXCEPT those whose values aren't. Of rows with the same values the first alone counts.
+/// Which left rows a comparison gives: those whose output values the right side has, or those whose values it hasn't.
+pub trait Choice {
+    ghost use Rattle.std.specs.Prelude.{◌≡◌, Bool};
+
+    ghost shared: { Bool };
+
+    fn is_shared() -> bool
+        ensures { result ≡ Self.shared };
+}
+
+/// The rows whose values the right side has.
+pub struct SharedRows;
+
+impl Choice for SharedRows {
+    ghost use Rattle.std.specs.Prelude.{true};
+
+    ghost shared = { true };
+
+    fn is_shared() -> bool {
+        true
+    }
+}
+
+/// The rows whose values the right side hasn't.
+pub struct OtherRows;
+
+impl Choice for OtherRows {
+    ghost use Rattle.std.specs.Prelude.{false};
+
+    ghost shared = { false };
+
+    fn is_shared() -> bool {
+        false
+    }
+}
+
+/// The core of INTERSECT.
+pub type IntersectCore = Compared<SharedRows>;
+
+/// The core of EXCEPT.
+pub type ExceptCore = Compared<OtherRows>;
+
+/// The core of INTERSECT or EXCEPT over two sides, whose rows come in the order of their keys, both by the same terms. It
+/// knows no sides: it says which one it needs, is fed, and gives the left rows of its choice, of rows with the same values
+/// the first.
+///
+/// The right side is asked only for a left row, and no further than rows to come can have that row's values: equal output
+/// values are to have equal bounds. After a call that answered `Memory` the core is spent, and no further call is allowed.
 #[derive(Drop)]
-pub struct Compared {
+pub struct Compared<C: Choice> {
     weights: Weights,
     terms: u8,
-    shared: bool,
+    choice: PhantomData<C>,
     left: Head,
     // The output values of the left rows that were taken or dropped. There is room for those of the held row.
     passed: Outputs,
@@ -27,7 +73,7 @@ pub struct Compared {
     spent: bool,
 }
 
-impl Model for Compared {
+impl<C: Choice> Model for Compared<C> {
     ghost use Rattle.std.specs.Prelude.{◌≤◌};
     ghost use Rattle.rs_rank.specs.Weights.{IsWeights};
     ghost use Rattle.rs_setop.specs.Compared.{Comparison};
@@ -38,7 +84,7 @@ impl Model for Compared {
     ghost view = { λ c. record {
       weights = c.weights;
       terms = c.terms;
-      shared = c.shared;
+      shared = C.shared;
       left = c.left;
       passed = c.passed.lists;
       right = c.right;
@@ -48,16 +94,16 @@ impl Model for Compared {
     ghost invariant = { λ c. IsWeights c.weights × (count_of c.left ≤ c.passed.room) };
 }
 
-impl Compared {
-    /// The comparison of sides on whose rows `terms` are evaluated. It takes no memory.
-    pub(crate) fn new(alloc: Global, weights: Weights, terms: u8, shared: bool) -> Compared
+impl<C: Choice> Compared<C> {
+    /// The operator over sides on whose rows `terms` are evaluated. It takes no memory.
+    pub fn new(alloc: Global, weights: Weights, terms: u8) -> Compared<C>
         requires { IsWeights weights }
-        ensures { result ≡ new_compared weights terms shared }
+        ensures { result ≡ new_compared weights terms C.shared }
     {
         Compared {
             weights,
             terms,
-            shared,
+            choice: PhantomData,
             left: Head::Unknown,
             passed: Outputs::new(alloc),
             right: Reached::new(alloc),
@@ -66,9 +112,10 @@ impl Compared {
     }
 
     /// What is done next: the right side is asked until none of its rows to come can have the held row's values.
-    pub(crate) fn ask(&self) -> JoinAsk
+    pub fn ask(&self) -> JoinAsk
         requires { self.now.spent ≡ false }
-        ensures { result ≡ ask_of self.now }
+        ensures ask { result ≡ ask_of self.now }
+        ensures shared { self.now.shared ≡ C.shared }
     {
         match &self.left {
             Head::Unknown => JoinAsk::NeedLeft,
@@ -84,7 +131,7 @@ impl Compared {
     }
 
     /// Takes the left side's next row, and its output values.
-    pub(crate) fn feed_left(&mut self, row: RankRow, values: Vec<Value>) -> Result<(), Memory>
+    pub fn feed_left(&mut self, row: RankRow, values: Vec<Value>) -> Result<(), Memory>
         requires alive { self.old.spent ≡ false }
         requires need { ask_of self.old ≡ NeedLeft }
         requires sum { HasSum self.old.weights self.old.terms row }
@@ -104,7 +151,7 @@ impl Compared {
     }
 
     /// Takes the right side's next row, and its output values.
-    pub(crate) fn feed_right(&mut self, row: RankRow, values: Vec<Value>) -> Result<(), Memory>
+    pub fn feed_right(&mut self, row: RankRow, values: Vec<Value>) -> Result<(), Memory>
         requires alive { self.old.spent ≡ false }
         requires need { ask_of self.old ≡ NeedRight }
         requires sum { HasSum self.old.weights self.old.terms row }
@@ -121,7 +168,7 @@ impl Compared {
     }
 
     /// The left side has no more rows.
-    pub(crate) fn left_ended(&mut self)
+    pub fn left_ended(&mut self)
         requires alive { self.old.spent ≡ false }
         requires need { ask_of self.old ≡ NeedLeft }
         ensures { self.new ≡ left_ended self.old }
@@ -130,7 +177,7 @@ impl Compared {
     }
 
     /// The right side has no more rows.
-    pub(crate) fn right_ended(&mut self)
+    pub fn right_ended(&mut self)
         requires alive { self.old.spent ≡ false }
         requires need { ask_of self.old ≡ NeedRight }
         ensures { self.new ≡ right_ended self.old }
@@ -140,7 +187,7 @@ impl Compared {
     }
 
     /// Takes the held row, if the right side was asked far enough for it.
-    pub(crate) fn take(&mut self) -> Option<RankRow>
+    pub fn take(&mut self) -> Option<RankRow>
         requires { self.old.spent ≡ false }
         ensures row { result ≡ taken_for (ask_of self.old) self.old }
         ensures left { self.new ≡ left_for (ask_of self.old) self.old }
@@ -170,7 +217,7 @@ impl Compared {
             Head::Unknown => false,
             Head::Held(held) => {
                 self.right.is_past(held.key.bound)
-                    && self.right.has(held.values.items()) != self.shared
+                    && self.right.has(held.values.items()) != C::is_shared()
             }
             Head::Ended => false,
         }

@@ -1,15 +1,16 @@
 //! Laws of INTERSECT and EXCEPT over the rows of their two sides. An operator stands at the asks that were made, those behind
 //! the last rows among them, and a number of answers. The functions compute nothing; each is called for its contract.
 
-ghost use Rattle.std.specs.Prelude.{◌≡◌, Bool, false, ℕ, suc, List, [], ◌∷◌, ◌++◌, Some, None};
+ghost use Rattle.std.specs.Prelude.{◌≡◌, Bool, false, ℕ, suc, List, [], ◌∷◌, ◌++◌, length, Some, None};
 ghost use Rattle.std.specs.List.{slice_get};
 ghost use Rattle.std.specs.Option.{option_map};
-ghost use Rattle.rs_order.specs.Schedule.{Left, Right, SideAsk};
+ghost use Rattle.rs_order.specs.Schedule.{Left, Right, SideAsk, asked};
 ghost use Rattle.rs_rank.specs.declared.ask.JoinAsk.TheVariants.{NeedLeft, NeedRight, Ready};
 ghost use Rattle.rs_rank.specs.Rows.{HasSum};
+ghost use Rattle.rs_rank.specs.Turns.{IsNextAsk};
 ghost use Rattle.rs_setop.specs.Compared.{Comparison, ask_of, left_ended, left_fed, left_for, new_compared, right_ended, right_fed, taken_for};
 ghost use Rattle.rs_outputs.specs.Rows.{OutputRow};
-ghost use Rattle.rs_setop.specs.Sides.{AreSides, IsNextAsk, Sides, answers, asked};
+ghost use Rattle.rs_setop.specs.Sides.{AreSides, Sides, answers, schedule_of};
 ghost use Rattle.rs_setop.specs.Stands.{ComparedStands, op_of};
 
 /// A new operator stands at no ask and no answer.
@@ -59,7 +60,7 @@ pub fn comparison_gives_the_next_answer()
 pub fn asks_of_comparison_are_exact()
     ensures next { (s : Sides) (shared : Bool) (lefts rights : List OutputRow) (made : List SideAsk) (count : ℕ) (c : Comparison)
         → ComparedStands s shared lefts rights made count c
-        → IsNextAsk s (op_of shared) lefts rights made count (ask_of c) }
+        → IsNextAsk (schedule_of s (op_of shared) lefts rights (suc count)) made count (length (answers s (op_of shared) lefts rights)) (ask_of c) }
     ensures alive { (s : Sides) (shared : Bool) (lefts rights : List OutputRow) (made : List SideAsk) (count : ℕ) (c : Comparison)
         → ComparedStands s shared lefts rights made count c → c.spent ≡ false }
 {}

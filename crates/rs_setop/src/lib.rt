@@ -5,10 +5,8 @@
 mod answer_laws;
 mod compared;
 mod compared_laws;
-mod except;
 mod heads;
 mod held;
-mod intersect;
 mod reached;
 mod union;
 mod union_all;
@@ -16,14 +14,13 @@ mod union_all_laws;
 mod union_laws;
 
 pub use answer_laws::{set_answers_rise, set_rows_can_be_sorted_first};
+pub use compared::{Choice, Compared, ExceptCore, IntersectCore, OtherRows, SharedRows};
 pub use compared_laws::{
     asks_of_comparison_are_exact, comparison_gives_the_next_answer, comparison_takes_ends,
     comparison_takes_rows, new_comparison_stands,
 };
-pub use except::ExceptCore;
 pub use heads::Heads;
 pub use held::{Head, HeldRow};
-pub use intersect::IntersectCore;
 pub use union::UnionCore;
 pub use union_all::UnionAllCore;
 pub use union_all_laws::{

@@ -1,16 +1,17 @@
 //! Laws of UNION ALL over the rows of its two sides. It stands at the asks that were made, those behind the last rows among
 //! them, and a number of answers. The functions compute nothing; each is called for its contract.
 
-ghost use Rattle.std.specs.Prelude.{◌≡◌, ℕ, suc, List, [], ◌∷◌, ◌++◌, Some, None};
+ghost use Rattle.std.specs.Prelude.{◌≡◌, ℕ, suc, List, [], ◌∷◌, ◌++◌, length, Some, None};
 ghost use Rattle.std.specs.List.{slice_get};
 ghost use Rattle.std.specs.Option.{option_map};
-ghost use Rattle.rs_order.specs.Schedule.{Left, Right, SideAsk};
+ghost use Rattle.rs_order.specs.Schedule.{Left, Right, SideAsk, asked};
 ghost use Rattle.rs_rank.specs.declared.ask.JoinAsk.TheVariants.{NeedLeft, NeedRight, Ready};
 ghost use Rattle.rs_rank.specs.Rows.{HasSum};
+ghost use Rattle.rs_rank.specs.Turns.{IsNextAsk};
 ghost use Rattle.rs_value.specs.declared.set_op.SetOp.TheVariants as op;
 ghost use Rattle.rs_setop.specs.Heads.{ask_of};
 ghost use Rattle.rs_outputs.specs.Rows.{OutputRow};
-ghost use Rattle.rs_setop.specs.Sides.{AreSides, IsNextAsk, Sides, answers, asked};
+ghost use Rattle.rs_setop.specs.Sides.{AreSides, Sides, answers, schedule_of};
 ghost use Rattle.rs_setop.specs.Stands.{UnionAllStands};
 ghost use Rattle.rs_setop.specs.UnionAll.{UnionAll, left_ended, left_fed, left_for, new_union_all, right_ended, right_fed, taken_for};
 
@@ -61,5 +62,5 @@ pub fn union_all_gives_the_next_answer()
 pub fn asks_of_union_all_are_exact()
     ensures { (s : Sides) (lefts rights : List OutputRow) (made : List SideAsk) (count : ℕ) (u : UnionAll)
         → UnionAllStands s lefts rights made count u
-        → IsNextAsk s op.UnionAll lefts rights made count (ask_of u.heads) }
+        → IsNextAsk (schedule_of s op.UnionAll lefts rights (suc count)) made count (length (answers s op.UnionAll lefts rights)) (ask_of u.heads) }
 {}

@@ -1,16 +1,17 @@
 //! Laws of UNION over the rows of its two sides. It stands at the asks that were made, those behind the last rows among
 //! them, and a number of answers. The functions compute nothing; each is called for its contract.
 
-ghost use Rattle.std.specs.Prelude.{◌≡◌, false, ℕ, suc, List, [], ◌∷◌, ◌++◌, Some, None};
+ghost use Rattle.std.specs.Prelude.{◌≡◌, false, ℕ, suc, List, [], ◌∷◌, ◌++◌, length, Some, None};
 ghost use Rattle.std.specs.List.{slice_get};
 ghost use Rattle.std.specs.Option.{option_map};
-ghost use Rattle.rs_order.specs.Schedule.{Left, Right, SideAsk};
+ghost use Rattle.rs_order.specs.Schedule.{Left, Right, SideAsk, asked};
 ghost use Rattle.rs_rank.specs.declared.ask.JoinAsk.TheVariants.{NeedLeft, NeedRight, Ready};
 ghost use Rattle.rs_rank.specs.Rows.{HasSum};
+ghost use Rattle.rs_rank.specs.Turns.{IsNextAsk};
 ghost use Rattle.rs_value.specs.declared.set_op.SetOp.TheVariants as op;
 ghost use Rattle.rs_setop.specs.Heads.{ask_of};
 ghost use Rattle.rs_outputs.specs.Rows.{OutputRow};
-ghost use Rattle.rs_setop.specs.Sides.{AreSides, IsNextAsk, Sides, answers, asked};
+ghost use Rattle.rs_setop.specs.Sides.{AreSides, Sides, answers, schedule_of};
 ghost use Rattle.rs_setop.specs.Stands.{UnionStands};
 ghost use Rattle.rs_setop.specs.Union.{Union, left_ended, left_fed, left_for, new_union, right_ended, right_fed, taken_for};
 
@@ -61,7 +62,7 @@ pub fn union_gives_the_next_answer()
 pub fn asks_of_union_are_exact()
     ensures next { (s : Sides) (lefts rights : List OutputRow) (made : List SideAsk) (count : ℕ) (u : Union)
         → UnionStands s lefts rights made count u
-        → IsNextAsk s op.Union lefts rights made count (ask_of u.heads) }
+        → IsNextAsk (schedule_of s op.Union lefts rights (suc count)) made count (length (answers s op.Union lefts rights)) (ask_of u.heads) }
     ensures alive { (s : Sides) (lefts rights : List OutputRow) (made : List SideAsk) (count : ℕ) (u : Union)
         → UnionStands s lefts rights made count u → u.spent ≡ false }
 {}

@@ -1,25 +1,27 @@
--- What the operator does next is told by the first key.
-use Rattle.std.proofs.Common.{rules, Some, None, sym, ap}
-use Rattle.rs_mu.specs.Mu.{ask_of}
-use Rattle.rs_mu.proofs.MuFacts.{ask_for-keys}
+-- What the operator does next is told by the first key, and what it holds is told by the queue of keys.
+use Rattle.std.proofs.Common.{◌≡◌, ◌+◌, sym, ◌∙◌, ap, subst}
+use Rattle.std.specs.List.{AllByRecursion}
+use Rattle.rs_order.specs.Climbing.{Climbs}
+use Rattle.rs_rank.specs.Keys.{key_cmp}
+use Rattle.rs_mu.specs.Mu.{Mu, ask_first, ask_of, full_key, rows_of_keys}
+use Rattle.rs_mu.proofs.MuFacts.{first_key-keys, keys-rest, rising-keys}
 use Rattle.rs_mu.proofs.mu.MuCore.ask.Goals as goal
 
-pub returns-then-is_reached : goal.returns-then-is_reached
-returns-then-is_reached c =
-    let is = ask_for-keys c.self.inside.last c.self.inside.ended c.self.inside.above c.self.inside.held (Some c.in-Some.first.now) c.in-Some.ensures.first in
-    rw (sym (ap ask_of c.self.view_is), is) (search rules)
+pub returns-clause-ask : goal.returns-clause-ask
+returns-clause-ask c =
+    let kept = c.self.inside in
+    c.ask_first.ensures
+    ∙ ap (ask_first kept.last kept.ended) (c.peek.ensures.first ∙ sym (first_key-keys kept.above kept.held))
+    ∙ ap ask_of c.self.view_is
 
-pub returns-else-is_reached : goal.returns-else-is_reached
-returns-else-is_reached c =
-    let is = ask_for-keys c.self.inside.last c.self.inside.ended c.self.inside.above c.self.inside.held (Some c.in-Some.first.now) c.in-Some.ensures.first in
-    rw (sym (ap ask_of c.self.view_is), is) (search rules)
+pub returns-clause-ordered : goal.returns-clause-ordered
+returns-clause-ordered c =
+    subst (λ (mu : Mu). Climbs key_cmp (λ pair. pair.0) mu.held) c.self.view_is
+    (rising-keys c.self.inside.above c.self.inside.held c.peek.ensures.ordered)
 
-pub returns-then-self-2 : goal.returns-then-self-2
-returns-then-self-2 c =
-    let is = ask_for-keys c.self.inside.last c.self.inside.ended c.self.inside.above c.self.inside.held None c.in-None.ensures.first in
-    rw (sym (ap ask_of c.self.view_is), is) (search rules)
-
-pub returns-else-self-2 : goal.returns-else-self-2
-returns-else-self-2 c =
-    let is = ask_for-keys c.self.inside.last c.self.inside.ended c.self.inside.above c.self.inside.held None c.in-None.ensures.first in
-    rw (sym (ap ask_of c.self.view_is), is) (search rules)
+pub returns-clause-keys : goal.returns-clause-keys
+returns-clause-keys c =
+    let kept = c.self.inside in
+    subst (λ (mu : Mu). AllByRecursion (λ pair. pair.0 ≡ full_key mu pair.1) mu.held) c.self.view_is
+    (subst (λ rest. AllByRecursion (λ pair. pair.0 ≡ record { bound = pair.1.sum + rest; ids = pair.1.ids }) (rows_of_keys kept.above kept.held)) c.self.invariant.3
+    (keys-rest kept.above kept.held c.self.invariant.4))

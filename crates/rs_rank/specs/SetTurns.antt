@@ -1,18 +1,15 @@
--- In which order a set operator asks its two sides, over the finished lists of the keys of their rows.
-use Rattle.std.specs.Prelude.{ℕ, zero, suc, ◌-◌, max, nat_le, List, [], ◌∷◌, ◌++◌, length, map, Option}
+-- The order in which a set operator asks its two sides, over the finished lists of the keys of their rows.
+use Rattle.std.specs.Prelude.{ℕ, zero, suc, ◌-◌, max, nat_le, List, [], ◌∷◌, ◌++◌, length, Option}
 use Rattle.std.specs.List.{filter}
 use Rattle.rs_order.specs.Asks.{asks_for}
-use Rattle.rs_order.specs.Schedule.{JoinSide, Left, Right, SideAsk, numbers_from, schedule}
-use Rattle.rs_rank.specs.Keys.{key_cmp}
+use Rattle.rs_order.specs.Schedule.{Left, Right, SideAsk, asks_from, schedule}
 use Rattle.rs_rank.specs.declared.key.Key.{Key}
+use Rattle.rs_rank.specs.Keys.{key_cmp}
 use Rattle.rs_value.specs.declared.set_op.SetOp.{SetOp}
 use Rattle.rs_value.specs.declared.set_op.SetOp.TheVariants.{Except, Intersect, Union, UnionAll}
 
--- so many asks of a side, from this number on
-abbrev pub asks_from : JoinSide → ℕ → ℕ → List SideAsk
-asks_from side n count = map (λ number. record { side = side; number = number }) (numbers_from n count)
-
--- how often the right side is asked for a left row: one time more than there are right rows whose bound is at least its own
+-- how often the right side is asked for a left row, where a row of it has values that the right side may have: one time more than
+-- there are right rows whose bound is at least its own
 abbrev pub wanted_for : List Key → Key → ℕ
 wanted_for rights left = suc (length (filter (λ (right : Key). nat_le left.bound right.bound) rights))
 

@@ -1,0 +1,25 @@
+-- The threshold of the side goes on with its key, and the other one stays.
+use Rattle.std.proofs.Common.{Some, rules, sym, subst}
+use Rattle.rs_rank.specs.Rows.{rows_of_sums}
+use Rattle.rs_ripple.specs.declared.side.Input.{Input}
+use Rattle.rs_ripple.specs.Ripple.{CanDrawLeft, IsTakenReached, Ripple, drawn_with, left_drawn, sides_of}
+use Rattle.rs_ripple.proofs.ReachedFacts.{left_drawn-reached, reached-sides, sides-reached}
+use Rattle.rs_ripple.proofs.ripple.RippleCore.left_drawn.Goals as goal
+
+pub invariant_of-self : goal.invariant_of-self
+invariant_of-self c =
+    let kept = c.self.inside in
+    let key = c.args.key in
+    let now : Ripple = record { weights = kept.weights; left = kept.left; right = kept.right; taken = kept.taken; held = rows_of_sums kept.held; spent = kept.spent } in
+    let can = subst (CanDrawLeft key) (sym c.self.view_is) c.requires in
+    let is = c.self.invariant.0 in (
+      search rules,
+      search rules,
+      search rules,
+      search rules,
+      search rules,
+      subst (λ (input : Input). IsTakenReached kept.taken input.drawn kept.right.drawn (sides_of kept.weights input kept.right)) (sym c.draw.ensures)
+          (reached-sides (left_drawn key now) kept.taken (Some (drawn_with kept.left.drawn key)) kept.right.drawn
+          (left_drawn-reached now is.sides key can.own kept.taken kept.left.drawn kept.right.drawn is.left_keys is.right_keys is.block can.right_block can.behind
+          (sides-reached now kept.taken kept.left.drawn kept.right.drawn c.self.invariant.5))),
+    )
