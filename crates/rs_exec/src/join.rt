@@ -3,7 +3,7 @@
 ghost use Rattle.std.specs.Prelude.{◌≡◌, ◌<◌, ◌+◌, ◌-◌, ◌^◌, OnOk, is_some, if◌then◌else◌, false, true};
 ghost use Rattle.std.specs.List.{AllByRecursion};
 ghost use Rattle.rs_filter.specs.Matching.{is_side, joins};
-ghost use Rattle.rs_plan.specs.Lists.{block_in};
+ghost use Rattle.rs_query.specs.Blocks.{block_in};
 ghost use Rattle.rs_plan.specs.Trees.{NestedJoin};
 ghost use Rattle.rs_query.specs.WellFormed.{IsBlock};
 ghost use Rattle.rs_rank.specs.declared.ask.JoinAsk.TheVariants.{NeedLeft, NeedRight, Ready};
@@ -19,7 +19,6 @@ ghost use Rattle.rs_exec.specs.Asking.{world_of};
 ghost use Rattle.rs_exec.specs.Nodes.{asked_in, tree_in};
 ghost use Rattle.rs_exec.specs.Standing.{JoinStands, Stands};
 
-use crate::block::block_of;
 use crate::fault::ExecFault;
 use crate::join_core::JoinCore;
 use crate::node::Node;
@@ -29,7 +28,7 @@ use rs_expr::Scorer;
 use rs_hrjn::Hrjn;
 use rs_nrjn::Nrjn;
 use rs_plan::Counts;
-use rs_query::Query;
+use rs_query::{Query, block_in};
 use rs_rank::{JoinAsk, RankRow, Weights};
 use rs_ripple::Side;
 use rs_value::Memory;
@@ -129,7 +128,7 @@ impl JoinNode {
               (fed_left (joins catalog.now (block_in query.now self.old.block) self.old.left self.old.right) row (joined_in self.old.core));
         }) }
     {
-        let block = block_of(query, self.block);
+        let block = block_in(query, self.block);
         self.core
             .feed_left(row, alloc, catalog, block, self.left, self.right)
     }
@@ -156,7 +155,7 @@ impl JoinNode {
               (fed_right (joins catalog.now (block_in query.now self.old.block) self.old.left self.old.right) row (joined_in self.old.core));
         }) }
     {
-        let block = block_of(query, self.block);
+        let block = block_in(query, self.block);
         self.core
             .feed_right(row, alloc, catalog, block, self.left, self.right)
     }

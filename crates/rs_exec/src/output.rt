@@ -1,10 +1,9 @@
 ghost use Rattle.std.specs.Prelude.{◌≡◌, IfOk};
 ghost use Rattle.rs_exec.specs.Outputs.{CanPutOut, values_for};
 
-use crate::block::block_of;
 use rs_catalog::Catalog;
 use rs_filter::project;
-use rs_query::Query;
+use rs_query::{Query, block_in};
 use rs_rank::RankRow;
 use rs_value::{Memory, Value};
 use std::alloc::Global;
@@ -19,5 +18,5 @@ pub(crate) fn outputs(
     requires { CanPutOut catalog.now query.now row.now }
     ensures { IfOk result (λ values. values.items ≡ values_for catalog.now query.now row.now) }
 {
-    project(alloc, catalog, block_of(query, row.ids.block), row)
+    project(alloc, catalog, block_in(query, row.ids.block), row)
 }

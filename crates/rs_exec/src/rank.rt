@@ -3,7 +3,7 @@
 ghost use Rattle.std.specs.Prelude.{◌≡◌, ◌≤◌, ◌<◌, ◌+◌, ◌-◌, ◌^◌, OnOk, Some, is_some, if◌then◌else◌, length, slice_get, false, true};
 ghost use Rattle.rs_expr.specs.InOrder.{Inquires};
 ghost use Rattle.rs_mu.specs.Mu.{CanEnd, CanFeed, IsNewTerm, ask_of, left_for, new_mu, taken_for};
-ghost use Rattle.rs_plan.specs.Lists.{block_in};
+ghost use Rattle.rs_query.specs.Blocks.{block_in};
 ghost use Rattle.rs_plan.specs.Trees.{Rank};
 ghost use Rattle.rs_query.specs.Meaning.{is_inside};
 ghost use Rattle.rs_query.specs.Tables.{HasRows};
@@ -18,16 +18,14 @@ ghost use Rattle.rs_exec.specs.Feeding.{CanTake, feeding, left_by};
 ghost use Rattle.rs_exec.specs.Nodes.{asked_in, number_in, tree_in};
 ghost use Rattle.rs_exec.specs.Standing.{HeadStands, Stands};
 
-use crate::block::block_of;
 use crate::fault::ExecFault;
 use crate::node::Node;
-use crate::score::{CallArgs, ask_term};
 use crate::tally::Tally;
 use rs_catalog::Catalog;
 use rs_expr::Scorer;
 use rs_mu::MuCore;
 use rs_plan::Counts;
-use rs_query::Query;
+use rs_query::{CallArgs, Query, block_in};
 use rs_rank::{Ask, RankRow, Weights};
 use std::alloc::Global;
 
@@ -79,15 +77,8 @@ impl RankNode {
             (feeding (S.state scorer.old).answer catalog.now query.now row term self.old)
             (left_by result self.new) (S.state scorer.old) (S.state scorer.new) }
     {
-        let block = block_of(query, row.ids.block);
-        let worth = ask_term(
-            catalog,
-            block,
-            self.term,
-            &row.ids,
-            self.args.list(),
-            scorer,
-        )?;
+        let block = block_in(query, row.ids.block);
+        let worth = block.ask(catalog, self.term, &row.ids, &mut self.args, scorer)?;
         self.calls += 1;
         self.core.feed(row, worth)?;
         Ok(())

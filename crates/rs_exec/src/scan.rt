@@ -4,12 +4,11 @@ ghost use Rattle.std.specs.Prelude.{◌≡◌, ◌≤◌, ◌<◌, IfOk, length}
 ghost use Rattle.rs_scan.specs.Scans.{IsOfAllRows, new_index_scan, new_table_scan, rows_of_index, rows_of_table};
 ghost use Rattle.rs_exec.specs.Drawing.{IsSmall, ScansEntry, drawn_then, next_drawn, passes, tally_with};
 
-use crate::block::block_of;
 use crate::tally::Tally;
 use rs_catalog::Catalog;
 use rs_filter::passes;
 use rs_plan::Counts;
-use rs_query::Query;
+use rs_query::{Query, block_in};
 use rs_rank::{RankRow, mask_of};
 use rs_scan::{RankScan, SeqScan};
 use rs_value::Memory;
@@ -62,7 +61,7 @@ impl TableNode {
           tally = tally_with row self.old.tally;
         }) }
     {
-        let block = block_of(query, self.block);
+        let block = block_in(query, self.block);
         let conjuncts = block.within(mask_of(self.entry));
         self.tally.ask();
         while let Some(row) = self.scan.next() {
@@ -147,7 +146,7 @@ impl IndexNode {
           tally = tally_with row self.old.tally;
         }) }
     {
-        let block = block_of(query, self.block);
+        let block = block_in(query, self.block);
         let conjuncts = block.within(mask_of(self.entry));
         self.tally.ask();
         while let Some(row) = self.scan.next(catalog) {

@@ -2,9 +2,9 @@ ghost use Rattle.std.specs.Prelude.{◌≡◌, ◌≤◌, IfSome, Some, length};
 ghost use Rattle.rs_query.specs.WellFormed.{IsBlock};
 ghost use Rattle.rs_filter.specs.Matching.{AreChecks, conjuncts_across, joins, new_matching};
 
-use crate::choice::{is_choice, sizes_of};
+use crate::choice::is_choice;
 use rs_catalog::Catalog;
-use rs_query::Block;
+use rs_query::{Block, sizes_of};
 use rs_rank::{Matcher, RankRow, union};
 use rs_value::{Memory, Value};
 use std::alloc::Global;

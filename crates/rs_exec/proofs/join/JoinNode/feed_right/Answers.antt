@@ -10,4 +10,4 @@ use Rattle.rs_exec.proofs.join.JoinNode.feed_right.Goals as goal
 pub feed_right-requires-clause-sides : goal.feed_right-requires-clause-sides
 feed_right-requires-clause-sides c =
     subst (λ (b : Block). AllByRecursion (λ (other : RankRow). is_side c.args.catalog.now b c.args.self.now.left other ≡ true) (joined_in c.args.self.now.core).lefts)
-    (sym c.block_of-block.ensures) c.requires.sides
+    (sym c.block_in-block.ensures) c.requires.sides

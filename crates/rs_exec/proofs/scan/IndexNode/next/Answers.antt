@@ -14,8 +14,8 @@ passes-requires-clause-inside c =
     let row = c.in-Some.row in
     let there = index-place c.args.catalog.now old loop is (Some row) c.in-Some.ensures.row in
     let of_entry = index-row c.args.catalog.now old loop is c.args.query.now row c.requires.entry c.requires.same_entry c.requires.same_block c.in-Some.ensures.number there in
-    entry-inside c.args.catalog.now c.args.query.now c.block_of-block.result.now old.block old.entry old.scan.rows c.mask_of.result c.within-conjuncts.result row of_entry
-    c.block_of-block.ensures c.mask_of.ensures c.within-conjuncts.ensures.inside
+    entry-inside c.args.catalog.now c.args.query.now c.block_in-block.result.now old.block old.entry old.scan.rows c.mask_of.result c.within-conjuncts.result row of_entry
+    c.block_in-block.ensures c.mask_of.ensures c.within-conjuncts.ensures.inside
 
 pub passes-requires-clause-rows : goal.passes-requires-clause-rows
 passes-requires-clause-rows c =
@@ -25,8 +25,8 @@ passes-requires-clause-rows c =
     let row = c.in-Some.row in
     let there = index-place c.args.catalog.now old loop is (Some row) c.in-Some.ensures.row in
     let of_entry = index-row c.args.catalog.now old loop is c.args.query.now row c.requires.entry c.requires.same_entry c.requires.same_block c.in-Some.ensures.number there in
-    entry-rows c.args.catalog.now c.args.query.now c.block_of-block.result.now old.block old.entry old.scan.rows c.mask_of.result c.within-conjuncts.result row of_entry
-    c.block_of-block.ensures c.mask_of.ensures c.requires.entry
+    entry-rows c.args.catalog.now c.args.query.now c.block_in-block.result.now old.block old.entry old.scan.rows c.mask_of.result c.within-conjuncts.result row of_entry
+    c.block_in-block.ensures c.mask_of.ensures c.requires.entry
 
 pub next-requires-clause-index : goal.next-requires-clause-index
 next-requires-clause-index c = index-there c.args.catalog.now c.args.self.now c.loop-row.self c.loop-row.invariant.self_is c.requires.index
@@ -42,8 +42,8 @@ returns-then-branch-clause-row c =
     let row = c.in-Some.row in
     let there = index-place c.args.catalog.now old loop is (Some row) c.in-Some.ensures.row in
     let of_entry = index-row c.args.catalog.now old loop is c.args.query.now row c.requires.entry c.requires.same_entry c.requires.same_block c.in-Some.ensures.number there in
-    let test = entry-passes c.args.catalog.now c.args.query.now c.block_of-block.result.now old.block old.entry old.scan.rows c.mask_of.result c.within-conjuncts.result row of_entry
-    c.block_of-block.ensures c.mask_of.ensures c.in_ok-passes.field-0 c.within-conjuncts.ensures.value c.in_ok-passes.ensures in
+    let test = entry-passes c.args.catalog.now c.args.query.now c.block_in-block.result.now old.block old.entry old.scan.rows c.mask_of.result c.within-conjuncts.result row of_entry
+    c.block_in-block.ensures c.mask_of.ensures c.in_ok-passes.field-0 c.within-conjuncts.ensures.value c.in_ok-passes.ensures in
     let one = passed (passes c.args.catalog.now c.args.query.now) (rows_of_index c.args.catalog.now old.scan) old.scan.drawn loop.scan.drawn row there (sym test ∙ c.if-branch.true) c.loop-row.invariant.none in
     one.next
 
@@ -55,8 +55,8 @@ returns-then-branch-clause-after c =
     let row = c.in-Some.row in
     let there = index-place c.args.catalog.now old loop is (Some row) c.in-Some.ensures.row in
     let of_entry = index-row c.args.catalog.now old loop is c.args.query.now row c.requires.entry c.requires.same_entry c.requires.same_block c.in-Some.ensures.number there in
-    let test = entry-passes c.args.catalog.now c.args.query.now c.block_of-block.result.now old.block old.entry old.scan.rows c.mask_of.result c.within-conjuncts.result row of_entry
-    c.block_of-block.ensures c.mask_of.ensures c.in_ok-passes.field-0 c.within-conjuncts.ensures.value c.in_ok-passes.ensures in
+    let test = entry-passes c.args.catalog.now c.args.query.now c.block_in-block.result.now old.block old.entry old.scan.rows c.mask_of.result c.within-conjuncts.result row of_entry
+    c.block_in-block.ensures c.mask_of.ensures c.in_ok-passes.field-0 c.within-conjuncts.ensures.value c.in_ok-passes.ensures in
     let one = passed (passes c.args.catalog.now c.args.query.now) (rows_of_index c.args.catalog.now old.scan) old.scan.drawn loop.scan.drawn row there (sym test ∙ c.if-branch.true) c.loop-row.invariant.none in
     let more : loop.scan.drawn ≡ loop.scan.rows → ⊥ = λ end. none-some row (sym (c.next.ensures.end.1 end) ∙ c.in-Some.is) in
     let drew = index-drew c.args.catalog.now old loop is c.next.new.self c.next.ensures.most more c.next.ensures.after in
@@ -80,8 +80,8 @@ loop-row-preserved c =
     let row = c.in-Some.row in
     let there = index-place c.args.catalog.now old loop is (Some row) c.in-Some.ensures.row in
     let of_entry = index-row c.args.catalog.now old loop is c.args.query.now row c.requires.entry c.requires.same_entry c.requires.same_block c.in-Some.ensures.number there in
-    let test = entry-passes c.args.catalog.now c.args.query.now c.block_of-block.result.now old.block old.entry old.scan.rows c.mask_of.result c.within-conjuncts.result row of_entry
-    c.block_of-block.ensures c.mask_of.ensures c.in_ok-passes.field-0 c.within-conjuncts.ensures.value c.in_ok-passes.ensures in
+    let test = entry-passes c.args.catalog.now c.args.query.now c.block_in-block.result.now old.block old.entry old.scan.rows c.mask_of.result c.within-conjuncts.result row of_entry
+    c.block_in-block.ensures c.mask_of.ensures c.in_ok-passes.field-0 c.within-conjuncts.ensures.value c.in_ok-passes.ensures in
     let more : loop.scan.drawn ≡ loop.scan.rows → ⊥ = λ end. none-some row (sym (c.next.ensures.end.1 end) ∙ c.in-Some.is) in
     let drew = index-drew c.args.catalog.now old loop is c.next.new.self c.next.ensures.most more c.next.ensures.after in
     record {

@@ -13,8 +13,8 @@ passes-requires-clause-inside c =
     let row = c.in-Some.row in
     let there = table-place old loop is (Some row) c.in-Some.ensures.row in
     let of_entry = table-row old loop is row c.requires.same_entry c.requires.same_block there in
-    entry-inside c.args.catalog.now c.args.query.now c.block_of-block.result.now old.block old.entry old.scan.rows c.mask_of.result c.within-conjuncts.result row of_entry
-    c.block_of-block.ensures c.mask_of.ensures c.within-conjuncts.ensures.inside
+    entry-inside c.args.catalog.now c.args.query.now c.block_in-block.result.now old.block old.entry old.scan.rows c.mask_of.result c.within-conjuncts.result row of_entry
+    c.block_in-block.ensures c.mask_of.ensures c.within-conjuncts.ensures.inside
 
 pub passes-requires-clause-rows : goal.passes-requires-clause-rows
 passes-requires-clause-rows c =
@@ -24,8 +24,8 @@ passes-requires-clause-rows c =
     let row = c.in-Some.row in
     let there = table-place old loop is (Some row) c.in-Some.ensures.row in
     let of_entry = table-row old loop is row c.requires.same_entry c.requires.same_block there in
-    entry-rows c.args.catalog.now c.args.query.now c.block_of-block.result.now old.block old.entry old.scan.rows c.mask_of.result c.within-conjuncts.result row of_entry
-    c.block_of-block.ensures c.mask_of.ensures c.requires.entry
+    entry-rows c.args.catalog.now c.args.query.now c.block_in-block.result.now old.block old.entry old.scan.rows c.mask_of.result c.within-conjuncts.result row of_entry
+    c.block_in-block.ensures c.mask_of.ensures c.requires.entry
 
 pub returns-then-branch-clause-row : goal.returns-then-branch-clause-row
 returns-then-branch-clause-row c =
@@ -35,8 +35,8 @@ returns-then-branch-clause-row c =
     let row = c.in-Some.row in
     let there = table-place old loop is (Some row) c.in-Some.ensures.row in
     let of_entry = table-row old loop is row c.requires.same_entry c.requires.same_block there in
-    let test = entry-passes c.args.catalog.now c.args.query.now c.block_of-block.result.now old.block old.entry old.scan.rows c.mask_of.result c.within-conjuncts.result row of_entry
-    c.block_of-block.ensures c.mask_of.ensures c.in_ok-passes.field-0 c.within-conjuncts.ensures.value c.in_ok-passes.ensures in
+    let test = entry-passes c.args.catalog.now c.args.query.now c.block_in-block.result.now old.block old.entry old.scan.rows c.mask_of.result c.within-conjuncts.result row of_entry
+    c.block_in-block.ensures c.mask_of.ensures c.in_ok-passes.field-0 c.within-conjuncts.ensures.value c.in_ok-passes.ensures in
     let one = passed (passes c.args.catalog.now c.args.query.now) (rows_of_table old.scan) old.scan.drawn loop.scan.drawn row there (sym test ∙ c.if-branch.true) c.loop-row.invariant.none in
     one.next
 
@@ -48,8 +48,8 @@ returns-then-branch-clause-after c =
     let row = c.in-Some.row in
     let there = table-place old loop is (Some row) c.in-Some.ensures.row in
     let of_entry = table-row old loop is row c.requires.same_entry c.requires.same_block there in
-    let test = entry-passes c.args.catalog.now c.args.query.now c.block_of-block.result.now old.block old.entry old.scan.rows c.mask_of.result c.within-conjuncts.result row of_entry
-    c.block_of-block.ensures c.mask_of.ensures c.in_ok-passes.field-0 c.within-conjuncts.ensures.value c.in_ok-passes.ensures in
+    let test = entry-passes c.args.catalog.now c.args.query.now c.block_in-block.result.now old.block old.entry old.scan.rows c.mask_of.result c.within-conjuncts.result row of_entry
+    c.block_in-block.ensures c.mask_of.ensures c.in_ok-passes.field-0 c.within-conjuncts.ensures.value c.in_ok-passes.ensures in
     let one = passed (passes c.args.catalog.now c.args.query.now) (rows_of_table old.scan) old.scan.drawn loop.scan.drawn row there (sym test ∙ c.if-branch.true) c.loop-row.invariant.none in
     let drew = table-drew old loop is c.next.new.self row there c.next.ensures.after in
     table-gave old loop is c.next.new.self c.give.new.self row (loop.scan.drawn + 1) _ drew c.give.ensures one.drawn
@@ -72,8 +72,8 @@ loop-row-preserved c =
     let row = c.in-Some.row in
     let there = table-place old loop is (Some row) c.in-Some.ensures.row in
     let of_entry = table-row old loop is row c.requires.same_entry c.requires.same_block there in
-    let test = entry-passes c.args.catalog.now c.args.query.now c.block_of-block.result.now old.block old.entry old.scan.rows c.mask_of.result c.within-conjuncts.result row of_entry
-    c.block_of-block.ensures c.mask_of.ensures c.in_ok-passes.field-0 c.within-conjuncts.ensures.value c.in_ok-passes.ensures in
+    let test = entry-passes c.args.catalog.now c.args.query.now c.block_in-block.result.now old.block old.entry old.scan.rows c.mask_of.result c.within-conjuncts.result row of_entry
+    c.block_in-block.ensures c.mask_of.ensures c.in_ok-passes.field-0 c.within-conjuncts.ensures.value c.in_ok-passes.ensures in
     let drew = table-drew old loop is c.next.new.self row there c.next.ensures.after in
     record {
       none = subst (λ n. NonePassed (passes c.args.catalog.now c.args.query.now) (rows_of_table old.scan) old.scan.drawn n) (sym (ap (λ (s : TableScan). s.drawn) drew))

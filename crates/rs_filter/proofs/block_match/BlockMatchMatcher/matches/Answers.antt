@@ -8,7 +8,8 @@ use Rattle.rs_query.specs.Meaning.{AreInside, all_hold}
 use Rattle.rs_query.specs.Tables.{HasRows, sizes_of}
 use Rattle.rs_filter.specs.Matching.{Matching, is_choice, joins}
 use Rattle.rs_filter.proofs.AcrossFacts.{AreInside-across, all_hold-across}
-use Rattle.rs_filter.proofs.MatchFacts.{HasRows-choice, both-sides, no-left-choice, no-left-mask, no-right-choice, no-right-mask}
+use Rattle.rs_query.proofs.ExtendFacts.{HasRows-choice}
+use Rattle.rs_filter.proofs.MatchFacts.{both-sides, no-left-choice, no-left-mask, no-right-choice, no-right-mask}
 use Rattle.rs_filter.proofs.SideFacts.{IsChoice-merge, IsChoice-test}
 use Rattle.rs_filter.proofs.block_match.BlockMatchMatcher.matches.Goals as goal
 use Rattle.rs_filter.proofs.block_match.BlockMatchMatcher.matches.Goals.{then-left-self-via-then-left-self, then-left-self-via-else-left-self+then-not-is_choice, then-right-self-via-then-right-self, then-right-self-via-else-right-self+then-not-is_choice-2}
