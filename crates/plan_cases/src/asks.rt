@@ -4,7 +4,7 @@ ghost use Rattle.std.specs.Prelude.{◌≡◌, IfOk, false, is_err};
 ghost use Rattle.rs_expr.specs.MemScorer.{answered_score};
 ghost use Rattle.rs_query.specs.WellFormed.{IsQuery};
 ghost use Rattle.rs_exec.specs.Cursors.{CanGo};
-ghost use Rattle.rs_exec.specs.Indexes.{AreHeld};
+ghost use Rattle.rs_catalog.specs.Held.{AreHeld};
 
 use crate::calls::tell_calls;
 use case_lines::Fault;
@@ -12,7 +12,7 @@ use rs_catalog::Catalog;
 use rs_exec::{Cursor, ExecFault};
 use rs_expr::{Call, MemScorer};
 use rs_plan::{Counts, Plan};
-use rs_query::Query;
+use rs_query::{Query, limit_of};
 use rs_rank::Answer;
 use std::alloc::{AllocError, Global};
 
@@ -160,11 +160,4 @@ fn tell_node(counts: Counts, told: &mut String) -> Result<(), AllocError> {
         drawn,
     } = counts;
     write!(told, "{asked} {gave} {calls} {drawn}")
-}
-
-fn limit_of(query: &Query) -> Option<u32> {
-    match query {
-        Query::One(_, limit) => *limit,
-        Query::Set(_, _, _, limit) => *limit,
-    }
 }

@@ -12,7 +12,7 @@ use crate::calls::tell_calls;
 use case_lines::Fault;
 use rs_catalog::Catalog;
 use rs_expr::MemScorer;
-use rs_query::{Block, Query};
+use rs_query::{Block, Query, is_inside};
 use rs_sample::{Cards, SampleFault};
 use std::alloc::Global;
 
@@ -130,7 +130,7 @@ fn reads_outside(terms: u8, read: u8, mask: u8) -> bool
     if terms % 2 == 0 {
         return false;
     }
-    read & mask != read
+    !is_inside(read, mask)
 }
 
 /// Tells the estimate of the index of a term, counted from 1, where it reads one entry.

@@ -48,12 +48,13 @@ mod time;
 
 use case_lines::answer_lines;
 use line::Planning;
+use rs_catalog::indexes_go_on_to_hold_answers;
 use rs_enum::{
     cards_decide_the_plan, cards_decide_the_text, each_query_has_a_plan, plan_order_is_total,
     sampled_cards_are_those_of_the_query, there_is_one_least_plan,
 };
 use rs_exec::{
-    cursors_stand_in_larger_catalogues, indexes_go_on_to_hold_answers, plans_give_the_answer,
+    cursors_stand_in_larger_catalogues, indexes_of_plans_hold_answers, plans_give_the_answer,
     plans_give_the_same_rows, rows_give_the_parts_in_turn,
 };
 use std::process::ExitCode;
@@ -70,5 +71,6 @@ fn main(rt: HostRuntime) -> ExitCode {
     rows_give_the_parts_in_turn();
     cursors_stand_in_larger_catalogues();
     indexes_go_on_to_hold_answers();
+    indexes_of_plans_hold_answers();
     answer_lines(&rt, &mut Planning::new(rt.alloc()))
 }

@@ -8,9 +8,9 @@ ghost use Rattle.plan_tests.specs.Pair.{HasPredicate, IsPair};
 use crate::query::{catalogue, formed_pair};
 use rs_catalog::Catalog;
 use rs_filter::{
-    BlockMatch, JoinConditions, KeptList, passes, project, sides_and_matches_are_combinations,
+    BlockMatch, JoinConditions, passes, project, sides_and_matches_are_combinations,
 };
-use rs_query::Block;
+use rs_query::{Block, KeptList};
 use rs_rank::{Ids, Matcher, RankRow};
 use rs_value::Value;
 use std::alloc::Global;

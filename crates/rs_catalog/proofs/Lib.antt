@@ -1,7 +1,10 @@
 mod ArgumentFacts
 mod DifferFacts
 mod GrowthFacts
+pub mod HeldFacts
+pub mod IndexForFacts
 mod InsideFacts
+pub mod JoinedFacts
 mod MakeFacts
 mod NameFacts
 mod PlaceFacts

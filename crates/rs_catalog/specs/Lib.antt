@@ -1,4 +1,5 @@
 pub mod Catalogue
+pub mod Held
 pub mod Indexes
 pub mod Making
 pub mod Inside

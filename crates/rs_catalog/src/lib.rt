@@ -2,12 +2,14 @@
 #![tactic(auto)]
 
 mod catalog;
+mod held;
 mod index;
 mod laws;
 mod make;
 mod room;
 
 pub use catalog::Catalog;
+pub use held::indexes_go_on_to_hold_answers;
 pub use index::{BoundArg, IndexDef, IndexFault};
 pub use laws::rankings_are_in_order;
 pub use make::score_for;

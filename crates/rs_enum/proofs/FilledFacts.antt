@@ -7,7 +7,7 @@ use Rattle.rs_catalog.specs.Catalogue.{Catalogue}
 use Rattle.rs_query.specs.WellFormed.{IsBlock}
 use Rattle.rs_query.specs.declared.query.Query.{Query}
 use Rattle.rs_sample.specs.Cards.{BlockCards}
-use Rattle.rs_plan.specs.Lists.{block_in}
+use Rattle.rs_query.specs.Blocks.{block_in}
 use Rattle.rs_enum.specs.declared.kept.Kept.{Kept}
 use Rattle.rs_enum.specs.Made.{IsFound}
 use Rattle.rs_enum.specs.Places.{IsFilled}

@@ -6,7 +6,7 @@ use Rattle.rs_rank.specs.Masks.{mask_of}
 use Rattle.rs_catalog.specs.Catalogue.{Catalogue}
 use Rattle.rs_query.specs.WellFormed.{IsBlock}
 use Rattle.rs_query.specs.declared.query.Query.{Query}
-use Rattle.rs_plan.specs.Lists.{block_in}
+use Rattle.rs_query.specs.Blocks.{block_in}
 use Rattle.rs_plan.specs.Shapes.{tree_of}
 use Rattle.rs_plan.specs.Trees.{Distinct, HashJoin, NestedJoin, Rank, RankScan, SeqScan, SetOperator, PlanTree, entries, terms}
 use Rattle.rs_enum.specs.declared.candidate.Candidate.{Candidate}

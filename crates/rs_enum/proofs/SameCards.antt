@@ -14,7 +14,7 @@ use Rattle.rs_query.specs.declared.query.Query.{Query}
 use Rattle.rs_query.specs.declared.query.Query.TheVariants.{One, Set}
 use Rattle.rs_sample.specs.Cards.{AllSayTheSame, BlockCards, SayTheSame}
 use Rattle.rs_sample.specs.Sampling.{query_cards}
-use Rattle.rs_plan.specs.Lists.{block_in}
+use Rattle.rs_query.specs.Blocks.{block_in}
 use Rattle.rs_plan.specs.Plans.{IsPart, IsPlan, IsSetPlan}
 use Rattle.rs_plan.specs.Trees.{Distinct, HashJoin, NestedJoin, Rank, RankScan, SeqScan, SetOperator, PlanTree, code, code_cmp, entries, terms}
 use Rattle.rs_plan.specs.declared.counts.Counts.{Counts}

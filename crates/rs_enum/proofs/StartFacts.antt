@@ -17,7 +17,7 @@ use Rattle.rs_query.specs.WellFormed.{IsBlock}
 use Rattle.rs_query.specs.declared.block.Block.{Block}
 use Rattle.rs_query.specs.declared.query.Query.{Query}
 use Rattle.rs_sample.specs.Cards.{BlockCards}
-use Rattle.rs_plan.specs.Lists.{block_in}
+use Rattle.rs_query.specs.Blocks.{block_in}
 use Rattle.rs_plan.specs.Numbers.{kind_number}
 use Rattle.rs_plan.specs.Plans.{HasNoDistinct, IsPart, IsRankScan}
 use Rattle.rs_plan.specs.Trees.{Distinct, HashJoin, NestedJoin, Rank, RankScan, SeqScan, SetOperator, PlanTree, code, code_cmp, entries, terms}

@@ -18,7 +18,7 @@ use Rattle.rs_query.specs.declared.term.Term.{Term}
 use Rattle.rs_query.proofs.EntryFacts.{terms-inside}
 use Rattle.rs_order.proofs.EachFacts.{each-slice_get}
 use Rattle.rs_sample.specs.Cards.{BlockCards}
-use Rattle.rs_plan.specs.Lists.{block_in}
+use Rattle.rs_query.specs.Blocks.{block_in}
 use Rattle.rs_plan.specs.Plans.{IsRank}
 use Rattle.rs_plan.specs.Shapes.{tree_of}
 use Rattle.rs_plan.specs.Trees.{Rank, PlanTree, terms}

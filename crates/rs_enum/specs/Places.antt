@@ -4,7 +4,7 @@ use Rattle.rs_catalog.specs.Catalogue.{Catalogue}
 use Rattle.rs_rank.specs.Masks.{AreDisjoint}
 use Rattle.rs_query.specs.declared.query.Query.{Query}
 use Rattle.rs_sample.specs.Cards.{BlockCards}
-use Rattle.rs_plan.specs.Lists.{block_in}
+use Rattle.rs_query.specs.Blocks.{block_in}
 use Rattle.rs_plan.specs.Plans.{HasNoDistinct, IsPart, IsRankScan}
 use Rattle.rs_plan.specs.Shapes.{tree_of}
 use Rattle.rs_plan.specs.Trees.{Distinct, HashJoin, NestedJoin, Rank, RankScan, SeqScan, SetOperator, PlanTree, entries, terms}

@@ -4,7 +4,7 @@
 ghost use Rattle.std.specs.Prelude.{◌≡◌, ◌≤◌, ◌<◌, ◌^◌, ◌+◌, IfOk, Some, length, option_map, true};
 ghost use Rattle.rs_query.specs.WellFormed.{IsQuery};
 ghost use Rattle.rs_sample.specs.Kept.{cards_of};
-ghost use Rattle.rs_plan.specs.Lists.{block_in};
+ghost use Rattle.rs_query.specs.Blocks.{block_in};
 ghost use Rattle.rs_plan.specs.Shapes.{tree_of};
 ghost use Rattle.rs_plan.specs.Trees.{Distinct, SetOperator};
 ghost use Rattle.rs_enum.specs.declared.extent.Extent.TheVariants as whole;
@@ -12,14 +12,14 @@ ghost use Rattle.rs_enum.specs.QueryCards.{AreCards, IsBlockNumber};
 ghost use Rattle.rs_enum.specs.Tops.{AreBases, AreLower, AreTops, IsExtent, IsLastRow, IsTheBase, SameKept, top_at};
 
 use crate::copies::{copy, distinct, set_operator};
-use crate::costs::{block_in, both_sides, rows_of_all};
+use crate::costs::{both_sides, rows_of_all};
 use crate::find::kept_at;
 use crate::kept::Kept;
 use crate::optimiser::masks;
 use crate::tops::top_at;
 use rs_catalog::Catalog;
 use rs_plan::{Plan, Signature};
-use rs_query::{Block, Query};
+use rs_query::{Block, Query, block_in};
 use rs_sample::Cards;
 use rs_value::Memory;
 use std::alloc::Global;

@@ -5,7 +5,7 @@ ghost use Rattle.rs_query.specs.Tables.{all_entries, size_of};
 ghost use Rattle.rs_query.specs.WellFormed.{IsBlock, IsQuery};
 ghost use Rattle.rs_sample.specs.Cards.{IsEstimated, IsIndexed};
 ghost use Rattle.rs_sample.specs.Kept.{cards_of};
-ghost use Rattle.rs_plan.specs.Lists.{block_in};
+ghost use Rattle.rs_query.specs.Blocks.{block_in};
 ghost use Rattle.rs_plan.specs.Plans.{HasNoDistinct, IsEntryNumber, IsPart, IsPlan};
 ghost use Rattle.rs_plan.specs.Shapes.{tree_of};
 ghost use Rattle.rs_plan.specs.Trees.{entries, terms};
@@ -15,7 +15,7 @@ ghost use Rattle.rs_enum.specs.QueryCards.{AreCards, IsBlockNumber, cards_at};
 
 use rs_catalog::Catalog;
 use rs_plan::{Plan, Signature};
-use rs_query::{Block, Query};
+use rs_query::{Block, Query, block_in, size_of};
 use rs_sample::Cards;
 
 /// The cost of a plan of a query, or of a part of a plan of its first block. The unit is a row that is read, and a call of a
@@ -251,16 +251,6 @@ pub(crate) fn both_sides(left: u128, right: u128, left_rows: u128, right_rows: u
     left + right + left_rows + right_rows
 }
 
-/// The block of this number.
-pub(crate) fn block_in(query: &Query, number: u8) -> &Block
-    ensures { result.now ≡ block_in query.now number }
-{
-    match query {
-        Query::One(block, _) => block,
-        Query::Set(_, left, right, _) => { if number == 1 { left } else { right } }
-    }
-}
-
 /// The number of rows of the table of an entry.
 pub(crate) fn table_rows(catalog: &Catalog, block: &Block, entry: u8) -> u128
     requires block { IsBlock catalog.now block.now }
@@ -268,8 +258,7 @@ pub(crate) fn table_rows(catalog: &Catalog, block: &Block, entry: u8) -> u128
     ensures value { result ≡ size_of catalog.now block.now entry }
     ensures most { result ≤ 131072 }
 {
-    let table = block.from.items()[entry as usize - 1].0;
-    catalog.table(table).len() as u128
+    size_of(catalog, block, entry) as u128
 }
 
 /// What a call of the predicate of a term costs.

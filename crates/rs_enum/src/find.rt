@@ -6,7 +6,7 @@ ghost use Rattle.std.specs.Prelude.{ℕ, ◌≡◌, ◌≤◌, ◌<◌, ◌+◌,
 ghost use Rattle.rs_rank.specs.Masks.{mask_of};
 ghost use Rattle.rs_query.specs.WellFormed.{IsQuery};
 ghost use Rattle.rs_sample.specs.Kept.{cards_of};
-ghost use Rattle.rs_plan.specs.Lists.{block_in};
+ghost use Rattle.rs_query.specs.Blocks.{block_in};
 ghost use Rattle.rs_plan.specs.Numbers.{IsUpTo};
 ghost use Rattle.rs_plan.specs.Plans.{IsEntryNumber};
 ghost use Rattle.rs_enum.specs.Bounds.{IsNumberedTerm};
@@ -16,12 +16,12 @@ ghost use Rattle.rs_enum.specs.Within.{terms_within};
 
 use crate::candidate::{Candidate, Choice, Sides};
 use crate::costs::{
-    block_in, call_cost, hashed, index_rows, nested, part_rows, rows_of, table_rows, with_calls,
+    call_cost, hashed, index_rows, nested, part_rows, rows_of, table_rows, with_calls,
 };
 use crate::kept::Kept;
 use rs_catalog::Catalog;
 use rs_plan::{Signature, can_hash};
-use rs_query::{Block, Query, Term};
+use rs_query::{Block, Query, Term, block_in, is_inside};
 use rs_rank::{has_number, mask_of};
 use rs_sample::Cards;
 
@@ -83,7 +83,7 @@ pub(crate) fn terms_within(entries: u8, terms: &[Term]) -> u8
     match terms.split_first() {
         Some((first, rest)) => {
             let others = terms_within(entries, rest);
-            if first.entries & entries == first.entries {
+            if is_inside(first.entries, entries) {
                 1 + 2 * others
             } else {
                 2 * others

@@ -1,7 +1,7 @@
 //! The plan that a choice makes of what is kept.
 
 ghost use Rattle.std.specs.Prelude.{◌≡◌, ◌≤◌, IfOk, IsSome, Some, length};
-ghost use Rattle.rs_plan.specs.Lists.{block_in};
+ghost use Rattle.rs_query.specs.Blocks.{block_in};
 ghost use Rattle.rs_plan.specs.Shapes.{tree_of};
 ghost use Rattle.rs_plan.specs.Trees.{PlanTree};
 ghost use Rattle.rs_enum.specs.Made.{AreKeptSides, IsChosen};
@@ -10,11 +10,10 @@ ghost use Rattle.rs_enum.specs.QueryCards.{alone};
 
 use crate::candidate::Choice;
 use crate::copies::{copy, hash_joined, nested_joined, ranked};
-use crate::costs::block_in;
 use crate::find::{kept_at, terms_inside};
 use crate::kept::Kept;
 use rs_plan::{Plan, Signature};
-use rs_query::Query;
+use rs_query::{Query, block_in};
 use rs_rank::mask_of;
 use rs_value::Memory;
 use std::alloc::Global;

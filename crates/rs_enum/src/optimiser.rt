@@ -4,7 +4,7 @@
 ghost use Rattle.std.specs.Prelude.{◌≡◌, ◌≤◌, ◌<◌, ◌*◌, ◌/◌, ◌%◌, ◌^◌, IfOk, length, true};
 ghost use Rattle.rs_query.specs.WellFormed.{IsQuery};
 ghost use Rattle.rs_sample.specs.Kept.{cards_of};
-ghost use Rattle.rs_plan.specs.Lists.{block_in};
+ghost use Rattle.rs_query.specs.Blocks.{block_in};
 ghost use Rattle.rs_plan.specs.Shapes.{tree_of};
 ghost use Rattle.rs_enum.specs.declared.extent.Extent.TheVariants as whole;
 ghost use Rattle.rs_enum.specs.Least.{IsLeast};
@@ -14,7 +14,6 @@ ghost use Rattle.rs_enum.specs.QueryCards.{AreCards, IsBlockNumber, alone, alone
 ghost use Rattle.rs_enum.specs.Tops.{AreLower, AreTops, IsExtent, extent_of};
 
 use crate::bases::{dropped, last_row, set_bases};
-use crate::costs::block_in;
 use crate::extent::Extent;
 use crate::find::first_candidate;
 use crate::kept::Kept;
@@ -22,7 +21,7 @@ use crate::made::made;
 use crate::tops::ranked_tops;
 use rs_catalog::Catalog;
 use rs_plan::{Plan, Signature};
-use rs_query::Query;
+use rs_query::{Query, block_in};
 use rs_sample::Cards;
 use rs_value::Memory;
 use std::alloc::Global;

@@ -4,17 +4,17 @@ ghost use Rattle.std.specs.Prelude.{◌≡◌, ◌≤◌, ◌+◌, ◌*◌, ◌+
 ghost use Rattle.std.specs.Fmt.{decimal};
 ghost use Rattle.rs_query.specs.WellFormed.{IsBlock, IsQuery};
 ghost use Rattle.rs_sample.specs.Kept.{cards_of};
-ghost use Rattle.rs_plan.specs.Lists.{block_in};
+ghost use Rattle.rs_query.specs.Blocks.{block_in};
 ghost use Rattle.rs_plan.specs.Plans.{IsEntryNumber, IsPart, IsPlan};
 ghost use Rattle.rs_plan.specs.Shapes.{tree_of};
 ghost use Rattle.rs_enum.specs.Bounds.{IsSetPart};
 ghost use Rattle.rs_enum.specs.QueryCards.{AreCards, IsBlockNumber};
 ghost use Rattle.rs_enum.specs.Texts.{HasEntry, alias_of, behind, counted, done_by, first_of, name_of, nodes_of, operator_of, plan_lines, table_of, text_of};
 
-use crate::costs::{block_in, has_set_operator, part_cost, part_rows, set_cost, set_rows};
+use crate::costs::{has_set_operator, part_cost, part_rows, set_cost, set_rows};
 use rs_catalog::Catalog;
 use rs_plan::{Counts, Plan};
-use rs_query::{Block, Query};
+use rs_query::{Block, Query, block_in};
 use rs_sample::Cards;
 use rs_value::{Memory, SetOp};
 use std::alloc::Global;

@@ -4,7 +4,7 @@
 ghost use Rattle.std.specs.Prelude.{◌≡◌, ◌≤◌, ◌<◌, ◌^◌, IfOk, IsSome, Some, length, option_map};
 ghost use Rattle.rs_query.specs.WellFormed.{IsQuery};
 ghost use Rattle.rs_sample.specs.Kept.{cards_of};
-ghost use Rattle.rs_plan.specs.Lists.{block_in};
+ghost use Rattle.rs_query.specs.Blocks.{block_in};
 ghost use Rattle.rs_plan.specs.Shapes.{tree_of};
 ghost use Rattle.rs_plan.specs.Trees.{PlanTree};
 ghost use Rattle.rs_enum.specs.declared.extent.Extent.TheVariants as whole;
@@ -13,13 +13,13 @@ ghost use Rattle.rs_enum.specs.QueryCards.{AreCards};
 ghost use Rattle.rs_enum.specs.Tops.{AreBases, AreTops, IsExtent, IsMadeTop, IsTheFirstRank, IsTheFirstTop, IsTheOneRank, IsTheTop, IsTopped, base_top, cheaper_top, number_of, rows_most, top_at, top_tree, whole_rows};
 
 use crate::copies::{copy, ranked};
-use crate::costs::{block_in, call_cost, rows_of_all, with_calls};
+use crate::costs::{call_cost, rows_of_all, with_calls};
 use crate::extent::{Extent, Top};
 use crate::kept::Kept;
 use crate::optimiser::masks;
 use rs_catalog::Catalog;
 use rs_plan::Plan;
-use rs_query::Query;
+use rs_query::{Query, block_in};
 use rs_rank::{has_number, mask_of};
 use rs_sample::Cards;
 use rs_value::Memory;

@@ -9,7 +9,8 @@ use Rattle.rs_catalog.specs.Catalogue.{Catalogue}
 use Rattle.rs_query.specs.Tables.{all_entries}
 use Rattle.rs_query.proofs.QuestionFacts.{Gave-ok, Stopped-behind}
 use Rattle.rs_plan.specs.Calls.{questions_of_ask}
-use Rattle.rs_plan.specs.Lists.{World, block_in, list_of, list_of_plan}
+use Rattle.rs_plan.specs.Lists.{World, list_of, list_of_plan}
+use Rattle.rs_query.specs.Blocks.{block_in}
 use Rattle.rs_exec.specs.Asked.{CanAsk, NodeAfter}
 use Rattle.rs_exec.specs.Asking.{exec_faults, next_row, world_of}
 use Rattle.rs_exec.specs.Cursors.{CursorState, StandsFor, answer_for, asks_of, is_over, next_answer, next_of, no_question, plan_of}

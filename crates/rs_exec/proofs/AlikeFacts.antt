@@ -18,7 +18,8 @@ use Rattle.rs_query.specs.declared.term.Term.{Term}
 use Rattle.rs_rank.specs.Weights.{evaluated}
 use Rattle.rs_rank.specs.declared.ids.Ids.{Ids}
 use Rattle.rs_value.specs.declared.value.Value.{Value}
-use Rattle.rs_plan.specs.Lists.{World, block_in, row_under, weights_in}
+use Rattle.rs_plan.specs.Lists.{World, row_under, weights_in}
+use Rattle.rs_query.specs.Blocks.{block_in}
 use Rattle.rs_exec.specs.Outputs.{values_for}
 
 -- the place of an item that passes a test

@@ -7,7 +7,7 @@ use Rattle.rs_query.specs.WellFormed.{IsBlock, IsFromEntry, IsQuery, IsTerm}
 use Rattle.rs_query.specs.declared.block.Block.{Block}
 use Rattle.rs_query.specs.declared.query.Query.{Query}
 use Rattle.rs_query.specs.declared.query.Query.TheVariants.{One, Set}
-use Rattle.rs_plan.specs.Lists.{block_in}
+use Rattle.rs_query.specs.Blocks.{block_in}
 use Rattle.rs_exec.specs.Covering.{Covers, CoversBlock, HasPredicate}
 
 -- a well formed block

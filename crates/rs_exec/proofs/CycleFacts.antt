@@ -20,7 +20,8 @@ use Rattle.rs_order.specs.Schedule.{Left}
 use Rattle.rs_rank.specs.declared.ask.Ask.TheVariants.{Need}
 use Rattle.rs_mu.specs.Mu.{ask_of, left_for, taken_for}
 use Rattle.rs_plan.specs.Counts.{asked_of, gave_of}
-use Rattle.rs_plan.specs.Lists.{World, block_in, list_of}
+use Rattle.rs_plan.specs.Lists.{World, list_of}
+use Rattle.rs_query.specs.Blocks.{block_in}
 use Rattle.rs_plan.specs.Trees.{Distinct, HashJoin, NestedJoin, PlanTree, Rank, RankScan, SeqScan, SetOperator}
 use Rattle.rs_exec.specs.Asked.{Asked, CanAsk, NodeAfter, RankAfter}
 use Rattle.rs_exec.specs.Asking.{exec_faults, next_row, world_of}
@@ -37,7 +38,7 @@ use Rattle.rs_exec.specs.declared.rank.RankNode.{RankNode}
 use Rattle.rs_exec.specs.declared.scan.IndexNode.{IndexNode}
 use Rattle.rs_exec.specs.declared.scan.TableNode.{TableNode}
 use Rattle.rs_exec.specs.declared.tally.Tally.{Tally}
-use Rattle.rs_exec.proofs.IndexTermFacts.{index-for}
+use Rattle.rs_catalog.proofs.IndexForFacts.{index-for}
 use Rattle.rs_exec.proofs.PlacesFacts.{TermFor}
 use Rattle.rs_exec.proofs.ScanFacts.{index-next, index-then, table-next, table-then}
 use Rattle.rs_exec.proofs.StartFacts.{size-is}

@@ -12,7 +12,7 @@ use Rattle.rs_rank.specs.declared.answer.Answer.{Answer}
 use Rattle.rs_rank.specs.declared.ids.Ids.{Ids}
 use Rattle.rs_rank.specs.declared.key.Key.{Key}
 use Rattle.rs_rank.proofs.OrderFacts.{key_cmp-total}
-use Rattle.rs_query.specs.Answers.{answer_row, distinct_if, firsts, same_value, same_values}
+use Rattle.rs_query.specs.Answers.{answer_row, distinct_if, firsts}
 use Rattle.rs_query.specs.Combinations.{combinations}
 use Rattle.rs_query.specs.Tables.{all_entries}
 use Rattle.rs_query.specs.WellFormed.{IsQuery}
@@ -23,13 +23,14 @@ use Rattle.rs_value.specs.declared.set_op.SetOp.TheVariants as op
 use Rattle.rs_value.specs.declared.value.Value.{Value}
 use Rattle.rs_value.specs.declared.value.Value.TheVariants.{Int, Text}
 use Rattle.rs_outputs.specs.Rows.{OutputRow, firsts as output_firsts}
-use Rattle.rs_outputs.specs.Seen.{same_value as output_same, same_values as output_same_values}
+use Rattle.rs_outputs.specs.Seen.{same_values}
 use Rattle.rs_outputs.proofs.FirstFacts.{Climbs-firsts}
 use Rattle.rs_outputs.proofs.ListFacts.{distinct-climbs, sorted-of}
-use Rattle.rs_outputs.proofs.SameFacts.{same_values-itself, same_values-same}
+use Rattle.rs_outputs.proofs.SameFacts.{same_values-sym}
 use Rattle.rs_setop.specs.Sides.{AreBases, IsRowOf, Sides}
 use Rattle.rs_setop.proofs.BaseFacts.{answers-sorted, sides-sorted}
-use Rattle.rs_plan.specs.Lists.{World, block_in, ids_of, key_under, numbered_block, row_under, sizes_in, sources, weights_in}
+use Rattle.rs_plan.specs.Lists.{World, ids_of, key_under, numbered_block, row_under, sizes_in, sources, weights_in}
+use Rattle.rs_query.specs.Blocks.{block_in}
 use Rattle.rs_plan.specs.Plans.{IsPart}
 use Rattle.rs_plan.specs.Trees.{Distinct, PlanTree, terms}
 use Rattle.rs_exec.specs.Outputs.{output_row, outputs_in}
@@ -37,30 +38,6 @@ use Rattle.rs_exec.proofs.AlikeFacts.{IsAlike, same-sums}
 use Rattle.rs_exec.proofs.ListFacts.{sources-rise}
 use Rattle.rs_exec.proofs.SourceFacts.{ids-rows, ids_in, sources-combinations}
 use Rattle.rs_exec.proofs.SumFacts.{row-sum}
-
--- the test of equal values is one of all crates, and doesn't depend on their order
-value-same : (u v : Value) → same_value u v ≡ output_same u v
-value-same (Int n) (Int m) = refl
-value-same (Text t) (Text u) = refl
-value-same (Int n) (Text u) = refl
-value-same (Text t) (Int m) = refl
-
-values-same : (us vs : List Value) → same_values us vs ≡ output_same_values us vs
-values-same [] [] = refl
-values-same [] (v ∷ vs) = refl
-values-same (u ∷ us) [] = refl
-values-same (u ∷ us) (v ∷ vs) = ap₂ (λ (a b : Bool). a && b) (value-same u v) (values-same us vs)
-
-both_ways : (a b : Bool) → (a ≡ true → b ≡ true) → (b ≡ true → a ≡ true) → a ≡ b
-both_ways true b f g = sym (f refl)
-both_ways false true f g = g refl
-both_ways false false f g = refl
-
-turned : (us vs : List Value) → output_same_values us vs ≡ true → output_same_values vs us ≡ true
-turned us vs e = ap (λ xs. output_same_values xs us) (sym (same_values-same us vs e)) ∙ same_values-itself us
-
-pub values-turned : (us vs : List Value) → same_values us vs ≡ output_same_values vs us
-values-turned us vs = values-same us vs ∙ both_ways (output_same_values us vs) (output_same_values vs us) (turned us vs) (turned vs us)
 
 -- what passes a test, made from what passes another one
 pub map-filter : {X Y : Type 0} (f : X → Y) (p : X → Bool) (q : Y → Bool) (xs : List X) → AllByRecursion (λ x. p x ≡ q (f x)) xs → map f (filter p xs) ≡ filter q (map f xs)
@@ -90,15 +67,15 @@ module _ (w : World) (mask : ℕ) where
   output-firsts [] shows = refl
   output-firsts (row ∷ rows) shows =
       ap (λ (rest : List OutputRow). output_of row ∷ rest)
-      (map-filter output_of (λ (other : Answer). not (same_values row.values other.values)) (λ (other : OutputRow). not (output_same_values other.values (output_of row).values)) (firsts rows)
+      (map-filter output_of (λ (other : Answer). not (same_values row.values other.values)) (λ (other : OutputRow). not (same_values other.values (output_of row).values)) (firsts rows)
       (each-kept (firsts rows) (each-firsts Shows rows shows.1))
-      ∙ ap (filter (λ (other : OutputRow). not (output_same_values other.values (output_of row).values))) (output-firsts rows shows.1))
+      ∙ ap (filter (λ (other : OutputRow). not (same_values other.values (output_of row).values))) (output-firsts rows shows.1))
     where
-      kept : (other : Answer) → Shows other → not (same_values row.values other.values) ≡ not (output_same_values (output_of other).values (output_of row).values)
-      kept other is = ap not (values-turned row.values other.values ∙ ap₂ output_same_values (sym is) (sym shows.0))
+      kept : (other : Answer) → Shows other → not (same_values row.values other.values) ≡ not (same_values (output_of other).values (output_of row).values)
+      kept other is = ap not (same_values-sym row.values other.values ∙ ap₂ same_values (sym is) (sym shows.0))
 
       each-kept : (others : List Answer) → AllByRecursion Shows others
-          → AllByRecursion (λ (other : Answer). not (same_values row.values other.values) ≡ not (output_same_values (output_of other).values (output_of row).values)) others
+          → AllByRecursion (λ (other : Answer). not (same_values row.values other.values) ≡ not (same_values (output_of other).values (output_of row).values)) others
       each-kept [] all = tt
       each-kept (other ∷ others) all = (kept other all.0, each-kept others all.1)
 

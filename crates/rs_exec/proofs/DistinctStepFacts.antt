@@ -34,7 +34,8 @@ use Rattle.rs_query.proofs.QuestionFacts.{AllAsked, AllAsked-more, AllAsked-none
 use Rattle.rs_plan.specs.Asks.{bar_of, child_asks, keys_of}
 use Rattle.rs_plan.specs.Calls.{part_of, questions, questions_of_ask}
 use Rattle.rs_plan.specs.Counts.{asked_of}
-use Rattle.rs_plan.specs.Lists.{World, block_in, key_under, list_of, numbered_block, weights_in}
+use Rattle.rs_plan.specs.Lists.{World, key_under, list_of, numbered_block, weights_in}
+use Rattle.rs_query.specs.Blocks.{block_in}
 use Rattle.rs_plan.specs.Plans.{IsPart}
 use Rattle.rs_plan.specs.Trees.{Distinct, PlanTree, terms}
 use Rattle.rs_exec.specs.Asked.{CanAsk}

@@ -11,7 +11,7 @@ use Rattle.rs_query.specs.declared.block.Block.{Block}
 use Rattle.rs_query.specs.declared.query.Query.{Query}
 use Rattle.rs_query.specs.declared.term.Term.{Term}
 use Rattle.rs_query.proofs.QuestionFacts.{AllAsked, AllAsked-none, Ended-behind, Gave, Gave-ok, Inquires-fault, Stopped-behind}
-use Rattle.rs_plan.specs.Lists.{block_in}
+use Rattle.rs_query.specs.Blocks.{block_in}
 use Rattle.rs_exec.specs.Asking.{exec_faults}
 use Rattle.rs_exec.specs.Feeding.{feeding, left_by, with_row}
 use Rattle.rs_query.specs.Asking.{asking_worth}

@@ -8,7 +8,8 @@ use Rattle.std.proofs.lemmas.Nat.{mul-le}
 use Rattle.rs_rank.specs.Masks.{mask_of}
 use Rattle.rs_rank.specs.declared.answer.Answer.{Answer}
 use Rattle.rs_rank.specs.declared.ids.Ids.{Ids}
-use Rattle.rs_query.specs.Answers.{base_of, distinct_if, firsts, answer_row, same_values}
+use Rattle.rs_query.specs.Answers.{base_of, distinct_if, firsts, answer_row}
+use Rattle.rs_outputs.specs.Seen.{same_values}
 use Rattle.rs_query.specs.Combinations.{choices, combinations, numbers_to, satisfies}
 use Rattle.rs_query.specs.Tables.{all_entries, sizes_of}
 use Rattle.rs_plan.specs.Lists.{World, numbered_block, list_of, sizes_in, sources}

@@ -1,23 +1,11 @@
--- The indexes of a catalogue go on to hold a scorer's answers where it grows, and so those of each plan do.
-use Rattle.std.proofs.Common.{◌≡◌, ◌∙◌, ℕ, List, [], ◌∷◌, ◌++◌, length-append, inl, inr, sym, subst, arith}
-use Rattle.std.specs.Prelude.{◌⊎◌, Result, Ok, Err, option_map, unwrap_or}
-use Rattle.std.specs.List.{AllByRecursion}
-use Rattle.std.proofs.lemmas.Option.{slice_get_within}
-use Rattle.rs_table.specs.Relation.{Relation}
-use Rattle.rs_expr.specs.InOrder.{InquiryEnds, InquiryFails, InquiryStops}
-use Rattle.rs_expr.specs.Predicates.{PredicateDef}
-use Rattle.rs_expr.specs.Scoring.{Answering, ScorerState}
-use Rattle.rs_rank.specs.declared.scored_row.ScoredRow.{ScoredRow}
-use Rattle.rs_catalog.specs.Catalogue.{Catalogue, NamedTable, RankIndex, with_index, with_predicate, with_table}
-use Rattle.rs_catalog.specs.Indexes.{IsIndex, making, making_of}
-use Rattle.rs_catalog.specs.Making.{MakesIndex, catalogue_after}
-use Rattle.rs_catalog.specs.declared.index.IndexDef.{IndexDef}
-use Rattle.rs_catalog.specs.declared.index.IndexFault.{IndexFault}
-use Rattle.rs_catalog.specs.declared.index.IndexFault.TheVariants.{Memory}
-use Rattle.rs_order.proofs.EachFacts.{each-push, each-slice_get, each-weaker}
+-- The indexes of each plan hold a scorer's answers where those of the catalogue do.
+use Rattle.std.proofs.Common.{ℕ}
+use Rattle.rs_expr.specs.Scoring.{Answering}
+use Rattle.rs_catalog.specs.Catalogue.{Catalogue}
+use Rattle.rs_catalog.specs.Held.{AreHeld, IsHeld}
+use Rattle.rs_order.proofs.EachFacts.{each-slice_get}
 use Rattle.rs_plan.specs.Trees.{Distinct, HashJoin, NestedJoin, Rank, RankScan, SeqScan, SetOperator, PlanTree}
-use Rattle.rs_exec.specs.Indexes.{AreHeld, HoldIndexes, IsHeld}
-use Rattle.rs_exec.proofs.LargerFacts.{joined, joined-index, joined-predicate, joined-table, only_index, only_predicate, only_table, predicate-same, slice_get-front}
+use Rattle.rs_exec.specs.Indexes.{HoldIndexes}
 
 -- those that a plan scans are among them
 pub held-plan : (answer : Answering) (catalogue : Catalogue) → AreHeld answer catalogue → (tree : PlanTree) → HoldIndexes answer catalogue tree
@@ -29,61 +17,3 @@ held-plan answer catalogue held (HashJoin left right) = (held-plan answer catalo
 held-plan answer catalogue held (NestedJoin left right) = (held-plan answer catalogue held left, held-plan answer catalogue held right)
 held-plan answer catalogue held (Distinct child) = held-plan answer catalogue held child
 held-plan answer catalogue held (SetOperator left right) = (held-plan answer catalogue held left, held-plan answer catalogue held right)
-
--- an index goes on to hold the answers behind what joins
-held-larger : (catalogue more : Catalogue) (answer : Answering) (index : RankIndex) → IsHeld answer catalogue index → IsHeld answer (joined catalogue more) index
-held-larger catalogue more answer index held =
-    let predicate = predicate-same catalogue more index.def.predicate held.predicate in
-    let table = slice_get-front catalogue.tables more.tables index.def.table held.table in
-    let same : making answer (joined catalogue more) index.def ≡ making answer catalogue index.def = λ i.
-    making_of answer (predicate i) index.def.args (unwrap_or (option_map (λ (t : NamedTable). t.table.rows) (table i)) []) in
-    let all_tables = length-append catalogue.tables more.tables in
-    let all_predicates = length-append catalogue.predicates more.predicates in
-    record {
-      table = omega arith;
-      predicate = omega arith;
-      holds = (λ i. (same i).outcome) ∙ held.holds;
-    }
-
-all-larger : (catalogue more : Catalogue) (answer : Answering) → AreHeld answer catalogue → AllByRecursion (IsHeld answer (joined catalogue more)) catalogue.indexes
-all-larger catalogue more answer held =
-    each-weaker (IsHeld answer catalogue) (IsHeld answer (joined catalogue more)) (held-larger catalogue more answer) catalogue.indexes held
-
--- a table, a predicate or an index with these answers joins
-pub held-with_table : (catalogue : Catalogue) (answer : Answering) (name : List ℕ) (table : Relation) → AreHeld answer catalogue → AreHeld answer (with_table name table catalogue)
-held-with_table catalogue answer name table held =
-    let more = only_table name table in
-    subst (λ (larger : Catalogue). AllByRecursion (IsHeld answer larger) catalogue.indexes) (joined-table catalogue name table) (all-larger catalogue more answer held)
-
-pub held-with_predicate : (catalogue : Catalogue) (answer : Answering) (predicate : PredicateDef) → AreHeld answer catalogue → AreHeld answer (with_predicate predicate catalogue)
-held-with_predicate catalogue answer predicate held =
-    let more = only_predicate predicate in
-    subst (λ (larger : Catalogue). AllByRecursion (IsHeld answer larger) catalogue.indexes) (joined-predicate catalogue predicate) (all-larger catalogue more answer held)
-
-pub held-with_index : (catalogue : Catalogue) (answer : Answering) (def : IndexDef) (ranking : List ScoredRow) → IsIndex catalogue def
-    → (making answer catalogue def).outcome ≡ Ok ranking → AreHeld answer catalogue → AreHeld answer (with_index def ranking catalogue)
-held-with_index catalogue answer def ranking is makes held =
-    let more = only_index def ranking in
-    let index : RankIndex = record { def = def; ranking = ranking } in
-    let last : IsHeld answer catalogue index = record {
-      table = slice_get_within catalogue.tables def.table is.table is.has_table;
-      predicate = slice_get_within catalogue.predicates def.predicate is.predicate is.has_predicate;
-      holds = makes;
-    } in
-    subst (λ (larger : Catalogue). AllByRecursion (IsHeld answer larger) (catalogue.indexes ++ index ∷ [])) (joined-index catalogue def ranking)
-    (each-push (IsHeld answer (joined catalogue more)) catalogue.indexes index (all-larger catalogue more answer held) (held-larger catalogue more answer index last))
-
--- so do they where an index is made, whatever comes of it, for the scorer behind the calls
-pub held-makes : (catalogue new : Catalogue) (def : IndexDef) (result : Result (Unit {0}) IndexFault) (before after : ScorerState) → IsIndex catalogue def
-    → AreHeld before.answer catalogue → MakesIndex (making before.answer catalogue def) def catalogue new result before after → AreHeld after.answer new
-held-makes catalogue new def result before after is held makes =
-    subst (λ (answer : Answering). AreHeld answer new) (sym makes.inquires.keeps.answer)
-    (subst (AreHeld before.answer) (sym makes.joins) (go makes.ranking makes.inquires.comes)) where
-      go : (ranking : Result (List ScoredRow) IndexFault)
-          → (InquiryEnds (making before.answer catalogue def) ranking before after ⊎ InquiryFails (making before.answer catalogue def) ranking before after)
-          ⊎ InquiryStops Memory (making before.answer catalogue def) ranking before after
-          → AreHeld before.answer (catalogue_after def ranking catalogue)
-      go (Err fault) comes = held
-      go (Ok ranking) (inl (inl ends)) = held-with_index catalogue before.answer def ranking is (sym ends.gives) held
-      go (Ok ranking) (inl (inr fails)) = let gives = fails.gives in cc
-      go (Ok ranking) (inr stops) = let gives = stops.gives in cc

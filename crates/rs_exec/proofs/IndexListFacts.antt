@@ -42,13 +42,15 @@ use Rattle.rs_query.proofs.ScoreFacts.{ranking-by_key, same-sides}
 use Rattle.rs_scan.specs.Scans.{entries_in, entry_row, index_rows, scored}
 use Rattle.rs_scan.proofs.IndexFacts.{entries_in-all}
 use Rattle.rs_plan.specs.Counts.{size_at}
-use Rattle.rs_plan.specs.Lists.{World, block_in, numbered_block, key_under, list_of, row_under, sizes_in, weights_in, worths}
+use Rattle.rs_plan.specs.Lists.{World, numbered_block, key_under, list_of, row_under, sizes_in, weights_in, worths}
+use Rattle.rs_query.specs.Blocks.{block_in}
 use Rattle.rs_plan.specs.Plans.{IsPart}
 use Rattle.rs_plan.specs.Trees.{RankScan}
 use Rattle.rs_exec.specs.Drawing.{passes}
-use Rattle.rs_exec.specs.Indexes.{Holds}
+use Rattle.rs_catalog.specs.Held.{Holds}
 use Rattle.rs_exec.proofs.DrawFacts.{place-row_of}
-use Rattle.rs_exec.proofs.IndexTermFacts.{IsIndexFor, index-for, index-worth}
+use Rattle.rs_catalog.proofs.IndexForFacts.{IsIndexFor, index-for}
+use Rattle.rs_query.proofs.IndexTermFacts.{index-worth}
 use Rattle.rs_exec.proofs.ListFacts.{IdsRise, distinct-under, keys-of, others-of, rise-choices, tied-ids, unsorted}
 use Rattle.rs_exec.proofs.MakingFacts.{IsRanked, ranked, scored-count, scored-rows, scored-within}
 use Rattle.rs_exec.proofs.PartFacts.{numbers-next}

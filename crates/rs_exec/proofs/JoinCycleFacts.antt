@@ -19,7 +19,8 @@ use Rattle.rs_filter.specs.Matching.{is_side, joins}
 use Rattle.rs_ripple.specs.Joined.{CanFeedLeft, CanFeedRight, Fits, Joined, fed_left, fed_right, rest_for}
 use Rattle.rs_ripple.specs.Ripple.{CanEnd, Ripple, ask_of, left_ended, left_for, right_ended, taken_for}
 use Rattle.rs_plan.specs.Counts.{asked_of, gave_of}
-use Rattle.rs_plan.specs.Lists.{World, block_in, list_of}
+use Rattle.rs_plan.specs.Lists.{World, list_of}
+use Rattle.rs_query.specs.Blocks.{block_in}
 use Rattle.rs_plan.specs.Trees.{NestedJoin, PlanTree, entries}
 use Rattle.rs_exec.specs.Asked.{Asked, CanAsk, JoinAfter, NodeAfter}
 use Rattle.rs_exec.specs.Asking.{next_row, world_of}

@@ -35,7 +35,8 @@ use Rattle.rs_ripple.proofs.StandFacts.{Tells, stands-tells}
 use Rattle.rs_plan.specs.Asks.{child_asks, bar_of, keys_of}
 use Rattle.rs_plan.specs.Calls.{questions, questions_of_ask, side_part}
 use Rattle.rs_plan.specs.Counts.{asked_of, gave_of}
-use Rattle.rs_plan.specs.Lists.{World, block_in, list_of}
+use Rattle.rs_plan.specs.Lists.{World, list_of}
+use Rattle.rs_query.specs.Blocks.{block_in}
 use Rattle.rs_plan.specs.Plans.{IsPart}
 use Rattle.rs_plan.specs.Trees.{NestedJoin, PlanTree, entries, HashJoin}
 use Rattle.rs_exec.specs.Asked.{CanAsk}

@@ -20,13 +20,15 @@ use Rattle.rs_query.specs.declared.query.Query.{Query}
 use Rattle.rs_query.specs.declared.term.Term.{Term}
 use Rattle.rs_plan.specs.Asks.{asks_alone, child_asks, query_schedule}
 use Rattle.rs_plan.specs.Calls.{own_question, part_of, questions, questions_of_ask, rank_part, side_part}
-use Rattle.rs_plan.specs.Lists.{World, block_in, key_under, list_of, list_of_plan, weights_in}
+use Rattle.rs_plan.specs.Lists.{World, key_under, list_of, list_of_plan, weights_in}
+use Rattle.rs_query.specs.Blocks.{block_in}
 use Rattle.rs_plan.specs.Trees.{Distinct, HashJoin, NestedJoin, Rank, RankScan, SeqScan, SetOperator, PlanTree, terms}
 use Rattle.rs_exec.specs.Asking.{exec_faults, world_of}
 use Rattle.rs_exec.specs.Covering.{Covers, CoversBlock, HasPredicate}
 use Rattle.rs_exec.specs.Cursors.{SameAsks, answer_for}
 use Rattle.rs_exec.proofs.CoversFacts.{block-covered}
-use Rattle.rs_exec.proofs.LargerFacts.{argument-same, joined, outputs-same, predicate-same}
+use Rattle.rs_catalog.proofs.JoinedFacts.{joined}
+use Rattle.rs_exec.proofs.LargerFacts.{argument-same, outputs-same, predicate-same}
 use Rattle.rs_exec.proofs.LargerNodes.{list-same}
 
 each-flat_map : {X Y : Type 0} (P : Y → Type 0) (f : X → List Y) (xs : List X) → ((x : X) → AllByRecursion P (f x)) → AllByRecursion P (flat_map f xs)

@@ -24,7 +24,8 @@ use Rattle.rs_query.specs.declared.query.Query.{Query}
 use Rattle.rs_query.specs.declared.query.Query.TheVariants.{One, Set}
 use Rattle.rs_plan.specs.Asks.{asks_alone, child_asks, query_schedule}
 use Rattle.rs_plan.specs.Counts.{asked_of, drawn_to, gave_of, place_in_index, place_in_table, size_at}
-use Rattle.rs_plan.specs.Lists.{World, block_in, ids_of, key_under, list_of, row_under, sizes_in, sources, weights_in, worths}
+use Rattle.rs_plan.specs.Lists.{World, ids_of, key_under, list_of, row_under, sizes_in, sources, weights_in, worths}
+use Rattle.rs_query.specs.Blocks.{block_in}
 use Rattle.rs_plan.specs.Plans.{IsPart, IsRankScan}
 use Rattle.rs_plan.specs.Trees.{Distinct, HashJoin, NestedJoin, Rank, RankScan, SeqScan, SetOperator, PlanTree, entries, terms}
 use Rattle.rs_exec.specs.Asking.{world_of}
@@ -53,7 +54,8 @@ use Rattle.rs_exec.specs.declared.join_core.JoinCore.TheVariants.{Hash, Nested}
 use Rattle.rs_exec.specs.declared.node.Node.{Node}
 use Rattle.rs_exec.specs.declared.node.Node.TheVariants as node
 use Rattle.rs_exec.proofs.CoversFacts.{block-covered, covers}
-use Rattle.rs_exec.proofs.LargerFacts.{base-same, combinations-same, indexes-larger, joined, joins-same, left_values-same, outputs-same, plan-larger, query-larger, ranking-same, right_values-same, size-same, worths-same}
+use Rattle.rs_catalog.proofs.JoinedFacts.{joined}
+use Rattle.rs_exec.proofs.LargerFacts.{base-same, combinations-same, indexes-larger, joins-same, left_values-same, outputs-same, plan-larger, query-larger, ranking-same, right_values-same, size-same, worths-same}
 use Rattle.rs_exec.proofs.PlacesFacts.{part-of, plan-part}
 
 -- the tables of a block are as large

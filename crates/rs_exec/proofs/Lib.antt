@@ -15,7 +15,6 @@ mod DistinctStepFacts
 mod DrawFacts
 mod FewFacts
 pub mod HeldFacts
-mod IndexTermFacts
 mod LargerAnswers
 mod LargerFacts
 mod LargerNodes

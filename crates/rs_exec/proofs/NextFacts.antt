@@ -22,7 +22,7 @@ use Rattle.rs_query.proofs.ExtendFacts.{HasRows-choice}
 use Rattle.rs_query.proofs.WithinFacts.{AreInside-within, all_hold-within}
 use Rattle.rs_scan.specs.Scans.{IndexScan, IsOfAllRows, TableScan, entries_in, entry_row, rows_of_index, rows_of_table, scored}
 use Rattle.rs_scan.proofs.ScanFacts.{length-rows_from, slice_get-rows_from}
-use Rattle.rs_plan.specs.Lists.{block_in}
+use Rattle.rs_query.specs.Blocks.{block_in}
 use Rattle.rs_exec.specs.Drawing.{ScansEntry, entry_conjuncts, drawn_then, next_drawn, passes, tally_with}
 use Rattle.rs_exec.specs.declared.scan.IndexNode.{IndexNode}
 use Rattle.rs_exec.specs.declared.scan.TableNode.{TableNode}

@@ -27,7 +27,8 @@ use Rattle.rs_query.specs.declared.query.Query.TheVariants.{One, Set}
 use Rattle.rs_query.specs.declared.term.Term.{Term}
 use Rattle.rs_query.proofs.EntryFacts.{items-inside, terms-inside}
 use Rattle.rs_query.proofs.RiseFacts.{each-firsts}
-use Rattle.rs_plan.specs.Lists.{World, block_in, key_under, list_of, numbered_block, row_under, sources}
+use Rattle.rs_plan.specs.Lists.{World, key_under, list_of, numbered_block, row_under, sources}
+use Rattle.rs_query.specs.Blocks.{block_in}
 use Rattle.rs_plan.specs.Plans.{IsPart, IsPlan, IsRank, IsSetPlan}
 use Rattle.rs_plan.specs.Trees.{Distinct, HashJoin, NestedJoin, Rank, RankScan, SeqScan, SetOperator, PlanTree, entries, terms}
 use Rattle.rs_exec.specs.Asked.{HasBlock}

@@ -30,7 +30,8 @@ use Rattle.rs_query.specs.declared.query.Query.TheVariants.{One, Set}
 use Rattle.rs_plan.specs.Asks.{bar_of, keys_of}
 use Rattle.rs_plan.specs.Calls.{questions, questions_of_ask, rank_part}
 use Rattle.rs_plan.specs.Counts.{asked_of}
-use Rattle.rs_plan.specs.Lists.{World, block_in, numbered_block, key_under, list_of, row_under, sources, weights_in, worths}
+use Rattle.rs_plan.specs.Lists.{World, numbered_block, key_under, list_of, row_under, sources, weights_in, worths}
+use Rattle.rs_query.specs.Blocks.{block_in}
 use Rattle.rs_plan.specs.Trees.{Rank, PlanTree, terms}
 use Rattle.rs_exec.specs.Parts.{IsPartOf}
 use Rattle.rs_exec.specs.Standing.{evaluation_for}

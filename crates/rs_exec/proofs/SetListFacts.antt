@@ -15,7 +15,8 @@ use Rattle.rs_catalog.specs.Catalogue.{Catalogue}
 use Rattle.rs_value.specs.declared.set_op.SetOp.{SetOp}
 use Rattle.rs_value.specs.declared.set_op.SetOp.TheVariants as op
 use Rattle.rs_outputs.specs.Rows.{OutputRow, firsts as output_firsts, occurs_in as output_occurs}
-use Rattle.rs_outputs.specs.Seen.{same_values as output_same_values}
+use Rattle.rs_outputs.specs.Seen.{same_values}
+use Rattle.rs_outputs.proofs.SameFacts.{same_values-sym}
 use Rattle.rs_query.specs.Answers.{answer_row, base_of, distinct_if, occurs_in, set_base}
 use Rattle.rs_query.specs.Combinations.{combinations}
 use Rattle.rs_query.specs.Tables.{all_entries}
@@ -33,7 +34,7 @@ use Rattle.rs_plan.specs.Trees.{SetOperator, PlanTree, terms}
 use Rattle.rs_exec.specs.Outputs.{output_row, outputs_in}
 use Rattle.rs_exec.specs.SetNodes.{sides_for}
 use Rattle.rs_exec.proofs.AlikeFacts.{same-sums}
-use Rattle.rs_exec.proofs.DistinctListFacts.{Shows, map-filter, output-firsts, output_key, output_of, outputs-sorted, rows-show, values-turned}
+use Rattle.rs_exec.proofs.DistinctListFacts.{Shows, map-filter, output-firsts, output_key, output_of, outputs-sorted, rows-show}
 use Rattle.rs_exec.proofs.SourceFacts.{sources-complete}
 use Rattle.rs_exec.proofs.SumFacts.{row-sum}
 
@@ -55,7 +56,7 @@ module _ (w : World) (mask : ℕ) where
   occurs-same [] row shows is = refl
   occurs-same (right ∷ rights) row shows is =
       ap₂ (λ (a b : Bool). a || b)
-      (values-turned right.values row.values ∙ ap₂ output_same_values (sym is) (sym shows.0))
+      (same_values-sym right.values row.values ∙ ap₂ same_values (sym is) (sym shows.0))
       (occurs-same rights row shows.1 is)
 
   each-occurs : (test : Bool → Bool) (lefts rights : List Answer) → AllByRecursion (Shows w mask) lefts → AllByRecursion (Shows w mask) rights

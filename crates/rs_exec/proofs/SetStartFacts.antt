@@ -11,7 +11,8 @@ use Rattle.rs_query.specs.declared.query.Query.TheVariants.{One, Set}
 use Rattle.rs_query.proofs.ScoreFacts.{same-sides}
 use Rattle.rs_rank.specs.Weights.{IsWeights}
 use Rattle.rs_value.specs.declared.set_op.SetOp.{SetOp}
-use Rattle.rs_plan.specs.Lists.{World, block_in, list_of, weights_in}
+use Rattle.rs_plan.specs.Lists.{World, list_of, weights_in}
+use Rattle.rs_query.specs.Blocks.{block_in}
 use Rattle.rs_plan.specs.Plans.{IsPlan, IsSetPlan}
 use Rattle.rs_plan.specs.Trees.{Distinct, HashJoin, NestedJoin, Rank, RankScan, SeqScan, SetOperator, PlanTree, terms}
 use Rattle.rs_exec.specs.Asking.{world_of}

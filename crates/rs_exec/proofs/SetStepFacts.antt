@@ -32,7 +32,8 @@ use Rattle.rs_value.specs.declared.set_op.SetOp.TheVariants as op
 use Rattle.rs_plan.specs.Asks.{bar_of, child_asks, keys_of}
 use Rattle.rs_plan.specs.Calls.{questions, questions_of_ask, side_part}
 use Rattle.rs_plan.specs.Counts.{asked_of, gave_of}
-use Rattle.rs_plan.specs.Lists.{World, block_in, key_under, list_of, weights_in}
+use Rattle.rs_plan.specs.Lists.{World, key_under, list_of, weights_in}
+use Rattle.rs_query.specs.Blocks.{block_in}
 use Rattle.rs_plan.specs.Plans.{IsPart}
 use Rattle.rs_plan.specs.Trees.{SetOperator, PlanTree, entries, terms}
 use Rattle.rs_exec.specs.Asked.{CanAsk, HasBlock}

@@ -28,7 +28,8 @@ use Rattle.rs_query.specs.declared.term.Term.{Term}
 use Rattle.rs_query.proofs.QuestionFacts.{AllAsked, AllAsked-more, AllAsked-none, Ended-behind, Gave-ok, Inquires-fault}
 use Rattle.rs_plan.specs.Calls.{own_question, questions, questions_of_ask, rank_part}
 use Rattle.rs_plan.specs.Counts.{asked_of}
-use Rattle.rs_plan.specs.Lists.{World, block_in, numbered_block, list_of, weights_in}
+use Rattle.rs_plan.specs.Lists.{World, numbered_block, list_of, weights_in}
+use Rattle.rs_query.specs.Blocks.{block_in}
 use Rattle.rs_plan.specs.Trees.{Rank, PlanTree, entries}
 use Rattle.rs_exec.specs.Asked.{CanAsk}
 use Rattle.rs_exec.specs.Asking.{exec_faults, next_row, world_of}

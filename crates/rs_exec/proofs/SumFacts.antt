@@ -19,7 +19,8 @@ use Rattle.rs_query.specs.declared.query.Query.{Query}
 use Rattle.rs_query.specs.declared.query.Query.TheVariants.{One, Set}
 use Rattle.rs_query.specs.declared.term.Term.{Term}
 use Rattle.rs_query.proofs.ScoreFacts.{same-maxima}
-use Rattle.rs_plan.specs.Lists.{World, block_in, key_under, list_of, row_under, sources, weights_in, worths}
+use Rattle.rs_plan.specs.Lists.{World, key_under, list_of, row_under, sources, weights_in, worths}
+use Rattle.rs_query.specs.Blocks.{block_in}
 use Rattle.rs_plan.specs.Trees.{PlanTree, terms}
 use Rattle.rs_query.proofs.AskFacts.{predicate_at-is}
 use Rattle.rs_exec.proofs.ListFacts.{unsorted}

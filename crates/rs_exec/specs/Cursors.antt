@@ -15,7 +15,8 @@ use Rattle.rs_query.specs.WellFormed.{AreSameTerms, IsQuery}
 use Rattle.rs_query.specs.declared.query.Query.{Query}
 use Rattle.rs_query.specs.declared.query.Query.TheVariants.{One, Set}
 use Rattle.rs_plan.specs.Calls.{questions_of_ask}
-use Rattle.rs_plan.specs.Lists.{World, block_in, numbered_block, list_of_plan}
+use Rattle.rs_plan.specs.Lists.{World, numbered_block, list_of_plan}
+use Rattle.rs_query.specs.Blocks.{block_in}
 use Rattle.rs_plan.specs.Plans.{IsPlan}
 use Rattle.rs_plan.specs.Trees.{PlanTree}
 use Rattle.rs_exec.specs.declared.fault.ExecFault.{ExecFault}

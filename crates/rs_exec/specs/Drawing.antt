@@ -10,7 +10,7 @@ use Rattle.rs_query.specs.Tables.{size_of}
 use Rattle.rs_query.specs.WellFormed.{IsQuery}
 use Rattle.rs_query.specs.declared.block.Block.{Block}
 use Rattle.rs_query.specs.declared.query.Query.{Query}
-use Rattle.rs_plan.specs.Lists.{block_in}
+use Rattle.rs_query.specs.Blocks.{block_in}
 use Rattle.rs_plan.specs.Plans.{IsEntryNumber}
 use Rattle.rs_exec.specs.declared.tally.Tally.{Tally}
 

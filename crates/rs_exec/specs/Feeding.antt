@@ -11,7 +11,7 @@ use Rattle.rs_query.specs.Tables.{HasRows}
 use Rattle.rs_query.specs.WellFormed.{IsBlock}
 use Rattle.rs_query.specs.declared.query.Query.{Query}
 use Rattle.rs_query.specs.declared.term.Term.{Term}
-use Rattle.rs_plan.specs.Lists.{block_in}
+use Rattle.rs_query.specs.Blocks.{block_in}
 use Rattle.rs_mu.specs.Mu.{CanFeed, fed}
 use Rattle.rs_exec.specs.Asking.{exec_faults}
 use Rattle.rs_exec.specs.declared.fault.ExecFault.{ExecFault}

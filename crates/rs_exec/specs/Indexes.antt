@@ -1,15 +1,8 @@
--- The rank indexes of a plan, or of a catalogue, hold the answers of a scorer.
-use Rattle.std.specs.Prelude.{ℕ, ◌≡◌, ◌<◌, length, Ok, Some, slice_get}
-use Rattle.std.specs.List.{AllByRecursion}
+-- The rank indexes of a plan hold the answers of a scorer.
 use Rattle.rs_expr.specs.Scoring.{Answering}
-use Rattle.rs_catalog.specs.Catalogue.{Catalogue, RankIndex}
-use Rattle.rs_catalog.specs.Indexes.{making}
+use Rattle.rs_catalog.specs.Catalogue.{Catalogue}
+use Rattle.rs_catalog.specs.Held.{Holds}
 use Rattle.rs_plan.specs.Trees.{Distinct, HashJoin, NestedJoin, Rank, RankScan, SeqScan, SetOperator, PlanTree}
-
--- an index has the ranking that this scorer's answers give
-abbrev pub Holds : Answering → Catalogue → ℕ → Type 0
-Holds answer catalogue number =
-    (index : RankIndex) → slice_get catalogue.indexes number ≡ Some index → (making answer catalogue index.def).outcome ≡ Ok index.ranking
 
 -- each index that a tree scans does
 abbrev pub HoldIndexes : Answering → Catalogue → PlanTree → Type 0
@@ -20,13 +13,3 @@ HoldIndexes answer catalogue (HashJoin left right) = HoldIndexes answer catalogu
 HoldIndexes answer catalogue (NestedJoin left right) = HoldIndexes answer catalogue left × HoldIndexes answer catalogue right
 HoldIndexes answer catalogue (Distinct child) = HoldIndexes answer catalogue child
 HoldIndexes answer catalogue (SetOperator left right) = HoldIndexes answer catalogue left × HoldIndexes answer catalogue right
-
--- an index is of a table and a predicate of a catalogue, and has the ranking that this scorer's answers give
-pub record IsHeld (answer : Answering) (catalogue : Catalogue) (index : RankIndex) : Type 0 where
-  pub table : index.def.table < length catalogue.tables
-  pub predicate : index.def.predicate < length catalogue.predicates
-  pub holds : (making answer catalogue index.def).outcome ≡ Ok index.ranking
-
--- each index of a catalogue is such
-abbrev pub AreHeld : Answering → Catalogue → Type 0
-AreHeld answer catalogue = AllByRecursion (IsHeld answer catalogue) catalogue.indexes

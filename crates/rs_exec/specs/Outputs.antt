@@ -2,7 +2,8 @@
 use Rattle.std.specs.Prelude.{ℕ, ◌≡◌, true, List, map}
 use Rattle.rs_catalog.specs.Catalogue.{Catalogue}
 use Rattle.rs_outputs.specs.Rows.{OutputRow}
-use Rattle.rs_plan.specs.Lists.{World, block_in, list_of}
+use Rattle.rs_plan.specs.Lists.{World, list_of}
+use Rattle.rs_query.specs.Blocks.{block_in}
 use Rattle.rs_plan.specs.Trees.{PlanTree}
 use Rattle.rs_query.specs.Meaning.{is_inside, outputs_of}
 use Rattle.rs_query.specs.Tables.{HasRows}

@@ -1,12 +1,12 @@
 //! What the nodes of one query share.
 
 ghost use Rattle.std.specs.Prelude.{◌≡◌, IfOk};
-ghost use Rattle.rs_plan.specs.Lists.{block_in};
+ghost use Rattle.rs_query.specs.Blocks.{block_in};
 ghost use Rattle.rs_exec.specs.Outputs.{CanPutOut, values_for};
 
 use rs_catalog::Catalog;
 use rs_filter::project;
-use rs_query::{Block, Query};
+use rs_query::{Block, Query, block_in};
 use rs_rank::RankRow;
 use rs_value::{Memory, Value};
 use std::alloc::Global;
@@ -25,10 +25,7 @@ impl<'a> QueryContext<'a> {
     pub(crate) fn block(&self, number: u8) -> &'a Block
         ensures { result.now ≡ block_in self.now.query.now number }
     {
-        match self.query {
-            Query::One(block, _) => block,
-            Query::Set(_, left, right, _) => { if number == 1 { left } else { right } }
-        }
+        block_in(self.query, number)
     }
 
     /// The values of the output columns of a row, which are those of its block.

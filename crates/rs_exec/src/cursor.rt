@@ -4,10 +4,11 @@ ghost use Rattle.rs_expr.specs.InOrder.{Inquires};
 ghost use Rattle.rs_expr.specs.Scoring.{Answering};
 ghost use Rattle.rs_catalog.specs.Catalogue.{Catalogue};
 ghost use Rattle.rs_plan.specs.Counts.{counts_of_plan};
-ghost use Rattle.rs_plan.specs.Lists.{World, block_in};
+ghost use Rattle.rs_plan.specs.Lists.{World};
+ghost use Rattle.rs_query.specs.Blocks.{block_in};
 ghost use Rattle.rs_plan.specs.Plans.{IsPlan};
 ghost use Rattle.rs_plan.specs.Shapes.{tree_of};
-ghost use Rattle.rs_query.specs.Answers.{limit_of, weights_of};
+ghost use Rattle.rs_query.specs.Answers.{weights_of};
 ghost use Rattle.rs_rank.specs.Weights.{IsWeights};
 ghost use Rattle.rs_query.specs.Tables.{sizes_of};
 ghost use Rattle.rs_query.specs.WellFormed.{IsBlock, IsQuery};
@@ -22,7 +23,7 @@ use crate::node::Node;
 use rs_catalog::Catalog;
 use rs_expr::Scorer;
 use rs_plan::{Counts, Plan};
-use rs_query::{Block, Query};
+use rs_query::{Block, Query, limit_of, sizes_of};
 use rs_rank::{Answer, RankRow};
 use rs_value::{List, Memory};
 use std::alloc::Global;
@@ -175,16 +176,6 @@ fn is_limit(limit: Option<u32>, rows: u128) -> bool
     }
 }
 
-/// How many rows the answer has at most, where the query says so.
-fn limit_of(query: &Query) -> Option<u32>
-    ensures { result ≡ limit_of query.now }
-{
-    match query {
-        Query::One(_, limit) => *limit,
-        Query::Set(_, _, _, limit) => *limit,
-    }
-}
-
 /// The row with its score and its output values.
 fn answer_for(context: &QueryContext<'_>, row: &RankRow) -> Result<Answer, Memory>
     requires { CanPutOut context.now.catalog.now context.now.query.now row.now }
@@ -225,7 +216,5 @@ fn block_limits_hold(catalog: &Catalog, block: &Block)
     ensures weights { IsWeights (weights_of block.now) }
 {
     let _ = block.weights();
-    for from in block.from.items() {
-        let _ = catalog.table(from.0).len();
-    }
+    let _ = sizes_of(catalog, block);
 }

@@ -1,3 +1,4 @@
+use rs_query::AskFault;
 use rs_rank::Ids;
 use rs_value::Memory;
 use std::alloc::AllocFailed;
@@ -41,5 +42,30 @@ impl<T: Drop> From<AllocFailed<T>> for ExecFault {
 
     fn from(_: AllocFailed<T>) -> ExecFault {
         ExecFault::Memory
+    }
+}
+
+impl From<AskFault> for ExecFault {
+    ghost use Rattle.std.specs.Prelude.{◌≡◌};
+    ghost use Rattle.rs_exec.specs.Asking.{exec_fault};
+
+    ghost from_gives = { λ asked fault. fault ≡ exec_fault asked };
+
+    fn from(fault: AskFault) -> ExecFault {
+        match fault {
+            AskFault::BadScore {
+                predicate,
+                ids,
+                got,
+                max,
+            } => ExecFault::BadScore {
+                predicate,
+                ids,
+                got,
+                max,
+            },
+            AskFault::Probe { predicate } => ExecFault::Probe { predicate },
+            AskFault::Memory => ExecFault::Memory,
+        }
     }
 }

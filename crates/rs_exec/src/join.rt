@@ -1,7 +1,7 @@
 //! The rank joins as a node.
 
 ghost use Rattle.std.specs.Prelude.{◌≡◌, ◌<◌, ◌+◌, ◌-◌, ◌^◌, OnOk, is_some, if◌then◌else◌, false};
-ghost use Rattle.rs_plan.specs.Lists.{block_in};
+ghost use Rattle.rs_query.specs.Blocks.{block_in};
 ghost use Rattle.rs_rank.specs.declared.ask.JoinAsk.TheVariants.{NeedLeft, NeedRight, Ready};
 ghost use Rattle.rs_hrjn.specs.Hashed.{new_hashed};
 ghost use Rattle.rs_ripple.specs.Joined.{new_joined};
@@ -18,10 +18,11 @@ use crate::join_core::JoinCore;
 use crate::node::Node;
 use crate::tally::Tally;
 use rs_expr::Scorer;
-use rs_filter::{JoinConditions, KeptList};
+use rs_filter::JoinConditions;
 use rs_hrjn::Hrjn;
 use rs_nrjn::Nrjn;
 use rs_plan::Counts;
+use rs_query::KeptList;
 use rs_rank::{JoinAsk, RankRow, Weights};
 use rs_ripple::Side;
 use rs_value::Memory;

@@ -6,10 +6,10 @@ ghost use Rattle.rs_ripple.specs.Ripple.{CanEnd, ask_of, left_ended, left_for, r
 ghost use Rattle.rs_exec.specs.Cores.{CanTakeLeft, CanTakeRight, core_with, joined_in, left_taken, right_taken};
 
 use rs_catalog::Catalog;
-use rs_filter::{BlockMatch, JoinConditions, KeptList, left_values, right_values};
+use rs_filter::{BlockMatch, JoinConditions, left_values, right_values};
 use rs_hrjn::Hrjn;
 use rs_nrjn::Nrjn;
-use rs_query::Block;
+use rs_query::{Block, KeptList};
 use rs_rank::{JoinAsk, RankRow};
 use rs_value::Memory;
 use std::alloc::Global;

@@ -15,7 +15,6 @@ mod laws;
 mod node;
 mod rank;
 mod scan;
-mod score;
 mod set;
 mod set_core;
 mod set_laws;
@@ -25,7 +24,7 @@ mod tally;
 pub use cursor::Cursor;
 pub use distinct_laws::distinct_gives_the_first_rows;
 pub use fault::ExecFault;
-pub use held::indexes_go_on_to_hold_answers;
+pub use held::indexes_of_plans_hold_answers;
 pub use join_laws::{joins_ask_their_sides, joins_give_the_pairs_that_match};
 pub use laws::{
     cursors_stand_in_larger_catalogues, plans_ask_the_same_in_larger_catalogues,

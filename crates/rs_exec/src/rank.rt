@@ -3,7 +3,7 @@
 ghost use Rattle.std.specs.Prelude.{◌≡◌, ◌≤◌, ◌<◌, ◌+◌, ◌-◌, ◌^◌, OnOk, Some, is_some, if◌then◌else◌, length, slice_get, false, true};
 ghost use Rattle.rs_expr.specs.InOrder.{Inquires};
 ghost use Rattle.rs_mu.specs.Mu.{CanEnd, CanFeed, IsNewTerm, ask_of, left_for, new_mu, taken_for};
-ghost use Rattle.rs_plan.specs.Lists.{block_in};
+ghost use Rattle.rs_query.specs.Blocks.{block_in};
 ghost use Rattle.rs_query.specs.Meaning.{is_inside};
 ghost use Rattle.rs_query.specs.Tables.{HasRows};
 ghost use Rattle.rs_query.specs.WellFormed.{IsBlock};
@@ -20,12 +20,11 @@ ghost use Rattle.rs_exec.specs.Standing.{Stands};
 use crate::context::QueryContext;
 use crate::fault::ExecFault;
 use crate::node::Node;
-use crate::score::ask_term;
 use crate::tally::Tally;
 use rs_expr::Scorer;
-use rs_filter::KeptList;
 use rs_mu::MuCore;
 use rs_plan::Counts;
+use rs_query::KeptList;
 use rs_rank::{Ask, RankRow, Weights};
 use std::alloc::Global;
 
@@ -78,12 +77,11 @@ impl RankNode {
             (left_by result self.new) (S.state scorer.old) (S.state scorer.new) }
     {
         let block = context.block(row.ids.block);
-        let worth = ask_term(
+        let worth = block.ask(
             context.catalog,
-            block,
             self.term,
             &row.ids,
-            self.args.list(),
+            &mut self.args,
             scorer,
         )?;
         self.calls += 1;

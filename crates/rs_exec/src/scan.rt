@@ -6,8 +6,9 @@ ghost use Rattle.rs_exec.specs.Drawing.{IsSmall, ScansEntry, drawn_then, next_dr
 
 use crate::context::QueryContext;
 use crate::tally::Tally;
-use rs_filter::{KeptList, passes};
+use rs_filter::passes;
 use rs_plan::Counts;
+use rs_query::KeptList;
 use rs_rank::RankRow;
 use rs_scan::{RankScan, SeqScan};
 use rs_value::Memory;

@@ -1,7 +1,7 @@
 //! How the nodes of a plan are made.
 
 ghost use Rattle.std.specs.Prelude.{◌≡◌, ◌≤◌, IfOk, length};
-ghost use Rattle.rs_plan.specs.Lists.{block_in};
+ghost use Rattle.rs_query.specs.Blocks.{block_in};
 ghost use Rattle.rs_plan.specs.Plans.{IsEntryNumber, IsPart, IsPlan, IsSetPlan};
 ghost use Rattle.rs_plan.specs.Shapes.{tree_of};
 ghost use Rattle.rs_query.specs.Tables.{size_of};
@@ -19,7 +19,7 @@ use crate::set::SetNode;
 use rs_catalog::Catalog;
 use rs_filter::JoinConditions;
 use rs_plan::Plan;
-use rs_query::{Block, Query};
+use rs_query::{Block, Query, size_of};
 use rs_rank::mask_of;
 use rs_ripple::Side;
 use rs_scan::{RankScan, SeqScan};
@@ -210,15 +210,4 @@ fn join_over(head: JoinNode, left: Box<Node>, right: Box<Node>) -> Node
     ensures { IsJoinOver head left.value right.value result }
 {
     Node::Join(head, left, right)
-}
-
-/// How many rows the table of an entry has.
-fn size_of(catalog: &Catalog, block: &Block, entry: u8) -> u32
-    requires block { IsBlock catalog.now block.now }
-    requires entry { IsEntryNumber block.now entry }
-    ensures value { result ≡ size_of catalog.now block.now entry }
-    ensures few { result ≤ 131072 }
-{
-    let table = block.from.items()[entry as usize - 1].0;
-    catalog.table(table).len()
 }

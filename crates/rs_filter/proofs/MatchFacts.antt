@@ -56,35 +56,3 @@ module _ (catalogue : Catalogue) (block : Block) (left right : ℕ) (l r : RankR
       let right_same : eqb r.ids.mask right ≡ true = eq-eqb r.ids.mask right right_mask in
       λ at. (left_same at && left_choice at)
       && ((right_same at && right_choice at) && satisfies_across catalogue block left right (merge_rows l.ids.rows r.ids.rows))
-
--- a choice has a row for each entry in the mask
-choice-rows : (i mask : ℕ) (sizes rows : List ℕ) → IsChoice mask sizes rows → i < length sizes → bit_at mask i ≡ 1
-    → (1 ≤ get_or rows i 0) × (get_or rows i 0 ≤ get_or sizes i 0)
-choice-rows i mask [] [] is within bit = absurd (omega arith)
-choice-rows i mask [] (row ∷ rows) is within bit = absurd is
-choice-rows i mask (size ∷ sizes) [] is within bit = absurd is
-choice-rows zero mask (size ∷ sizes) (row ∷ rows) is within bit =
-    let one : mask % 2 ≡ 1 = rw (div-one mask) at bit in
-    subst (λ d. IsRowNumber (eqb d 0) size row) one is.0
-choice-rows (suc i) mask (size ∷ sizes) (row ∷ rows) is within bit =
-    choice-rows i (mask / 2) sizes rows is.1 (omega arith) (rw (half-before mask i) at bit)
-
-size-at : (catalogue : Catalogue) (block : Block) (i : ℕ) → i < 6 → get_or (sizes_of catalogue block) i 0 ≡ size_of catalogue block (suc i)
-size-at catalogue block zero within = refl
-size-at catalogue block (suc zero) within = refl
-size-at catalogue block (suc (suc zero)) within = refl
-size-at catalogue block (suc (suc (suc zero))) within = refl
-size-at catalogue block (suc (suc (suc (suc zero)))) within = refl
-size-at catalogue block (suc (suc (suc (suc (suc zero))))) within = refl
-size-at catalogue block (suc (suc (suc (suc (suc (suc i)))))) within = absurd (omega arith)
-
-pub HasRows-choice : (catalogue : Catalogue) (block : Block) (mask : ℕ) (rows : List ℕ) → length block.from ≤ 6
-    → IsChoice mask (sizes_of catalogue block) rows → HasRows catalogue block mask rows
-HasRows-choice catalogue block mask rows few is entry some most has =
-    let within : entry - 1 < 6 = omega arith in
-    let all : entry - 1 < length (sizes_of catalogue block) = within in
-    let found = choice-rows (entry - 1) mask (sizes_of catalogue block) rows is all (eqb-true (bit_at mask (entry - 1)) 1 has) in
-    let row = unwrap_or-slice_get rows (entry - 1) 0 in
-    let back : suc (entry - 1) ≡ entry = omega arith in
-    let size = size-at catalogue block (entry - 1) within ∙ ap (size_of catalogue block) back in
-    (subst (λ n. 1 ≤ n) (sym row) found.0, subst (λ n. n ≤ size_of catalogue block entry) (sym row) (subst (λ n. get_or rows (entry - 1) 0 ≤ n) size found.1))

@@ -5,9 +5,8 @@ ghost use Rattle.rs_filter.specs.Matching.{joins, new_matching};
 
 use crate::choice::is_choice;
 use crate::conditions::JoinConditions;
-use crate::kept::KeptList;
 use rs_catalog::Catalog;
-use rs_query::Block;
+use rs_query::{Block, KeptList};
 use rs_rank::{Matcher, RankRow};
 use rs_value::Memory;
 use std::marker::Model;

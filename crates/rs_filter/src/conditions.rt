@@ -3,10 +3,9 @@ ghost use Rattle.rs_filter.specs.Conditions.{conditions_of, equated_columns};
 ghost use Rattle.rs_filter.specs.Matching.{conjuncts_across};
 ghost use Rattle.rs_query.specs.WellFormed.{IsBlock};
 
-use crate::choice::sizes_of;
 use crate::join_values::{equated_across, is_equi_join};
 use rs_catalog::Catalog;
-use rs_query::Block;
+use rs_query::{Block, sizes_of};
 use rs_rank::union;
 use rs_value::{List, Memory};
 use std::alloc::Global;

@@ -1,23 +1,18 @@
 //! The join values of rows: what the equalities between a column of one side of a join and a column of the other one compare.
 
-ghost use Rattle.std.specs.Prelude.{◌≡◌, ◌≤◌, ◌++◌, ◌∷◌, [], IfOk, OnOk, Some, true};
+ghost use Rattle.std.specs.Prelude.{◌≡◌, ◌≤◌, IfOk, Some};
 ghost use Rattle.std.specs.Option.{option_to_list};
-ghost use Rattle.rs_query.specs.Meaning.{column_value, is_inside};
 ghost use Rattle.rs_query.specs.Tables.{HasRows};
-ghost use Rattle.rs_query.specs.WellFormed.{IsBlock, IsColumn, IsConjunct, column_kind};
-ghost use Rattle.rs_rank.specs.Masks.{has_number};
-ghost use Rattle.rs_value.specs.Value.{fits};
-ghost use Rattle.rs_value.specs.declared.kind.Kind.{Kind as ValueKind};
-ghost use Rattle.rs_value.specs.declared.value.Value.TheVariants as value;
+ghost use Rattle.rs_query.specs.WellFormed.{IsBlock, IsConjunct};
 ghost use Rattle.rs_filter.specs.Conditions.{AreConditions};
 ghost use Rattle.rs_filter.specs.JoinValues.{equated_across, in_sides, is_equi, left_values, right_values};
 ghost use Rattle.rs_filter.specs.Matching.{is_across};
 
 use crate::conditions::JoinConditions;
 use rs_catalog::Catalog;
-use rs_query::{Block, Conjunct};
+use rs_query::{Block, Conjunct, is_inside};
 use rs_rank::{Ids, has_number, union};
-use rs_value::{Memory, Text, Value};
+use rs_value::{Memory, Value};
 use std::alloc::Global;
 
 /// The join values of a row of the left side of a join by these conditions, in the order of the conjuncts.
@@ -36,10 +31,7 @@ pub fn left_values(
     let columns = conditions.columns.items();
     let mut values = Vec::with_capacity(alloc, columns.len())?;
     for pair in columns {
-        push_copy(
-            &mut values,
-            cell(catalog, block, conditions.left, pair.0, ids),
-        )?;
+        block.push_cell(catalog, pair.0, &ids.rows, &mut values)?;
     }
     Ok(values)
 }
@@ -60,10 +52,7 @@ pub fn right_values(
     let columns = conditions.columns.items();
     let mut values = Vec::with_capacity(alloc, columns.len())?;
     for pair in columns {
-        push_copy(
-            &mut values,
-            cell(catalog, block, conditions.right, pair.1, ids),
-        )?;
+        block.push_cell(catalog, pair.1, &ids.rows, &mut values)?;
     }
     Ok(values)
 }
@@ -112,13 +101,6 @@ fn is_across(conjunct: &Conjunct, left: u8, right: u8) -> bool
         && !is_inside(entries, right)
 }
 
-/// Whether all entries of a mask are in another one.
-fn is_inside(entries: u8, mask: u8) -> bool
-    ensures { result ≡ is_inside entries mask }
-{
-    entries & mask == entries
-}
-
 /// Two columns, that of the left side first, where each side has one of them.
 fn in_sides(left: u8, right: u8, first: (u8, u8), second: (u8, u8)) -> Option<((u8, u8), (u8, u8))>
     requires first_least { 1 ≤ first.0 }
@@ -134,40 +116,4 @@ fn in_sides(left: u8, right: u8, first: (u8, u8), second: (u8, u8)) -> Option<((
     } else {
         None
     }
-}
-
-/// The cell of a column of an entry in a mask, of the column's kind.
-fn cell<'a>(
-    catalog: &'a Catalog,
-    block: &Block,
-    entries: u8,
-    column: (u8, u8),
-    ids: &Ids,
-) -> &'a Value
-    requires block { IsBlock catalog.now block.now }
-    requires column { IsColumn catalog.now block.now column }
-    requires inside { has_number entries column.0 ≡ true }
-    requires rows { HasRows catalog.now block.now entries ids.now.rows }
-    ensures value { result.now ≡ column_value catalog.now block.now ids.now.rows column }
-    ensures fit { (kind : ValueKind) → column_kind catalog.now block.now column ≡ Some kind → fits kind result.now ≡ true }
-{
-    let table = catalog.table(block.from.items()[column.0 as usize - 1].0);
-    table.cell(ids.rows[column.0 as usize - 1], column.1)
-}
-
-/// Appends a copy of a value. A number is put straight into the list.
-fn push_copy(values: &mut Vec<Value>, value: &Value) -> Result<(), Memory>
-    ensures { OnOk result (values.new.items ≡ values.old.items ++ value.now ∷ []) }
-{
-    match value {
-        Value::Int(number) => Ok(values.push(Value::Int(*number))?),
-        Value::Text(text) => push_text(values, text),
-    }
-}
-
-/// Appends a copy of a text. It stands apart, so that no result with a value in it is moved about for a number.
-fn push_text(values: &mut Vec<Value>, text: &Text) -> Result<(), Memory>
-    ensures { OnOk result (values.new.items ≡ values.old.items ++ value.Text text.now ∷ []) }
-{
-    Ok(values.push(Value::Text(text.copy()?))?)
 }

@@ -9,7 +9,6 @@ mod distinct;
 mod distinct_laws;
 mod filter;
 mod join_values;
-mod kept;
 mod laws;
 
 pub use block_match::BlockMatch;
@@ -18,7 +17,6 @@ pub use distinct::DistinctCore;
 pub use distinct_laws::{distinct_ends, distinct_takes_rows, new_distinct_stands};
 pub use filter::{passes, project};
 pub use join_values::{left_values, right_values};
-pub use kept::KeptList;
 pub use laws::{
     equal_join_values_match, matches_have_equal_join_values, sides_and_matches_are_combinations,
 };

@@ -5,7 +5,7 @@ use Rattle.std.specs.declared.alloc.Global.{Global}
 use Rattle.std.specs.declared.vec.Vec.{Vec}
 use Rattle.std.specs.List.{list_any}
 use Rattle.std.specs.Cmp.Lexicographic.{pointwise, bytes_decides}
-use Rattle.std.proofs.lemmas.Bool.Decides.{Decides-int_eq}
+use Rattle.std.proofs.lemmas.Bool.Decides.{Decides-int_eq, same_from_decides}
 use Rattle.std.proofs.lemmas.List.{map-append}
 use Rattle.rs_value.specs.declared.value.Value.{Value}
 use Rattle.rs_value.specs.declared.value.Value.TheVariants.{Int, Text}
@@ -45,6 +45,11 @@ same_values-same us vs e = (same_values-decides us vs).0 e
 
 pub same_values-itself : (us : List Value) → same_values us us ≡ true
 same_values-itself us = (same_values-decides us us).1 refl
+
+-- the order of two lists doesn't matter
+pub same_values-sym : (us vs : List Value) → same_values us vs ≡ same_values vs us
+same_values-sym us vs = same_from_decides (same_values us vs) (same_values vs us) (same_values-decides us vs)
+    (λ e. sym ((same_values-decides vs us).0 e), λ e. (same_values-decides vs us).1 (sym e))
 
 -- equal by `==` is equal by the test
 eq-same_value : (u v : Value) → value.ghosts.eq u v ≡ same_value u v

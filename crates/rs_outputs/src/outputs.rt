@@ -52,6 +52,19 @@ impl Outputs {
         Ok(new)
     }
 
+    /// Adds a copy of these values, where they are none of the lists. Says whether they were none.
+    pub fn add_copy(&mut self, values: &[Value]) -> Result<bool, Memory>
+        ensures new { IfOk result (λ new. new ≡ not (has_list values.now self.old.lists)) }
+        ensures ok { OnOk result (self.new.lists ≡ with_list values.now self.old.lists) }
+        ensures err { OnErr result (self.new.lists ≡ self.old.lists) }
+    {
+        if self.has(values) {
+            return Ok(false);
+        }
+        let list = copied(*self.lists.allocator(), values)?;
+        self.add(list)
+    }
+
     /// Makes room for so many further lists.
     pub fn make_room(&mut self, more: usize) -> Result<(), Memory>
         ensures lists { self.new.lists ≡ self.old.lists }
@@ -73,4 +86,15 @@ impl Outputs {
             Err(Memory) => unreachable!(),
         }
     }
+}
+
+/// Equal values, in the same order.
+fn copied(alloc: Global, values: &[Value]) -> Result<Vec<Value>, Memory>
+    ensures { IfOk result (λ copies. copies.items ≡ values.now) }
+{
+    let mut copies = Vec::new(alloc);
+    for value in values {
+        copies.push(value.copy()?)?;
+    }
+    Ok(copies)
 }

@@ -1,118 +1,29 @@
 -- Lists of output values, and the first row of each.
-use Rattle.std.proofs.Common.{ℕ, ◌≡◌, ◌∙◌, ◌+◌, ◌<◌, ◌++◌, ◌&&◌, ◌||◌, Bool, true, false, not, List, [], ◌∷◌, length, map, take, get_or, refl, sym, ap, subst, append-nil, if◌then◌else◌}
-use Rattle.std.specs.Bool.{Decides}
-use Rattle.std.specs.declared.alloc.Global.{Global}
-use Rattle.std.specs.declared.vec.Vec.{Vec}
-use Rattle.std.specs.List.{filter, list_any}
-use Rattle.std.specs.Cmp.Lexicographic.{pointwise, bytes_decides}
-use Rattle.std.proofs.lemmas.Bool.Decides.{Decides-int_eq, same_from_decides}
+use Rattle.std.proofs.Common.{ℕ, ◌≡◌, ◌∙◌, ◌+◌, ◌<◌, ◌++◌, ◌||◌, Bool, true, false, not, List, [], ◌∷◌, length, map, take, get_or, refl, sym, ap, subst, append-nil, if◌then◌else◌}
+use Rattle.std.specs.List.{filter}
 use Rattle.std.proofs.lemmas.List.{map-append, take_more}
 use Rattle.std.proofs.lemmas.List.Elements.{filter-append}
-use Rattle.std.proofs.lemmas.List.Folds.{list_any-append}
 use Rattle.rs_value.specs.declared.value.Value.{Value}
-use Rattle.rs_value.specs.declared.value.Value.TheVariants.{Int, Text}
-use Rattle.rs_value.specs.contracts.value.ValuePartialEq.TheImpl as value
 use Rattle.rs_rank.specs.declared.answer.Answer.{Answer}
-use Rattle.rs_query.specs.Answers.{firsts, occurs_in, others, same_value, same_values}
-use Rattle.rs_plain.specs.Lists.{has_list, with_list}
-
--- the values of a list
-abbrev pub items_in : Vec Value Global → List Value
-items_in list = list.items
-
--- equal by the test is equal
-same_value-decides : (u v : Value) → Decides (same_value u v) (u ≡ v)
-same_value-decides (Int n) (Int m) = (λ e. ap Int ((Decides-int_eq n m).0 e), λ e. (Decides-int_eq n m).1 (cc))
-same_value-decides (Text t) (Text u) = (λ e. ap Text ((bytes_decides t u).0 e), λ e. (bytes_decides t u).1 (cc))
-same_value-decides (Int n) (Text u) = (λ e. absurd (cc), λ e. absurd (cc))
-same_value-decides (Text t) (Int m) = (λ e. absurd (cc), λ e. absurd (cc))
-
-both : (a b : Bool) → (a && b) ≡ true → (a ≡ true) × (b ≡ true)
-both true b e = (refl, e)
-both false b e = cc
-
-pub same_values-decides : (us vs : List Value) → Decides (same_values us vs) (us ≡ vs)
-same_values-decides [] [] = (λ e. refl, λ e. refl)
-same_values-decides [] (v ∷ vs) = (λ e. absurd (cc), λ e. absurd (cc))
-same_values-decides (u ∷ us) [] = (λ e. absurd (cc), λ e. absurd (cc))
-same_values-decides (u ∷ us) (v ∷ vs) = (
-  λ e. (let parts = both (same_value u v) (same_values us vs) e in
-      let first : u ≡ v = (same_value-decides u v).0 parts.0 in
-      let rest : us ≡ vs = (same_values-decides us vs).0 parts.1 in
-      cc),
-  λ e. (let first : u ≡ v = cc in let rest : us ≡ vs = cc in
-      ap (λ b. b && same_values us vs) ((same_value-decides u v).1 first) ∙ (same_values-decides us vs).1 rest),
-)
-
--- the order of two lists doesn't matter
-same_values-sym : (us vs : List Value) → same_values us vs ≡ same_values vs us
-same_values-sym us vs = same_from_decides (same_values us vs) (same_values vs us) (same_values-decides us vs)
-    (λ e. sym ((same_values-decides vs us).0 e), λ e. (same_values-decides vs us).1 (sym e))
-
--- equal by `==` is equal by the test
-eq-same_value : (u v : Value) → value.ghosts.eq u v ≡ same_value u v
-eq-same_value (Int n) (Int m) = refl
-eq-same_value (Text t) (Text u) = refl
-eq-same_value (Int n) (Text u) = refl
-eq-same_value (Text t) (Int m) = refl
-
-pointwise-same_values : (us vs : List Value) → pointwise value.ghosts.eq us vs ≡ same_values us vs
-pointwise-same_values [] [] = refl
-pointwise-same_values [] (v ∷ vs) = refl
-pointwise-same_values (u ∷ us) [] = refl
-pointwise-same_values (u ∷ us) (v ∷ vs) = ap (λ b. b && pointwise value.ghosts.eq us vs) (eq-same_value u v) ∙ ap (λ b. same_value u v && b) (pointwise-same_values us vs)
-
--- a test of the keys of a set of lists is one of the lists
-pub has_list-keys : {K : Type 0} (items : K → List Value) (keys : List K) (values : List Value)
-    → list_any (λ k. pointwise value.ghosts.eq values (items k)) keys ≡ has_list values (map items keys)
-has_list-keys items [] values = refl
-has_list-keys items (key ∷ keys) values =
-    ap (λ b. b || list_any (λ k. pointwise value.ghosts.eq values (items k)) keys) (pointwise-same_values values (items key) ∙ same_values-sym values (items key))
-    ∙ ap (λ b. same_values (items key) values || b) (has_list-keys items keys values)
+use Rattle.rs_query.specs.Answers.{firsts, occurs_in, others}
+use Rattle.rs_outputs.specs.Seen.{has_list, same_values, with_list}
+use Rattle.rs_outputs.proofs.FirstFacts.{has_list-more}
+use Rattle.rs_outputs.proofs.SameFacts.{same_values-same, same_values-sym}
 
 -- a test of the lists of some rows is one of the rows
 pub has_list-rows : (rows : List Answer) (row : Answer) → has_list row.values (map (λ (other : Answer). other.values) rows) ≡ occurs_in rows row
 has_list-rows [] row = refl
-has_list-rows (first ∷ rows) row = ap (λ b. same_values first.values row.values || b) (has_list-rows rows row)
-
--- one more list in a set of lists
-pub with_list-key : {K : Type 0} (items : K → List Value) (keys new : List K) (key : K) (values : List Value) (lists : List (List Value))
-    → new ≡ (if list_any (λ k. pointwise value.ghosts.eq (items key) (items k)) keys then keys else keys ++ key ∷ []) → map items keys ≡ lists → items key ≡ values
-    → has_list values lists ≡ false → map items new ≡ with_list values lists
-with_list-key items keys new key values lists is old same absent =
-    let none : list_any (λ k. pointwise value.ghosts.eq (items key) (items k)) keys ≡ false = has_list-keys items keys (items key) ∙ ap (λ v. has_list v (map items keys)) same ∙ ap (has_list values) old ∙ absent in
-    ap (map items) (is ∙ ap (λ b. if b then keys else keys ++ key ∷ []) none) ∙ map-append items keys (key ∷ [])
-    ∙ ap (λ l. l ++ items key ∷ []) old ∙ ap (λ v. lists ++ v ∷ []) same ∙ ap (λ b. if b then lists else lists ++ values ∷ []) (sym absent)
-
-or_false : (a : Bool) → (a || false) ≡ a
-or_false true = refl
-or_false false = refl
-
-or_true : (a : Bool) → (a || true) ≡ true
-or_true true = refl
-or_true false = refl
-
--- one more list
-pub has_list-with : (lists : List (List Value)) (list values : List Value) → has_list values (with_list list lists) ≡ (has_list values lists || same_values list values)
-has_list-with lists list values = go (has_list list lists) (same_values list values) refl refl where
-  go : (h s : Bool) → has_list list lists ≡ h → same_values list values ≡ s
-      → has_list values (if h then lists else lists ++ list ∷ []) ≡ (has_list values lists || s)
-  go true true has same =
-      let is : list ≡ values = (same_values-decides list values).0 same in
-      let there : has_list values lists ≡ true = ap (λ v. has_list v lists) (sym is) ∙ has in
-      there ∙ sym (or_true (has_list values lists))
-  go true false has same = sym (or_false (has_list values lists))
-  go false s has same =
-      list_any-append (λ other. same_values other values) lists (list ∷ []) ∙ ap (λ b. has_list values lists || b) (or_false (same_values list values) ∙ same)
+has_list-rows (first ∷ rows) row =
+    ap (λ b. b || has_list row.values (map (λ (other : Answer). other.values) rows)) (same_values-sym row.values first.values)
+    ∙ ap (λ b. same_values first.values row.values || b) (has_list-rows rows row)
 
 -- what one more row has
-pub has_list-more : (rows : List Answer) (i : ℕ) (row : Answer) (values : List Value) → i < length rows → row ≡ get_or rows i row
-    → has_list values (map (λ (other : Answer). other.values) (take (i + 1) rows)) ≡ (has_list values (map (λ (other : Answer). other.values) (take i rows)) || same_values row.values values)
-has_list-more rows i row values within is =
+pub has_list-rows_more : (rows : List Answer) (i : ℕ) (row : Answer) (values : List Value) → i < length rows → row ≡ get_or rows i row
+    → has_list values (map (λ (other : Answer). other.values) (take (i + 1) rows)) ≡ (has_list values (map (λ (other : Answer). other.values) (take i rows)) || same_values values row.values)
+has_list-rows_more rows i row values within is =
     ap (λ some. has_list values (map (λ (other : Answer). other.values) some)) (take_more rows i row within ∙ ap (λ last. take i rows ++ last ∷ []) (sym is))
     ∙ ap (has_list values) (map-append (λ (other : Answer). other.values) (take i rows) (row ∷ []))
-    ∙ list_any-append (λ other. same_values other values) (map (λ (other : Answer). other.values) (take i rows)) (row.values ∷ [])
-    ∙ ap (λ b. has_list values (map (λ (other : Answer). other.values) (take i rows)) || b) (or_false (same_values row.values values))
+    ∙ has_list-more values row.values (map (λ (other : Answer). other.values) (take i rows))
 
 -- dropping rows of other values changes nothing
 occurs_in-others : (first : Answer) (rows : List Answer) (row : Answer) → same_values first.values row.values ≡ false → occurs_in (others first rows) row ≡ occurs_in rows row
@@ -121,7 +32,7 @@ occurs_in-others first (next ∷ rows) row other = go (same_values first.values 
   go : (b : Bool) → same_values first.values next.values ≡ b → occurs_in (others first rows) row ≡ occurs_in rows row
       → occurs_in (if not b then next ∷ others first rows else others first rows) row ≡ (same_values next.values row.values || occurs_in rows row)
   go true same behind =
-      let is : first.values ≡ next.values = (same_values-decides first.values next.values).0 same in
+      let is : first.values ≡ next.values = same_values-same first.values next.values same in
       let differs : same_values next.values row.values ≡ false = ap (λ v. same_values v row.values) (sym is) ∙ other in
       behind ∙ ap (λ b. b || occurs_in rows row) (sym differs)
   go false same behind = ap (λ b. same_values next.values row.values || b) behind

@@ -6,15 +6,18 @@ use Rattle.rs_expr.specs.InOrder.{Inquiry}
 use Rattle.rs_expr.specs.Scoring.{Answering}
 use Rattle.rs_catalog.specs.Catalogue.{Catalogue}
 use Rattle.rs_query.specs.Answers.{answer_of}
+use Rattle.rs_query.specs.Asking.{faults_by}
 use Rattle.rs_query.specs.Combinations.{combinations}
 use Rattle.rs_query.specs.Questions.{Faults, Question, asking, question_of}
 use Rattle.rs_query.specs.Tables.{all_entries}
 use Rattle.rs_query.specs.Views.{View}
+use Rattle.rs_query.specs.declared.ask.AskFault.{AskFault}
+use Rattle.rs_query.specs.declared.ask.AskFault.TheVariants as asked
 use Rattle.rs_query.specs.declared.block.Block.{Block}
 use Rattle.rs_query.specs.declared.query.Query.{Query}
 use Rattle.rs_query.specs.declared.query.Query.TheVariants.{One, Set}
 use Rattle.rs_plain.specs.declared.fault.PlainFault.{PlainFault}
-use Rattle.rs_plain.specs.declared.fault.PlainFault.TheVariants.{BadScore, Probe}
+use Rattle.rs_plain.specs.declared.fault.PlainFault.TheVariants.{BadScore, Memory, Probe}
 
 -- the questions for these rows: the terms in order
 abbrev pub row_questions : ℕ → Block → List ℕ → List Question
@@ -32,11 +35,13 @@ questions_of catalogue (Set op left right limit) view = block_questions catalogu
 
 -- what is told of a question that ends all: where its call failed, the predicate; where its number is no score, the predicate, the
 -- rows of the term's entries, the number, and the greatest score
+abbrev pub plain_fault : AskFault → PlainFault
+plain_fault (asked.BadScore predicate ids got max) = BadScore predicate ids got max
+plain_fault (asked.Probe predicate) = Probe predicate
+plain_fault asked.Memory = Memory
+
 abbrev pub plain_faults : Faults PlainFault
-plain_faults = record {
-  failed = λ predicate. Probe predicate;
-  bad = λ predicate ids got max. BadScore predicate ids got max;
-}
+plain_faults = faults_by plain_fault
 
 -- all questions of a query are asked in order, up to the first bad number; where there is none, it has its answer
 abbrev pub evaluation_of : Answering → Catalogue → Query → View → Inquiry (List Answer) PlainFault

@@ -2,7 +2,7 @@ ghost use Rattle.std.specs.Prelude.{◌≡◌, IfErr};
 ghost use Rattle.rs_expr.specs.InOrder.{Inquires};
 ghost use Rattle.rs_plain.specs.Plain.{evaluation_of};
 ghost use Rattle.rs_plain.specs.Results.{NamesCalled, as_list};
-ghost use Rattle.rs_query.specs.Answers.{cut, limit_of};
+ghost use Rattle.rs_query.specs.Answers.{cut};
 ghost use Rattle.rs_query.specs.Views.{all_rows};
 ghost use Rattle.rs_query.specs.WellFormed.{IsQuery};
 
@@ -10,7 +10,7 @@ use crate::fault::PlainFault;
 use crate::rows::query_rows;
 use rs_catalog::Catalog;
 use rs_expr::Scorer;
-use rs_query::Query;
+use rs_query::{Query, limit_of};
 use rs_rank::{Answer, sort_stably};
 use std::alloc::Global;
 
@@ -44,15 +44,5 @@ fn cut(rows: &mut Vec<Answer>, limit: Option<u32>)
 {
     if let Some(limit) = limit {
         rows.truncate(limit as usize);
-    }
-}
-
-/// How many rows the answer has at most, where the query says so.
-fn limit_of(query: &Query) -> Option<u32>
-    ensures { result ≡ limit_of query.now }
-{
-    match query {
-        Query::One(_, limit) => *limit,
-        Query::Set(_, _, _, limit) => *limit,
     }
 }

@@ -1,3 +1,4 @@
+use rs_query::AskFault;
 use rs_rank::Ids;
 use rs_value::Memory;
 use std::alloc::AllocFailed;
@@ -39,5 +40,30 @@ impl<T: Drop> From<AllocFailed<T>> for PlainFault {
 
     fn from(_: AllocFailed<T>) -> PlainFault {
         PlainFault::Memory
+    }
+}
+
+impl From<AskFault> for PlainFault {
+    ghost use Rattle.std.specs.Prelude.{◌≡◌};
+    ghost use Rattle.rs_plain.specs.Plain.{plain_fault};
+
+    ghost from_gives = { λ asked fault. fault ≡ plain_fault asked };
+
+    fn from(fault: AskFault) -> PlainFault {
+        match fault {
+            AskFault::BadScore {
+                predicate,
+                ids,
+                got,
+                max,
+            } => PlainFault::BadScore {
+                predicate,
+                ids,
+                got,
+                max,
+            },
+            AskFault::Probe { predicate } => PlainFault::Probe { predicate },
+            AskFault::Memory => PlainFault::Memory,
+        }
     }
 }

@@ -2,10 +2,8 @@
 #![tactic(auto)]
 
 mod answer;
-mod ask;
 mod fault;
 mod laws;
-mod outputs;
 mod rows;
 mod sets;
 

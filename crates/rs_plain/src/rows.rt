@@ -10,14 +10,13 @@ ghost use Rattle.rs_query.specs.WellFormed.{IsBlock, IsQuery};
 ghost use Rattle.rs_plain.specs.Plain.{block_questions, plain_faults, questions_of, row_questions};
 ghost use Rattle.rs_plain.specs.Results.{as_list};
 
-use crate::ask::ask_term;
 use crate::fault::PlainFault;
 use crate::sets::{first_rows, set_rows};
 use rs_catalog::Catalog;
 use rs_expr::Scorer;
-use rs_query::{Block, Query};
+use rs_query::{Block, KeptList, Query};
 use rs_rank::{Answer, Ids};
-use rs_value::{List, Value};
+use rs_value::List;
 use std::alloc::Global;
 
 /// The rows of a query, each with its score, before they are put into order.
@@ -99,7 +98,7 @@ fn scored_rows<S: Scorer>(
         (as_list result) (S.state scorer.old) (S.state scorer.new) }
 {
     let mut answers = Vec::new(alloc);
-    let mut args = Vec::new(alloc);
+    let mut args = KeptList::new(alloc);
     for rows in combinations {
         let ids = Ids {
             block: number,
@@ -118,7 +117,7 @@ fn row_for<S: Scorer>(
     catalog: &Catalog,
     block: &Block,
     ids: &Ids,
-    args: &mut Vec<Value>,
+    args: &mut KeptList,
     scorer: &mut S,
 ) -> Result<Answer, PlainFault>
     requires block { IsBlock catalog.now block.now }
@@ -143,7 +142,7 @@ fn score_for<S: Scorer>(
     catalog: &Catalog,
     block: &Block,
     ids: &Ids,
-    args: &mut Vec<Value>,
+    args: &mut KeptList,
     scorer: &mut S,
 ) -> Result<u64, PlainFault>
     requires block { IsBlock catalog.now block.now }
@@ -156,7 +155,7 @@ fn score_for<S: Scorer>(
 {
     let mut score = 0;
     for (index, term) in block.terms.items().iter().enumerate() {
-        let worth = ask_term(catalog, block, index as u8 + 1, ids, args, scorer)?;
+        let worth = block.ask(catalog, index as u8 + 1, ids, args, scorer)?;
         score += u64::from(term.weight) * u64::from(worth);
     }
     Ok(score)

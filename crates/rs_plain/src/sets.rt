@@ -2,9 +2,9 @@ ghost use Rattle.std.specs.Prelude.{◌≡◌, ◌++◌, List, IfOk, map, not};
 ghost use Rattle.std.specs.List.{filter};
 ghost use Rattle.rs_query.specs.Answers.{firsts, occurs_in, set_base};
 ghost use Rattle.rs_value.specs.declared.value.Value.{Value as OutputValue};
-ghost use Rattle.rs_plain.specs.Lists.{has_list};
+ghost use Rattle.rs_outputs.specs.Seen.{has_list};
 
-use crate::outputs::Outputs;
+use rs_outputs::Outputs;
 use rs_rank::Answer;
 use rs_value::{Memory, SetOp};
 use std::alloc::Global;
@@ -33,7 +33,7 @@ pub(crate) fn first_rows(alloc: Global, rows: Vec<Answer>) -> Result<Vec<Answer>
     let mut seen = Outputs::new(alloc);
     let mut kept = Vec::new(alloc);
     for row in rows {
-        if seen.add(row.values.items())? {
+        if seen.add_copy(row.values.items())? {
             kept.push(row)?;
         }
     }
@@ -73,11 +73,11 @@ fn other_rows(alloc: Global, left: Vec<Answer>, right: &[Answer]) -> Result<Vec<
 
 /// The lists of output values of some rows.
 fn outputs_of(alloc: Global, rows: &[Answer]) -> Result<Outputs, Memory>
-    ensures { IfOk result (λ outputs. (values : List OutputValue) → has_list values outputs ≡ has_list values (map (λ row. row.values) rows.now)) }
+    ensures { IfOk result (λ outputs. (values : List OutputValue) → has_list values outputs.lists ≡ has_list values (map (λ row. row.values) rows.now)) }
 {
     let mut outputs = Outputs::new(alloc);
     for row in rows {
-        outputs.add(row.values.items())?;
+        outputs.add_copy(row.values.items())?;
     }
     Ok(outputs)
 }

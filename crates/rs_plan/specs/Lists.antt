@@ -13,11 +13,11 @@ use Rattle.rs_rank.specs.declared.row.RankRow.{RankRow}
 use Rattle.rs_rank.specs.declared.weights.Weights.{Weights}
 use Rattle.rs_expr.specs.Scoring.{Answering}
 use Rattle.rs_query.specs.Answers.{base_of, rows_of, weights_of, worths_of}
+use Rattle.rs_query.specs.Blocks.{block_in}
 use Rattle.rs_query.specs.Combinations.{combinations}
 use Rattle.rs_query.specs.Views.{View}
 use Rattle.rs_query.specs.declared.block.Block.{Block}
 use Rattle.rs_query.specs.declared.query.Query.{Query}
-use Rattle.rs_query.specs.declared.query.Query.TheVariants.{One, Set}
 use Rattle.rs_plan.specs.Trees.{Distinct, HashJoin, NestedJoin, Rank, RankScan, SeqScan, SetOperator, PlanTree, entries, terms}
 
 -- what the rows of a query are made of: the catalogue, what the scorer answers, the query, and how many rows of its tables it sees
@@ -27,11 +27,7 @@ pub record World : Type 0 where
   pub query : Query
   pub view : View
 
--- the block of this number, and the numbers of rows of its entries; a query of one block has block 1 alone
-abbrev pub block_in : Query → ℕ → Block
-block_in (One block limit) number = block
-block_in (Set op left right limit) number = if number == 1 then left else right
-
+-- the block of this number, and the numbers of rows of its entries
 abbrev pub numbered_block : World → ℕ → Block
 numbered_block w number = block_in w.query number
 

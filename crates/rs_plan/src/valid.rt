@@ -3,7 +3,6 @@
 ghost use Rattle.std.specs.Prelude.{◌≡◌, ◌≤◌, ◌↔◌, ◌==◌, ◌&&◌, IsTrue, length};
 ghost use Rattle.rs_catalog.specs.Indexes.{index_of};
 ghost use Rattle.rs_rank.specs.Masks.{has_number, mask_of};
-ghost use Rattle.rs_query.specs.Meaning.{is_inside};
 ghost use Rattle.rs_query.specs.WellFormed.{IsBlock, IsQuery};
 ghost use Rattle.rs_plan.specs.Deciding.{are_joined, has_no_distinct, is_complete, is_distinct, is_found, is_hashed, is_part, is_plan, is_rank, is_rank_scan, is_set_plan, joins_sides};
 ghost use Rattle.rs_plan.specs.Numbers.{HasNumbers, IsUpTo};
@@ -15,7 +14,7 @@ ghost use Rattle.rs_plan.specs.Trees.{entries, terms};
 use crate::plan::Plan;
 use crate::signature::Signature;
 use rs_catalog::Catalog;
-use rs_query::{Block, Query, Term};
+use rs_query::{Block, Query, Term, is_inside};
 use rs_rank::{has_number, mask_of};
 
 impl Plan {
@@ -252,11 +251,4 @@ fn has_entry(mask: u8, entry: u8) -> bool
 {
     let place = entry.saturating_sub(1);
     place < 8 && (mask >> place) % 2 == 1
-}
-
-/// Whether all entries of a mask are in another one.
-fn is_inside(part: u8, whole: u8) -> bool
-    ensures { result ≡ is_inside part whole }
-{
-    part & whole == part
 }

@@ -21,7 +21,7 @@ use Rattle.rs_query.specs.Asking.{asking_worth, worth_for}
 use Rattle.rs_query.specs.Questions.{Faults, Question, got_for, max_for, question_of, request_for}
 
 -- a score is the worth
-clamped-score : (max : ℕ) (got : ℤ) → is_score max got ≡ true → as_score got ≡ clamped max got
+pub clamped-score : (max : ℕ) (got : ℤ) → is_score max got ≡ true → as_score got ≡ clamped max got
 clamped-score max (pos n) score = omega (arith, leb-true n max score)
 clamped-score max (negsuc n) score = cc
 
@@ -42,7 +42,7 @@ module _ {F : Type 0} (faults : Faults F) (memory : F) where
     inquiry answer = asking_worth faults answer catalogue block ids term
 
     -- it is one request
-    inquiry-is : (answer : Answering) → inquiry answer ≡ one (request_for faults catalogue question) (worth answer)
+    pub inquiry-is : (answer : Answering) → inquiry answer ≡ one (request_for faults catalogue question) (worth answer)
     inquiry-is answer = go (is_score (max_for catalogue question) (got_for answer catalogue question)) refl where
       go : (b : Bool) → is_score (max_for catalogue question) (got_for answer catalogue question) ≡ b → inquiry answer ≡ one (request_for faults catalogue question) (worth answer)
       go true score = rw score (ap (λ w. one (request_for faults catalogue question) (Ok w)) (sym (clamped-score (max_for catalogue question) (got_for answer catalogue question) score)))

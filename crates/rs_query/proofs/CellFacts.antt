@@ -11,7 +11,6 @@ use Rattle.rs_value.specs.declared.value.Value.{Value}
 use Rattle.rs_value.specs.declared.value.Value.TheVariants as value
 use Rattle.rs_table.specs.Column.{Column}
 use Rattle.rs_table.specs.Relation.{Relation, cell_at}
-use Rattle.rs_rank.specs.Masks.{has_number}
 use Rattle.rs_expr.proofs.UsesFacts.{condition_uses_more}
 use Rattle.rs_expr.specs.Formulas.{Condition}
 use Rattle.rs_expr.specs.Uses.{condition_uses, has_argument, is_kind}
@@ -19,7 +18,7 @@ use Rattle.rs_catalog.specs.Catalogue.{Catalogue, NamedTable}
 use Rattle.rs_query.proofs.ListFacts.{take-slice_get}
 use Rattle.rs_query.specs.declared.block.Block.{Block}
 use Rattle.rs_query.specs.Meaning.{column_value}
-use Rattle.rs_query.specs.Tables.{HasRows, row_number, size_of, entry_table}
+use Rattle.rs_query.specs.Tables.{HasRow, row_number, size_of, entry_table}
 use Rattle.rs_query.specs.WellFormed.{has_kind, column_kind}
 
 -- what a function made of an option
@@ -55,11 +54,9 @@ module _ (catalogue : Catalogue) (block : Block) where
       slice_get_within table.schema column.1 there.0 there.1
 
   -- the row of the entry is one of the table
-  pub row-within : (mask : ℕ) (rows : List ℕ) (column : ℕ × ℕ) (table : Relation) → IsOf column table → HasRows catalogue block mask rows
-      → 1 ≤ column.0 → column.0 ≤ length block.from → has_number mask column.0 ≡ true
+  pub row-within : (rows : List ℕ) (column : ℕ × ℕ) (table : Relation) → IsOf column table → HasRow catalogue block rows column.0
       → (1 ≤ get_or rows (column.0 - 1) 0) × (get_or rows (column.0 - 1) 0 ≤ length table.rows)
-  row-within mask rows column table is has least most number =
-      let here = has column.0 least most number in
+  row-within rows column table is has =
       let same : row_number rows column.0 ≡ get_or rows (column.0 - 1) 0 = unwrap_or-slice_get rows (column.0 - 1) 0 in
       let size = is.size in
       (omega arith, omega arith)

@@ -18,7 +18,7 @@ use Rattle.rs_query.specs.declared.block.Block.{Block}
 use Rattle.rs_query.specs.declared.term.Term.{Term}
 use Rattle.rs_query.specs.Conjuncts.{ConjunctDef}
 use Rattle.rs_query.specs.Meaning.{is_inside}
-use Rattle.rs_query.specs.Tables.{all_entries}
+use Rattle.rs_query.specs.Tables.{HasRow, HasRows, all_entries}
 use Rattle.rs_query.specs.WellFormed.{AreArgs, IsBlock, IsColumn, IsConjunct, IsTerm, argument_columns, entries_mask}
 
 -- two sets are inside one where their union is
@@ -67,6 +67,11 @@ has_number-inside number mask e =
     let one = bit_at-pow_same (number - 1) in
     let most = bit_at-lt mask (number - 1) in
     eq-eqb (bit_at mask (number - 1)) 1 (omega arith)
+
+-- the entry of a column inside a mask has a row, where each in the mask has one
+pub row-inside : (catalogue : Catalogue) (block : Block) (mask : ℕ) (rows : List ℕ) (column : ℕ × ℕ) → HasRows catalogue block mask rows → IsColumn catalogue block column
+    → is_inside (mask_of column.0) mask ≡ true → HasRow catalogue block rows column.0
+row-inside catalogue block mask rows column has is inside = has column.0 is.0 is.1 (has_number-inside column.0 mask inside)
 
 -- an entry of a block is inside all its entries
 entry-inside : (number count : ℕ) → 1 ≤ number → number ≤ count → is_inside (mask_of number) (2 ^ count - 1) ≡ true

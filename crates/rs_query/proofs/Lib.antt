@@ -6,12 +6,14 @@ pub mod EntryFacts
 pub mod EquatedFacts
 pub mod ExtendFacts
 pub mod HoldFacts
+pub mod IndexTermFacts
 pub mod ListFacts
 pub mod LocalFacts
 pub mod QuestionFacts
 pub mod RiseFacts
 pub mod ScoreFacts
 pub mod ThroughFacts
+pub mod ToldFacts
 pub mod WeightFacts
 pub mod WithinFacts
 pub mod WorkedCombinations

@@ -16,7 +16,8 @@ use Rattle.rs_expr.specs.Scoring.{Answering}
 use Rattle.rs_catalog.specs.Catalogue.{Catalogue}
 use Rattle.rs_value.specs.declared.set_op.SetOp.{SetOp}
 use Rattle.rs_value.specs.declared.set_op.SetOp.TheVariants.{UnionAll, Union, Intersect, Except}
-use Rattle.rs_query.specs.Answers.{base_of, distinct_if, firsts, occurs_in, answer_row, rows_of, same_values, set_base}
+use Rattle.rs_query.specs.Answers.{base_of, distinct_if, firsts, occurs_in, answer_row, rows_of, set_base}
+use Rattle.rs_outputs.specs.Seen.{same_values}
 use Rattle.rs_query.specs.Combinations.{combinations}
 use Rattle.rs_query.specs.Tables.{all_entries}
 use Rattle.rs_query.specs.Views.{View}

@@ -1,10 +1,6 @@
 -- The answer of a query: every combination is scored, duplicates are dropped where the query says so, and the rest is put into the stable order.
-use Rattle.std.specs.Prelude.{ℕ, zero, suc, ℤ, pos, negsuc, min, not, ◌+◌, ◌-◌, ◌*◌, ◌^◌, ◌&&◌, Bool, true, false, List, [], ◌∷◌, ◌++◌, length, map, take, Option, Some, None, slice_get, unwrap_or}
+use Rattle.std.specs.Prelude.{ℕ, zero, suc, ℤ, pos, negsuc, min, not, ◌+◌, ◌-◌, ◌*◌, ◌^◌, Bool, true, false, List, [], ◌∷◌, ◌++◌, length, map, take, Option, Some, None, slice_get, unwrap_or}
 use Rattle.std.specs.List.{filter, list_any}
-use Rattle.std.specs.Ordering.{int_eq}
-use Rattle.std.specs.Str.{bytes_eq}
-use Rattle.rs_value.specs.declared.value.Value.{Value}
-use Rattle.rs_value.specs.declared.value.Value.TheVariants as value
 use Rattle.rs_rank.specs.Stable.{stable}
 use Rattle.rs_rank.specs.declared.answer.Answer.{Answer}
 use Rattle.rs_rank.specs.declared.weights.Weights.{Weights}
@@ -12,6 +8,7 @@ use Rattle.rs_expr.specs.Formulas.{Constant}
 use Rattle.rs_expr.specs.Predicates.{PredicateDef}
 use Rattle.rs_expr.specs.Scoring.{Answering}
 use Rattle.rs_catalog.specs.Catalogue.{Catalogue}
+use Rattle.rs_outputs.specs.Seen.{same_values}
 use Rattle.rs_value.specs.declared.set_op.SetOp.{SetOp}
 use Rattle.rs_value.specs.declared.set_op.SetOp.TheVariants.{UnionAll, Union, Intersect, Except}
 use Rattle.rs_query.specs.declared.block.Block.{Block}
@@ -53,19 +50,6 @@ answer_row answer catalogue block number rows = record {
   score = score_of answer catalogue block rows block.terms;
   values = outputs_of catalogue block rows;
 }
-
--- equal values
-abbrev pub same_value : Value → Value → Bool
-same_value (value.Int n) (value.Int m) = int_eq n m
-same_value (value.Text t) (value.Text u) = bytes_eq t u
-same_value (value.Int n) (value.Text u) = false
-same_value (value.Text t) (value.Int m) = false
-
-abbrev pub same_values : List Value → List Value → Bool
-same_values [] [] = true
-same_values [] (v ∷ vs) = false
-same_values (u ∷ us) [] = false
-same_values (u ∷ us) (v ∷ vs) = same_value u v && same_values us vs
 
 -- whether a row's output values are those of one of these rows
 abbrev pub occurs_in : List Answer → Answer → Bool

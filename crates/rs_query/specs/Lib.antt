@@ -1,5 +1,6 @@
 pub mod Answers
 pub mod Asking
+pub mod Blocks
 pub mod Choices
 pub mod Combinations
 pub mod Conjuncts

@@ -27,11 +27,14 @@ all_entries block = 2 ^ length block.from - 1
 abbrev pub row_number : List ℕ → ℕ → ℕ
 row_number rows entry = unwrap_or (slice_get rows (entry - 1)) 0
 
--- each entry in a mask has a row of its table, counted from 1
+-- an entry has a row of its table, counted from 1
+abbrev pub HasRow : Catalogue → Block → List ℕ → ℕ → Type 0
+HasRow catalogue block rows entry = (1 ≤ row_number rows entry) × (row_number rows entry ≤ size_of catalogue block entry)
+
+-- each entry in a mask has one
 abbrev pub HasRows : Catalogue → Block → ℕ → List ℕ → Type 0
 HasRows catalogue block mask rows =
-    (entry : ℕ) → 1 ≤ entry → entry ≤ length block.from → has_number mask entry ≡ true
-    → (1 ≤ row_number rows entry) × (row_number rows entry ≤ size_of catalogue block entry)
+    (entry : ℕ) → 1 ≤ entry → entry ≤ length block.from → has_number mask entry ≡ true → HasRow catalogue block rows entry
 
 -- the column of an entry, counted from 0
 abbrev pub column_of : Catalogue → Block → ℕ × ℕ → Option Column

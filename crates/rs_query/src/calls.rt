@@ -5,10 +5,9 @@ ghost use Rattle.std.specs.List.{AllByRecursion};
 ghost use Rattle.rs_expr.specs.Predicates.{PredicateDef};
 ghost use Rattle.rs_expr.specs.Uses.{has_argument};
 ghost use Rattle.rs_query.specs.Meaning.{AreInside, all_hold, argument_value, argument_values, column_value, conjunct_holds, is_inside, outputs_of};
-ghost use Rattle.rs_query.specs.Tables.{HasRows, entry_table};
+ghost use Rattle.rs_query.specs.Tables.{HasRow, HasRows, entry_table};
 ghost use Rattle.rs_query.specs.WellFormed.{AreArgs, IsArg, IsBlock, IsColumn, IsConjunct, argument_columns, entries_mask, has_kind, column_kind};
 ghost use Rattle.rs_query.specs.declared.term.Term.{Term as BoundTerm};
-ghost use Rattle.rs_rank.specs.Masks.{mask_of};
 ghost use Rattle.rs_value.specs.Value.{all_fit, fits};
 ghost use Rattle.rs_value.specs.declared.kind.Kind.{Kind as ValueKind};
 ghost use Rattle.rs_value.specs.declared.value.Value.TheVariants as value;
@@ -119,7 +118,7 @@ impl Block {
         ensures { IfOk result (λ holds. holds ≡ conjunct_holds catalog.now self.now ids.now.rows conjunct.now) }
     {
         if let Some((left, right)) = conjunct.equality() {
-            return Ok(self.cell(catalog, left, ids) == self.cell(catalog, right, ids));
+            return Ok(self.cell(catalog, left, &ids.rows) == self.cell(catalog, right, &ids.rows));
         }
         self.cells_of(catalog, conjunct.columns(), ids, cells)?;
         Ok(conjunct.condition().test(cells))
@@ -143,7 +142,7 @@ impl Block {
     {
         cells.clear();
         for column in columns {
-            push_copy(cells, self.cell(catalog, *column, ids))?;
+            self.push_cell(catalog, *column, &ids.rows, cells)?;
         }
         Ok(())
     }
@@ -188,23 +187,41 @@ impl Block {
     {
         match arg {
             BoundArg::Column(entry, column) => {
-                push_copy(values, self.cell(catalog, (*entry, *column), ids))
+                self.push_cell(catalog, (*entry, *column), &ids.rows, values)
             }
             BoundArg::Int(number) => push_number(values, *number),
             BoundArg::Text(text) => push_text(values, text),
         }
     }
 
-    /// The cell of a column for these rows, of the column's kind.
-    fn cell<'a>(&self, catalog: &'a Catalog, column: (u8, u8), ids: &Ids) -> &'a Value
+    /// Appends a copy of the cell of a column for these rows, which is of the column's kind. A number is put straight into the
+    /// list, and takes no memory where the list has room.
+    pub fn push_cell(
+        &self,
+        catalog: &Catalog,
+        column: (u8, u8),
+        rows: &[u32; 6],
+        values: &mut Vec<Value>,
+    ) -> Result<(), Memory>
         requires block { IsBlock catalog.now self.now }
         requires column { IsColumn catalog.now self.now column }
-        requires inside { is_inside (mask_of column.0) ids.now.mask ≡ true }
-        requires rows { HasRows catalog.now self.now ids.now.mask ids.now.rows }
-        ensures value { result.now ≡ column_value catalog.now self.now ids.now.rows column }
+        requires row { HasRow catalog.now self.now rows.now column.0 }
+        ensures value { OnOk result (values.new.items ≡ values.old.items ++ column_value catalog.now self.now rows.now column ∷ []) }
+        ensures fit { (kind : ValueKind) → column_kind catalog.now self.now column ≡ Some kind
+            → fits kind (column_value catalog.now self.now rows.now column) ≡ true }
+    {
+        push_copy(values, self.cell(catalog, column, rows))
+    }
+
+    /// The cell of a column for these rows, of the column's kind.
+    fn cell<'a>(&self, catalog: &'a Catalog, column: (u8, u8), rows: &[u32; 6]) -> &'a Value
+        requires block { IsBlock catalog.now self.now }
+        requires column { IsColumn catalog.now self.now column }
+        requires row { HasRow catalog.now self.now rows.now column.0 }
+        ensures value { result.now ≡ column_value catalog.now self.now rows.now column }
         ensures fit { (kind : ValueKind) → column_kind catalog.now self.now column ≡ Some kind → fits kind result.now ≡ true }
     {
-        let row = ids.rows[column.0 as usize - 1];
+        let row = rows[column.0 as usize - 1];
         self.table(catalog, column.0).cell(row, column.1)
     }
 

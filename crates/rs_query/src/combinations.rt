@@ -2,10 +2,11 @@ ghost use Rattle.std.specs.Prelude.{◌≡◌, ◌<◌, ◌≤◌, ◌+◌, ◌-
 ghost use Rattle.std.specs.List.{AllByRecursion};
 ghost use Rattle.rs_query.specs.Combinations.{all_combinations, satisfies};
 ghost use Rattle.rs_query.specs.Extending.{IsPartialCombination, combinations_from};
-ghost use Rattle.rs_query.specs.Tables.{HasRows, all_entries, size_of};
+ghost use Rattle.rs_query.specs.Tables.{HasRows, all_entries};
 ghost use Rattle.rs_query.specs.WellFormed.{IsBlock};
 
 use crate::block::Block;
+use crate::sizes::size_of;
 use rs_catalog::Catalog;
 use rs_rank::Ids;
 use rs_value::Memory;
@@ -45,7 +46,7 @@ impl Block {
             found.push(rows)?;
             return Ok(());
         }
-        for row in 0..self.rows_at(catalog, chosen) {
+        for row in 0..size_of(catalog, self, chosen + 1) {
             let longer = with_row(rows, chosen, row + 1);
             self.extend(alloc, catalog, chosen + 1, longer, found)?;
         }
@@ -71,16 +72,6 @@ impl Block {
             rows,
         };
         self.holds(alloc, catalog, self.within(mask), &ids)
-    }
-
-    /// The number of rows of an entry, counted from 0.
-    fn rows_at(&self, catalog: &Catalog, place: u8) -> u32
-        requires block { IsBlock catalog.now self.now }
-        requires within { place < length self.now.from }
-        ensures { result ≡ size_of catalog.now self.now (place + 1) }
-    {
-        let (table, _) = &self.from.items()[place as usize];
-        catalog.table(*table).len()
     }
 }
 

@@ -1,23 +1,30 @@
 //! Bound queries: what their parts stand for among the tables of a catalogue, and what their answers are.
 #![tactic(auto)]
 
+mod ask;
 mod block;
 mod calls;
 mod combinations;
 mod conjunct;
 mod inside;
+mod kept;
 mod laws;
 mod masks;
 mod query;
+mod sizes;
 mod term;
 mod weights;
 
+pub use ask::AskFault;
 pub use block::Block;
 pub use conjunct::Conjunct;
 pub use inside::parts_are_inside;
+pub use kept::KeptList;
 pub use laws::{
     combinations_are_choices_that_satisfy, combinations_climb, parts_are_local,
     rankings_are_ordered_by_key, scores_are_evaluated,
 };
-pub use query::Query;
+pub use masks::is_inside;
+pub use query::{Query, block_in, limit_of};
+pub use sizes::{size_of, sizes_of};
 pub use term::Term;

@@ -34,7 +34,7 @@ impl Block {
 }
 
 /// Whether all entries of a mask are in another one.
-fn is_inside(entries: u8, mask: u8) -> bool
+pub fn is_inside(entries: u8, mask: u8) -> bool
     ensures { result ≡ is_inside entries mask }
 {
     entries & mask == entries

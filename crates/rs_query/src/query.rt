@@ -1,3 +1,7 @@
+ghost use Rattle.std.specs.Prelude.{◌≡◌};
+ghost use Rattle.rs_query.specs.Answers.{limit_of};
+ghost use Rattle.rs_query.specs.Blocks.{block_in};
+
 use crate::block::Block;
 use rs_value::SetOp;
 
@@ -7,4 +11,24 @@ pub enum Query {
     One(Block, Option<u32>),
     /// The left block and the right one.
     Set(SetOp, Block, Block, Option<u32>),
+}
+
+/// The block of this number. A query of one block has it alone.
+pub fn block_in(query: &Query, number: u8) -> &Block
+    ensures { result.now ≡ block_in query.now number }
+{
+    match query {
+        Query::One(block, _) => block,
+        Query::Set(_, left, right, _) => { if number == 1 { left } else { right } }
+    }
+}
+
+/// How many rows the answer has at most, where the query says so.
+pub fn limit_of(query: &Query) -> Option<u32>
+    ensures { result ≡ limit_of query.now }
+{
+    match query {
+        Query::One(_, limit) => *limit,
+        Query::Set(_, _, _, limit) => *limit,
+    }
 }

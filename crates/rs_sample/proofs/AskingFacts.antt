@@ -1,24 +1,24 @@
 -- Questions that are all asked, whatever their numbers are.
-use Rattle.std.proofs.Common.{ℕ, ℤ, ◌≡◌, ◌∙◌, ◌++◌, List, [], ◌∷◌, map, refl, sym, ap, subst, inl, inr, append_assoc}
-use Rattle.std.specs.Prelude.{Some, Result, Ok, Err, slice_get}
+use Rattle.std.proofs.Common.{ℕ, ℤ, ◌≡◌, ◌∙◌, ◌++◌, Bool, true, false, List, [], ◌∷◌, map, refl, sym, ap, subst, inl, inr, append_assoc}
+use Rattle.std.specs.Prelude.{Result, Ok, Err, IsOk}
 use Rattle.std.proofs.lemmas.List.{map-append}
-use Rattle.rs_value.specs.declared.value.Value.{Value}
 use Rattle.rs_rank.specs.declared.ids.Ids.{Ids}
 use Rattle.rs_expr.specs.InOrder.{Inquires, Request, calls_of}
-use Rattle.rs_expr.specs.Predicates.{PredicateDef}
-use Rattle.rs_expr.specs.Scoring.{Answering, KeepsScorer, Made, ScorerState, call_of}
-use Rattle.rs_expr.specs.declared.scorer.ScorerFault.{ScorerFault}
-use Rattle.rs_expr.specs.declared.scorer.ScorerFault.TheVariants as call_fault
-use Rattle.rs_expr.proofs.InOrderFacts.{InquiryEnds-ok, Inquires-begun, Inquires-behind, Inquires-failed, Inquires-one, Inquires-stopped, Inquires-uncalled, behind}
-use Rattle.rs_expr.proofs.ScoringFacts.{KeepsScorer-refl, KeepsScorer-then, Made-append, Made-none, Scored}
+use Rattle.rs_expr.specs.Scores.{is_score}
+use Rattle.rs_expr.specs.Scoring.{KeepsScorer, Made, ScorerState}
+use Rattle.rs_expr.proofs.InOrderFacts.{InquiryEnds-ok, Inquires-begun, Inquires-behind, behind, one}
+use Rattle.rs_expr.proofs.ScoringFacts.{KeepsScorer-refl, KeepsScorer-then, Made-append, Made-none}
 use Rattle.rs_catalog.specs.Catalogue.{Catalogue}
-use Rattle.rs_query.specs.Answers.{clamped, predicate_at, scorer_answer, worth_of}
-use Rattle.rs_query.specs.Meaning.{argument_values}
-use Rattle.rs_query.specs.Questions.{Question, call_for, question_of, request_for}
+use Rattle.rs_query.specs.Answers.{clamped, worth_of}
+use Rattle.rs_query.specs.Asking.{ask_faults, asking_worth, worth_for}
+use Rattle.rs_query.specs.Questions.{Question, call_for, got_for, max_for, question_of, request_for}
 use Rattle.rs_query.specs.declared.block.Block.{Block}
 use Rattle.rs_query.specs.declared.term.Term.{Term}
-use Rattle.rs_query.proofs.AskFacts.{predicate_at-is}
-use Rattle.rs_sample.specs.Sampling.{asking_all, sample_faults}
+use Rattle.rs_query.specs.declared.ask.AskFault.{AskFault}
+use Rattle.rs_query.specs.declared.ask.AskFault.TheVariants as ask_fault
+use Rattle.rs_query.proofs.AskFacts.{clamped-score, inquiry-is}
+use Rattle.rs_query.proofs.ToldFacts.{Inquires-retold}
+use Rattle.rs_sample.specs.Sampling.{asking_all, sample_faults, sampled_worth}
 use Rattle.rs_sample.specs.declared.fault.SampleFault.{SampleFault}
 use Rattle.rs_sample.specs.declared.fault.SampleFault.TheVariants.{Memory, Probe}
 
@@ -102,44 +102,25 @@ module _ (catalogue : Catalogue) where
       })
       (Inquires-behind Memory (map request done) (asking_all catalogue next value) (Err fault) old middle new (Made-requests done old middle asked.made) asked.keeps inquired))
 
-  -- one question
+  -- one question, whose number is put into 0 to the greatest score
   module _ (block : Block) (ids : Ids) (term : Term) where
     abbrev asked : Question
     asked = question_of ids.block block ids.rows term
 
-    -- there was no memory before the call
-    pub Inquires-no_call : (answer : Answering) (scorer : ScorerState) → Inquires Memory (asking_all catalogue (asked ∷ []) (worth_of answer catalogue block ids.rows term)) (Err Memory) scorer scorer
-    Inquires-no_call answer scorer = Inquires-uncalled Memory (request asked) (Ok (worth_of answer catalogue block ids.rows term)) scorer
+    sampled-worth : (max : ℕ) (got : ℤ) → sampled_worth (worth_for ask_faults term ids max got) ≡ Ok (clamped max got)
+    sampled-worth max got = go (is_score max got) refl where
+      go : (b : Bool) → is_score max got ≡ b → sampled_worth (worth_for ask_faults term ids max got) ≡ Ok (clamped max got)
+      go true score = rw score (ap Ok (clamped-score max got score))
+      go false bad = rw bad refl
 
-    -- a call of this predicate with these arguments
-    module _ (old new : ScorerState) (predicate : PredicateDef) (args : List Value) (has : slice_get catalogue.predicates term.predicate ≡ Some predicate)
-        (is_args : args ≡ argument_values catalogue block ids.rows term) where
-      scored-is : (answer : Result ℤ ScorerFault) → Scored (call_of predicate args) answer old new → Scored (request asked).call answer old new
-      scored-is answer scored =
-          subst (λ call. Scored call answer old new)
-          (ap (λ p. call_of p args) (sym (predicate_at-is catalogue term.predicate predicate has)) ∙ ap (call_of (predicate_at catalogue term.predicate)) is_args) scored
+    good : (result : Result ℕ AskFault) → IsOk result → IsOk (sampled_worth result)
+    good (Ok worth) ok = refl
+    good (Err fault) ok = absurd (cc)
 
-      -- it was answered
-      pub Inquires-got : (max worth : ℕ) (got : ℤ) → max ≡ predicate.max → got ≡ old.answer predicate args → worth ≡ clamped max got → Scored (call_of predicate args) (Ok got) old new
-          → Inquires Memory (asking_all catalogue (asked ∷ []) (worth_of old.answer catalogue block ids.rows term)) (Ok worth) old new
-      Inquires-got max worth got is_max is_got is scored =
-          let at = predicate_at-is catalogue term.predicate predicate has in
-          let answered : got ≡ scorer_answer old.answer catalogue block ids.rows term =
-          is_got ∙ ap (λ p. old.answer p args) (sym at) ∙ ap (old.answer (predicate_at catalogue term.predicate)) is_args in
-          let greatest : max ≡ (predicate_at catalogue term.predicate).max = is_max ∙ ap (λ (p : PredicateDef). p.max) (sym at) in
-          let same : worth ≡ worth_of old.answer catalogue block ids.rows term =
-          is ∙ ap (clamped max) answered ∙ ap (λ m. clamped m (scorer_answer old.answer catalogue block ids.rows term)) greatest in
-          subst (λ w. Inquires Memory (asking_all catalogue (asked ∷ []) (worth_of old.answer catalogue block ids.rows term)) (Ok w) old new) (sym same)
-          (Inquires-one Memory (request asked) (Ok (worth_of old.answer catalogue block ids.rows term)) got old new (scored-is (Ok got) scored))
-
-      -- it failed
-      pub Inquires-refused : (answer : Answering) → Scored (call_of predicate args) (Err call_fault.Failed) old new
-          → Inquires Memory (asking_all catalogue (asked ∷ []) (worth_of answer catalogue block ids.rows term)) (Err (Probe term.predicate)) old new
-      Inquires-refused answer scored =
-          Inquires-failed Memory (request asked) (Ok (worth_of answer catalogue block ids.rows term)) old new (scored-is (Err call_fault.Failed) scored)
-
-      -- there was no memory for it
-      pub Inquires-no_memory : (answer : Answering) → Scored (call_of predicate args) (Err call_fault.Memory) old new
-          → Inquires Memory (asking_all catalogue (asked ∷ []) (worth_of answer catalogue block ids.rows term)) (Err Memory) old new
-      Inquires-no_memory answer scored =
-          Inquires-stopped Memory (request asked) (Ok (worth_of answer catalogue block ids.rows term)) old new (scored-is (Err call_fault.Memory) scored)
+    pub Inquires-sampled : (result : Result ℕ AskFault) (old new : ScorerState) → Inquires ask_fault.Memory (asking_worth ask_faults old.answer catalogue block ids term) result old new
+        → Inquires Memory (asking_all catalogue (asked ∷ []) (worth_of old.answer catalogue block ids.rows term)) (sampled_worth result) old new
+    Inquires-sampled result old new inquires =
+        let worth = worth_for ask_faults term ids (max_for catalogue asked) (got_for old.answer catalogue asked) in
+        subst (λ outcome. Inquires Memory (one (request asked) outcome) (sampled_worth result) old new) (sampled-worth (max_for catalogue asked) (got_for old.answer catalogue asked))
+        (Inquires-retold sampled_worth ask_fault.Memory Memory (request_for ask_faults catalogue asked) worth (Probe term.predicate) refl refl (good worth) result old new
+        (subst (λ i. Inquires ask_fault.Memory i result old new) (inquiry-is ask_faults ask_fault.Memory catalogue block ids term old.answer) inquires))

@@ -6,9 +6,11 @@ use Rattle.std.specs.declared.vec.Vec.{Vec}
 use Rattle.rs_expr.specs.InOrder.{Inquiry}
 use Rattle.rs_expr.specs.Scoring.{Answering}
 use Rattle.rs_catalog.specs.Catalogue.{Catalogue}
-use Rattle.rs_query.specs.Answers.{worth_of}
+use Rattle.rs_query.specs.Answers.{clamped, worth_of}
 use Rattle.rs_query.specs.Questions.{Faults, Question, question_of, request_for}
 use Rattle.rs_query.specs.Views.{View}
+use Rattle.rs_query.specs.declared.ask.AskFault.{AskFault}
+use Rattle.rs_query.specs.declared.ask.AskFault.TheVariants as asked
 use Rattle.rs_query.specs.declared.block.Block.{Block}
 use Rattle.rs_query.specs.declared.term.Term.{Term}
 use Rattle.rs_query.specs.declared.query.Query.{Query}
@@ -50,6 +52,13 @@ questions_of (Set op left right limit) view seed =
 -- a call that failed is told by its predicate; no number is told as no score
 abbrev pub sample_faults : Faults SampleFault
 sample_faults = record { failed = λ predicate. Probe predicate; bad = λ predicate ids got max. Memory }
+
+-- what is taken of a question to the scorer: a number that is no score is put into 0 to the greatest one
+abbrev pub sampled_worth : Result ℕ AskFault → Result ℕ SampleFault
+sampled_worth (Ok worth) = Ok worth
+sampled_worth (Err (asked.BadScore predicate ids got max)) = Ok (clamped max got)
+sampled_worth (Err (asked.Probe predicate)) = Err (Probe predicate)
+sampled_worth (Err asked.Memory) = Err Memory
 
 -- the predicate that a fault names is one of the catalogue
 abbrev pub NamesPredicate : Catalogue → SampleFault → Type 0

@@ -8,16 +8,16 @@ ghost use Rattle.rs_query.specs.Questions.{question_of};
 ghost use Rattle.rs_query.specs.Tables.{HasRows, sizes_of};
 ghost use Rattle.rs_query.specs.WellFormed.{IsBlock};
 ghost use Rattle.rs_query.specs.declared.term.Term.{Term as BoundTerm};
-ghost use Rattle.rs_sample.specs.Sampling.{asking_all, as_list, block_questions, worths_by_term};
+ghost use Rattle.rs_sample.specs.Sampling.{asking_all, as_list, block_questions, sampled_worth, worths_by_term};
 ghost use Rattle.rs_sample.specs.Samples.{AreBlockSamples};
 
 use crate::choices::choices;
 use crate::fault::SampleFault;
 use rs_catalog::Catalog;
-use rs_expr::{Scorer, ScorerFault};
-use rs_query::Block;
+use rs_expr::Scorer;
+use rs_query::{AskFault, Block, KeptList};
 use rs_rank::Ids;
-use rs_value::{List, Value};
+use rs_value::List;
 use std::alloc::Global;
 
 /// What each term of the block of this number is worth on each choice among the samples of its entries.
@@ -37,7 +37,7 @@ pub(crate) fn ask_terms<S: Scorer>(
         (as_list result) (S.state scorer.old) (S.state scorer.new) }
 {
     let mut worths = Vec::new(alloc);
-    let mut args = Vec::new(alloc);
+    let mut args = KeptList::new(alloc);
     for (place, term) in block.terms.items().iter().enumerate() {
         let choices = choices(alloc, samples, term.entries)?;
         let asked = ask_choices(
@@ -63,7 +63,7 @@ fn ask_choices<S: Scorer>(
     number: u8,
     term: u8,
     choices: &[[u32; 6]],
-    args: &mut Vec<Value>,
+    args: &mut KeptList,
     scorer: &mut S,
 ) -> Result<Vec<u32>, SampleFault>
     requires block { IsBlock catalog.now block.now }
@@ -96,7 +96,7 @@ fn ask_term<S: Scorer>(
     block: &Block,
     number: u8,
     ids: &Ids,
-    args: &mut Vec<Value>,
+    args: &mut KeptList,
     scorer: &mut S,
 ) -> Result<u32, SampleFault>
     requires block { IsBlock catalog.now block.now }
@@ -110,15 +110,18 @@ fn ask_term<S: Scorer>(
         (worth_of (S.state scorer.old).answer catalog.now block.now ids.now.rows term))
         result (S.state scorer.old) (S.state scorer.new) }
 {
-    block.args(catalog, number, ids, args)?;
-    let term = &block.terms.items()[number as usize - 1];
-    let predicate = catalog.predicate(term.predicate);
-    match scorer.score(predicate, args) {
-        Ok(got) => Ok(clamped(got, predicate.max())),
-        Err(ScorerFault::Failed) => Err(SampleFault::Probe {
-            predicate: term.predicate,
-        }),
-        Err(ScorerFault::Memory) => Err(SampleFault::Memory),
+    sampled_worth(block.ask(catalog, number, ids, args, scorer))
+}
+
+/// What is taken of a question to the scorer. A number that is no score is put into 0 to the greatest one.
+fn sampled_worth(asked: Result<u32, AskFault>) -> Result<u32, SampleFault>
+    ensures { result ≡ sampled_worth asked }
+{
+    match asked {
+        Ok(worth) => Ok(worth),
+        Err(AskFault::BadScore { got, max, .. }) => Ok(clamped(got, max)),
+        Err(AskFault::Probe { predicate }) => Err(SampleFault::Probe { predicate }),
+        Err(AskFault::Memory) => Err(SampleFault::Memory),
     }
 }
 

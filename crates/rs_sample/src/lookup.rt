@@ -12,7 +12,7 @@ ghost use Rattle.rs_sample.specs.Choosing.{sampled_choices};
 ghost use Rattle.rs_sample.specs.Finding.{choice_place, known_worth, place_in, places_in};
 ghost use Rattle.rs_sample.specs.Sampling.{worths_by_term};
 
-use rs_query::Block;
+use rs_query::{Block, is_inside};
 use rs_value::List;
 
 /// What each term is worth for a choice among the samples of the entries in a mask, and 0 for a term of other entries and
@@ -55,7 +55,7 @@ fn worth_if_inside(
     requires places { AllByRecursion (λ place. place ≤ 256) places.now }
     ensures { result ≡ (if is_inside entries mask then get_or worths.now (choice_place entries sampled.now places.now) 0 else 0) }
 {
-    if entries & mask != entries {
+    if !is_inside(entries, mask) {
         return 0;
     }
     match worths.get(choice_place(entries, sampled, places)) {

@@ -32,7 +32,7 @@ use crate::index::index_estimates;
 use rand_pcg::Pcg32;
 use rs_catalog::Catalog;
 use rs_expr::Scorer;
-use rs_query::Block;
+use rs_query::{Block, sizes_of};
 use rs_value::{List, Memory};
 use std::alloc::Global;
 
@@ -66,19 +66,6 @@ pub(crate) fn sample_block<S: Scorer>(
     let worths = ask_terms(alloc, catalog, block, number, &samples, scorer)?;
     let estimates = estimate_block(alloc, catalog, block, &sizes, &samples, &worths, limit)?;
     Ok(estimates)
-}
-
-/// The numbers of rows of six entries: 0 past the last one.
-fn sizes_of(catalog: &Catalog, block: &Block) -> [u32; 6]
-    requires { IsBlock catalog.now block.now }
-    ensures value { result ≡ sizes_of catalog.now block.now }
-    ensures few { AllByRecursion (λ size. size ≤ 131072) result }
-{
-    let mut sizes = [0; 6];
-    for (place, from) in block.from.items().iter().enumerate() {
-        sizes[place] = catalog.table(from.0).len();
-    }
-    sizes
 }
 
 /// What is expected of a block, of these worths of its terms on the choices among the samples.

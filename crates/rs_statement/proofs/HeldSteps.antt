@@ -36,8 +36,8 @@ use Rattle.rs_plan.specs.Lists.{list_of_plan}
 use Rattle.rs_plan.specs.Trees.{PlanTree}
 use Rattle.rs_exec.specs.Asking.{world_of}
 use Rattle.rs_exec.specs.Cursors.{CursorState, StandsFor}
-use Rattle.rs_exec.specs.Indexes.{AreHeld}
-use Rattle.rs_exec.proofs.HeldFacts.{held-with_index, held-with_predicate, held-with_table}
+use Rattle.rs_catalog.specs.Held.{AreHeld}
+use Rattle.rs_catalog.proofs.HeldFacts.{held-with_index, held-with_predicate, held-with_table}
 use Rattle.rs_statement.specs.declared.evaluating.Evaluating.{Evaluating}
 use Rattle.rs_statement.specs.declared.evaluating.Evaluating.TheVariants.{Planned, Plainly}
 use Rattle.rs_statement.specs.declared.fault.Fault.{Fault}

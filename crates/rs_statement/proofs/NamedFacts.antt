@@ -18,7 +18,8 @@ use Rattle.rs_query.specs.declared.term.Term.{Term}
 use Rattle.rs_query.proofs.ThroughFacts.{each-first, each-through}
 use Rattle.rs_plan.specs.Asks.{child_asks}
 use Rattle.rs_plan.specs.Calls.{own_question, part_of, questions, questions_of_ask, rank_part, side_part}
-use Rattle.rs_plan.specs.Lists.{World, block_in, list_of, numbered_block}
+use Rattle.rs_plan.specs.Lists.{World, list_of, numbered_block}
+use Rattle.rs_query.specs.Blocks.{block_in}
 use Rattle.rs_plan.specs.Trees.{Distinct, HashJoin, NestedJoin, Rank, RankScan, SeqScan, SetOperator, PlanTree}
 use Rattle.rs_exec.specs.Asking.{exec_faults, world_of}
 use Rattle.rs_exec.specs.Cursors.{CursorState, StandsFor, asks_of, call_of, is_over, next_answer, no_question, plan_of}

@@ -3,7 +3,7 @@
 ghost use Rattle.std.specs.Prelude.{◌≡◌};
 ghost use Rattle.rs_syntax.specs.Syntax.{query_of};
 ghost use Rattle.rs_syntax.specs.Written.{IsWrittenQuery};
-ghost use Rattle.rs_exec.specs.Indexes.{AreHeld};
+ghost use Rattle.rs_catalog.specs.Held.{AreHeld};
 ghost use Rattle.rs_statement.specs.Parts.Steps.{Stepped};
 ghost use Rattle.rs_statement.specs.Statements.{analyze_step, explain_step, select_step};
 ghost use Rattle.rs_statement.specs.World.{World};

@@ -8,7 +8,7 @@ ghost use Rattle.rs_syntax.specs.Written.{IsWrittenQuery};
 ghost use Rattle.rs_expr.specs.Scoring.{Answering};
 ghost use Rattle.rs_catalog.specs.Catalogue.{Catalogue, has_name};
 ghost use Rattle.rs_exec.specs.Cursors.{StandsFor};
-ghost use Rattle.rs_exec.specs.Indexes.{AreHeld};
+ghost use Rattle.rs_catalog.specs.Held.{AreHeld};
 ghost use Rattle.rs_query.specs.WellFormed.{IsQuery};
 ghost use Rattle.rs_statement.specs.declared.evaluating.Evaluating.TheVariants.{Plainly, Planned};
 ghost use Rattle.rs_statement.specs.Lines.{rank_lines};

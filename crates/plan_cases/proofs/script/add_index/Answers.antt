@@ -1,5 +1,5 @@
 use Rattle.rs_expr.specs.MemScorer.{scorer_state}
-use Rattle.rs_exec.proofs.HeldFacts.{held-makes}
+use Rattle.rs_catalog.proofs.HeldFacts.{held-makes}
 use Rattle.plan_cases.proofs.script.add_index.Goals as goal
 
 pub returns : goal.returns

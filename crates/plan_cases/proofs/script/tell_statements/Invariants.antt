@@ -1,5 +1,5 @@
 use Rattle.rs_expr.specs.MemScorer.{answered_score}
-use Rattle.rs_exec.specs.Indexes.{AreHeld}
+use Rattle.rs_catalog.specs.Held.{AreHeld}
 use Rattle.plan_cases.proofs.script.tell_statements.Given as goal
 
 -- all indexes hold the answers of the scorer

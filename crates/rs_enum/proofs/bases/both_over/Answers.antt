@@ -2,7 +2,7 @@
 use Rattle.std.proofs.Common.{◌^◌, ◌<◌, sym, subst, arith}
 use Rattle.rs_query.specs.Tables.{all_entries}
 use Rattle.rs_sample.specs.Kept.{cards_of}
-use Rattle.rs_plan.specs.Lists.{block_in}
+use Rattle.rs_query.specs.Blocks.{block_in}
 use Rattle.rs_enum.specs.declared.extent.Extent.TheVariants as whole
 use Rattle.rs_enum.proofs.BoundFacts.{most-fits}
 use Rattle.rs_enum.proofs.CostFacts.{all-small, block-formed}

@@ -1,6 +1,6 @@
 -- A plan that has the set operator is one of two blocks, and another one is a part of the first block.
 use Rattle.std.proofs.Common.{◌∙◌, sym, arith}
-use Rattle.rs_plan.specs.Lists.{block_in}
+use Rattle.rs_query.specs.Blocks.{block_in}
 use Rattle.rs_plan.specs.Shapes.{tree_of}
 use Rattle.rs_enum.proofs.CostFacts.{block-formed, block-part, first-numbered, part-fits, set-fits, set-part}
 use Rattle.rs_sample.specs.Kept.{cards_of}

@@ -2,7 +2,7 @@
 use Rattle.std.proofs.Common.{◌∙◌, sym, subst₂}
 use Rattle.rs_sample.specs.Cards.{IsEstimated}
 use Rattle.rs_sample.specs.Kept.{cards_of}
-use Rattle.rs_plan.specs.Lists.{block_in}
+use Rattle.rs_query.specs.Blocks.{block_in}
 use Rattle.rs_plan.specs.Shapes.{tree_of}
 use Rattle.rs_plan.specs.Trees.{terms}
 use Rattle.rs_enum.specs.QueryCards.{cards_at}

@@ -3,7 +3,7 @@ use Rattle.std.proofs.Common.{◌≡◌, ◌∙◌, ◌<◌, ◌^◌, sym, ap, s
 use Rattle.rs_query.specs.Tables.{all_entries}
 use Rattle.rs_sample.specs.Cards.{IsEstimated}
 use Rattle.rs_sample.specs.Kept.{cards_of}
-use Rattle.rs_plan.specs.Lists.{block_in}
+use Rattle.rs_query.specs.Blocks.{block_in}
 use Rattle.rs_enum.specs.QueryCards.{cards_at}
 use Rattle.rs_enum.proofs.BoundFacts.{rows-most}
 use Rattle.rs_enum.proofs.CostFacts.{all-small, block-cards, block-formed, masks-all}

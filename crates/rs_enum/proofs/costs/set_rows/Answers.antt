@@ -2,7 +2,7 @@
 use Rattle.std.proofs.Common.{◌∙◌, ◌+◌, ◌<◌, ◌^◌, length, sym, subst}
 use Rattle.rs_query.specs.Tables.{all_entries}
 use Rattle.rs_sample.specs.Kept.{cards_of}
-use Rattle.rs_plan.specs.Lists.{block_in}
+use Rattle.rs_query.specs.Blocks.{block_in}
 use Rattle.rs_plan.specs.Shapes.{tree_of}
 use Rattle.rs_enum.specs.QueryCards.{cards_at}
 use Rattle.rs_enum.proofs.CostFacts.{set-below-left, set-below-right, set-numbers, set-rows}

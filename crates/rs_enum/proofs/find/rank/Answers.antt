@@ -5,7 +5,7 @@ use Rattle.std.specs.Borrow.{Bor}
 use Rattle.rs_rank.specs.Masks.{mask_of}
 use Rattle.rs_query.specs.declared.block.Block.{Block}
 use Rattle.rs_sample.specs.Kept.{cards_of}
-use Rattle.rs_plan.specs.Lists.{block_in}
+use Rattle.rs_query.specs.Blocks.{block_in}
 use Rattle.rs_enum.specs.QueryCards.{alone, alone_cards}
 use Rattle.rs_enum.specs.declared.candidate.Candidate.{Candidate}
 use Rattle.rs_enum.specs.declared.candidate.Choice.TheVariants as choice

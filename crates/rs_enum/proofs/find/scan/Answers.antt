@@ -9,7 +9,7 @@ use Rattle.rs_query.specs.declared.block.Block.{Block}
 use Rattle.rs_query.specs.declared.query.Query.{Query}
 use Rattle.rs_sample.specs.Cards.{BlockCards}
 use Rattle.rs_sample.specs.Kept.{cards_of}
-use Rattle.rs_plan.specs.Lists.{block_in}
+use Rattle.rs_query.specs.Blocks.{block_in}
 use Rattle.rs_plan.specs.Plans.{IsEntryNumber}
 use Rattle.rs_enum.specs.QueryCards.{alone, alone_cards}
 use Rattle.rs_enum.specs.declared.candidate.Candidate.{Candidate}

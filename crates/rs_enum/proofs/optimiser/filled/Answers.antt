@@ -3,7 +3,7 @@ use Rattle.std.proofs.Common.{◌≡◌, ◌∙◌, ◌+◌, ◌/◌, ◌^◌, �
 use Rattle.std.proofs.lemmas.List.{length-append}
 use Rattle.rs_query.specs.declared.block.Block.{Block}
 use Rattle.rs_sample.specs.Kept.{cards_of}
-use Rattle.rs_plan.specs.Lists.{block_in}
+use Rattle.rs_query.specs.Blocks.{block_in}
 use Rattle.rs_enum.specs.QueryCards.{alone, alone_cards}
 use Rattle.rs_enum.specs.Made.{IsFound}
 use Rattle.rs_enum.specs.Places.{AreKept, IsFilled}

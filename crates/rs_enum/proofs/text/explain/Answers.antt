@@ -1,6 +1,6 @@
 -- A plan that has the set operator is one of two blocks, and another one a part of the first block. Neither has many nodes.
 use Rattle.std.proofs.Common.{◌∙◌, inl, sym, arith}
-use Rattle.rs_plan.specs.Lists.{block_in}
+use Rattle.rs_query.specs.Blocks.{block_in}
 use Rattle.rs_plan.specs.Shapes.{tree_of}
 use Rattle.rs_enum.proofs.CostFacts.{block-formed, block-part, set-part}
 use Rattle.rs_enum.proofs.TextFacts.{few-nodes, few-set-nodes}

@@ -2,7 +2,7 @@
 use Rattle.std.proofs.Common.{◌≡◌, ◌∙◌, ◌+◌, sym, ap, subst, arith, length}
 use Rattle.rs_query.specs.declared.block.Block.{Block}
 use Rattle.rs_sample.specs.Kept.{cards_of}
-use Rattle.rs_plan.specs.Lists.{block_in}
+use Rattle.rs_query.specs.Blocks.{block_in}
 use Rattle.rs_enum.specs.Tops.{IsTheFirstRank, number_of}
 use Rattle.rs_enum.proofs.TopFacts.{top-cheaper, top-none, top-wider}
 use Rattle.rs_enum.proofs.WholeFacts.{few-terms}

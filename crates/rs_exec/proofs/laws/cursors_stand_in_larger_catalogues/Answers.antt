@@ -1,7 +1,7 @@
 use Rattle.std.proofs.Common.{subst}
 use Rattle.rs_catalog.specs.Catalogue.{Catalogue}
 use Rattle.rs_exec.specs.Cursors.{StandsFor}
-use Rattle.rs_exec.proofs.LargerFacts.{joined-index, joined-predicate, joined-table, only_index, only_predicate, only_table}
+use Rattle.rs_catalog.proofs.JoinedFacts.{joined-index, joined-predicate, joined-table, only_index, only_predicate, only_table}
 use Rattle.rs_exec.proofs.LargerNodes.{cursor-larger}
 use Rattle.rs_exec.proofs.laws.cursors_stand_in_larger_catalogues.Goals as goal
 

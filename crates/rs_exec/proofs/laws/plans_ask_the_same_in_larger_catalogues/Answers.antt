@@ -3,7 +3,7 @@ use Rattle.rs_catalog.specs.Catalogue.{Catalogue}
 use Rattle.rs_exec.specs.Asking.{world_of}
 use Rattle.rs_exec.specs.Cursors.{SameAsks}
 use Rattle.rs_exec.proofs.LargerAnswers.{asks-larger}
-use Rattle.rs_exec.proofs.LargerFacts.{joined-index, joined-predicate, joined-table, only_index, only_predicate, only_table}
+use Rattle.rs_catalog.proofs.JoinedFacts.{joined-index, joined-predicate, joined-table, only_index, only_predicate, only_table}
 use Rattle.rs_exec.proofs.laws.plans_ask_the_same_in_larger_catalogues.Goals as goal
 
 pub returns-clause-tables : goal.returns-clause-tables

@@ -1,5 +1,5 @@
 -- Each column gives its cell, which is what a comparison looks at, since it has the column's kind.
-use Rattle.std.proofs.Common.{◌≡◌, ◌∙◌, ℕ, ◌+◌, ◌≤◌, List, get_or, length, map, take, sym, ap, subst, arith}
+use Rattle.std.proofs.Common.{◌≡◌, ◌∙◌, ℕ, ◌+◌, ◌≤◌, List, get_or, length, map, take, refl, sym, ap, subst, arith}
 use Rattle.std.specs.List.{AllByRecursion}
 use Rattle.std.proofs.lemmas.List.{take_all}
 use Rattle.rs_order.proofs.EachFacts.{each-get_or}
@@ -9,19 +9,20 @@ use Rattle.rs_filter.specs.declared.conditions.JoinConditions.{JoinConditions}
 use Rattle.rs_filter.proofs.JoinColumnFacts.{AreColumns, HasKindOf, across-columns, conditions-columns, each-more, read-more, values-read}
 use Rattle.rs_filter.proofs.join_values.left_values.Goals as goal
 
-pub cell-requires-clause-column : goal.cell-requires-clause-column
-cell-requires-clause-column c =
+pub push_cell-requires-clause-column : goal.push_cell-requires-clause-column
+push_cell-requires-clause-column c =
     let k = c.args.conditions.now in
     let all = conditions-columns c.args.catalog.now c.args.block.now k c.requires.block c.requires.conditions in
     (each-get_or (AreColumns c.args.catalog.now c.args.block.now k.left k.right) c.deref-pair-items.result.now c.loop-pair.pair-index ((0, 0), (0, 0))
     (subst (AllByRecursion (AreColumns c.args.catalog.now c.args.block.now k.left k.right)) (sym (c.deref-pair-items.ensures.value ∙ c.items-columns.ensures)) all) c.loop-pair-test.true).left_column
 
-pub cell-requires-clause-inside : goal.cell-requires-clause-inside
-cell-requires-clause-inside c =
+pub push_cell-requires-clause-row : goal.push_cell-requires-clause-row
+push_cell-requires-clause-row c =
     let k = c.args.conditions.now in
     let all = conditions-columns c.args.catalog.now c.args.block.now k c.requires.block c.requires.conditions in
-    (each-get_or (AreColumns c.args.catalog.now c.args.block.now k.left k.right) c.deref-pair-items.result.now c.loop-pair.pair-index ((0, 0), (0, 0))
-    (subst (AllByRecursion (AreColumns c.args.catalog.now c.args.block.now k.left k.right)) (sym (c.deref-pair-items.ensures.value ∙ c.items-columns.ensures)) all) c.loop-pair-test.true).on_left
+    let are = each-get_or (AreColumns c.args.catalog.now c.args.block.now k.left k.right) c.deref-pair-items.result.now c.loop-pair.pair-index ((0, 0), (0, 0))
+    (subst (AllByRecursion (AreColumns c.args.catalog.now c.args.block.now k.left k.right)) (sym (c.deref-pair-items.ensures.value ∙ c.items-columns.ensures)) all) c.loop-pair-test.true in
+    c.requires.rows (get_or c.deref-pair-items.result.now c.loop-pair.pair-index ((0, 0), (0, 0))).0.0 are.left_column.0 are.left_column.1 are.on_left
 
 pub loop-pair-preserved : goal.loop-pair-preserved
 loop-pair-preserved c =
@@ -34,16 +35,15 @@ loop-pair-preserved c =
     let read : (ℕ × ℕ) × (ℕ × ℕ) → Value = λ pair. column_value catalogue block rows (own pair) in
     let has : (ℕ × ℕ) × (ℕ × ℕ) → Type 0 = λ pair. HasKindOf catalogue block (own pair) (read pair) in
     let same = c.deref-pair-items.ensures.value ∙ c.items-columns.ensures in
-    let value = c.cell.ensures.value in
     record {
-      values_are = subst (λ (columns : List ((ℕ × ℕ) × (ℕ × ℕ))). c.push_copy.new.values.items ≡ map read (take (i + 1) columns)) same
-          (read-more read seen i ((0, 0), (0, 0)) c.loop-pair.values.items c.push_copy.new.values.items c.cell.result.now c.loop-pair-test.true
+      values_are = subst (λ (columns : List ((ℕ × ℕ) × (ℕ × ℕ))). c.push_cell.new.values.items ≡ map read (take (i + 1) columns)) same
+          (read-more read seen i ((0, 0), (0, 0)) c.loop-pair.values.items c.push_cell.new.values.items (read (get_or seen i ((0, 0), (0, 0)))) c.loop-pair-test.true
           (subst (λ (columns : List ((ℕ × ℕ) × (ℕ × ℕ))). c.loop-pair.values.items ≡ map read (take i columns)) (sym same) c.loop-pair.invariant.values_are)
-          value c.in_ok-push_copy.ensures);
+          refl c.in_ok-push_cell.ensures.value);
       kinds = subst (λ (columns : List ((ℕ × ℕ) × (ℕ × ℕ))). AllByRecursion has (take (i + 1) columns)) same
           (each-more has seen i ((0, 0), (0, 0)) c.loop-pair-test.true
           (subst (λ (columns : List ((ℕ × ℕ) × (ℕ × ℕ))). AllByRecursion has (take i columns)) (sym same) c.loop-pair.invariant.kinds)
-          (subst (HasKindOf catalogue block (own (get_or seen i ((0, 0), (0, 0))))) value c.cell.ensures.fit));
+          c.in_ok-push_cell.ensures.fit);
     }
 
 pub returns : goal.returns

@@ -1,6 +1,6 @@
 use Rattle.std.proofs.Common.{◌≡◌}
 use Rattle.rs_syntax.specs.Syntax.{commands_of}
-use Rattle.rs_exec.specs.Indexes.{AreHeld}
+use Rattle.rs_catalog.specs.Held.{AreHeld}
 use Rattle.rs_statement.specs.Run.{finds_in}
 use Rattle.rs_statement.specs.Parts.Session.{CanAllBeAsked, held_in, state_of}
 use Rattle.rs_statement.specs.Session.{DoesInSession, nothing}

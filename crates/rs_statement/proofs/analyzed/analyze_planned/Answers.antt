@@ -10,7 +10,7 @@ use Rattle.rs_plan.specs.declared.counts.Counts.{Counts}
 use Rattle.rs_sample.specs.Kept.{cards_of}
 use Rattle.rs_enum.specs.Texts.{text_of}
 use Rattle.rs_exec.specs.Asking.{world_of}
-use Rattle.rs_exec.specs.Indexes.{AreHeld}
+use Rattle.rs_catalog.specs.Held.{AreHeld}
 use Rattle.rs_statement.specs.declared.fault.Fault.TheVariants.{Memory}
 use Rattle.rs_statement.specs.Parts.Steps.{Ran, lines_run}
 use Rattle.rs_statement.specs.Planned.{asks_in_all, cards_for, plan_for, planned_step}

@@ -9,7 +9,8 @@ use Rattle.rs_query.specs.Tables.{HasRows, sizes_of}
 use Rattle.rs_filter.specs.Matching.{Matching, is_choice, joins}
 use Rattle.rs_filter.specs.declared.conditions.JoinConditions.{JoinConditions}
 use Rattle.rs_filter.proofs.AcrossFacts.{AreInside-across, all_hold-across}
-use Rattle.rs_filter.proofs.MatchFacts.{HasRows-choice, both-sides, no-left-choice, no-left-mask, no-right-choice, no-right-mask}
+use Rattle.rs_query.proofs.ExtendFacts.{HasRows-choice}
+use Rattle.rs_filter.proofs.MatchFacts.{both-sides, no-left-choice, no-left-mask, no-right-choice, no-right-mask}
 use Rattle.rs_filter.proofs.SideFacts.{IsChoice-merge, IsChoice-test}
 use Rattle.rs_filter.proofs.block_match.BlockMatchMatcher.matches.Goals as goal
 use Rattle.rs_filter.proofs.block_match.BlockMatchMatcher.matches.Goals.{then-left-conditions-via-then-left-conditions, then-left-conditions-via-else-left-conditions+then-not-is_choice, then-right-conditions-via-then-right-conditions, then-right-conditions-via-else-right-conditions+then-not-is_choice-2}

@@ -23,14 +23,14 @@ extend-requires t c =
       search rules,
       (
         c.requires.block,
-        IsPartialCombination-longer c.args.catalog.now c.args.self.now c.requires.block c.args.chosen c.loop-row.row c.rows_at-row-end.result c.args.rows c.with_row-longer.result c.requires.prefix within
-            c.rows_at-row-end.ensures c.loop-row-test.true c.with_row-longer.ensures,
+        IsPartialCombination-longer c.args.catalog.now c.args.self.now c.requires.block c.args.chosen c.loop-row.row c.size_of-row-end.result c.args.rows c.with_row-longer.result c.requires.prefix within
+            c.size_of-row-end.ensures.value c.loop-row-test.true c.with_row-longer.ensures,
       ),
     )
 
 pub returns : goal.returns
 returns t c =
     let within : c.args.chosen < length c.args.self.now.from = omega (arith, c.requires.prefix.most) in
-    let all : c.loop-row.row ≡ c.rows_at-row-end.result = omega arith in
+    let all : c.loop-row.row ≡ c.size_of-row-end.result = omega arith in
     combinations_from-rows c.args.catalog.now c.args.self.now c.requires.block c.args.chosen c.loop-row.row c.args.rows c.args.found.now.items c.loop-row.found.items c.requires.prefix within
-    (all ∙ c.rows_at-row-end.ensures) c.loop-row.invariant
+    (all ∙ c.size_of-row-end.ensures.value) c.loop-row.invariant

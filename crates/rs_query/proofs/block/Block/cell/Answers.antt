@@ -1,21 +1,16 @@
 -- The table of the entry has the row and the column, and its value there is the cell.
 use Rattle.rs_query.proofs.CellFacts.{IsOf-table, column_value-value, column-within, row-within}
-use Rattle.rs_query.proofs.EntryFacts.{has_number-inside}
 use Rattle.rs_query.proofs.block.Block.cell.Goals as goal
 
 pub cell-requires-clause-some_row : goal.cell-requires-clause-some_row
 cell-requires-clause-some_row c =
-    let number = has_number-inside c.args.column.0 c.args.ids.now.mask c.requires.inside in
     let is = IsOf-table c.args.catalog.now c.args.self.now c.args.column c.table.result.now c.table.ensures in
-    (row-within c.args.catalog.now c.args.self.now c.args.ids.now.mask c.args.ids.now.rows c.args.column c.table.result.now is c.requires.rows
-    c.requires.column.0 c.requires.column.1 number).0
+    (row-within c.args.catalog.now c.args.self.now c.args.rows.now c.args.column c.table.result.now is c.requires.row).0
 
 pub cell-requires-clause-row_in : goal.cell-requires-clause-row_in
 cell-requires-clause-row_in c =
-    let number = has_number-inside c.args.column.0 c.args.ids.now.mask c.requires.inside in
     let is = IsOf-table c.args.catalog.now c.args.self.now c.args.column c.table.result.now c.table.ensures in
-    (row-within c.args.catalog.now c.args.self.now c.args.ids.now.mask c.args.ids.now.rows c.args.column c.table.result.now is c.requires.rows
-    c.requires.column.0 c.requires.column.1 number).1
+    (row-within c.args.catalog.now c.args.self.now c.args.rows.now c.args.column c.table.result.now is c.requires.row).1
 
 pub cell-requires-clause-column_in : goal.cell-requires-clause-column_in
 cell-requires-clause-column_in c =
@@ -25,4 +20,4 @@ cell-requires-clause-column_in c =
 pub returns-clause-value : goal.returns-clause-value
 returns-clause-value c =
     let is = IsOf-table c.args.catalog.now c.args.self.now c.args.column c.table.result.now c.table.ensures in
-    column_value-value c.args.catalog.now c.args.self.now c.args.ids.now.rows c.args.column c.table.result.now c.cell.result.now is c.cell.ensures.cell
+    column_value-value c.args.catalog.now c.args.self.now c.args.rows.now c.args.column c.table.result.now c.cell.result.now is c.cell.ensures.cell

@@ -5,7 +5,7 @@ use Rattle.rs_query.specs.Meaning.{is_inside}
 use Rattle.rs_query.specs.WellFormed.{IsColumn}
 use Rattle.rs_order.proofs.EachFacts.{each-slice_get}
 use Rattle.rs_query.proofs.CellFacts.{HaveKinds, condition_uses-values}
-use Rattle.rs_query.proofs.EntryFacts.{column-inside}
+use Rattle.rs_query.proofs.EntryFacts.{column-inside, row-inside}
 use Rattle.rs_query.proofs.EquatedFacts.{conjunct-equated, equality-holds}
 use Rattle.rs_query.proofs.block.Block.conjunct_holds.Goals as goal
 
@@ -14,22 +14,26 @@ cell-requires-clause-column c =
     let at = conjunct-equated c.args.catalog.now c.args.self.now c.args.conjunct.now c.requires.conjunct c.in-Some.left c.in-Some.right (sym c.equality.ensures ∙ c.in-Some.is) in
     each-slice_get (IsColumn c.args.catalog.now c.args.self.now) c.args.conjunct.now.columns at.left c.in-Some.left c.requires.conjunct.columns at.left_there
 
-pub cell-requires-clause-inside : goal.cell-requires-clause-inside
-cell-requires-clause-inside c =
+pub cell-requires-clause-row : goal.cell-requires-clause-row
+cell-requires-clause-row c =
     let at = conjunct-equated c.args.catalog.now c.args.self.now c.args.conjunct.now c.requires.conjunct c.in-Some.left c.in-Some.right (sym c.equality.ensures ∙ c.in-Some.is) in
-    column-inside c.args.conjunct.now.columns at.left c.in-Some.left c.args.ids.now.mask
-    (subst (λ entries. is_inside entries c.args.ids.now.mask ≡ true) c.requires.conjunct.entries c.requires.inside) at.left_there
+    row-inside c.args.catalog.now c.args.self.now c.args.ids.now.mask c.args.ids.now.rows c.in-Some.left c.requires.rows
+    (each-slice_get (IsColumn c.args.catalog.now c.args.self.now) c.args.conjunct.now.columns at.left c.in-Some.left c.requires.conjunct.columns at.left_there)
+    (column-inside c.args.conjunct.now.columns at.left c.in-Some.left c.args.ids.now.mask
+    (subst (λ entries. is_inside entries c.args.ids.now.mask ≡ true) c.requires.conjunct.entries c.requires.inside) at.left_there)
 
 pub cell-requires-in-Some-clause-column : goal.cell-requires-in-Some-clause-column
 cell-requires-in-Some-clause-column c =
     let at = conjunct-equated c.args.catalog.now c.args.self.now c.args.conjunct.now c.requires.conjunct c.in-Some.left c.in-Some.right (sym c.equality.ensures ∙ c.in-Some.is) in
     each-slice_get (IsColumn c.args.catalog.now c.args.self.now) c.args.conjunct.now.columns at.right c.in-Some.right c.requires.conjunct.columns at.right_there
 
-pub cell-requires-in-Some-clause-inside : goal.cell-requires-in-Some-clause-inside
-cell-requires-in-Some-clause-inside c =
+pub cell-requires-in-Some-clause-row : goal.cell-requires-in-Some-clause-row
+cell-requires-in-Some-clause-row c =
     let at = conjunct-equated c.args.catalog.now c.args.self.now c.args.conjunct.now c.requires.conjunct c.in-Some.left c.in-Some.right (sym c.equality.ensures ∙ c.in-Some.is) in
-    column-inside c.args.conjunct.now.columns at.right c.in-Some.right c.args.ids.now.mask
-    (subst (λ entries. is_inside entries c.args.ids.now.mask ≡ true) c.requires.conjunct.entries c.requires.inside) at.right_there
+    row-inside c.args.catalog.now c.args.self.now c.args.ids.now.mask c.args.ids.now.rows c.in-Some.right c.requires.rows
+    (each-slice_get (IsColumn c.args.catalog.now c.args.self.now) c.args.conjunct.now.columns at.right c.in-Some.right c.requires.conjunct.columns at.right_there)
+    (column-inside c.args.conjunct.now.columns at.right c.in-Some.right c.args.ids.now.mask
+    (subst (λ entries. is_inside entries c.args.ids.now.mask ≡ true) c.requires.conjunct.entries c.requires.inside) at.right_there)
 
 pub returns-in-Some : goal.returns-in-Some
 returns-in-Some c =

@@ -1,5 +1,5 @@
-use Rattle.rs_exec.proofs.HeldFacts.{held-makes, held-plan, held-with_predicate, held-with_table}
-use Rattle.rs_exec.proofs.held.indexes_go_on_to_hold_answers.Goals as goal
+use Rattle.rs_catalog.proofs.HeldFacts.{held-makes, held-with_predicate, held-with_table}
+use Rattle.rs_catalog.proofs.held.indexes_go_on_to_hold_answers.Goals as goal
 
 pub returns-clause-tables : goal.returns-clause-tables
 returns-clause-tables c = λ catalogue answer name table held. held-with_table catalogue answer name table held
@@ -9,6 +9,3 @@ returns-clause-predicates c = λ catalogue answer predicate held. held-with_pred
 
 pub returns-clause-indexes : goal.returns-clause-indexes
 returns-clause-indexes c = λ catalogue new def result before after is held makes. held-makes catalogue new def result before after is held makes
-
-pub returns-clause-plans : goal.returns-clause-plans
-returns-clause-plans c = λ catalogue answer tree held. held-plan answer catalogue held tree

@@ -1,18 +1,16 @@
 -- An index for a term has the term's worths as its scores: the index asks the scorer the same for each row of its table.
-use Rattle.std.proofs.Common.{◌≡◌, ◌∙◌, ℕ, ℤ, ◌-◌, ◌&&◌, true, eqb, List, [], ◌∷◌, map, get_or, pos, negsuc, refl, sym, ap, ap₂, arith}
+use Rattle.std.proofs.Common.{◌≡◌, ◌∙◌, ℕ, ◌-◌, ◌&&◌, true, eqb, List, [], ◌∷◌, map, pos, refl, sym, ap, ap₂}
 use Rattle.std.specs.Prelude.{Option, Some, option_and_then, slice_get, unwrap_or}
-use Rattle.std.proofs.lemmas.Bool.{and_parts, eqb-true, false≢true, leb-true}
+use Rattle.std.proofs.lemmas.Bool.{and_parts, eqb-true, false≢true}
 use Rattle.std.proofs.lemmas.Bool.Decides.{Decides-int_eq}
-use Rattle.std.proofs.lemmas.List.Quantifiers.{position-Some}
-use Rattle.std.proofs.lemmas.Option.{slice_get-get_or}
 use Rattle.std.proofs.lemmas.Slice.Eq.{bytes_eq-Decides}
 use Rattle.rs_value.specs.declared.value.Value.{Value}
 use Rattle.rs_value.specs.declared.value.Value.TheVariants as value
 use Rattle.rs_table.specs.Relation.{Relation}
 use Rattle.rs_expr.specs.Scores.{is_score, as_score}
 use Rattle.rs_expr.specs.Scoring.{Answering}
-use Rattle.rs_catalog.specs.Catalogue.{Catalogue, RankIndex}
-use Rattle.rs_catalog.specs.Indexes.{arg_value, args_in, index_of, is_for, predicate_for, same_arg, same_args}
+use Rattle.rs_catalog.specs.Catalogue.{Catalogue}
+use Rattle.rs_catalog.specs.Indexes.{arg_value, args_in, predicate_for, same_arg, same_args}
 use Rattle.rs_catalog.specs.declared.index.BoundArg.{BoundArg}
 use Rattle.rs_catalog.specs.declared.index.BoundArg.TheVariants as arg
 use Rattle.rs_catalog.specs.declared.index.IndexDef.{IndexDef}
@@ -21,12 +19,8 @@ use Rattle.rs_query.specs.Meaning.{argument_value}
 use Rattle.rs_query.specs.Tables.{entry_table, row_number}
 use Rattle.rs_query.specs.declared.block.Block.{Block}
 use Rattle.rs_query.specs.declared.term.Term.{Term}
+use Rattle.rs_query.proofs.AskFacts.{clamped-score}
 use Rattle.rs_query.proofs.CellFacts.{IsOf-table}
-
--- a score is the worth
-clamped-is : (max : ℕ) (got : ℤ) → is_score max got ≡ true → as_score got ≡ clamped max got
-clamped-is max (pos n) score = omega (arith, leb-true n max score)
-clamped-is max (negsuc n) score = cc
 
 -- arguments of a term that are those of an index have the same values for the rows that have this row at the entry
 module _ (catalogue : Catalogue) (block : Block) (entry : ℕ) (rows : List ℕ) (table : Relation) (values : List Value)
@@ -56,32 +50,6 @@ module _ (catalogue : Catalogue) (block : Block) (entry : ℕ) (rows : List ℕ)
       let parts = and_parts (same_arg entry a b) (same_args entry args others) same in
       ap₂ (λ (v : Value) (vs : List Value). v ∷ vs) (argument-same a b parts.0) (arguments-same args others parts.1)
 
--- the index that is found for a term
-pub record IsIndexFor (catalogue : Catalogue) (table predicate : ℕ) (args : List BoundArg) (entry index : ℕ) : Type 0 where
-  pub found : RankIndex
-  pub there : slice_get catalogue.indexes index ≡ Some found
-  pub table_is : found.def.table ≡ table
-  pub predicate_is : found.def.predicate ≡ predicate
-  pub args_are : same_args entry args found.def.args ≡ true
-
-no_index : RankIndex
-no_index = record { def = record { name = []; table = 0; predicate = 0; args = [] }; ranking = [] }
-
-pub index-for : (catalogue : Catalogue) (table predicate : ℕ) (args : List BoundArg) (entry index : ℕ) → index_of table predicate args entry catalogue ≡ Some index
-    → IsIndexFor catalogue table predicate args entry index
-index-for catalogue table predicate args entry index first =
-    let place = position-Some (λ (i : RankIndex). is_for table predicate args entry i.def) catalogue.indexes index no_index first in
-    let found = get_or catalogue.indexes index no_index in
-    let same = and_parts (eqb found.def.table table) (eqb found.def.predicate predicate && same_args entry args found.def.args) place.1 in
-    let others = and_parts (eqb found.def.predicate predicate) (same_args entry args found.def.args) same.1 in
-    record {
-      found = found;
-      there = slice_get-get_or catalogue.indexes index no_index place.0;
-      table_is = eqb-true found.def.table table same.0;
-      predicate_is = eqb-true found.def.predicate predicate others.0;
-      args_are = others.1;
-    }
-
 module _ (answer : Answering) (catalogue : Catalogue) (block : Block) (entry : ℕ) (term : Term) (def : IndexDef) (predicate_is : def.predicate ≡ term.predicate)
     (args_are : same_args entry term.args def.args ≡ true) where
   -- a number that the index got for a row, where it is a score, is what the term is worth for it
@@ -89,7 +57,7 @@ module _ (answer : Answering) (catalogue : Catalogue) (block : Block) (entry : �
       → is_score (predicate_for catalogue def).max (answer (predicate_for catalogue def) (args_in def.args values)) ≡ true
       → as_score (answer (predicate_for catalogue def) (args_in def.args values)) ≡ worth_of answer catalogue block rows term
   index-worth rows table values there here score =
-      clamped-is (predicate_for catalogue def).max (answer (predicate_for catalogue def) (args_in def.args values)) score
+      clamped-score (predicate_for catalogue def).max (answer (predicate_for catalogue def) (args_in def.args values)) score
       ∙ ap (λ n. clamped (predicate_at catalogue n).max (answer (predicate_at catalogue n) (args_in def.args values))) predicate_is
       ∙ ap (λ (vs : List Value). clamped (predicate_at catalogue term.predicate).max (answer (predicate_at catalogue term.predicate) vs))
       (sym (arguments-same catalogue block entry rows table values there here term.args def.args args_are))
