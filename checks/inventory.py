@@ -7,7 +7,8 @@ that proofs of other crates cite.
 
 It reads crates.txt, the first doc comment of each crate's lib.rt or main.rt, the first comment of each file of `specs`, and
 the imports of `proofs`. It fails too where a crate stands in no layer or in front of a crate that it stands on, where a file
-of `specs` doesn't begin with its subject, and where `src` or `specs` cite a lemma of another crate.
+of `specs` doesn't begin with its subject, where `src` or `specs` cite a lemma of another crate, and where a document names a
+file of a crate that isn't there.
 """
 import os
 import re
@@ -15,6 +16,7 @@ import sys
 
 PATH = "docs/INVENTORY.md"
 PROMISE = "Its promise: "
+NAMED = re.compile(r"`(?:crates/)?([a-z][a-z_0-9]*/(?:src|specs|proofs|must-fail)/[A-Za-z0-9_/]+\.(?:rt|antt|edit))`")
 LEMMAS = re.compile(r"^\s*(?:ghost )?use Rattle\.([a-z_0-9]+)\.proofs\.([A-Za-z0-9]+)", re.MULTILINE)
 faults = []
 
@@ -118,6 +120,14 @@ def lemma_rows(crates):
     return [f"| `{file}` | {', '.join(by)} |" for (_, file), by in sorted(cited.items())]
 
 
+def check_documents():
+    """Each file of a crate that a document names is there."""
+    for document in ["README.md"] + sorted(f"docs/{file}" for file in os.listdir("docs") if file.endswith(".md")):
+        for name in sorted(set(NAMED.findall(read(document)))):
+            if document != PATH and not os.path.exists(f"crates/{name}"):
+                faults.append(f"{document} names {name}, which isn't there")
+
+
 def inventory():
     layers = read_layers()
     crates = [name for _, _, named in layers for name, _ in named]
@@ -145,6 +155,7 @@ def inventory():
 def main():
     os.chdir(os.path.join(os.path.dirname(os.path.abspath(__file__)), ".."))
     made = inventory()
+    check_documents()
     if sys.argv[1:] == ["--write"]:
         with open(PATH, "w", encoding="utf-8") as file:
             file.write(made)
