@@ -6,9 +6,9 @@ that proofs of other crates cite.
     checks/inventory.py --write   writes docs/INVENTORY.md
 
 It reads crates.txt, the first doc comment of each crate's lib.rt or main.rt, the first comment of each file of `specs`, and
-the imports of `proofs`. It fails too where a crate stands in no layer or in front of a crate that it stands on, where a file
-of `specs` doesn't begin with its subject, where `src` or `specs` cite a lemma of another crate, and where a document names a
-file of a crate that isn't there.
+the imports of `proofs`. It fails too where a crate stands in no layer or in front of a crate that it stands on, where a
+library of the engine doesn't say its promise, where a file of `specs` doesn't begin with its subject, where `src` or `specs`
+cite a lemma of another crate, and where a document names a file of a crate that isn't there.
 """
 import os
 import re
@@ -86,6 +86,8 @@ def crate_row(name):
         faults.append(f"{root} doesn't begin with a comment that says what the crate is")
         return f"| {name} | | |"
     promise = next((part[len(PROMISE):] for part in said[1:] if part.startswith(PROMISE)), "")
+    if name.startswith("rs_") and not promise:
+        faults.append(f"{root} has no paragraph that begins with `{PROMISE.strip()}` in its first comment")
     return f"| {name} | {first_sentence(said[0])} | {promise[:1].upper() + promise[1:].removesuffix('.')} |"
 
 
