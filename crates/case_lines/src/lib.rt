@@ -2,6 +2,9 @@
 //! and the faults that end a program.
 //!
 //! Each line is printed as it is, and behind it what its case gives. A line that is empty or begins with `#` has no case.
+//!
+//! Its promise: which lines have a case, what a line is cut into, which numbers its words are, what one escape stands
+//! for, and that a fault ends a program with a status other than that of success.
 #![tactic(auto)]
 
 mod escape;

@@ -1,4 +1,7 @@
 //! Binding: what the names of a statement stand for, or the first rule that it breaks.
+//!
+//! Its promise: a CREATE statement or a query binds exactly as the rules say, or is refused by the first rule that it
+//! breaks, with its place.
 #![tactic(auto)]
 
 mod columns;

@@ -1,4 +1,7 @@
 //! The catalogue of a session: its tables, ranking predicates and rank indexes.
+//!
+//! Its promise: tables, predicates and rank indexes are found by name; making an index makes exactly its calls, and its
+//! rows are in order; and after a fault nothing has joined.
 #![tactic(auto)]
 
 mod catalog;

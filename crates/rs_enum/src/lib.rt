@@ -1,4 +1,7 @@
 //! The least plan of a query: what plans cost, in which order they come, and their text.
+//!
+//! Its promise: a plan's cost is as defined, a query has exactly one least plan, and `best` finds it; the text of a
+//! plan is as defined; and cards that say the same give the same least plan and texts.
 #![tactic(auto)]
 
 mod bases;

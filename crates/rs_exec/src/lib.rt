@@ -1,5 +1,8 @@
 //! The executor. A cursor gives the rows of a query's answer one after another, in the order of a plan: each is asked for only
 //! once it is wanted, and the scorer is called only where the plan's operators need it. It executes each valid plan.
+//!
+//! Its promise: a cursor gives the rows of its plan's list one after another, and makes exactly the calls of each ask,
+//! in order. Any two plans of a query have the same rows; up to LIMIT these are the query's answer.
 #![tactic(auto)]
 
 mod context;

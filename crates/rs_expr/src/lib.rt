@@ -1,4 +1,7 @@
 //! Formulas over values, the predicates that rank by them, and the scorers that answer what a predicate's score is.
+//!
+//! Its promise: a formula has the value of whole numbers without bounds, within widths that can't overflow; a condition
+//! has its truth; and a scorer's calls are counted, each one.
 #![tactic(auto)]
 
 mod eval;

@@ -1,5 +1,8 @@
 //! Filters: which rows satisfy conditions, and what they put out. A row is the rows of its entries, whose values are those of
 //! their tables.
+//!
+//! Its promise: exactly when a row satisfies conjuncts, what it puts out, which rows of two sides of a join match, what
+//! the join values of a row are, and which rows DISTINCT gives.
 #![tactic(auto)]
 
 mod block_match;

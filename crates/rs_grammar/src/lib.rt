@@ -1,4 +1,7 @@
 //! The words of the language and its grammar.
+//!
+//! Its promise: what each token is to the grammar; and that a reader of one token ahead reads exactly what the grammar
+//! derives.
 #![tactic(auto)]
 
 mod kind;

@@ -1,4 +1,7 @@
 //! Tokens of a script, each with its place.
+//!
+//! Its promise: the tokens are those that the script spells, or the fault is at the first place at which it spells
+//! none.
 #![tactic(auto)]
 
 mod fault;

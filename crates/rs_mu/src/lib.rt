@@ -1,5 +1,7 @@
 //! The core of the rank operator. It evaluates one more term of each row that it is fed, and gives the rows in the order
 //! of their new keys, each as soon as no row still to come can precede it.
+//!
+//! Its promise: when it is ready, what it gives, and exactly how far it asks into its input.
 #![tactic(auto)]
 
 mod laws;

@@ -1,4 +1,7 @@
 //! Lists in an order of keys: what lists whose keys rise have in common.
+//!
+//! Its promise: it has laws and no code that runs: what a list is that is sorted by keys, what two such lists share,
+//! how far one has to be asked into, and what the merge of two is.
 #![tactic(auto)]
 
 mod asks;

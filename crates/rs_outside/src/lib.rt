@@ -1,5 +1,8 @@
 //! The outside: files that are fetched and sinks that are written, as traits whose contracts say what an object
 //! tells of itself and when it may fail; fakes in memory; and the thin edge to the system.
+//!
+//! Its promise: a fetch and a put do to what an object tells exactly what their definitions say, and say failed only
+//! where the object's count of faults rose.
 #![tactic(auto)]
 
 mod dir_files;

@@ -1,4 +1,6 @@
 //! The plain way to answer queries: everything is joined, filtered, scored and stably sorted.
+//!
+//! Its promise: the rows are those of the definition of the answer, by exactly its calls.
 #![tactic(auto)]
 
 mod answer;

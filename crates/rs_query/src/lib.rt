@@ -1,4 +1,7 @@
 //! Bound queries: what their parts stand for among the tables of a catalogue, and what their answers are.
+//!
+//! Its promise: what the parts of a query are for some rows, and the combinations of a block in their order, are as
+//! defined. The answers of queries are defined here.
 #![tactic(auto)]
 
 mod ask;

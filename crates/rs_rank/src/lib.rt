@@ -1,5 +1,8 @@
 //! Ranking: the keys by which every operator draws its rows, the bounds that they hold, and the stable order of scored
 //! rows.
+//!
+//! Its promise: the stable order is the one list of the same rows that is in order and keeps ties as they were; the
+//! order of keys is total; and the merge of two keys keeps their order.
 #![tactic(auto)]
 
 mod answer;

@@ -1,4 +1,7 @@
 //! A run of `ranksql`: all that the command does.
+//!
+//! Its promise: the events of a run, its status and its line on standard error are as defined, for all words, files,
+//! scorers and outputs.
 #![tactic(auto)]
 
 mod command;

@@ -1,4 +1,7 @@
 //! Samples of the tables of a query, and what planning expects by them: how many rows each part of a plan gives.
+//!
+//! Its promise: which rows are sampled, by exactly which calls, and the estimates that planning asks for, are as
+//! defined for the seed.
 #![tactic(auto)]
 
 mod ask;

@@ -1,5 +1,8 @@
 //! Scans: what gives the rows of a table, or of a rank index, one after another. A scan is over a view, the first rows of its
 //! table. Rows that join the table later are not in it.
+//!
+//! Its promise: a scan gives the first rows of its table, or those of its index, one after another, and its rows can be
+//! the input of an operator.
 #![tactic(auto)]
 
 mod laws;

@@ -1,5 +1,8 @@
 //! What one statement of a script does: it makes a table, a predicate or a rank index, answers or explains a query, or opens, asks
 //! or closes a cursor. It says with which faults runs end, too.
+//!
+//! Its promise: a statement's fetches, calls and puts, in order, the catalogue and open cursors that it leaves, or the
+//! fault that ends the run, are as defined; so are the line and the status of each fault.
 #![tactic(auto)]
 
 mod analyzed;

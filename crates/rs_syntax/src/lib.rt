@@ -1,4 +1,7 @@
 //! Statements of query scripts, and the parser that reads them.
+//!
+//! Its promise: the statements are those that the tokens parse to, or the fault is at the first place at which they
+//! parse to none.
 #![tactic(auto)]
 
 mod fault;

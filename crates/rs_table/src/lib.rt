@@ -1,4 +1,7 @@
 //! Tables of values, read from CSV files.
+//!
+//! Its promise: a table is the rows of the file's records, or the first thing that refuses them; and the rows of every
+//! table fit its columns.
 #![tactic(auto)]
 
 mod cell;

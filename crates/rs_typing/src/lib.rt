@@ -1,4 +1,7 @@
 //! Typing: what an expression is, or the first rule that it breaks.
+//!
+//! Its promise: an expression is typed by the rules, over whatever its columns stand for, or refused by the first rule
+//! that it breaks, with its place.
 #![tactic(auto)]
 
 mod fault;

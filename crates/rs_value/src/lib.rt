@@ -1,4 +1,7 @@
 //! Values, texts and lists: what a table's cells hold.
+//!
+//! Its promise: a text is always UTF-8; `int_of` and `decimal_of` read exactly the numbers of their definitions; values
+//! of one kind are ordered and compared; and want of memory is answered by `Memory`, which is the one free answer.
 #![tactic(auto)]
 
 mod kind;
