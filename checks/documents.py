@@ -3,9 +3,10 @@
 
 A document's indented blocks are looked at one after another:
 - a block of commands is run in a folder that has what the repository has, with the built program as ./ranksql. Each command has to
-  end with status 0, and everything that it prints is kept. Words between backticks that are a command of the program are run too;
-- a block of printed rows or of a plan has to stand, line after line, in what a command of the document printed, the examples'
-  files of output, or a table file of the examples;
+  end with status 0, or with a fault that the document shows, and everything that it prints is kept. Words between backticks that
+  are a command of the program or of a helper are run too;
+- a block of printed rows, of a plan or of a fault has to stand, line after line, in what a command of the document printed, the
+  examples' files of output, or a table file of the examples;
 - a block of statements has to be of the language, whatever else is wrong with it.
 The file behind the words `The file` in front of a command is what that command reads. Each script of examples/ says in a comment
 which commands its file of output comes from. The rows of the tables that have a script and what is told are run too. The manual
@@ -20,6 +21,7 @@ import re
 import subprocess
 import sys
 import tempfile
+import textwrap
 
 ROOT = os.path.dirname(os.path.dirname(os.path.realpath(__file__)))
 PROGRAM = os.path.abspath(os.environ.get("RANKSQL") or os.path.join(ROOT, "crates", "ranksql", "out", "ranksql"))
@@ -38,10 +40,10 @@ LEFT_OUT = (
 # A word in capitals stands for something that a user chooses.
 FORM = re.compile(r"(?<![\w'\"$-])(FILE|COLUMN|MAX|K|SCRIPT|SEED|NUMBER|ROWS|PREFIX|OLD|NEW|NAME|N|WORD)(?![\w'\"=])")
 COMMAND = re.compile(r"(\./)?(ranksql|install|tools/\S+|examples/\S+\.sh|checks/\S+|bench/\S+|\.ci/run|python3|zcat|cat|head|tail|cd|rt|man|git|N=\d+;|cases=)(?= |$|\S*$)")
-INLINE = re.compile(r"(\./)?(ranksql )?(top|plain|run|gen) \S+")
+INLINE = re.compile(r"((\./)?ranksql )?(top|plain|run|gen) \S+|tools/(why|prepare|advise) \S+")
 STATEMENT = re.compile(r"(CREATE (TABLE|PREDICATE|RANK INDEX)|SELECT|EXPLAIN|DECLARE|FETCH|CLOSE) ")
 PRINTED = re.compile(r"\d+,-?\d+,|\d+,-?\d+$|\s*(SeqScan|RankScan|Rank|HashRankJoin|NestedRankJoin|Distinct|Union|UnionAll|Intersect|Except) .*est=")
-FAULT = re.compile(r"(script|session|table|score|read): ")
+FAULT = re.compile(r"(script|session|table|score|read|usage): ")
 
 failures = 0
 
@@ -117,10 +119,24 @@ def parts(text):
             block.append("")
             continue
         if block:
-            yield "block", "\n".join(block).rstrip("\n").split("\n")
+            # A block of a list stands further in.
+            yield "block", textwrap.dedent("\n".join(block)).rstrip("\n").split("\n")
             block, is_open = [], False
         if line:
             yield "text", line
+
+
+def whole_commands(lines):
+    """The commands of a block, one a line, or with a text of their own up to a line END."""
+    made, is_text = [], False
+    for line in lines:
+        if is_text:
+            made[-1] += "\n" + line
+            is_text = line != "END"
+        elif line.strip():
+            made.append(line)
+            is_text = line.endswith("<<'END'")
+    return made
 
 
 def contains(lines, block):
@@ -142,11 +158,13 @@ class Document:
         self.name, self.folder = name, folder
         self.printed = list(shown_files())
         self.is_file_next = False
+        self.faults = []
 
     def look(self):
         with open(os.path.join(ROOT, self.name), encoding="utf-8") as file:
             text = file.read()
         found = list(parts(text))
+        self.faults = [what for kind, what in found if kind == "block" and FAULT.match(what[0])]
         # A fault line or rows may stand in front of their command in a sentence, so the commands come first.
         for kind, what in found:
             self.commands(kind, what)
@@ -160,17 +178,16 @@ class Document:
         if kind == "text":
             self.is_file_next = what.rstrip().endswith("The file") or what.strip() == "The file"
             for words in re.findall(r"`([^`]+)`", what):
-                if INLINE.fullmatch(words.split(" --")[0]) or INLINE.match(words) and not FORM.search(words):
-                    self.command(words if "ranksql" in words else "./ranksql " + words, False)
+                if INLINE.match(words):
+                    self.command(words if words.startswith(("./", "ranksql", "tools/")) else "./ranksql " + words, False)
             return
         if self.is_file_next:
             self.folder.write("h.csv", ("\n".join(what) + "\n").encode())
             self.is_file_next = False
             return
         if what and COMMAND.match(what[0]) and not PRINTED.match(what[0]):
-            for line in what:
-                if line.strip():
-                    self.command(line.strip(), True)
+            for command in whole_commands(what):
+                self.command(command, True)
 
     def command(self, line, must_run):
         if FORM.search(line):
@@ -183,11 +200,12 @@ class Document:
         status, out, said = self.folder.run(line)
         if not must_run and status in (2, 3) and not out:
             return  # Words that only look like a command, or that name a file of the reader.
-        tell(status == 0, f"{self.name}: {line}", f"status {status}\n{said}")
-        self.printed.append(out.splitlines())
+        is_shown = status < 70 and any(contains(said.splitlines(), fault) for fault in self.faults)
+        tell(status == 0 or is_shown, f"{self.name}: {line.splitlines()[0]}", f"status {status}\n{said}")
+        self.printed += [out.splitlines(), said.splitlines()]
 
     def block(self, lines):
-        if PRINTED.match(lines[0]):
+        if PRINTED.match(lines[0]) or FAULT.match(lines[0]):
             tell(any(contains(printed, lines) for printed in self.printed), f"{self.name}: the rows `{lines[0][:60]}` ..", "\n".join(lines))
         elif STATEMENT.match(lines[0]) and lines[-1].rstrip().endswith(";"):
             told = self.folder.told("\n".join(lines))
