@@ -80,7 +80,7 @@ def of_table(fault, parser):
     name = statement.columns[column][0].says if statement and column < len(statement.columns) else header[column] if column < len(header) else ""
     if fault.variant == "NotUtf8":
         return token, lines, (
-            f"Row {row} has a text in column {fault.numbers[1]} that isn't UTF-8. The file was likely saved in Latin-1: {helper('prepare')}"
+            f"{f'Row {row}' if row else 'The header'} has a text in column {fault.numbers[1]} that isn't UTF-8. The file was likely saved in Latin-1: {helper('prepare')}"
             f" {fault.name} writes it anew, and so does iconv -f CP1252 -t UTF-8 {fault.name} >NEW."
         )
     cells = [other.fields[column] for other in found[1:] if column < len(other.fields)]
