@@ -109,19 +109,15 @@ class Folder:
 
 def parts(text):
     """The parts of a document in their order: ("block", lines) and ("text", line)."""
-    block, is_open = [], False
+    block = []
     for line in [*text.splitlines(), ""]:
-        if line.startswith("    ") and (is_open or not block):
-            block.append(line[4:])
-            is_open = True
-            continue
-        if not line and is_open:
-            block.append("")
+        if line.startswith("    "):
+            block.append(line)
             continue
         if block:
             # A block of a list stands further in.
-            yield "block", textwrap.dedent("\n".join(block)).rstrip("\n").split("\n")
-            block, is_open = [], False
+            yield "block", textwrap.dedent("\n".join(block)).split("\n")
+            block = []
         if line:
             yield "text", line
 

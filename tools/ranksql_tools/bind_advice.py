@@ -312,7 +312,7 @@ def set_columns(names, token, place):
 
 
 def too_wide(names, token, place):
-    return "The numbers of this part could be too great for any row. Multiply two columns at most, or divide a product before the next one."
+    return "The numbers of this part could be too great to compute with. Multiply two columns at most, or divide a product before the next one."
 
 
 def bad_divisor(names, token, place):

@@ -269,7 +269,8 @@ def of_read(fault, parser, script):
         if os.path.exists(fault.name) and not os.access(fault.name, os.R_OK):
             return token, "You may not read this file. Its rights are changed by chmod."
         return token, "The system can't read this file. Look at its name: what stands in front of a `/` has to be a folder."
-    says = f"There is no {what} {fault.name} here." if fault.name else f"The name of the {what} is empty."
+    kind = "script" if what == "script" else "file"
+    says = f"There is no {kind} {fault.name} here." if fault.name else f"The name of the {kind} is empty."
     if what == "table" and script:
         beside = os.path.join(os.path.dirname(script), fault.name)
         if os.path.dirname(script) and not os.path.isabs(fault.name) and os.path.exists(beside):
