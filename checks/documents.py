@@ -186,7 +186,7 @@ class Document:
                 self.command(command, True)
 
     def command(self, line, must_run):
-        if FORM.search(line):
+        if FORM.search(line.splitlines()[0]):
             return
         for pattern, _ in LEFT_OUT:
             if pattern.match(line):
