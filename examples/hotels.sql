@@ -1,5 +1,6 @@
 -- Hotels, ranked by price and by rating. The file of the table is named from the folder in which the script is run,
 -- here the top of the repository.
+-- hotels.out is what `./ranksql plain examples/hotels.sql` prints. Under `run` the same rows are printed, and behind them two plans.
 CREATE TABLE hotels (name TEXT, city TEXT, price INT, rating INT) FROM 'examples/hotels.csv';
 
 -- A low price scores high: a room for nothing has 400, and one for 400 has 0.
@@ -12,9 +13,9 @@ CREATE PREDICATE liked (rating INT) MAX 100 COST 3 AS
          ELSE rating
     END;
 
--- The hotels in the order of their prices. To make it, the predicate is called once for each hotel. Under `plain` no
--- query uses an index: each calls its predicates on every row that satisfies its condition. An index is for an engine
--- that isn't there yet, which will take the best rows from it without a call.
+-- The hotels in the order of their prices. To make it, the predicate is called once for each hotel. Under `run` a query that
+-- ranks by this predicate can take the best rows from the index without a call. Under `plain` no query uses an index: each
+-- calls its predicates on every row that satisfies its condition.
 CREATE RANK INDEX by_price ON hotels (cheap(price));
 
 -- The five cheapest hotels. The greatest score comes first.
@@ -34,6 +35,7 @@ WHERE h.rating > 0
 ORDER BY cheap(h.price) + 3 * liked(h.rating) DESC
 LIMIT 10;
 
--- Under `plain` EXPLAIN and EXPLAIN ANALYZE look for what is wrong in a query, and print nothing.
+-- Under `run` EXPLAIN prints the plan of the query, and EXPLAIN ANALYZE the plan with what it did. Under `plain` both look for
+-- what is wrong in the query, and print nothing.
 EXPLAIN SELECT name, city, price FROM hotels ORDER BY cheap(price) LIMIT 5;
 EXPLAIN ANALYZE SELECT name, city, price FROM hotels ORDER BY cheap(price) LIMIT 5;

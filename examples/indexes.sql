@@ -1,5 +1,6 @@
 -- A table, predicates and rank indexes. The file of the table is named from the folder in which the script is run, here
 -- the top of the repository. The script prints nothing: it ends with status 0 where all is made.
+-- indexes.out is what `./ranksql plain examples/indexes.sql` prints, and `./ranksql run examples/indexes.sql 1` too.
 CREATE TABLE hotels (name TEXT, city TEXT, price INT, rating INT) FROM 'examples/hotels.csv';
 
 CREATE PREDICATE cheap (price INT) MAX 400 AS 400 - price;

@@ -1,5 +1,6 @@
 -- DISTINCT and the four set operators, over the tables of the other examples. The files of the tables are named from
 -- the folder in which the script is run, here the top of the repository.
+-- sets.out is what `./ranksql plain examples/sets.sql` prints, and `./ranksql run examples/sets.sql 1` too.
 CREATE TABLE hotels (name TEXT, city TEXT, price INT, rating INT) FROM 'examples/hotels.csv';
 
 CREATE TABLE lodgings (name TEXT, city TEXT, district TEXT, price INT, east INT, north INT)

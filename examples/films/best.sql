@@ -1,6 +1,7 @@
 -- The ten best films of at most two hours: well liked by many, and not too old. The files of the tables are named from
 -- the folder in which the script is run, here the top of the repository. README.md beside this script says what the
 -- columns are and how the file was made.
+-- best.out is what `./ranksql plain examples/films/best.sql` prints, and `./ranksql run examples/films/best.sql 1` too.
 CREATE TABLE films (title TEXT, genre TEXT, year INT, minutes INT, rating INT, votes INT)
     FROM 'examples/films/films.csv';
 

@@ -1,6 +1,7 @@
 -- What the plan of the five best evenings does when it is run, over the tables of evening.sql, which explains the columns and
 -- the predicates. `plain` says nothing of it; `run` asks for all rows, puts none of them, and then puts the text of the plan
 -- with what each operator has done. docs/PLANS.md explains what it says.
+-- analyzed.out is what `./ranksql run examples/travel/analyzed.sql 1` prints.
 CREATE TABLE hotels (name TEXT, city TEXT, district TEXT, price INT, east INT, north INT)
     FROM 'examples/travel/hotels.csv';
 CREATE TABLE restaurants (name TEXT, city TEXT, district TEXT, rating INT)

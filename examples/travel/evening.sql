@@ -2,6 +2,7 @@
 -- that lies close to the hotel. The files of the tables are named from the folder in which the script is run, here the
 -- top of the repository. Names and figures are made up or rounded. The hotels and restaurants are made up. The museums
 -- aren't, but their places are only roughly right.
+-- evening.out is what `./ranksql plain examples/travel/evening.sql` prints, and `./ranksql run examples/travel/evening.sql 1` too.
 
 -- A price is in euros a night. A place is so many metres east and north of the centre of its city.
 CREATE TABLE hotels (name TEXT, city TEXT, district TEXT, price INT, east INT, north INT)
@@ -26,8 +27,8 @@ CREATE PREDICATE tasty (rating INT) MAX 100 AS rating;
 CREATE PREDICATE near (east INT, north INT, to_east INT, to_north INT) MAX 150 COST 3 AS
     MAX(0, 1500 - ABS(east - to_east) - ABS(north - to_north)) / 10;
 
--- Hotels and restaurants in the order of their scores. No query over several tables uses an index yet.
--- The query calls `near` with columns of two tables, and an index is of one, so there can be none for it.
+-- Hotels and restaurants in the order of their scores. Under `run` the query takes the best of both from these indexes, and
+-- joins them as it goes. It calls `near` with columns of two tables, and an index is of one, so there can be none for it.
 CREATE RANK INDEX by_price ON hotels (cheap(price));
 CREATE RANK INDEX by_rating ON restaurants (tasty(rating));
 

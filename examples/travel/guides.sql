@@ -1,5 +1,6 @@
 -- Restaurants of one city or another, in both of two guides, and in one guide but not in the other. The restaurants are
 -- those of evening.sql. Both guides print the ratings of one panel, so a restaurant has the same row in each of them.
+-- guides.out is what `./ranksql plain examples/travel/guides.sql` prints, and `./ranksql run examples/travel/guides.sql 1` too.
 CREATE TABLE restaurants (name TEXT, city TEXT, district TEXT, rating INT)
     FROM 'examples/travel/restaurants.csv';
 CREATE TABLE first_guide (name TEXT, city TEXT, rating INT) FROM 'examples/travel/first_guide.csv';

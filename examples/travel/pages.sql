@@ -1,5 +1,6 @@
 -- A search in pages: the cheap hotels with a good restaurant in their district, five at a time. The tables and the
 -- predicates are those of evening.sql, which explains them.
+-- pages.out is what `./ranksql plain examples/travel/pages.sql` prints, and `./ranksql run examples/travel/pages.sql 1` too.
 CREATE TABLE hotels (name TEXT, city TEXT, district TEXT, price INT, east INT, north INT)
     FROM 'examples/travel/hotels.csv';
 CREATE TABLE restaurants (name TEXT, city TEXT, district TEXT, rating INT)

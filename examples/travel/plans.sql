@@ -1,5 +1,6 @@
 -- Three plans over the tables of evening.sql, which explains the columns and the predicates. `plain` says nothing of a
 -- plan; `run` puts the text of each. docs/PLANS.md explains what it says.
+-- plans.out is what `./ranksql run examples/travel/plans.sql 1` prints.
 CREATE TABLE hotels (name TEXT, city TEXT, district TEXT, price INT, east INT, north INT)
     FROM 'examples/travel/hotels.csv';
 CREATE TABLE restaurants (name TEXT, city TEXT, district TEXT, rating INT)

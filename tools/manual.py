@@ -1,0 +1,188 @@
+#!/usr/bin/env python3
+"""Makes the manual page ranksql(1) from docs/FORMATS.md, docs/GRAMMAR.md and the examples, so that it says what they say.
+
+usage: tools/manual.py >docs/ranksql.1
+
+checks/documents.py compares the page in docs with what this makes."""
+
+import os
+import re
+import sys
+
+ROOT = os.path.dirname(os.path.dirname(os.path.realpath(__file__)))
+
+
+class Missing(Exception):
+    """A part that the page needs isn't in its document."""
+
+
+def read(name):
+    with open(os.path.join(ROOT, name), encoding="utf-8") as file:
+        return file.read()
+
+
+def section(document, heading):
+    """The lines of a section, up to the next heading."""
+    lines = read(document).splitlines()
+    for start, line in enumerate(lines):
+        if line.lstrip("#") == " " + heading and line.startswith("#"):
+            break
+    else:
+        raise Missing(f"{document} has no section {heading}")
+    end = next((place for place in range(start + 1, len(lines)) if lines[place].startswith("#")), len(lines))
+    return lines[start + 1:end]
+
+
+def table(lines, first):
+    """The rows of the table whose first column has this name."""
+    for start, line in enumerate(lines):
+        if line.startswith("|") and cells(line)[0] == first:
+            rows = []
+            for row in lines[start + 2:]:
+                if not row.startswith("|"):
+                    return rows
+                rows.append(cells(row))
+            return rows
+    raise Missing(f"there is no table of {first}")
+
+
+def cells(row):
+    return [cell.strip() for cell in row.strip().strip("|").split("|")]
+
+
+def blocks(lines):
+    """The indented blocks of a section, each as its lines."""
+    found, current = [], []
+    for line in [*lines, ""]:
+        if line.startswith("    "):
+            current.append(line[4:])
+        elif current:
+            found.append(current)
+            current = []
+    return found
+
+
+def escaped(text):
+    """A text as roff has it: marks of the documents are taken away, code is bold, and a line never begins a request."""
+    text = text.replace("\\", "\\e").replace("-", "\\-")
+    text = re.sub(r"\[([^\]]*)\]\([^)]*\)", r"\1", text)
+    text = re.sub(r"`([^`]*)`", r"\\fB\1\\fR", text)
+    text = re.sub(r"\*\*([^*]*)\*\*", r"\\fB\1\\fR", text)
+    return "\\&" + text if text[:1] in (".", "'") else text
+
+
+def plain(text):
+    """A text of an example, as it stands."""
+    text = text.replace("\\", "\\e").replace("-", "\\-").replace("'", "\\(aq").replace("`", "\\(ga")
+    return "\\&" + text if text[:1] == "." else text
+
+
+def example(lines):
+    return [".PP", ".RS 4", ".nf", *(plain(line) for line in lines), ".fi", ".RE"]
+
+
+def entries(rows):
+    """A list of words, each with what it means."""
+    made = []
+    for word, *meaning in rows:
+        made += [".TP", escaped(word), escaped(". ".join(part for part in meaning if part)) + "."]
+    return made
+
+
+def statuses():
+    """Each status with its fault lines as examples."""
+    made = []
+    for status, line, comes in table(section("docs/FORMATS.md", "Statuses and fault lines"), "status"):
+        if status:
+            made += [".TP", escaped(f"**{status}**")]
+        else:
+            made += [".br"]
+        line = re.sub(r" ?` and a text of the \w+ table", " TEXT`, with one of the texts below", line)
+        made.append(escaped((f"{line}: " if line != "(none)" else "") + comes.rstrip(".")) + ".")
+    return made
+
+
+def texts():
+    """The texts of the fault lines of tables and of scripts."""
+    lines = section("docs/FORMATS.md", "Statuses and fault lines")
+    return [
+        ".SS Texts of a table's fault", *entries(table(lines, "text")),
+        ".SS Texts of a script's fault", "The number is the place of a byte in the script, counted from 0.", *entries(table(lines, "text of a script")),
+    ]
+
+
+def words():
+    """The forms of the command line, and what each word is."""
+    lines = section("docs/FORMATS.md", "The command line")
+    return blocks(lines)[0], table(lines, "word")
+
+
+def examples():
+    """A run of each word, with what it prints."""
+    row = section("docs/FORMATS.md", "The printed row")
+    generated = section("docs/FORMATS.md", "The generated input")
+    file, printed = blocks(row)[1:3]
+    script, rows = read("examples/first.sql").splitlines(), read("examples/first.out").splitlines()
+    return [
+        ".SS top", "The three rows of the greatest price, where the file h.csv is", *example(file), ".PP",
+        *example(["$ ranksql top h.csv price 100 3", *printed]),
+        ".SS plain", "A script, at the top of the repository; examples/first.sql is", *example(script), ".PP",
+        *example(["$ ranksql plain examples/first.sql", *rows]),
+        ".SS run", "The same script by a plan, with the seed 1, prints the same rows", *example(["$ ranksql run examples/first.sql 1", *rows]),
+        ".SS gen", "Tables of one row, made from the number 0", *example(["$ ranksql gen 0 1", *blocks(generated)[-1]]),
+    ]
+
+
+def page():
+    forms, meanings = words()
+    made = [
+        ".\\\" Made by tools/manual.py from the documents. Change those, and make it anew.",
+        '.TH RANKSQL 1 "" "ranksql" "User Commands"',
+        ".SH NAME",
+        "ranksql \\- answers top\\-k queries over CSV files",
+        ".SH SYNOPSIS",
+    ]
+    for form in forms:
+        made += [".B " + plain(" ".join(form.split()[:2])), plain(" ".join(form.split()[2:])), ".br"]
+    made += [
+        ".SH DESCRIPTION",
+        "Ranks the best few combinations of rows of several tables by a weighted sum of scores. A script makes tables from CSV files,",
+        "predicates that give scores, and indexes by score, and asks queries. \\fBplain\\fR scores every combination and then prints.",
+        "\\fBrun\\fR chooses a plan by a sample, prints each row before it looks for the next one, and calls predicates only as far as the",
+        "order of the rows needs. Both print the same rows in the same order.",
+        ".SH WORDS",
+        *entries(meanings),
+        ".SH STATEMENTS",
+        "A script has these statements, separated by semicolons.",
+    ]
+    for what, shown in table(section("docs/GRAMMAR.md", "Statements"), "statement"):
+        made += [".PP", escaped(what) + ":", *example([shown.strip("`")])]
+    made += [
+        ".SH EXIT STATUS",
+        "Where something is wrong, one line on standard error says what and where.",
+        *statuses(),
+        *texts(),
+        ".SH EXAMPLES",
+        *examples(),
+        ".SH SEE ALSO",
+        "\\fBranksql\\-why\\fR, which runs a script and says what to do about its fault; \\fBranksql\\-prepare\\fR, which makes a table file",
+        "and its CREATE TABLE from other files; \\fBranksql\\-advise\\fR, which says beforehand what a query costs. Each has \\fB\\-\\-help\\fR.",
+    ]
+    return "\n".join(made) + "\n"
+
+
+def main():
+    if sys.argv[1:]:
+        print(__doc__)
+        return 0 if sys.argv[1] in ("--help", "-h") else 2
+    try:
+        sys.stdout.buffer.write(page().encode())
+        sys.stdout.flush()
+    except (OSError, Missing, ValueError) as fault:
+        print(f"manual.py: {fault}", file=sys.stderr)
+        return 1
+    return 0
+
+
+if __name__ == "__main__":
+    sys.exit(main())

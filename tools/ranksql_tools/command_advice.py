@@ -1,0 +1,84 @@
+"""What to do about the words of the command line, about cursors, and about streams."""
+
+import os
+
+MOST_SEED = 18_446_744_073_709_551_615
+FORMS = {
+    "top": "ranksql top FILE COLUMN MAX K",
+    "run": "ranksql run SCRIPT SEED",
+    "plain": "ranksql plain SCRIPT",
+    "gen": "ranksql gen NUMBER ROWS",
+}
+WORDS = {"top": 5, "run": 3, "plain": 2, "gen": 3}
+
+
+def of_usage(words):
+    """What to do about a faulty command line."""
+    if not words:
+        return "A word is missing that says what to do: `run SCRIPT SEED` and `plain SCRIPT` run a script."
+    word = words[0]
+    if word in ("--help", "-h", "help", "-?"):
+        return "The program has no --help. `run SCRIPT SEED` and `plain SCRIPT` run a script; the manual page is ranksql(1)."
+    if word in ("--version", "-V", "version"):
+        return "The program has no --version."
+    if word not in FORMS:
+        if word.lower() in FORMS:
+            return f"The word is written in lower case: {word.lower()}."
+        if os.path.exists(word):
+            return f"A word stands in front of the script: `ranksql run {word} 1`, or `ranksql plain {word}`."
+        return f"`{word}` is no word of the program. `run SCRIPT SEED` and `plain SCRIPT` run a script."
+    if len(words) != WORDS[word]:
+        return of_count(word, words)
+    return of_numbers(word, words)
+
+
+def of_count(word, words):
+    """What to do where there are too few or too many words."""
+    if word == "run" and len(words) == 2:
+        return (
+            f"The seed is missing, a number of your choice behind the script: ranksql run {words[1]} 1. It chooses the rows of the sample by which"
+            " the plan is made; the rows that are printed are the same for each."
+        )
+    if word == "plain" and len(words) == 3:
+        return f"`plain` takes no sample, so it has no seed: ranksql plain {words[1]}."
+    many = "many" if len(words) > WORDS[word] else "few"
+    return f"There are too {many} words. The form is `{FORMS[word]}`; a name with blanks stands between quotes of the shell."
+
+
+def of_numbers(word, words):
+    """What to do where a number is none, or out of its range."""
+    ranges = {
+        "top": [(3, "MAX", 1, 4_294_967_295), (4, "K", 0, 1_000_000)],
+        "run": [(2, "SEED", 0, MOST_SEED)],
+        "plain": [],
+        "gen": [(1, "NUMBER", 0, 4_294_967_295), (2, "ROWS", 1, 2_000)],
+    }
+    for place, name, least, most in ranges[word]:
+        text = words[place]
+        if not (text.isascii() and text.isdigit() and len(text) <= 20 and least <= int(text) <= most):
+            return f"{name} is a whole number from {least:,} to {most:,}, and `{text}` is none. The form is `{FORMS[word]}`."
+    return f"The form is `{FORMS[word]}`."
+
+
+def of_session(fault):
+    """What to do about a cursor."""
+    if fault.variant == "Unknown":
+        return (
+            f"No cursor {fault.name} is open here. Open it first, by DECLARE {fault.name} CURSOR FOR SELECT ..; names are compared letter by letter,"
+            " and CLOSE ends a cursor."
+        )
+    if fault.variant == "NameTaken":
+        return f"The cursor {fault.name} is still open. Close it first, by CLOSE {fault.name};, or choose another name."
+    return "64 cursors are open, and no more can be. Close some first, by CLOSE name;."
+
+
+def of_write():
+    return "Standard output took no more: the program that reads it has ended (as head does), or the disk is full."
+
+
+def of_memory():
+    return "There was not enough memory. `run` keeps fewer combinations than `plain`; a smaller table or a narrower WHERE needs less."
+
+
+def of_probe(fault):
+    return f"A call of the predicate {fault.name} failed. The program evaluates formulas itself and never ends so."

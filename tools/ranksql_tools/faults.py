@@ -1,0 +1,57 @@
+"""The fault lines of the program."""
+
+import re
+from typing import NamedTuple
+
+SCRIPT = re.compile(r"script: (?:(lex|parse|bind|catalogue) )?(\w+) at (\d+)")
+SCORE = re.compile(r"score: (.*) rows((?: \d+)+): (-?\d+) is not in 0\.\.(\d+)")
+TABLE = re.compile(
+    r"table: (.*): (NoHeader|NoColumn|TooManyRows|TooManyColumns found \d+|HeaderDiffers column \d+"
+    r"|FieldCount row \d+ found \d+|NotUtf8 row \d+ column \d+|NotInt row \d+ column \d+)",
+    re.DOTALL,
+)
+READ = re.compile(r"read: (.*): (missing|too long|failed)", re.DOTALL)
+SESSION = re.compile(r"session: (NameTaken|Unknown|Full) (.*)", re.DOTALL)
+PROBE = re.compile(r"probe: (.*)", re.DOTALL)
+
+
+class Fault(NamedTuple):
+    """What a fault line says: its first word, the step of a script that refuses, what is wrong, the name or the file, the
+    place in the script, and the numbers behind it."""
+
+    kind: str
+    step: str = ""
+    variant: str = ""
+    name: str = ""
+    place: int = 0
+    numbers: tuple = ()
+
+
+def read_fault(line):
+    """The fault of a line without its line feed, or None where it is none that the program puts."""
+    found = SCRIPT.fullmatch(line)
+    if found:
+        return Fault("script", found[1] or "", found[2], place=int(found[3]))
+    found = SCORE.fullmatch(line)
+    if found:
+        rows = tuple(int(row) for row in found[2].split())
+        return Fault("score", name=found[1], numbers=(int(found[3]), int(found[4]), *rows))
+    found = TABLE.fullmatch(line)
+    if found:
+        variant, *rest = found[2].split()
+        numbers = tuple(int(word) for word in rest if word.isdigit())
+        return Fault("table", variant=variant, name=found[1], numbers=numbers)
+    found = READ.fullmatch(line)
+    if found:
+        return Fault("read", variant=found[2], name=found[1])
+    found = SESSION.fullmatch(line)
+    if found:
+        return Fault("session", variant=found[1], name=found[2])
+    found = PROBE.fullmatch(line)
+    if found:
+        return Fault("probe", name=found[1])
+    if line.startswith("usage: "):
+        return Fault("usage")
+    if line in ("write", "memory"):
+        return Fault(line)
+    return None
