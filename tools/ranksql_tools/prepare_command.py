@@ -40,7 +40,7 @@ class Options(NamedTuple):
 
 
 def parser():
-    words = argparse.ArgumentParser(prog="prepare", description=ABOUT, epilog=STATUSES, allow_abbrev=False,
+    words = argparse.ArgumentParser( description=ABOUT, epilog=STATUSES, allow_abbrev=False,
                                     formatter_class=argparse.RawDescriptionHelpFormatter)
     words.add_argument("files", nargs="+", metavar="FILE", help="a CSV or TSV file")
     table = words.add_argument_group("the table")
