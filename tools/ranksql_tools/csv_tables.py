@@ -76,7 +76,7 @@ def with_names(source, shape, options):
     if options.no_header:
         lengths[len(headings)] += 1
         headings = [""] * len(headings)
-    elif set(lengths) == {len(headings) + 1} and shape.filled_behind:
+    elif set(lengths) == {len(headings) + 1} and shape.filled_behind and not headings[0].startswith("#"):
         headings = ["row"] + headings
         notes.append("Each row has one field more than the header: the first is its name, in the column row")
         shape = shape._replace(filled_behind=False)
