@@ -1,0 +1,4 @@
+pub mod AnswerFacts
+pub mod PairFacts
+pub mod RowFacts
+pub mod SoundFacts

@@ -1,0 +1,5 @@
+pub mod Good
+pub mod Pairs
+pub mod Rows
+pub mod Sound
+pub mod Verdicts

@@ -1,0 +1,11 @@
+//! Certificates: an answer of a join of two feeds with the rows that were drawn for it, and a check of whether these rows prove it.
+//! The check shares nothing with the join.
+#![tactic(auto)]
+
+mod cert;
+mod laws;
+mod verdict;
+
+pub use cert::{Cert, CertSide};
+pub use laws::good_certificates_are_sound;
+pub use verdict::Verdict;
