@@ -13,7 +13,8 @@ use Rattle.rs_order.specs.Sorting.{sorted}
 use Rattle.rs_order.proofs.EachFacts.{each-weaker}
 use Rattle.rs_order.proofs.SortingFacts.{Climbs-sorted, In-sorted, In-sorted-back, sorted-places}
 use Rattle.rs_rank.proofs.SortedFacts.{stable-by_score}
-use Rattle.rs_cert.specs.Pairs.{Pair, answers, numbers_cmp, pair_cmp, pairs_from}
+use Rattle.rs_cert.specs.declared.pair.Pair.{Pair}
+use Rattle.rs_cert.specs.Pairs.{answers, numbers_cmp, pair_cmp, pairs_from}
 use Rattle.rs_cert.proofs.PairFacts.{Climbs-pairs, In-pairs, In-pairs-back, IsPair, numbers_cmp-total, pair_of}
 
 -- the order of pairs is total

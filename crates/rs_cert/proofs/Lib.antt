@@ -1,4 +1,6 @@
 pub mod AnswerFacts
+pub mod ByTextFacts
+pub mod ClaimFacts
 pub mod PairFacts
 pub mod RowFacts
 pub mod SoundFacts

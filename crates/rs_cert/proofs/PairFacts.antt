@@ -5,13 +5,15 @@ use Rattle.std.specs.Cmp.Rules.{comparing}
 use Rattle.std.specs.List.{AllByRecursion}
 use Rattle.std.specs.Ordering.{nat_cmp, ordering_then}
 use Rattle.std.specs.Str.{bytes_eq}
+use Rattle.std.specs.declared.cmp.Ordering.{Ordering}
 use Rattle.std.specs.declared.cmp.Ordering.TheVariants.{Less, Equal}
 use Rattle.rs_feed.specs.declared.feed_row.FeedRow.{FeedRow}
 use Rattle.rs_order.specs.Climbing.{Climbs, In, Precedes}
 use Rattle.rs_order.proofs.ClimbingFacts.{AllByRecursion-from_In}
 use Rattle.rs_order.proofs.EachFacts.{each-append}
 use Rattle.rs_order.proofs.ItemFacts.{In-append, In-left, In-right}
-use Rattle.rs_cert.specs.Pairs.{Pair, numbers_cmp, pairs_from, pairs_of_row}
+use Rattle.rs_cert.specs.declared.pair.Pair.{Pair}
+use Rattle.rs_cert.specs.Pairs.{numbers_cmp, pairs_from, pairs_of_row}
 use Rattle.rs_cert.proofs.RowFacts.{none_at, same_at}
 
 -- a pair of these numbers and rows
@@ -128,11 +130,11 @@ right-first a b e h =
     ap (λ o. ordering_then o (nat_cmp a.right b.right)) (sym (nat_cmp_is a.left b.left Equal e)) ∙ sym (nat_cmp_is a.right b.right Less h)
 
 -- lists of which the first one comes before the second one climb together
-Climbs-append : (xs ys : List Pair) → Climbs numbers_cmp (λ pair. pair) xs → Climbs numbers_cmp (λ pair. pair) ys → ((x y : Pair) → In x xs → In y ys → numbers_cmp x y ≡ Less) → Climbs numbers_cmp (λ pair. pair) (xs ++ ys)
-Climbs-append [] ys c d before = d
-Climbs-append (x ∷ xs) ys c d before = (
-  each-append (Precedes numbers_cmp (λ pair. pair) x) xs ys c.0 (AllByRecursion-from_In (Precedes numbers_cmp (λ pair. pair) x) ys (λ y h. before x y (inl refl) h)),
-  Climbs-append xs ys c.1 d (λ a y h k. before a y (inr h) k),
+pub Climbs-append : (cmp : Pair → Pair → Ordering) (xs ys : List Pair) → Climbs cmp (λ pair. pair) xs → Climbs cmp (λ pair. pair) ys → ((x y : Pair) → In x xs → In y ys → cmp x y ≡ Less) → Climbs cmp (λ pair. pair) (xs ++ ys)
+Climbs-append cmp [] ys c d before = d
+Climbs-append cmp (x ∷ xs) ys c d before = (
+  each-append (Precedes cmp (λ pair. pair) x) xs ys c.0 (AllByRecursion-from_In (Precedes cmp (λ pair. pair) x) ys (λ y h. before x y (inl refl) h)),
+  Climbs-append cmp xs ys c.1 d (λ a y h k. before a y (inr h) k),
 )
 
 -- the numbers of the pairs of a row rise
@@ -154,7 +156,7 @@ Climbs-of_row i left j (right ∷ rights) =
 pub Climbs-pairs : (i : ℕ) (lefts rights : List FeedRow) → Climbs numbers_cmp (λ pair. pair) (pairs_from i lefts rights)
 Climbs-pairs i [] rights = tt
 Climbs-pairs i (left ∷ lefts) rights =
-    Climbs-append (pairs_of_row i left 1 rights) (pairs_from (suc i) lefts rights) (Climbs-of_row i left 1 rights) (Climbs-pairs (suc i) lefts rights) before
+    Climbs-append numbers_cmp (pairs_of_row i left 1 rights) (pairs_from (suc i) lefts rights) (Climbs-of_row i left 1 rights) (Climbs-pairs (suc i) lefts rights) before
   where
     before : (x y : Pair) → In x (pairs_of_row i left 1 rights) → In y (pairs_from (suc i) lefts rights) → numbers_cmp x y ≡ Less
     before x y h k =

@@ -13,7 +13,8 @@ use Rattle.rs_order.proofs.PartFacts.{In-slice_get, IsBeyond-drop, cmp-behind-Le
 use Rattle.rs_cert.specs.declared.cert.Cert.{Cert}
 use Rattle.rs_cert.specs.declared.cert.CertSide.{CertSide}
 use Rattle.rs_cert.specs.Good.{IsGood, IsReached, IsWhole, answers_of, ended_empty, first_answers, merged}
-use Rattle.rs_cert.specs.Pairs.{Pair, answers, numbers_cmp, numbers_of, pair_cmp}
+use Rattle.rs_cert.specs.declared.pair.Pair.{Pair}
+use Rattle.rs_cert.specs.Pairs.{answers, numbers_cmp, numbers_of, pair_cmp}
 use Rattle.rs_rank.specs.Stable.{stable}
 use Rattle.rs_cert.specs.Sound.{Continues}
 use Rattle.rs_cert.proofs.AnswerFacts.{Climbs-answers, In-answers, In-answers-back, behind-sum, pair_cmp-total, pairs-no_rights}

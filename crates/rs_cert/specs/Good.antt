@@ -5,7 +5,8 @@ use Rattle.rs_cert.specs.declared.cert.CertSide.{CertSide}
 use Rattle.rs_feed.specs.declared.feed_row.FeedRow.{FeedRow}
 use Rattle.rs_order.specs.Climbing.{IsNoLater}
 use Rattle.rs_order.specs.Last.{last_of}
-use Rattle.rs_cert.specs.Pairs.{Pair, answers, numbers_of, pair_cmp}
+use Rattle.rs_cert.specs.declared.pair.Pair.{Pair}
+use Rattle.rs_cert.specs.Pairs.{answers, numbers_of, pair_cmp}
 use Rattle.rs_cert.specs.Rows.{Falls}
 
 -- the answers of the rows of both sides, and the first of them, as many as the certificate has

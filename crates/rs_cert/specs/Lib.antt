@@ -1,3 +1,5 @@
+pub mod ByText
+pub mod Claims
 pub mod Good
 pub mod Pairs
 pub mod Rows

@@ -3,14 +3,9 @@ use Rattle.std.specs.Prelude.{ℕ, suc, ◌+◌, List, [], ◌∷◌, ◌++◌, 
 use Rattle.std.specs.Ordering.{flip_args, nat_cmp, on, then_cmp}
 use Rattle.std.specs.Str.{bytes_eq}
 use Rattle.std.specs.declared.cmp.Ordering.{Ordering}
+use Rattle.rs_cert.specs.declared.pair.Pair.{Pair}
 use Rattle.rs_feed.specs.declared.feed_row.FeedRow.{FeedRow}
 use Rattle.rs_rank.specs.Stable.{stable}
-
--- a left row and a right one by their numbers, from 1, and the sum of their scores
-pub record Pair : Type 0 where
-  pub left : ℕ
-  pub right : ℕ
-  pub sum : ℕ
 
 -- the pairs of a left row with the right rows of its text; the right rows are numbered from j
 abbrev pub pairs_of_row : ℕ → FeedRow → ℕ → List FeedRow → List Pair

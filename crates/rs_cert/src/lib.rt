@@ -2,8 +2,11 @@
 //! The check shares nothing with the join.
 #![tactic(auto)]
 
+mod by_text;
 mod cert;
+mod claim;
 mod laws;
+mod pair;
 mod verdict;
 
 pub use cert::{Cert, CertSide};
