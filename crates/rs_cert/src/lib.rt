@@ -5,6 +5,7 @@
 mod by_text;
 mod cert;
 mod claim;
+mod count;
 mod laws;
 mod pair;
 mod verdict;
