@@ -1,12 +1,12 @@
 -- Rows whose scores fall, by their places.
-use Rattle.std.proofs.Common.{◌≡◌, ℕ, zero, suc, ◌<◌, ◌≤◌, false, List, [], ◌∷◌, length, take, Option, Some, None, slice_get, refl, sym, ap, subst, arith}
+use Rattle.std.proofs.Common.{◌≡◌, ℕ, zero, suc, ◌<◌, ◌≤◌, false, nat_lt, List, [], ◌∷◌, ◌++◌, option_map, length, take, Option, Some, None, slice_get, refl, sym, ap, subst, arith}
 use Rattle.std.proofs.lemmas.Bool.Decides.{nat_tests}
 use Rattle.std.specs.Ordering.{flip_args, is_gt, nat_cmp}
 use Rattle.rs_feed.specs.declared.feed_row.FeedRow.{FeedRow}
 use Rattle.rs_order.specs.Climbing.{IsNoLater}
 use Rattle.rs_order.specs.Last.{last_from, last_of}
-use Rattle.rs_order.proofs.EachFacts.{each-slice_get}
-use Rattle.rs_cert.specs.Rows.{Falls}
+use Rattle.rs_order.proofs.EachFacts.{each-push, each-slice_get}
+use Rattle.rs_cert.specs.Rows.{Falls, rises}
 
 -- nothing stands at a place of an empty list
 pub none_at : {X : Type 0} {x : X} → None ≡ Some x → ⊥
@@ -47,3 +47,42 @@ last_from-at x (y ∷ ys) (suc n) e = last_from-at y ys n (omega arith)
 pub last_of-at : {X : Type 0} (xs : List X) (n : ℕ) → length xs ≡ suc n → slice_get xs n ≡ last_of xs
 last_of-at [] n e = absurd (omega arith)
 last_of-at (x ∷ xs) n e = last_from-at x xs n (omega arith)
+
+-- what isn't greater comes no later
+not_greater : (a b : ℕ) → nat_lt a b ≡ false → is_gt (nat_cmp b a) ≡ false
+not_greater a b e = grind (arith, nat_tests)
+
+not_below : (a b : ℕ) → is_gt (nat_cmp b a) ≡ false → nat_lt a b ≡ false
+not_below a b e = grind (arith, nat_tests)
+
+no_later : (a b : ℕ) → b ≤ a → is_gt (nat_cmp b a) ≡ false
+no_later a b h = grind (arith, nat_tests)
+
+-- the score in front
+abbrev pub score_before : List FeedRow → Option ℕ
+score_before rows = option_map (λ (row : FeedRow). row.score) (last_of rows)
+
+at-push : (rows : List FeedRow) (row : FeedRow) → slice_get (rows ++ row ∷ []) (length rows) ≡ Some row
+at-push [] row = refl
+at-push (x ∷ xs) row = at-push xs row
+
+-- scores fall on where the next one isn't greater than the last one
+pub Falls-push : (rows : List FeedRow) (row : FeedRow) → Falls rows → rises (score_before rows) row.score ≡ false → Falls (rows ++ row ∷ [])
+Falls-push [] row falls e = (tt, tt)
+Falls-push (x ∷ []) row falls e = ((not_greater x.score row.score e, tt), (tt, tt))
+Falls-push (x ∷ y ∷ ys) row falls e =
+    let behind : Falls ((y ∷ ys) ++ row ∷ []) = Falls-push (y ∷ ys) row falls.1 e in
+    let one : row.score ≤ y.score = Falls-at ((y ∷ ys) ++ row ∷ []) 0 (length (y ∷ ys)) y row behind (omega arith) refl (at-push (y ∷ ys) row) in
+    let other : y.score ≤ x.score = no_later-at_most x.score y.score falls.0.0 in
+    (each-push (IsNoLater (flip_args nat_cmp) (λ (r : FeedRow). r.score) x) (y ∷ ys) row falls.0 (no_later x.score row.score (omega arith)), behind)
+
+-- and only there
+pub falls-next : (rows : List FeedRow) (row : FeedRow) → Falls (rows ++ row ∷ []) → rises (score_before rows) row.score ≡ false
+falls-next [] row falls = refl
+falls-next (x ∷ []) row falls = not_below x.score row.score falls.0.0
+falls-next (x ∷ y ∷ ys) row falls = falls-next (y ∷ ys) row falls.1
+
+pub last-push : (rows : List FeedRow) (row : FeedRow) → score_before (rows ++ row ∷ []) ≡ Some row.score
+last-push [] row = refl
+last-push (x ∷ []) row = refl
+last-push (x ∷ y ∷ ys) row = last-push (y ∷ ys) row

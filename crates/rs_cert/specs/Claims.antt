@@ -1,5 +1,5 @@
 -- The pairs that a certificate claims, with the sums of their rows.
-use Rattle.std.specs.Prelude.{ℕ, ◌-◌, ◌+◌, ◌≡◌, ◌==◌, Bool, true, false, List, map, Option, Some, None, slice_get, if◌then◌else◌}
+use Rattle.std.specs.Prelude.{ℕ, zero, suc, ◌+◌, ◌≡◌, Bool, true, false, List, map, Option, Some, None, slice_get}
 use Rattle.std.specs.List.{AllByRecursion}
 use Rattle.std.specs.Ordering.{is_lt}
 use Rattle.std.specs.Str.{bytes_eq}
@@ -14,7 +14,8 @@ use Rattle.rs_cert.specs.Pairs.{pair_cmp}
 
 -- the row of a number, from 1
 abbrev pub row_of : List FeedRow → ℕ → Option FeedRow
-row_of rows number = if number == 0 then None else slice_get rows (number - 1)
+row_of rows zero = None
+row_of rows (suc place) = slice_get rows place
 
 -- its score; a number that is none has no score
 abbrev pub score_of : Option FeedRow → ℕ

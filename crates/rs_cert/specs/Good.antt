@@ -45,10 +45,13 @@ HasEnough cert = length cert.pairs < cert.k → IsWhole cert
 abbrev pub merged : ℕ → FeedRow → ℕ → FeedRow → Pair
 merged i left j right = record { left = i; right = j; sum = left.score + right.score }
 
--- the last pair comes at or before a pair of these rows
+-- a pair comes at or before that of these rows
+abbrev pub IsAtOrBefore : Option Pair → ℕ → Option FeedRow → ℕ → Option FeedRow → Type 0
+IsAtOrBefore pair i left j right = IfSome pair (λ p. IfSome left (λ l. IfSome right (λ r. IsNoLater pair_cmp (λ key. key) p (merged i l j r))))
+
+-- the last pair does
 abbrev pub IsReached : Cert → ℕ → Option FeedRow → ℕ → Option FeedRow → Type 0
-IsReached cert i left j right = IfSome (last_of (first_answers cert)) (λ pair. IfSome left (λ l. IfSome right (λ r.
-    IsNoLater pair_cmp (λ p. p) pair (merged i l j r))))
+IsReached cert i left j right = IsAtOrBefore (last_of (first_answers cert)) i left j right
 
 -- where the left side hasn't ended, the last pair comes at or before the last left row with the first right one
 abbrev pub LeftIsReached : Cert → Type 0

@@ -4,12 +4,15 @@
 
 mod by_text;
 mod cert;
+mod checking;
 mod claim;
 mod count;
 mod laws;
 mod pair;
+mod rise;
 mod verdict;
 
 pub use cert::{Cert, CertSide};
+pub use checking::check;
 pub use laws::good_certificates_are_sound;
 pub use verdict::Verdict;
