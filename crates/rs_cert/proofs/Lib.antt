@@ -1,5 +1,6 @@
 pub mod AnswerFacts
 pub mod ByTextFacts
+pub mod CheckFacts
 pub mod ClaimFacts
 pub mod CountFacts
 pub mod FirstFacts
