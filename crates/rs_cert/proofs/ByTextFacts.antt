@@ -1,9 +1,8 @@
 -- Numbers of rows by their texts, row after row.
-use Rattle.std.proofs.Common.{◌≡◌, ℕ, zero, suc, ◌+◌, ◌<◌, Bool, true, false, cond, List, [], ◌∷◌, ◌++◌, get_or, length, take, Option, Some, None, refl, sym, ◌∙◌, ap, ap₂, ◌==◌, ◌&&◌, subst, arith}
+use Rattle.std.proofs.Common.{◌≡◌, ℕ, suc, ◌+◌, ◌<◌, true, false, cond, List, [], ◌∷◌, ◌++◌, get_or, length, take, Some, None, refl, sym, ◌∙◌, ap, ap₂, ◌==◌, ◌&&◌, arith}
 use Rattle.std.proofs.lemmas.Bool.Decides.{nat_tests}
 use Rattle.std.proofs.lemmas.List.{length-take-le, take_more}
 use Rattle.std.proofs.lemmas.Map.Lookups.{exact_bytes}
-use Rattle.std.proofs.lemmas.Slice.Eq.{bytes_eq-Decides}
 use Rattle.std.proofs.lemmas.Map.Text.{is_eq-slice_cmp}
 use Rattle.std.specs.BTreeMap.{get}
 use Rattle.std.specs.Cmp.Lexicographic.{slice_cmp}
@@ -22,18 +21,18 @@ numbers-push text n [] row =
     (elim (bytes_eq text row.join) as (λ b. cond b (n ∷ []) [] ≡ cond b ([] ++ (n + 0) ∷ []) []) [ true ↦ ap (λ k. k ∷ []) (omega arith) | false ↦ refl ])
 numbers-push text n (first ∷ rows) row =
     (elim (bytes_eq text first.join) as (λ b. cond b (n ∷ numbers_with text (suc n) (rows ++ row ∷ [])) (numbers_with text (suc n) (rows ++ row ∷ []))
-        ≡ cond (bytes_eq text row.join) (cond b (n ∷ numbers_with text (suc n) rows) (numbers_with text (suc n) rows) ++ (n + suc (length rows)) ∷ []) (cond b (n ∷ numbers_with text (suc n) rows) (numbers_with text (suc n) rows))) [
+    ≡ cond (bytes_eq text row.join) (cond b (n ∷ numbers_with text (suc n) rows) (numbers_with text (suc n) rows) ++ (n + suc (length rows)) ∷ []) (cond b (n ∷ numbers_with text (suc n) rows) (numbers_with text (suc n) rows))) [
       | true ↦
           ap (λ list. n ∷ list) (numbers-push text (suc n) rows row)
           ∙ (elim (bytes_eq text row.join) as (λ b. n ∷ cond b (numbers_with text (suc n) rows ++ (suc n + length rows) ∷ []) (numbers_with text (suc n) rows)
-            ≡ cond b (n ∷ numbers_with text (suc n) rows ++ (n + suc (length rows)) ∷ []) (n ∷ numbers_with text (suc n) rows)) [
+          ≡ cond b (n ∷ numbers_with text (suc n) rows ++ (n + suc (length rows)) ∷ []) (n ∷ numbers_with text (suc n) rows)) [
             | true ↦ ap (λ k. n ∷ numbers_with text (suc n) rows ++ k ∷ []) (omega arith)
             | false ↦ refl
           ])
       | false ↦
           numbers-push text (suc n) rows row
           ∙ (elim (bytes_eq text row.join) as (λ b. cond b (numbers_with text (suc n) rows ++ (suc n + length rows) ∷ []) (numbers_with text (suc n) rows)
-            ≡ cond b (numbers_with text (suc n) rows ++ (n + suc (length rows)) ∷ []) (numbers_with text (suc n) rows)) [
+          ≡ cond b (numbers_with text (suc n) rows ++ (n + suc (length rows)) ∷ []) (numbers_with text (suc n) rows)) [
             | true ↦ ap (λ k. numbers_with text (suc n) rows ++ k ∷ []) (omega arith)
             | false ↦ refl
           ])
@@ -67,7 +66,7 @@ pub number-added : (old removed new : Numbers) (text : List ℕ) (more : Vec ℕ
 number-added old removed new text more number taken put e other =
     ap numbers_or_none (put other)
     ∙ (elim (is_eq (slice_cmp nat_cmp text other)) as (λ b. is_eq (slice_cmp nat_cmp text other) ≡ b
-        → numbers_or_none (cond b (Some more) (get (slice_cmp nat_cmp) removed other)) ≡ cond b (numbers_in old other ++ number ∷ []) (numbers_in old other)) [
+    → numbers_or_none (cond b (Some more) (get (slice_cmp nat_cmp) removed other)) ≡ cond b (numbers_in old other ++ number ∷ []) (numbers_in old other)) [
       | true ↦ λ same. e ∙ ap (λ t. numbers_in old t ++ number ∷ []) (same_text text other same)
       | false ↦ λ differs. ap numbers_or_none (taken other) ∙ ap (λ b. numbers_or_none (cond b None (get (slice_cmp nat_cmp) old other))) differs
     ]) refl

@@ -1,5 +1,5 @@
 -- What the parts of a check find.
-use Rattle.std.proofs.Common.{◌≡◌, ℕ, zero, suc, ◌+◌, ◌-◌, ◌<◌, ◌≤◌, Bool, true, false, not, nat_lt, IsTrue, List, [], ◌∷◌, length, min, take, Option, Some, None, slice_get, refl, sym, ◌∙◌, ap, subst, arith}
+use Rattle.std.proofs.Common.{◌≡◌, ℕ, suc, ◌-◌, ◌≤◌, not, nat_lt, IsTrue, List, [], ◌∷◌, length, min, take, Option, Some, None, slice_get, refl, sym, ◌∙◌, ap, subst, arith}
 use Rattle.std.proofs.lemmas.Bool.Decides.{nat_tests}
 use Rattle.std.proofs.lemmas.List.{length-map, length-take}
 use Rattle.rs_feed.specs.declared.feed_row.FeedRow.{FeedRow}
@@ -11,7 +11,7 @@ use Rattle.rs_cert.specs.declared.pair.Pair.{Pair}
 use Rattle.rs_cert.specs.Claims.{AreInOrder, claimed, claimed_pair}
 use Rattle.rs_cert.specs.Good.{HasFirstPairs, IsAtOrBefore, answers_of, first_answers}
 use Rattle.rs_cert.specs.Pairs.{answers, numbers_of, pair_cmp, pairs_from}
-use Rattle.rs_cert.proofs.FirstFacts.{are-first, count-answers, count-first, first-order, last-first}
+use Rattle.rs_cert.proofs.FirstFacts.{are-first, count-answers, count-first, last-first}
 use Rattle.rs_cert.proofs.RowFacts.{last_of-at}
 
 -- what isn't greater is at most the other one
@@ -91,9 +91,9 @@ pub reached-alike : (a b : Option Pair) (i k j n : ℕ) (l m r s : Option FeedRo
 reached-alike a b i k j n l m r s e f g h o is =
     subst (λ x. IsAtOrBefore x k m n s) e
     (subst (λ x. IsAtOrBefore a x m n s) f
-      (subst (λ x. IsAtOrBefore a i x n s) g
-        (subst (λ x. IsAtOrBefore a i l x s) h
-          (subst (λ x. IsAtOrBefore a i l j x) o is))))
+    (subst (λ x. IsAtOrBefore a i x n s) g
+    (subst (λ x. IsAtOrBefore a i l x s) h
+    (subst (λ x. IsAtOrBefore a i l j x) o is))))
 
 -- and so are equal claims in order
 pub order-alike : (lefts others rights more : List FeedRow) (pairs rest : List (ℕ × ℕ)) → lefts ≡ others → rights ≡ more → pairs ≡ rest → AreInOrder lefts rights (claimed lefts rights pairs) → AreInOrder others more (claimed others more rest)

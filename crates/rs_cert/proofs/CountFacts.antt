@@ -1,12 +1,10 @@
 -- Pairs before a bar, row after row.
-use Rattle.std.proofs.Common.{◌≡◌, ℕ, zero, suc, ◌+◌, ◌-◌, ◌<◌, ◌≤◌, Bool, true, false, cond, List, [], ◌∷◌, ◌++◌, drop, drop-cons, ap₂, get_or, length, nat_lt, Option, Some, None, slice_get, refl, sym, ◌∙◌, ap, subst, ◌⊎◌, inl, inr, arith}
+use Rattle.std.proofs.Common.{◌≡◌, ℕ, zero, suc, ◌+◌, ◌-◌, ◌<◌, ◌≤◌, true, false, cond, List, [], ◌∷◌, drop, drop-cons, ap₂, get_or, length, Option, Some, slice_get, refl, sym, ◌∙◌, ap, subst, inl, inr, arith}
 use Rattle.std.proofs.lemmas.Bool.{cases_lt, true≢false}
 use Rattle.std.proofs.lemmas.List.{length-append}
 use Rattle.std.proofs.lemmas.List.Elements.{filter-append}
 use Rattle.std.proofs.lemmas.Option.{get_or_from_slice_get, slice_get-get_or, slice_get_within}
-use Rattle.std.specs.List.{filter}
 use Rattle.std.specs.Str.{bytes_eq}
-use Rattle.std.specs.declared.cmp.Ordering.TheVariants.{Less}
 use Rattle.rs_feed.specs.declared.feed_row.FeedRow.{FeedRow}
 use Rattle.rs_order.specs.Asks.{comes_before_bar, those_before}
 use Rattle.rs_order.specs.Climbing.{Climbs, In, Precedes}
@@ -36,7 +34,7 @@ Climbs-row i left j (right ∷ rights) falls =
         let at_most : made.right.score ≤ right.score = Falls-at (right ∷ rights) 0 (suc made.place) right made.right falls (omega arith) refl made.at in
         subst (λ p. Precedes pair_cmp (λ pair. pair) (pair_of i left j right) p) (sym made.is)
         (behind-sum (pair_of i left j right) (pair_of i left (suc j + made.place) made.right) (omega arith)
-          (right-first (pair_of i left j right) (pair_of i left (suc j + made.place) made.right) refl (omega arith)))
+        (right-first (pair_of i left j right) (pair_of i left (suc j + made.place) made.right) refl (omega arith)))
 
 -- the pair at a place, by the number that stands there
 pub record IsAtPlace (i : ℕ) (left : FeedRow) (n : ℕ) (rows : List FeedRow) (k j : ℕ) : Type 0 where
@@ -59,7 +57,7 @@ pub pair-at : (i : ℕ) (left : FeedRow) (n : ℕ) (rows : List FeedRow) (k j : 
 pair-at i left n [] k j e = absurd (none_at e)
 pair-at i left n (row ∷ rows) zero j e =
     (elim (bytes_eq left.join row.join) as (λ b. bytes_eq left.join row.join ≡ b
-        → slice_get (cond b (n ∷ numbers_with left.join (suc n) rows) (numbers_with left.join (suc n) rows)) 0 ≡ Some j → IsAtPlace i left n (row ∷ rows) 0 j) [
+    → slice_get (cond b (n ∷ numbers_with left.join (suc n) rows) (numbers_with left.join (suc n) rows)) 0 ≡ Some j → IsAtPlace i left n (row ∷ rows) 0 j) [
       | true ↦ λ same f.
           let is : n ≡ j = same_at f in
           record {
@@ -78,7 +76,7 @@ pair-at i left n (row ∷ rows) zero j e =
     ]) refl e
 pair-at i left n (row ∷ rows) (suc k) j e =
     (elim (bytes_eq left.join row.join) as (λ b. bytes_eq left.join row.join ≡ b
-        → slice_get (cond b (n ∷ numbers_with left.join (suc n) rows) (numbers_with left.join (suc n) rows)) (suc k) ≡ Some j → IsAtPlace i left n (row ∷ rows) (suc k) j) [
+    → slice_get (cond b (n ∷ numbers_with left.join (suc n) rows) (numbers_with left.join (suc n) rows)) (suc k) ≡ Some j → IsAtPlace i left n (row ∷ rows) (suc k) j) [
       | true ↦ λ same f.
           further i left n row rows (suc k) k j
           (ap (λ b. slice_get (cond b (pair_of i left n row ∷ pairs_of_row i left (suc n) rows) (pairs_of_row i left (suc n) rows)) (suc k)) same)

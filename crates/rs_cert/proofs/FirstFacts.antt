@@ -1,27 +1,22 @@
 -- Claimed pairs that are the first answers.
-use Rattle.std.proofs.Common.{◌≡◌, ℕ, zero, suc, ◌+◌, ◌-◌, ◌<◌, ◌≤◌, ◌==◌, Bool, true, false, cond, List, [], ◌∷◌, get_or, length, map, min, take, Option, Some, None, slice_get, refl, sym, ◌∙◌, ap, ap₂, subst, ◌⊎◌, inl, inr, arith}
+use Rattle.std.proofs.Common.{◌≡◌, ℕ, zero, suc, ◌+◌, ◌≤◌, true, cond, List, [], ◌∷◌, get_or, length, min, take, Option, Some, None, slice_get, refl, sym, ◌∙◌, ap, ap₂, subst, inl, inr, arith}
 use Rattle.std.proofs.lemmas.Bool.{cases_lt, true≢false}
 use Rattle.std.proofs.lemmas.List.{length-map, length-take}
 use Rattle.std.proofs.lemmas.List.Sorted.{sum_by-IsPermutation}
 use Rattle.std.proofs.lemmas.List.Sums.{length-filter}
-use Rattle.std.proofs.lemmas.Option.{slice_get-get_or}
-use Rattle.std.specs.List.{AllByRecursion, filter}
 use Rattle.std.specs.Ordering.{is_lt}
-use Rattle.std.specs.Str.{bytes_eq}
-use Rattle.std.specs.declared.cmp.Ordering.TheVariants.{Less}
 use Rattle.rs_feed.specs.declared.feed_row.FeedRow.{FeedRow}
 use Rattle.rs_order.specs.Asks.{comes_before_bar, those_before}
-use Rattle.rs_order.specs.Climbing.{Climbs, In}
+use Rattle.rs_order.specs.Climbing.{In}
 use Rattle.rs_order.specs.Last.{last_of}
-use Rattle.rs_order.specs.Sorting.{sorted}
 use Rattle.rs_order.proofs.AsksFacts.{get_or-asked}
 use Rattle.rs_order.proofs.ClimbingFacts.{AllByRecursion-In, AllByRecursion-from_In, cmp-not_itself}
-use Rattle.rs_order.proofs.ItemFacts.{In-map-back, sorted-filter}
+use Rattle.rs_order.proofs.ItemFacts.{In-map-back}
 use Rattle.rs_order.proofs.PartFacts.{Climbs-take, In-take, is_lt-Less, last_of-take}
 use Rattle.rs_cert.specs.declared.pair.Pair.{Pair}
 use Rattle.rs_cert.specs.Claims.{AreInOrder, claimed, claimed_pair, is_pair, row_of, same_text, score_of}
 use Rattle.rs_cert.specs.Pairs.{answers, numbers_of, pair_cmp, pairs_from}
-use Rattle.rs_cert.proofs.AnswerFacts.{Climbs-answers, In-answers, In-answers-back, answers-sorted, pair_cmp-total}
+use Rattle.rs_cert.proofs.AnswerFacts.{Climbs-answers, In-answers, In-answers-back, pair_cmp-total}
 use Rattle.rs_cert.proofs.InsideFacts.{first-inside}
 use Rattle.rs_cert.proofs.PairFacts.{pair_of}
 use Rattle.rs_cert.proofs.RowFacts.{same_at}
@@ -67,8 +62,7 @@ claimed-answer lefts rights pair h =
     let right_number : pair.right ≡ suc made.right_place = ap (λ (p : Pair). p.right) made.is in
     let sum : pair.sum ≡ made.left.score + made.right.score = ap (λ (p : Pair). p.sum) made.is in
     let left_is : row_of lefts pair.left ≡ Some made.left = ap (row_of lefts) left_number ∙ made.left_at in
-    let right_is : row_of rights pair.right ≡ Some made.right = ap (row_of rights) right_number ∙ made.right_at in
-    (
+    let right_is : row_of rights pair.right ≡ Some made.right = ap (row_of rights) right_number ∙ made.right_at in (
       same-pair (claimed_pair lefts rights (pair.left, pair.right)) pair refl refl (ap₂ (λ x y. score_of x + score_of y) left_is right_is ∙ sym sum),
       ap₂ same_text left_is right_is ∙ made.same,
     )

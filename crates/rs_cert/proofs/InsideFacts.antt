@@ -1,5 +1,5 @@
 -- Lists of pairs that rise, one inside another.
-use Rattle.std.proofs.Common.{◌≡◌, ℕ, zero, suc, ◌<◌, ◌≤◌, true, false, cond, List, [], ◌∷◌, length, take, drop, Option, Some, None, refl, sym, ◌∙◌, ap, subst, ◌⊎◌, inl, inr, arith}
+use Rattle.std.proofs.Common.{◌≡◌, ℕ, zero, suc, ◌≤◌, cond, List, [], ◌∷◌, length, take, Some, refl, sym, ◌∙◌, subst, ◌⊎◌, inl, inr, arith}
 use Rattle.std.proofs.lemmas.List.{length-take}
 use Rattle.std.specs.Ordering.{is_lt}
 use Rattle.std.specs.declared.cmp.Ordering.TheVariants.{Less}
@@ -11,7 +11,7 @@ use Rattle.rs_order.proofs.PartFacts.{Climbs-parts, Climbs-take, In-parts}
 use Rattle.rs_cert.specs.declared.pair.Pair.{Pair}
 use Rattle.rs_cert.specs.Pairs.{pair_cmp}
 use Rattle.rs_cert.proofs.AnswerFacts.{pair_cmp-total}
-use Rattle.rs_cert.proofs.RowFacts.{none_at, same_at}
+use Rattle.rs_cert.proofs.RowFacts.{same_at}
 
 -- a list that rises, inside another one whose first pair is left out
 inside-rest : (x y : Pair) (xs ys : List Pair) → Climbs pair_cmp (λ p. p) (x ∷ xs) → Climbs pair_cmp (λ p. p) (y ∷ ys) → ((z : Pair) → In z (x ∷ xs) → In z (y ∷ ys)) → (z : Pair) → In z xs → In z ys

@@ -1,8 +1,7 @@
 -- The pairs of two lists of rows, by the places of their rows, and the order of their numbers.
-use Rattle.std.proofs.Common.{◌≡◌, ℕ, zero, suc, ◌+◌, ◌<◌, ◌≤◌, Bool, true, false, cond, List, [], ◌∷◌, ◌++◌, Option, Some, None, slice_get, refl, sym, ◌∙◌, ap, subst, ◌⊎◌, inl, inr, arith, rules}
+use Rattle.std.proofs.Common.{◌≡◌, ℕ, zero, suc, ◌+◌, ◌<◌, true, false, cond, List, [], ◌∷◌, ◌++◌, Some, slice_get, refl, sym, ◌∙◌, ap, subst, inl, inr, arith, rules}
 use Rattle.std.specs.Cmp.{IsTotalOrder, nat_cmp_is}
 use Rattle.std.specs.Cmp.Rules.{comparing}
-use Rattle.std.specs.List.{AllByRecursion}
 use Rattle.std.specs.Ordering.{nat_cmp, ordering_then}
 use Rattle.std.specs.Str.{bytes_eq}
 use Rattle.std.specs.declared.cmp.Ordering.{Ordering}
@@ -41,7 +40,7 @@ pub In-of_row-back : (i : ℕ) (left : FeedRow) (j : ℕ) (rights : List FeedRow
 In-of_row-back i left j [] pair h = absurd h
 In-of_row-back i left j (right ∷ rights) pair h =
     (elim (bytes_eq left.join right.join) as (λ b. bytes_eq left.join right.join ≡ b
-        → In pair (cond b (pair_of i left j right ∷ pairs_of_row i left (suc j) rights) (pairs_of_row i left (suc j) rights)) → IsOfRow i left j (right ∷ rights) pair) [
+    → In pair (cond b (pair_of i left j right ∷ pairs_of_row i left (suc j) rights) (pairs_of_row i left (suc j) rights)) → IsOfRow i left j (right ∷ rights) pair) [
       | true ↦ λ same k. elim k [
         | inl e ↦ record { place = 0; right = right; at = refl; same = same; is = e ∙ ap (λ n. pair_of i left n right) (omega arith) }
         | inr behind ↦ further i left j right rights pair (In-of_row-back i left (suc j) rights pair behind)
@@ -111,8 +110,8 @@ In-pairs i (first ∷ lefts) rights zero n left right at other same =
     let test : bytes_eq first.join right.join ≡ true = subst (λ (r : FeedRow). bytes_eq r.join right.join ≡ true) (sym is) same in
     In-left (pair_of (i + 0) left (suc n) right) (pairs_of_row i first 1 rights) (pairs_from (suc i) lefts rights)
     (subst (λ pair. In pair (pairs_of_row i first 1 rights))
-      (ap (λ k. pair_of i first k right) (omega arith) ∙ ap (λ k. pair_of k first (suc n) right) (omega arith) ∙ ap (λ r. pair_of (i + 0) r (suc n) right) is)
-      (In-of_row i first 1 rights n right other test))
+    (ap (λ k. pair_of i first k right) (omega arith) ∙ ap (λ k. pair_of k first (suc n) right) (omega arith) ∙ ap (λ r. pair_of (i + 0) r (suc n) right) is)
+    (In-of_row i first 1 rights n right other test))
 In-pairs i (first ∷ lefts) rights (suc m) n left right at other same =
     In-right (pair_of (i + suc m) left (suc n) right) (pairs_of_row i first 1 rights) (pairs_from (suc i) lefts rights)
     (subst (λ k. In (pair_of k left (suc n) right) (pairs_from (suc i) lefts rights)) (omega arith) (In-pairs (suc i) lefts rights m n left right at other same))

@@ -1,5 +1,5 @@
 -- Rows whose scores fall, by their places.
-use Rattle.std.proofs.Common.{◌≡◌, ℕ, zero, suc, ◌<◌, ◌≤◌, false, nat_lt, List, [], ◌∷◌, ◌++◌, option_map, length, take, Option, Some, None, slice_get, refl, sym, ap, subst, arith}
+use Rattle.std.proofs.Common.{◌≡◌, ℕ, zero, suc, ◌<◌, ◌≤◌, false, nat_lt, List, [], ◌∷◌, ◌++◌, option_map, length, take, Option, Some, None, slice_get, refl, sym, subst, arith}
 use Rattle.std.proofs.lemmas.Bool.Decides.{nat_tests}
 use Rattle.std.specs.Ordering.{flip_args, is_gt, nat_cmp}
 use Rattle.rs_feed.specs.declared.feed_row.FeedRow.{FeedRow}

@@ -1,12 +1,11 @@
 -- A good certificate proves the first pairs of the feeds that its rows were drawn of.
-use Rattle.std.proofs.Common.{◌≡◌, ℕ, zero, suc, ◌+◌, ◌<◌, ◌≤◌, ◌==◌, ◌&&◌, ◌||◌, Bool, true, false, List, [], ◌∷◌, get_or, length, min, map, take, Option, Some, None, IfSome, slice_get, refl, sym, ◌∙◌, ap, subst, ◌⊎◌, inl, inr, ⊎_elim, arith}
+use Rattle.std.proofs.Common.{◌≡◌, ℕ, zero, suc, ◌+◌, ◌<◌, ◌≤◌, ◌==◌, ◌&&◌, ◌||◌, true, false, List, [], ◌∷◌, get_or, length, min, take, Option, Some, IfSome, slice_get, refl, sym, ◌∙◌, ap, subst, ◌⊎◌, inl, inr, ⊎_elim, arith}
 use Rattle.std.proofs.lemmas.Bool.{and_parts, cases_Bool, cases_lt, eqb-true, or_cases}
-use Rattle.std.proofs.lemmas.Bool.Decides.{nat_tests}
 use Rattle.std.proofs.lemmas.List.{length-map, length-take, take_all}
 use Rattle.std.proofs.lemmas.Option.{slice_get-get_or, slice_get_past, slice_get_within}
 use Rattle.std.specs.declared.cmp.Ordering.TheVariants.{Less}
 use Rattle.rs_feed.specs.declared.feed_row.FeedRow.{FeedRow}
-use Rattle.rs_order.specs.Climbing.{Climbs, In, IsBeyond, IsNoLater, Precedes}
+use Rattle.rs_order.specs.Climbing.{In, IsBeyond, IsNoLater}
 use Rattle.rs_order.specs.Last.{last_of}
 use Rattle.rs_order.proofs.ClimbingFacts.{Climbs-shared}
 use Rattle.rs_order.proofs.PartFacts.{In-slice_get, IsBeyond-drop, cmp-behind-Less, last_of-take}
@@ -63,7 +62,7 @@ reached : (cert : Cert) (i : ℕ) (left : Option FeedRow) (j : ℕ) (right : Opt
 reached cert i left j right pair l r is e f g =
     subst (λ right. IfSome right (λ r. IsNoLater pair_cmp (λ p. p) pair (merged i l j r))) g
     (subst (λ left. IfSome left (λ l. IfSome right (λ r. IsNoLater pair_cmp (λ p. p) pair (merged i l j r)))) f
-      (subst (λ last. IfSome last (λ pair. IfSome left (λ l. IfSome right (λ r. IsNoLater pair_cmp (λ p. p) pair (merged i l j r))))) e is))
+    (subst (λ last. IfSome last (λ pair. IfSome left (λ l. IfSome right (λ r. IsNoLater pair_cmp (λ p. p) pair (merged i l j r))))) e is))
 
 -- what is left to show: a pair of the feeds is one of the rows that were drawn, or comes behind the last pair of the certificate
 module _ (cert : Cert) (lefts rights : List FeedRow) (good : IsGood cert) (more_left : Continues cert.left lefts) (more_right : Continues cert.right rights) where
@@ -73,9 +72,9 @@ module _ (cert : Cert) (lefts rights : List FeedRow) (good : IsGood cert) (more_
       let made = In-answers-back cert.left.rows cert.right.rows pair h in
       subst (λ p. In p (answers lefts rights)) (sym made.is)
       (In-answers lefts rights made.left_place made.right_place made.left made.right
-        (begin-at cert.left lefts made.left_place made.left more_left made.left_at)
-        (begin-at cert.right rights made.right_place made.right more_right made.right_at)
-        made.same)
+      (begin-at cert.left lefts made.left_place made.left more_left made.left_at)
+      (begin-at cert.right rights made.right_place made.right more_right made.right_at)
+      made.same)
 
   -- the last pair of the certificate comes before a pair whose left row wasn't drawn
   behind_left : (last pair : Pair) → last_of (first_answers cert) ≡ Some last → In last (answers_of cert) → (z : IsPair 1 lefts rights pair) → length cert.left.rows ≤ z.left_place → pair_cmp last pair ≡ Less
@@ -92,8 +91,8 @@ module _ (cert : Cert) (lefts rights : List FeedRow) (good : IsGood cert) (more_
       Falls-at rights 0 z.right_place first.0 z.right more_right.falls (omega arith) (begin-at cert.right rights 0 first.0 more_right first.1) z.right_at in
       subst (λ p. pair_cmp last p ≡ Less) (sym z.is)
       (cmp-behind-Less pair_cmp pair_cmp-total last (merged (length cert.left.rows) end.1 1 first.0) (pair_of (1 + z.left_place) z.left (suc z.right_place) z.right) before
-        (behind-sum (merged (length cert.left.rows) end.1 1 first.0) (pair_of (1 + z.left_place) z.left (suc z.right_place) z.right) (omega arith)
-          (left-first (merged (length cert.left.rows) end.1 1 first.0) (pair_of (1 + z.left_place) z.left (suc z.right_place) z.right) (omega arith))))
+      (behind-sum (merged (length cert.left.rows) end.1 1 first.0) (pair_of (1 + z.left_place) z.left (suc z.right_place) z.right) (omega arith)
+      (left-first (merged (length cert.left.rows) end.1 1 first.0) (pair_of (1 + z.left_place) z.left (suc z.right_place) z.right) (omega arith))))
 
   -- and before one whose right row wasn't
   behind_right : (last pair : Pair) → last_of (first_answers cert) ≡ Some last → In last (answers_of cert) → (z : IsPair 1 lefts rights pair) → length cert.right.rows ≤ z.right_place → pair_cmp last pair ≡ Less
@@ -110,8 +109,8 @@ module _ (cert : Cert) (lefts rights : List FeedRow) (good : IsGood cert) (more_
       Falls-at lefts 0 z.left_place first.0 z.left more_left.falls (omega arith) (begin-at cert.left lefts 0 first.0 more_left first.1) z.left_at in
       subst (λ p. pair_cmp last p ≡ Less) (sym z.is)
       (cmp-behind-Less pair_cmp pair_cmp-total last (merged 1 first.0 (length cert.right.rows) end.1) (pair_of (1 + z.left_place) z.left (suc z.right_place) z.right) before
-        (behind-sum (merged 1 first.0 (length cert.right.rows) end.1) (pair_of (1 + z.left_place) z.left (suc z.right_place) z.right) (omega arith)
-          (numbers-behind (merged 1 first.0 (length cert.right.rows) end.1) (pair_of (1 + z.left_place) z.left (suc z.right_place) z.right) z.left_place refl refl (omega arith))))
+      (behind-sum (merged 1 first.0 (length cert.right.rows) end.1) (pair_of (1 + z.left_place) z.left (suc z.right_place) z.right) (omega arith)
+      (numbers-behind (merged 1 first.0 (length cert.right.rows) end.1) (pair_of (1 + z.left_place) z.left (suc z.right_place) z.right) z.left_place refl refl (omega arith))))
     where
       numbers-behind : (a b : Pair) (m : ℕ) → a.left ≡ 1 → b.left ≡ 1 + m → a.right < b.right → numbers_cmp a b ≡ Less
       numbers-behind a b zero e f h = right-first a b (omega arith) h
@@ -131,13 +130,13 @@ module _ (cert : Cert) (lefts rights : List FeedRow) (good : IsGood cert) (more_
       IsBeyond-drop pair_cmp pair_cmp-total (λ p. p) n (answers_of cert) (get_or (answers_of cert) n pair) pair (Climbs-answers cert.left.rows cert.right.rows) last_at in
       ⊎_elim
       (λ (drawn : z.left_place < length cert.left.rows). ⊎_elim
-        (λ (other_drawn : z.right_place < length cert.right.rows). inl (subst (λ p. In p (answers_of cert)) (sym z.is)
-          (In-answers cert.left.rows cert.right.rows z.left_place z.right_place z.left z.right
-            (at-begin cert.left lefts z.left_place z.left more_left drawn z.left_at)
-            (at-begin cert.right rights z.right_place z.right more_right other_drawn z.right_at)
-            z.same)))
-        (λ (past : length cert.right.rows ≤ z.right_place). inr (beyond (behind_right (get_or (answers_of cert) n pair) pair last_is there z past)))
-        (cases_lt z.right_place (length cert.right.rows)))
+      (λ (other_drawn : z.right_place < length cert.right.rows). inl (subst (λ p. In p (answers_of cert)) (sym z.is)
+      (In-answers cert.left.rows cert.right.rows z.left_place z.right_place z.left z.right
+      (at-begin cert.left lefts z.left_place z.left more_left drawn z.left_at)
+      (at-begin cert.right rights z.right_place z.right more_right other_drawn z.right_at)
+      z.same)))
+      (λ (past : length cert.right.rows ≤ z.right_place). inr (beyond (behind_right (get_or (answers_of cert) n pair) pair last_is there z past)))
+      (cases_lt z.right_place (length cert.right.rows)))
       (λ (past : length cert.left.rows ≤ z.left_place). inr (beyond (behind_left (get_or (answers_of cert) n pair) pair last_is there z past)))
       (cases_lt z.left_place (length cert.left.rows))
     where
@@ -187,13 +186,13 @@ module _ (cert : Cert) (lefts rights : List FeedRow) (good : IsGood cert) (more_
   sound =
       ⊎_elim
       (λ (few : length cert.pairs < cert.k).
-        let whole = good.enough few in
-        let size : length (answers_of cert) ≡ length cert.pairs = whole.all in
-        ap (λ list. numbers_of (take cert.k list)) (no_more whole)
-        ∙ ap numbers_of (take_all cert.k (answers_of cert) (omega arith) ∙ sym (take_all (length cert.pairs) (answers_of cert) (omega arith)))
-        ∙ sym good.pairs.first)
+      let whole = good.enough few in
+      let size : length (answers_of cert) ≡ length cert.pairs = whole.all in
+      ap (λ list. numbers_of (take cert.k list)) (no_more whole)
+      ∙ ap numbers_of (take_all cert.k (answers_of cert) (omega arith) ∙ sym (take_all (length cert.pairs) (answers_of cert) (omega arith)))
+      ∙ sym good.pairs.first)
       (λ (many : cert.k ≤ length cert.pairs).
-        let most : length cert.pairs ≤ cert.k = good.pairs.most in
-        let same : cert.k ≡ length cert.pairs = omega arith in
-        ap (λ n. numbers_of (take n (answers lefts rights))) same ∙ ap numbers_of (sym begins) ∙ sym good.pairs.first)
+      let most : length cert.pairs ≤ cert.k = good.pairs.most in
+      let same : cert.k ≡ length cert.pairs = omega arith in
+      ap (λ n. numbers_of (take n (answers lefts rights))) same ∙ ap numbers_of (sym begins) ∙ sym good.pairs.first)
       (cases_lt (length cert.pairs) cert.k)

@@ -1,5 +1,5 @@
 -- The rows of a side by their texts.
-use Rattle.std.specs.Prelude.{ℕ, suc, ◌≡◌, ◌∷◌, List, [], ◌++◌, Option, Some, None, if◌then◌else◌}
+use Rattle.std.specs.Prelude.{ℕ, suc, ◌∷◌, List, [], Option, Some, None, if◌then◌else◌}
 use Rattle.std.specs.BTreeMap.{get}
 use Rattle.std.specs.Cmp.Lexicographic.{slice_cmp}
 use Rattle.std.specs.Ordering.{nat_cmp}

@@ -3,7 +3,6 @@ use Rattle.std.specs.Prelude.{ℕ, zero, suc, ◌+◌, ◌≡◌, Bool, true, fa
 use Rattle.std.specs.List.{AllByRecursion}
 use Rattle.std.specs.Ordering.{is_lt}
 use Rattle.std.specs.Str.{bytes_eq}
-use Rattle.rs_cert.specs.declared.cert.Cert.{Cert}
 use Rattle.rs_cert.specs.declared.claim.Claim.{Claim}
 use Rattle.rs_cert.specs.declared.claim.Claim.TheVariants.{InOrder, OutOfOrder}
 use Rattle.rs_cert.specs.declared.pair.Pair.{Pair}

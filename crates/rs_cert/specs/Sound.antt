@@ -1,5 +1,5 @@
 -- What a good certificate proves of the feeds that its rows were drawn of.
-use Rattle.std.specs.Prelude.{ℕ, ◌≡◌, true, List, length, take}
+use Rattle.std.specs.Prelude.{◌≡◌, true, List, length, take}
 use Rattle.rs_cert.specs.declared.cert.CertSide.{CertSide}
 use Rattle.rs_feed.specs.declared.feed_row.FeedRow.{FeedRow}
 use Rattle.rs_cert.specs.Rows.{Falls}

@@ -1,5 +1,5 @@
 -- What a check of a certificate answers: that it is good, or the first part that fails.
-use Rattle.std.specs.Prelude.{ℕ, ◌≡◌}
+use Rattle.std.specs.Prelude.{ℕ}
 use Rattle.rs_cert.specs.declared.cert.Cert.{Cert}
 use Rattle.rs_cert.specs.declared.verdict.Verdict.{Verdict}
 use Rattle.rs_cert.specs.declared.verdict.Verdict.TheVariants.{Yes, Order, Pairs, Short, Left, Right}

@@ -1,8 +1,7 @@
 -- Feeds in memory: what they hold, and what each call does to it.
-use Rattle.std.specs.Prelude.{ℕ, ◌+◌, ◌==◌, Bool, List, [], ◌∷◌, ◌++◌, length, Option, Some, None, Result, Ok, Err, slice_get, if◌then◌else◌}
+use Rattle.std.specs.Prelude.{ℕ, ◌+◌, ◌==◌, Bool, List, [], length, Option, Some, Result, Ok, Err, slice_get, if◌then◌else◌}
 use Rattle.std.specs.List.{list_any}
 use Rattle.rs_value.specs.Faults.{raised}
-use Rattle.rs_value.specs.Outside.{Outside}
 use Rattle.rs_feed.specs.declared.feed.FeedFault.{FeedFault}
 use Rattle.rs_feed.specs.declared.feed.FeedFault.TheVariants.{Failed, Memory}
 use Rattle.rs_feed.specs.declared.feed_row.FeedRow.{FeedRow}

@@ -1,4 +1,4 @@
-use Rattle.std.proofs.Common.{◌≡◌, sym, ◌∙◌, ap}
+use Rattle.std.proofs.Common.{sym, ◌∙◌, ap}
 use Rattle.rs_order.specs.Last.{last_of}
 use Rattle.rs_cert.proofs.CheckFacts.{claimed-alike, last-of_first, order-alike}
 use Rattle.rs_cert.proofs.FirstFacts.{first-order}
@@ -8,7 +8,7 @@ pub returns-in_default : goal.returns-in_default
 returns-in_default c = (
   c.requires.falls,
   λ first. c.in_default.ensures
-    (order-alike _ _ _ _ _ _ (sym (c.deref.ensures.value ∙ c.items-lefts.ensures)) (sym (c.rows.ensures ∙ c.requires.rights)) (sym (c.deref-2.ensures.value ∙ c.items.ensures))
+      (order-alike _ _ _ _ _ _ (sym (c.deref.ensures.value ∙ c.items-lefts.ensures)) (sym (c.rows.ensures ∙ c.requires.rights)) (sym (c.deref-2.ensures.value ∙ c.items.ensures))
       (first-order c.args.cert.now.left.rows c.args.cert.now.right.rows c.args.cert.now.pairs first.first)),
 )
 

@@ -1,5 +1,4 @@
-use Rattle.std.proofs.Common.{Some, sym, ◌∙◌, ap, subst, ◌≡◌, true}
-use Rattle.rs_cert.specs.Claims.{is_pair}
+use Rattle.std.proofs.Common.{Some, sym, ◌∙◌, ap}
 use Rattle.rs_cert.proofs.ClaimFacts.{last-more, no_pair, not_behind, order-more}
 use Rattle.rs_cert.proofs.claim.claim_of.Goals as goal
 

@@ -1,9 +1,9 @@
-use Rattle.std.proofs.Common.{◌≡◌, ℕ, ◌+◌, ◌<◌, ◌≤◌, true, false, List, [], drop, length, nat_lt, refl, sym, ◌∙◌, ap, arith}
+use Rattle.std.proofs.Common.{◌≡◌, ℕ, ◌+◌, ◌<◌, ◌≤◌, false, [], drop, length, nat_lt, sym, ap, arith}
 use Rattle.std.proofs.lemmas.Bool.{lt-ltb}
 use Rattle.std.proofs.lemmas.Bool.Decides.{nat_tests}
 use Rattle.std.proofs.lemmas.List.{drop_all}
 use Rattle.rs_order.specs.Asks.{those_before}
-use Rattle.rs_cert.specs.Pairs.{pair_cmp, pairs_from, pairs_of_row}
+use Rattle.rs_cert.specs.Pairs.{pair_cmp, pairs_of_row}
 use Rattle.rs_cert.proofs.CountFacts.{count-step, count_from}
 use Rattle.rs_cert.proofs.count.has_more_pairs.Goals as goal
 
