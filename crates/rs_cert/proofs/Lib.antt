@@ -1,0 +1,10 @@
+pub mod AnswerFacts
+pub mod ByTextFacts
+pub mod CheckFacts
+pub mod ClaimFacts
+pub mod CountFacts
+pub mod FirstFacts
+pub mod InsideFacts
+pub mod PairFacts
+pub mod RowFacts
+pub mod SoundFacts

@@ -1,0 +1,18 @@
+//! Certificates: an answer of a join of two feeds with the rows that were drawn for it, and a check of whether these rows prove it.
+//! The check shares nothing with the join.
+#![tactic(auto)]
+
+mod by_text;
+mod cert;
+mod checking;
+mod claim;
+mod count;
+mod laws;
+mod pair;
+mod rise;
+mod verdict;
+
+pub use cert::{Cert, CertSide};
+pub use checking::check;
+pub use laws::good_certificates_are_sound;
+pub use verdict::Verdict;

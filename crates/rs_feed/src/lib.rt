@@ -1,0 +1,10 @@
+//! Ranked feeds: sources that give rows in the order of their scores, one draw after another, and count the draws.
+#![tactic(auto)]
+
+mod feed;
+mod feed_row;
+mod mem_feed;
+
+pub use feed::{Feed, FeedFault};
+pub use feed_row::FeedRow;
+pub use mem_feed::MemFeed;
