@@ -1,9 +1,7 @@
 pub mod CodeFacts
 pub mod DecidingFacts
-pub mod FixedFacts
 pub mod LawFacts
 pub mod WorkedCounts
-pub mod WorkedFixed
 pub mod WorkedJoins
 pub mod WorkedPlans
 pub mod WorkedRanks

@@ -2,7 +2,6 @@ pub mod Asks
 pub mod Calls
 pub mod Counts
 pub mod Deciding
-pub mod Fixed
 pub mod Lists
 pub mod Numbers
 pub mod Plans

@@ -8,7 +8,6 @@
 
 mod code;
 mod counts;
-mod fixed;
 mod laws;
 mod numbers;
 mod plan;
@@ -16,7 +15,6 @@ mod signature;
 mod valid;
 
 pub use counts::Counts;
-pub use fixed::fixed_plan;
 pub use laws::{code_order_is_total, different_plans_have_different_codes, plans_have_numbers};
 pub use plan::Plan;
 pub use signature::Signature;
