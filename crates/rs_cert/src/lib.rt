@@ -1,5 +1,8 @@
 //! Certificates: an answer of a join of two feeds with the rows that were drawn for it, and a check of whether these rows prove it.
 //! The check shares nothing with the join.
+//!
+//! Its promise: a check says that a certificate is good exactly where it is, and else tells the first part that fails; whatever two
+//! feeds begin with the rows of a good certificate, their first pairs are its pairs.
 #![tactic(auto)]
 
 mod by_text;

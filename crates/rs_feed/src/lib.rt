@@ -1,4 +1,7 @@
 //! Ranked feeds: sources that give rows in the order of their scores, one draw after another, and count the draws.
+//!
+//! Its promise: what a draw gives of the rows that a feed tells, and that each draw, each row that was given and each failure is
+//! counted.
 #![tactic(auto)]
 
 mod feed;
