@@ -1,0 +1,11 @@
+//! What runs are made of: fetches of files, calls of a scorer and puts on standard output, one after another up to a halt. All
+//! of it is said for any type of fault.
+#![tactic(auto)]
+
+mod file;
+mod put;
+mod run_fault;
+
+pub use file::fetch_file;
+pub use put::put_text;
+pub use run_fault::RunFault;
