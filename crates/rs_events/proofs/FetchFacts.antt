@@ -47,17 +47,17 @@ module _ {F G A B : Type 0} (memory : F) (Tells : F → Type 0) (other_memory : 
     })
 
 -- the same fault goes on
-pub FetchesFile-err : {F A B : Type 0} (memory : F) (Tells : F → Type 0) (file : List ℕ) (fault : F) (gives : Option (List ℕ) → Result A F → Type 0)
+pub FetchesFile-err : {F A B : Type 0} {memory : F} {Tells : F → Type 0} (file : List ℕ) (fault : F) (gives : Option (List ℕ) → Result A F → Type 0)
     (more : Option (List ℕ) → Result B F → Type 0) (old new : Outside FilesTold) → ((there : Option (List ℕ)) → gives there (Err fault) → more there (Err fault))
     → FetchesFile memory Tells file (Err fault) gives old new → FetchesFile memory Tells file (Err fault) more old new
-FetchesFile-err memory Tells file fault gives more old new turn f =
+FetchesFile-err {F} {A} {B} {memory} {Tells} file fault gives more old new turn f =
     FetchesFile-told memory Tells memory Tells file fault fault gives more old new (λ e. e) (λ t. inl t) (λ there g. inl (turn there g)) f
 
 -- what is made of what was fetched, or no memory for it
-pub FetchesFile-ok : {F A B : Type 0} (memory : F) (Tells : F → Type 0) (file : List ℕ) (a : A) (result : Result B F) (gives : Option (List ℕ) → Result A F → Type 0)
+pub FetchesFile-ok : {F A B : Type 0} {memory : F} {Tells : F → Type 0} (file : List ℕ) (a : A) (result : Result B F) (gives : Option (List ℕ) → Result A F → Type 0)
     (more : Option (List ℕ) → Result B F → Type 0) (old new : Outside FilesTold) → ((there : Option (List ℕ)) → gives there (Ok a) → more there result ⊎ (result ≡ Err memory))
     → FetchesFile memory Tells file (Ok a) gives old new → FetchesFile memory Tells file result more old new
-FetchesFile-ok {F} {A} {B} memory Tells file a result gives more old new turn f = record { there = f.there; is_told = f.is_told; does = go f.does; keeps = f.keeps } where
+FetchesFile-ok {F} {A} {B} {memory} {Tells} file a result gives more old new turn f = record { there = f.there; is_told = f.is_told; does = go f.does; keeps = f.keeps } where
   go : (NotFetched memory (Ok a) old new ⊎ FetchFails memory Tells file (Ok a) old new) ⊎ Fetched memory file (gives f.there) (Ok a) old new
       → (NotFetched memory result old new ⊎ FetchFails memory Tells file result old new) ⊎ Fetched memory file (more f.there) result old new
   go (inl (inl nothing)) = absurd (let e = nothing.answers in cc)
@@ -69,9 +69,9 @@ pub record IsFetched {F A : Type 0} (file : List ℕ) (a : A) (gives : Result A 
   pub has : HasDone (Fetch file ∷ []) old new
   pub given : gives (Ok a)
 
-pub fetched-ok : {F A : Type 0} (memory : F) (Tells : F → Type 0) (environment : Environment) (files : Outside FilesTold) (file : List ℕ) (a : A) (gives : Option (List ℕ) → Result A F → Type 0)
+pub fetched-ok : {F A : Type 0} {memory : F} {Tells : F → Type 0} (environment : Environment) (files : Outside FilesTold) (file : List ℕ) (a : A) (gives : Option (List ℕ) → Result A F → Type 0)
     → (f : FetchesFile memory Tells file (Ok a) gives environment.files files) → IsFetched file a (gives f.there) environment (record environment { files = files })
-fetched-ok {F} {A} memory Tells environment files file a gives f = go f.does where
+fetched-ok {F} {A} {memory} {Tells} environment files file a gives f = go f.does where
   go : (NotFetched {A = A} memory (Ok a) environment.files files ⊎ FetchFails {A = A} memory Tells file (Ok a) environment.files files)
       ⊎ Fetched {A = A} memory file (gives f.there) (Ok a) environment.files files → IsFetched file a (gives f.there) environment (record environment { files = files })
   go (inl (inl nothing)) = absurd (let e = nothing.answers in cc)

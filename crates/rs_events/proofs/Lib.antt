@@ -5,3 +5,4 @@ pub mod LoopFacts
 pub mod OneRun
 pub mod SoFar
 pub mod InquirySteps
+pub mod ToldFacts

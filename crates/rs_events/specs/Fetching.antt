@@ -8,9 +8,9 @@ use Rattle.rs_events.specs.Events.{finds_in}
 use Rattle.rs_events.specs.Halts.{fetched_more}
 
 -- the bytes of a file, which are at most so many, or why it is not read
-abbrev pub content_of : ℕ → Option (List ℕ) → Result (List ℕ) FetchFault
-content_of limit None = Err Missing
-content_of limit (Some bytes) = if nat_le (length bytes) limit then Ok bytes else Err TooLong
+abbrev pub fetched_bytes : ℕ → Option (List ℕ) → Result (List ℕ) FetchFault
+fetched_bytes limit None = Err Missing
+fetched_bytes limit (Some bytes) = if nat_le (length bytes) limit then Ok bytes else Err TooLong
 
 -- there was no memory for a fetch
 pub record NotFetched {F A : Type 0} (memory : F) (result : Result A F) (old new : Outside FilesTold) : Type 0 where

@@ -30,3 +30,10 @@ Answers memory (Some fault) result = (result ≡ Err fault) ⊎ (result ≡ Err 
 abbrev pub put_fault : {F : Type 0} → HaltFaults F → SinkFault → F
 put_fault faults Failed = faults.write
 put_fault faults Memory = faults.memory
+
+-- faults that are told as those of another type: a halt has the same fault either way
+pub record TellAs {F G : Type 0} (tells : F → G) (faults : HaltFaults F) (others : HaltFaults G) : Type 0 where
+  pub memory : tells faults.memory ≡ others.memory
+  pub write : tells faults.write ≡ others.write
+  pub failed_call : (call : Call) → tells (faults.failed_call call) ≡ others.failed_call call
+  pub failed_fetch : (name : List ℕ) (fault : F) → faults.IsFailedFetch name fault → others.IsFailedFetch name (tells fault)

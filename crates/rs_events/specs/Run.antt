@@ -1,5 +1,5 @@
 -- What a run does: its events, in order, and the fault that ends it, whatever the type of faults.
-use Rattle.std.specs.Prelude.{ℕ, List, [], ◌∷◌, ◌++◌, map, Option, Some, None, Result, Ok, Err}
+use Rattle.std.specs.Prelude.{ℕ, List, [], ◌∷◌, ◌++◌, map, Option, Some, None, option_map, Result, Ok, Err}
 use Rattle.rs_events.specs.Events.{Event, Fetch, Put}
 
 -- what a run does, and the fault that ends it, if one does
@@ -14,6 +14,10 @@ fails fault = record { events = []; fault = Some fault }
 -- events, and then a run
 abbrev pub behind : {F : Type 0} → List Event → Run F → Run F
 behind events run = record { events = events ++ run.events; fault = run.fault }
+
+-- the same run, with its fault told as one of another type
+abbrev pub with_fault : {F G : Type 0} → (F → G) → Run F → Run G
+with_fault tells run = record { events = run.events; fault = option_map tells run.fault }
 
 -- a run that puts these lines, each in one put
 abbrev pub lines_run : {F : Type 0} → List (List ℕ) → Run F

@@ -1,5 +1,5 @@
 ghost use Rattle.std.specs.Prelude.{◌≡◌, ◌≤◌, Ok, Err, IfOk, MatchResult, length};
-ghost use Rattle.rs_events.specs.Fetching.{FetchesFile, content_of};
+ghost use Rattle.rs_events.specs.Fetching.{FetchesFile, fetched_bytes};
 
 use rs_outside::{FetchFault, Files};
 use rs_value::Text;
@@ -13,7 +13,7 @@ pub fn fetch_file<F: Files>(
     files: &mut F,
 ) -> Result<Vec<u8>, FetchFault>
     ensures fetches { FetchesFile FetchFault.Memory (λ why. why ≡ FetchFault.Failed) file.now result
-        (λ there r. MatchResult r (λ bytes. content_of limit there ≡ Ok bytes.items) (λ why. content_of limit there ≡ Err why))
+        (λ there r. MatchResult r (λ bytes. fetched_bytes limit there ≡ Ok bytes.items) (λ why. fetched_bytes limit there ≡ Err why))
         (F.state files.old) (F.state files.new) }
     ensures within { IfOk result (λ bytes. length bytes.items ≤ limit) }
 {

@@ -3,9 +3,9 @@
 #![tactic(auto)]
 
 mod file;
+mod halt_fault;
 mod put;
-mod run_fault;
 
 pub use file::fetch_file;
+pub use halt_fault::HaltFault;
 pub use put::put_text;
-pub use run_fault::RunFault;

@@ -3,12 +3,12 @@ ghost use Rattle.rs_events.specs.HaltFaults.{HaltFaults, put_fault};
 
 use rs_outside::SinkFault;
 
-/// A fault with which runs end.
-pub trait RunFault {
-    /// With which of them halts are told.
+/// A fault with which runs end: it tells their halts.
+pub trait HaltFault {
+    /// The faults by which halts are told.
     ghost faults: { HaltFaults Self };
 
-    /// The fault of a put.
+    /// The fault of a put that failed, or for which there was no memory.
     fn of_put(why: SinkFault) -> Self
         ensures { result ≡ put_fault faults why };
 }
