@@ -5,10 +5,9 @@ use Rattle.std.specs.declared.process.ExitCode.{ExitCode}
 use denote.Ref.{Bor, MutBor}
 use Rattle.rs_outside.specs.Sink.{Puts}
 use Rattle.rs_outside.specs.declared.sink.SinkFault.{SinkFault}
-use Rattle.rs_statement.specs.Faults.{fault_line}
-use Rattle.rs_statement.specs.Status.{exit_status_of}
-use Rattle.rs_statement.specs.declared.fault.Fault.TheVariants.{Memory}
-use Rattle.rs_statement.specs.declared.status.Status.{Status}
+use Rattle.rs_run.specs.Faults.{run_fault_line, run_faults}
+use Rattle.rs_run.specs.Status.{exit_status_of}
+use Rattle.rs_run.specs.declared.status.Status.{Status}
 
 -- what a run acts on
 pub record Objects (F S O E : Type 0) : Type 0 where
@@ -49,4 +48,4 @@ EndsAsRun call alloc words before exit after =
 
 -- one put of the line of Memory, which may have failed
 abbrev pub SaysNoMemory : Option (List (List ℕ)) → Option (List (List ℕ)) → Type 0
-SaysNoMemory before after = (put : Result (Unit {0}) SinkFault) × Puts (fault_line Memory) put before after
+SaysNoMemory before after = (put : Result (Unit {0}) SinkFault) × Puts (run_fault_line run_faults.memory) put before after

@@ -1,6 +1,6 @@
 ghost use Rattle.std.specs.Prelude.{◌≡◌, IfOk, OnErr};
 ghost use Rattle.std.specs.Process.{exit_status};
-ghost use Rattle.rs_statement.specs.Status.{exit_status_of};
+ghost use Rattle.rs_run.specs.Status.{exit_status_of};
 ghost use Rattle.rs_program.specs.Program.{EndsAsRun, SaysNoMemory, objects};
 
 use rs_outside::Sink;

@@ -10,13 +10,14 @@ use Rattle.rs_gen.specs.Files.{generated, script_name}
 use Rattle.rs_statement.specs.declared.evaluating.Evaluating.TheVariants.{Planned}
 use Rattle.rs_statement.specs.declared.fault.Fault.{Fault}
 use Rattle.rs_run.specs.Generated.{finds_generated, unfetched, without_fetches}
-use Rattle.rs_statement.specs.Halts.{CallFailed, Done, Ended, FetchFailed, Halt, HaltsAt, NoMemory, PutFailed, fault_of, fetched_more, halt_events}
-use Rattle.rs_statement.specs.Parts.Steps.{Answers, Ran, Runs}
-use Rattle.rs_statement.specs.Run.{Event, Fetch, Put, Run, Score, calls, fetches, finds_in, puts}
+use Rattle.rs_events.specs.Halts.{CallFailed, Done, Ended, FetchFailed, Halt, HaltsAt, NoMemory, PutFailed, fetched_more, halt_events}
+use Rattle.rs_statement.specs.Parts.Steps.{Ran, Runs}
+use Rattle.rs_events.specs.Events.{Event, Fetch, Put, Score, calls, fetches, finds_in, puts}
+use Rattle.rs_statement.specs.Steps.{Run}
 use Rattle.rs_run.specs.Running.{IsCut, IsRunOf, IsScriptRun}
 use Rattle.rs_run.specs.Words.{RunGenerated, RunScript}
-use Rattle.rs_statement.specs.World.{World}
-use Rattle.rs_statement.proofs.RanFacts.{names-none}
+use Rattle.rs_events.specs.Environment.{Environment}
+use Rattle.rs_events.proofs.RanFacts.{names-none}
 
 -- events without their fetches: nothing is fetched, and the calls and puts are those that were there
 fetches-without : (events : List Event) → fetches (without_fetches events) ≡ []
@@ -43,18 +44,11 @@ without-append (Fetch name ∷ rest) b = without-append rest b
 without-append (Score call ∷ rest) b = ap (λ more. Score call ∷ more) (without-append rest b)
 without-append (Put bytes ∷ rest) b = ap (λ more. Put bytes ∷ more) (without-append rest b)
 
-fault-unfetched : (run : Run) (halt : Halt) → fault_of (unfetched run) halt ≡ fault_of run halt
-fault-unfetched run Ended = refl
-fault-unfetched run NoMemory = refl
-fault-unfetched run (PutFailed part) = refl
-fault-unfetched run (FetchFailed name) = refl
-fault-unfetched run (CallFailed call) = refl
-
 -- with other files, which stay as they are
-abbrev beside : Outside FilesTold → World → World
-beside outside world = record world { files = outside }
+abbrev beside : Outside FilesTold → Environment → Environment
+beside outside environment = record environment { files = outside }
 
-module _ (outside : Outside FilesTold) (old new : World) where
+module _ (outside : Outside FilesTold) (old new : Environment) where
   Done-beside : (events : List Event) → Done events old new → Done (without_fetches events) (beside outside old) (beside outside new)
   Done-beside events done = record {
     fetched = names-none outside.told ∙ ap (λ names. option_map (fetched_more names) outside.told) (sym (fetches-without events));
@@ -90,7 +84,9 @@ module _ (outside : Outside FilesTold) (old new : World) where
           ∙ ap (λ last. without_fetches ran.did.done ++ last) (events-beside steady ran.halt ran.did.rest ran.did.halts))
           (Done-beside (ran.did.done ++ halt_events ran.halt) ran.did.all);
     };
-    answers = subst (λ fault. Answers fault result) (sym (fault-unfetched run ran.halt)) ran.answers;
+    fault = ran.fault;
+    is_fault = ran.is_fault;
+    answers = ran.answers;
     keeps = record { files = Keeps-refl outside; scorer = ran.keeps.scorer; out = ran.keeps.out; err = ran.keeps.err };
   }
 

@@ -11,16 +11,22 @@ use Rattle.rs_syntax.specs.declared.fault.SyntaxFault.{SyntaxFault}
 use Rattle.rs_syntax.proofs.ScriptFacts.{Parses-one, Refuses-one, IsSound-not_refused}
 use Rattle.rs_statement.specs.declared.fault.Fault.TheVariants.{Script}
 use Rattle.rs_statement.specs.declared.script_fault.ScriptFault.TheVariants.{Lex, Parse}
-use Rattle.rs_run.specs.Words.{Form, NoForm, RunGenerated, RunScript, Top, form_of}
+use Rattle.rs_run.specs.Words.{Form, RunGenerated, RunScript, Top, form_of}
 use Rattle.rs_run.specs.Top.{top_lines}
 use Rattle.rs_run.specs.Plain.{HasTokens, HasStatements, ScriptRuns, TextRuns, unlexed, unparsed, runs, unread, read, source_of}
 use Rattle.rs_expr.specs.Scoring.{Answering}
-use Rattle.rs_statement.specs.Run.{Fetch, Finds, Run, behind, fails, fetch_then}
+use Rattle.rs_events.specs.Events.{Fetch, Finds}
+use Rattle.rs_statement.specs.Steps.{Run}
+use Rattle.rs_events.specs.Run.{behind, fails, fetch_then, with_fault}
 use Rattle.rs_run.specs.Generated.{finds_generated, unfetched}
-use Rattle.rs_run.specs.Running.{IsRun, IsRunOf}
+use Rattle.rs_run.specs.Running.{IsRun, IsRunOf, OfForm}
+use Rattle.rs_run.specs.Faults.{WordsRun}
+use Rattle.rs_run.specs.declared.fault.RunFault.TheVariants.{Statement}
+use Rattle.std.specs.Prelude.{None, Option, Some}
 use Rattle.rs_statement.specs.declared.evaluating.Evaluating.TheVariants.{Planned}
 use Rattle.rs_statement.specs.Session.{StatementsRun}
-use Rattle.rs_statement.proofs.OneStep.{OneFile, OneRun, Statements-one}
+use Rattle.rs_events.proofs.OneRun.{OneFile}
+use Rattle.rs_statement.proofs.OneStep.{OneRun, Statements-one}
 
 -- a script has one list of tokens at most, and isn't refused by the lexer where it has one
 HasTokens-one : (script : List ℕ) (a b : List Token) → HasTokens script a → HasTokens script b → a ≡ b
@@ -75,7 +81,9 @@ IsRunOf-one finds one answer (RunGenerated number rows) run other p q =
     let own : OneFile (finds_generated number rows) = λ name a b p q. sym p ∙ q in
     p.2 ∙ ap unfetched (ScriptRuns-one (finds_generated number rows) own (StatementsRun (finds_generated number rows) answer (Planned number))
     (Statements-one (finds_generated number rows) own answer (Planned number)) script_name p.0 q.0 p.1 q.1) ∙ sym q.2
-IsRunOf-one finds one answer NoForm run other p q = p ∙ sym q
 
-pub IsRun-one : (finds : Finds) → OneFile finds → (answer : Answering) (words : List (List ℕ)) (run other : Run) → IsRun finds answer words run → IsRun finds answer words other → run ≡ other
-IsRun-one finds one answer words run other p q = IsRunOf-one finds one answer (form_of words) run other p q
+pub IsRun-one : (finds : Finds) → OneFile finds → (answer : Answering) (words : List (List ℕ)) (run other : WordsRun) → IsRun finds answer words run → IsRun finds answer words other → run ≡ other
+IsRun-one finds one answer words run other = go (form_of words) where
+  go : (form : Option Form) → OfForm (IsRunOf finds answer) form run → OfForm (IsRunOf finds answer) form other → run ≡ other
+  go None p q = p ∙ sym q
+  go (Some form) p q = p.2 ∙ ap (with_fault Statement) (IsRunOf-one finds one answer form p.0 q.0 p.1 q.1) ∙ sym q.2

@@ -2,204 +2,259 @@
 use Rattle.std.proofs.Common.{◌≡◌, ◌∙◌, ◌++◌, List, [], ◌∷◌, ℕ, Some, None, refl, sym, ap, subst, inl, inr}
 use Rattle.std.specs.Prelude.{Option, Ok, Err, ◌⊎◌}
 use Rattle.rs_value.specs.Outside.{Faulted, Keeps, Outside}
-use Rattle.rs_outside.specs.declared.files.FetchFault.TheVariants.{Failed}
-use Rattle.rs_statement.specs.declared.fault.Fault.{Fault}
-use Rattle.rs_statement.specs.declared.fault.Fault.TheVariants.{Memory, Usage, Write, Read, Table, BadScore, Probe, Script, Session}
-use Rattle.rs_statement.specs.declared.status.Status.{Status}
-use Rattle.rs_statement.specs.declared.status.Status.TheVariants as status
-use Rattle.rs_statement.specs.Faults.{status_of}
-use Rattle.rs_statement.specs.Halts.{CallFailed, Did, Done, Ended, FetchFailed, Halt, HaltsAt, NoMemory, PutFailed, fault_of, halt_events}
-use Rattle.rs_run.specs.Outcome.{EndsOrNoMemory, ForRun, HasCause, Outcome, Reports}
-use Rattle.rs_statement.specs.Parts.Steps.{Answers, Runs}
-use Rattle.rs_statement.specs.Run.{Event, Run, fails, finds_in}
-use Rattle.rs_run.specs.Running.{IsRun, IsRunOf, IsCut}
-use Rattle.rs_run.specs.Words.{NoForm, form_of}
-use Rattle.rs_statement.specs.World.{KeepsWorld, NoneFailed, World}
+use Rattle.rs_events.specs.Environment.{Environment, KeepsEnvironment, NoneFailed}
+use Rattle.rs_events.specs.Events.{Event, finds_in}
+use Rattle.rs_events.specs.HaltFaults.{Answers, IsFaultOf}
+use Rattle.rs_events.specs.Halts.{CallFailed, Did, Done, Ended, FetchFailed, Halt, HaltsAt, NoMemory, PutFailed, halt_events}
+use Rattle.rs_events.specs.Run.{fails}
+use Rattle.rs_events.specs.Running.{Runs}
+use Rattle.rs_statement.specs.declared.fault.Fault.TheVariants as of_statement
+use Rattle.rs_run.specs.declared.fault.RunFault.{RunFault}
+use Rattle.rs_run.specs.declared.fault.RunFault.TheVariants.{Statement, Usage}
+use Rattle.rs_run.specs.declared.status.Status.{Status}
+use Rattle.rs_run.specs.declared.status.Status.TheVariants as status
+use Rattle.rs_run.specs.Faults.{WordsRun, run_faults, status_of}
+use Rattle.rs_run.specs.Outcome.{HasCause, Outcome, Reports, RunEnds, RunsTo}
+use Rattle.rs_run.specs.Running.{IsCut, IsRunOf, IsRunOrCut, OfForm}
+use Rattle.rs_run.specs.Words.{Form, form_of}
+use Rattle.rs_statement.proofs.OwnFaults.{IsOwn}
 use Rattle.rs_run.proofs.OwnRuns.{OwnFault, own_fault}
 
 -- the report of a call that answers without a fault
-Reports-ok : (fault : Option Fault) (err : Outside (List (List ℕ))) → Answers fault (Ok tt) → Reports fault status.Done err err
+Reports-ok : (fault : Option RunFault) (err : Outside (List (List ℕ))) → Answers run_faults.memory fault (Ok tt) → Reports fault status.Done err err
 Reports-ok None err answers = (refl, refl)
 Reports-ok (Some fault) err answers = absurd (elim answers [ inl e ↦ cc | inr e ↦ cc ])
 
 -- the report of a call that answers a fault
-Reports-fault : (fault : Option Fault) (told : Fault) (s : Status) (old new : Outside (List (List ℕ))) → Answers fault (Err told) → Reports (Some told) s old new → Reports fault s old new
+Reports-fault : (fault : Option RunFault) (told : RunFault) (s : Status) (old new : Outside (List (List ℕ))) → Answers run_faults.memory fault (Err told) → Reports (Some told) s old new
+    → Reports fault s old new
 Reports-fault None told s old new answers reports = absurd cc
 Reports-fault (Some fault) told s old new (inl e) reports = subst (λ f. Reports (Some f) s old new) (let same : told ≡ fault = cc in same) reports
 Reports-fault (Some fault) told s old new (inr e) reports =
-    elim (subst (λ f. Reports (Some f) s old new) (let same : told ≡ Memory = cc in same) reports) [
+    elim (subst (λ f. Reports (Some f) s old new) (let same : told ≡ run_faults.memory = cc in same) reports) [
       | inl whole ↦ inr (whole.0, inr whole.1)
       | inr less ↦ inr less
     ]
 
 -- what the report of a fault says of the status
-status-reports : (fault : Option Fault) (s : Status) (old new : Outside (List (List ℕ))) → Reports fault s old new → (s ≡ status_of fault) ⊎ (s ≡ status.Memory)
+status-reports : (fault : Option RunFault) (s : Status) (old new : Outside (List (List ℕ))) → Reports fault s old new → (s ≡ status_of fault) ⊎ (s ≡ status.Memory)
 status-reports None s old new reports = inl reports.0
 status-reports (Some fault) s old new (inl whole) = inl whole.0
 status-reports (Some fault) s old new (inr less) = inr less.0
 
--- the fault of a run that ends with Usage, and with Write
-is_usage : (fault : Option Fault) (s : Status) → (s ≡ status_of fault) ⊎ (s ≡ status.Memory) → s ≡ status.Usage → fault ≡ Some Usage
-is_usage fault s (inr e) usage = cc
-is_usage None s (inl e) usage = cc
-is_usage (Some Memory) s (inl e) usage = cc
+-- the fault of a run that ends with Done, with Usage, and with Write
+is_done : (fault : Option RunFault) (s : Status) → (s ≡ status_of fault) ⊎ (s ≡ status.Memory) → s ≡ status.Done → fault ≡ None
+is_done fault s (inr e) done = absurd cc
+is_done None s (inl e) done = refl
+is_done (Some Usage) s (inl e) done = absurd cc
+is_done (Some (Statement of_statement.Memory)) s (inl e) done = absurd cc
+is_done (Some (Statement (of_statement.Read name why))) s (inl e) done = absurd cc
+is_done (Some (Statement of_statement.Write)) s (inl e) done = absurd cc
+is_done (Some (Statement (of_statement.Table name why))) s (inl e) done = absurd cc
+is_done (Some (Statement (of_statement.BadScore predicate row got max))) s (inl e) done = absurd cc
+is_done (Some (Statement (of_statement.Probe predicate))) s (inl e) done = absurd cc
+is_done (Some (Statement (of_statement.Script why))) s (inl e) done = absurd cc
+is_done (Some (Statement (of_statement.Session why name))) s (inl e) done = absurd cc
+
+is_usage : (fault : Option RunFault) (s : Status) → (s ≡ status_of fault) ⊎ (s ≡ status.Memory) → s ≡ status.Usage → fault ≡ Some Usage
+is_usage fault s (inr e) usage = absurd cc
+is_usage None s (inl e) usage = absurd cc
 is_usage (Some Usage) s (inl e) usage = refl
-is_usage (Some (Read name why)) s (inl e) usage = cc
-is_usage (Some Write) s (inl e) usage = cc
-is_usage (Some (Table name why)) s (inl e) usage = cc
-is_usage (Some (BadScore predicate row got max)) s (inl e) usage = cc
-is_usage (Some (Probe predicate)) s (inl e) usage = cc
-is_usage (Some (Script why)) s (inl e) usage = cc
-is_usage (Some (Session why name)) s (inl e) usage = cc
+is_usage (Some (Statement of_statement.Memory)) s (inl e) usage = absurd cc
+is_usage (Some (Statement (of_statement.Read name why))) s (inl e) usage = absurd cc
+is_usage (Some (Statement of_statement.Write)) s (inl e) usage = absurd cc
+is_usage (Some (Statement (of_statement.Table name why))) s (inl e) usage = absurd cc
+is_usage (Some (Statement (of_statement.BadScore predicate row got max))) s (inl e) usage = absurd cc
+is_usage (Some (Statement (of_statement.Probe predicate))) s (inl e) usage = absurd cc
+is_usage (Some (Statement (of_statement.Script why))) s (inl e) usage = absurd cc
+is_usage (Some (Statement (of_statement.Session why name))) s (inl e) usage = absurd cc
 
-is_write : (fault : Option Fault) (s : Status) → (s ≡ status_of fault) ⊎ (s ≡ status.Memory) → s ≡ status.Write → fault ≡ Some Write
-is_write fault s (inr e) write = cc
-is_write None s (inl e) write = cc
-is_write (Some Memory) s (inl e) write = cc
-is_write (Some Usage) s (inl e) write = cc
-is_write (Some (Read name why)) s (inl e) write = cc
-is_write (Some Write) s (inl e) write = refl
-is_write (Some (Table name why)) s (inl e) write = cc
-is_write (Some (BadScore predicate row got max)) s (inl e) write = cc
-is_write (Some (Probe predicate)) s (inl e) write = cc
-is_write (Some (Script why)) s (inl e) write = cc
-is_write (Some (Session why name)) s (inl e) write = cc
+is_write : (fault : Option RunFault) (s : Status) → (s ≡ status_of fault) ⊎ (s ≡ status.Memory) → s ≡ status.Write → fault ≡ Some (Statement of_statement.Write)
+is_write fault s (inr e) write = absurd cc
+is_write None s (inl e) write = absurd cc
+is_write (Some Usage) s (inl e) write = absurd cc
+is_write (Some (Statement of_statement.Memory)) s (inl e) write = absurd cc
+is_write (Some (Statement (of_statement.Read name why))) s (inl e) write = absurd cc
+is_write (Some (Statement of_statement.Write)) s (inl e) write = refl
+is_write (Some (Statement (of_statement.Table name why))) s (inl e) write = absurd cc
+is_write (Some (Statement (of_statement.BadScore predicate row got max))) s (inl e) write = absurd cc
+is_write (Some (Statement (of_statement.Probe predicate))) s (inl e) write = absurd cc
+is_write (Some (Statement (of_statement.Script why))) s (inl e) write = absurd cc
+is_write (Some (Statement (of_statement.Session why name))) s (inl e) write = absurd cc
 
-is_probe : (fault : Option Fault) (s : Status) → (s ≡ status_of fault) ⊎ (s ≡ status.Memory) → s ≡ status.Probe → (predicate : List ℕ) × (fault ≡ Some (Probe predicate))
+is_probe : (fault : Option RunFault) (s : Status) → (s ≡ status_of fault) ⊎ (s ≡ status.Memory) → s ≡ status.Probe → (predicate : List ℕ) × (fault ≡ Some (Statement (of_statement.Probe predicate)))
 is_probe fault s (inr e) probe = absurd cc
 is_probe None s (inl e) probe = absurd cc
-is_probe (Some Memory) s (inl e) probe = absurd cc
 is_probe (Some Usage) s (inl e) probe = absurd cc
-is_probe (Some (Read name why)) s (inl e) probe = absurd cc
-is_probe (Some Write) s (inl e) probe = absurd cc
-is_probe (Some (Table name why)) s (inl e) probe = absurd cc
-is_probe (Some (BadScore predicate row got max)) s (inl e) probe = absurd cc
-is_probe (Some (Probe predicate)) s (inl e) probe = (predicate, refl)
-is_probe (Some (Script why)) s (inl e) probe = absurd cc
-is_probe (Some (Session why name)) s (inl e) probe = absurd cc
+is_probe (Some (Statement of_statement.Memory)) s (inl e) probe = absurd cc
+is_probe (Some (Statement (of_statement.Read name why))) s (inl e) probe = absurd cc
+is_probe (Some (Statement of_statement.Write)) s (inl e) probe = absurd cc
+is_probe (Some (Statement (of_statement.Table name why))) s (inl e) probe = absurd cc
+is_probe (Some (Statement (of_statement.BadScore predicate row got max))) s (inl e) probe = absurd cc
+is_probe (Some (Statement (of_statement.Probe predicate))) s (inl e) probe = (predicate, refl)
+is_probe (Some (Statement (of_statement.Script why))) s (inl e) probe = absurd cc
+is_probe (Some (Statement (of_statement.Session why name))) s (inl e) probe = absurd cc
+
+-- what a run did up to a halt, and what was reported of it
+record Reported (run : WordsRun) (s : Status) (old new : Environment) : Type 0 where
+  pub halt : Halt
+  pub did : Did run.events halt old new
+  pub fault : Option RunFault
+  pub is_fault : IsFaultOf run_faults run.fault halt fault
+  pub reports : Reports fault s old.err new.err
+
+module _ (run : WordsRun) (s : Status) (old new : Environment) (o : Reported run s old new) where
+  status-is : (s ≡ status_of o.fault) ⊎ (s ≡ status.Memory)
+  status-is = status-reports o.fault s old.err new.err o.reports
+
+  -- the status of a run with this fault, at its halt
+  status-at : (fault : RunFault) → o.fault ≡ Some fault → (s ≡ status_of (Some fault)) ⊎ (s ≡ status.Memory)
+  status-at fault e = subst (λ f. (s ≡ status_of f) ⊎ (s ≡ status.Memory)) e status-is
+
+  all-done : o.did.rest ≡ [] → Done (o.did.done ++ []) old new → Done run.events old new
+  all-done none all = subst (λ events. Done events old new) (sym (o.did.split ∙ ap (λ rest. o.did.done ++ rest) none)) all
+
+  cause-of : HasCause run s old new
+  cause-of = of_halt o.halt o.is_fault o.did.halts where
+    of_halt : (halt : Halt) → IsFaultOf run_faults run.fault halt o.fault → HaltsAt halt o.did.rest old new → HasCause run s old new
+    of_halt Ended is halts = inl (subst (λ f. (s ≡ status_of f) ⊎ (s ≡ status.Memory)) is status-is)
+    of_halt NoMemory is halts = inl (inr (elim (status-at run_faults.memory is) [ inl e ↦ e | inr e ↦ e ]))
+    of_halt (PutFailed part) is halts = elim (status-at run_faults.write is) [ inl e ↦ inr (inl (e, halts.4)) | inr e ↦ inl (inr e) ]
+    of_halt (FetchFailed name) is halts =
+        elim (status-at is.0 is.2) [ inl e ↦ inr (inr (inl (e ∙ ap (λ f. status_of (Some f)) is.1, halts.2))) | inr e ↦ inl (inr e) ]
+    of_halt (CallFailed call) is halts = elim (status-at (run_faults.failed_call call) is) [ inl e ↦ inr (inr (inr (e, halts.2))) | inr e ↦ inl (inr e) ]
+
+  well-of : s ≡ status.Done → (run.fault ≡ None) × Done run.events old new
+  well-of done = of_halt o.halt o.is_fault (is_done o.fault s status-is done) o.did.halts o.did.all where
+    of_halt : (halt : Halt) → IsFaultOf run_faults run.fault halt o.fault → o.fault ≡ None → HaltsAt halt o.did.rest old new
+        → Done (o.did.done ++ halt_events halt) old new → (run.fault ≡ None) × Done run.events old new
+    of_halt Ended is none halts all = (sym is ∙ none, all-done halts all)
+    of_halt NoMemory is none halts all = absurd (let e = sym is ∙ none in cc)
+    of_halt (PutFailed part) is none halts all = absurd (let e = sym is ∙ none in cc)
+    of_halt (FetchFailed name) is none halts all = absurd (let e = sym is.2 ∙ none in cc)
+    of_halt (CallFailed call) is none halts all = absurd (let e = sym is ∙ none in cc)
+
+  complete-of : NoneFailed old new → RunEnds run s old new ⊎ (s ≡ status.Memory)
+  complete-of none = of_halt o.halt o.is_fault o.did.halts o.did.all where
+    of_halt : (halt : Halt) → IsFaultOf run_faults run.fault halt o.fault → HaltsAt halt o.did.rest old new → Done (o.did.done ++ halt_events halt) old new
+        → RunEnds run s old new ⊎ (s ≡ status.Memory)
+    of_halt Ended is halts all = elim (subst (λ f. (s ≡ status_of f) ⊎ (s ≡ status.Memory)) is status-is) [ inl e ↦ inl (record { status_is = e; all = all-done halts all }) | inr e ↦ inr e ]
+    of_halt NoMemory is halts all = inr (elim (status-at run_faults.memory is) [ inl e ↦ e | inr e ↦ e ])
+    of_halt (PutFailed part) is halts all = absurd (none.put halts.4)
+    of_halt (FetchFailed name) is halts all = absurd (none.fetch halts.2)
+    of_halt (CallFailed call) is halts all = absurd (none.call halts.2)
+
+  outcome-of : Outcome run s old new
+  outcome-of = record {
+    halt = o.halt;
+    did = o.did;
+    fault = o.fault;
+    is_fault = o.is_fault;
+    reports = o.reports;
+    cause = cause-of;
+    well = well-of;
+    complete = complete-of;
+  }
 
 -- what follows of the outcome of a run of these words
-module _ (words : List (List ℕ)) (run : Run) (s : Status) (old new : World)
-    (is_run : IsRun (finds_in old.files.told) old.scorer.answer words run ⊎ IsCut (form_of words) run) (o : Outcome run s old new) where
-  status-is : (s ≡ status_of (fault_of run o.halt)) ⊎ (s ≡ status.Memory)
-  status-is = status-reports (fault_of run o.halt) s old.err new.err o.reports
-
+module _ (words : List (List ℕ)) (run : WordsRun) (s : Status) (old new : Environment) (is_run : IsRunOrCut (finds_in old.files.told) old.scorer.answer words run)
+    (o : Reported run s old new) where
   own : OwnFault words run.fault
   own = own_fault (finds_in old.files.told) old.scorer.answer words run is_run
 
   -- it ends with Usage only where the words are of no form
-  pub usage-outcome : s ≡ status.Usage → form_of words ≡ NoForm
+  usage-outcome : s ≡ status.Usage → form_of words ≡ None
   unfolding OwnFault
-  usage-outcome usage = of_halt o.halt (is_usage (fault_of run o.halt) s status-is usage) where
-    of_halt : (halt : Halt) → fault_of run halt ≡ Some Usage → form_of words ≡ NoForm
-    of_halt Ended e = subst (OwnFault words) e own
-    of_halt NoMemory e = absurd cc
-    of_halt (PutFailed part) e = absurd cc
-    of_halt (FetchFailed name) e = absurd cc
-    of_halt (CallFailed call) e = absurd cc
+  usage-outcome usage = of_halt o.halt o.is_fault (is_usage o.fault s (status-is run s old new o) usage) where
+    of_halt : (halt : Halt) → IsFaultOf run_faults run.fault halt o.fault → o.fault ≡ Some Usage → form_of words ≡ None
+    of_halt Ended is e = subst (OwnFault words) (sym is ∙ e) own
+    of_halt NoMemory is e = absurd (let both = sym is ∙ e in cc)
+    of_halt (PutFailed part) is e = absurd (let both = sym is ∙ e in cc)
+    of_halt (FetchFailed name) is e = absurd (let both = sym (is.2 ∙ ap Some is.1) ∙ e in cc)
+    of_halt (CallFailed call) is e = absurd (let both = sym is ∙ e in cc)
 
   -- where they are of no form, it ends with Usage, or there was no memory
-  pub outcome-usage : form_of words ≡ NoForm → (s ≡ status.Usage) ⊎ (s ≡ status.Memory)
-  outcome-usage none = of_halt o.halt o.reports o.did.halts where
+  outcome-usage : form_of words ≡ None → (s ≡ status.Usage) ⊎ (s ≡ status.Memory)
+  outcome-usage none = of_halt o.halt o.is_fault o.did.halts where
     run_is : run ≡ fails Usage
-    run_is = elim (subst (λ form. IsRunOf (finds_in old.files.told) old.scorer.answer form run ⊎ IsCut form run) none is_run) [ inl e ↦ e | inr cut ↦ absurd cut ]
+    run_is = subst (λ form. OfForm (λ form own. IsRunOf (finds_in old.files.told) old.scorer.answer form own ⊎ IsCut form own) form run) none is_run
 
     no_rest : (done rest : List Event) → [] ≡ done ++ rest → rest ≡ []
     no_rest [] rest e = sym e
     no_rest (event ∷ done) rest e = absurd cc
 
     rest_is : o.did.rest ≡ []
-    rest_is = no_rest o.did.done o.did.rest (sym (ap (λ run. run.events) run_is) ∙ o.did.split)
+    rest_is = no_rest o.did.done o.did.rest (sym (ap (λ (run : WordsRun). run.events) run_is) ∙ o.did.split)
 
-    of_halt : (halt : Halt) → Reports (fault_of run halt) s old.err new.err → HaltsAt halt o.did.rest old new → (s ≡ status.Usage) ⊎ (s ≡ status.Memory)
-    of_halt Ended reports halts = elim (status-reports run.fault s old.err new.err reports) [ inl e ↦ inl (e ∙ ap (λ run. status_of run.fault) run_is) | inr e ↦ inr e ]
-    of_halt NoMemory reports halts = elim (status-reports (Some Memory) s old.err new.err reports) [ inl e ↦ inr e | inr e ↦ inr e ]
-    of_halt (PutFailed part) reports halts = absurd (let e = sym rest_is ∙ halts.2 in cc)
-    of_halt (FetchFailed name) reports halts = absurd (let e = sym rest_is ∙ halts.1 in cc)
-    of_halt (CallFailed call) reports halts = absurd (let e = sym rest_is ∙ halts.1 in cc)
+    of_halt : (halt : Halt) → IsFaultOf run_faults run.fault halt o.fault → HaltsAt halt o.did.rest old new → (s ≡ status.Usage) ⊎ (s ≡ status.Memory)
+    of_halt Ended is halts = status-at run s old new o Usage (is ∙ ap (λ (run : WordsRun). run.fault) run_is)
+    of_halt NoMemory is halts = inr (elim (status-at run s old new o run_faults.memory is) [ inl e ↦ e | inr e ↦ e ])
+    of_halt (PutFailed part) is halts = absurd (let e = sym rest_is ∙ halts.2 in cc)
+    of_halt (FetchFailed name) is halts = absurd (let e = sym rest_is ∙ halts.1 in cc)
+    of_halt (CallFailed call) is halts = absurd (let e = sym rest_is ∙ halts.1 in cc)
 
   -- it ends with Write only where a put failed
-  pub write-outcome : s ≡ status.Write → Faulted old.out new.out
-  unfolding OwnFault
-  write-outcome write = of_halt o.halt (is_write (fault_of run o.halt) s status-is write) o.did.halts where
-    of_halt : (halt : Halt) → fault_of run halt ≡ Some Write → HaltsAt halt o.did.rest old new → Faulted old.out new.out
-    of_halt Ended e halts = absurd (subst (OwnFault words) e own)
-    of_halt NoMemory e halts = absurd cc
-    of_halt (PutFailed part) e halts = halts.4
-    of_halt (FetchFailed name) e halts = absurd cc
-    of_halt (CallFailed call) e halts = absurd cc
+  write-outcome : s ≡ status.Write → Faulted old.out new.out
+  unfolding OwnFault IsOwn
+  write-outcome write = of_halt o.halt o.is_fault (is_write o.fault s (status-is run s old new o) write) o.did.halts where
+    of_halt : (halt : Halt) → IsFaultOf run_faults run.fault halt o.fault → o.fault ≡ Some (Statement of_statement.Write) → HaltsAt halt o.did.rest old new → Faulted old.out new.out
+    of_halt Ended is e halts = absurd (subst (OwnFault words) (sym is ∙ e) own)
+    of_halt NoMemory is e halts = absurd (let both = sym is ∙ e in cc)
+    of_halt (PutFailed part) is e halts = halts.4
+    of_halt (FetchFailed name) is e halts = absurd (let both = sym (is.2 ∙ ap Some is.1) ∙ e in cc)
+    of_halt (CallFailed call) is e halts = absurd (let both = sym is ∙ e in cc)
 
   -- and with Probe only where a call did
-  pub probe-outcome : s ≡ status.Probe → Faulted old.scorer.outside new.scorer.outside
-  unfolding OwnFault
+  probe-outcome : s ≡ status.Probe → Faulted old.scorer.outside new.scorer.outside
+  unfolding OwnFault IsOwn
   probe-outcome probe =
-      let is = is_probe (fault_of run o.halt) s status-is probe in
-      of_halt o.halt is.0 is.1 o.did.halts where
-        of_halt : (halt : Halt) (predicate : List ℕ) → fault_of run halt ≡ Some (Probe predicate) → HaltsAt halt o.did.rest old new → Faulted old.scorer.outside new.scorer.outside
-        of_halt Ended predicate e halts = absurd (subst (OwnFault words) e own)
-        of_halt NoMemory predicate e halts = absurd cc
-        of_halt (PutFailed part) predicate e halts = absurd cc
-        of_halt (FetchFailed name) predicate e halts = absurd cc
-        of_halt (CallFailed call) predicate e halts = halts.2
-
--- where no fetch, no call of the scorer and no put failed, a run ends as its definition says, or there was no memory
-outcome-ends : (run : Run) (s : Status) (old new : World) → NoneFailed old new → Outcome run s old new → EndsOrNoMemory run s old new
-outcome-ends run s old new none o = of_halt o.halt o.reports o.did.halts o.did.all where
-  of_halt : (halt : Halt) → Reports (fault_of run halt) s old.err new.err → HaltsAt halt o.did.rest old new → Done (o.did.done ++ halt_events halt) old new → EndsOrNoMemory run s old new
-  of_halt Ended reports halts all = elim (status-reports run.fault s old.err new.err reports) [
-    | inl e ↦ inl (record { status_is = e; all = subst (λ events. Done events old new) (sym (o.did.split ∙ ap (λ rest. o.did.done ++ rest) halts)) all })
-    | inr e ↦ inr e
-  ]
-  of_halt NoMemory reports halts all = inr (elim (status-reports (Some Memory) s old.err new.err reports) [ inl e ↦ e | inr e ↦ e ])
-  of_halt (PutFailed part) reports halts all = absurd (none.put halts.4)
-  of_halt (FetchFailed name) reports halts all = absurd (none.fetch halts.2)
-  of_halt (CallFailed call) reports halts all = absurd (none.call halts.2)
-
--- the cause of a status
-outcome-cause : (run : Run) (s : Status) (old new : World) → Outcome run s old new → HasCause run s old new
-outcome-cause run s old new o = of_halt o.halt o.reports o.did.halts where
-  of_halt : (halt : Halt) → Reports (fault_of run halt) s old.err new.err → HaltsAt halt o.did.rest old new → HasCause run s old new
-  of_halt Ended reports halts = elim (status-reports run.fault s old.err new.err reports) [ inl e ↦ inl (inl e) | inr e ↦ inl (inr e) ]
-  of_halt NoMemory reports halts = inl (inr (elim (status-reports (Some Memory) s old.err new.err reports) [ inl e ↦ e | inr e ↦ e ]))
-  of_halt (PutFailed part) reports halts = elim (status-reports (Some Write) s old.err new.err reports) [ inl e ↦ inr (inl (e, halts.4)) | inr e ↦ inl (inr e) ]
-  of_halt (FetchFailed name) reports halts = elim (status-reports (Some (Read name Failed)) s old.err new.err reports) [ inl e ↦ inr (inr (inl (e, halts.2))) | inr e ↦ inl (inr e) ]
-  of_halt (CallFailed call) reports halts = elim (status-reports (Some (Probe call.predicate)) s old.err new.err reports) [ inl e ↦ inr (inr (inr (e, halts.2))) | inr e ↦ inl (inr e) ]
+      let found = is_probe o.fault s (status-is run s old new o) probe in
+      of_halt o.halt o.is_fault found.0 found.1 o.did.halts where
+        of_halt : (halt : Halt) → IsFaultOf run_faults run.fault halt o.fault → (predicate : List ℕ) → o.fault ≡ Some (Statement (of_statement.Probe predicate)) → HaltsAt halt o.did.rest old new
+            → Faulted old.scorer.outside new.scorer.outside
+        of_halt Ended is predicate e halts = absurd (subst (OwnFault words) (sym is ∙ e) own)
+        of_halt NoMemory is predicate e halts = absurd (let both = sym is ∙ e in cc)
+        of_halt (PutFailed part) is predicate e halts = absurd (let both = sym is ∙ e in cc)
+        of_halt (FetchFailed name) is predicate e halts = absurd (let both = sym (is.2 ∙ ap Some is.1) ∙ e in cc)
+        of_halt (CallFailed call) is predicate e halts = halts.2
 
 -- all that a run tells, from its outcome
-pub record Tells (words : List (List ℕ)) (s : Status) (old new : World) : Type 0 where
-  pub run : ForRun old words (λ run. Outcome run s old new)
-  pub causes : ForRun old words (λ run. HasCause run s old new)
-  pub usage : s ≡ status.Usage → form_of words ≡ NoForm
-  pub no_form : form_of words ≡ NoForm → (s ≡ status.Usage) ⊎ (s ≡ status.Memory)
+pub record Tells (words : List (List ℕ)) (s : Status) (old new : Environment) : Type 0 where
+  pub run : RunsTo words s old new
+  pub usage : s ≡ status.Usage → form_of words ≡ None
+  pub no_form : form_of words ≡ None → (s ≡ status.Usage) ⊎ (s ≡ status.Memory)
   pub write : s ≡ status.Write → Faulted old.out new.out
   pub probe : s ≡ status.Probe → Faulted old.scorer.outside new.scorer.outside
-  pub complete : NoneFailed old new → ForRun old words (λ run. EndsOrNoMemory run s old new)
-  pub keeps : KeepsWorld old new
+  pub keeps : KeepsEnvironment old new
 
-tells : (words : List (List ℕ)) (run : Run) (s : Status) (old new : World) → IsRun (finds_in old.files.told) old.scorer.answer words run ⊎ IsCut (form_of words) run
-    → Outcome run s old new → KeepsWorld old new → Tells words s old new
+tells : (words : List (List ℕ)) (run : WordsRun) (s : Status) (old new : Environment) → IsRunOrCut (finds_in old.files.told) old.scorer.answer words run
+    → Reported run s old new → KeepsEnvironment old new → Tells words s old new
 tells words run s old new is o keeps = record {
-  run = (run, is, o);
-  causes = (run, is, outcome-cause run s old new o);
+  run = (run, is, outcome-of run s old new o);
   usage = usage-outcome words run s old new is o;
   no_form = outcome-usage words run s old new is o;
   write = write-outcome words run s old new is o;
   probe = probe-outcome words run s old new is o;
-  complete = λ none. (run, is, outcome-ends run s old new none o);
   keeps = keeps;
 }
 
 -- of a call that answers without a fault, and of one that answers a fault that is reported
-pub tells-ok : (words : List (List ℕ)) (old new : World) → new.err ≡ old.err
-    → Runs (λ run. IsRun (finds_in old.files.told) old.scorer.answer words run ⊎ IsCut (form_of words) run) (Ok tt) old new → Tells words status.Done old new
+pub tells-ok : (words : List (List ℕ)) (old new : Environment) → new.err ≡ old.err → Runs run_faults (IsRunOrCut (finds_in old.files.told) old.scorer.answer words) (Ok tt) old new
+    → Tells words status.Done old new
 tells-ok words old new same ran =
     tells words ran.run status.Done old new ran.is
-    (record { halt = ran.ran.halt; did = ran.ran.did; reports = subst (λ err. Reports (fault_of ran.run ran.ran.halt) status.Done old.err err) (sym same) (Reports-ok _ old.err ran.ran.answers) })
+    (record {
+      halt = ran.ran.halt;
+      did = ran.ran.did;
+      fault = ran.ran.fault;
+      is_fault = ran.ran.is_fault;
+      reports = subst (λ err. Reports ran.ran.fault status.Done old.err err) (sym same) (Reports-ok ran.ran.fault old.err ran.ran.answers);
+    })
     ran.ran.keeps
 
 -- what was done doesn't speak of standard error
-Did-err : (run : Run) (halt : Halt) (old new : World) (err : Outside (List (List ℕ))) → Did run halt old new → Did run halt old (record new { err = err })
-Did-err run halt old new err did = record {
+Did-err : (events : List Event) (halt : Halt) (old new : Environment) (err : Outside (List (List ℕ))) → Did events halt old new → Did events halt old (record new { err = err })
+Did-err events halt old new err did = record {
   done = did.done;
   rest = did.rest;
   split = did.split;
@@ -213,9 +268,15 @@ Did-err run halt old new err did = record {
   halts (FetchFailed name) rest h = h
   halts (CallFailed call) rest h = h
 
-pub tells-fault : (words : List (List ℕ)) (fault : Fault) (s : Status) (old new : World) (err : Outside (List (List ℕ))) → Reports (Some fault) s old.err err → Keeps old.err err
-    → Runs (λ run. IsRun (finds_in old.files.told) old.scorer.answer words run ⊎ IsCut (form_of words) run) (Err fault) old new → Tells words s old (record new { err = err })
+pub tells-fault : (words : List (List ℕ)) (fault : RunFault) (s : Status) (old new : Environment) (err : Outside (List (List ℕ))) → Reports (Some fault) s old.err err → Keeps old.err err
+    → Runs run_faults (IsRunOrCut (finds_in old.files.told) old.scorer.answer words) (Err fault) old new → Tells words s old (record new { err = err })
 tells-fault words fault s old new err reports keeps ran =
     tells words ran.run s old (record new { err = err }) ran.is
-    (record { halt = ran.ran.halt; did = Did-err ran.run ran.ran.halt old new err ran.ran.did; reports = Reports-fault _ fault s old.err err ran.ran.answers reports })
+    (record {
+      halt = ran.ran.halt;
+      did = Did-err ran.run.events ran.ran.halt old new err ran.ran.did;
+      fault = ran.ran.fault;
+      is_fault = ran.ran.is_fault;
+      reports = Reports-fault ran.ran.fault fault s old.err err ran.ran.answers reports;
+    })
     (record { files = ran.ran.keeps.files; scorer = ran.ran.keeps.scorer; out = ran.ran.keeps.out; err = keeps })

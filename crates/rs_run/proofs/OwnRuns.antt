@@ -1,21 +1,26 @@
 -- The faults that the definition of a run can end with: never that a put failed or a call of the scorer, and Usage only where the words are of no form.
 use Rattle.std.proofs.Common.{ℕ, ◌≡◌, List, Some, None, refl, sym, subst, inl, inr}
-use Rattle.std.specs.Prelude.{Option, Result, Ok, Err, unwrap_or, ◌⊎◌}
+use Rattle.std.specs.Prelude.{Option, option_map, Result, Ok, Err, unwrap_or, ◌⊎◌}
 use Rattle.rs_value.specs.Text.{text_of}
 use Rattle.rs_value.specs.declared.text.TextFault.{TextFault}
 use Rattle.rs_value.specs.declared.text.TextFault.TheVariants as text
 use Rattle.rs_gen.specs.Files.{script_name}
 use Rattle.rs_table.specs.Column.{place_of}
 use Rattle.rs_statement.specs.declared.fault.Fault.{Fault}
-use Rattle.rs_statement.specs.declared.fault.Fault.TheVariants.{Memory, Usage, Write, Read, Table, BadScore, Probe, Script, Session}
-use Rattle.rs_run.specs.Words.{Form, NoForm, RunGenerated, RunScript, Top, TopWords, form_of}
+use Rattle.rs_statement.specs.declared.fault.Fault.TheVariants.{Memory}
+use Rattle.rs_run.specs.declared.fault.RunFault.{RunFault}
+use Rattle.rs_run.specs.declared.fault.RunFault.TheVariants.{Statement, Usage}
+use Rattle.rs_run.specs.Faults.{WordsRun}
+use Rattle.rs_run.specs.Words.{Form, RunGenerated, RunScript, Top, TopWords, form_of}
 use Rattle.rs_statement.specs.Content.{content_of, or_table_fault, table_limit}
 use Rattle.rs_run.specs.Top.{best_rows, named_table, number_at, ranked_lines, scored_rows, top_lines, top_table}
 use Rattle.rs_run.specs.Plain.{ScriptRuns, TextRuns, unlexed, unparsed, runs, unread, read, or_text_fault, script_limit, source_of, without_mark}
 use Rattle.rs_expr.specs.Scoring.{Answering}
-use Rattle.rs_statement.specs.Run.{Finds, Run, fetch_then}
+use Rattle.rs_events.specs.Events.{Finds}
+use Rattle.rs_statement.specs.Steps.{Run}
+use Rattle.rs_events.specs.Run.{fetch_then}
 use Rattle.rs_run.specs.Generated.{finds_generated}
-use Rattle.rs_run.specs.Running.{IsRun, IsRunOf, IsCut}
+use Rattle.rs_run.specs.Running.{IsRunOf, IsRunOrCut, IsCut, OfForm}
 use Rattle.rs_statement.specs.Faults.{or_index_fault}
 use Rattle.rs_statement.specs.Lines.{rank_lines}
 use Rattle.rs_statement.specs.declared.evaluating.Evaluating.{Evaluating}
@@ -59,48 +64,35 @@ Own-script finds answer evaluating name _ (unread there fault found e) = subst O
 Own-script finds answer evaluating name _ (read there script run found e is) = Own-runs finds answer evaluating script run is
 
 -- the faults that the definition of a run ends with
-unfoldable pub OwnFault : List (List ℕ) → Option Fault → Type 0
+unfoldable pub OwnFault : List (List ℕ) → Option RunFault → Type 0
 OwnFault words None = Unit {0}
-OwnFault words (Some Memory) = Unit {0}
-OwnFault words (Some Usage) = form_of words ≡ NoForm
-OwnFault words (Some (Read name why)) = Unit {0}
-OwnFault words (Some Write) = ⊥
-OwnFault words (Some (Table name why)) = Unit {0}
-OwnFault words (Some (BadScore predicate row got max)) = Unit {0}
-OwnFault words (Some (Probe predicate)) = ⊥
-OwnFault words (Some (Script why)) = Unit {0}
-OwnFault words (Some (Session why name)) = Unit {0}
+OwnFault words (Some Usage) = form_of words ≡ None
+OwnFault words (Some (Statement fault)) = IsOwn fault
 
-OwnFault-end : (words : List (List ℕ)) (fault : Option Fault) → OwnEnd fault → OwnFault words fault
-unfolding OwnFault OwnEnd IsOwn
+OwnFault-end : (words : List (List ℕ)) (fault : Option Fault) → OwnEnd fault → OwnFault words (option_map Statement fault)
+unfolding OwnFault OwnEnd
 OwnFault-end words None own = tt
-OwnFault-end words (Some Memory) own = tt
-OwnFault-end words (Some Usage) own = absurd own
-OwnFault-end words (Some (Read name why)) own = tt
-OwnFault-end words (Some Write) own = own
-OwnFault-end words (Some (Table name why)) own = tt
-OwnFault-end words (Some (BadScore predicate row got max)) own = tt
-OwnFault-end words (Some (Probe predicate)) own = own
-OwnFault-end words (Some (Script why)) own = tt
-OwnFault-end words (Some (Session why name)) own = tt
+OwnFault-end words (Some fault) own = own
 
 OwnEnd-lines : (name : List ℕ) (lines : Result (List (List ℕ)) Fault) → Own lines → OwnEnd (fetch_then name lines).fault
 unfolding Own OwnEnd
 OwnEnd-lines name (Ok lines) own = tt
 OwnEnd-lines name (Err fault) own = own
 
-OwnFault-form : (finds : Finds) (answer : Answering) (words : List (List ℕ)) (run : Run) (form : Form) → form_of words ≡ form → IsRunOf finds answer form run ⊎ IsCut form run → OwnFault words run.fault
-unfolding OwnFault OwnEnd IsOwn
-OwnFault-form finds answer words run (Top top) is_form (inl is) =
-    OwnFault-end words run.fault (subst (λ r. OwnEnd r.fault) (sym is.2) (OwnEnd-lines top.file (top_lines top is.0) (Own-top top is.0)))
-OwnFault-form finds answer words run (Top top) is_form (inr cut) = absurd cut
-OwnFault-form finds answer words run (RunScript name evaluating) is_form (inl is) = OwnFault-end words run.fault (Own-script finds answer evaluating name run is)
-OwnFault-form finds answer words run (RunScript name evaluating) is_form (inr cut) = OwnFault-end words run.fault (subst (λ r. OwnEnd r.fault) (sym cut) tt)
-OwnFault-form finds answer words run (RunGenerated number rows) is_form (inl is) =
-    OwnFault-end words run.fault (subst (λ r. OwnEnd r.fault) (sym is.2) (Own-script (finds_generated number rows) answer (Planned number) script_name is.0 is.1))
-OwnFault-form finds answer words run (RunGenerated number rows) is_form (inr cut) = OwnFault-end words run.fault (subst (λ r. OwnEnd r.fault) (sym cut) tt)
-OwnFault-form finds answer words run NoForm is_form (inl is) = subst (λ r. OwnFault words r.fault) (sym is) is_form
-OwnFault-form finds answer words run NoForm is_form (inr cut) = absurd cut
+OwnEnd-form : (finds : Finds) (answer : Answering) (form : Form) (run : Run) → IsRunOf finds answer form run ⊎ IsCut form run → OwnEnd run.fault
+unfolding OwnEnd IsOwn
+OwnEnd-form finds answer (Top top) run (inl is) = subst (λ (r : Run). OwnEnd r.fault) (sym is.2) (OwnEnd-lines top.file (top_lines top is.0) (Own-top top is.0))
+OwnEnd-form finds answer (Top top) run (inr cut) = absurd cut
+OwnEnd-form finds answer (RunScript name evaluating) run (inl is) = Own-script finds answer evaluating name run is
+OwnEnd-form finds answer (RunScript name evaluating) run (inr cut) = subst (λ (r : Run). OwnEnd r.fault) (sym cut) tt
+OwnEnd-form finds answer (RunGenerated number rows) run (inl is) =
+    subst (λ (r : Run). OwnEnd r.fault) (sym is.2) (Own-script (finds_generated number rows) answer (Planned number) script_name is.0 is.1)
+OwnEnd-form finds answer (RunGenerated number rows) run (inr cut) = subst (λ (r : Run). OwnEnd r.fault) (sym cut) tt
 
-pub own_fault : (finds : Finds) (answer : Answering) (words : List (List ℕ)) (run : Run) → IsRun finds answer words run ⊎ IsCut (form_of words) run → OwnFault words run.fault
-own_fault finds answer words run is = OwnFault-form finds answer words run (form_of words) refl is
+pub own_fault : (finds : Finds) (answer : Answering) (words : List (List ℕ)) (run : WordsRun) → IsRunOrCut finds answer words run → OwnFault words run.fault
+unfolding OwnFault
+own_fault finds answer words run = go (form_of words) refl where
+  go : (form : Option Form) → form_of words ≡ form → OfForm (λ form own. IsRunOf finds answer form own ⊎ IsCut form own) form run → OwnFault words run.fault
+  go None is_form is = subst (λ (r : WordsRun). OwnFault words r.fault) (sym is) is_form
+  go (Some form) is_form is =
+      subst (λ (r : WordsRun). OwnFault words r.fault) (sym is.2) (OwnFault-end words is.0.fault (OwnEnd-form finds answer form is.0 is.1))

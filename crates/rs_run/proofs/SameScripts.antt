@@ -7,13 +7,14 @@ use Rattle.rs_syntax.specs.Syntax.{Command}
 use Rattle.rs_syntax.proofs.WrittenFacts.{AreWritten-parsed}
 use Rattle.rs_statement.specs.declared.evaluating.Evaluating.TheVariants.{Planned, Plainly}
 use Rattle.rs_run.specs.Plain.{HasStatements, TextRuns, read, runs, source_of, unlexed, unparsed, unread}
-use Rattle.rs_statement.specs.Run.{Finds, Run, puts}
+use Rattle.rs_events.specs.Events.{Finds, puts}
+use Rattle.rs_statement.specs.Steps.{Run}
 use Rattle.rs_run.specs.Running.{HasNoExplain, IsRunOf}
 use Rattle.rs_statement.specs.Statements.{IsNoExplain}
 use Rattle.rs_statement.specs.Session.{StatementsRun}
 use Rattle.rs_run.specs.Words.{RunScript}
 use Rattle.rs_run.proofs.OneRun.{HasStatements-one}
-use Rattle.rs_statement.proofs.OneStep.{OneFile}
+use Rattle.rs_events.proofs.OneRun.{OneFile}
 use Rattle.rs_statement.proofs.SamePuts.{GiveAnswers, alike-statements}
 use Rattle.rs_statement.proofs.SameFetches.{AskTheSame}
 

@@ -2,7 +2,8 @@
 use Rattle.std.specs.Prelude.{ℕ, List, [], ◌∷◌}
 use Rattle.rs_outside.specs.Files.{file_named}
 use Rattle.rs_gen.specs.Files.{generated_folder}
-use Rattle.rs_statement.specs.Run.{Event, Fetch, Finds, Put, Run, Score, found_in}
+use Rattle.rs_events.specs.Events.{Event, Fetch, Finds, Put, Score, found_in}
+use Rattle.rs_statement.specs.Steps.{Run}
 
 -- what a fetch finds among the generated files
 abbrev pub finds_generated : ℕ → ℕ → Finds

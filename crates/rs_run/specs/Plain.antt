@@ -15,7 +15,9 @@ use Rattle.rs_statement.specs.declared.fault.Fault.{Fault}
 use Rattle.rs_statement.specs.declared.fault.Fault.TheVariants.{Memory, Script}
 use Rattle.rs_statement.specs.declared.script_fault.ScriptFault.TheVariants.{NotUtf8, Lex, Parse}
 use Rattle.rs_statement.specs.Content.{content_of}
-use Rattle.rs_statement.specs.Run.{Fetch, Finds, Run, behind, fails}
+use Rattle.rs_events.specs.Events.{Fetch, Finds}
+use Rattle.rs_statement.specs.Steps.{Run}
+use Rattle.rs_events.specs.Run.{behind, fails}
 
 -- the most bytes of a script's file, a byte order mark counted
 abbrev pub script_limit : ℕ

@@ -1,10 +1,10 @@
 ghost use Rattle.std.specs.Prelude.{◌≡◌, ◌⊎◌, IfOk};
 ghost use Rattle.rs_gen.specs.Files.{script_name};
 ghost use Rattle.rs_statement.specs.Parts.Steps.{Runs};
-ghost use Rattle.rs_statement.specs.Run.{finds_in};
+ghost use Rattle.rs_events.specs.Events.{finds_in};
 ghost use Rattle.rs_run.specs.Running.{IsCut, IsRunOf};
 ghost use Rattle.rs_run.specs.Words.{RunGenerated};
-ghost use Rattle.rs_statement.specs.World.{World};
+ghost use Rattle.rs_events.specs.Environment.{Environment};
 
 use crate::plain::run_script;
 use rs_expr::Scorer;
@@ -23,7 +23,7 @@ pub fn run_generated<S: Scorer, O: Sink>(
     scorer: &mut S,
     out: &mut O,
 ) -> Result<(), Fault>
-    ensures { (beside : World) → Runs
+    ensures { (beside : Environment) → Runs
         (λ run. IsRunOf (finds_in beside.files.told) (S.state scorer.old).answer (RunGenerated number rows) run ⊎ IsCut (RunGenerated number rows) run) result
         (record beside { scorer = S.state scorer.old; out = O.state out.old }) (record beside { scorer = S.state scorer.new; out = O.state out.new }) }
 {

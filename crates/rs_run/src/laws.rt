@@ -10,9 +10,11 @@ ghost use Rattle.rs_table.specs.Relation.{Relation};
 ghost use Rattle.rs_catalog.specs.Catalogue.{with_index, with_predicate, with_table};
 ghost use Rattle.rs_catalog.specs.declared.index.IndexDef.{IndexDef};
 ghost use Rattle.rs_statement.specs.declared.evaluating.Evaluating.TheVariants.{Plainly, Planned};
-ghost use Rattle.rs_statement.specs.Run.{Run, finds_in, found_in, puts};
+ghost use Rattle.rs_statement.specs.Steps.{Run};
+ghost use Rattle.rs_events.specs.Events.{finds_in, found_in, puts};
 ghost use Rattle.rs_run.specs.Running.{HasNoExplain, IsRun, IsRunOf};
 ghost use Rattle.rs_statement.specs.Session.{IsCursorOf, OpenCursor, State, fetched_step};
+ghost use Rattle.rs_run.specs.Faults.{WordsRun};
 ghost use Rattle.rs_run.specs.Words.{RunScript};
 
 use rs_enum::there_is_one_least_plan;
@@ -21,9 +23,9 @@ use rs_exec::{plans_ask_the_same_in_larger_catalogues, plans_give_the_answer};
 /// Words have one run at most over the same files and the same answers of a scorer, where the files stay as they are, as
 /// those do that are told.
 pub fn one_run()
-    ensures files { (there : List ℕ → Option (List ℕ)) (answer : Answering) (words : List (List ℕ)) (run other : Run)
+    ensures files { (there : List ℕ → Option (List ℕ)) (answer : Answering) (words : List (List ℕ)) (run other : WordsRun)
         → IsRun (found_in there) answer words run → IsRun (found_in there) answer words other → run ≡ other }
-    ensures told { (told : FilesTold) (answer : Answering) (words : List (List ℕ)) (run other : Run)
+    ensures told { (told : FilesTold) (answer : Answering) (words : List (List ℕ)) (run other : WordsRun)
         → IsRun (finds_in (Some told)) answer words run → IsRun (finds_in (Some told)) answer words other → run ≡ other }
 {}
 

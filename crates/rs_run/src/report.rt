@@ -2,13 +2,14 @@ ghost use Rattle.std.specs.Prelude.{Some};
 ghost use Rattle.rs_value.specs.Outside.{Keeps};
 ghost use Rattle.rs_run.specs.Outcome.{Reports};
 
+use crate::fault::RunFault;
+use crate::status::Status;
 use rs_outside::{Sink, SinkFault};
-use rs_statement::{Fault, Status};
 use std::alloc::Global;
 
 /// Puts the fault's line to standard error, and answers the status: the fault's, or Memory where there was no memory
 /// for the line.
-pub fn report<E: Sink>(alloc: Global, fault: &Fault, err: &mut E) -> Status
+pub fn report<E: Sink>(alloc: Global, fault: &RunFault, err: &mut E) -> Status
     ensures reports { Reports (Some fault.now) result (E.state err.old) (E.state err.new) }
     ensures keeps { Keeps (E.state err.old) (E.state err.new) }
 {

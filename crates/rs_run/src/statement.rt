@@ -3,11 +3,11 @@ ghost use Rattle.rs_syntax.specs.Syntax.{command_of, commands_of};
 ghost use Rattle.rs_syntax.specs.Written.{AreWritten, IsWritten};
 ghost use Rattle.rs_catalog.specs.Held.{AreHeld};
 ghost use Rattle.rs_statement.specs.Parts.Steps.{Runs, Stepped};
-ghost use Rattle.rs_statement.specs.Run.{finds_in};
+ghost use Rattle.rs_events.specs.Events.{finds_in};
 ghost use Rattle.rs_statement.specs.Statements.{Does};
 ghost use Rattle.rs_statement.specs.Session.{DoesInSession, StatementsRun};
 ghost use Rattle.rs_statement.specs.Parts.Session.{CanAllBeAsked, IsOfNoCursor, held_in, state_of};
-ghost use Rattle.rs_statement.specs.World.{World};
+ghost use Rattle.rs_events.specs.Environment.{Environment};
 
 use rs_catalog::Catalog;
 use rs_exec::cursors_stand_in_larger_catalogues;
@@ -30,7 +30,7 @@ pub fn run_statements<F: Files, S: Scorer, O: Sink>(
     out: &mut O,
 ) -> Result<(), Fault>
     requires written { AreWritten (commands_of statements.now) }
-    ensures { (beside : World) → Runs (StatementsRun (finds_in (F.state files.old).told) (S.state scorer.old).answer evaluating (commands_of statements.now)) result
+    ensures { (beside : Environment) → Runs (StatementsRun (finds_in (F.state files.old).told) (S.state scorer.old).answer evaluating (commands_of statements.now)) result
         (record beside { files = F.state files.old; scorer = S.state scorer.old; out = O.state out.old })
         (record beside { files = F.state files.new; scorer = S.state scorer.new; out = O.state out.new }) }
 {
@@ -72,7 +72,7 @@ fn run_statement<F: Files, S: Scorer, O: Sink>(
     requires written { IsWritten (command_of statement.now) }
     requires held { AreHeld (S.state scorer.old).answer catalog.old }
     requires asked { CanAllBeAsked (S.state scorer.old).answer catalog.old (held_in session.old) }
-    ensures does { (beside : World) → Stepped
+    ensures does { (beside : Environment) → Stepped
         (DoesInSession (finds_in (F.state files.old).told) (S.state scorer.old).answer evaluating
         (state_of catalog.old (held_in session.old)) (command_of statement.now)) (state_of catalog.new (held_in session.new)) result
         (record beside { files = F.state files.old; scorer = S.state scorer.old; out = O.state out.old })
@@ -108,7 +108,7 @@ fn run_without_cursor<F: Files, S: Scorer, O: Sink>(
     requires form { IsOfNoCursor (command_of statement.now) }
     requires written { IsWritten (command_of statement.now) }
     requires held { AreHeld (S.state scorer.old).answer catalog.old }
-    ensures { (beside : World) → Stepped
+    ensures { (beside : Environment) → Stepped
         (Does (finds_in (F.state files.old).told) (S.state scorer.old).answer evaluating catalog.old (command_of statement.now)) catalog.new result
         (record beside { files = F.state files.old; scorer = S.state scorer.old; out = O.state out.old })
         (record beside { files = F.state files.new; scorer = S.state scorer.new; out = O.state out.new }) }

@@ -1,6 +1,6 @@
-ghost use Rattle.std.specs.Prelude.{◌≡◌, Option, option_map};
-ghost use Rattle.rs_run.specs.Words.{form_of, gen_words, number_word, plain_words, run_words, top_words};
-ghost use Rattle.rs_run.specs.Parts.Command.{form_of_command, words_of};
+ghost use Rattle.std.specs.Prelude.{◌≡◌, option_map};
+ghost use Rattle.rs_run.specs.Words.{form_of, gen_form, number_word, plain_form, run_form, top_form};
+ghost use Rattle.rs_run.specs.Parts.Command.{form_of_command};
 
 use rs_statement::Evaluating;
 use rs_value::{Text, decimal_of};
@@ -36,26 +36,25 @@ pub enum Command<'a> {
     RunGenerated(u32, u32),
 }
 
-/// What the words of a command line ask for, without the program's name, where they are of a form.
+/// What the words of a command line ask for, without the program's name, where they are of a form. The forms are tried in order.
 pub fn command_of(words: &[Text]) -> Option<Command<'_>>
-    ensures { form_of_command result ≡ form_of words.now }
+    ensures { option_map form_of_command result ≡ form_of words.now }
 {
-    if let Some(top) = top_command(words) {
-        return Some(Command::Top(top));
+    if let Some(command) = top_command(words) {
+        return Some(command);
     }
-    if let Some(script) = plain_script(words) {
-        return Some(Command::RunScript(script, Evaluating::Plainly));
+    if let Some(command) = plain_command(words) {
+        return Some(command);
     }
-    if let Some((script, seed)) = run_script(words) {
-        return Some(Command::RunScript(script, Evaluating::Planned(seed)));
+    if let Some(command) = run_command(words) {
+        return Some(command);
     }
-    let (number, rows) = gen_numbers(words)?;
-    Some(Command::RunGenerated(number, rows))
+    gen_command(words)
 }
 
-/// The words of the form `top FILE COLUMN MAX K`.
-fn top_command(words: &[Text]) -> Option<TopCommand<'_>>
-    ensures { option_map words_of result ≡ top_words words.now }
+/// The command of the words `top FILE COLUMN MAX K`.
+fn top_command(words: &[Text]) -> Option<Command<'_>>
+    ensures { option_map form_of_command result ≡ top_form words.now }
 {
     let [word, file, column, max, count] = words else {
         return None;
@@ -65,17 +64,17 @@ fn top_command(words: &[Text]) -> Option<TopCommand<'_>>
     }
     let max = number_word(max, 1, MOST_SCORE)?;
     let count = number_word(count, 0, MOST_PRINTED)?;
-    Some(TopCommand {
+    Some(Command::Top(TopCommand {
         file,
         column,
         max: max as u32,
         count: count as u32,
-    })
+    }))
 }
 
-/// The script of the words of the form `plain SCRIPT`.
-fn plain_script(words: &[Text]) -> Option<&Text>
-    ensures { option_map (λ script. script.now) result ≡ plain_words words.now }
+/// The command of the words `plain SCRIPT`.
+fn plain_command(words: &[Text]) -> Option<Command<'_>>
+    ensures { option_map form_of_command result ≡ plain_form words.now }
 {
     let [word, script] = words else {
         return None;
@@ -83,12 +82,12 @@ fn plain_script(words: &[Text]) -> Option<&Text>
     if word.as_str() != "plain" {
         return None;
     }
-    Some(script)
+    Some(Command::RunScript(script, Evaluating::Plainly))
 }
 
-/// The script and the seed of the words of the form `run SCRIPT SEED`.
-fn run_script(words: &[Text]) -> Option<(&Text, u64)>
-    ensures { option_map (λ run. (run.0.now, run.1)) result ≡ run_words words.now }
+/// The command of the words `run SCRIPT SEED`.
+fn run_command(words: &[Text]) -> Option<Command<'_>>
+    ensures { option_map form_of_command result ≡ run_form words.now }
 {
     let [word, script, seed] = words else {
         return None;
@@ -97,12 +96,12 @@ fn run_script(words: &[Text]) -> Option<(&Text, u64)>
         return None;
     }
     let seed = number_word(seed, 0, u64::MAX)?;
-    Some((script, seed))
+    Some(Command::RunScript(script, Evaluating::Planned(seed)))
 }
 
-/// The numbers of the words of the form `gen NUMBER ROWS`.
-fn gen_numbers(words: &[Text]) -> Option<(u32, u32)>
-    ensures { result ≡ gen_words words.now }
+/// The command of the words `gen NUMBER ROWS`.
+fn gen_command(words: &[Text]) -> Option<Command<'_>>
+    ensures { option_map form_of_command result ≡ gen_form words.now }
 {
     let [word, number, rows] = words else {
         return None;
@@ -112,7 +111,7 @@ fn gen_numbers(words: &[Text]) -> Option<(u32, u32)>
     }
     let number = number_word(number, 0, MOST_NUMBER)?;
     let rows = number_word(rows, 1, MOST_ROWS)?;
-    Some((number as u32, rows as u32))
+    Some(Command::RunGenerated(number as u32, rows as u32))
 }
 
 /// A number of the command line: 1 to 20 decimal digits, that write a number from `least` to `most`.

@@ -15,16 +15,17 @@ use Rattle.rs_exec.specs.Cursors.{CursorState, IsNew, StandsFor, asks_after, ask
 use Rattle.rs_statement.specs.declared.fault.Fault.{Fault}
 use Rattle.rs_statement.specs.declared.fault.Fault.TheVariants.{Memory}
 use Rattle.rs_statement.specs.Parts.Asks.{AskedForAll, AskedOnce, IsAt, asks_left, call_step, left_of, most_asks}
-use Rattle.rs_statement.specs.Parts.Steps.{Stepped, run_of}
+use Rattle.rs_statement.specs.Parts.Steps.{Stepped}
+use Rattle.rs_events.specs.Sequence.{run_of, inquiry_step, lines_step, silent, still, then_step}
 use Rattle.rs_statement.specs.Planned.{asks_in_all, cards_for, plan_for, planned_step}
-use Rattle.rs_statement.specs.Run.{Event, Put, Score, calls, calls_in}
-use Rattle.rs_statement.specs.Sequence.{Step, inquiry_step, lines_step, silent, still, then_step}
-use Rattle.rs_statement.specs.World.{World}
+use Rattle.rs_events.specs.Events.{Event, Put, Score, calls, calls_in}
+use Rattle.rs_statement.specs.Steps.{Step}
+use Rattle.rs_events.specs.Environment.{Environment}
 use Rattle.rs_statement.proofs.CursorSteps.{left-call}
 use Rattle.rs_statement.proofs.PlanSteps.{asks_after-more, left-over, more-all, over-all}
-use Rattle.rs_statement.proofs.RanFacts.{Ran-done, Ran-no_memory, calls-append, calls-scores, map-both}
-use Rattle.rs_statement.proofs.SoFar.{SoFar, SoFar-ends}
-use Rattle.rs_statement.proofs.SteppedFacts.{Stepped-still, step_of}
+use Rattle.rs_events.proofs.RanFacts.{Ran-done, Ran-no_memory, calls-append, calls-scores, map-both}
+use Rattle.rs_events.proofs.SoFar.{SoFar, SoFar-ends}
+use Rattle.rs_events.proofs.SteppedFacts.{Stepped-still, step_of}
 
 max-none : (n : ℕ) → max 0 n ≡ n
 max-none n = omega arith
@@ -63,7 +64,7 @@ silent-inquiry lines outcome inquiry =
     ∙ ap (λ made. calls_in inquiry ++ map Score made) (calls-puts (lines inquiry.outcome)))
 
 -- all of a step was done, and there was no memory behind it
-pub Stepped-late : {S : Type 0} (of : Step S → Type 0) (left : S) (old new : World) → Stepped of left (Ok tt) old new → Stepped of left (Err Memory) old new
+pub Stepped-late : {S : Type 0} (of : Step S → Type 0) (left : S) (old new : Environment) → Stepped of left (Ok tt) old new → Stepped of left (Err Memory) old new
 Stepped-late of left old new made =
     let events = (run_of made.step).events in record {
       step = made.step;
@@ -107,7 +108,7 @@ module _ (catalogue : Catalogue) (answer : Answering) where
     left-none asked = left-at (asks_after w tree (asks_of cursor)) asked.at ∙ left-over w tree (asks_after w tree (asks_of cursor)) (asked.ended refl)
 
     -- where there was no row, all that was left was done
-    pub Silent-ended : AskedOnce catalogue answer cursor false next → (whole : Step Catalogue) (old new : World) → SoFar whole (silent (left_of catalogue answer next)) old new
+    pub Silent-ended : AskedOnce catalogue answer cursor false next → (whole : Step Catalogue) (old new : Environment) → SoFar whole (silent (left_of catalogue answer next)) old new
         → Stepped (λ step. step ≡ whole) catalogue (Ok tt) old new
     Silent-ended asked whole old new so_far =
         SoFar-ends whole old new new (silent (left_of catalogue answer next)) catalogue (Ok tt) so_far
@@ -170,7 +171,7 @@ analyzing answer catalogue seed query =
     then_step (silent (planned_step (world_of catalogue answer query) (plan_for answer catalogue seed query))) (analyzed_lines answer catalogue seed query)
 
 -- asks of one plan, over the same answers
-pub same-asks : (catalogue : Catalogue) (query : Query) (answer own : Answering) (plan made : PlanTree) (result : Result (Unit {0}) Fault) (old new : World) → own ≡ answer → made ≡ plan
+pub same-asks : (catalogue : Catalogue) (query : Query) (answer own : Answering) (plan made : PlanTree) (result : Result (Unit {0}) Fault) (old new : Environment) → own ≡ answer → made ≡ plan
     → Stepped (λ step. step ≡ silent (planned_step (world_of catalogue own query) made)) catalogue result old new
     → Stepped (λ step. step ≡ silent (planned_step (world_of catalogue answer query) plan)) catalogue result old new
 same-asks catalogue query answer own plan made result old new is same stepped =

@@ -20,11 +20,13 @@ use Rattle.rs_exec.specs.declared.fault.ExecFault.{ExecFault}
 use Rattle.rs_exec.specs.declared.fault.ExecFault.TheVariants.{Broken, Memory}
 use Rattle.rs_statement.specs.declared.fault.Fault.{Fault}
 use Rattle.rs_statement.specs.Parts.Asks.{IsAt, asks_left, call_step, left_of}
-use Rattle.rs_statement.specs.Parts.Steps.{Ran, Stepped, lines_run}
+use Rattle.rs_statement.specs.Parts.Steps.{Ran, Stepped}
+use Rattle.rs_events.specs.Run.{lines_run}
 use Rattle.rs_statement.specs.Planned.{ask_fault, ask_outcome, asked_step, given_lines}
-use Rattle.rs_statement.specs.Sequence.{then_step}
-use Rattle.rs_statement.specs.World.{World}
-use Rattle.rs_statement.proofs.InquirySteps.{Probes, Stepped-asked}
+use Rattle.rs_events.specs.Sequence.{then_step}
+use Rattle.rs_events.specs.Environment.{Environment}
+use Rattle.rs_statement.specs.Steps.{statement_faults}
+use Rattle.rs_events.proofs.InquirySteps.{TellFailedCalls, Stepped-asked}
 use Rattle.rs_statement.proofs.PlanSteps.{asks_after-more, gave-all, given-row, left-ended, left-next, over-ended}
 use Rattle.rs_statement.proofs.QuerySteps.{Probes-questions}
 
@@ -44,21 +46,21 @@ module _ (catalogue : Catalogue) (answer : Answering) (cursor : CursorState) whe
   n = asks_of cursor
 
   -- each call is of the predicate that is told where it fails
-  pub probes-call : Probes (ask_fault catalogue) (call_of catalogue answer cursor).requests
+  pub probes-call : TellFailedCalls statement_faults (ask_fault catalogue) (call_of catalogue answer cursor).requests
   probes-call = go cursor.failed (is_over w tree n) where
-    go : (failed over : Bool) → Probes (ask_fault catalogue) (if failed then no_question (Err Broken) else if over then no_question (Ok None) else next_answer w tree n).requests
+    go : (failed over : Bool) → TellFailedCalls statement_faults (ask_fault catalogue) (if failed then no_question (Err Broken) else if over then no_question (Ok None) else next_answer w tree n).requests
     go true over = tt
     go false true = tt
     go false false = Probes-questions exec_faults (ask_fault catalogue) catalogue (λ number. refl) (through_first (is_bad answer catalogue) (questions_of_ask w 1 tree (suc n)))
 
   -- its row was put, or there was a fault at it
-  pub Stepped-row : (row : Answer) (rank : ℕ) (result : Result (Unit {0}) Fault) (world new : World) (scorer : ScorerState) → rank ≡ suc n
-      → Inquires Memory (call_of catalogue answer cursor) (Ok (Some row)) world.scorer scorer
-      → Ran (lines_run (line_of rank row.score row.values ∷ [])) result (record world { scorer = scorer }) new
-      → Stepped (λ step. step ≡ call_step catalogue answer cursor) catalogue result world new
-  Stepped-row row rank result world new scorer is asks puts =
-      Stepped-asked (given_lines (suc n)) (ask_outcome catalogue) Memory (call_of catalogue answer cursor) catalogue world scorer (Some row) result new refl asks
-      (subst (λ r. Ran (lines_run (line_of r row.score row.values ∷ [])) result (record world { scorer = scorer }) new) is puts)
+  pub Stepped-row : (row : Answer) (rank : ℕ) (result : Result (Unit {0}) Fault) (environment new : Environment) (scorer : ScorerState) → rank ≡ suc n
+      → Inquires Memory (call_of catalogue answer cursor) (Ok (Some row)) environment.scorer scorer
+      → Ran (lines_run (line_of rank row.score row.values ∷ [])) result (record environment { scorer = scorer }) new
+      → Stepped (λ step. step ≡ call_step catalogue answer cursor) catalogue result environment new
+  Stepped-row row rank result environment new scorer is asks puts =
+      Stepped-asked (given_lines (suc n)) (ask_outcome catalogue) Memory (call_of catalogue answer cursor) catalogue environment scorer (Some row) result new refl asks
+      (subst (λ r. Ran (lines_run (line_of r row.score row.values ∷ [])) result (record environment { scorer = scorer }) new) is puts)
 
   module _ (stands : StandsFor catalogue answer cursor) where
     pub call-next : call_of catalogue answer cursor ≡ next_of w tree n

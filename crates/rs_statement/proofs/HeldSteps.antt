@@ -47,8 +47,9 @@ use Rattle.rs_statement.specs.declared.session.Held.{Held}
 use Rattle.rs_statement.specs.declared.session.Held.TheVariants as held
 use Rattle.rs_statement.specs.Parts.Session.{CanAllBeAsked, CanBeAsked}
 use Rattle.rs_statement.specs.Planned.{ask_count, ask_step, asks_from, plan_for, planned_step}
-use Rattle.rs_statement.specs.Run.{Finds}
-use Rattle.rs_statement.specs.Sequence.{Step, silent, then_step}
+use Rattle.rs_events.specs.Events.{Finds}
+use Rattle.rs_statement.specs.Steps.{Step}
+use Rattle.rs_events.specs.Sequence.{silent, then_step}
 use Rattle.rs_statement.specs.Statements.{Does, DoesTable, analyze_step, analyzed_step, explain_outcome, explain_step, explained_step, index_step, or_bind_fault, or_room_fault, predicate_outcome, query_outcome, query_step, refused_or, select_step, table_step, with_room}
 use Rattle.rs_statement.proofs.AnalyzeSteps.{analyzed_lines}
 

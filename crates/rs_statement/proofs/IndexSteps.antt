@@ -14,14 +14,16 @@ use Rattle.rs_catalog.specs.declared.index.IndexDef.{IndexDef}
 use Rattle.rs_catalog.specs.declared.index.IndexFault.{IndexFault}
 use Rattle.rs_catalog.specs.declared.index.IndexFault.TheVariants as index
 use Rattle.rs_statement.specs.declared.fault.Fault.{Fault}
-use Rattle.rs_statement.specs.Parts.Steps.{Ran, Stepped, run_of}
-use Rattle.rs_statement.specs.Run.{calls_in}
+use Rattle.rs_statement.specs.Parts.Steps.{Ran, Stepped}
+use Rattle.rs_events.specs.Sequence.{run_of}
+use Rattle.rs_events.specs.Events.{calls_in}
 use Rattle.rs_statement.specs.Faults.{index_fault}
 use Rattle.rs_statement.specs.Statements.{index_outcome, index_step}
-use Rattle.rs_statement.specs.World.{World}
-use Rattle.rs_statement.proofs.InquirySteps.{Probes, Ran-unasked, asked-ok}
-use Rattle.rs_statement.proofs.RanFacts.{Ran-all}
-use Rattle.rs_statement.proofs.SteppedFacts.{events-run_of, step_of}
+use Rattle.rs_events.specs.Environment.{Environment}
+use Rattle.rs_statement.specs.Steps.{statement_faults}
+use Rattle.rs_events.proofs.InquirySteps.{TellFailedCalls, Ran-unasked, asked-ok}
+use Rattle.rs_events.proofs.RanFacts.{Ran-all}
+use Rattle.rs_events.proofs.SteppedFacts.{events-run_of, step_of}
 
 -- what a ranking was where the call answered so
 ranked-ok : (ranking : Result (List ScoredRow) IndexFault) → Ok tt ≡ without_ranking ranking → (entries : List ScoredRow) × (ranking ≡ Ok entries)
@@ -33,35 +35,35 @@ ranked-err (Ok entries) why e = absurd cc
 ranked-err (Err other) why e = let same : other ≡ why = cc in ap Err same
 
 -- each call is of the index's predicate
-Probes-index : (predicate : PredicateDef) (args : List BoundArg) (rows : List (List Value)) → Probes (index_fault predicate.name) (map (row_request predicate args) rows)
+Probes-index : (predicate : PredicateDef) (args : List BoundArg) (rows : List (List Value)) → TellFailedCalls statement_faults (index_fault predicate.name) (map (row_request predicate args) rows)
 Probes-index predicate args [] = tt
 Probes-index predicate args (row ∷ rest) = (refl, Probes-index predicate args rest)
 
-module _ (answer : Answering) (catalogue new : Catalogue) (def : IndexDef) (world : World) (scorer : ScorerState) where
+module _ (answer : Answering) (catalogue new : Catalogue) (def : IndexDef) (environment : Environment) (scorer : ScorerState) where
   -- the index was made
-  pub Index-made : MakesIndex (making answer catalogue def) def catalogue new (Ok tt) world.scorer scorer
-      → Stepped (λ step. step ≡ index_step answer catalogue def) new (Ok tt) world (record world { scorer = scorer })
+  pub Index-made : MakesIndex (making answer catalogue def) def catalogue new (Ok tt) environment.scorer scorer
+      → Stepped (λ step. step ≡ index_step answer catalogue def) new (Ok tt) environment (record environment { scorer = scorer })
   Index-made makes =
       let ranked = ranked-ok makes.ranking makes.answers in
-      let asked = asked-ok index.Memory (making answer catalogue def) ranked.0 world scorer
-      (subst (λ r. Inquires index.Memory (making answer catalogue def) r world.scorer scorer) ranked.1 makes.inquires) in record {
+      let asked = asked-ok index.Memory (making answer catalogue def) ranked.0 environment scorer
+      (subst (λ r. Inquires index.Memory (making answer catalogue def) r environment.scorer scorer) ranked.1 makes.inquires) in record {
         step = index_step answer catalogue def;
         does = refl;
-        ran = subst (λ r. Ran (run_of (step_of (calls_in (making answer catalogue def)) (index_outcome catalogue def r))) (Ok tt) world (record world { scorer = scorer })) (sym asked.given)
-            (Ran-all (record { events = calls_in (making answer catalogue def); fault = None }) (Ok tt) world (record world { scorer = scorer }) asked.has refl);
+        ran = subst (λ r. Ran (run_of (step_of (calls_in (making answer catalogue def)) (index_outcome catalogue def r))) (Ok tt) environment (record environment { scorer = scorer })) (sym asked.given)
+            (Ran-all (record { events = calls_in (making answer catalogue def); fault = None }) (Ok tt) environment (record environment { scorer = scorer }) asked.has refl);
         leaves = ap (index_outcome catalogue def) asked.given ∙ ap Ok (sym (makes.joins ∙ ap (λ r. catalogue_after def r catalogue) ranked.1));
       }
 
   -- it wasn't
-  pub Index-unmade : (why : IndexFault) (fault : Fault) → MakesIndex (making answer catalogue def) def catalogue new (Err why) world.scorer scorer → fault ≡ index_fault (predicate_for catalogue def).name why
-      → Stepped (λ step. step ≡ index_step answer catalogue def) new (Err fault) world (record world { scorer = scorer })
+  pub Index-unmade : (why : IndexFault) (fault : Fault) → MakesIndex (making answer catalogue def) def catalogue new (Err why) environment.scorer scorer → fault ≡ index_fault (predicate_for catalogue def).name why
+      → Stepped (λ step. step ≡ index_step answer catalogue def) new (Err fault) environment (record environment { scorer = scorer })
   Index-unmade why fault makes told = record {
     step = index_step answer catalogue def;
     does = refl;
-    ran = Ran-unasked (index_fault (predicate_for catalogue def).name) index.Memory (making answer catalogue def) why world scorer (run_of (index_step answer catalogue def)) [] fault
+    ran = Ran-unasked (index_fault (predicate_for catalogue def).name) index.Memory (making answer catalogue def) why environment scorer (run_of (index_step answer catalogue def)) [] fault
         (Probes-index (predicate_for catalogue def) def.args _) refl (events-run_of (calls_in (making answer catalogue def)) (index_outcome catalogue def (making answer catalogue def).outcome) ∙ sym (append-nil (calls_in (making answer catalogue def))))
         (λ e. ap (λ r. run_of (step_of (calls_in (making answer catalogue def)) (index_outcome catalogue def r))) e) (inl told)
-        (subst (λ r. Inquires index.Memory (making answer catalogue def) r world.scorer scorer) (ranked-err makes.ranking why makes.answers) makes.inquires);
+        (subst (λ r. Inquires index.Memory (making answer catalogue def) r environment.scorer scorer) (ranked-err makes.ranking why makes.answers) makes.inquires);
     leaves = tt;
   }
 

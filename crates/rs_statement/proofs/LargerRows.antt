@@ -14,7 +14,8 @@ use Rattle.rs_exec.specs.Cursors.{SameAsks, next_answer}
 use Rattle.rs_exec.specs.declared.fault.ExecFault.{ExecFault}
 use Rattle.rs_statement.specs.declared.fault.Fault.{Fault}
 use Rattle.rs_statement.specs.Planned.{ask_count, ask_outcome, ask_step, asked_step, asks_from, next_asks}
-use Rattle.rs_statement.specs.Sequence.{Step, still, then_step}
+use Rattle.rs_statement.specs.Steps.{Step}
+use Rattle.rs_events.specs.Sequence.{still, then_step}
 use Rattle.rs_statement.specs.Session.{ByPlan, IsCursorOf, OpenCursor, Ready, Source, State, fetched_from, with_asks}
 
 -- two steps with the same events that both end well, or neither

@@ -13,11 +13,12 @@ use Rattle.rs_statement.specs.declared.fault.Fault.{Fault}
 use Rattle.rs_statement.specs.Parts.Asks.{IsAt, asks_left, call_step, left_of}
 use Rattle.rs_statement.specs.Parts.Steps.{Stepped}
 use Rattle.rs_statement.specs.Planned.{planned_step}
-use Rattle.rs_statement.specs.Sequence.{Step, then_step}
-use Rattle.rs_statement.specs.World.{World}
+use Rattle.rs_statement.specs.Steps.{Step}
+use Rattle.rs_events.specs.Sequence.{then_step}
+use Rattle.rs_events.specs.Environment.{Environment}
 use Rattle.rs_statement.proofs.CursorSteps.{left-call}
 use Rattle.rs_statement.proofs.PlanSteps.{left-start}
-use Rattle.rs_statement.proofs.SoFar.{SoFar, SoFar-ends, SoFar-more, Stepped-broken}
+use Rattle.rs_events.proofs.SoFar.{SoFar, SoFar-ends, SoFar-more, Stepped-broken}
 
 -- a map of steps that goes through a step and the one behind it
 abbrev pub GoesThrough : (Step Catalogue → Step Catalogue) → Type 0
@@ -28,7 +29,7 @@ abbrev pub as_they_are : Step Catalogue → Step Catalogue
 as_they_are step = step
 
 module _ (f : Step Catalogue → Step Catalogue) (through : GoesThrough f) where
-  module _ (catalogue : Catalogue) (answer : Answering) (whole : Step Catalogue) (cursor : CursorState) (old middle new : World)
+  module _ (catalogue : Catalogue) (answer : Answering) (whole : Step Catalogue) (cursor : CursorState) (old middle new : Environment)
       (so_far : SoFar whole (f (left_of catalogue answer cursor)) old middle) (at : middle.scorer.answer ≡ answer) where
     -- the next call, over the answers that the scorer had at first
     here : (result : Result (Unit {0}) Fault) → Stepped (λ step. step ≡ f (call_step catalogue middle.scorer.answer cursor)) catalogue result middle new
@@ -67,7 +68,7 @@ module _ (f : Step Catalogue → Step Catalogue) (through : GoesThrough f) where
         (here (Ok tt) stepped))
 
   -- of a new cursor all asks of its plan are left, whose calls were made over the answers that the scorer had at first
-  pub Left-new : (catalogue : Catalogue) (answer : Answering) (query : Query) (tree : PlanTree) (cursor : CursorState) (result : Result (Unit {0}) Fault) (old new : World)
+  pub Left-new : (catalogue : Catalogue) (answer : Answering) (query : Query) (tree : PlanTree) (cursor : CursorState) (result : Result (Unit {0}) Fault) (old new : Environment)
       → IsAt query tree 0 cursor → old.scorer.answer ≡ answer → Stepped (λ step. step ≡ f (left_of catalogue old.scorer.answer cursor)) catalogue result old new
       → Stepped (λ step. step ≡ f (planned_step (world_of catalogue answer query) tree)) catalogue result old new
   Left-new catalogue answer query tree cursor result old new at same stepped =

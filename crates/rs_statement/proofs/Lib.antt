@@ -1,17 +1,11 @@
 mod WorkedLines
 mod WorkedStatements
 mod WorkedSession
-pub mod RanFacts
-pub mod FetchFacts
 mod LineFacts
 mod PrintFacts
-pub mod SteppedFacts
 pub mod StepFacts
-mod InquirySteps
 mod IndexSteps
 mod QuerySteps
-pub mod LoopFacts
-mod SoFar
 mod SampleSteps
 mod PlanSteps
 mod NamedFacts

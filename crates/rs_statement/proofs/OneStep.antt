@@ -11,15 +11,12 @@ use Rattle.rs_catalog.specs.declared.room.What.TheVariants as what
 use Rattle.rs_bind.specs.Names.{columns_of}
 use Rattle.rs_statement.specs.declared.fault.Fault.{Fault}
 use Rattle.rs_expr.specs.Scoring.{Answering}
-use Rattle.rs_statement.specs.Run.{Event, Finds, Run, behind, finds_in, found_in}
-use Rattle.rs_statement.specs.Sequence.{RunOf, RunsOn, Step}
+use Rattle.rs_events.specs.Events.{Finds}
+use Rattle.rs_statement.specs.Steps.{Run, Step}
+use Rattle.rs_events.proofs.OneRun.{OneFile, RunOf-one}
 use Rattle.rs_statement.specs.declared.evaluating.Evaluating.{Evaluating}
 use Rattle.rs_statement.specs.Statements.{Does, DoesTable, table_step, with_room}
 use Rattle.rs_statement.specs.Session.{DoesInSession, State, StatementsRun, beside_cursors, nothing}
-
--- a name has one file at most
-abbrev pub OneFile : Finds → Type 0
-OneFile finds = (name : List ℕ) (a b : Option (List ℕ)) → finds name a → finds name b → a ≡ b
 
 -- a statement does one thing at most
 DoesTable-one : (finds : Finds) → OneFile finds → (catalogue : Catalogue) (name : Name) (file : List ℕ) (columns : Result (List Column) Fault) (a b : Step Catalogue)
@@ -58,19 +55,6 @@ DoesInSession-one finds one answer evaluating state command a b p q = go command
   go (Explain query) p q = same (Explain query) p.0 q.0 p.1 q.1 p.2 q.2
   go (ExplainAnalyze query) p q = same (ExplainAnalyze query) p.0 q.0 p.1 q.1 p.2 q.2
 
--- statements have one run at most, where each does one thing at most
-RunsOn-one : {S : Type 0} (rest : S → Run → Type 0) → ((next : S) (a b : Run) → rest next a → rest next b → a ≡ b) → (events : List Event) (outcome : Result S Fault) (a b : Run)
-    → RunsOn rest events outcome a → RunsOn rest events outcome b → a ≡ b
-RunsOn-one rest one events (Err fault) a b p q = p ∙ sym q
-RunsOn-one rest one events (Ok next) a b p q = p.2 ∙ ap (behind events) (one next p.0 q.0 p.1 q.1) ∙ sym q.2
-
-RunOf-one : {S C : Type 0} (does : S → C → Step S → Type 0) → ((state : S) (command : C) (a b : Step S) → does state command a → does state command b → a ≡ b)
-    → (state : S) (commands : List C) (a b : Run) → RunOf does state commands a → RunOf does state commands b → a ≡ b
-RunOf-one does one state [] a b p q = p ∙ sym q
-RunOf-one does one state (command ∷ rest) a b p q =
-    RunsOn-one (λ next more. RunOf does next rest more) (λ next. RunOf-one does one next rest) q.0.events q.0.outcome a b
-    (subst (λ step. RunsOn (λ next more. RunOf does next rest more) step.events step.outcome a) (one state command p.0 q.0 p.1 q.1) p.2) q.2
-
 -- the statements of a script have one run at most
 abbrev pub OneRun : (List Command → Run → Type 0) → Type 0
 OneRun statements = (commands : List Command) (a b : Run) → statements commands a → statements commands b → a ≡ b
@@ -78,10 +62,3 @@ OneRun statements = (commands : List Command) (a b : Run) → statements command
 pub Statements-one : (finds : Finds) → OneFile finds → (answer : Answering) (evaluating : Evaluating) → OneRun (StatementsRun finds answer evaluating)
 Statements-one finds one answer evaluating commands a b p q =
     RunOf-one (DoesInSession finds answer evaluating) (λ state command a b p q. DoesInSession-one finds one answer evaluating state command a b p q) nothing commands a b p q
-
--- files that stay as they are have one under a name at most, and so have those that are told
-pub found-one : (there : List ℕ → Option (List ℕ)) → OneFile (found_in there)
-found-one there name a b p q = sym p ∙ q
-
-pub told-one : (told : FilesTold) → OneFile (finds_in (Some told))
-told-one told name a b p q = sym p ∙ q

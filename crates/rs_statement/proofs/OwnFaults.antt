@@ -1,10 +1,11 @@
--- The faults that the statements of a script can end with: never that a put failed or a call of the scorer, and never Usage.
-use Rattle.std.proofs.Common.{ℕ, ℤ, ◌≡◌, ◌+◌, List, [], ◌∷◌, Some, None, Bool, true, false, refl, sym, subst, nat_le, length, if◌then◌else◌}
+-- The faults that the statements of a script can end with: never that a put failed or a call of the scorer.
+use Rattle.std.proofs.Common.{ℕ, ℤ, ◌≡◌, ◌+◌, List, [], ◌∷◌, Some, None, Bool, true, false, refl, sym, subst, length, if◌then◌else◌}
 use Rattle.std.specs.Prelude.{zero, suc, Option, Result, Ok, Err}
 use Rattle.std.specs.Str.{bytes_eq}
 use Rattle.rs_lex.specs.declared.token.Span.{Span}
 use Rattle.rs_value.specs.declared.value.Value.{Value}
-use Rattle.rs_outside.specs.declared.files.FetchFault.TheVariants.{TooLong}
+use Rattle.rs_outside.specs.declared.files.FetchFault.{FetchFault}
+use Rattle.rs_events.specs.Fetching.{fetched_bytes}
 use Rattle.rs_table.specs.Column.{Column}
 use Rattle.rs_value.specs.Results.{◌>>=◌}
 use Rattle.rs_table.specs.Reading.{table_of}
@@ -45,12 +46,13 @@ use Rattle.rs_exec.specs.declared.fault.ExecFault.TheVariants as exec
 use Rattle.rs_typing.specs.declared.fault.BindFault.{BindFault}
 use Rattle.rs_typing.specs.declared.fault.BindFault.TheVariants as bind
 use Rattle.rs_statement.specs.declared.fault.Fault.{Fault}
-use Rattle.rs_statement.specs.declared.fault.Fault.TheVariants.{Memory, Usage, Write, Read, Table, BadScore, Probe, Script, Session}
-use Rattle.rs_statement.specs.Content.{content_of, or_table_fault, table_limit}
+use Rattle.rs_statement.specs.declared.fault.Fault.TheVariants.{Memory, Write, Read, Table, BadScore, Probe, Script, Session}
+use Rattle.rs_statement.specs.Content.{content_of, or_read_fault, or_table_fault, table_limit}
 use Rattle.rs_expr.specs.Scoring.{Answering}
-use Rattle.rs_statement.specs.Run.{Event, Finds, Run}
+use Rattle.rs_events.specs.Events.{Event, Finds}
+use Rattle.rs_statement.specs.Steps.{Run, Step}
 use Rattle.rs_statement.specs.Planned.{ask_count, ask_outcome, ask_step, asks_from, asks_in_all, next_asks, plan_for, planned_step}
-use Rattle.rs_statement.specs.Sequence.{RunOf, RunsOn, Step, silent, still, then_step}
+use Rattle.rs_events.specs.Sequence.{RunOf, RunsOn, silent, still, then_step}
 use Rattle.rs_statement.specs.Faults.{or_index_fault}
 use Rattle.rs_statement.specs.declared.evaluating.Evaluating.{Evaluating}
 use Rattle.rs_statement.specs.declared.evaluating.Evaluating.TheVariants.{Planned, Plainly}
@@ -61,7 +63,6 @@ use Rattle.rs_statement.proofs.AnalyzeSteps.{analyzed_lines}
 -- the faults of `top` and of statements
 unfoldable pub IsOwn : Fault → Type 0
 IsOwn Memory = Unit {0}
-IsOwn Usage = ⊥
 IsOwn (Read name why) = Unit {0}
 IsOwn Write = ⊥
 IsOwn (Table name why) = Unit {0}
@@ -85,10 +86,13 @@ unfolding Own
 Own-then (Ok a) next own goes = goes a
 Own-then (Err fault) next own goes = own
 
-pub Own-content : (limit : ℕ) (name : List ℕ) (there : Option (List ℕ)) → Own (content_of limit name there)
+Own-read : {A : Type 0} (name : List ℕ) (r : Result A FetchFault) → Own (or_read_fault name r)
 unfolding Own IsOwn
-Own-content limit name None = tt
-Own-content limit name (Some bytes) = elim (nat_le (length bytes) limit) as (λ b. Own (if b then Ok bytes else Err (Read name TooLong))) [ true ↦ tt | false ↦ tt ]
+Own-read name (Ok a) = tt
+Own-read name (Err why) = tt
+
+pub Own-content : (limit : ℕ) (name : List ℕ) (there : Option (List ℕ)) → Own (content_of limit name there)
+Own-content limit name there = Own-read name (fetched_bytes limit there)
 
 pub Own-table : {A : Type 0} (name : List ℕ) (r : Result A TableFault) → Own (or_table_fault name r)
 unfolding Own IsOwn

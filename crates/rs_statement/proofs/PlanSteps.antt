@@ -17,7 +17,8 @@ use Rattle.rs_exec.specs.Asking.{exec_faults}
 use Rattle.rs_exec.specs.Cursors.{answer_for, asks_after, is_limit, is_over, next_answer, next_of, no_question}
 use Rattle.rs_statement.specs.Parts.Asks.{asks_left}
 use Rattle.rs_statement.specs.Planned.{ask_count, ask_outcome, asked_step, asks_from, asks_in_all, planned_step}
-use Rattle.rs_statement.specs.Sequence.{Step, still, then_step}
+use Rattle.rs_statement.specs.Steps.{Step}
+use Rattle.rs_events.specs.Sequence.{still, then_step}
 use Rattle.rs_statement.specs.declared.fault.Fault.{Fault}
 
 -- how many asks there are, by the test whether one more is made

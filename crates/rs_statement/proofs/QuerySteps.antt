@@ -15,12 +15,13 @@ use Rattle.rs_query.specs.Questions.{Faults, Question, request_for}
 use Rattle.rs_statement.specs.declared.fault.Fault.{Fault}
 use Rattle.rs_statement.specs.declared.fault.Fault.TheVariants.{Memory, Probe}
 use Rattle.rs_statement.specs.Statements.{bind_fault, explain_outcome, or_bind_fault}
-use Rattle.rs_statement.proofs.InquirySteps.{Probes}
+use Rattle.rs_statement.specs.Steps.{statement_faults}
+use Rattle.rs_events.proofs.InquirySteps.{TellFailedCalls}
 use Rattle.rs_statement.proofs.StepFacts.{bound-ok}
 
 -- each question's call is of the predicate that is told where it fails
 pub Probes-questions : {F : Type 0} (faults : Faults F) (tells : F → Fault) (catalogue : Catalogue) → ((number : ℕ) → tells (faults.failed number) ≡ Probe (predicate_at catalogue number).name)
-    → (questions : List Question) → Probes tells (map (request_for faults catalogue) questions)
+    → (questions : List Question) → TellFailedCalls statement_faults tells (map (request_for faults catalogue) questions)
 Probes-questions faults tells catalogue told [] = tt
 Probes-questions faults tells catalogue told (question ∷ rest) = (told question.term.predicate, Probes-questions faults tells catalogue told rest)
 

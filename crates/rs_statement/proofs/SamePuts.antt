@@ -34,15 +34,18 @@ use Rattle.rs_statement.specs.declared.evaluating.Evaluating.TheVariants.{Planne
 use Rattle.rs_statement.specs.declared.fault.Fault.{Fault}
 use Rattle.rs_statement.specs.Lines.{rank_lines}
 use Rattle.rs_statement.specs.Planned.{ask_count, ask_outcome, ask_step, asks_from, cards_for, given_lines, next_asks, plan_for, planned_step}
-use Rattle.rs_statement.specs.Run.{Finds, Put, Run, behind, calls_in, puts}
+use Rattle.rs_events.specs.Events.{Finds, Put, calls_in, puts}
+use Rattle.rs_statement.specs.Steps.{Run, Step}
+use Rattle.rs_events.specs.Run.{behind}
 use Rattle.rs_statement.specs.Sampled.{sample_step, sampling}
-use Rattle.rs_statement.specs.Sequence.{RunOf, RunsOn, Step, still, then_step}
+use Rattle.rs_events.specs.Sequence.{RunOf, RunsOn, still, then_step}
 use Rattle.rs_statement.specs.Statements.{Does, IsNoExplain, answer_lines, evaluation_step, or_bind_fault, query_outcome, query_step, refused_or, select_step}
 use Rattle.rs_statement.specs.Session.{ByPlan, DoesInSession, OpenCursor, Ready, State, StatementsRun, asked_more, beside_cursors, close_outcome, cursor_named, declare_step, fetch_step, fetched_from, fetched_step, next_rows, opened_step, ready_outcome, room_for_cursor, with_asks, with_cursor, without_cursor}
 use Rattle.rs_statement.proofs.HeldSteps.{Ok-then, kept-step}
-use Rattle.rs_statement.proofs.OneStep.{Does-one, OneFile}
+use Rattle.rs_statement.proofs.OneStep.{Does-one}
+use Rattle.rs_events.proofs.OneRun.{OneFile}
 use Rattle.rs_statement.proofs.PlanSteps.{outcome-value, row-given}
-use Rattle.rs_statement.proofs.RanFacts.{puts-append, puts-scores}
+use Rattle.rs_events.proofs.RanFacts.{puts-append, puts-scores}
 use Rattle.rs_statement.proofs.SameFetches.{Agree, AgreeAll, AskTheSame, agree-fetched, all-closed, all-fetched, all-opened, all-with_index, all-with_predicate, all-with_table, covers-unfiltered, found-agree, lines-fetched, others-free, without}
 use Rattle.rs_statement.proofs.UnfilteredFacts.{few-terms, least-plan, unfiltered-formed}
 

@@ -24,16 +24,17 @@ use Rattle.rs_statement.specs.declared.fault.Fault.TheVariants as fault
 use Rattle.rs_statement.specs.Parts.Asks.{NamesSampled}
 use Rattle.rs_statement.specs.Parts.Steps.{Stepped}
 use Rattle.rs_statement.specs.Sampled.{sample_fault, sample_step, sampling}
-use Rattle.rs_statement.specs.Sequence.{Step, then_step}
+use Rattle.rs_statement.specs.Steps.{Step, statement_faults}
+use Rattle.rs_events.specs.Sequence.{then_step}
 use Rattle.rs_statement.specs.Statements.{refused_or}
-use Rattle.rs_statement.specs.World.{World}
-use Rattle.rs_statement.proofs.InquirySteps.{Probes}
+use Rattle.rs_events.specs.Environment.{Environment}
+use Rattle.rs_events.proofs.InquirySteps.{TellFailedCalls}
 use Rattle.rs_statement.proofs.QuerySteps.{Probes-questions}
-use Rattle.rs_statement.proofs.SoFar.{SoFar-ends, SoFar-more, SoFar-start, Stepped-broken}
+use Rattle.rs_events.proofs.SoFar.{SoFar-ends, SoFar-more, SoFar-start, Stepped-broken}
 use Rattle.rs_statement.proofs.StepFacts.{Stepped-bound}
 
 -- a step that went well, and then another one
-pub Stepped-then : {S T : Type 0} (first : Step T) (rest : Step S) (left : T) (state : S) (result : Result (Unit {0}) Fault) (old middle new : World)
+pub Stepped-then : {S T : Type 0} (first : Step T) (rest : Step S) (left : T) (state : S) (result : Result (Unit {0}) Fault) (old middle new : Environment)
     → Stepped (λ step. step ≡ first) left (Ok tt) old middle → Stepped (λ step. step ≡ rest) state result middle new
     → Stepped (λ step. step ≡ then_step first rest) state result old new
 Stepped-then first rest left state result old middle new before after =
@@ -41,7 +42,7 @@ Stepped-then first rest left state result old middle new before after =
     (SoFar-more (then_step first rest) old old middle first rest left (SoFar-start (then_step first rest) old) before) after
 
 -- a bound query whose sample is taken, before anything else is done with it
-module _ (catalogue : Catalogue) (seed : ℕ) (rest : Query → Step Catalogue) (bound : Result Query Fault) (query : Query) (gives : Gives fault.Memory bound (Ok query)) (old new : World) where
+module _ (catalogue : Catalogue) (seed : ℕ) (rest : Query → Step Catalogue) (bound : Result Query Fault) (query : Query) (gives : Gives fault.Memory bound (Ok query)) (old new : Environment) where
   abbrev whole : Step Catalogue
   whole = refused_or (λ q. then_step (sample_step catalogue seed q) (rest q)) bound
 
@@ -52,14 +53,14 @@ module _ (catalogue : Catalogue) (seed : ℕ) (rest : Query → Step Catalogue) 
       (Stepped-broken (sample_step catalogue seed query) (rest query) why catalogue catalogue old new sampled)
 
   -- it was taken, and then the rest was done, or a part of it
-  pub Sampled-then : (result : Result (Unit {0}) Fault) (middle : World) → Stepped (λ step. step ≡ sample_step catalogue seed query) catalogue (Ok tt) old middle
+  pub Sampled-then : (result : Result (Unit {0}) Fault) (middle : Environment) → Stepped (λ step. step ≡ sample_step catalogue seed query) catalogue (Ok tt) old middle
       → Stepped (λ step. step ≡ rest query) catalogue result middle new → Stepped (λ step. step ≡ whole) catalogue result old new
   Sampled-then result middle sampled behind =
       Stepped-bound (λ q. then_step (sample_step catalogue seed q) (rest q)) bound query catalogue result old new gives
       (Stepped-then (sample_step catalogue seed query) (rest query) catalogue catalogue result old middle new sampled behind)
 
 -- each call of a sample is of the predicate that is told where it fails
-pub probes-sample : (catalogue : Catalogue) (seed : ℕ) (query : Query) → Probes (sample_fault catalogue) (sampling catalogue seed query).requests
+pub probes-sample : (catalogue : Catalogue) (seed : ℕ) (query : Query) → TellFailedCalls statement_faults (sample_fault catalogue) (sampling catalogue seed query).requests
 probes-sample catalogue seed query =
     Probes-questions sample_faults (sample_fault catalogue) catalogue (λ number. refl) (questions_of query (all_rows catalogue query) seed)
 

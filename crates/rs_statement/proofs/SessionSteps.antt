@@ -28,20 +28,21 @@ use Rattle.rs_statement.specs.declared.session.Held.{Held}
 use Rattle.rs_statement.specs.declared.session.Held.TheVariants as held
 use Rattle.rs_statement.specs.Parts.Asks.{IsAt}
 use Rattle.rs_statement.specs.Parts.Session.{IsOfNoCursor, asked_of, cursors_of, next_of, next_of_cursor, open_cursor, rows_step, source_of, state_of, wanted_step}
-use Rattle.rs_statement.specs.Parts.Steps.{Ran, Stepped, run_of}
+use Rattle.rs_statement.specs.Parts.Steps.{Ran, Stepped}
+use Rattle.rs_events.specs.Sequence.{run_of, still, then_step}
 use Rattle.rs_statement.specs.Planned.{plan_for}
-use Rattle.rs_statement.specs.Run.{Finds}
+use Rattle.rs_events.specs.Events.{Finds}
 use Rattle.rs_statement.specs.Sampled.{sample_step}
-use Rattle.rs_statement.specs.Sequence.{Step, still, then_step}
+use Rattle.rs_statement.specs.Steps.{Step}
 use Rattle.rs_statement.specs.Session.{ByPlan, DoesInSession, OpenCursor, State, asked_more, beside_cursors, close_outcome, cursor_named, declare_step, declared_query, fetch_step, fetched_cursor, fetched_from, next_rows, opened_step, room_for_cursor, with_asks, with_cursor, without_cursor}
 use Rattle.rs_statement.specs.Statements.{Does, bind_fault, or_bind_fault, refused_or}
 use Rattle.rs_statement.specs.declared.evaluating.Evaluating.TheVariants.{Planned}
-use Rattle.rs_statement.specs.World.{World}
+use Rattle.rs_events.specs.Environment.{Environment}
 use Rattle.rs_statement.proofs.SampleSteps.{Stepped-then}
 use Rattle.rs_statement.proofs.SessionFacts.{cursors-append, cursors-remove, cursors-set, is_key, named-none, named-some}
-use Rattle.rs_statement.proofs.SoFar.{Stepped-broken}
+use Rattle.rs_events.proofs.SoFar.{Stepped-broken}
 use Rattle.rs_statement.proofs.StepFacts.{Stepped-bound, bound-ok}
-use Rattle.rs_statement.proofs.SteppedFacts.{Stepped-lines, Stepped-no_memory, Stepped-still}
+use Rattle.rs_events.proofs.SteppedFacts.{Stepped-lines, Stepped-no_memory, Stepped-still}
 
 -- what holds whatever a call answers
 pub if-ok : {A : Type 0} (result : Result A Fault) (P : Type 0) → P → IfOk result (λ _. P)
@@ -53,7 +54,7 @@ if-ok-map (Ok a) P Q turn is = turn is
 if-ok-map (Err fault) P Q turn is = tt
 
 -- what follows from a step that ended without a fault
-pub if-stepped : {S : Type 0} (of : Step S → Type 0) (left : S) (result : Result (Unit {0}) Fault) (old new : World) (P : Type 0) → Stepped of left result old new
+pub if-stepped : {S : Type 0} (of : Step S → Type 0) (left : S) (result : Result (Unit {0}) Fault) (old new : Environment) (P : Type 0) → Stepped of left result old new
     → ((step : Step S) → of step → step.outcome ≡ Ok left → P) → IfOk result (λ _. P)
 if-stepped of left (Ok done) old new P made follows = follows made.step made.does made.leaves
 if-stepped of left (Err fault) old new P made follows = tt
@@ -104,7 +105,7 @@ run_of-beside cursors step = go step.outcome where
   go (Ok catalogue) = refl
   go (Err fault) = refl
 
-pub Stepped-beside : (finds : Finds) (answer : Answering) (evaluating : Evaluating) (state : State) (command : Command) (left : Catalogue) (result : Result (Unit {0}) Fault) (old new : World)
+pub Stepped-beside : (finds : Finds) (answer : Answering) (evaluating : Evaluating) (state : State) (command : Command) (left : Catalogue) (result : Result (Unit {0}) Fault) (old new : Environment)
     → IsOfNoCursor command → Stepped (Does finds answer evaluating state.catalogue command) left result old new
     → Stepped (DoesInSession finds answer evaluating state command) (record { catalogue = left; cursors = state.cursors }) result old new
 Stepped-beside finds answer evaluating state command left result old new of made = record {
@@ -119,13 +120,13 @@ Stepped-beside finds answer evaluating state command left result old new of made
   go (Err fault) leaves = tt
 
 -- the same step, and what it leaves where it ends well
-pub Stepped-left : {S : Type 0} (of : Step S → Type 0) (left other : S) (result : Result (Unit {0}) Fault) (old new : World) → IfOk result (λ _. left ≡ other)
+pub Stepped-left : {S : Type 0} (of : Step S → Type 0) (left other : S) (result : Result (Unit {0}) Fault) (old new : Environment) → IfOk result (λ _. left ≡ other)
     → Stepped of left result old new → Stepped of other result old new
 Stepped-left of left other (Ok done) old new same made = subst (λ s. Stepped of s (Ok done) old new) same made
 Stepped-left of left other (Err fault) old new same made = record { step = made.step; does = made.does; ran = made.ran; leaves = tt }
 
 -- a step, and then a state is left
-Stepped-leaves : {S T : Type 0} (first : Step T) (left : T) (state : S) (result : Result (Unit {0}) Fault) (old new : World) → Stepped (λ step. step ≡ first) left result old new
+Stepped-leaves : {S T : Type 0} (first : Step T) (left : T) (state : S) (result : Result (Unit {0}) Fault) (old new : Environment) → Stepped (λ step. step ≡ first) left result old new
     → Stepped (λ step. step ≡ then_step first (still (Ok state))) state result old new
 Stepped-leaves first left state (Ok done) old new made =
     Stepped-then first (still (Ok state)) left state (Ok done) old new new made (Stepped-still (λ step. step ≡ still (Ok state)) (Ok state) state (Ok done) new refl refl)
@@ -156,7 +157,7 @@ pub fetched-cursors : (name : List ℕ) (asks : ℕ) (entries written : List (Li
 fetched-cursors name asks entries written before after (Ok done) distinct found set source count = ap cursors_of set ∙ cursors-set name asks entries before after distinct found source count
 fetched-cursors name asks entries written before after (Err fault) distinct found set source count = tt
 
-module _ (answer : Answering) (catalogue : Catalogue) (entries written : List (List ℕ × Held)) (name : List ℕ) (wanted : ℕ) (result : Result (Unit {0}) Fault) (old new : World) where
+module _ (answer : Answering) (catalogue : Catalogue) (entries written : List (List ℕ × Held)) (name : List ℕ) (wanted : ℕ) (result : Result (Unit {0}) Fault) (old new : Environment) where
   abbrev from : State
   from = state_of catalogue entries
 
@@ -222,7 +223,7 @@ declared-bound state name query bound gives = go (bound_query state.catalogue qu
   go (Err why) room e = absurd cc
 
 -- a DECLARE by a plan whose query is bound, and whose sample was taken
-module _ (answer : Answering) (seed : ℕ) (name : Name) (state : State) (query : syntax.Query) (bound : Query) (left : State) (old new : World)
+module _ (answer : Answering) (seed : ℕ) (name : Name) (state : State) (query : syntax.Query) (bound : Query) (left : State) (old new : Environment)
     (gives : Gives Memory (declared_query state name query) (Ok bound)) (sampled : Stepped (λ step. step ≡ sample_step state.catalogue seed bound) state.catalogue (Ok tt) old new) where
   abbrev opened : State
   opened = with_cursor name.text (ByPlan bound (plan_for answer state.catalogue seed bound)) state

@@ -5,22 +5,22 @@ use Rattle.rs_outside.specs.Files.{FilesTold}
 use Rattle.rs_table.specs.Column.{Column}
 use Rattle.rs_expr.specs.Scoring.{Answering}
 use Rattle.rs_catalog.specs.Catalogue.{Catalogue}
-use Rattle.rs_syntax.specs.Syntax.{Command, CreateTable, CreatePredicate, CreateRankIndex, Ask, Declare, Fetch, Close, Explain, ExplainAnalyze}
-use Rattle.rs_syntax.specs.Syntax.{command_of, commands_of}
+use Rattle.rs_syntax.specs.Syntax.{Command, CreateTable, CreatePredicate, CreateRankIndex, Ask, Declare, Fetch, Close, Explain, ExplainAnalyze, command_of, commands_of}
 use Rattle.rs_syntax.specs.declared.name.Name.{Name}
 use Rattle.rs_syntax.specs.declared.statement.Statement.{Statement}
 use Rattle.rs_syntax.specs.Written.{AreWritten, IsWritten}
 use Rattle.rs_statement.specs.declared.fault.Fault.{Fault}
-use Rattle.rs_statement.specs.Halts.{fetched_more}
-use Rattle.rs_statement.specs.Parts.Steps.{HasDone, Stepped}
-use Rattle.rs_statement.specs.Run.{Event, Finds, fetches, finds_in}
-use Rattle.rs_statement.specs.Sequence.{Step}
+use Rattle.rs_events.specs.Halts.{fetched_more}
+use Rattle.rs_events.specs.Running.{HasDone}
+use Rattle.rs_statement.specs.Parts.Steps.{Stepped}
+use Rattle.rs_events.specs.Events.{Event, Finds, fetches, finds_in}
+use Rattle.rs_statement.specs.Steps.{Step}
 use Rattle.rs_statement.specs.declared.evaluating.Evaluating.{Evaluating}
 use Rattle.rs_statement.specs.Statements.{Does, DoesTable}
 use Rattle.rs_statement.specs.Session.{DoesInSession, State, beside_cursors}
-use Rattle.rs_statement.specs.World.{World}
+use Rattle.rs_events.specs.Environment.{Environment}
 use Rattle.rs_statement.proofs.StepFacts.{some-table}
-use Rattle.rs_statement.proofs.SteppedFacts.{Stepped-map}
+use Rattle.rs_events.proofs.SteppedFacts.{Stepped-map}
 
 -- files that were fetched from hold what they held
 pub finds-after : (before after : Option FilesTold) (names : List (List ℕ)) → after ≡ option_map (fetched_more names) before → (name : List ℕ) (there : Option (List ℕ))
@@ -81,7 +81,7 @@ some-step told answer evaluating state (Explain query) = (_, (_, refl, refl))
 some-step told answer evaluating state (ExplainAnalyze query) = (_, (_, refl, refl))
 
 -- a statement behind events that were done does what it does over what was there at first
-pub Stepped-first : (made : List Event) (evaluating : Evaluating) (state left : State) (command : Command) (result : Result (Unit {0}) Fault) (old middle new : World)
+pub Stepped-first : (made : List Event) (evaluating : Evaluating) (state left : State) (command : Command) (result : Result (Unit {0}) Fault) (old middle new : Environment)
     → HasDone made old middle → Stepped (DoesInSession (finds_in middle.files.told) middle.scorer.answer evaluating state command) left result middle new
     → Stepped (DoesInSession (finds_in old.files.told) old.scorer.answer evaluating state command) left result middle new
 Stepped-first made evaluating state left command result old middle new has stepped =

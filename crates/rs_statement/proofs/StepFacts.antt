@@ -26,31 +26,32 @@ use Rattle.rs_bind.specs.Names.{columns_of}
 use Rattle.rs_catalog.specs.declared.room.What.TheVariants as what
 use Rattle.rs_statement.specs.Content.{content_of, or_table_fault, table_limit}
 use Rattle.rs_statement.specs.Parts.Session.{IsOfNoCursor}
-use Rattle.rs_statement.specs.Parts.Steps.{FetchesFile, IsReadTable, Ran, Stepped, run_of}
-use Rattle.rs_statement.specs.Run.{Fetch, Finds, finds_in}
-use Rattle.rs_statement.specs.Sequence.{Step, still}
+use Rattle.rs_statement.specs.Parts.Steps.{FetchesFile, IsReadTable, Ran, Stepped}
+use Rattle.rs_events.specs.Sequence.{run_of, still}
+use Rattle.rs_events.specs.Events.{Fetch, Finds, finds_in}
+use Rattle.rs_statement.specs.Steps.{Step}
 use Rattle.rs_statement.specs.declared.evaluating.Evaluating.{Evaluating}
 use Rattle.rs_statement.specs.Statements.{Does, DoesTable, analyze_step, explain_step, index_step, predicate_outcome, refused_or, select_step, table_step, with_room}
-use Rattle.rs_statement.specs.World.{World}
-use Rattle.rs_statement.proofs.FetchFacts.{Ran-unfetched, fault-at, fetched-ok}
-use Rattle.rs_statement.proofs.RanFacts.{Ran-all, Ran-no_memory}
-use Rattle.rs_statement.proofs.SteppedFacts.{Stepped-no_memory, Stepped-still, events-run_of, step_of}
+use Rattle.rs_events.specs.Environment.{Environment}
+use Rattle.rs_events.proofs.FetchFacts.{Ran-unfetched, fault-at, fetched-ok}
+use Rattle.rs_events.proofs.RanFacts.{Ran-all, Ran-no_memory}
+use Rattle.rs_events.proofs.SteppedFacts.{Stepped-no_memory, Stepped-still, events-run_of, step_of}
 
 -- the statement was refused, or there was no memory
-pub Stepped-refused : {A S : Type 0} (does : A → Step S) (bound : Result A Fault) (fault : Fault) (left : S) (world : World) → Gives Memory bound (Err fault)
-    → Stepped (λ step. step ≡ refused_or does bound) left (Err fault) world world
-Stepped-refused does bound fault left world (inl e) =
-    subst (λ r. Stepped (λ step. step ≡ refused_or does r) left (Err fault) world world) e (Stepped-still (λ step. step ≡ still (Err fault)) (Err fault) left (Err fault) world refl (inr refl))
-Stepped-refused {A} does bound fault left world (inr e) =
-    subst (λ r. Stepped (λ step. step ≡ refused_or does bound) left r world world) (sym (fault-at {A = A} fault Memory e))
-    (Stepped-no_memory (λ step. step ≡ refused_or does bound) (refused_or does bound) left world refl)
+pub Stepped-refused : {A S : Type 0} (does : A → Step S) (bound : Result A Fault) (fault : Fault) (left : S) (environment : Environment) → Gives Memory bound (Err fault)
+    → Stepped (λ step. step ≡ refused_or does bound) left (Err fault) environment environment
+Stepped-refused does bound fault left environment (inl e) =
+    subst (λ r. Stepped (λ step. step ≡ refused_or does r) left (Err fault) environment environment) e (Stepped-still (λ step. step ≡ still (Err fault)) (Err fault) left (Err fault) environment refl (inr refl))
+Stepped-refused {A} does bound fault left environment (inr e) =
+    subst (λ r. Stepped (λ step. step ≡ refused_or does bound) left r environment environment) (sym (fault-at {A = A} fault Memory e))
+    (Stepped-no_memory (λ step. step ≡ refused_or does bound) (refused_or does bound) left environment refl)
 
 pub bound-ok : {A : Type 0} (bound : Result A Fault) (a : A) → Gives Memory bound (Ok a) → bound ≡ Ok a
 bound-ok bound a (inl e) = sym e
 bound-ok bound a (inr e) = absurd cc
 
 -- a statement that wasn't refused
-pub Stepped-bound : {A S : Type 0} (does : A → Step S) (bound : Result A Fault) (a : A) (left : S) (result : Result (Unit {0}) Fault) (old new : World) → Gives Memory bound (Ok a)
+pub Stepped-bound : {A S : Type 0} (does : A → Step S) (bound : Result A Fault) (a : A) (left : S) (result : Result (Unit {0}) Fault) (old new : Environment) → Gives Memory bound (Ok a)
     → Stepped (λ step. step ≡ does a) left result old new → Stepped (λ step. step ≡ refused_or does bound) left result old new
 Stepped-bound does bound a left result old new gives made = subst (λ r. Stepped (λ step. step ≡ refused_or does r) left result old new) (sym (bound-ok bound a gives)) made
 
@@ -101,52 +102,52 @@ does-table finds catalogue name file bound columns there e found = subst (λ r. 
 begins-table : (catalogue : Catalogue) (name : Name) (file : List ℕ) (columns : List Column) (there : Option (List ℕ)) → (run_of (table_step catalogue name file columns there)).events ≡ Fetch file ∷ []
 begins-table catalogue name file columns there = events-run_of (Fetch file ∷ []) (table_step catalogue name file columns there).outcome
 
-module _ (catalogue : Catalogue) (name : Name) (file : List ℕ) (bound : Result (List Column) Fault) (world : World) where
+module _ (catalogue : Catalogue) (name : Name) (file : List ℕ) (bound : Result (List Column) Fault) (environment : Environment) where
   -- the statement was refused before its file was fetched, or there was no memory
-  pub Table-refused : (fault : Fault) → Gives Memory bound (Err fault) → Stepped (DoesTable (finds_in world.files.told) catalogue name file bound) catalogue (Err fault) world world
-  Table-refused fault (inl e) = Stepped-still (DoesTable (finds_in world.files.told) catalogue name file bound) (Err fault) catalogue (Err fault) world
-      (subst (λ r. DoesTable (finds_in world.files.told) catalogue name file r (still (Err fault))) e refl) (inr refl)
+  pub Table-refused : (fault : Fault) → Gives Memory bound (Err fault) → Stepped (DoesTable (finds_in environment.files.told) catalogue name file bound) catalogue (Err fault) environment environment
+  Table-refused fault (inl e) = Stepped-still (DoesTable (finds_in environment.files.told) catalogue name file bound) (Err fault) catalogue (Err fault) environment
+      (subst (λ r. DoesTable (finds_in environment.files.told) catalogue name file r (still (Err fault))) e refl) (inr refl)
   Table-refused fault (inr e) =
-      let some = some-table world.files.told catalogue name file bound in
-      subst (λ r. Stepped (DoesTable (finds_in world.files.told) catalogue name file bound) catalogue r world world) (sym (fault-at {A = List Column} fault Memory e))
-      (Stepped-no_memory (DoesTable (finds_in world.files.told) catalogue name file bound) some.step catalogue world some.does)
+      let some = some-table environment.files.told catalogue name file bound in
+      subst (λ r. Stepped (DoesTable (finds_in environment.files.told) catalogue name file bound) catalogue r environment environment) (sym (fault-at {A = List Column} fault Memory e))
+      (Stepped-no_memory (DoesTable (finds_in environment.files.told) catalogue name file bound) some.step catalogue environment some.does)
 
   -- the file was no table, or wasn't fetched, or there was no memory
-  pub Table-unread : (columns : List Column) (fault : Fault) (files : Outside FilesTold) → Gives Memory bound (Ok columns) → FetchesFile file (Err fault) (IsReadTable file columns) world.files files
-      → Stepped (DoesTable (finds_in world.files.told) catalogue name file bound) catalogue (Err fault) world (record world { files = files })
+  pub Table-unread : (columns : List Column) (fault : Fault) (files : Outside FilesTold) → Gives Memory bound (Ok columns) → FetchesFile file (Err fault) (IsReadTable file columns) environment.files files
+      → Stepped (DoesTable (finds_in environment.files.told) catalogue name file bound) catalogue (Err fault) environment (record environment { files = files })
   unfolding read_of outcome_of
   Table-unread columns fault files gives f = record {
     step = table_step catalogue name file columns f.there;
-    does = does-table (finds_in world.files.told) catalogue name file bound columns f.there (bound-ok bound columns gives) f.is_told;
-    ran = Ran-unfetched world files file fault (IsReadTable file columns) (run_of (table_step catalogue name file columns f.there)) [] f (begins-table catalogue name file columns f.there)
+    does = does-table (finds_in environment.files.told) catalogue name file bound columns f.there (bound-ok bound columns gives) f.is_told;
+    ran = Ran-unfetched environment files file fault (IsReadTable file columns) (run_of (table_step catalogue name file columns f.there)) [] f (begins-table catalogue name file columns f.there)
         (λ e. ap (λ o. run_of (step_of (Fetch file ∷ []) o)) (outcome-err catalogue name file columns f.there fault e));
     leaves = tt;
   }
 
   -- the table was read, and there was no memory for it
   pub Table-no_memory : (columns : List Column) (table : Relation) (left : Catalogue) (files : Outside FilesTold) → Gives Memory bound (Ok columns)
-      → FetchesFile file (Ok table) (IsReadTable file columns) world.files files
-      → Stepped (DoesTable (finds_in world.files.told) catalogue name file bound) left (Err Memory) world (record world { files = files })
+      → FetchesFile file (Ok table) (IsReadTable file columns) environment.files files
+      → Stepped (DoesTable (finds_in environment.files.told) catalogue name file bound) left (Err Memory) environment (record environment { files = files })
   Table-no_memory columns table left files gives f = record {
     step = table_step catalogue name file columns f.there;
-    does = does-table (finds_in world.files.told) catalogue name file bound columns f.there (bound-ok bound columns gives) f.is_told;
-    ran = Ran-no_memory (run_of (table_step catalogue name file columns f.there)) (Fetch file ∷ []) [] world (record world { files = files })
-        (begins-table catalogue name file columns f.there) (fetched-ok world files file table (IsReadTable file columns) f).has;
+    does = does-table (finds_in environment.files.told) catalogue name file bound columns f.there (bound-ok bound columns gives) f.is_told;
+    ran = Ran-no_memory (run_of (table_step catalogue name file columns f.there)) (Fetch file ∷ []) [] environment (record environment { files = files })
+        (begins-table catalogue name file columns f.there) (fetched-ok environment files file table (IsReadTable file columns) f).has;
     leaves = tt;
   }
 
   -- it joined
   pub Table-joins : (columns : List Column) (table : Relation) (left : Catalogue) (files : Outside FilesTold) → Gives Memory bound (Ok columns)
-      → FetchesFile file (Ok table) (IsReadTable file columns) world.files files → left ≡ with_table name.text table catalogue
-      → Stepped (DoesTable (finds_in world.files.told) catalogue name file bound) left (Ok tt) world (record world { files = files })
+      → FetchesFile file (Ok table) (IsReadTable file columns) environment.files files → left ≡ with_table name.text table catalogue
+      → Stepped (DoesTable (finds_in environment.files.told) catalogue name file bound) left (Ok tt) environment (record environment { files = files })
   unfolding read_of outcome_of
   Table-joins columns table left files gives f joins =
-      let read = fetched-ok world files file table (IsReadTable file columns) f in
+      let read = fetched-ok environment files file table (IsReadTable file columns) f in
       let made = outcome-ok catalogue name file columns f.there table read.given in record {
         step = table_step catalogue name file columns f.there;
-        does = does-table (finds_in world.files.told) catalogue name file bound columns f.there (bound-ok bound columns gives) f.is_told;
-        ran = subst (λ o. Ran (run_of (step_of (Fetch file ∷ []) o)) (Ok tt) world (record world { files = files })) (sym made)
-            (Ran-all (record { events = Fetch file ∷ []; fault = None }) (Ok tt) world (record world { files = files }) read.has refl);
+        does = does-table (finds_in environment.files.told) catalogue name file bound columns f.there (bound-ok bound columns gives) f.is_told;
+        ran = subst (λ o. Ran (run_of (step_of (Fetch file ∷ []) o)) (Ok tt) environment (record environment { files = files })) (sym made)
+            (Ran-all (record { events = Fetch file ∷ []; fault = None }) (Ok tt) environment (record environment { files = files }) read.has refl);
         leaves = made ∙ ap Ok (sym joins);
       }
 

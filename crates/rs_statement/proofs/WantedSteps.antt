@@ -12,12 +12,13 @@ use Rattle.rs_statement.specs.Parts.Asks.{IsAt, call_step}
 use Rattle.rs_statement.specs.Parts.Session.{IsAskedMore, next_of_cursor, wanted_step}
 use Rattle.rs_statement.specs.Parts.Steps.{Stepped}
 use Rattle.rs_statement.specs.Planned.{ask_outcome, asked_step, asks_from, next_asks}
-use Rattle.rs_statement.specs.Sequence.{Step, still, then_step}
-use Rattle.rs_statement.specs.World.{World}
+use Rattle.rs_statement.specs.Steps.{Step}
+use Rattle.rs_events.specs.Sequence.{still, then_step}
+use Rattle.rs_events.specs.Environment.{Environment}
 use Rattle.rs_statement.proofs.CursorSteps.{call-next}
 use Rattle.rs_statement.proofs.PlanSteps.{more-all, over-all, over-ended, then-still}
-use Rattle.rs_statement.proofs.SoFar.{SoFar, SoFar-ends, SoFar-more, Stepped-broken}
-use Rattle.rs_statement.proofs.SteppedFacts.{Stepped-still}
+use Rattle.rs_events.proofs.SoFar.{SoFar, SoFar-ends, SoFar-more, Stepped-broken}
+use Rattle.rs_events.proofs.SteppedFacts.{Stepped-still}
 
 module _ (w : plan.World) (tree : PlanTree) where
   -- the asks that come next where so many are wanted
@@ -111,7 +112,7 @@ module _ (catalogue : Catalogue) (answer : Answering) where
     asks_are = (let all : asks_of cursor ≡ asks_of cursor + 0 = omega arith in all) ∙ ap (λ asks. asks_of cursor + asks) (sym none) ∙ fetching.asks;
   }
 
-  module _ (whole : Step Catalogue) (old middle : World) where
+  module _ (whole : Step Catalogue) (old middle : Environment) where
     pub Wanted-done : (cursor : CursorState) (left : ℕ) → next_of_cursor catalogue answer cursor left ≡ 0 → SoFar whole (wanted_step catalogue answer cursor left) old middle
         → Stepped (λ step. step ≡ whole) catalogue (Ok tt) old middle
     Wanted-done cursor left none so_far =
@@ -119,7 +120,7 @@ module _ (catalogue : Catalogue) (answer : Answering) where
         (subst (λ rest. SoFar whole rest old middle) (ap (asks_from (world_of catalogue answer cursor.query) (plan_of cursor) (asks_of cursor)) none) so_far)
         (Stepped-still (λ step. step ≡ still (Ok catalogue)) (Ok catalogue) catalogue (Ok tt) middle refl refl)
 
-    module _ (new : World) (cursor : CursorState) (left : ℕ) (stands : StandsFor catalogue answer cursor)
+    module _ (new : Environment) (cursor : CursorState) (left : ℕ) (stands : StandsFor catalogue answer cursor)
         (so_far : SoFar whole (wanted_step catalogue answer cursor (suc left)) old middle) (at : middle.scorer.answer ≡ answer) where
       abbrev w : plan.World
       w = world_of catalogue answer cursor.query

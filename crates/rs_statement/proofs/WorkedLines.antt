@@ -1,27 +1,21 @@
--- The lines of faults, and statuses, computed on examples.
-use Rattle.std.proofs.Common.{◌≡◌, [], ◌∷◌, Some, refl}
+-- The lines of faults, computed on examples.
+use Rattle.std.proofs.Common.{◌≡◌, [], ◌∷◌, refl}
 use Rattle.std.specs.Prelude.{codes, pos, negsuc}
 use Rattle.std.specs.Fmt.{digits}
 use Rattle.rs_outside.specs.declared.files.FetchFault.TheVariants as fetch
 use Rattle.rs_table.specs.declared.fault.TableFault.TheVariants as table
 use Rattle.rs_statement.specs.declared.fault.Fault.TheVariants as fault
 use Rattle.rs_statement.specs.declared.script_fault.ScriptFault.TheVariants as script
-use Rattle.rs_statement.specs.declared.status.Status.TheVariants as status
 use Rattle.rs_lex.specs.declared.fault.LexFault.TheVariants as lex
 use Rattle.rs_syntax.specs.declared.fault.SyntaxFault.TheVariants as syntax
 use Rattle.rs_catalog.specs.declared.room.RoomFault.TheVariants as room
 use Rattle.rs_typing.specs.declared.fault.Why.TheVariants as why
-use Rattle.rs_statement.specs.Faults.{fault_line, only, status_of}
+use Rattle.rs_statement.specs.Faults.{fault_line, only}
 
 -- the line of want of memory
 line_of_memory : fault_line fault.Memory ≡ codes "memory\n"
 unfolding digits
 line_of_memory = refl
-
--- the line of words of no form
-line_of_usage : fault_line fault.Usage ≡ codes "usage: ranksql top FILE COLUMN MAX K, run SCRIPT SEED, plain SCRIPT, gen NUMBER ROWS\n"
-unfolding digits
-line_of_usage = refl
 
 -- the line of a file that is not there
 line_of_missing : fault_line (fault.Read (codes "h.csv") fetch.Missing) ≡ codes "read: h.csv: missing\n"
@@ -168,10 +162,3 @@ line_of_full = refl
 line_of_name_taken : fault_line (fault.Script (script.Room room.NameTaken 13)) ≡ codes "script: catalogue NameTaken at 13\n"
 unfolding digits
 line_of_name_taken = refl
-
--- the status of each
-status_of_script : status_of (Some (fault.Script (script.NotUtf8 0))) ≡ status.Script
-status_of_script = refl
-
-status_of_probe : status_of (Some (fault.Probe (codes "q"))) ≡ status.Probe
-status_of_probe = refl

@@ -34,11 +34,10 @@ use Rattle.rs_statement.specs.declared.fault.Fault.{Fault}
 use Rattle.rs_statement.specs.declared.fault.Fault.TheVariants.{Script, Session}
 use Rattle.rs_statement.specs.declared.fault.SessionFault.TheVariants.{NameTaken, Unknown, Full}
 use Rattle.rs_statement.specs.declared.script_fault.ScriptFault.TheVariants.{Bind}
-use Rattle.rs_statement.specs.declared.status.Status.TheVariants as status
-use Rattle.rs_statement.specs.Faults.{fault_line, status_of}
+use Rattle.rs_statement.specs.Faults.{fault_line}
 use Rattle.rs_statement.specs.Planned.{asks_in_all, cards_for, planned_step}
-use Rattle.rs_statement.specs.Run.{Put, Score}
-use Rattle.rs_statement.specs.Sequence.{silent}
+use Rattle.rs_events.specs.Events.{Put, Score}
+use Rattle.rs_events.specs.Sequence.{silent}
 use Rattle.rs_statement.specs.Session.{ByPlan, OpenCursor, State, close_outcome, cursor_named, fetch_step, opened_step, room_for_cursor}
 
 abbrev int : ℕ → Value
@@ -213,9 +212,6 @@ line_of_name_taken = refl
 
 line_of_full : fault_line (Session Full (codes "k")) ≡ codes "session: Full k\n"
 line_of_full = refl
-
-status_of_session : status_of (Some (Session Full (codes "k"))) ≡ status.Session
-status_of_session = refl
 
 -- row 5: EXPLAIN ANALYZE makes the calls of the query's asks and puts no row
 analyzes_in_silence : silent (planned_step (world_of catalogue answer (query ((1, 0) ∷ (1, 1) ∷ []) (term 0 ∷ term 1 ∷ []) (Some 1))) indexed)

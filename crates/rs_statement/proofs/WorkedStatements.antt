@@ -38,11 +38,11 @@ use Rattle.rs_statement.specs.declared.fault.SessionFault.TheVariants as session
 use Rattle.rs_statement.specs.declared.script_fault.ScriptFault.TheVariants as script
 use Rattle.rs_statement.specs.Faults.{only}
 use Rattle.rs_expr.specs.Scoring.{Answering}
-use Rattle.rs_statement.specs.Run.{Fetch, Finds, Put, Score, found_in}
+use Rattle.rs_events.specs.Events.{Fetch, Finds, Put, Score, found_in}
 use Rattle.rs_statement.specs.declared.evaluating.Evaluating.TheVariants.{Plainly, Planned}
 use Rattle.rs_statement.specs.Planned.{asks_in_all, cards_for, planned_step}
 use Rattle.rs_statement.specs.Sampled.{sample_step}
-use Rattle.rs_statement.specs.Sequence.{silent}
+use Rattle.rs_events.specs.Sequence.{silent}
 use Rattle.rs_statement.specs.Statements.{index_step, or_bind_fault, predicate_outcome, refused_or, table_step}
 use Rattle.rs_statement.specs.Session.{StatementsRun}
 

@@ -1,14 +1,19 @@
 -- What is read of a file.
-use Rattle.std.specs.Prelude.{ℕ, nat_le, List, length, Option, Some, None, Result, Ok, Err, if◌then◌else◌}
-use Rattle.rs_outside.specs.declared.files.FetchFault.TheVariants.{Missing, TooLong}
+use Rattle.std.specs.Prelude.{ℕ, List, Option, Result, Ok, Err}
+use Rattle.rs_outside.specs.declared.files.FetchFault.{FetchFault}
 use Rattle.rs_table.specs.declared.fault.TableFault.{TableFault}
+use Rattle.rs_events.specs.Fetching.{fetched_bytes}
 use Rattle.rs_statement.specs.declared.fault.Fault.{Fault}
 use Rattle.rs_statement.specs.declared.fault.Fault.TheVariants.{Read, Table}
 
+-- that this file isn't read ends the run
+abbrev pub or_read_fault : {A : Type 0} → List ℕ → Result A FetchFault → Result A Fault
+or_read_fault name (Ok a) = Ok a
+or_read_fault name (Err why) = Err (Read name why)
+
 -- the bytes of a file, or why it is not read
 abbrev pub content_of : ℕ → List ℕ → Option (List ℕ) → Result (List ℕ) Fault
-content_of limit name None = Err (Read name Missing)
-content_of limit name (Some bytes) = if nat_le (length bytes) limit then Ok bytes else Err (Read name TooLong)
+content_of limit name there = or_read_fault name (fetched_bytes limit there)
 
 -- the most bytes of a table's file
 abbrev pub table_limit : ℕ

@@ -1,4 +1,4 @@
--- What ends a run early: its status, and its line on standard error.
+-- What ends a run early: its line on standard error.
 use Rattle.std.specs.Prelude.{ℕ, ◌==◌, not, List, [], ◌∷◌, ◌++◌, Option, Some, None, Result, Ok, Err, codes}
 use Rattle.std.specs.List.{filter}
 use Rattle.std.specs.Fmt.{decimal, signed_decimal}
@@ -16,27 +16,12 @@ use Rattle.rs_catalog.specs.declared.room.RoomFault.{RoomFault}
 use Rattle.rs_catalog.specs.declared.room.RoomFault.TheVariants as room
 use Rattle.rs_typing.specs.declared.fault.Why.{Why}
 use Rattle.rs_typing.specs.declared.fault.Why.TheVariants as why
-use Rattle.rs_statement.specs.declared.status.Status.{Status}
-use Rattle.rs_statement.specs.declared.status.Status.TheVariants as status
 use Rattle.rs_statement.specs.declared.fault.Fault.{Fault}
 use Rattle.rs_statement.specs.declared.fault.Fault.TheVariants as fault
 use Rattle.rs_statement.specs.declared.fault.SessionFault.{SessionFault}
 use Rattle.rs_statement.specs.declared.fault.SessionFault.TheVariants as session
 use Rattle.rs_statement.specs.declared.script_fault.ScriptFault.{ScriptFault}
 use Rattle.rs_statement.specs.declared.script_fault.ScriptFault.TheVariants as script
-
--- the status of a run that ends with this fault, or with none
-abbrev pub status_of : Option Fault → Status
-status_of None = status.Done
-status_of (Some fault.Memory) = status.Memory
-status_of (Some fault.Usage) = status.Usage
-status_of (Some (fault.Read name why)) = status.Read
-status_of (Some fault.Write) = status.Write
-status_of (Some (fault.Table name why)) = status.Table
-status_of (Some (fault.BadScore predicate rows got max)) = status.BadScore
-status_of (Some (fault.Probe predicate)) = status.Probe
-status_of (Some (fault.Script why)) = status.Script
-status_of (Some (fault.Session why name)) = status.Session
 
 -- the fault of a run whose script the lexer refuses, or the parser
 abbrev pub lex_fault : LexFault → Fault
@@ -150,7 +135,6 @@ spaced (number ∷ next ∷ rest) = decimal number ++ 32 ∷ spaced (next ∷ re
 -- what a fault's line says
 abbrev pub fault_text : Fault → List ℕ
 fault_text fault.Memory = codes "memory"
-fault_text fault.Usage = codes "usage: ranksql top FILE COLUMN MAX K, run SCRIPT SEED, plain SCRIPT, gen NUMBER ROWS"
 fault_text (fault.Read name why) = codes "read: " ++ name ++ codes ": " ++ fetch_text why
 fault_text fault.Write = codes "write"
 fault_text (fault.Table name why) = codes "table: " ++ name ++ codes ": " ++ table_text why

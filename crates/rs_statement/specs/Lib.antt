@@ -1,11 +1,7 @@
-pub mod Status
 pub mod Faults
 pub mod Content
 pub mod Lines
-pub mod World
-pub mod Run
-pub mod Sequence
-pub mod Halts
+pub mod Steps
 pub mod Planned
 pub mod Sampled
 pub mod Statements

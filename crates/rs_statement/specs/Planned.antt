@@ -18,7 +18,8 @@ use Rattle.rs_exec.specs.declared.fault.ExecFault.{ExecFault}
 use Rattle.rs_exec.specs.declared.fault.ExecFault.TheVariants as exec
 use Rattle.rs_statement.specs.declared.fault.Fault.{Fault}
 use Rattle.rs_statement.specs.declared.fault.Fault.TheVariants.{BadScore, Memory, Probe}
-use Rattle.rs_statement.specs.Sequence.{Step, inquiry_step, still, then_step}
+use Rattle.rs_statement.specs.Steps.{Step}
+use Rattle.rs_events.specs.Sequence.{inquiry_step, still, then_step}
 
 -- what planning knows of a query, by its sample
 abbrev pub cards_for : Answering → Catalogue → ℕ → Query → List BlockCards

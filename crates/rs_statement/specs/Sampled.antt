@@ -10,7 +10,8 @@ use Rattle.rs_sample.specs.declared.fault.SampleFault.{SampleFault}
 use Rattle.rs_sample.specs.declared.fault.SampleFault.TheVariants as sample
 use Rattle.rs_statement.specs.declared.fault.Fault.{Fault}
 use Rattle.rs_statement.specs.declared.fault.Fault.TheVariants.{Memory, Probe}
-use Rattle.rs_statement.specs.Sequence.{Step, inquiry_step}
+use Rattle.rs_statement.specs.Steps.{Step}
+use Rattle.rs_events.specs.Sequence.{inquiry_step}
 
 -- the fault of a run whose query has no sample
 abbrev pub sample_fault : Catalogue → SampleFault → Fault

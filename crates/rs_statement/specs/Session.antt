@@ -28,9 +28,10 @@ use Rattle.rs_statement.specs.declared.fault.SessionFault.{SessionFault}
 use Rattle.rs_statement.specs.declared.fault.SessionFault.TheVariants.{NameTaken, Unknown, Full}
 use Rattle.rs_statement.specs.Lines.{rank_lines}
 use Rattle.rs_statement.specs.Planned.{asks_from, next_asks, plan_for}
-use Rattle.rs_statement.specs.Run.{Finds, Run}
+use Rattle.rs_events.specs.Events.{Finds}
+use Rattle.rs_statement.specs.Steps.{Run, Step}
 use Rattle.rs_statement.specs.Sampled.{sample_step}
-use Rattle.rs_statement.specs.Sequence.{RunOf, Step, inquiry_step, lines_step, still, then_step}
+use Rattle.rs_events.specs.Sequence.{RunOf, inquiry_step, lines_step, still, then_step}
 use Rattle.rs_statement.specs.Statements.{Does, or_bind_fault, query_fault, refused_or}
 
 -- what gives the rows of a cursor: a plan of its query, which is asked for them one after another; or they all stand ready

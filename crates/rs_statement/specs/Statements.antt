@@ -41,9 +41,10 @@ use Rattle.rs_statement.specs.Content.{content_of, or_table_fault, table_limit}
 use Rattle.rs_statement.specs.Lines.{rank_lines}
 use Rattle.rs_statement.specs.Faults.{or_index_fault}
 use Rattle.rs_statement.specs.Planned.{asks_in_all, cards_for, plan_for, planned_step}
-use Rattle.rs_statement.specs.Run.{Fetch, Finds, calls_in}
+use Rattle.rs_events.specs.Events.{Fetch, Finds, calls_in}
 use Rattle.rs_statement.specs.Sampled.{sample_step}
-use Rattle.rs_statement.specs.Sequence.{Step, inquiry_step, lines_step, silent, still, then_step}
+use Rattle.rs_statement.specs.Steps.{Step}
+use Rattle.rs_events.specs.Sequence.{inquiry_step, lines_step, silent, still, then_step}
 
 -- a rule that a statement breaks ends the run
 abbrev pub bind_fault : BindFault → Fault

@@ -19,17 +19,17 @@ ghost use Rattle.rs_catalog.specs.Held.{AreHeld};
 ghost use Rattle.rs_statement.specs.Parts.Asks.{AskedForAll, AskedOnce, StandsSomewhere, call_step, left_of, most_asks, without_value};
 ghost use Rattle.rs_statement.specs.Parts.Steps.{Stepped};
 ghost use Rattle.rs_statement.specs.Planned.{asks_in_all, planned_step};
-ghost use Rattle.rs_statement.specs.Sequence.{silent};
+ghost use Rattle.rs_events.specs.Sequence.{silent};
 ghost use Rattle.rs_statement.specs.Statements.{analyzed_step, or_bind_fault, refused_or};
-ghost use Rattle.rs_statement.specs.World.{World};
+ghost use Rattle.rs_events.specs.Environment.{Environment};
 
 use crate::fault::Fault;
 use crate::planned::ask_fault;
 use crate::planning::{choose_plan, take_sample};
-use crate::put::put_text;
 use rs_bind::bind;
 use rs_catalog::Catalog;
 use rs_enum::{cards_decide_the_text, explain};
+use rs_events::put_text;
 use rs_exec::Cursor;
 use rs_expr::Scorer;
 use rs_outside::Sink;
@@ -52,7 +52,7 @@ pub fn analyze_planned<S: Scorer, O: Sink>(
 ) -> Result<(), Fault>
     requires written { IsWrittenQuery (query_of select.now) }
     requires held { AreHeld (S.state scorer.old).answer catalog.now }
-    ensures { (beside : World) → Stepped
+    ensures { (beside : Environment) → Stepped
         (λ step. step ≡ refused_or (analyzed_step (S.state scorer.old).answer catalog.now seed) (or_bind_fault (bound_query catalog.now (query_of select.now))))
         catalog.now result
         (record beside { scorer = S.state scorer.old; out = O.state out.old }) (record beside { scorer = S.state scorer.new; out = O.state out.new }) }
@@ -94,7 +94,7 @@ fn asked_text<S: Scorer>(
     requires cards { AreCards query (cards_of cards.now) }
     requires plan { IsPlan catalog.now query (tree_of plan.now) }
     requires held { AreHeld (S.state scorer.old).answer catalog.now }
-    ensures asks { (beside : World) → Stepped (λ step. step ≡ silent (planned_step (world_of catalog.now (S.state scorer.old).answer query) (tree_of plan.now)))
+    ensures asks { (beside : Environment) → Stepped (λ step. step ≡ silent (planned_step (world_of catalog.now (S.state scorer.old).answer query) (tree_of plan.now)))
         catalog.now (without_value result) (record beside { scorer = S.state scorer.old }) (record beside { scorer = S.state scorer.new }) }
     ensures text { IfOk result (λ text. text.items ≡ text_of catalog.now query (cards_of cards.now) (tree_of plan.now)
         (Some (counts_of_plan (world_of catalog.now (S.state scorer.old).answer query) (tree_of plan.now)
@@ -118,7 +118,7 @@ fn told_text<S: Scorer>(
     requires stands { StandsFor catalog.now (S.state scorer.old).answer cursor.old }
     requires cards { AreCards cursor.old.query (cards_of cards.now) }
     requires plan { tree_of plan.now ≡ plan_of cursor.old }
-    ensures asks { (beside : World) → Stepped (λ step. step ≡ silent (left_of catalog.now (S.state scorer.old).answer cursor.old)) catalog.now (without_value result)
+    ensures asks { (beside : Environment) → Stepped (λ step. step ≡ silent (left_of catalog.now (S.state scorer.old).answer cursor.old)) catalog.now (without_value result)
         (record beside { scorer = S.state scorer.old }) (record beside { scorer = S.state scorer.new }) }
     ensures text { IfOk result (λ text. text.items ≡ text_of catalog.now cursor.old.query (cards_of cards.now) (plan_of cursor.old)
         (Some (counts_of_plan (world_of catalog.now (S.state scorer.old).answer cursor.old.query) (plan_of cursor.old)
@@ -132,7 +132,7 @@ fn told_text<S: Scorer>(
 /// Asks for the rows of a cursor that are left, and drops them.
 fn ask_all<S: Scorer>(catalog: &Catalog, cursor: &mut Cursor, scorer: &mut S) -> Result<(), Fault>
     requires { StandsFor catalog.now (S.state scorer.old).answer cursor.old }
-    ensures asks { (beside : World) → Stepped (λ step. step ≡ silent (left_of catalog.now (S.state scorer.old).answer cursor.old)) catalog.now result
+    ensures asks { (beside : Environment) → Stepped (λ step. step ≡ silent (left_of catalog.now (S.state scorer.old).answer cursor.old)) catalog.now result
         (record beside { scorer = S.state scorer.old }) (record beside { scorer = S.state scorer.new }) }
     ensures all { IfOk result (λ _. AskedForAll catalog.now (S.state scorer.old).answer cursor.old cursor.new) }
     ensures stands { IfOk result (λ _. StandsFor catalog.now (S.state scorer.old).answer cursor.new) }
@@ -148,7 +148,7 @@ fn ask_next<S: Scorer>(
     scorer: &mut S,
 ) -> Result<bool, Fault>
     requires { StandsFor catalog.now (S.state scorer.old).answer cursor.old }
-    ensures asks { (beside : World) → Stepped (λ step. step ≡ silent (call_step catalog.now (S.state scorer.old).answer cursor.old)) catalog.now (without_value result)
+    ensures asks { (beside : Environment) → Stepped (λ step. step ≡ silent (call_step catalog.now (S.state scorer.old).answer cursor.old)) catalog.now (without_value result)
         (record beside { scorer = S.state scorer.old }) (record beside { scorer = S.state scorer.new }) }
     ensures next { IfOk result (λ more. AskedOnce catalog.now (S.state scorer.old).answer cursor.old more cursor.new) }
 {

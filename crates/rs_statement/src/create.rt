@@ -11,9 +11,9 @@ ghost use Rattle.rs_catalog.specs.Catalogue.{room_for};
 ghost use Rattle.rs_catalog.specs.Indexes.{IsIndex};
 ghost use Rattle.rs_catalog.specs.declared.room.What.TheVariants as what;
 ghost use Rattle.rs_statement.specs.Parts.Steps.{FetchesFile, IsIndexNamed, IsPredicateNamed, IsReadTable, Leaves, Stepped};
-ghost use Rattle.rs_statement.specs.Run.{finds_in};
+ghost use Rattle.rs_events.specs.Events.{finds_in};
 ghost use Rattle.rs_statement.specs.Statements.{DoesTable, index_step, or_room_fault, predicate_outcome, refused_or, with_room};
-ghost use Rattle.rs_statement.specs.World.{World};
+ghost use Rattle.rs_events.specs.Environment.{Environment};
 
 use crate::fault::{Fault, index_fault};
 use crate::file::{fetch_file, table_fault};
@@ -82,7 +82,7 @@ pub fn create_table<F: Files>(
     files: &mut F,
 ) -> Result<(), Fault>
     requires { 1 ≤ length columns.now }
-    ensures { (beside : World) → Stepped
+    ensures { (beside : Environment) → Stepped
         (DoesTable (finds_in (F.state files.old).told) catalog.old name.now file.now (with_room catalog.old what.Table name.now (columns_of columns.now)))
         catalog.new result (record beside { files = F.state files.old }) (record beside { files = F.state files.new }) }
 {
@@ -154,7 +154,7 @@ pub fn create_index<S: Scorer>(
 ) -> Result<(), Fault>
     requires form { IsIndexNamed name.now (command_of statement.now) }
     requires written { IsWritten (command_of statement.now) }
-    ensures { (beside : World) → Stepped
+    ensures { (beside : Environment) → Stepped
         (λ step. step ≡ refused_or (index_step (S.state scorer.old).answer catalog.old)
         (with_room catalog.old what.Index name.now (index_def_of catalog.old (command_of statement.now))))
         catalog.new result (record beside { scorer = S.state scorer.old }) (record beside { scorer = S.state scorer.new }) }

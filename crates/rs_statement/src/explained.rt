@@ -6,14 +6,14 @@ ghost use Rattle.rs_syntax.specs.Written.{IsWrittenQuery};
 ghost use Rattle.rs_bind.specs.Queries.{bound_query};
 ghost use Rattle.rs_statement.specs.Parts.Steps.{Stepped};
 ghost use Rattle.rs_statement.specs.Statements.{explained_step, or_bind_fault, refused_or};
-ghost use Rattle.rs_statement.specs.World.{World};
+ghost use Rattle.rs_events.specs.Environment.{Environment};
 
 use crate::fault::Fault;
 use crate::planning::{choose_plan, take_sample};
-use crate::put::put_text;
 use rs_bind::bind;
 use rs_catalog::Catalog;
 use rs_enum::{cards_decide_the_text, explain};
+use rs_events::put_text;
 use rs_expr::Scorer;
 use rs_outside::Sink;
 use rs_syntax::Select;
@@ -30,7 +30,7 @@ pub fn explain_planned<S: Scorer, O: Sink>(
     out: &mut O,
 ) -> Result<(), Fault>
     requires written { IsWrittenQuery (query_of select.now) }
-    ensures { (beside : World) → Stepped
+    ensures { (beside : Environment) → Stepped
         (λ step. step ≡ refused_or (explained_step (S.state scorer.old).answer catalog.now seed) (or_bind_fault (bound_query catalog.now (query_of select.now))))
         catalog.now result
         (record beside { scorer = S.state scorer.old; out = O.state out.old }) (record beside { scorer = S.state scorer.new; out = O.state out.new }) }

@@ -1,27 +1,22 @@
-ghost use Rattle.std.specs.Prelude.{◌≡◌, Some, IfOk};
+ghost use Rattle.std.specs.Prelude.{◌≡◌, IfOk};
 ghost use Rattle.std.specs.String.{string_bytes};
-ghost use Rattle.rs_statement.specs.Faults.{fault_line, fetch_text, index_fault, numbers_of, only, session_text, spaced, status_of, table_text};
+ghost use Rattle.rs_statement.specs.Faults.{fault_line, fetch_text, index_fault, numbers_of, only, session_text, spaced, table_text};
 
 use crate::script_fault::ScriptFault;
-use crate::status::Status;
 use rs_bind::BindFault;
 use rs_catalog::IndexFault;
+use rs_events::HaltFault;
 use rs_lex::LexFault;
-use rs_outside::FetchFault;
+use rs_outside::{FetchFault, SinkFault};
 use rs_syntax::SyntaxFault;
 use rs_table::TableFault;
 use rs_value::{Memory, Text};
 use std::alloc::{AllocFailed, Global};
 
-const USAGE: &str =
-    "usage: ranksql top FILE COLUMN MAX K, run SCRIPT SEED, plain SCRIPT, gen NUMBER ROWS\n";
-
-/// What ends a run early, with what its line on standard error tells.
+/// What ends the run of a script or of `top` early, with what its line on standard error tells.
 #[derive(Debug, Drop)]
 pub enum Fault {
     Memory,
-    /// The words of the command line are of no form.
-    Usage,
     /// The file of this name was not read.
     Read {
         name: Text,
@@ -86,6 +81,19 @@ impl<T: Drop> From<AllocFailed<T>> for Fault {
     }
 }
 
+impl HaltFault for Fault {
+    ghost use Rattle.rs_statement.specs.Steps.{statement_faults};
+
+    ghost faults = { statement_faults };
+
+    fn of_put(why: SinkFault) -> Fault {
+        match why {
+            SinkFault::Failed => Fault::Write,
+            SinkFault::Memory => Fault::Memory,
+        }
+    }
+}
+
 impl From<LexFault> for Fault {
     ghost use Rattle.rs_statement.specs.Faults.{lex_fault};
 
@@ -126,30 +134,12 @@ impl From<BindFault> for Fault {
 }
 
 impl Fault {
-    /// The status of a run that ends with this fault.
-    pub fn status(&self) -> Status
-        ensures { result ≡ status_of (Some self.now) }
-    {
-        match self {
-            Fault::Memory => Status::Memory,
-            Fault::Usage => Status::Usage,
-            Fault::Read { .. } => Status::Read,
-            Fault::Write => Status::Write,
-            Fault::Table { .. } => Status::Table,
-            Fault::BadScore { .. } => Status::BadScore,
-            Fault::Probe { .. } => Status::Probe,
-            Fault::Script(_) => Status::Script,
-            Fault::Session { .. } => Status::Session,
-        }
-    }
-
     /// The fault's line for standard error, ended by a line feed.
     pub fn line(&self, alloc: Global) -> Result<String, Memory>
         ensures { IfOk result (λ line. string_bytes line ≡ fault_line self.now) }
     {
         match self {
             Fault::Memory => Ok(String::from_str(alloc, "memory\n")?),
-            Fault::Usage => Ok(String::from_str(alloc, USAGE)?),
             Fault::Read { name, why } => read_line(alloc, name, *why),
             Fault::Write => Ok(String::from_str(alloc, "write\n")?),
             Fault::Table { name, why } => table_line(alloc, name, why),

@@ -20,9 +20,8 @@ pub fn fetch_file<F: Files>(
         (F.state files.old) (F.state files.new) }
     ensures within { IfOk result (λ bytes. length bytes.items ≤ limit) }
 {
-    let mut bytes = Vec::new(alloc);
-    match files.fetch(file, limit, &mut bytes) {
-        Ok(()) => Ok(bytes),
+    match rs_events::fetch_file(alloc, file, limit, files) {
+        Ok(bytes) => Ok(bytes),
         Err(why) => Err(read_fault(file, why)),
     }
 }

@@ -18,7 +18,6 @@ mod query;
 mod script_fault;
 mod select;
 mod session;
-mod status;
 
 pub use create::{create_index, create_predicate, create_table};
 pub use evaluating::Evaluating;
@@ -28,4 +27,3 @@ pub use put::put_rows;
 pub use script_fault::ScriptFault;
 pub use select::{run_analyze, run_explain, run_select};
 pub use session::{Session, close, declare, fetch, release};
-pub use status::Status;

@@ -13,10 +13,10 @@ ghost use Rattle.rs_catalog.specs.Held.{AreHeld};
 ghost use Rattle.rs_statement.specs.Parts.Asks.{IsAt, NamesPredicate, StandsSomewhere, call_step, left_of, without_value};
 ghost use Rattle.rs_statement.specs.Parts.Steps.{Stepped};
 ghost use Rattle.rs_statement.specs.Planned.{ask_fault};
-ghost use Rattle.rs_statement.specs.Sequence.{then_step};
+ghost use Rattle.rs_events.specs.Sequence.{then_step};
 ghost use Rattle.rs_statement.specs.Statements.{or_bind_fault, query_step, refused_or};
 ghost use Rattle.rs_statement.specs.declared.evaluating.Evaluating.TheVariants.{Planned};
-ghost use Rattle.rs_statement.specs.World.{World};
+ghost use Rattle.rs_events.specs.Environment.{Environment};
 
 use crate::fault::Fault;
 use crate::planning::start_planned;
@@ -43,7 +43,7 @@ pub fn run_planned<S: Scorer, O: Sink>(
 ) -> Result<(), Fault>
     requires written { IsWrittenQuery (query_of select.now) }
     requires held { AreHeld (S.state scorer.old).answer catalog.now }
-    ensures { (beside : World) → Stepped
+    ensures { (beside : Environment) → Stepped
         (λ step. step ≡ refused_or (query_step (Planned seed) (S.state scorer.old).answer catalog.now) (or_bind_fault (bound_query catalog.now (query_of select.now))))
         catalog.now result
         (record beside { scorer = S.state scorer.old; out = O.state out.old }) (record beside { scorer = S.state scorer.new; out = O.state out.new }) }
@@ -64,7 +64,7 @@ fn put_all<S: Scorer, O: Sink>(
     out: &mut O,
 ) -> Result<(), Fault>
     requires stands { StandsFor catalog.now (S.state scorer.old).answer cursor.old }
-    ensures { (beside : World) → Stepped (λ step. step ≡ left_of catalog.now (S.state scorer.old).answer cursor.old) catalog.now result
+    ensures { (beside : Environment) → Stepped (λ step. step ≡ left_of catalog.now (S.state scorer.old).answer cursor.old) catalog.now result
         (record beside { scorer = S.state scorer.old; out = O.state out.old }) (record beside { scorer = S.state scorer.new; out = O.state out.new }) }
 {
     let mut lines = RowLines::new(alloc);
@@ -81,7 +81,7 @@ pub fn put_next<S: Scorer, O: Sink>(
     out: &mut O,
 ) -> Result<bool, Fault>
     requires stands { StandsFor catalog.now (S.state scorer.old).answer cursor.old }
-    ensures puts { (beside : World) → Stepped (λ step. step ≡ call_step catalog.now (S.state scorer.old).answer cursor.old) catalog.now (without_value result)
+    ensures puts { (beside : Environment) → Stepped (λ step. step ≡ call_step catalog.now (S.state scorer.old).answer cursor.old) catalog.now (without_value result)
         (record beside { scorer = S.state scorer.old; out = O.state out.old }) (record beside { scorer = S.state scorer.new; out = O.state out.new }) }
     ensures more { result ≡ Ok true → IsAt cursor.old.query (plan_of cursor.old) (suc (asks_of cursor.old)) cursor.new }
     ensures count { IfOk result (λ _. IsAt cursor.old.query (plan_of cursor.old)

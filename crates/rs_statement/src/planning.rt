@@ -14,7 +14,7 @@ ghost use Rattle.rs_statement.specs.Parts.Asks.{IsAt, NamesSampled, without_valu
 ghost use Rattle.rs_statement.specs.Parts.Steps.{Stepped};
 ghost use Rattle.rs_statement.specs.Planned.{cards_for, plan_for};
 ghost use Rattle.rs_statement.specs.Sampled.{sample_fault, sample_step};
-ghost use Rattle.rs_statement.specs.World.{World};
+ghost use Rattle.rs_events.specs.Environment.{Environment};
 
 use crate::fault::Fault;
 use crate::query::failed_call;
@@ -39,7 +39,7 @@ pub fn take_sample<S: Scorer>(
     scorer: &mut S,
 ) -> Result<Cards, Fault>
     requires { IsQuery catalog.now query.now }
-    ensures calls { (beside : World) → Stepped (λ step. step ≡ sample_step catalog.now seed query.now) catalog.now (without_value result)
+    ensures calls { (beside : Environment) → Stepped (λ step. step ≡ sample_step catalog.now seed query.now) catalog.now (without_value result)
         (record beside { scorer = S.state scorer.old }) (record beside { scorer = S.state scorer.new }) }
     ensures cards { IfOk result (λ cards. AllSayTheSame (cards_of cards) (cards_for (S.state scorer.old).answer catalog.now seed query.now)) }
     ensures own { IfOk result (λ cards. AreCards query.now (cards_of cards)) }
@@ -90,7 +90,7 @@ pub fn start_planned<S: Scorer>(
 ) -> Result<Cursor, Fault>
     requires formed { IsQuery catalog.now query }
     requires held { AreHeld (S.state scorer.old).answer catalog.now }
-    ensures calls { (beside : World) → Stepped (λ step. step ≡ sample_step catalog.now seed query) catalog.now (without_value result)
+    ensures calls { (beside : Environment) → Stepped (λ step. step ≡ sample_step catalog.now seed query) catalog.now (without_value result)
         (record beside { scorer = S.state scorer.old }) (record beside { scorer = S.state scorer.new }) }
     ensures starts { IfOk result (IsAt query (plan_for (S.state scorer.old).answer catalog.now seed query) 0) }
     ensures stands { IfOk result (StandsFor catalog.now (S.state scorer.old).answer) }

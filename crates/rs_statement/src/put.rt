@@ -1,12 +1,14 @@
 ghost use Rattle.std.specs.Prelude.{[], ◌∷◌, suc};
 ghost use Rattle.rs_lines.specs.Row.{line_of};
 ghost use Rattle.rs_statement.specs.Lines.{rank_lines};
-ghost use Rattle.rs_statement.specs.Parts.Steps.{Ran, lines_run};
-ghost use Rattle.rs_statement.specs.World.{World};
+ghost use Rattle.rs_statement.specs.Parts.Steps.{Ran};
+ghost use Rattle.rs_events.specs.Run.{lines_run};
+ghost use Rattle.rs_events.specs.Environment.{Environment};
 
 use crate::fault::Fault;
+use rs_events::put_text;
 use rs_lines::RowLines;
-use rs_outside::{Sink, SinkFault};
+use rs_outside::Sink;
 use rs_rank::Answer;
 use std::alloc::Global;
 
@@ -17,7 +19,7 @@ pub fn put_rows<O: Sink>(
     rows: &[Answer],
     out: &mut O,
 ) -> Result<(), Fault>
-    ensures { (beside : World) → Ran (lines_run (rank_lines (suc given) rows.now)) result
+    ensures { (beside : Environment) → Ran (lines_run (rank_lines (suc given) rows.now)) result
         (record beside { out = O.state out.old }) (record beside { out = O.state out.new }) }
 {
     let mut lines = RowLines::new(alloc);
@@ -34,20 +36,9 @@ pub fn put_row<O: Sink>(
     row: &Answer,
     out: &mut O,
 ) -> Result<(), Fault>
-    ensures { (beside : World) → Ran (lines_run (line_of rank row.now.score row.now.values ∷ [])) result
+    ensures { (beside : Environment) → Ran (lines_run (line_of rank row.now.score row.now.values ∷ [])) result
         (record beside { out = O.state out.old }) (record beside { out = O.state out.new }) }
 {
     let line = lines.line(rank, row.score, row.values.items())?;
     put_text(line, out)
-}
-
-/// Puts text on standard output, in one put.
-pub fn put_text<O: Sink>(text: &[u8], out: &mut O) -> Result<(), Fault>
-    ensures { (beside : World) → Ran (lines_run (text.now ∷ [])) result (record beside { out = O.state out.old }) (record beside { out = O.state out.new }) }
-{
-    match out.put(text) {
-        Ok(()) => Ok(()),
-        Err(SinkFault::Failed) => Err(Fault::Write),
-        Err(SinkFault::Memory) => Err(Fault::Memory),
-    }
 }

@@ -8,7 +8,7 @@ ghost use Rattle.rs_syntax.specs.Written.{IsWrittenQuery};
 ghost use Rattle.rs_statement.specs.Parts.Steps.{Leaves, Stepped};
 ghost use Rattle.rs_statement.specs.declared.evaluating.Evaluating.TheVariants.{Plainly};
 ghost use Rattle.rs_statement.specs.Statements.{explain_outcome, or_bind_fault, query_fault, query_step, refused_or};
-ghost use Rattle.rs_statement.specs.World.{World};
+ghost use Rattle.rs_events.specs.Environment.{Environment};
 
 use crate::fault::Fault;
 use crate::put::put_rows;
@@ -30,7 +30,7 @@ pub fn run_query<S: Scorer, O: Sink>(
     out: &mut O,
 ) -> Result<(), Fault>
     requires written { IsWrittenQuery (query_of select.now) }
-    ensures { (beside : World) → Stepped
+    ensures { (beside : Environment) → Stepped
         (λ step. step ≡ refused_or (query_step Plainly (S.state scorer.old).answer catalog.now) (or_bind_fault (bound_query catalog.now (query_of select.now))))
         catalog.now result
         (record beside { scorer = S.state scorer.old; out = O.state out.old }) (record beside { scorer = S.state scorer.new; out = O.state out.new }) }

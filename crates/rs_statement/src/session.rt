@@ -13,10 +13,11 @@ ghost use Rattle.rs_query.specs.WellFormed.{IsQuery};
 ghost use Rattle.rs_statement.specs.declared.evaluating.Evaluating.TheVariants.{Plainly, Planned};
 ghost use Rattle.rs_statement.specs.Lines.{rank_lines};
 ghost use Rattle.rs_statement.specs.Parts.Session.{CanAllBeAsked, CanBeAsked, IsAskedMore, asked_of, cursors_of, held_in, next_of, next_of_cursor, rows_step, source_of, state_of, wanted_step};
-ghost use Rattle.rs_statement.specs.Parts.Steps.{Leaves, Ran, Stepped, lines_run};
+ghost use Rattle.rs_statement.specs.Parts.Steps.{Leaves, Ran, Stepped};
+ghost use Rattle.rs_events.specs.Run.{lines_run};
 ghost use Rattle.rs_statement.specs.Session.{close_outcome, declare_step, declared_query, fetch_step, fetched_from, next_rows, opened_step, room_for_cursor};
 ghost use Rattle.rs_statement.specs.Statements.{refused_or};
-ghost use Rattle.rs_statement.specs.World.{World};
+ghost use Rattle.rs_events.specs.Environment.{Environment};
 
 use crate::evaluating::Evaluating;
 use crate::fault::{Fault, SessionFault};
@@ -87,7 +88,7 @@ pub fn declare<S: Scorer>(
     requires written { IsWrittenQuery (query_of select.now) }
     requires held { AreHeld (S.state scorer.old).answer catalog.now }
     requires asked { CanAllBeAsked (S.state scorer.old).answer catalog.now (held_in session.old) }
-    ensures opens { (beside : World) → Stepped
+    ensures opens { (beside : Environment) → Stepped
         (λ step. step ≡ declare_step evaluating (S.state scorer.old).answer (state_of catalog.now (held_in session.old)) name.now (query_of select.now))
         (state_of catalog.now (held_in session.new)) result
         (record beside { scorer = S.state scorer.old }) (record beside { scorer = S.state scorer.new }) }
@@ -112,7 +113,7 @@ fn declare_ready<S: Scorer>(
 ) -> Result<(), Fault>
     requires written { IsWrittenQuery (query_of select.now) }
     requires asked { CanAllBeAsked (S.state scorer.old).answer catalog.now (held_in session.old) }
-    ensures opens { (beside : World) → Stepped
+    ensures opens { (beside : Environment) → Stepped
         (λ step. step ≡ refused_or (opened_step Plainly (S.state scorer.old).answer name.now.text (state_of catalog.now (held_in session.old)))
         (declared_query (state_of catalog.now (held_in session.old)) name.now (query_of select.now)))
         (state_of catalog.now (held_in session.new)) result
@@ -143,7 +144,7 @@ fn declare_planned<S: Scorer>(
     requires written { IsWrittenQuery (query_of select.now) }
     requires held { AreHeld (S.state scorer.old).answer catalog.now }
     requires asked { CanAllBeAsked (S.state scorer.old).answer catalog.now (held_in session.old) }
-    ensures opens { (beside : World) → Stepped
+    ensures opens { (beside : Environment) → Stepped
         (λ step. step ≡ refused_or (opened_step (Planned seed) (S.state scorer.old).answer name.now.text (state_of catalog.now (held_in session.old)))
         (declared_query (state_of catalog.now (held_in session.old)) name.now (query_of select.now)))
         (state_of catalog.now (held_in session.new)) result
@@ -243,7 +244,7 @@ pub fn fetch<S: Scorer, O: Sink>(
     out: &mut O,
 ) -> Result<(), Fault>
     requires { CanAllBeAsked (S.state scorer.old).answer catalog.now (held_in session.old) }
-    ensures puts { (beside : World) → Stepped
+    ensures puts { (beside : Environment) → Stepped
         (λ step. step ≡ fetch_step (S.state scorer.old).answer (state_of catalog.now (held_in session.old)) count.now name.now)
         (state_of catalog.now (held_in session.new)) result
         (record beside { scorer = S.state scorer.old; out = O.state out.old }) (record beside { scorer = S.state scorer.new; out = O.state out.new }) }
@@ -266,7 +267,7 @@ fn fetch_rows<S: Scorer, O: Sink>(
     out: &mut O,
 ) -> Result<(), Fault>
     requires { CanBeAsked (S.state scorer.old).answer catalog.now held.old }
-    ensures puts { (beside : World) → Stepped
+    ensures puts { (beside : Environment) → Stepped
         (λ step. step ≡ rows_step catalog.now (S.state scorer.old).answer held.old count) catalog.now result
         (record beside { scorer = S.state scorer.old; out = O.state out.old }) (record beside { scorer = S.state scorer.new; out = O.state out.new }) }
     ensures source { IfOk result (λ _. source_of held.new ≡ source_of held.old) }
@@ -289,7 +290,7 @@ fn fetch_asked<S: Scorer, O: Sink>(
     out: &mut O,
 ) -> Result<(), Fault>
     requires { StandsFor catalog.now (S.state scorer.old).answer cursor.old }
-    ensures puts { (beside : World) → Stepped (λ step. step ≡ wanted_step catalog.now (S.state scorer.old).answer cursor.old count) catalog.now result
+    ensures puts { (beside : Environment) → Stepped (λ step. step ≡ wanted_step catalog.now (S.state scorer.old).answer cursor.old count) catalog.now result
         (record beside { scorer = S.state scorer.old; out = O.state out.old }) (record beside { scorer = S.state scorer.new; out = O.state out.new }) }
     ensures count { IfOk result (λ _. IsAskedMore cursor.old (next_of_cursor catalog.now (S.state scorer.old).answer cursor.old count) cursor.new) }
     ensures stands { IfOk result (λ _. StandsFor catalog.now (S.state scorer.old).answer cursor.new) }
@@ -312,7 +313,7 @@ fn fetch_ready<O: Sink>(
     out: &mut O,
 ) -> Result<(), Fault>
     requires { given.old ≤ length rows.now }
-    ensures puts { (beside : World) → Ran (lines_run (rank_lines (suc given.old) (take (next_rows rows.now given.old count) (drop given.old rows.now)))) result
+    ensures puts { (beside : Environment) → Ran (lines_run (rank_lines (suc given.old) (take (next_rows rows.now given.old count) (drop given.old rows.now)))) result
         (record beside { out = O.state out.old }) (record beside { out = O.state out.new }) }
     ensures count { IfOk result (λ _. given.new ≡ given.old + next_rows rows.now given.old count) }
 {

@@ -1,16 +1,14 @@
 -- What a command asks for, as its words say it.
-use Rattle.std.specs.Prelude.{Option, Some, None}
 use Rattle.rs_run.specs.declared.words.TopCommand.{TopCommand}
 use Rattle.rs_run.specs.declared.words.Command.{Command}
 use Rattle.rs_run.specs.declared.words.Command.TheVariants as command
-use Rattle.rs_run.specs.Words.{Form, NoForm, RunGenerated, RunScript, Top, TopWords}
+use Rattle.rs_run.specs.Words.{Form, RunGenerated, RunScript, Top, TopWords}
 
 abbrev pub words_of : TopCommand → TopWords
 words_of top = record { file = top.file.now; column = top.column.now; max = top.max; count = top.count }
 
 -- the form that a command is of
-abbrev pub form_of_command : Option Command → Form
-form_of_command None = NoForm
-form_of_command (Some (command.Top top)) = Top (words_of top)
-form_of_command (Some (command.RunScript script evaluating)) = RunScript script.now evaluating
-form_of_command (Some (command.RunGenerated number rows)) = RunGenerated number rows
+abbrev pub form_of_command : Command → Form
+form_of_command (command.Top top) = Top (words_of top)
+form_of_command (command.RunScript script evaluating) = RunScript script.now evaluating
+form_of_command (command.RunGenerated number rows) = RunGenerated number rows

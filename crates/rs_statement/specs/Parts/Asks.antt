@@ -14,7 +14,7 @@ use Rattle.rs_sample.specs.declared.fault.SampleFault.{SampleFault}
 use Rattle.rs_sample.specs.declared.fault.SampleFault.TheVariants as sample
 use Rattle.rs_statement.specs.declared.fault.Fault.{Fault}
 use Rattle.rs_statement.specs.Planned.{ask_count, asked_step, asks_from, asks_in_all}
-use Rattle.rs_statement.specs.Sequence.{Step}
+use Rattle.rs_statement.specs.Steps.{Step}
 
 -- what is left of the asks of a plan after so many
 abbrev pub asks_left : World → PlanTree → ℕ → Step Catalogue

@@ -12,7 +12,8 @@ use Rattle.rs_statement.specs.declared.session.Session.{Session}
 use Rattle.rs_statement.specs.Parts.Asks.{IsAt}
 use Rattle.rs_statement.specs.Planned.{asks_from, next_asks}
 use Rattle.rs_statement.specs.Lines.{rank_lines}
-use Rattle.rs_statement.specs.Sequence.{Step, lines_step}
+use Rattle.rs_statement.specs.Steps.{Step}
+use Rattle.rs_events.specs.Sequence.{lines_step}
 use Rattle.rs_statement.specs.Session.{ByPlan, OpenCursor, Ready, Source, State, next_rows}
 
 -- the open cursors by name, as a session keeps them

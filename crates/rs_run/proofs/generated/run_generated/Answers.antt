@@ -2,9 +2,9 @@ use Rattle.std.proofs.Common.{ap, inr, refl}
 use Rattle.rs_outside.specs.MemFiles.{files_state}
 use Rattle.rs_value.proofs.ResultFacts.{given-err}
 use Rattle.rs_statement.specs.declared.fault.Fault.TheVariants.{Memory}
-use Rattle.rs_statement.specs.Run.{fails}
+use Rattle.rs_events.specs.Run.{fails}
 use Rattle.rs_run.proofs.GeneratedFacts.{Runs-generated}
-use Rattle.rs_statement.proofs.RanFacts.{Ran-first}
+use Rattle.rs_events.proofs.RanFacts.{Ran-first}
 use Rattle.rs_run.proofs.generated.run_generated.Goals as goal
 
 -- there was no memory for the name, or for the files

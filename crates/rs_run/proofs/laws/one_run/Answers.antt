@@ -1,6 +1,6 @@
 use Rattle.std.specs.Prelude.{Some}
-use Rattle.rs_statement.specs.Run.{finds_in, found_in}
-use Rattle.rs_statement.proofs.OneStep.{found-one, told-one}
+use Rattle.rs_events.specs.Events.{finds_in, found_in}
+use Rattle.rs_events.proofs.OneRun.{found-one, told-one}
 use Rattle.rs_run.proofs.OneRun.{IsRun-one}
 use Rattle.rs_run.proofs.laws.one_run.Goals as goal
 

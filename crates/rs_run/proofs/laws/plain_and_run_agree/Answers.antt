@@ -1,6 +1,6 @@
 use Rattle.std.specs.Prelude.{Some}
-use Rattle.rs_statement.specs.Run.{finds_in, found_in}
-use Rattle.rs_statement.proofs.OneStep.{found-one, told-one}
+use Rattle.rs_events.specs.Events.{finds_in, found_in}
+use Rattle.rs_events.proofs.OneRun.{found-one, told-one}
 use Rattle.rs_statement.proofs.SameFetches.{AskTheSame}
 use Rattle.rs_run.proofs.SameScripts.{alike-scripts}
 use Rattle.rs_run.proofs.laws.plain_and_run_agree.Goals as goal

@@ -2,7 +2,7 @@ use Rattle.std.proofs.Common.{subst, sym}
 use Rattle.rs_syntax.specs.Syntax.{commands_of}
 use Rattle.rs_syntax.specs.Written.{AreWritten}
 use Rattle.rs_statement.specs.Parts.Steps.{Runs}
-use Rattle.rs_statement.specs.Run.{finds_in}
+use Rattle.rs_events.specs.Events.{finds_in}
 use Rattle.rs_statement.specs.Session.{StatementsRun}
 use Rattle.rs_run.proofs.TextFacts.{HasTokens-slice, Text-runs, Text-unlexed, Text-unparsed}
 use Rattle.rs_run.proofs.plain.run_text.Goals as goal

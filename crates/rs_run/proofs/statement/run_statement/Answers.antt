@@ -1,13 +1,13 @@
 use Rattle.rs_syntax.specs.Syntax.{command_of, query_of}
 use Rattle.rs_catalog.specs.Held.{AreHeld}
 use Rattle.rs_statement.specs.Parts.Session.{CanAllBeAsked, held_in, state_of}
-use Rattle.rs_statement.specs.Run.{finds_in}
+use Rattle.rs_events.specs.Events.{finds_in}
 use Rattle.rs_statement.specs.Session.{DoesInSession, close_outcome, declare_step, fetch_step}
 use Rattle.rs_statement.specs.Statements.{Does}
-use Rattle.rs_statement.specs.World.{world}
+use Rattle.rs_events.specs.Environment.{environment}
 use Rattle.rs_statement.proofs.HeldSteps.{asked-step, held-step}
 use Rattle.rs_statement.proofs.SessionSteps.{Stepped-beside, does-close, does-declare, does-fetch, if-ok, if-stepped, of_no_cursor}
-use Rattle.rs_statement.proofs.SteppedFacts.{Stepped-is, Stepped-still}
+use Rattle.rs_events.proofs.SteppedFacts.{Stepped-is, Stepped-still}
 use Rattle.rs_run.proofs.statement.run_statement.Goals as goal
 
 pub declare-requires : goal.declare-requires
@@ -77,8 +77,8 @@ returns-in_default g c =
     let entries = held_in c.args.session.now in
     let command = command_of c.args.statement.now in
     let next = c.run_without_cursor.new.catalog in
-    let at = world (g.F.Files.state c.args.files.now) (g.S.Scorer.state c.args.scorer.now) (g.O.Sink.state c.args.out.now) (g.O.Sink.state c.args.out.now) in
-    let then = world (g.F.Files.state c.run_without_cursor.new.files) (g.S.Scorer.state c.run_without_cursor.new.scorer) (g.O.Sink.state c.run_without_cursor.new.out) (g.O.Sink.state c.args.out.now) in
+    let at = environment (g.F.Files.state c.args.files.now) (g.S.Scorer.state c.args.scorer.now) (g.O.Sink.state c.args.out.now) (g.O.Sink.state c.args.out.now) in
+    let then = environment (g.F.Files.state c.run_without_cursor.new.files) (g.S.Scorer.state c.run_without_cursor.new.scorer) (g.O.Sink.state c.run_without_cursor.new.out) (g.O.Sink.state c.args.out.now) in
     let larger = c.cursors_stand_in_larger_catalogues.ensures in record {
       does = λ beside. Stepped-beside finds answer c.args.evaluating (state_of catalogue entries) command next c.run_without_cursor.result
           (record beside { files = g.F.Files.state c.args.files.now; scorer = g.S.Scorer.state c.args.scorer.now; out = g.O.Sink.state c.args.out.now })

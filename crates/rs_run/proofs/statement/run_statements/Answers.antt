@@ -2,11 +2,11 @@ use Rattle.std.proofs.Common.{◌≡◌, refl, sym, subst, suc, ◌+◌, drop, a
 use Rattle.std.specs.Prelude.{Err, Ok}
 use Rattle.rs_syntax.specs.Syntax.{command_of, commands_of}
 use Rattle.rs_catalog.specs.Held.{AreHeld}
-use Rattle.rs_statement.specs.Run.{finds_in}
+use Rattle.rs_events.specs.Events.{finds_in}
 use Rattle.rs_statement.specs.Parts.Session.{CanAllBeAsked, cursors_of, held_in, state_of}
 use Rattle.rs_statement.specs.Session.{DoesInSession, nothing}
-use Rattle.rs_statement.specs.World.{world}
-use Rattle.rs_statement.proofs.LoopFacts.{Between, Between-next, Between-start, Runs-all, Runs-stops, drop-all, drop-at}
+use Rattle.rs_events.specs.Environment.{environment}
+use Rattle.rs_events.proofs.LoopFacts.{Between, Between-next, Between-start, Runs-all, Runs-stops, drop-all, drop-at}
 use Rattle.rs_statement.proofs.StatementFacts.{Stepped-first, some-step, written-at}
 use Rattle.rs_run.proofs.statement.run_statements.Goals as goal
 
@@ -28,7 +28,7 @@ loop-statement-init g c =
 
 pub run_statement-requires : goal.run_statement-requires
 run_statement-requires g c =
-    let at = world (g.F.Files.state c.loop-statement.files) (g.S.Scorer.state c.loop-statement.scorer) (g.O.Sink.state c.loop-statement.out) (g.O.Sink.state c.loop-statement.out) in record {
+    let at = environment (g.F.Files.state c.loop-statement.files) (g.S.Scorer.state c.loop-statement.scorer) (g.O.Sink.state c.loop-statement.out) (g.O.Sink.state c.loop-statement.out) in record {
       written = written-at c.args.statements.now c.loop-statement.statement-index c.statement-item.result c.loop-statement-test.true c.statement-item.is c.requires.written;
       held = subst (λ answer. AreHeld answer c.loop-statement.catalog) (sym (c.loop-statement.invariant.between at).has.keeps.scorer.answer) c.loop-statement.invariant.held;
       asked = subst (λ answer. CanAllBeAsked answer c.loop-statement.catalog (held_in c.loop-statement.session)) (sym (c.loop-statement.invariant.between at).has.keeps.scorer.answer) c.loop-statement.invariant.asked;
@@ -60,9 +60,9 @@ loop-statement-preserved g c = record {
       (record beside { files = g.F.Files.state c.loop-statement.files; scorer = g.S.Scorer.state c.loop-statement.scorer; out = g.O.Sink.state c.loop-statement.out }) (record beside { files = g.F.Files.state c.run_statement.new.files; scorer = g.S.Scorer.state c.run_statement.new.scorer; out = g.O.Sink.state c.run_statement.new.out })
       (c.loop-statement.invariant.between beside).has (c.in-Ok.ensures.does beside));
   statements_same = refl;
-  held = (let at = world (g.F.Files.state c.loop-statement.files) (g.S.Scorer.state c.loop-statement.scorer) (g.O.Sink.state c.loop-statement.out) (g.O.Sink.state c.loop-statement.out) in
+  held = (let at = environment (g.F.Files.state c.loop-statement.files) (g.S.Scorer.state c.loop-statement.scorer) (g.O.Sink.state c.loop-statement.out) (g.O.Sink.state c.loop-statement.out) in
       subst (λ answer. AreHeld answer c.run_statement.new.catalog) (c.loop-statement.invariant.between at).has.keeps.scorer.answer c.in-Ok.ensures.held);
-  asked = (let at = world (g.F.Files.state c.loop-statement.files) (g.S.Scorer.state c.loop-statement.scorer) (g.O.Sink.state c.loop-statement.out) (g.O.Sink.state c.loop-statement.out) in
+  asked = (let at = environment (g.F.Files.state c.loop-statement.files) (g.S.Scorer.state c.loop-statement.scorer) (g.O.Sink.state c.loop-statement.out) (g.O.Sink.state c.loop-statement.out) in
       subst (λ answer. CanAllBeAsked answer c.run_statement.new.catalog (held_in c.run_statement.new.session)) (c.loop-statement.invariant.between at).has.keeps.scorer.answer
       c.in-Ok.ensures.asked);
 }

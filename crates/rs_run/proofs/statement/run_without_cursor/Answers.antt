@@ -1,9 +1,9 @@
 use Rattle.std.proofs.Common.{◌∙◌}
 use Rattle.rs_syntax.specs.Syntax.{command_of, query_of}
-use Rattle.rs_statement.specs.Run.{finds_in}
+use Rattle.rs_events.specs.Events.{finds_in}
 use Rattle.rs_statement.specs.Statements.{Does, analyze_step, explain_step, predicate_outcome, select_step}
 use Rattle.rs_statement.proofs.StepFacts.{Does-analyze, Does-explain, Does-index, Does-predicate, Does-query, Does-table, of_a_kind}
-use Rattle.rs_statement.proofs.SteppedFacts.{Stepped-is, Stepped-map, Stepped-still}
+use Rattle.rs_events.proofs.SteppedFacts.{Stepped-is, Stepped-map, Stepped-still}
 use Rattle.rs_run.proofs.statement.run_without_cursor.Goals as goal
 
 pub returns-in-CreateTable : goal.returns-in-CreateTable

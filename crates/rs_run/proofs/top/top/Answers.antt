@@ -1,7 +1,8 @@
 use Rattle.std.proofs.Common.{subst}
 use Rattle.rs_value.proofs.ResultFacts.{given-err}
 use Rattle.rs_statement.specs.Lines.{rank_lines}
-use Rattle.rs_statement.specs.Parts.Steps.{Ran, lines_run}
+use Rattle.rs_statement.specs.Parts.Steps.{Ran}
+use Rattle.rs_events.specs.Run.{lines_run}
 use Rattle.rs_run.proofs.RunFacts.{RanTop-no_table, RanTop-ranked, RanTop-unranked}
 use Rattle.rs_run.proofs.top.top.Goals as goal
 

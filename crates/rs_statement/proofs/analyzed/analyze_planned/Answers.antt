@@ -12,17 +12,18 @@ use Rattle.rs_enum.specs.Texts.{text_of}
 use Rattle.rs_exec.specs.Asking.{world_of}
 use Rattle.rs_catalog.specs.Held.{AreHeld}
 use Rattle.rs_statement.specs.declared.fault.Fault.TheVariants.{Memory}
-use Rattle.rs_statement.specs.Parts.Steps.{Ran, lines_run}
+use Rattle.rs_statement.specs.Parts.Steps.{Ran}
+use Rattle.rs_events.specs.Run.{lines_run}
 use Rattle.rs_statement.specs.Planned.{asks_in_all, cards_for, plan_for, planned_step}
-use Rattle.rs_statement.specs.Sequence.{silent}
+use Rattle.rs_events.specs.Sequence.{silent}
 use Rattle.rs_statement.specs.Statements.{analyzed_step, bind_fault, or_bind_fault}
-use Rattle.rs_statement.specs.World.{world}
+use Rattle.rs_events.specs.Environment.{environment}
 use Rattle.rs_statement.proofs.AnalyzeSteps.{analyzed_lines, analyzing, same-asks}
 use Rattle.rs_statement.proofs.QuerySteps.{Gives-bound, Gives-unbound}
 use Rattle.rs_statement.proofs.SampleSteps.{Sampled-broken, Sampled-then, Stepped-then}
-use Rattle.rs_statement.proofs.SoFar.{Stepped-broken}
+use Rattle.rs_events.proofs.SoFar.{Stepped-broken}
 use Rattle.rs_statement.proofs.StepFacts.{Stepped-refused}
-use Rattle.rs_statement.proofs.SteppedFacts.{Stepped-lines, Stepped-no_memory}
+use Rattle.rs_events.proofs.SteppedFacts.{Stepped-lines, Stepped-no_memory}
 use Rattle.rs_statement.proofs.analyzed.analyze_planned.Goals as goal
 
 pub returns-in_err-query : goal.returns-in_err-query
@@ -61,7 +62,7 @@ returns-in-Err-choose_plan g c = λ beside.
 
 pub asked_text-told-requires : goal.asked_text-told-requires
 asked_text-told-requires g c =
-    let at = world (untold 0) (g.S.Scorer.state c.args.scorer.now) (untold 0) (untold 0) in record {
+    let at = environment (untold 0) (g.S.Scorer.state c.args.scorer.now) (untold 0) (untold 0) in record {
       query = c.in_ok-query.ensures.formed;
       cards = c.in-Ok.ensures.own;
       plan = c.in-Ok-choose_plan.ensures.plan;

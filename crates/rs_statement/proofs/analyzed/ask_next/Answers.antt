@@ -2,13 +2,14 @@ use Rattle.std.proofs.Common.{◌≡◌, [], refl, suc, subst, sym}
 use Rattle.std.specs.Prelude.{Ok, Err}
 use Rattle.rs_exec.specs.Cursors.{asks_of, call_of}
 use Rattle.rs_exec.specs.declared.fault.ExecFault.TheVariants as exec
-use Rattle.rs_statement.specs.Parts.Steps.{Stepped, lines_run}
+use Rattle.rs_statement.specs.Parts.Steps.{Stepped}
+use Rattle.rs_events.specs.Run.{lines_run}
 use Rattle.rs_statement.specs.Planned.{ask_fault, ask_outcome, given_lines}
 use Rattle.rs_statement.proofs.AnalyzeSteps.{silent-inquiry}
 use Rattle.rs_statement.proofs.CursorSteps.{answered, probes-call}
-use Rattle.rs_statement.proofs.InquirySteps.{Stepped-asked, Stepped-unasked}
+use Rattle.rs_events.proofs.InquirySteps.{Stepped-asked, Stepped-unasked}
 use Rattle.rs_statement.proofs.NamedFacts.{names-call}
-use Rattle.rs_statement.proofs.RanFacts.{HasDone-none, Ran-all}
+use Rattle.rs_events.proofs.RanFacts.{HasDone-none, Ran-all}
 use Rattle.rs_statement.proofs.analyzed.ask_next.Goals as goal
 
 pub ask_fault-requires : goal.ask_fault-requires

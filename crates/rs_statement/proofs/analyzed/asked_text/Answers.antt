@@ -9,10 +9,10 @@ use Rattle.rs_exec.proofs.HeldFacts.{held-plan}
 use Rattle.rs_statement.specs.declared.fault.Fault.TheVariants.{Memory}
 use Rattle.rs_statement.specs.Parts.Asks.{without_value}
 use Rattle.rs_statement.specs.Planned.{planned_step}
-use Rattle.rs_statement.specs.Sequence.{silent}
+use Rattle.rs_events.specs.Sequence.{silent}
 use Rattle.rs_statement.proofs.AnalyzeSteps.{silent-then, text-started}
 use Rattle.rs_statement.proofs.LeftSteps.{Left-new}
-use Rattle.rs_statement.proofs.SteppedFacts.{Stepped-no_memory}
+use Rattle.rs_events.proofs.SteppedFacts.{Stepped-no_memory}
 use Rattle.rs_statement.proofs.analyzed.asked_text.Goals as goal
 
 pub start-requires : goal.start-requires

@@ -11,7 +11,7 @@ use Rattle.rs_exec.specs.Asking.{world_of}
 use Rattle.rs_exec.specs.Cursors.{plan_of}
 use Rattle.rs_statement.specs.declared.fault.Fault.TheVariants.{Memory}
 use Rattle.rs_statement.specs.Parts.Asks.{left_of, most_asks}
-use Rattle.rs_statement.specs.Sequence.{silent}
+use Rattle.rs_events.specs.Sequence.{silent}
 use Rattle.rs_statement.proofs.AnalyzeSteps.{Stepped-late}
 use Rattle.rs_statement.proofs.CountSteps.{counts-at, length-counts}
 use Rattle.rs_statement.proofs.analyzed.told_text.Goals as goal

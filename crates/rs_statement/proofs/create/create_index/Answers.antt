@@ -8,7 +8,7 @@ use Rattle.rs_statement.specs.Faults.{index_fault}
 use Rattle.rs_statement.specs.Statements.{index_step, refused_or, with_room}
 use Rattle.rs_statement.proofs.IndexSteps.{Index-made, Index-unmade, name-for}
 use Rattle.rs_statement.proofs.StepFacts.{Stepped-bound, Stepped-refused}
-use Rattle.rs_statement.proofs.SteppedFacts.{Stepped-no_memory}
+use Rattle.rs_events.proofs.SteppedFacts.{Stepped-no_memory}
 use Rattle.rs_statement.proofs.create.create_index.Goals as goal
 
 pub returns-in_err-def : goal.returns-in_err-def

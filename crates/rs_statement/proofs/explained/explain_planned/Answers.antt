@@ -9,14 +9,16 @@ use Rattle.rs_plan.specs.Shapes.{tree_of}
 use Rattle.rs_sample.specs.Kept.{cards_of}
 use Rattle.rs_enum.specs.Texts.{text_of}
 use Rattle.rs_statement.specs.declared.fault.Fault.TheVariants.{Memory}
-use Rattle.rs_statement.specs.Parts.Steps.{Ran, lines_run}
+use Rattle.rs_statement.specs.Parts.Steps.{Ran}
+use Rattle.rs_events.specs.Run.{lines_run}
 use Rattle.rs_statement.specs.Planned.{cards_for, plan_for}
-use Rattle.rs_statement.specs.Sequence.{Step, lines_step}
+use Rattle.rs_statement.specs.Steps.{Step}
+use Rattle.rs_events.specs.Sequence.{lines_step}
 use Rattle.rs_statement.specs.Statements.{bind_fault, explained_step, or_bind_fault}
 use Rattle.rs_statement.proofs.QuerySteps.{Gives-bound, Gives-unbound}
 use Rattle.rs_statement.proofs.SampleSteps.{Sampled-broken, Sampled-then}
 use Rattle.rs_statement.proofs.StepFacts.{Stepped-refused}
-use Rattle.rs_statement.proofs.SteppedFacts.{Stepped-lines, Stepped-no_memory}
+use Rattle.rs_events.proofs.SteppedFacts.{Stepped-lines, Stepped-no_memory}
 use Rattle.rs_statement.proofs.explained.explain_planned.Goals as goal
 
 pub returns-in_err-query : goal.returns-in_err-query

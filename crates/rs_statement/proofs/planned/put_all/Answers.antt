@@ -4,9 +4,9 @@ use Rattle.rs_value.specs.Outside.{untold}
 use Rattle.rs_value.proofs.ResultFacts.{given-err}
 use Rattle.rs_exec.specs.Cursors.{StandsFor}
 use Rattle.rs_statement.specs.Parts.Asks.{left_of}
-use Rattle.rs_statement.specs.World.{world}
+use Rattle.rs_events.specs.Environment.{environment}
 use Rattle.rs_statement.proofs.LeftSteps.{Left-broken, Left-ended, Left-more, as_they_are, fewer-asks}
-use Rattle.rs_statement.proofs.SoFar.{SoFar-start}
+use Rattle.rs_events.proofs.SoFar.{SoFar-start}
 use Rattle.rs_statement.proofs.planned.put_all.Goals as goal
 
 pub loop-lines-init : goal.loop-lines-init
@@ -18,7 +18,7 @@ loop-lines-init g c = record {
 
 pub put_next-requires : goal.put_next-requires
 put_next-requires g c =
-    let at = world (untold 0) (g.S.Scorer.state c.args.scorer.now) (g.O.Sink.state c.args.out.now) (g.O.Sink.state c.args.out.now) in
+    let at = environment (untold 0) (g.S.Scorer.state c.args.scorer.now) (g.O.Sink.state c.args.out.now) (g.O.Sink.state c.args.out.now) in
     record { stands = subst (λ answer. StandsFor c.args.catalog.now answer c.loop-lines.cursor) (sym (c.loop-lines.invariant.so_far at).has.keeps.scorer.answer) c.loop-lines.invariant.stands }
 
 pub returns-in_err-put_next : goal.returns-in_err-put_next
@@ -30,13 +30,13 @@ returns-in_err-put_next g c = λ beside. rw (given-err c.from_residual.result c.
 
 pub loop-lines-smaller : goal.loop-lines-smaller
 loop-lines-smaller g c =
-    let at = world (untold 0) (g.S.Scorer.state c.args.scorer.now) (g.O.Sink.state c.args.out.now) (g.O.Sink.state c.args.out.now) in
+    let at = environment (untold 0) (g.S.Scorer.state c.args.scorer.now) (g.O.Sink.state c.args.out.now) (g.O.Sink.state c.args.out.now) in
     fewer-asks c.args.catalog.now (g.S.Scorer.state c.args.scorer.now).answer c.loop-lines.cursor c.put_next.new.cursor (c.in_ok-put_next.ensures.more (ap Ok c.if-branch.true))
     (subst (λ answer. StandsFor c.args.catalog.now answer c.put_next.new.cursor) (c.loop-lines.invariant.so_far at).has.keeps.scorer.answer c.in_ok-put_next.ensures.stands)
 
 pub loop-lines-preserved : goal.loop-lines-preserved
 loop-lines-preserved g c =
-    let at = world (untold 0) (g.S.Scorer.state c.args.scorer.now) (g.O.Sink.state c.args.out.now) (g.O.Sink.state c.args.out.now) in record {
+    let at = environment (untold 0) (g.S.Scorer.state c.args.scorer.now) (g.O.Sink.state c.args.out.now) (g.O.Sink.state c.args.out.now) in record {
       so_far = λ beside. Left-more as_they_are (λ first rest. refl) c.args.catalog.now (g.S.Scorer.state c.args.scorer.now).answer (left_of c.args.catalog.now (g.S.Scorer.state c.args.scorer.now).answer c.args.cursor.now)
           c.loop-lines.cursor (record beside { scorer = g.S.Scorer.state c.args.scorer.now; out = g.O.Sink.state c.args.out.now })
           (record beside { scorer = g.S.Scorer.state c.loop-lines.scorer; out = g.O.Sink.state c.loop-lines.out })

@@ -5,12 +5,12 @@ use Rattle.rs_exec.specs.Asking.{world_of}
 use Rattle.rs_exec.specs.Cursors.{asks_after, asks_of, call_of, plan_of}
 use Rattle.rs_exec.specs.declared.fault.ExecFault.TheVariants as exec
 use Rattle.rs_statement.specs.Parts.Asks.{IsAt}
-use Rattle.rs_statement.specs.Parts.Steps.{lines_run}
+use Rattle.rs_events.specs.Run.{lines_run}
 use Rattle.rs_statement.specs.Planned.{ask_fault, ask_outcome, given_lines}
 use Rattle.rs_statement.proofs.CursorSteps.{Stepped-row, ended-call, given-call, over-call, probes-call}
-use Rattle.rs_statement.proofs.InquirySteps.{Stepped-asked, Stepped-unasked}
+use Rattle.rs_events.proofs.InquirySteps.{Stepped-asked, Stepped-unasked}
 use Rattle.rs_statement.proofs.NamedFacts.{names-call}
-use Rattle.rs_statement.proofs.RanFacts.{HasDone-none, Ran-all}
+use Rattle.rs_events.proofs.RanFacts.{HasDone-none, Ran-all}
 use Rattle.rs_statement.proofs.planned.put_next.Goals as goal
 
 pub rank_of-requires : goal.rank_of-requires

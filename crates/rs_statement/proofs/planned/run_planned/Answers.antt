@@ -8,7 +8,7 @@ use Rattle.rs_exec.specs.Cursors.{StandsFor}
 use Rattle.rs_statement.specs.declared.evaluating.Evaluating.TheVariants.{Planned}
 use Rattle.rs_statement.specs.Planned.{plan_for, planned_step}
 use Rattle.rs_statement.specs.Statements.{bind_fault, or_bind_fault, query_step}
-use Rattle.rs_statement.specs.World.{world}
+use Rattle.rs_events.specs.Environment.{environment}
 use Rattle.rs_statement.proofs.LeftSteps.{Left-new, as_they_are}
 use Rattle.rs_statement.proofs.QuerySteps.{Gives-bound, Gives-unbound}
 use Rattle.rs_statement.proofs.SampleSteps.{Sampled-broken, Sampled-then}
@@ -38,7 +38,7 @@ returns-in_err-cursor g c = λ beside.
 pub put_all-put-requires : goal.put_all-put-requires
 put_all-put-requires g c =
     let answer = (g.S.Scorer.state c.args.scorer.now).answer in
-    let at = world (untold 0) (g.S.Scorer.state c.args.scorer.now) (g.O.Sink.state c.args.out.now) (g.O.Sink.state c.args.out.now) in
+    let at = environment (untold 0) (g.S.Scorer.state c.args.scorer.now) (g.O.Sink.state c.args.out.now) (g.O.Sink.state c.args.out.now) in
     record {
       stands = subst (λ answer. StandsFor c.args.catalog.now answer c.in_ok-cursor.cursor) (sym (c.in_ok-cursor.ensures.calls at).ran.keeps.scorer.answer)
           c.in_ok-cursor.ensures.stands;

@@ -5,7 +5,7 @@ use Rattle.rs_plan.specs.Shapes.{tree_of}
 use Rattle.rs_statement.specs.Planned.{cards_for}
 use Rattle.rs_statement.specs.Sampled.{sample_step}
 use Rattle.rs_statement.specs.declared.fault.Fault.TheVariants.{Memory}
-use Rattle.rs_statement.proofs.SteppedFacts.{Stepped-cut}
+use Rattle.rs_events.proofs.SteppedFacts.{Stepped-cut}
 use Rattle.rs_statement.proofs.planning.start_planned.Goals as goal
 
 pub returns-in-Err : goal.returns-in-Err

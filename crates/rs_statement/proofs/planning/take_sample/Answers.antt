@@ -2,10 +2,10 @@ use Rattle.std.proofs.Common.{[], refl}
 use Rattle.std.specs.Prelude.{Ok}
 use Rattle.rs_sample.specs.Sampling.{done}
 use Rattle.rs_sample.specs.declared.fault.SampleFault.TheVariants as sample
-use Rattle.rs_statement.specs.Parts.Steps.{lines_run}
+use Rattle.rs_events.specs.Run.{lines_run}
 use Rattle.rs_statement.specs.Sampled.{sample_fault, sample_outcome, sampling}
-use Rattle.rs_statement.proofs.InquirySteps.{Stepped-asked, Stepped-unasked}
-use Rattle.rs_statement.proofs.RanFacts.{HasDone-none, Ran-all}
+use Rattle.rs_events.proofs.InquirySteps.{Stepped-asked, Stepped-unasked}
+use Rattle.rs_events.proofs.RanFacts.{HasDone-none, Ran-all}
 use Rattle.rs_statement.proofs.SampleSteps.{names-sample, probes-sample}
 use Rattle.rs_statement.proofs.planning.take_sample.Goals as goal
 

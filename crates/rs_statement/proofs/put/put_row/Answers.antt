@@ -1,9 +1,10 @@
 use Rattle.std.proofs.Common.{◌≡◌, ◌∙◌, [], ◌∷◌, ap, subst, sym}
 use Rattle.rs_value.proofs.ResultFacts.{given-err}
 use Rattle.rs_lines.specs.Row.{line_of}
-use Rattle.rs_statement.specs.Parts.Steps.{Ran, lines_run}
+use Rattle.rs_statement.specs.Parts.Steps.{Ran}
+use Rattle.rs_events.specs.Run.{lines_run}
 use Rattle.rs_statement.specs.declared.fault.Fault.TheVariants.{Memory}
-use Rattle.rs_statement.proofs.RanFacts.{Ran-first}
+use Rattle.rs_events.proofs.RanFacts.{Ran-first}
 use Rattle.rs_statement.proofs.put.put_row.Goals as goal
 
 pub returns-in_err-line : goal.returns-in_err-line

@@ -4,10 +4,12 @@ use Rattle.std.proofs.lemmas.List.{take_all}
 use Rattle.rs_value.proofs.ResultFacts.{given-err}
 use Rattle.rs_lines.specs.Row.{line_of}
 use Rattle.rs_statement.specs.Lines.{rank_lines}
-use Rattle.rs_statement.specs.Parts.Steps.{HasDone, Ran, lines_run}
-use Rattle.rs_statement.specs.Run.{Put}
+use Rattle.rs_events.specs.Running.{HasDone}
+use Rattle.rs_statement.specs.Parts.Steps.{Ran}
+use Rattle.rs_events.specs.Run.{lines_run}
+use Rattle.rs_events.specs.Events.{Put}
 use Rattle.rs_statement.proofs.PrintFacts.{length-rank_lines, rank_lines-more, rank_lines-next}
-use Rattle.rs_statement.proofs.RanFacts.{HasDone-line, HasDone-none, Ran-all, Ran-lines}
+use Rattle.rs_events.proofs.RanFacts.{HasDone-line, HasDone-none, Ran-all, Ran-lines}
 use Rattle.rs_statement.proofs.put.put_rows.Goals as goal
 
 pub loop-index-init : goal.loop-index-init

@@ -6,10 +6,11 @@ use Rattle.rs_plain.specs.Plain.{evaluation_of, plain_faults}
 use Rattle.rs_plain.specs.declared.fault.PlainFault.TheVariants as plain
 use Rattle.rs_syntax.specs.Syntax.{query_of}
 use Rattle.rs_statement.specs.Lines.{rank_lines}
-use Rattle.rs_statement.specs.Parts.Steps.{Ran, lines_run}
+use Rattle.rs_statement.specs.Parts.Steps.{Ran}
+use Rattle.rs_events.specs.Run.{lines_run}
 use Rattle.rs_statement.specs.declared.evaluating.Evaluating.TheVariants.{Plainly}
 use Rattle.rs_statement.specs.Statements.{answer_lines, bind_fault, or_bind_fault, query_fault, query_outcome, query_step}
-use Rattle.rs_statement.proofs.InquirySteps.{Stepped-asked, Stepped-unasked}
+use Rattle.rs_events.proofs.InquirySteps.{Stepped-asked, Stepped-unasked}
 use Rattle.rs_statement.proofs.QuerySteps.{Gives-bound, Gives-unbound, Probes-questions}
 use Rattle.rs_statement.proofs.StepFacts.{Stepped-bound, Stepped-refused}
 use Rattle.rs_statement.proofs.query.run_query.Goals as goal

@@ -3,7 +3,7 @@ use Rattle.rs_syntax.specs.Syntax.{query_of}
 use Rattle.rs_statement.specs.Parts.Steps.{Stepped}
 use Rattle.rs_statement.specs.Statements.{analyze_step, explain_outcome}
 use Rattle.rs_statement.specs.declared.evaluating.Evaluating.TheVariants.{Plainly}
-use Rattle.rs_statement.proofs.SteppedFacts.{Stepped-still}
+use Rattle.rs_events.proofs.SteppedFacts.{Stepped-still}
 use Rattle.rs_statement.proofs.select.run_analyze.Goals as goal
 
 pub returns-in-Plainly : goal.returns-in-Plainly

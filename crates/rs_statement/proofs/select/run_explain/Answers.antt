@@ -3,7 +3,7 @@ use Rattle.rs_syntax.specs.Syntax.{query_of}
 use Rattle.rs_statement.specs.Parts.Steps.{Stepped}
 use Rattle.rs_statement.specs.Statements.{explain_outcome, explain_step}
 use Rattle.rs_statement.specs.declared.evaluating.Evaluating.TheVariants.{Plainly}
-use Rattle.rs_statement.proofs.SteppedFacts.{Stepped-still}
+use Rattle.rs_events.proofs.SteppedFacts.{Stepped-still}
 use Rattle.rs_statement.proofs.select.run_explain.Goals as goal
 
 pub returns-in-Plainly : goal.returns-in-Plainly

@@ -5,14 +5,14 @@ use Rattle.rs_syntax.specs.Syntax.{query_of}
 use Rattle.rs_statement.specs.Parts.Session.{CanAllBeAsked, state_of}
 use Rattle.rs_statement.specs.Planned.{plan_for}
 use Rattle.rs_statement.specs.Sampled.{sample_step}
-use Rattle.rs_statement.specs.Sequence.{still}
+use Rattle.rs_events.specs.Sequence.{still}
 use Rattle.rs_statement.specs.Session.{ByPlan, declared_query, opened_step, with_cursor}
 use Rattle.rs_statement.specs.declared.evaluating.Evaluating.TheVariants.{Planned}
 use Rattle.rs_statement.specs.declared.fault.Fault.TheVariants.{Memory}
 use Rattle.rs_statement.specs.declared.session.Held.TheVariants as held
 use Rattle.rs_statement.proofs.SessionFacts.{asked-append}
 use Rattle.rs_statement.proofs.SessionSteps.{Opened-cut, Opened-planned, opened-planned}
-use Rattle.rs_statement.proofs.SoFar.{Stepped-broken}
+use Rattle.rs_events.proofs.SoFar.{Stepped-broken}
 use Rattle.rs_statement.proofs.StepFacts.{Stepped-bound, Stepped-refused}
 use Rattle.rs_statement.proofs.session.declare_planned.Goals as goal
 

@@ -6,15 +6,15 @@ use Rattle.rs_plain.specs.declared.fault.PlainFault.TheVariants as plain
 use Rattle.rs_query.specs.Views.{all_rows}
 use Rattle.rs_syntax.specs.Syntax.{query_of}
 use Rattle.rs_statement.specs.Parts.Session.{CanAllBeAsked, state_of}
-use Rattle.rs_statement.specs.Parts.Steps.{lines_run}
+use Rattle.rs_events.specs.Run.{lines_run}
 use Rattle.rs_statement.specs.Session.{Ready, declared_query, opened_step, ready_outcome, with_cursor}
 use Rattle.rs_statement.specs.Statements.{query_fault}
 use Rattle.rs_statement.specs.declared.evaluating.Evaluating.TheVariants.{Plainly}
 use Rattle.rs_statement.specs.declared.fault.Fault.TheVariants.{Memory}
 use Rattle.rs_statement.specs.declared.session.Held.TheVariants as held
-use Rattle.rs_statement.proofs.InquirySteps.{Stepped-asked, Stepped-unasked}
+use Rattle.rs_events.proofs.InquirySteps.{Stepped-asked, Stepped-unasked}
 use Rattle.rs_statement.proofs.QuerySteps.{Probes-questions}
-use Rattle.rs_statement.proofs.RanFacts.{HasDone-none, Ran-all, Ran-first}
+use Rattle.rs_events.proofs.RanFacts.{HasDone-none, Ran-all, Ran-first}
 use Rattle.rs_statement.proofs.SessionFacts.{asked-append}
 use Rattle.rs_statement.proofs.SessionSteps.{Stepped-left, opened-ready}
 use Rattle.rs_statement.proofs.StepFacts.{Stepped-bound, Stepped-refused}

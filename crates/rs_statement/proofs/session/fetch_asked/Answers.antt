@@ -6,8 +6,8 @@ use Rattle.rs_exec.specs.Asking.{world_of}
 use Rattle.rs_exec.specs.Cursors.{IsOver, StandsFor, asks_after, asks_of, plan_of}
 use Rattle.rs_statement.specs.Parts.Asks.{IsAt}
 use Rattle.rs_statement.specs.Parts.Session.{wanted_step}
-use Rattle.rs_statement.specs.World.{world}
-use Rattle.rs_statement.proofs.SoFar.{SoFar, SoFar-start}
+use Rattle.rs_events.specs.Environment.{environment}
+use Rattle.rs_events.proofs.SoFar.{SoFar, SoFar-start}
 use Rattle.rs_statement.proofs.WantedSteps.{IsFetching, Wanted-broken, Wanted-done, Wanted-more, fetching-all, fetching-next, fetching-start, none-next, none-wanted}
 use Rattle.rs_statement.proofs.session.fetch_asked.Goals as goal
 
@@ -26,7 +26,7 @@ loop-init g c =
 
 pub put_next-requires : goal.put_next-requires
 put_next-requires g c =
-    let at = world (untold 0) (g.S.Scorer.state c.args.scorer.now) (g.O.Sink.state c.args.out.now) (g.O.Sink.state c.args.out.now) in
+    let at = environment (untold 0) (g.S.Scorer.state c.args.scorer.now) (g.O.Sink.state c.args.out.now) (g.O.Sink.state c.args.out.now) in
     record { stands = subst (λ answer. StandsFor c.args.catalog.now answer c.loop.cursor) (sym (c.loop.invariant.so_far at).has.keeps.scorer.answer) c.loop.invariant.fetching.stands }
 
 pub returns-in_err-put_next : goal.returns-in_err-put_next
@@ -58,7 +58,7 @@ loop-preserved g c =
     let next = c.put_next.new.cursor in
     let rest = c.args.count - (c.loop.counter + 1) in
     let same : c.args.count - c.loop.counter ≡ suc rest = omega (arith, c.loop-test.true) in
-    let anywhere = world (untold 0) (g.S.Scorer.state c.args.scorer.now) (g.O.Sink.state c.args.out.now) (g.O.Sink.state c.args.out.now) in
+    let anywhere = environment (untold 0) (g.S.Scorer.state c.args.scorer.now) (g.O.Sink.state c.args.out.now) (g.O.Sink.state c.args.out.now) in
     let at = (c.loop.invariant.so_far anywhere).has.keeps.scorer.answer in
     let called = subst (λ a. IsAt cursor.query (plan_of cursor) (asks_after (world_of catalogue a cursor.query) (plan_of cursor) (asks_of cursor)) next) at c.in_ok-put_next.ensures.count in
     let stands = subst (λ a. StandsFor catalogue a next) at c.in_ok-put_next.ensures.stands in record {
@@ -98,7 +98,7 @@ returns-then-not-branch g c =
     let next = c.put_next.new.cursor in
     let rest = c.args.count - (c.loop.counter + 1) in
     let same : c.args.count - c.loop.counter ≡ suc rest = omega (arith, c.loop-test.true) in
-    let anywhere = world (untold 0) (g.S.Scorer.state c.args.scorer.now) (g.O.Sink.state c.args.out.now) (g.O.Sink.state c.args.out.now) in
+    let anywhere = environment (untold 0) (g.S.Scorer.state c.args.scorer.now) (g.O.Sink.state c.args.out.now) (g.O.Sink.state c.args.out.now) in
     let at = (c.loop.invariant.so_far anywhere).has.keeps.scorer.answer in
     let called = subst (λ a. IsAt cursor.query (plan_of cursor) (asks_after (world_of catalogue a cursor.query) (plan_of cursor) (asks_of cursor)) next) at c.in_ok-put_next.ensures.count in
     let stands = subst (λ a. StandsFor catalogue a next) at c.in_ok-put_next.ensures.stands in

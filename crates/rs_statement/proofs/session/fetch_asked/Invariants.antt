@@ -1,7 +1,7 @@
 use Rattle.std.proofs.Common.{◌-◌}
 use Rattle.rs_statement.specs.Parts.Session.{wanted_step}
-use Rattle.rs_statement.specs.World.{World}
-use Rattle.rs_statement.proofs.SoFar.{SoFar}
+use Rattle.rs_events.specs.Environment.{Environment}
+use Rattle.rs_events.proofs.SoFar.{SoFar}
 use Rattle.rs_statement.proofs.WantedSteps.{IsFetching}
 use Rattle.rs_statement.proofs.session.fetch_asked.Given as goal
 
@@ -9,7 +9,7 @@ use Rattle.rs_statement.proofs.session.fetch_asked.Given as goal
 abbrev pub invariant-loop : goal.invariant-loop
 invariant-loop g l =
     let answer = (g.S.Scorer.state l.fn.scorer).answer in record {
-      so_far : (beside : World) → SoFar (wanted_step l.catalog answer l.fn.cursor l.count) (wanted_step l.catalog answer l.cursor (l.count - l.counter))
+      so_far : (beside : Environment) → SoFar (wanted_step l.catalog answer l.fn.cursor l.count) (wanted_step l.catalog answer l.cursor (l.count - l.counter))
           (record beside { scorer = g.S.Scorer.state l.fn.scorer; out = g.O.Sink.state l.fn.out }) (record beside { scorer = g.S.Scorer.state l.scorer; out = g.O.Sink.state l.out });
       fetching : IsFetching l.catalog answer l.fn.cursor l.count l.cursor (l.count - l.counter);
     }

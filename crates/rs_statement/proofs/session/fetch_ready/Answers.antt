@@ -2,7 +2,8 @@ use Rattle.std.proofs.Common.{◌≡◌, ◌+◌, ◌-◌, ap, arith, drop, subs
 use Rattle.std.specs.Prelude.{Err, Ok}
 use Rattle.rs_value.proofs.ResultFacts.{given-err}
 use Rattle.rs_statement.specs.Lines.{rank_lines}
-use Rattle.rs_statement.specs.Parts.Steps.{Ran, lines_run}
+use Rattle.rs_statement.specs.Parts.Steps.{Ran}
+use Rattle.rs_events.specs.Run.{lines_run}
 use Rattle.rs_statement.specs.Session.{next_rows}
 use Rattle.rs_statement.proofs.session.fetch_ready.Goals as goal
 

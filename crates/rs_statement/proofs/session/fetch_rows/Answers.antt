@@ -3,11 +3,12 @@ use Rattle.std.specs.Prelude.{IfOk}
 use Rattle.rs_exec.specs.Cursors.{asks_of}
 use Rattle.rs_statement.specs.Lines.{rank_lines}
 use Rattle.rs_statement.specs.Parts.Session.{IsAskedMore, asked_of, next_of, next_of_cursor, rows_step, source_of}
-use Rattle.rs_statement.specs.Parts.Steps.{Ran, Stepped, lines_run}
+use Rattle.rs_statement.specs.Parts.Steps.{Ran, Stepped}
+use Rattle.rs_events.specs.Run.{lines_run}
 use Rattle.rs_statement.specs.Session.{ByPlan, next_rows}
 use Rattle.rs_statement.specs.declared.session.Held.TheVariants as held
 use Rattle.rs_statement.proofs.SessionSteps.{if-ok-map}
-use Rattle.rs_statement.proofs.SteppedFacts.{Stepped-lines}
+use Rattle.rs_events.proofs.SteppedFacts.{Stepped-lines}
 use Rattle.rs_statement.proofs.session.fetch_rows.Goals as goal
 
 pub fetch_asked-requires : goal.fetch_asked-requires

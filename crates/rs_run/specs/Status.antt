@@ -1,7 +1,7 @@
 -- The numbers of the statuses.
 use Rattle.std.specs.Prelude.{ℕ}
-use Rattle.rs_statement.specs.declared.status.Status.{Status}
-use Rattle.rs_statement.specs.declared.status.Status.TheVariants.{Done, Memory, Usage, Read, Write, Script, Table, BadScore, Probe, Session}
+use Rattle.rs_run.specs.declared.status.Status.{Status}
+use Rattle.rs_run.specs.declared.status.Status.TheVariants.{Done, Memory, Usage, Read, Write, Script, Table, BadScore, Probe, Session}
 
 -- the exit status of a program that ends so
 abbrev pub exit_status_of : Status → ℕ

@@ -1,5 +1,5 @@
 ghost use Rattle.std.specs.Prelude.{◌≡◌};
-ghost use Rattle.rs_statement.specs.Status.{exit_status_of};
+ghost use Rattle.rs_run.specs.Status.{exit_status_of};
 
 /// How a run ended.
 #[derive(Clone, Copy, Debug, PartialEq, Eq)]

@@ -5,24 +5,24 @@ use Rattle.rs_outside.specs.Files.{FilesTold}
 use Rattle.rs_expr.specs.Scoring.{KeepsScorer, ScorerState}
 
 -- the files, the scorer, standard output and standard error
-pub record World : Type 0 where
+pub record Environment : Type 0 where
   pub files : Outside FilesTold
   pub scorer : ScorerState
   pub out : Outside (List (List ℕ))
   pub err : Outside (List (List ℕ))
 
-abbrev pub world : Outside FilesTold → ScorerState → Outside (List (List ℕ)) → Outside (List (List ℕ)) → World
-world files scorer out err = record { files = files; scorer = scorer; out = out; err = err }
+abbrev pub environment : Outside FilesTold → ScorerState → Outside (List (List ℕ)) → Outside (List (List ℕ)) → Environment
+environment files scorer out err = record { files = files; scorer = scorer; out = out; err = err }
 
 -- for as long as calls go on, the scorer's answers stay, no count of faults falls, and each object that is steady stays so
-pub record KeepsWorld (old new : World) : Type 0 where
+pub record KeepsEnvironment (old new : Environment) : Type 0 where
   pub files : Keeps old.files new.files
   pub scorer : KeepsScorer old.scorer new.scorer
   pub out : Keeps old.out new.out
   pub err : Keeps old.err new.err
 
 -- no fetch, no call of the scorer and no put on standard output failed
-pub record NoneFailed (old new : World) : Type 0 where
+pub record NoneFailed (old new : Environment) : Type 0 where
   pub fetch : ¬ Faulted old.files new.files
   pub call : ¬ Faulted old.scorer.outside new.scorer.outside
   pub put : ¬ Faulted old.out new.out

@@ -1,20 +1,14 @@
--- What a run of the command does: its events, in order, and the fault that ends it.
-use Rattle.std.specs.Prelude.{ℕ, ◌≡◌, List, [], ◌∷◌, ◌++◌, map, Option, Some, None, IfSome, Result, Ok, Err}
+-- What a run does, event by event, and what a fetch finds.
+use Rattle.std.specs.Prelude.{ℕ, ◌≡◌, List, [], ◌∷◌, map, Option, IfSome}
 use Rattle.rs_outside.specs.Files.{FilesTold, file_named}
 use Rattle.rs_expr.specs.InOrder.{Inquiry, calls_of}
 use Rattle.rs_expr.specs.declared.scorer.Call.{Call}
-use Rattle.rs_statement.specs.declared.fault.Fault.{Fault}
 
 -- a fetch of the file of this name, a call of the scorer, or a put of these bytes on standard output
 pub data Event : Type 0 where
   Fetch : List ℕ → Event
   Score : Call → Event
   Put : List ℕ → Event
-
--- what a run does, and the fault that ends it, if one does
-pub record Run : Type 0 where
-  pub events : List Event
-  pub fault : Option Fault
 
 -- the names that are fetched, in order
 abbrev pub fetches : List Event → List (List ℕ)
@@ -40,19 +34,6 @@ puts (Put bytes ∷ rest) = bytes ∷ puts rest
 -- the calls of an inquiry, in order
 abbrev pub calls_in : {A F : Type 0} → Inquiry A F → List Event
 calls_in inquiry = map Score (calls_of inquiry.requests)
-
--- a run that ends with a fault before any event
-abbrev pub fails : Fault → Run
-fails fault = record { events = []; fault = Some fault }
-
--- events, and then a run
-abbrev pub behind : List Event → Run → Run
-behind events run = record { events = events ++ run.events; fault = run.fault }
-
--- a run that fetches a file and then puts these lines, or ends with a fault before any put
-abbrev pub fetch_then : List ℕ → Result (List (List ℕ)) Fault → Run
-fetch_then name (Ok lines) = record { events = Fetch name ∷ map Put lines; fault = None }
-fetch_then name (Err fault) = record { events = Fetch name ∷ []; fault = Some fault }
 
 -- what a fetch finds under a name: these bytes, or no file. Where files tell what they hold, it is that; a disk tells nothing, and may change between
 -- two fetches

@@ -1,0 +1,118 @@
+-- What follows of a fetch in the calls above it, whatever the type of faults.
+use Rattle.std.proofs.Common.{ℕ, ◌≡◌, ◌∙◌, ◌++◌, List, [], ◌∷◌, refl, sym, ap, subst, inl, inr}
+use Rattle.std.specs.Prelude.{Option, Some, Result, Ok, Err, ◌⊎◌}
+use Rattle.rs_value.specs.Outside.{Outside}
+use Rattle.rs_outside.specs.Files.{FilesTold}
+use Rattle.rs_events.specs.Environment.{Environment}
+use Rattle.rs_events.specs.Events.{Event, Fetch}
+use Rattle.rs_events.specs.Fetching.{FetchFails, Fetched, FetchesFile, NotFetched}
+use Rattle.rs_events.specs.HaltFaults.{HaltFaults}
+use Rattle.rs_events.specs.Halts.{FetchFailed}
+use Rattle.rs_events.specs.Run.{Run}
+use Rattle.rs_events.specs.Running.{HasDone, Ran}
+use Rattle.rs_events.proofs.RanFacts.{HasDone-files, Ran-all, Ran-no_memory, names-none}
+
+-- the same fault, of a call that answers something else
+pub fault-at : {F A B : Type 0} (f g : F) → ◌≡◌ {A = Result A F} (Err f) (Err g) → ◌≡◌ {A = Result B F} (Err f) (Err g)
+fault-at f g e = ap Err (let same : f ≡ g = cc in same)
+
+-- a fault of the fetch, or of what it gives, goes on, as a fault of another type perhaps
+module _ {F G A B : Type 0} (memory : F) (Tells : F → Type 0) (other_memory : G) (OtherTells : G → Type 0) (file : List ℕ) (fault : F) (other : G) where
+  pub FetchesFile-told : (gives : Option (List ℕ) → Result A F → Type 0) (more : Option (List ℕ) → Result B G → Type 0) (old new : Outside FilesTold)
+      → (fault ≡ memory → other ≡ other_memory) → (Tells fault → OtherTells other ⊎ (other ≡ other_memory))
+      → ((there : Option (List ℕ)) → gives there (Err fault) → more there (Err other) ⊎ (other ≡ other_memory))
+      → FetchesFile memory Tells file (Err fault) gives old new → FetchesFile other_memory OtherTells file (Err other) more old new
+  FetchesFile-told gives more old new memories tells turn f = record { there = f.there; is_told = f.is_told; does = go f.does; keeps = f.keeps } where
+    want : other ≡ other_memory → ◌≡◌ {A = Result B G} (Err other) (Err other_memory)
+    want e = ap Err e
+
+    go : (NotFetched {A = A} memory (Err fault) old new ⊎ FetchFails {A = A} memory Tells file (Err fault) old new) ⊎ Fetched memory file (gives f.there) (Err fault) old new
+        → (NotFetched {A = B} other_memory (Err other) old new ⊎ FetchFails {A = B} other_memory OtherTells file (Err other) old new)
+        ⊎ Fetched other_memory file (more f.there) (Err other) old new
+    go (inl (inl nothing)) = inl (inl (record { same = nothing.same; answers = want (memories (let e = nothing.answers in cc)) }))
+    go (inl (inr failed)) = inl (inr (record {
+      fetched = failed.fetched;
+      faulted = failed.faulted;
+      answers = elim failed.answers [
+        | inl told ↦ elim (tells (subst Tells (let same : told.0 ≡ fault = let e = told.2 in cc in same) told.1)) [ inl t ↦ inl (other, t, refl) | inr e ↦ inr (want e) ]
+        | inr e ↦ inr (want (memories cc))
+      ];
+    }))
+    go (inr fetched) = inr (record {
+      fetched = fetched.fetched;
+      answers = elim fetched.answers [
+        | inl g ↦ elim (turn f.there g) [ inl h ↦ inl h | inr e ↦ inr (want e) ]
+        | inr e ↦ inr (want (memories cc))
+      ];
+    })
+
+-- the same fault goes on
+pub FetchesFile-err : {F A B : Type 0} {memory : F} {Tells : F → Type 0} (file : List ℕ) (fault : F) (gives : Option (List ℕ) → Result A F → Type 0)
+    (more : Option (List ℕ) → Result B F → Type 0) (old new : Outside FilesTold) → ((there : Option (List ℕ)) → gives there (Err fault) → more there (Err fault))
+    → FetchesFile memory Tells file (Err fault) gives old new → FetchesFile memory Tells file (Err fault) more old new
+FetchesFile-err {F} {A} {B} {memory} {Tells} file fault gives more old new turn f =
+    FetchesFile-told memory Tells memory Tells file fault fault gives more old new (λ e. e) (λ t. inl t) (λ there g. inl (turn there g)) f
+
+-- what is made of what was fetched, or no memory for it
+pub FetchesFile-ok : {F A B : Type 0} {memory : F} {Tells : F → Type 0} (file : List ℕ) (a : A) (result : Result B F) (gives : Option (List ℕ) → Result A F → Type 0)
+    (more : Option (List ℕ) → Result B F → Type 0) (old new : Outside FilesTold) → ((there : Option (List ℕ)) → gives there (Ok a) → more there result ⊎ (result ≡ Err memory))
+    → FetchesFile memory Tells file (Ok a) gives old new → FetchesFile memory Tells file result more old new
+FetchesFile-ok {F} {A} {B} {memory} {Tells} file a result gives more old new turn f = record { there = f.there; is_told = f.is_told; does = go f.does; keeps = f.keeps } where
+  go : (NotFetched memory (Ok a) old new ⊎ FetchFails memory Tells file (Ok a) old new) ⊎ Fetched memory file (gives f.there) (Ok a) old new
+      → (NotFetched memory result old new ⊎ FetchFails memory Tells file result old new) ⊎ Fetched memory file (more f.there) result old new
+  go (inl (inl nothing)) = absurd (let e = nothing.answers in cc)
+  go (inl (inr failed)) = absurd (elim failed.answers [ inl told ↦ let e = told.2 in cc | inr e ↦ cc ])
+  go (inr fetched) = inr (record { fetched = fetched.fetched; answers = elim fetched.answers [ inl g ↦ turn f.there g | inr e ↦ absurd cc ] })
+
+-- a file that was fetched, and what it gives
+pub record IsFetched {F A : Type 0} (file : List ℕ) (a : A) (gives : Result A F → Type 0) (old new : Environment) : Type 0 where
+  pub has : HasDone (Fetch file ∷ []) old new
+  pub given : gives (Ok a)
+
+pub fetched-ok : {F A : Type 0} {memory : F} {Tells : F → Type 0} (environment : Environment) (files : Outside FilesTold) (file : List ℕ) (a : A) (gives : Option (List ℕ) → Result A F → Type 0)
+    → (f : FetchesFile memory Tells file (Ok a) gives environment.files files) → IsFetched file a (gives f.there) environment (record environment { files = files })
+fetched-ok {F} {A} {memory} {Tells} environment files file a gives f = go f.does where
+  go : (NotFetched {A = A} memory (Ok a) environment.files files ⊎ FetchFails {A = A} memory Tells file (Ok a) environment.files files)
+      ⊎ Fetched {A = A} memory file (gives f.there) (Ok a) environment.files files → IsFetched file a (gives f.there) environment (record environment { files = files })
+  go (inl (inl nothing)) = absurd (let e = nothing.answers in cc)
+  go (inl (inr failed)) = absurd (elim failed.answers [ inl told ↦ let e = told.2 in cc | inr e ↦ cc ])
+  go (inr fetched) = record {
+    has = HasDone-files environment files (Fetch file ∷ []) fetched.fetched refl refl f.keeps;
+    given = elim fetched.answers [ inl e ↦ e | inr e ↦ absurd cc ];
+  }
+
+-- a run that begins with a fetch, and ends with the fault that what is there gives
+pub Ran-unfetched : {F A : Type 0} {faults : HaltFaults F} (environment : Environment) (files : Outside FilesTold) (file : List ℕ) (fault : F) (gives : Option (List ℕ) → Result A F → Type 0)
+    (run : Run F) (more : List Event) → (f : FetchesFile faults.memory (faults.IsFailedFetch file) file (Err fault) gives environment.files files) → run.events ≡ Fetch file ∷ more
+    → (gives f.there (Err fault) → run ≡ record { events = Fetch file ∷ []; fault = Some fault }) → Ran faults run (Err fault) environment (record environment { files = files })
+Ran-unfetched {F} {A} {faults} environment files file fault gives run more f begins is = go f.does where
+  new : Environment
+  new = record environment { files = files }
+
+  cut : (done rest : List Event) → run.events ≡ done ++ rest → HasDone done environment new → ◌≡◌ {A = Result A F} (Err fault) (Err faults.memory) → Ran faults run (Err fault) environment new
+  cut done rest split has e = subst (λ r. Ran faults run r environment new) (sym (fault-at fault faults.memory e)) (Ran-no_memory run done rest environment new split has)
+
+  go : (NotFetched {A = A} faults.memory (Err fault) environment.files files ⊎ FetchFails {A = A} faults.memory (faults.IsFailedFetch file) file (Err fault) environment.files files)
+      ⊎ Fetched faults.memory file (gives f.there) (Err fault) environment.files files → Ran faults run (Err fault) environment new
+  go (inl (inl nothing)) =
+      cut [] run.events refl (HasDone-files environment files [] (nothing.same ∙ names-none environment.files.told) refl refl f.keeps) nothing.answers
+  go (inl (inr failed)) =
+      let has = HasDone-files environment files (Fetch file ∷ []) failed.fetched refl refl f.keeps in
+      elim failed.answers [
+        | inl told ↦ record {
+          halt = FetchFailed file;
+          did = record { done = []; rest = Fetch file ∷ more; split = begins; halts = (more, refl, failed.faulted); all = has.all };
+          fault = Some told.0;
+          is_fault = (told.0, told.1, refl);
+          answers = inl (fault-at fault told.0 told.2);
+          keeps = has.keeps;
+        }
+        | inr e ↦ cut (Fetch file ∷ []) more begins has e
+      ]
+  go (inr fetched) =
+      let has = HasDone-files environment files (Fetch file ∷ []) fetched.fetched refl refl f.keeps in
+      elim fetched.answers [
+        | inl e ↦ subst (λ run. Ran faults run (Err fault) environment new) (sym (is e))
+            (Ran-all (record { events = Fetch file ∷ []; fault = Some fault }) (Err fault) environment new has (inl refl))
+        | inr e ↦ cut (Fetch file ∷ []) more begins has e
+      ]

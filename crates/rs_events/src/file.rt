@@ -1,0 +1,25 @@
+ghost use Rattle.std.specs.Prelude.{◌≡◌, ◌≤◌, Ok, Err, IfOk, MatchResult, length};
+ghost use Rattle.rs_events.specs.Fetching.{FetchesFile, fetched_bytes};
+
+use rs_outside::{FetchFault, Files};
+use rs_value::Text;
+use std::alloc::Global;
+
+/// The bytes of the file of this name, which are at most `limit`.
+pub fn fetch_file<F: Files>(
+    alloc: Global,
+    file: &Text,
+    limit: usize,
+    files: &mut F,
+) -> Result<Vec<u8>, FetchFault>
+    ensures fetches { FetchesFile FetchFault.Memory (λ why. why ≡ FetchFault.Failed) file.now result
+        (λ there r. MatchResult r (λ bytes. fetched_bytes limit there ≡ Ok bytes.items) (λ why. fetched_bytes limit there ≡ Err why))
+        (F.state files.old) (F.state files.new) }
+    ensures within { IfOk result (λ bytes. length bytes.items ≤ limit) }
+{
+    let mut bytes = Vec::new(alloc);
+    match files.fetch(file, limit, &mut bytes) {
+        Ok(()) => Ok(bytes),
+        Err(why) => Err(why),
+    }
+}

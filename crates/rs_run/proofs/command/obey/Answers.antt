@@ -1,0 +1,27 @@
+use Rattle.std.proofs.Common.{◌≡◌, refl, sym, subst}
+use Rattle.rs_events.specs.Environment.{Environment}
+use Rattle.rs_events.specs.Events.{finds_in}
+use Rattle.rs_statement.specs.Parts.Steps.{Runs}
+use Rattle.rs_run.specs.Parts.Command.{form_of_command, words_of}
+use Rattle.rs_run.specs.Running.{IsCut, IsRunOf}
+use Rattle.rs_run.specs.Words.{RunGenerated, RunScript, Top}
+use Rattle.rs_run.proofs.RunFacts.{Runs-whole}
+use Rattle.rs_run.proofs.command.obey.Goals as goal
+
+pub returns-in-Top : goal.returns-in-Top
+returns-in-Top g c = rw c.in-Top.is (record {
+  does = λ beside. Runs-whole (finds_in (g.F.Files.state c.args.files.now).told) (g.S.Scorer.state c.args.scorer.now).answer (Top (words_of c.in-Top.words)) c.top.result
+      (record beside { files = g.F.Files.state c.args.files.now; scorer = g.S.Scorer.state c.args.scorer.now; out = g.O.Sink.state c.args.out.now })
+      (record beside { files = g.F.Files.state c.top.new.files; scorer = g.S.Scorer.state c.args.scorer.now; out = g.O.Sink.state c.top.new.out })
+      (c.top.ensures (record beside { files = g.F.Files.state c.args.files.now; scorer = g.S.Scorer.state c.args.scorer.now; out = g.O.Sink.state c.args.out.now }));
+  unfetched = λ number rows generated. absurd cc;
+})
+
+pub returns-in-RunScript : goal.returns-in-RunScript
+returns-in-RunScript g c = rw c.in-RunScript.is (record { does = λ beside. c.run_script.ensures beside; unfetched = λ number rows generated. absurd cc })
+
+pub returns-in-RunGenerated : goal.returns-in-RunGenerated
+returns-in-RunGenerated g c = rw c.in-RunGenerated.is (record {
+  does = λ beside. c.run_generated.ensures (record beside { files = g.F.Files.state c.args.files.now });
+  unfetched = λ number rows generated. refl;
+})
