@@ -51,7 +51,7 @@ fn read_repeated(bytes: &[u8], into: &mut Vec<u8>) -> Result<(), Fault> {
     }
 }
 
-/// Adds the bytes that these stand for so many times. None of them is repeated in itself.
+/// Adds the bytes that these stand for this many times. None of them is repeated in itself.
 pub fn read_times(times: u32, bytes: &[u8], into: &mut Vec<u8>) -> Result<(), Fault> {
     for number in 1..=times {
         read_plain(bytes, number, into)?;

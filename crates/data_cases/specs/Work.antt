@@ -25,7 +25,7 @@ pub record Work : Type 0 where
   pub held : List (ℕ × ℕ)
   pub checksum : ℕ
 
--- no pair is put in, and so many are to be held
+-- no pair is put in, and this many are to be held
 abbrev pub start : ℕ → Work
 start size = record { step = step_of size; count = 0; held = []; checksum = 0 }
 
@@ -48,7 +48,7 @@ mixed_first checksum (pair ∷ rest) = mixed checksum pair.0
 abbrev pub popped : Work → Work
 popped work = record work { held = drop 1 work.held; checksum = mixed_first work.checksum work.held }
 
--- of so many pairs that are to be held, n are put in
+-- of this many pairs that are to be held, n are put in
 abbrev pub filled : ℕ → ℕ → Work
 filled size zero = start size
 filled size (suc n) = pushed (filled size n)

@@ -20,7 +20,7 @@
 //!   `key-held KEY KEY..`: whether a queue of the others has the first key.
 //! - `steps STEP..`: what is done to a queue: `NUMBER=TEXT` puts a pair in, and tells the first key; `pop` takes a pair
 //!   out, and tells its text. At last whether the queue is empty.
-//! - `numbers COUNT`: whether a queue of so many numbers gives each once, as a sort does, and how many these are.
+//! - `numbers COUNT`: whether a queue of this many numbers gives each once, as a sort does, and how many these are.
 //! - `work HELD OPERATIONS`: puts HELD pairs of scattered keys into a queue, and then OPERATIONS times takes a pair out and
 //!   puts one in. How many pairs are held in the end, and a checksum of the keys that were taken out. `bench/queue.sh` takes
 //!   the time of such lines.
@@ -35,7 +35,7 @@
 //!   many rows it has, or its name, or the numbers of its table and its predicate.
 //! - `room LIST NAME`: whether one more of this name can join the `tables`, `predicates` or `indexes`.
 //! - `index-for TABLE PREDICATE ENTRY ARGUMENT..`: the number of the first index of a term.
-//! - `scan-table NAME ENTRY BLOCK COUNT`: what a scan of all rows of a table gives, drawn so often, for a FROM entry of a block,
+//! - `scan-table NAME ENTRY BLOCK COUNT`: what a scan of all rows of a table gives, drawn this many times, for a FROM entry of a block,
 //!   and how many rows it gave. Of a row its block, mask, rows and sum are told. `scan-index NAME WEIGHT ENTRY BLOCK COUNT`:
 //!   the same of a rank index, for a term of this weight.
 //! - `bind STATEMENT`: the statement is bound. What is bound is told, or the rule that it breaks and where.

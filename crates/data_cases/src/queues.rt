@@ -169,7 +169,7 @@ fn push_step(text: &str, told: &mut String) -> Result<(), AllocError> {
     told.push_str("; ")
 }
 
-/// So many numbers below 5,000.
+/// This many numbers below 5,000.
 fn numbers(alloc: Global, count: u32) -> Result<Vec<u32>, Memory> {
     let mut numbers = Vec::new(alloc);
     let mut state = 12345u32;
@@ -188,7 +188,7 @@ fn rising_numbers(alloc: Global, count: u32) -> Result<Vec<u32>, Memory> {
     Ok(numbers)
 }
 
-/// Tells whether the queue of so many numbers gives them as a sort does, and how many it gives.
+/// Tells whether the queue of this many numbers gives them as a sort does, and how many it gives.
 pub fn tell_numbers(alloc: Global, word: &[u8], told: &mut String) -> Result<(), Fault> {
     let count = count_of(word)?;
     let keys = rising_numbers(alloc, count)?;

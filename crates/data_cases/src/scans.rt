@@ -91,7 +91,7 @@ fn tell_ranking(
     tell_drawn(scan.drawn(), told)
 }
 
-/// Draws so many rows, and tells each.
+/// Draws this many rows, and tells each.
 fn draw(
     catalog: &Catalog,
     scan: &mut RankScan,

@@ -13,7 +13,7 @@
 //! - `width STEP..`: the width of the formula that the steps build, or `none`. `formula ARGS STEP..`: its value of these
 //!   arguments, which are values with `,` between, or `none`.
 //! - `no-texts`: whether a list of no texts has no item. `no-memory`: what is said where there is none for a text.
-//! - `file BYTES`: the lines behind this one ask of these bytes. `more COUNT BYTES` adds bytes so many times.
+//! - `file BYTES`: the lines behind this one ask of these bytes. `more COUNT BYTES` adds bytes this many times.
 //! - `tokens`, `count`, `lexemes`: the tokens of the file as a script, how many there are, and the lexemes.
 //! - `tree SCRIPT`: the statements that the script parses to, with all their parts and places. `read SCRIPT`: only that it is
 //!   accepted. Both: why it is refused, and the place. The script is all that stands behind the word.

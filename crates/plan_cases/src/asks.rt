@@ -38,7 +38,7 @@ pub fn tell_rows(
     told
 }
 
-/// Asks a new cursor so often, and tells what each ask gave, and what the nodes of its plan count.
+/// Asks a new cursor this many times, and tells what each ask gave, and what the nodes of its plan count.
 fn tell_cursor(
     alloc: Global,
     catalog: &Catalog,
@@ -56,7 +56,7 @@ fn tell_cursor(
     Ok(told)
 }
 
-/// Tells what each of so many asks gave. It answers whether the last one had a fault.
+/// Tells what each of this many asks gave. It answers whether the last one had a fault.
 fn tell_asks(
     catalog: &Catalog,
     cursor: &mut Cursor,
@@ -126,7 +126,7 @@ fn tell_answer(answer: &Answer, told: &mut String) -> Result<(), AllocError> {
     write!(told, "  {block} {mask} {rows:?} {score} {values:?}")
 }
 
-/// The calls behind the first ones, so many.
+/// The calls behind this many first ones.
 fn calls_behind(calls: &[Call], first: usize) -> &[Call] {
     if first < calls.len() {
         &calls[first..]

@@ -84,7 +84,7 @@ impl Planning {
         self.tell(alloc, &asked, script)
     }
 
-    /// Takes samples so often, and asks for their estimates: `ASKS SCRIPT`.
+    /// Takes samples this many times, and asks for their estimates: `ASKS SCRIPT`.
     fn tell_time(&mut self, alloc: Global, takes: &[u8], words: &[u8]) -> Result<String, Fault> {
         let (asks, script) = cut_word(words);
         let asked = Asked::Time {

@@ -13,11 +13,11 @@
 //!   the left one before the right one, with commas between: how often a node was asked, how many rows it gave, how many
 //!   calls it made and how many rows it drew, with colons between. Where there are more or fewer counts than nodes,
 //!   `miscounted` is told.
-//! - `ask PLAN COUNT SCRIPT`: the first query is asked for a row so often, by this plan.
+//! - `ask PLAN COUNT SCRIPT`: the first query is asked for a row this many times, by this plan.
 //! - `calls SEED SCRIPT`: a sample is taken of the first query by this seed. The calls are told, those of the indexes first.
 //! - `cards SEED SCRIPT`: the same, and the estimates are told.
-//! - `time TAKES ASKS SCRIPT`: samples are taken so often, by the seeds from 0 on, and behind each all estimates are asked for
-//!   so often. The sum of these is told.
+//! - `time TAKES ASKS SCRIPT`: samples are taken this many times, by the seeds from 0 on, and behind each all estimates are asked for
+//!   this many times. The sum of these is told.
 //! - a comment that begins with `#`, or nothing.
 //!
 //! Scripts and words have the escapes of `case_lines`. Where an index can't be made, its fault and the calls are told alone.

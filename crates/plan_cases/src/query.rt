@@ -27,13 +27,13 @@ pub enum Asked {
     Least(u64),
     /// The same, with these counts of the nodes.
     Counted(u64, Vec<Counts>),
-    /// The rows that this plan gives, asked for so often.
+    /// The rows that this plan gives, asked for this many times.
     Rows(Plan, u32),
     /// The calls of a sample by this seed.
     Calls(u64),
     /// The estimates of a sample by this seed.
     Cards(u64),
-    /// The sum of the estimates, asked for so often behind each of so many samples.
+    /// The sum of the estimates, asked for this many times behind each of this many samples.
     Time { takes: u32, asks: u32 },
 }
 

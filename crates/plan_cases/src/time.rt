@@ -13,7 +13,7 @@ use rs_query::{Block, Query};
 use rs_sample::{Cards, SampleFault};
 use std::alloc::Global;
 
-/// Takes so many samples, asks for all estimates of each so often, and tells the sum of these.
+/// Takes this many samples, asks for all estimates of each this many times, and tells the sum of these.
 pub fn tell_time(
     alloc: Global,
     catalog: &Catalog,

@@ -157,7 +157,7 @@ all_columns catalogue (f ∷ from) entry =
     (each-then (IsMatch catalogue from (suc entry)) (IsMatch catalogue (f ∷ from) entry) (IsMatch-behind catalogue f from entry)
     (all_columns_from (suc entry) (sources_of catalogue from)) (all_columns catalogue from (suc entry)))
 
--- output columns behind so many others
+-- output columns behind this many others
 pub record AreItems (catalogue : Catalogue) (block : Block) (before : ℕ) (made : List Found) : Type 0 where
   pub most : before + length made ≤ 384
   pub each : AllByRecursion (IsFound catalogue block) made
@@ -196,7 +196,7 @@ items_of-found catalogue block (items.Star at) made h =
       each = each-then (IsMatch catalogue block.from 1) (IsFound catalogue block) (IsFound-match catalogue block) all (all_columns catalogue block.from 1);
     })
 
--- FROM entries behind so many others
+-- FROM entries behind this many others
 pub record AreEntries (catalogue : Catalogue) (before : ℕ) (from : List (Name × Option Name)) (made : List (ℕ × List ℕ)) : Type 0 where
   pub many : length made ≡ length from
   pub most : before + length made ≤ 6

@@ -33,7 +33,7 @@ matches_from-cons entry c source rest = go (is_of_entry source.0 c.alias) refl (
   go true own None at = rw (own, at) refl
   go true own (Some column) at = rw (own, at) refl
 
--- a column of at most so many entries, of 64 columns each
+-- a column of at most this many entries, of 64 columns each
 pub record IsWithin (most : ℕ) (found : Found) : Type 0 where
   pub some : 1 ≤ found.0.0
   pub few : found.0.0 ≤ most

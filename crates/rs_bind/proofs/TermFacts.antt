@@ -196,7 +196,7 @@ module _ (catalogue : Catalogue) (block : Block) (entries : Entries) (are : AreA
         max = is_max;
       }
 
-  -- terms behind so many others
+  -- terms behind this many others
   pub record AreTerms (needed : Option (List Found)) (before : ℕ) (made : List Term) : Type 0 where
     pub most : before + length made ≤ 8
     pub each : AllByRecursion (IsTerm catalogue block) made

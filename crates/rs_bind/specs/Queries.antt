@@ -81,7 +81,7 @@ are_outputs (Some items) columns = list_all (λ (column : ℕ × ℕ). list_any 
 abbrev pub most_weight : ℕ
 most_weight = 1000000
 
--- terms behind so many: at each, from left to right, there may be no more than eight; then its weight, its predicate, its arguments, and whether its
+-- terms behind this many: at each, from left to right, there may be no more than eight; then its weight, its predicate, its arguments, and whether its
 -- columns are output columns where they have to be
 abbrev pub terms_behind : Catalogue → Entries → Option (List Found) → ℕ → List TermSyn → Result (List Term) BindFault
 terms_behind catalogue entries needed before [] = Ok []

@@ -96,7 +96,7 @@ most_block_columns = most_entries * most_columns
 abbrev pub most_items : ℕ
 most_items = most_block_columns
 
--- output columns behind so many: at each, from left to right, there may be no more, and then it has to be a column
+-- output columns behind this many: at each, from left to right, there may be no more, and then it has to be a column
 abbrev pub items_behind : List Source → ℕ → List ColRef → Result (List Found) BindFault
 items_behind sources before [] = Ok []
 items_behind sources before (c ∷ rest) =

@@ -23,7 +23,7 @@ use Rattle.rs_bind.specs.Indexes.{Entries, columns_in, entry_column, params_in}
 use Rattle.rs_bind.specs.InOrder.{Each, FirstRefused}
 
 module _ (most : ℕ) where
-  -- names with kinds: no more than so many, each one once
+  -- names with kinds: no more than this many, each one once
   pub record TypesName (before : List Column) (written : Name × Kind) (made : Column) : Type 0 where
     pub room : length before ≢ most
     pub free : list_any (is_named written.0.text) before ≡ false

@@ -144,7 +144,7 @@ fn few_parts(node: &Node) -> Result<(), BindFault>
     Ok(())
 }
 
-/// How many more parts there may be behind those of this expression, where there may be so many in it and behind it. The
+/// How many more parts there may be behind those of this expression, where there may be this many in it and behind it. The
 /// first one too many is refused.
 fn room_behind(node: &Node, room: usize) -> Result<usize, BindFault>
     ensures { MatchResult result (λ rest. length (parts_of_and (expression_of node.now)) + rest ≡ room)

@@ -52,7 +52,7 @@ number_named what name catalogue = place_of_name name (names_of what catalogue)
 abbrev pub has_name : List ℕ → List (List ℕ) → Bool
 has_name name names = list_any (λ other. bytes_eq other name) names
 
--- whether one more name may join a list of at most so many, or why not
+-- whether one more name may join a list of at most this many, or why not
 abbrev pub room_in : List ℕ → ℕ → List (List ℕ) → Result (Unit {0}) RoomFault
 room_in name most names =
     if has_name name names then Err NameTaken

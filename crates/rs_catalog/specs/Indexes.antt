@@ -125,7 +125,7 @@ pub record IsIndexEntry (rows max : ℕ) (entry : ScoredRow) : Type 0 where
   pub within : entry.row ≤ rows
   pub scored : entry.score ≤ max
 
--- a ranking of a table of so many rows has each row once, by score, the greatest first, then by number, and no score above the greatest
+-- a ranking of a table of this many rows has each row once, by score, the greatest first, then by number, and no score above the greatest
 pub record IsRanking (rows max : ℕ) (ranking : List ScoredRow) : Type 0 where
   pub all : length ranking ≡ rows
   pub each : AllByRecursion (IsIndexEntry rows max) ranking

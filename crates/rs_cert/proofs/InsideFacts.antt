@@ -52,7 +52,7 @@ last-or_before (x ∷ y ∷ ys) last z climbs e h =
       | inr behind ↦ last-or_before (y ∷ ys) last z climbs.1 e behind
     ]
 
--- where so many pairs come before one, so many are counted before a bar that comes at or behind it
+-- where this many pairs come before one, this many are counted before a bar that comes at or behind it
 pub beyond-counted : (n : ℕ) (pairs : List Pair) (z bar : Pair) → (z ≡ bar) ⊎ (pair_cmp z bar ≡ Less) → IsBeyond pair_cmp (λ p. p) n pairs z → n ≤ length (those_before pair_cmp (λ p. p) (Some bar) pairs)
 beyond-counted zero pairs z bar h beyond = omega arith
 beyond-counted (suc n) [] z bar h beyond = absurd beyond

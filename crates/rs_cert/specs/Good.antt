@@ -21,7 +21,7 @@ pub record FallsOnBothSides (cert : Cert) : Type 0 where
   pub left : Falls cert.left.rows
   pub right : Falls cert.right.rows
 
--- the pairs are the first answers, and at most so many as are wanted
+-- the pairs are the first answers, and at most this many as are wanted
 pub record HasFirstPairs (cert : Cert) : Type 0 where
   pub first : cert.pairs ≡ numbers_of (first_answers cert)
   pub most : length cert.pairs ≤ cert.k

@@ -7,7 +7,7 @@ use crate::by_text::RowsByText;
 use crate::pair::Pair;
 use rs_feed::FeedRow;
 
-/// Whether more than so many pairs come before a bar; without a bar, whether there are more. It looks at no more pairs of a row than
+/// Whether more than this many pairs come before a bar; without a bar, whether there are more. It looks at no more pairs of a row than
 /// come before the bar, and one.
 pub(crate) fn has_more_pairs(
     lefts: &[FeedRow],

@@ -233,7 +233,7 @@ module _ (es ts indexes : List ℕ) where
         subst (IsOver es ts indexes) (sym p.pair) (made.is_in, p.first_in, p.second_in)
   ]
 
-  -- the trees of so many levels are those whose numbers are among these
+  -- the trees of this many levels are those whose numbers are among these
   In-trees : (tree : PlanTree) (n : ℕ) → levels tree ≤ n → IsOver es ts indexes tree → In tree (trees_of es ts indexes n)
   unfolding trees_of
   In-trees tree zero few over = absurd (let some = some-levels tree in omega arith)

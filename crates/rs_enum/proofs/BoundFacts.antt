@@ -7,7 +7,7 @@ use Rattle.rs_plan.specs.Numbers.{IsUpTo}
 use Rattle.rs_enum.specs.Bounds.{most_cost, most_set_cost}
 use Rattle.rs_enum.proofs.BitFacts.{number-apart, ones-mask, ones-or}
 
--- some of six entries have at most so many combinations
+-- some of six entries have at most this many combinations
 pub rows-most : (mask rows : ℕ) → mask < 2 ^ 6 → rows ≤ 131072 ^ count_ones mask → rows ≤ 2 ^ 102
 rows-most mask rows small few =
     let ones : count_ones mask ≤ 6 = ones-le 6 mask small in
@@ -15,7 +15,7 @@ rows-most mask rows small few =
     let six : 131072 ^ 6 ≡ 2 ^ 102 = refl in
     omega arith
 
--- so many pairs of rows of two sides
+-- this many pairs of rows of two sides
 pub pairs-most : (left right a b : ℕ) → left < 2 ^ 6 → right < 2 ^ 6 → AreDisjoint left right → a ≤ 131072 ^ count_ones left → b ≤ 131072 ^ count_ones right
     → a * b ≤ 2 ^ 102
 pairs-most left right a b small_left small_right apart few_left few_right =
@@ -34,7 +34,7 @@ pairs-most left right a b small_left small_right apart few_left few_right =
     le-le : (x y z : ℕ) → x ≤ y → y ≤ z → x ≤ z
     le-le x y z first second = omega arith
 
--- a call for each of so many rows
+-- a call for each of this many rows
 pub calls-most : (rows call : ℕ) → rows ≤ 2 ^ 102 → call < 2 ^ 16 → rows * call ≤ 2 ^ 118
 calls-most rows call few small =
     let product : rows * call ≤ 2 ^ 102 * 2 ^ 16 = mul-le rows call (2 ^ 102) (2 ^ 16) few (omega arith) in

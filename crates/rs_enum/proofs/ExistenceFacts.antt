@@ -20,7 +20,7 @@ use Rattle.rs_plan.specs.Plans.{HasNoDistinct, IsComplete, IsPart, IsPlan, IsRan
 use Rattle.rs_plan.specs.Trees.{Distinct, NestedJoin, Rank, SeqScan, SetOperator, PlanTree, entries, terms}
 use Rattle.rs_enum.proofs.BitFacts.{union-sum}
 
--- the first so many numbers, and one more
+-- the first this many numbers, and one more
 number-power : (n : ℕ) → mask_of (suc n) ≡ 2 ^ n
 number-power n = let place : suc n - 1 ≡ n = omega arith in ap (λ k. 2 ^ k) place
 

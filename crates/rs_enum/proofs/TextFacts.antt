@@ -49,7 +49,7 @@ entry-text old one two three name alias table_name entry_alias first second thir
     three-parts old one two three name (32 ∷ []) alias first second third
     ∙ (λ at. old ++ ((same at ++ (32 ∷ [])) ++ other at))
 
--- the nodes of parts are fewer than so many
+-- the nodes of parts are fewer than this many
 pub nodes-most : (catalogue : Catalogue) (block : Block) → IsBlock catalogue block → (tree : PlanTree) → IsPart catalogue block tree → HasNoDistinct tree
     → nodes_of tree + 1 ≤ 2 * count_ones (entries tree) + count_ones (terms tree)
 nodes-most catalogue block formed (SeqScan e) is whole = let one = ones-mask (e - 1) in omega arith

@@ -21,7 +21,7 @@ trees_over terms lesser =
 abbrev pub all_scans : List ℕ → List ℕ → List ℕ → List PlanTree
 all_scans entries terms indexes = map SeqScan entries ++ flat_map (λ entry. flat_map (λ term. map (RankScan entry term) indexes) terms) entries
 
--- all trees of at most so many levels over these entries, terms and indexes
+-- all trees of at most this many levels over these entries, terms and indexes
 unfoldable pub trees_of : List ℕ → List ℕ → List ℕ → ℕ → List PlanTree
 trees_of entries terms indexes zero = []
 trees_of entries terms indexes (suc levels) = all_scans entries terms indexes ++ trees_over terms (trees_of entries terms indexes levels)

@@ -18,7 +18,7 @@ use Rattle.rs_enum.specs.Candidates.{IsCandidate}
 use Rattle.rs_enum.specs.Costs.{cost_of, estimate_of}
 use Rattle.rs_enum.specs.Least.{ComesNoLater}
 
--- what is kept of a signature, where a block has so many terms: entries decide before terms
+-- what is kept of a signature, where a block has this many terms: entries decide before terms
 abbrev pub kept_at : ℕ → List (Option Kept) → ℕ → ℕ → Option Kept
 kept_at count places first second = option_and_then (λ (kept : Option Kept). kept) (slice_get places (first * 2 ^ count + second))
 

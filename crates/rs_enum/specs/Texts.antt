@@ -60,7 +60,7 @@ abbrev pub done_by : PlanTree → Option Counts → List ℕ
 done_by tree None = []
 done_by tree (Some counts) = codes " asked=" ++ decimal counts.asked ++ codes " gave=" ++ decimal counts.gave ++ counted tree counts
 
--- the line of a node that stands so many levels below the root, in the plan of the block of this number
+-- the line of a node that stands this many levels below the root, in the plan of the block of this number
 abbrev pub plan_line : Catalogue → Query → List BlockCards → ℕ → ℕ → PlanTree → Option Counts → List ℕ
 plan_line catalogue query cards level number tree counts =
     replicate (2 * level) 32 ++ name_of catalogue query number tree
@@ -77,14 +77,14 @@ nodes_of (NestedJoin left right) = suc (nodes_of left + nodes_of right)
 nodes_of (Distinct child) = suc (nodes_of child)
 nodes_of (SetOperator left right) = suc (nodes_of left + nodes_of right)
 
--- the counts of the first node, and those behind so many
+-- the counts of the first node, and those behind this many
 abbrev pub first_of : Option (List Counts) → Option Counts
 first_of counts = option_and_then (λ (told : List Counts). slice_get told 0) counts
 
 abbrev pub behind : ℕ → Option (List Counts) → Option (List Counts)
 behind nodes counts = option_map (drop nodes) counts
 
--- the lines of a plan that stands so many levels below the root, with the counts of its nodes where they are told
+-- the lines of a plan that stands this many levels below the root, with the counts of its nodes where they are told
 abbrev pub plan_lines : Catalogue → Query → List BlockCards → ℕ → ℕ → PlanTree → Option (List Counts) → List ℕ
 plan_lines catalogue query cards level number (SeqScan entry) counts =
     plan_line catalogue query cards level number (SeqScan entry) (first_of counts)

@@ -117,7 +117,7 @@ fn dropped_at(
     }
 }
 
-/// The plan that drops duplicates of one that gives so many rows.
+/// The plan that drops duplicates of one that gives this many rows.
 fn without_duplicates(alloc: Global, kept: &Kept, rows: u128) -> Result<Kept, Memory>
     requires { kept.now.cost + rows < 2 ^ 128 }
     ensures cost { IfOk result (λ base. base.cost ≡ kept.now.cost + rows) }

@@ -219,7 +219,7 @@ pub(crate) fn index_rows(cards: &Cards, number: u8, entry: u8, term: u8) -> u128
     cards.est_index(number, entry, term)
 }
 
-/// So many rows, for each of which a predicate is called at this cost.
+/// This many rows, for each of which a predicate is called at this cost.
 pub(crate) fn with_calls(below: u128, rows: u128, call: u16) -> u128
     requires { below + rows * call < 2 ^ 128 }
     ensures { result ≡ below + rows * call }

@@ -25,7 +25,7 @@ use rs_query::{Block, Query, Term, block_in, is_inside};
 use rs_rank::{has_number, mask_of};
 use rs_sample::Cards;
 
-/// What is kept of a signature, where the block has so many terms.
+/// What is kept of a signature, where the block has this many terms.
 pub(crate) fn kept_at(count: u8, places: &[Option<Kept>], of: Signature) -> Option<&Kept>
     requires { count ≤ 8 }
     ensures { option_map (λ kept. kept.now) result ≡ kept_at count places.now of.entries of.terms }
@@ -37,7 +37,7 @@ pub(crate) fn kept_at(count: u8, places: &[Option<Kept>], of: Signature) -> Opti
     }
 }
 
-/// The place of a signature, where the block has so many terms.
+/// The place of a signature, where the block has this many terms.
 fn place_of(count: u8, of: Signature) -> usize
     requires { count ≤ 8 }
     ensures { result ≡ of.entries * 2 ^ count + of.terms }

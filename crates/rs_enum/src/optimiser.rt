@@ -199,7 +199,7 @@ fn filled(
     Ok(places)
 }
 
-/// How many masks there are of so many numbers.
+/// How many masks there are of this many numbers.
 pub(crate) fn masks(count: u8) -> u32
     requires { count ≤ 8 }
     ensures { result ≡ 2 ^ count }
@@ -216,7 +216,7 @@ fn product(rows: u32, columns: u32) -> u32
     rows * columns
 }
 
-/// The signature of a place, where each mask of entries has so many places.
+/// The signature of a place, where each mask of entries has this many places.
 fn signature_at(place: u32, columns: u32) -> Signature
     requires some { 1 ≤ columns }
     requires few { columns ≤ 256 }

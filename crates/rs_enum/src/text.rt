@@ -56,7 +56,7 @@ pub fn explain(
     Ok(text)
 }
 
-/// Puts the lines of a set operator, or of operators for terms above one, that stands so many levels below the root.
+/// Puts the lines of a set operator, or of operators for terms above one, that stands this many levels below the root.
 fn put_set_lines(
     alloc: Global,
     text: &mut Vec<u8>,
@@ -127,7 +127,7 @@ fn put_set_lines(
     }
 }
 
-/// Puts the lines of a part of a plan of the block of this number that stands so many levels below the root.
+/// Puts the lines of a part of a plan of the block of this number that stands this many levels below the root.
 fn put_part_lines(
     alloc: Global,
     text: &mut Vec<u8>,
@@ -278,7 +278,7 @@ fn first_of(counts: Option<&[Counts]>) -> Option<Counts>
     }
 }
 
-/// The counts behind those of so many nodes.
+/// The counts behind those of this many nodes.
 fn behind(nodes: u8, counts: Option<&[Counts]>) -> Option<&[Counts]>
     requires { IfSome counts (λ told. nodes ≤ length told.now) }
     ensures { option_map (λ told. told.now) result ≡ behind nodes (option_map (λ told. told.now) counts.entry) }

@@ -7,7 +7,7 @@ use Rattle.rs_outside.specs.declared.files.FetchFault.TheVariants.{Missing, TooL
 use Rattle.rs_events.specs.Events.{finds_in}
 use Rattle.rs_events.specs.Halts.{fetched_more}
 
--- the bytes of a file, which are at most so many, or why it is not read
+-- the bytes of a file, which are at most this many, or why it is not read
 abbrev pub fetched_bytes : ℕ → Option (List ℕ) → Result (List ℕ) FetchFault
 fetched_bytes limit None = Err Missing
 fetched_bytes limit (Some bytes) = if nat_le (length bytes) limit then Ok bytes else Err TooLong

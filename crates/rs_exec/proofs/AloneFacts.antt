@@ -7,7 +7,7 @@ use Rattle.rs_query.specs.Questions.{Question}
 use Rattle.rs_exec.proofs.RankFacts.{asks_from-split, drop-front}
 
 module _ (step : SideAsk → List Question) where
-  -- those of the asks behind so many, up to this number
+  -- those of the asks behind this many, up to this number
   abbrev pub between : ℕ → ℕ → List Question
   between first last = flat_map step (asks_from Left (suc first) (last - first))
 
@@ -34,7 +34,7 @@ module _ (step : SideAsk → List Question) where
       ∙ ap (λ k. asks_from Left (suc first) (asks - first) ++ asks_from Left (suc asks) k) count)
       ∙ flat_map-append step (asks_from Left (suc first) (asks - first)) (asks_from Left (suc asks) (suc (last - suc asks)))
 
-  -- what all asks up to this number give, without what so many gave before
+  -- what all asks up to this number give, without what this many gave before
   pub between-part : (first last : ℕ) (before after : List Question) → first ≤ last → before ≡ flat_map step (asks_from Left 1 first)
       → after ≡ flat_map step (asks_from Left 1 last) → drop (length before) after ≡ between first last
   between-part first last before after le is_before is_after =
@@ -46,7 +46,7 @@ module _ (step : SideAsk → List Question) where
       ∙ drop-front (flat_map step (asks_from Left 1 first)) (flat_map step (asks_from Left (1 + first) (last - first)))
       ∙ ap (λ k. flat_map step (asks_from Left k (last - first))) place
 
-  -- those of so many asks go on where those of fewer end
+  -- those of this many asks go on where those of fewer end
   pub between-behind : (first last : ℕ) → first ≤ last → flat_map step (asks_from Left 1 last) ≡ flat_map step (asks_from Left 1 first) ++ between first last
   between-behind first last le =
       let place : 1 + first ≡ suc first = omega arith in

@@ -55,7 +55,7 @@ pub climbs-map : {X Y K : Type 0} (cmp : K → K → Ordering) (key : Y → K) (
 climbs-map cmp key f [] climbs = tt
 climbs-map cmp key f (x ∷ xs) climbs = (each-map (Precedes cmp key (f x)) f xs climbs.0, climbs-map cmp key f xs climbs.1)
 
--- the row that is first of its values behind so many first ones
+-- the row that is first of its values behind this many first ones
 record Reached (rows : List OutputRow) (n : ℕ) : Type 0 where
   fed : ℕ
   row : OutputRow
@@ -140,7 +140,7 @@ module _ (w : World) (number : ℕ) (child : PlanTree) where
     distinct-length =
         sym (length-map (list_of w number (Distinct child)) (output_row w)) ∙ ap (λ (all : List OutputRow). length all) (distinct-outputs w number child formed part weights)
 
-    -- as far as so many answers take the input gave as many first ones
+    -- as far as this many answers take the input gave as many first ones
     pub record Taken (a : ℕ) : Type 0 where
       pub inside : asked_of w number (Distinct child) a Left ≤ length (outputs_in w number child)
       pub count : length (firsts (take (asked_of w number (Distinct child) a Left) (outputs_in w number child))) ≡ a
@@ -215,7 +215,7 @@ module _ (w : World) (number : ℕ) (child : PlanTree) where
             let two = distinct-asks (suc n) ∙ ap (asks_for key_cmp key rows) (none (suc n) (omega arith)) in
             omega arith
 
--- during ask a + 1 of the operator, which found no end before: so many asks of its input were made, each gave a row, the core stands
+-- during ask a + 1 of the operator, which found no end before: this many asks of its input were made, each gave a row, the core stands
 -- at these rows, of which as many were given as there were asks, and all questions of this ask up to here were asked, with no bad answer
 pub record DropsBetween (w : World) (number : ℕ) (child : PlanTree) (a asks : ℕ) (core : Kept) (old now : ScorerState) : Type 0 where
   pub core_stands : DistinctStands (outputs_in w number child) asks core

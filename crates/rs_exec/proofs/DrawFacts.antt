@@ -11,7 +11,7 @@ use Rattle.rs_scan.specs.Scans.{entry_row, rows_from, scored}
 use Rattle.rs_plan.specs.Counts.{place_in_index, place_in_table}
 
 module _ {A : Type 0} (is : A → Bool) where
-  -- how many are drawn until so many pass, or all
+  -- how many are drawn until this many pass, or all
   abbrev pub drawn_for : List A → ℕ → ℕ
   drawn_for [] n = 0
   drawn_for (x ∷ xs) zero = 0
@@ -36,7 +36,7 @@ module _ {A : Type 0} (is : A → Bool) where
         | false ↦ first_of-drawn xs (suc n)
       ]
 
-  -- and up to it so many are drawn
+  -- and up to it this many are drawn
   pub through_first-drawn : (xs : List A) (n : ℕ) → drawn_for xs n + length (through_first is (drop (drawn_for xs n) xs)) ≡ drawn_for xs (suc n)
   through_first-drawn [] n = refl
   through_first-drawn (x ∷ xs) zero =

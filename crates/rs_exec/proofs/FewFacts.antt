@@ -40,7 +40,7 @@ length-flat_map f m (x ∷ xs) same =
     let all = length-append (f x) (flat_map f xs) in
     omega arith
 
--- the product of so many tables
+-- the product of this many tables
 abbrev most : List ℕ → ℕ
 most [] = 1
 most (size ∷ sizes) = 131072 * most sizes

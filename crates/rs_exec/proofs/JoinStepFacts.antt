@@ -61,7 +61,7 @@ split-at (y ∷ xs) (m ∷ made) x begins at =
     let rest : made ≡ take (length made) xs = cc in
     ap₂ (λ z zs. z ∷ zs) (sym first) (split-at xs made x rest at)
 
--- during ask a + 1 of a join, which found no end before: so many asks of its sides were made, the core stands at as many answers
+-- during ask a + 1 of a join, which found no end before: this many asks of its sides were made, the core stands at as many answers
 -- as asks, and all questions of this ask up to here were asked, with no bad answer
 pub record JoinBetween (w : World) (number : ℕ) (left right : PlanTree) (a left_asks right_asks : ℕ) (joined : Joined) (old now : ScorerState) : Type 0 where
   pub more : List SideAsk
@@ -73,7 +73,7 @@ pub record JoinBetween (w : World) (number : ℕ) (left right : PlanTree) (a lef
   pub all_asked : AllAsked old.answer w.catalogue (flat_map (side_part (questions w number left) (questions w number right)) more) old now
 
 -- after ask a + 1 of a join: the row that it gave is the next one of its list, all questions of the ask were asked, and what is kept
--- is what so many asks leave
+-- is what this many asks leave
 pub record AskedAll (w : World) (number : ℕ) (left right : PlanTree) (a left_asks right_asks : ℕ) (row : Option RankRow) (after : Joined) (old now : ScorerState) : Type 0 where
   pub inquires : Inquires Memory (next_row w number (NestedJoin left right) a) (Ok row) old now
   pub value : row ≡ slice_get (list_of w number (NestedJoin left right)) a
@@ -109,7 +109,7 @@ module _ (w : World) (number : ℕ) (left right : PlanTree) (parts : CanJoinPart
   pub join-asked : (n : ℕ) (side : JoinSide) → asked_of w number (NestedJoin left right) n side ≡ asked side (schedule_of (join_for w number left right) (list_of w number left) (list_of w number right) n)
   join-asked n side = ap (λ (asks : List SideAsk). length (filter (is_of_side side) asks)) (join-schedule n)
 
-  -- so many of each side
+  -- this many of each side
   bar-same : (n : ℕ) → bar_after (answer_key j) (answers j lefts rights) n ≡ bar_of w number (NestedJoin left right) n
   bar-same n =
       sym (bar_after-map (answer_key j) (list_of w number (NestedJoin left right)) n
@@ -487,7 +487,7 @@ module _ (catalogue : Catalogue) (query : Query) (number : ℕ) (left right : Pl
     list-is : list_of (world_of catalogue old.answer query) number (NestedJoin left right) ≡ answers (join_for (world_of catalogue old.answer query) number left right) (list_of (world_of catalogue old.answer query) number left) (list_of (world_of catalogue old.answer query) number right)
     list-is = join-list world number left right join-parts
 
-    -- what it keeps then, of so many answers
+    -- what it keeps then, of this many answers
     kept-all : between.made ≡ asks_to (suc a) → (count : ℕ) (after : Joined) → JoinStands (join_for (world_of catalogue old.answer query) number left right) (list_of (world_of catalogue old.answer query) number left) (list_of (world_of catalogue old.answer query) number right) between.made count after
         → count ≡ gave_of (world_of catalogue old.answer query) number (NestedJoin left right) (suc a)
         → after ≡ joined_after (join_for (world_of catalogue old.answer query) number left right) (list_of (world_of catalogue old.answer query) number left) (list_of (world_of catalogue old.answer query) number right)

@@ -29,7 +29,7 @@ use Rattle.rs_exec.specs.declared.scan.TableNode.{TableNode}
 use Rattle.rs_exec.specs.declared.tally.Tally.{Tally}
 use Rattle.rs_exec.proofs.StepFacts.{block-formed, slice_get-none}
 
--- so many rows are drawn now, and none of those that were drawn since before passes: what is left gives what was left then
+-- this many rows are drawn now, and none of those that were drawn since before passes: what is left gives what was left then
 pub record NonePassed (is : RankRow → Bool) (rows : List RankRow) (before now : ℕ) : Type 0 where
   pub next : next_drawn is rows now ≡ next_drawn is rows before
   pub drawn : drawn_then is rows now ≡ drawn_then is rows before
@@ -81,7 +81,7 @@ module _ (is : RankRow → Bool) (rows : List RankRow) (before now : ℕ) where
       let old = so_far.drawn in
       record { next = sym first ∙ so_far.next; drawn = omega arith }
 
--- a row is that of an entry of a block, with the number of one of so many rows
+-- a row is that of an entry of a block, with the number of one of this many rows
 pub record IsOfEntry (block entry rows : ℕ) (row : RankRow) : Type 0 where
   pub number : ℕ
   pub sum : ℕ
@@ -136,7 +136,7 @@ module _ (catalogue : Catalogue) (query : Query) (bound : Block) (block entry ro
       ∙ all_hold-within catalogue bound row.ids.mask row.ids.rows
       ∙ ap (λ (b : Block). satisfies catalogue b row.ids.mask row.ids.rows) (is_block ∙ ap (block_in query) (sym (ap (λ (r : RankRow). r.ids.block) is.row_is)))
 
--- during an ask of a scan of a table, so many rows are drawn
+-- during an ask of a scan of a table, this many rows are drawn
 abbrev pub table_asked : TableNode → ℕ → TableNode
 table_asked old drawn = record old {
   scan = record old.scan { drawn = drawn };

@@ -38,7 +38,7 @@ numbers-of side asks n count is =
       go n zero = refl
       go n (suc count) = ap suc (go (suc n) count)
 
--- so many asks of the right side
+-- this many asks of the right side
 right-from : (n count : ℕ) → length (filter (is_of_side Right) (asks_from Right n count)) ≡ count
 right-from n zero = refl
 right-from n (suc count) = ap suc (right-from (suc n) count)
@@ -51,7 +51,7 @@ in-two : (side : JoinSide) (xs ys : List SideAsk) → length (filter (is_of_side
 in-two side xs ys =
     ap (λ (asks : List SideAsk). length asks) (filter-append (is_of_side side) xs ys) ∙ length-append (filter (is_of_side side) xs) (filter (is_of_side side) ys)
 
--- INTERSECT and EXCEPT ask the left side so often, and the right one as often as a left row wants
+-- INTERSECT and EXCEPT ask the left side this many times, and the right one as often as a left row wants
 left-count : (rights lefts : List Key) (n asks count : ℕ) → count ≤ suc (length lefts) → length (filter (is_of_side Left) (one_by_one rights lefts n asks count)) ≡ count
 left-count rights lefts n asks zero few = refl
 left-count rights [] n asks (suc count) few = omega arith

@@ -38,7 +38,7 @@ core-new s op.Union lefts rights input = (refl, union_facts.new-stands s lefts r
 core-new s op.Intersect lefts rights input = (refl, compared_facts.new-stands s true lefts rights input)
 core-new s op.Except lefts rights input = (refl, compared_facts.new-stands s false lefts rights input)
 
--- so many items of which the first ones pass a test
+-- this many items of which the first ones pass a test
 pass-least : {X : Type 0} (p : X → Bool) (n : ℕ) (xs : List X) → n ≤ length xs → AllByRecursion (λ x. p x ≡ true) (take n xs) → n ≤ length (filter p xs)
 pass-least p zero xs within all = omega arith
 pass-least p (suc n) [] within all = absurd (omega arith)

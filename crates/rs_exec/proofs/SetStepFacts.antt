@@ -70,7 +70,7 @@ pub record SetFacts (w : World) (left right : PlanTree) : Type 0 where
   pub left_all : entries left ≡ all_entries (block_in w.query 1)
   pub right_all : entries right ≡ all_entries (block_in w.query 2)
 
--- a query that sees so many rows
+-- a query that sees this many rows
 abbrev pub seen : Catalogue → Answering → View → Query → World
 seen catalogue answer view query = record { catalogue = catalogue; answer = answer; query = query; view = view }
 
@@ -110,7 +110,7 @@ set-facts catalogue answer view (Set o l r limit) number left right formed weigh
         ∙ bar_after-map (row_key s) (outputs_in w 1 (SetOperator left right)) n
         ∙ ap (λ (rows : List OutputRow). bar_after (row_key s) rows n) list)
 
--- a list that begins with so many items has the next one behind them
+-- a list that begins with this many items has the next one behind them
 next-of : {X : Type 0} (xs made behind : List X) (x : X) → xs ≡ made ++ behind → slice_get xs (length made) ≡ Some x → xs ≡ made ++ x ∷ drop (suc (length made)) xs
 next-of {X} xs made behind x is at = subst (λ (ys : List X). ys ≡ made ++ x ∷ drop (suc (length made)) ys) (sym is) (go made behind (subst (λ (ys : List X). slice_get ys (length made) ≡ Some x) is at)) where
   go : (made behind : List X) → slice_get (made ++ behind) (length made) ≡ Some x → made ++ behind ≡ made ++ x ∷ drop (suc (length made)) (made ++ behind)
@@ -118,7 +118,7 @@ next-of {X} xs made behind x is at = subst (λ (ys : List X). ys ≡ made ++ x �
   go [] (y ∷ behind) at = let same : y ≡ x = cc in ap (λ z. z ∷ behind) same
   go (m ∷ made) behind at = ap (λ rest. m ∷ rest) (go made behind at)
 
--- during ask a + 1 of a set operator, which found no end before: so many asks of its sides were made, the core stands at as many
+-- during ask a + 1 of a set operator, which found no end before: this many asks of its sides were made, the core stands at as many
 -- answers as asks, and all questions of this ask up to here were asked, with no bad answer
 pub record SetBetween (w : World) (left right : PlanTree) (a left_asks right_asks : ℕ) (core : SetCore) (old now : ScorerState) : Type 0 where
   pub more : List SideAsk
@@ -130,7 +130,7 @@ pub record SetBetween (w : World) (left right : PlanTree) (a left_asks right_ask
   pub all_asked : AllAsked old.answer w.catalogue (flat_map (side_part (questions w 1 left) (questions w 2 right)) more) old now
 
 -- after ask a + 1: the row that it gave is the next one of its list, all questions of the ask were asked, and the core stands at what
--- so many asks make
+-- this many asks make
 pub record SetAsked (w : World) (left right : PlanTree) (a left_asks right_asks : ℕ) (row : Option RankRow) (core : SetCore) (old now : ScorerState) : Type 0 where
   pub inquires : Inquires Memory (next_row w 1 (SetOperator left right) a) (Ok row) old now
   pub value : row ≡ slice_get (list_of w 1 (SetOperator left right)) a

@@ -51,7 +51,7 @@ module _ (w : World) (number term : ℕ) (child : PlanTree) (a : ℕ) where
   abbrev pub done : ℕ → List Question
   done asks = flat_map (rank_part w term (list_of w number child) (questions w number child)) (asks_between w number term child first asks)
 
-  -- during ask a + 1, which found no end before: the input was asked so often, the core stands at as many answers as asks, the
+  -- during ask a + 1, which found no end before: the input was asked this many times, the core stands at as many answers as asks, the
   -- tally has the new ask, and all questions up to here were asked, with no bad answer
   pub record Between (asks : ℕ) (head : RankNode) (old now : ScorerState) : Type 0 where
     pub core : MuStands (evaluation_for w term child) (list_of w number child) asks a head.core
@@ -308,7 +308,7 @@ module _ (catalogue : Catalogue) (query : Query) (number term : ℕ) (child : Pl
       let size = same-length in
       ap (λ ask. taken_for ask mu) is ∙ sym (slice_get_past (list_of w number (Rank term child)) a (omega arith))
 
-  -- and it keeps then what so many answers leave
+  -- and it keeps then what this many answers leave
   over-state : (mu : Mu) (asks : ℕ) → MuStands e (list_of w number child) asks a mu → (ask : Ask) → ask_of mu ≡ ask → Tells e (list_of w number child) asks a ask → (ask ≡ Need → ⊥)
       → left_for (ask_of mu) mu ≡ state_after e (list_of w number child) asks (min (suc a) (length (list_of w number (Rank term child))))
   over-state mu asks stands Need is tells over = absurd (over refl)

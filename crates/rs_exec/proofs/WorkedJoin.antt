@@ -1,4 +1,4 @@
--- What a join keeps after so many asks, computed on literals and worked by hand.
+-- What a join keeps after this many asks, computed on literals and worked by hand.
 use Rattle.std.proofs.Common.{◌≡◌, ℕ, false, true, List, [], ◌∷◌, refl}
 use Rattle.std.specs.Prelude.{pos, None, Some, codes}
 use Rattle.rs_value.specs.declared.kind.Kind.TheVariants as kind

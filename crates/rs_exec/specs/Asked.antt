@@ -86,7 +86,7 @@ pub record SetAfter (w : World) (tree : PlanTree) (asked : ℕ) (head : SetNode)
   pub left_side : Stands w 1 left
   pub right_side : Stands w 2 right
 
--- an ask of a node of this tree, which was asked so often: it made the calls of this ask, in order, and gave the next row; and
+-- an ask of a node of this tree, which was asked this many times before: it made the calls of this ask, in order, and gave the next row; and
 -- where it was answered, this holds after it
 pub record Asked (w : World) (number : ℕ) (tree : PlanTree) (asked : ℕ) (After : Type 0) (result : Result (Option RankRow) ExecFault) (before after : ScorerState) : Type 0 where
   pub inquires : Inquires Memory (next_row w number tree asked) result before after

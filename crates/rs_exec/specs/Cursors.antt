@@ -40,12 +40,12 @@ abbrev pub HasFewTerms : Query → Type 0
 HasFewTerms (One block limit) = length block.terms ≤ 8
 HasFewTerms (Set op left right limit) = (length left.terms ≤ 8) × (length right.terms ≤ 8) × AreSameTerms left right left.terms right.terms
 
--- so many rows are as many as LIMIT says
+-- this many rows are as many as LIMIT says
 abbrev pub is_limit : Option ℕ → ℕ → Bool
 is_limit None n = false
 is_limit (Some limit) n = nat_le limit n
 
--- after so many asks the plan is asked no more: LIMIT rows were given, or an ask found the end
+-- after this many asks the plan is asked no more: LIMIT rows were given, or an ask found the end
 abbrev pub is_over : World → PlanTree → ℕ → Bool
 is_over w tree n = is_limit (limit_of w.query) n || nat_lt (length (list_of_plan w tree)) n
 
@@ -64,7 +64,7 @@ pub record SameAsks (w other : World) (tree : PlanTree) : Type 0 where
 abbrev pub no_question : {A : Type 0} → Result A ExecFault → Inquiry A ExecFault
 no_question outcome = record { requests = []; outcome = outcome }
 
--- what the next call of a cursor is after so many asks of its plan
+-- what the next call of a cursor is after this many asks of its plan
 abbrev pub next_of : World → PlanTree → ℕ → Inquiry (Option Answer) ExecFault
 next_of w tree n = if is_over w tree n then no_question (Ok None) else next_answer w tree n
 
@@ -93,7 +93,7 @@ pub record IsNew (query : Query) (tree : PlanTree) (cursor : CursorState) : Type
   pub sound : cursor.failed ≡ false
 
 -- a cursor stands for a catalogue and a scorer of these answers: its query and its plan are those of the catalogue, the indexes of
--- its plan hold the answers, its tables and weights are within their limits, and all that it keeps is what so many asks give
+-- its plan hold the answers, its tables and weights are within their limits, and all that it keeps is what this many asks give
 pub record StandsFor (catalogue : Catalogue) (answer : Answering) (cursor : CursorState) : Type 0 where
   pub sound : cursor.failed ≡ false
   pub query : IsQuery catalogue cursor.query

@@ -1,4 +1,4 @@
--- What an operator that drops duplicates keeps, once it was asked so often.
+-- What an operator that drops duplicates keeps after a number of asks.
 use Rattle.std.specs.Prelude.{ℕ, ◌≡◌, false, take}
 use Rattle.rs_order.specs.Schedule.{Left}
 use Rattle.rs_outputs.specs.Rows.{lists_of}
@@ -15,7 +15,7 @@ distinct_node_after w number child a = record {
   tally = record { asked = a; gave = gave_of w number (Distinct child) a };
 }
 
--- the operator over an input of this tree that was asked so often keeps what its own asks give
+-- the operator over an input of this tree that was asked this many times keeps what its own asks give
 pub record DropsStand (w : World) (number : ℕ) (head : DistinctNode) (child : PlanTree) (asks : ℕ) : Type 0 where
   pub keeps : head ≡ distinct_node_after w number child head.tally.asked
   pub asked : asks ≡ asked_of w number (Distinct child) head.tally.asked Left

@@ -18,7 +18,7 @@ use Rattle.rs_exec.specs.declared.tally.Tally.{Tally}
 abbrev pub passes : Catalogue → Query → RankRow → Bool
 passes catalogue query row = satisfies catalogue (block_in query row.ids.block) row.ids.mask row.ids.rows
 
--- of some rows, of which so many were drawn: the next one that passes, and how many are drawn then
+-- of some rows, of which this many were drawn: the next one that passes, and how many are drawn then
 abbrev pub next_drawn : (RankRow → Bool) → List RankRow → ℕ → Option RankRow
 next_drawn is rows drawn = first_of is (drop drawn rows)
 

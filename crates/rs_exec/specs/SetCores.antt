@@ -88,7 +88,7 @@ left_in (Union u) = Union (union.left_for (heads.ask_of u.heads) u)
 left_in (Intersect c) = Intersect (compared.left_for (compared.ask_of c) c)
 left_in (Except c) = Except (compared.left_for (compared.ask_of c) c)
 
--- it is one of this operator, and stands at these asks and so many answers
+-- it is one of this operator, and stands at these asks and this many answers
 abbrev pub CoreStands : Sides → SetOp → List OutputRow → List OutputRow → List SideAsk → ℕ → SetCore → Type 0
 CoreStands s o lefts rights made count (UnionAll u) = (o ≡ op.UnionAll) × UnionAllStands s lefts rights made count u
 CoreStands s o lefts rights made count (Union u) = (o ≡ op.Union) × UnionStands s lefts rights made count u

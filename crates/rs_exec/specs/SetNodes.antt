@@ -1,4 +1,4 @@
--- Where a set operator stands, once it was asked so often.
+-- Where a set operator stands after a number of asks.
 use Rattle.std.specs.Prelude.{ℕ, ◌≡◌, max, List, [], ◌∷◌, take, Option}
 use Rattle.rs_order.specs.Asks.{asks_for}
 use Rattle.rs_order.specs.Schedule.{Left, Right}

@@ -1,4 +1,4 @@
--- What each node of a plan keeps once it was asked so often: a function of the finished lists alone. A node stands where it keeps
+-- What each node of a plan keeps after a number of asks: a function of the finished lists alone. A node stands where it keeps
 -- just that. These are equations, one at each node.
 use Rattle.std.specs.Prelude.{ℕ, ◌≡◌, ◌-◌, slice_index}
 use Rattle.rs_order.specs.Schedule.{Left, Right}
@@ -26,7 +26,7 @@ use Rattle.rs_exec.specs.Joining.{join_for}
 use Rattle.rs_exec.specs.Nodes.{asked_in, tree_in}
 use Rattle.rs_exec.specs.SetNodes.{SetStands}
 
--- so many asks, and a row for each as long as the list has more
+-- this many asks, and a row for each as long as the list has more
 abbrev pub tally_after : World → ℕ → PlanTree → ℕ → Tally
 tally_after w number tree a = record { asked = a; gave = gave_of w number tree a }
 
@@ -69,7 +69,7 @@ evaluation_for w term child = record {
   worth = λ (row : RankRow). slice_index (worths w row.ids) (term - 1);
 }
 
--- a rank operator keeps the rows that it drew and hasn't given, after so many asks of its input and so many answers
+-- a rank operator keeps the rows that it drew and hasn't given, after this many asks of its input and this many answers
 abbrev pub core_after : World → ℕ → ℕ → PlanTree → ℕ → ℕ → Mu
 core_after w number term child asks answers = state_after (evaluation_for w term child) (list_of w number child) asks answers
 
@@ -83,12 +83,12 @@ rank_node_after w number term child a = record {
   calls = gave_of w number child (asked_of w number (Rank term child) a Left);
 }
 
--- a rank operator over an input of this tree that was asked so often keeps what its own asks give
+-- a rank operator over an input of this tree that was asked this many times keeps what its own asks give
 pub record HeadStands (w : World) (number : ℕ) (head : RankNode) (child : PlanTree) (asks : ℕ) : Type 0 where
   pub keeps : head ≡ rank_node_after w number head.term child head.tally.asked
   pub asked : asks ≡ asked_of w number (Rank head.term child) head.tally.asked Left
 
--- a join holds the pairs of its rows that match and weren't given, after so many asks of each side and so many answers
+-- a join holds the pairs of its rows that match and weren't given, after this many asks of each side and this many answers
 abbrev pub joined_from : World → ℕ → PlanTree → PlanTree → ℕ → ℕ → ℕ → Joined
 joined_from w number left right left_asks right_asks answers =
     joined_after (join_for w number left right) (list_of w number left) (list_of w number right) left_asks right_asks answers
@@ -105,7 +105,7 @@ join_node_after w number core left right a = record {
   tally = tally_after w number (NestedJoin left right) a;
 }
 
--- a join over sides of these trees that were asked so often keeps what its own asks give
+-- a join over sides of these trees that were asked this many times keeps what its own asks give
 pub record JoinStands (w : World) (number : ℕ) (head : JoinNode) (left right : PlanTree) (left_asks right_asks : ℕ) : Type 0 where
   pub keeps : head ≡ join_node_after w number head.core left right head.tally.asked
   pub left_asked : left_asks ≡ asked_of w number (NestedJoin left right) head.tally.asked Left

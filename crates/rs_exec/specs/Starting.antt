@@ -31,7 +31,7 @@ use Rattle.rs_exec.specs.SetCores.{new_core}
 abbrev pub no_tally : Tally
 no_tally = record { asked = 0; gave = 0 }
 
--- a scan of a table, and one of an index, whose view is the first rows, so many
+-- a scan of a table, and one of an index, whose view is the first rows, this many
 abbrev pub new_table_node : Block → ℕ → ℕ → ℕ → TableNode
 new_table_node block number entry rows = record {
   scan = new_table_scan entry number rows;

@@ -166,7 +166,7 @@ impl Cursor {
     }
 }
 
-/// Whether so many rows are as many as LIMIT says.
+/// Whether this many rows are as many as LIMIT says.
 fn is_limit(limit: Option<u32>, rows: u128) -> bool
     ensures { result ≡ is_limit limit rows }
 {

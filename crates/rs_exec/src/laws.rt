@@ -39,7 +39,7 @@ pub fn plans_give_the_same_rows()
         → list_of_plan w tree ≡ list_of_plan w other }
 {}
 
-/// The calls of the first asks, one ask after another, are those that come with so many asks: no call is made ahead, and none
+/// The calls of the first asks, one ask after another, are those that come with this many asks: no call is made ahead, and none
 /// twice.
 pub fn rows_give_the_parts_in_turn()
     ensures { (w : World) (tree : PlanTree) (n : ℕ) → IsQuery w.catalogue w.query

@@ -33,7 +33,7 @@ followed = refl
 ended : and_then bad next ≡ record { requests = near ∷ far ∷ []; outcome = Err 7 }
 ended = refl
 
--- a scorer that was called so, of which so many calls failed
+-- a scorer that was called so, of which this many calls failed
 abbrev called : List Call → ℕ → ℕ → ScorerState
 called calls count faults = record { answer = λ predicate args. pos 5; calls = count; outside = record { told = Some calls; faults = faults; steady = false } }
 

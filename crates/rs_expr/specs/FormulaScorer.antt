@@ -3,7 +3,7 @@ use Rattle.std.specs.Prelude.{ℕ, true, None}
 use Rattle.rs_expr.specs.Meaning.{value_of}
 use Rattle.rs_expr.specs.Scoring.{ScorerState}
 
--- what contracts see of it after so many calls: it tells none of them, and none fails
+-- what contracts see of it after this many calls: it tells none of them, and none fails
 abbrev pub formula_state : ℕ → ScorerState
 formula_state calls = record {
   answer = λ predicate args. value_of predicate.formula args;

@@ -18,7 +18,7 @@ new_distinct = record { lists = []; spent = false }
 abbrev pub given_for : RankRow → List Value → List (List Value) → Option RankRow
 given_for row values lists = if has_list values lists then None else Some row
 
--- after so many rows it keeps their lists of values
+-- after this many rows it keeps their lists of values
 pub record DistinctStands (rows : List OutputRow) (fed : ℕ) (d : Distinct) : Type 0 where
   pub within : fed ≤ length rows
   pub state : d ≡ record { lists = lists_of (take fed rows); spent = false }

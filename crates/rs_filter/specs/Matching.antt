@@ -9,12 +9,12 @@ use Rattle.rs_query.specs.Conjuncts.{ConjunctDef}
 use Rattle.rs_query.specs.Meaning.{conjunct_holds, is_inside, conjuncts_within}
 use Rattle.rs_query.specs.Tables.{sizes_of}
 
--- whether a number is 0 outside, and inside that of one of so many rows, counted from 1
+-- whether a number is 0 outside, and inside that of one of this many rows, counted from 1
 abbrev pub is_row_number : Bool → ℕ → ℕ → Bool
 is_row_number true size row = row == 0
 is_row_number false size row = nat_le 1 row && nat_le row size
 
--- whether there is a row number for each entry in a mask, where the entries have so many rows, and 0 at the others
+-- whether there is a row number for each entry in a mask, where the entries have this many rows, and 0 at the others
 abbrev pub is_choice : ℕ → List ℕ → List ℕ → Bool
 is_choice mask [] [] = true
 is_choice mask [] (row ∷ rows) = false

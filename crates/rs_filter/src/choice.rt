@@ -3,7 +3,7 @@
 ghost use Rattle.std.specs.Prelude.{◌≡◌, ◌≤◌};
 ghost use Rattle.rs_filter.specs.Matching.{is_choice, is_row_number};
 
-/// Whether the numbers are of rows at the entries in a mask, whose tables have so many rows, and 0 at the other entries.
+/// Whether the numbers are of rows at the entries in a mask, whose tables have this many rows, and 0 at the other entries.
 pub(crate) fn is_choice(mask: u8, sizes: &[u32; 6], rows: &[u32; 6]) -> bool
     ensures { result ≡ is_choice mask sizes.now rows.now }
 {
@@ -16,7 +16,7 @@ pub(crate) fn is_choice(mask: u8, sizes: &[u32; 6], rows: &[u32; 6]) -> bool
     true
 }
 
-/// Whether a number is that of a row of so many, counted from 1, or is 0 outside.
+/// Whether a number is that of one of this many rows, counted from 1, or is 0 outside.
 fn is_row_number(outside: bool, size: u32, row: u32) -> bool
     ensures { result ≡ is_row_number outside size row }
 {

@@ -24,7 +24,7 @@ restaurant_line number cities row = line (codes "r") row ((3 * row + number) % c
 abbrev pub museum_line : ℕ → ℕ → ℕ → List ℕ
 museum_line number cities row = line (codes "m") row ((7 * row + number) % cities) ((29 * row + 3 * number) % 201)
 
--- a table: its header, and the lines of so many rows, which are numbered from 1
+-- a table: its header, and the lines of this many rows, which are numbered from 1
 abbrev pub table : List ℕ → (ℕ → List ℕ) → ℕ → List ℕ
 table header line_of rows = header ++ concat (map line_of (range_with_len 1 rows))
 

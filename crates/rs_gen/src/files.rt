@@ -8,7 +8,7 @@ use rs_outside::MemFiles;
 use rs_value::{Memory, Text};
 use std::alloc::Global;
 
-/// The files that are made from a number, with so many rows in each table: `hotel.csv`, `restaurant.csv`, `museum.csv`, and
+/// The files that are made from a number, with this many rows in each table: `hotel.csv`, `restaurant.csv`, `museum.csv`, and
 /// the script `gen.sql`, which reads the tables and searches them. The same numbers make the same bytes each time.
 pub fn generate(alloc: Global, number: u32, rows: u32) -> Result<MemFiles, Memory>
     ensures { IfOk result (λ files. files ≡ generated number rows) }

@@ -7,7 +7,7 @@ ghost use Rattle.rs_gen.specs.Tables.{city_count, hotel_line, hotels, museum_lin
 use rs_value::Memory;
 use std::alloc::Global;
 
-/// How many cities there are in tables of so many rows.
+/// How many cities there are in tables of this many rows.
 fn city_count(rows: u32) -> u64
     ensures { result ≡ city_count rows }
 {

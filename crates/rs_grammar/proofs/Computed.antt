@@ -24,7 +24,7 @@ behind_front next at bytes (Bad n) = None
 behind_front next at bytes Open = None
 behind_front next at bytes Wide = None
 
--- the tokens that bytes spell from a place on, where so many fronts are enough and none is refused
+-- the tokens that bytes spell from a place on, where this many fronts are enough and none is refused
 unfoldable pub spell : ℕ → ℕ → List ℕ → Option (List Token)
 spell zero at bytes = None
 spell (suc n) at bytes = behind_front (spell n) at bytes (front_of bytes)

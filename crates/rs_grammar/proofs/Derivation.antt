@@ -83,7 +83,7 @@ IsShallow-append : (left : ℕ) (xs ys : List Lexeme) → IsShallow left xs → 
 IsShallow-append left [] ys h k = k
 IsShallow-append left (x ∷ xs) ys h k = (h.0, IsShallow-append (left_behind x.kind left) xs ys h.1 k)
 
--- tokens are shallow, and so many counting tokens may still come behind them
+-- tokens are shallow, and this many counting tokens may still come behind them
 abbrev Leaves : State → List Lexeme → State → Type 0
 Leaves b tokens a = IsShallow b.left tokens × (a.left ≡ left_after b.left tokens)
 

@@ -39,7 +39,7 @@ tokens_from script at bytes tokens within is (spelling.Spells.takes _ n sort _ r
     (record { ordered = omega arith; within = omega (arith, size.1, left); found = rw (some, ← is) e })
     (tokens_from script (at + n) (drop n bytes) rest (omega (arith, size.1, left)) (ap (drop n) is ∙ drop-drop n at script) h)
 
--- so many of the tokens that a script spells are the first ones
+-- this many of the tokens that a script spells are the first ones
 pub IsFront-take : (script : List ℕ) (n : ℕ) (tokens : List Token) → Spells 0 script tokens → IsFront script (take n tokens)
 IsFront-take script n tokens h = record { more = drop n tokens; spelled = rw (take-append-drop n tokens) h }
 
@@ -113,7 +113,7 @@ closed_length-mark mark (byte ∷ next ∷ rest) =
     (λ _. (omega arith, omega arith, eqb-true byte mark e)))
     (λ _. Closes-one mark byte (next ∷ rest) (closed_length mark (next ∷ rest)) (closed_length-mark mark (next ∷ rest)))
 
--- so many bytes begin and end with a mark of ASCII
+-- this many bytes begin and end with a mark of ASCII
 record IsMarked (n : ℕ) (bytes : List ℕ) : Type 0 where
   some : 2 ≤ n
   within : n ≤ length bytes

@@ -19,7 +19,7 @@ is_semicolon l = accepts (Semicolon ∷ []) l.kind
 abbrev pub is_counted : Lexeme → Bool
 is_counted l = accepts counted_kinds l.kind
 
--- how many tokens that count towards the depth stand behind the last `;`, where so many stand in front of the first token
+-- how many tokens that count towards the depth stand behind the last `;`, where this many stand in front of the first token
 abbrev pub tally_from : ℕ → List Lexeme → ℕ
 tally_from n [] = n
 tally_from n (l ∷ ls) = tally_from (if is_semicolon l then 0 else if is_counted l then n + 1 else n) ls

@@ -79,7 +79,7 @@ front_of-each P byte rest fronts =
 head_of : {a b : ℕ} {xs ys : List ℕ} → a ∷ xs ≡ b ∷ ys → a ≡ b
 head_of e = cc
 
--- what closes nothing, so many bytes further
+-- what closes nothing, this many bytes further
 option_map-none : (k : ℕ) (end : Option ℕ) → option_map (λ i. i + k) end ≡ None → end ≡ None
 option_map-none k None e = refl
 option_map-none k (Some m) e = cc
@@ -301,7 +301,7 @@ number_front-bad : (bytes : List ℕ) (n : ℕ) → run_length is_digit bytes �
     → number_front bytes ≡ Bad n
 number_front-bad bytes n size fits letter = rw (size, fits, letter) refl
 
--- what is no number stands behind so many digits
+-- what is no number stands behind this many digits
 stops : (test : ℕ → Bool) (bytes : List ℕ) → (begins test bytes ≡ true → ⊥) → (next : ℕ) (after : List ℕ) → bytes ≡ next ∷ after → test next ≡ true → ⊥
 stops test bytes none next after f is = none (rw f is)
 

@@ -17,7 +17,7 @@ use Rattle.rs_lex.specs.declared.front.Front.TheVariants.{End, Gap, Found, Bad, 
 use Rattle.rs_lex.specs.declared.fault.LexFault.{LexFault}
 use Rattle.rs_lex.specs.declared.fault.LexFault.TheVariants.{BadByte, OpenText, NumberTooWide, TooManyTokens}
 
--- a front lies within so many bytes, and it is the end only where there is none
+-- a front lies within this many bytes, and it is the end only where there is none
 abbrev pub FrontFits : Front → ℕ → Type 0
 FrontFits End size = size ≡ 0
 FrontFits (Gap n) size = (0 < n) × (n ≤ size)

@@ -115,7 +115,7 @@ run-stops test (byte ∷ rest) (suc n) stops = rw take_while-cons (go (test byte
     go true h = omega (arith, h)
     go false h = omega arith
 
--- so many bytes that pass are the run, where the next one doesn't
+-- this many bytes that pass are the run, where the next one doesn't
 pub run-is : (test : ℕ → Bool) (bytes : List ℕ) (n : ℕ) → n ≤ length bytes → list_all test (take n bytes) ≡ true
     → ((next : ℕ) (after : List ℕ) → drop n bytes ≡ next ∷ after → test next ≡ true → ⊥) → run_length test bytes ≡ n
 run-is test bytes n le all stops =
@@ -228,7 +228,7 @@ begins-not test (next ∷ after) none = go (test next) refl
     go true e = absurd (none next after refl e)
     go false e = refl
 
--- a number whose digits are so many
+-- a number with this many digits
 number_front-is : (bytes : List ℕ) (n : ℕ) → run_length is_digit bytes ≡ n → nat_le (number_of (take n bytes)) greatest_int ≡ true → begins is_letter (drop n bytes) ≡ false
     → number_front bytes ≡ Found Number n
 number_front-is bytes n size fits none = rw (size, fits, none) refl

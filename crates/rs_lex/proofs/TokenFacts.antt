@@ -159,7 +159,7 @@ run-passes test (byte ∷ rest) = rw take_while-cons (go (test byte) refl (run-p
     go true e h = rw (e, h) refl
     go false e h = refl
 
--- so many bytes that pass the test are no more than the run
+-- this many bytes that pass the test are no more than the run
 pub run-longest : (test : ℕ → Bool) (bytes : List ℕ) (m : ℕ) → m ≤ length bytes → list_all test (take m bytes) ≡ true → m ≤ run_length test bytes
 run-longest test bytes zero le e = omega arith
 run-longest test [] (suc m) le e = absurd (omega (arith, le))
@@ -238,7 +238,7 @@ Contains-pair byte next e =
 pub symbol-passes : (test : List ℕ → Bool) (bytes : List ℕ) → list_all test symbols ≡ true → Contains symbols bytes → test bytes ≡ true
 symbol-passes test bytes e h = All-contains (λ symbol. test symbol ≡ true) symbols bytes (AllPass-from_list_all test symbols e) h
 
--- an end that lies so many bytes further
+-- an end that lies this many bytes further
 pub option_map-some : (k n : ℕ) (end : Option ℕ) → option_map (λ i. i + k) end ≡ Some n → (m : ℕ) × (end ≡ Some m) × (n ≡ m + k)
 option_map-some k n None e = cc
 option_map-some k n (Some m) e = (m, refl, cc)
@@ -419,7 +419,7 @@ IsToken-first Symbol byte rest h = sort_of-no_other byte (symbol-passes (λ symb
 pub tail_of : {a b : ℕ} {xs ys : List ℕ} → a ∷ xs ≡ b ∷ ys → xs ≡ ys
 tail_of e = cc
 
--- no more than so many bytes of these are a token
+-- no more than this many bytes of these are a token
 abbrev IsLongest : List ℕ → Sort → ℕ → Type 0
 IsLongest bytes sort n = (other : Sort) (m : ℕ) → n < m → m ≤ length bytes → IsToken other (take m bytes) → ⊥
 

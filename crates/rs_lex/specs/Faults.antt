@@ -24,7 +24,7 @@ pub record IsWide (rest : List ℕ) : Type 0 where
   pub whole : IsTrue (begins is_digit (drop size rest)) → ⊥
   pub wide : greatest_int < number_of (take size rest)
 
--- the first bytes, so many, are a number, and a letter stands directly behind them
+-- this many bytes at the front are a number, and a letter stands directly behind them
 pub record HasLetterBehind (n : ℕ) (rest : List ℕ) : Type 0 where
   pub number : IsToken Number (take n rest)
   pub letter : IsTrue (begins is_letter (drop n rest))

@@ -12,7 +12,7 @@ use Rattle.rs_lex.specs.declared.fault.LexFault.TheVariants.{BadByte, OpenText, 
 abbrev pub most_tokens : ℕ
 most_tokens = 100000
 
--- a token of this sort, of so many bytes from a place on
+-- a token of this sort, of this many bytes from a place on
 abbrev pub token_at : ℕ → Sort → ℕ → Token
 token_at at sort n = record { sort = sort; at = record { start = at; end = at + n } }
 
@@ -33,7 +33,7 @@ IsMore (Bad n) = Unit {0}
 IsMore Open = Unit {0}
 IsMore Wide = Unit {0}
 
--- behind so many tokens, the bytes of a script from a place on are refused with this fault
+-- behind this many tokens, the bytes of a script from a place on are refused with this fault
 pub data RefusesBytes : ℕ → ℕ → List ℕ → LexFault → Type 0 where
   passes : (count at n : ℕ) (bytes : List ℕ) (fault : LexFault) → front_of bytes ≡ Gap n → RefusesBytes count (at + n) (drop n bytes) fault → RefusesBytes count at bytes fault
   takes : (count at n : ℕ) (sort : Sort) (bytes : List ℕ) (fault : LexFault) → count < most_tokens → front_of bytes ≡ Found sort n
@@ -57,7 +57,7 @@ reach (Bad n) = n
 reach Open = 0
 reach Wide = 0
 
--- the token at a place where a front stands, behind so many tokens, or why there is none; nothing at a gap and at the end
+-- the token at a place where a front stands, behind this many tokens, or why there is none; nothing at a gap and at the end
 abbrev pub token_or_fault : ℕ → ℕ → Front → Option (Result Token LexFault)
 token_or_fault count at End = None
 token_or_fault count at (Gap n) = None
@@ -66,7 +66,7 @@ token_or_fault count at (Bad n) = Some (Err (if nat_le most_tokens count then To
 token_or_fault count at Open = Some (Err (if nat_le most_tokens count then TooManyTokens at else OpenText at))
 token_or_fault count at Wide = Some (Err (if nat_le most_tokens count then TooManyTokens at else NumberTooWide at))
 
--- a token is the next one from a place on, behind so many tokens: what the bytes behind it spell, or are refused with, is
+-- a token is the next one from a place on, behind this many tokens: what the bytes behind it spell, or are refused with, is
 -- what follows it
 pub record IsNext (count at : ℕ) (script : List ℕ) (token : Token) : Type 0 where
   pub some : at < token.at.end

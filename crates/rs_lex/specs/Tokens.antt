@@ -52,18 +52,18 @@ GoesOn Number bytes next = IsTrue (is_word_byte next)
 GoesOn Literal bytes next = next ≡ apostrophe
 GoesOn Symbol bytes next = Contains symbols (bytes ++ (next ∷ [])) ⊎ (bytes ++ (next ∷ []) ≡ codes "--")
 
--- none of so many bytes goes on behind them
+-- none of this many bytes goes on behind them
 abbrev pub EndsAt : Sort → ℕ → List ℕ → Type 0
 EndsAt sort n bytes = (next : ℕ) (rest : List ℕ) → drop n bytes ≡ next ∷ rest → GoesOn sort (take n bytes) next → ⊥
 
--- blanks, all that stand there, so many
+-- this many blanks, all that stand there
 pub record IsBlanks (n : ℕ) (bytes : List ℕ) : Type 0 where
   pub some : 0 < n
   pub within : n ≤ length bytes
   pub blanks : IsTrue (list_all is_blank (take n bytes))
   pub whole : IsTrue (begins is_blank (drop n bytes)) → ⊥
 
--- a comment of so many bytes: from `--` up to the next line feed, or to the end of the script
+-- a comment of this many bytes: from `--` up to the next line feed, or to the end of the script
 pub record IsComment (n : ℕ) (bytes : List ℕ) : Type 0 where
   pub within : n ≤ length bytes
   pub more : List ℕ

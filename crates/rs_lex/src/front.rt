@@ -10,11 +10,11 @@ use rs_value::{GREATEST_INT, decimal_of};
 pub enum Front {
     /// Nothing.
     End,
-    /// So many bytes that stand between tokens.
+    /// This many bytes that stand between tokens.
     Gap(usize),
-    /// A token of so many bytes.
+    /// A token of this many bytes.
     Found(Sort, usize),
-    /// A byte at which no token may begin, so many bytes further.
+    /// A byte at which no token may begin, this many bytes further.
     Bad(usize),
     /// A text that is never closed.
     Open,

@@ -61,7 +61,7 @@ pub fn refusals_are_faults()
     ensures { (script : List ℕ) (fault : LexFault) → RefusesBytes 0 0 script fault → IsFault script fault }
 {}
 
-/// At a place behind so many tokens, fewer than a script may have, a script is refused with what stands there; and where
+/// At a place behind this many tokens, fewer than a script may have, a script is refused with what stands there; and where
 /// a token stands there and ends, with what is told behind it. Behind as many as it may have, it has too many.
 pub fn faults_are_refused()
     ensures no_token { (count at : ℕ) (bytes : List ℕ) → count < most_tokens → BeginsNoToken bytes

@@ -41,7 +41,7 @@ pub fn tokens(alloc: Global, script: &Text) -> Result<Vec<Token>, LexFault>
     Ok(made)
 }
 
-/// The next token from this place on, behind so many others, or `None` where there is no further one.
+/// The next token from this place on, behind this many others, or `None` where there is no further one.
 fn next_token(bytes: &[u8], mut at: usize, count: usize) -> Result<Option<Token>, LexFault>
     requires small { length bytes.now ≤ 1048576 }
     requires within { at ≤ length bytes.now }
@@ -58,7 +58,7 @@ fn next_token(bytes: &[u8], mut at: usize, count: usize) -> Result<Option<Token>
     }
 }
 
-/// The token at a place where this front stands, behind so many others.
+/// The token at a place where this front stands, behind this many others.
 fn token_of(front: Front, at: usize, count: usize) -> Result<Token, LexFault>
     requires more { IsMore front }
     requires within { at + reach front ≤ 1048576 }

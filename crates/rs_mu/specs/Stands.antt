@@ -47,12 +47,12 @@ pub record IsInput (e : Evaluation) (rows : List RankRow) : Type 0 where
   pub limits : AllByRecursion (λ row. e.worth row ≤ slice_index e.weights.max (e.term - 1)) rows
   pub others : HaveOtherIds rows
 
--- how often the input is asked for so many answers: one more time than it has rows before the key of the last one
+-- how often the input is asked for this many answers: one more time than it has rows before the key of the last one
 abbrev pub asks_of : Evaluation → List RankRow → ℕ → ℕ
 asks_of e rows zero = 0
 asks_of e rows (suc n) = asks_for key_cmp (old_key e) rows (bar_after (new_key e) (answers e rows) n)
 
--- what the operator keeps after so many asks of its input and so many answers. The ask behind the last row tells it that
+-- what the operator keeps after this many asks of its input and this many answers. The ask behind the last row tells it that
 -- no more comes
 abbrev pub state_after : Evaluation → List RankRow → ℕ → ℕ → Mu
 state_after e rows asks count = record {

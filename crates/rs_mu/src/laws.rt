@@ -42,7 +42,7 @@ pub fn taken_core_stands()
 {}
 
 /// What it does next is determined by the asks that the next answer takes: it needs a row exactly where it has asked
-/// less often, and is ready exactly where it has asked so often and there is a next answer. It ends exactly where it
+/// less often, and is ready exactly where it has asked just as often and there is a next answer. It ends exactly where it
 /// has asked for all rows and for the end, and has given all answers.
 pub fn asks_of_core_are_exact()
     ensures need { (e : Evaluation) (rows : List RankRow) (asks count : ℕ) (mu : Mu)
@@ -63,7 +63,7 @@ pub fn ready_answers_are_certain()
 {}
 
 /// More answers take as many asks at least, and never more than one for each row and one for the end. Where there are
-/// not so many answers they take all of these.
+/// fewer answers they take all of these.
 pub fn asks_grow_with_answers()
     ensures grow { (e : Evaluation) (rows : List RankRow) (m n : ℕ) → IsInput e rows → m ≤ n
         → asks_of e rows m ≤ asks_of e rows n }

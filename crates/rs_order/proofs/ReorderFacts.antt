@@ -25,7 +25,7 @@ pub record Reorder {X K : Type 0} (cmp : K → K → Ordering) (old new : X → 
   pub distinct : HasDistinctKeys cmp new xs
   pub later : (x : X) → In x xs → is_lt (cmp (new x) (old x)) ≡ false
 
--- how many asks so many answers take
+-- how many asks this many answers take
 abbrev pub asks_upto : {X K : Type 0} → (K → K → Ordering) → (X → K) → (X → K) → List X → ℕ → ℕ
 asks_upto cmp old new xs zero = 0
 asks_upto cmp old new xs (suc n) = asks_for cmp old xs (bar_after new (sorted cmp new xs) n)
@@ -103,7 +103,7 @@ module _ {X K : Type 0} (cmp : K → K → Ordering) (old new : X → K) (xs : L
   later-behind : (k : K) (z : X) → In z xs → cmp k (old z) ≡ Less → cmp k (new z) ≡ Less
   later-behind k z h before = cmp-Less-behind cmp r.total k (old z) (new z) before (r.later z h)
 
-  -- beyond so many asks there is nothing
+  -- beyond this many asks there is nothing
   pub part-whole : (j : ℕ) → length xs ≤ j → part j ≡ whole
   part-whole j past = ap (sorted cmp new) (take_all j xs past)
 
@@ -157,7 +157,7 @@ module _ {X K : Type 0} (cmp : K → K → Ordering) (old new : X → K) (xs : L
         | inr none ↦ absurd (none-left j z (let all = asks-none n none.1 in omega arith) h)
       ]
 
-  -- an item put in where so many answers are settled
+  -- an item put in where this many answers are settled
   pub drop-part-more : (n j : ℕ) (x : X) → asks_upto cmp old new xs n ≤ j → slice_get xs j ≡ Some x → drop n (part (suc j)) ≡ put cmp new x (drop n (part j))
   drop-part-more n j x le e =
       ap (λ zs. drop n (sorted cmp new zs)) (take-snoc j xs x e)
@@ -185,7 +185,7 @@ module _ {X K : Type 0} (cmp : K → K → Ordering) (old new : X → K) (xs : L
         | inr few ↦ omega arith
       ]
 
-  -- once so many asks are made the next answer is in the part, and comes at or before the last one asked for
+  -- once this many asks are made the next answer is in the part, and comes at or before the last one asked for
   pub asked-reached : (n i : ℕ) (d : X) → i < length xs → asks_upto cmp old new xs (suc n) ≤ suc i → (p : X) × (slice_get (part (suc i)) n ≡ Some p) × (is_gt (cmp (new p) (old (get_or xs i d))) ≡ false)
   asked-reached n i d within le =
       elim (slice_get_cases whole n).1 [

@@ -46,12 +46,12 @@ is_of_side Right ask = elim ask.side as (λ _. Bool) [ Left ↦ false | Right �
 abbrev pub ask_numbers : JoinSide → List SideAsk → List ℕ
 ask_numbers side asks = map (λ ask. ask.number) (filter (is_of_side side) asks)
 
--- so many numbers from n on
+-- this many numbers from n on
 abbrev pub numbers_from : ℕ → ℕ → List ℕ
 numbers_from n zero = []
 numbers_from n (suc count) = n ∷ numbers_from (suc n) count
 
--- so many asks of a side, from this number on
+-- this many asks of a side, from this number on
 abbrev pub asks_from : JoinSide → ℕ → ℕ → List SideAsk
 asks_from side n count = map (λ number. record { side = side; number = number }) (numbers_from n count)
 

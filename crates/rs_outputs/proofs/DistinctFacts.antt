@@ -82,7 +82,7 @@ module _ {K : Type 0} (cmp : K → K → Ordering) (total : IsTotalOrder cmp) (k
       ap (λ b. suc (length (cond b (x ∷ filter (λ y. is_lt (cmp (key y) (key row))) xs) (filter (λ y. is_lt (cmp (key y) (key row))) xs)))) (ap is_lt (AllByRecursion-In (Precedes cmp key x) xs climbs.0 row (In-slice_get n xs row e)))
       ∙ ap suc (asks-at xs climbs.1 n row e)
 
-  -- so many items before a bar take one ask more at least
+  -- this many items before a bar take one ask more at least
   asks-least : (rows : List OutputRow) (bar : Option K) (n : ℕ) → n ≤ length rows → AllByRecursion (λ row. comes_before_bar cmp bar (key row) ≡ true) (take n rows) → suc n ≤ asks_for cmp key rows bar
   asks-least rows bar zero within all = omega arith
   asks-least [] bar (suc n) within all = absurd (omega arith)

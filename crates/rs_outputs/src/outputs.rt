@@ -65,7 +65,7 @@ impl Outputs {
         self.add(list)
     }
 
-    /// Makes room for so many further lists.
+    /// Makes room for a number of further lists.
     pub fn make_room(&mut self, more: usize) -> Result<(), Memory>
         ensures lists { self.new.lists ≡ self.old.lists }
         ensures room { OnOk result (more ≤ self.new.room) }

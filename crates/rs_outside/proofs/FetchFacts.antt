@@ -22,7 +22,7 @@ is_told : (left : Option (List ℕ)) (bytes : List ℕ) → IfSome left (λ told
 is_told None bytes = tt
 is_told (Some all) bytes = refl
 
--- what a fetch gives of a reader that had so many bytes left
+-- what a fetch gives of a reader that had this many bytes left
 abbrev pub FetchesLeft : Option (List ℕ) → ℕ → List ℕ → Result (Unit {0}) FetchFault → List ℕ → Type 0
 FetchesLeft left limit old result new = (bytes : List ℕ) × IfSome left (λ told. told ≡ bytes) × Fetches (Some bytes) limit old result new
 

@@ -34,7 +34,7 @@ ReadToEnd left limit bytes (Err Memory) = length bytes ≤ limit
 abbrev pub AppendsRest : Option (List ℕ) → ℕ → List ℕ → Result (Unit {0}) FetchFault → List ℕ → Type 0
 AppendsRest left limit old result new = (bytes : List ℕ) × (new ≡ old ++ bytes) × ReadToEnd left limit bytes result
 
--- at most so many bytes are taken of those that are left
+-- at most this many bytes are taken of those that are left
 abbrev pub ConsumesAtMost : ℕ → Option (List ℕ) → Option (List ℕ) → Type 0
 ConsumesAtMost most old new = (bytes : List ℕ) × Consumes old new bytes × (length bytes ≤ most)
 

@@ -30,7 +30,7 @@ abbrev pub next_failure : MemSinkState → Option ℕ
 next_failure state =
     option_map (λ failure. failure.after) (find (λ failure. failure.call == length state.pieces + 1) state.failing)
 
--- what a put takes of these bytes: all, or if it is to fail after so many the first ones, at most all
+-- what a put takes of these bytes: all, or where it is to fail after this many, the first ones, at most all
 abbrev pub taken_of : List ℕ → Option ℕ → List ℕ
 taken_of bytes None = bytes
 taken_of bytes (Some after) = take after bytes

@@ -46,7 +46,7 @@ impl Model for MemSink {
     ghost invariant = { λ s. s.bytes.items ≡ concat s.pieces.items };
 }
 
-/// What a put takes of these bytes: all, or if it is to fail after so many the first ones.
+/// What a put takes of these bytes: all, or where it is to fail after this many, the first ones.
 fn taken(bytes: &[u8], failure: Option<usize>) -> &[u8]
     ensures value { result.now ≡ taken_of bytes.now failure }
     ensures prefix { IsPrefix result.now bytes.now }

@@ -23,7 +23,7 @@ use Rattle.rs_plain.specs.declared.fault.PlainFault.TheVariants.{BadScore, Memor
 abbrev pub row_questions : ℕ → Block → List ℕ → List Question
 row_questions number block rows = map (question_of number block rows) block.terms
 
--- the questions of a block whose entries have so many rows: every combination in lexicographic order, and for each the terms
+-- the questions of a block whose entries have this many rows: every combination in lexicographic order, and for each the terms
 abbrev pub block_questions : Catalogue → ℕ → Block → List ℕ → List Question
 block_questions catalogue number block sizes =
     flat_map (row_questions number block) (combinations catalogue block sizes (all_entries block))

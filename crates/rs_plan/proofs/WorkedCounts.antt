@@ -31,7 +31,7 @@ abbrev term : ℕ → Term
 term number = record { weight = 1; predicate = number; args = arg.Column 1 number ∷ []; max = 10; entries = 1 }
 
 -- SELECT x FROM t WHERE x <= 8 ORDER BY p(x) + q(y), with DISTINCT or without, over a table t of two columns that has these rows;
--- p and q are their argument; there is an index of q(y), and the query sees so many rows
+-- p and q are their argument; there is an index of q(y), and the query sees this many rows
 abbrev world : Bool → List (List Value) → List ScoredRow → ℕ → World
 world distinct rows ranking size = record {
   catalogue = record {

@@ -1,4 +1,4 @@
--- How often a node of a plan asks its children, and in which order, once it was asked so often itself. Nothing is said here of
+-- How often a node of a plan asks its children, and in which order, after a number of asks of its own. Nothing is said here of
 -- how it finds that out: all is said over the finished lists.
 use Rattle.std.specs.Prelude.{ℕ, zero, suc, List, [], map, Option}
 use Rattle.rs_order.specs.Asks.{asks_for, bar_after}
@@ -17,7 +17,7 @@ use Rattle.rs_plan.specs.Trees.{Distinct, HashJoin, NestedJoin, Rank, RankScan, 
 abbrev pub keys_of : World → ℕ → PlanTree → List Key
 keys_of w number tree = map (key_under w (terms tree)) (list_of w number tree)
 
--- the key of answer n + 1 of a node; it lies beyond all keys where there are not so many
+-- the key of answer n + 1 of a node; it lies beyond all keys where there are fewer
 abbrev pub bar_of : World → ℕ → PlanTree → ℕ → Option Key
 bar_of w number tree n = bar_after (λ key. key) (keys_of w number tree) n
 
@@ -42,7 +42,7 @@ asks_upto w number (NestedJoin left right) bar =
     join_schedule key_cmp (merge_key (weights_in w) (terms left) (terms right)) (keys_of w number left) (keys_of w number right) bar
 asks_upto w number (SetOperator left right) bar = query_schedule w.query (keys_of w 1 left) (keys_of w 2 right) bar
 
--- the asks of a node's children once it was asked so often itself
+-- the asks of a node's children after a number of asks of its own
 abbrev pub child_asks : World → ℕ → PlanTree → ℕ → List SideAsk
 child_asks w number tree zero = []
 child_asks w number tree (suc n) = asks_upto w number tree (bar_of w number tree n)

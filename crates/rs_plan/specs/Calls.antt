@@ -1,4 +1,4 @@
--- The questions that a node of a plan puts to the scorer, with those of all nodes below it, once it was asked so often; and the
+-- The questions that a node of a plan puts to the scorer, with those of all nodes below it, after a number of asks; and the
 -- calls that they are.
 use Rattle.std.specs.Prelude.{ℕ, zero, suc, ◌-◌, List, [], ◌∷◌, ◌++◌, length, map, drop, Option, Some, None, slice_get}
 use Rattle.std.specs.List.{flat_map}
@@ -12,7 +12,7 @@ use Rattle.rs_plan.specs.Asks.{child_asks}
 use Rattle.rs_plan.specs.Lists.{World, numbered_block, list_of}
 use Rattle.rs_plan.specs.Trees.{Distinct, HashJoin, NestedJoin, Rank, RankScan, SeqScan, SetOperator, PlanTree}
 
--- what comes with ask j alone, where f gives all that comes with so many asks
+-- what comes with ask j alone, where f gives all that comes with this many asks
 abbrev pub part_of : {A : Type 0} → (ℕ → List A) → ℕ → List A
 part_of f zero = []
 part_of f (suc j) = drop (length (f j)) (f (suc j))
@@ -37,7 +37,7 @@ rank_part w term rows below ask = part_of below ask.number ++ own_question w ter
 abbrev pub side_part : {A : Type 0} → (ℕ → List A) → (ℕ → List A) → SideAsk → List A
 side_part {A} left right ask = elim ask.side as (λ _. List A) [ Left ↦ part_of left ask.number | Right ↦ part_of right ask.number ]
 
--- the questions of a node and of all below it, after so many asks of the node
+-- the questions of a node and of all below it, after this many asks of the node
 abbrev pub questions : World → ℕ → PlanTree → ℕ → List Question
 questions w number (SeqScan entry) = λ a. []
 questions w number (RankScan entry term index) = λ a. []

@@ -1,4 +1,4 @@
--- What each node of a plan has done, once it was asked so often.
+-- What each node of a plan has done after a number of asks.
 use Rattle.std.specs.Prelude.{ℕ, zero, suc, ◌-◌, ◌==◌, min, nat_le, List, [], ◌∷◌, ◌++◌, length, option_map, slice_get, unwrap_or}
 use Rattle.std.specs.List.{filter, position_or_len}
 use Rattle.rs_order.specs.Schedule.{JoinSide, Left, Right, is_of_side}
@@ -34,8 +34,8 @@ place_in_table entry row = row_number row.ids.rows entry
 abbrev pub place_in_index : List ScoredRow → ℕ → RankRow → ℕ
 place_in_index entries entry row = suc (position_or_len (λ (e : ScoredRow). e.row == place_in_table entry row) entries)
 
--- how far a scan has drawn once it was asked so often: up to the place of the last row that it gave; all, where its list hasn't
--- so many
+-- how far a scan has drawn after this many asks: up to the place of the last row that it gave; all rows, where its list
+-- has fewer
 abbrev pub drawn_to : (RankRow → ℕ) → ℕ → List RankRow → ℕ → ℕ
 drawn_to place all rows zero = 0
 drawn_to place all rows (suc n) = unwrap_or (option_map place (slice_get rows n)) all

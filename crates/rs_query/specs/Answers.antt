@@ -69,7 +69,7 @@ abbrev pub distinct_if : Bool → List Answer → List Answer
 distinct_if true rows = firsts rows
 distinct_if false rows = rows
 
--- the rows of a block whose entries have so many rows: all its combinations, and with DISTINCT the first one of each list of
+-- the rows of a block whose entries have this many rows: all its combinations, and with DISTINCT the first one of each list of
 -- output values
 abbrev pub base_of : Answering → Catalogue → ℕ → Block → List ℕ → List Answer
 base_of answer catalogue number block sizes =
@@ -91,7 +91,7 @@ abbrev pub limit_of : Query → Option ℕ
 limit_of (One block limit) = limit
 limit_of (Set op left right limit) = limit
 
--- the rows of a query that sees so many rows of its tables, before they are put into order
+-- the rows of a query that sees this many rows of its tables, before they are put into order
 abbrev pub rows_of : Answering → Catalogue → Query → View → List Answer
 rows_of answer catalogue (One block limit) view = base_of answer catalogue 1 block view.first
 rows_of answer catalogue (Set op left right limit) view =

@@ -3,7 +3,7 @@ use Rattle.std.specs.Prelude.{ℕ, ◌≡◌, ◌≤◌, ◌/◌, ◌%◌, ◌==
 use Rattle.rs_rank.specs.Masks.{has_number}
 use Rattle.rs_query.specs.Tables.{row_number}
 
--- the row number of one entry: 0 outside, and inside that of one of so many rows, counted from 1
+-- the row number of one entry: 0 outside, and inside that of one of this many rows, counted from 1
 abbrev pub IsRowNumber : Bool → ℕ → ℕ → Type 0
 IsRowNumber true size row = row ≡ 0
 IsRowNumber false size row = (1 ≤ row) × (row ≤ size)

@@ -12,7 +12,7 @@ abbrev pub numbers_to : ℕ → List ℕ
 numbers_to zero = []
 numbers_to (suc n) = numbers_to n ++ suc n ∷ []
 
--- each choice of a row for each entry in a mask, where the entries have so many rows; 0 stands at the other entries. The first
+-- each choice of a row for each entry in a mask, where the entries have this many rows; 0 stands at the other entries. The first
 -- entry varies slowest, so the choices stand in lexicographic order
 abbrev pub choices : ℕ → List ℕ → List (List ℕ)
 choices mask [] = [] ∷ []
@@ -27,7 +27,7 @@ holds_inside catalogue block mask rows conjunct = if is_inside conjunct.entries 
 abbrev pub satisfies : Catalogue → Block → ℕ → List ℕ → Bool
 satisfies catalogue block mask rows = list_all (holds_inside catalogue block mask rows) block.conjuncts
 
--- the combinations of the entries in a mask, where the entries have so many rows
+-- the combinations of the entries in a mask, where the entries have this many rows
 abbrev pub combinations : Catalogue → Block → List ℕ → ℕ → List (List ℕ)
 combinations catalogue block sizes mask = filter (satisfies catalogue block mask) (choices mask sizes)
 

@@ -7,7 +7,7 @@ use Rattle.rs_query.specs.Choices.{IsChoice}
 use Rattle.rs_query.specs.Combinations.{choices, satisfies}
 use Rattle.rs_query.specs.Tables.{all_entries, sizes_of}
 
--- the choices that begin with the first ones of these rows, so many
+-- the choices that begin with this many of the first ones of these rows
 unfoldable pub extensions : ℕ → ℕ → List ℕ → List ℕ → List (List ℕ)
 extensions zero mask rows sizes = choices mask sizes
 extensions (suc n) mask [] sizes = []
@@ -19,7 +19,7 @@ unfoldable pub combinations_from : Catalogue → Block → ℕ → List ℕ → 
 combinations_from catalogue block chosen rows =
     filter (satisfies catalogue block (all_entries block)) (extensions chosen (all_entries block) rows (sizes_of catalogue block))
 
--- rows are chosen for the first entries, so many
+-- rows are chosen for this many of the first entries
 pub record IsPartialCombination (catalogue : Catalogue) (block : Block) (chosen : ℕ) (rows : List ℕ) : Type 0 where
   pub most : chosen ≤ length block.from
   pub choice : IsChoice (2 ^ chosen - 1) (sizes_of catalogue block) rows

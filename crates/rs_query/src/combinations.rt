@@ -75,7 +75,7 @@ impl Block {
     }
 }
 
-/// The mask of the first entries, so many.
+/// The mask of this many of the first entries.
 fn first_entries(count: u8) -> u8
     requires { count ≤ 6 }
     ensures { result ≡ 2 ^ count - 1 }

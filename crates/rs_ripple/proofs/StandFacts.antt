@@ -103,7 +103,7 @@ module _ (j : Join) (x : RankRow) (xs : List RankRow) (y : RankRow) (ys : List R
   abbrev part : ℕ → ℕ → List RankRow
   part i k = answers j (take i (x ∷ xs)) (take k (y ∷ ys))
 
-  -- the threshold that comes first after so many rows of each side
+  -- the threshold that comes first after this many rows of each side
   abbrev bar_at : ℕ → ℕ → Option Key
   bar_at m n = first_bar (slice_get left_side m) (slice_get right_side n)
 
@@ -148,7 +148,7 @@ module _ (j : Join) (x : RankRow) (xs : List RankRow) (y : RankRow) (ys : List R
             ];
       }
 
-  -- what the core does next after so many rows of each side
+  -- what the core does next after this many rows of each side
   ask-is : (m n count : ℕ) → ask_of (state_after j (x ∷ xs) (y ∷ ys) (suc m) (suc n) count) ≡ cond (reached_at key_cmp (answer_key j) (bar_at m n) (slice_get (part (suc m) (suc n)) count)) Ready (first_side (slice_get left_side m) (slice_get right_side n))
   ask-is m n count =
       ap₂ (λ l r. ask_between l r (map (λ row. (answer_key j row, row)) (drop count (part (suc m) (suc n)))))
@@ -313,7 +313,7 @@ module _ (j : Join) (x : RankRow) (xs : List RankRow) (y : RankRow) (ys : List R
       (settled-next c.m c.n count back (first_side (slice_get left_side c.m) (slice_get right_side c.n)) (bar_at c.m c.n) (settled-at c.m c.n) (next-at c.m c.n back c.rest)
       (λ h k. not-before count front back h e few k)))
 
--- what the core does next where so many asks of the schedule were made
+-- what the core does next where this many asks of the schedule were made
 pub tells-state : (j : Join) (lefts rights : List RankRow) → AreSidesOf j lefts rights → (made : List SideAsk) (count : ℕ) → BeginsWith (schedule_of j lefts rights (suc count)) made → count ≤ length (answers j lefts rights) →
     Tells j lefts rights made count (ask_of (state_after j lefts rights (asked Left made) (asked Right made) count))
 tells-state j [] rights input [] count begins within = refl

@@ -24,7 +24,7 @@ asks_in turns = map (λ turn. turn.ask) turns
 abbrev pub turns_between : {K : Type 0} → (K → K → Ordering) → ℕ → ℕ → List K → List K → List (Turn K)
 turns_between cmp a b lefts rights = merged cmp (λ turn. turn.key) (turns_from Left a lefts) (turns_from Right b rights)
 
--- turns that were had, and those that are left: so many of each side
+-- turns that were had, and those that are left: this many of each side
 pub record IsCut {K : Type 0} (cmp : K → K → Ordering) (a b : ℕ) (lefts rights : List K) (front back : List (Turn K)) : Type 0 where
   pub m : ℕ
   pub n : ℕ

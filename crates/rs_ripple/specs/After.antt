@@ -1,4 +1,4 @@
--- What a rank join that keeps its rows keeps after so many asks of each side and so many answers.
+-- What a rank join that keeps its rows keeps after a number of asks of each side and of answers.
 use Rattle.std.specs.Prelude.{ℕ, List, take}
 use Rattle.rs_rank.specs.declared.row.RankRow.{RankRow}
 use Rattle.rs_ripple.specs.Joined.{Joined}

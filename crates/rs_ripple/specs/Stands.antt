@@ -67,7 +67,7 @@ pub record AreSidesOf (j : Join) (lefts rights : List RankRow) : Type 0 where
   pub left_rows : AreRowsOf j j.left lefts
   pub right_rows : AreRowsOf j j.right rights
 
--- the asks in their order that so many answers take
+-- the asks in their order that this many answers take
 abbrev pub schedule_of : Join → List RankRow → List RankRow → ℕ → List SideAsk
 schedule_of j lefts rights zero = []
 schedule_of j lefts rights (suc n) =
@@ -83,16 +83,16 @@ abbrev pub drawn_of : List Key → Option Drawn
 drawn_of [] = None
 drawn_of (key ∷ keys) = Some (record { first = key; last = last_from key keys })
 
--- a side after so many asks. The ask behind the last row tells that no more comes
+-- a side after this many asks. The ask behind the last row tells that no more comes
 abbrev pub input_after : Side → List Key → ℕ → Input
 input_after side keys asks = record { side = side; drawn = drawn_of (take asks keys); ended = nat_lt (length keys) asks }
 
--- the key of the last of so many answers
+-- the key of the last of this many answers
 abbrev pub taken_after : Join → List RankRow → List RankRow → ℕ → Option Key
 taken_after j lefts rights zero = None
 taken_after j lefts rights (suc n) = bar_after (answer_key j) (answers j lefts rights) n
 
--- what the core keeps after so many asks of each side and so many answers
+-- what the core keeps after a number of asks of each side and of answers
 abbrev pub state_after : Join → List RankRow → List RankRow → ℕ → ℕ → ℕ → Ripple
 state_after j lefts rights left_asks right_asks count = record {
   weights = j.weights;

@@ -95,7 +95,7 @@ fn run_statement<F: Files, S: Scorer, O: Sink>(
     }
 }
 
-/// Runs a statement that is of no cursor.
+/// Runs a statement that concerns no cursor.
 fn run_without_cursor<F: Files, S: Scorer, O: Sink>(
     alloc: Global,
     evaluating: Evaluating,

@@ -34,7 +34,7 @@ bound-step weights worths place terms p q r =
     ∙ both (eqb (terms % 2) 1) (get_or weights.weight place 0 * get_or worths place 0) (get_or weights.weight place 0 * get_or weights.max place 0)
     (sum_inside (terms / 2) (drop (suc place) weights.weight) (drop (suc place) worths)) (sum_outside (terms / 2) (drop (suc place) weights.weight) (drop (suc place) weights.max))
 
--- one term was put in front of those of so many masks, from this mask on
+-- one term was put in front of those of this many masks, from this mask on
 pub record AddedFrom (old new : List ℕ) (masks from worth most : ℕ) : Type 0 where
   pub count : length new ≡ 256
   pub below : (k : ℕ) → k < from → get_or new k 0 ≡ get_or old k 0

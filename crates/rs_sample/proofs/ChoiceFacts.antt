@@ -7,7 +7,7 @@ use Rattle.std.proofs.Math.Nat.{div-one}
 use Rattle.rs_rank.proofs.MaskFacts.{half-behind}
 use Rattle.rs_sample.specs.Choosing.{sampled_choices}
 
--- choices of later entries, with 0 at so many entries in front
+-- choices of later entries, with 0 at this many entries in front
 abbrev pub behind : ℕ → List ℕ → List ℕ
 behind n rows = replicate n 0 ++ rows
 

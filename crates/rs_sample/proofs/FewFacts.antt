@@ -34,7 +34,7 @@ factor-few : (b : Bool) (number most : ℕ) → 1 ≤ most → number ≤ most �
 factor-few true number most some few = some
 factor-few false number most some few = few
 
--- of so many entries
+-- of this many entries
 product-few : (most n mask : ℕ) (numbers : List ℕ) → 1 ≤ most → AllByRecursion (λ number. number ≤ most) numbers → mask < 2 ^ n → product_inside mask numbers ≤ most ^ n
 product-few most zero mask numbers some few within =
     let none : mask ≡ 0 = omega arith in

@@ -4,8 +4,8 @@ use Rattle.rand_core.specs.Steps.{first_words}
 use Rattle.rand_pcg.specs.Lcg.{Lcg}
 use Rattle.rand_pcg.specs.Pcg.{pcg32}
 
--- a value is drawn of the first words of a generator, so many: those that are left are the first words of the new one, and at most
--- so many were drawn
+-- a value is drawn of this many first words of a generator: those that are left are the first words of the new one, and at most
+-- this many were drawn
 pub record Draws {A : Type 0} (most : ℕ) (draw : List ℕ → A × List ℕ) (value : A) (old new : Lcg) (count : ℕ) : Type 0 where
   pub left : ℕ
   pub enough : count ≤ left + most

@@ -44,7 +44,7 @@ module _ (answer : Answering) (catalogue : Catalogue) (block : Block) where
   abbrev pub reaches : ℕ → ℕ → List ℕ → Bool
   reaches cutoff terms rows = nat_le cutoff (bound (weights_of block) terms (worths_of answer catalogue block rows))
 
-  -- how many combinations of the entries in a mask are expected to reach the cutoff under a mask of terms, where the entries have so many
+  -- how many combinations of the entries in a mask are expected to reach the cutoff under a mask of terms, where the entries have this many
   -- rows
   abbrev pub estimate_of : List ℕ → List (List ℕ) → ℕ → ℕ → ℕ → ℕ
   estimate_of sizes samples cutoff mask terms =

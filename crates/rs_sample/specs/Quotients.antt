@@ -7,7 +7,7 @@ abbrev pub product_inside : ℕ → List ℕ → ℕ
 product_inside mask [] = 1
 product_inside mask (number ∷ numbers) = (if mask % 2 == 0 then 1 else number) * product_inside (mask / 2) numbers
 
--- how many of the combinations of the entries in a mask are expected, where so many were counted among the samples: the count times
+-- how many of the combinations of the entries in a mask are expected, where this many were counted among the samples: the count times
 -- the numbers of rows, divided by the sample sizes, rounded up. It is 0 where a table is empty, since nothing is counted then
 abbrev pub expected : ℕ → List ℕ → List (List ℕ) → ℕ → ℕ
 expected mask sizes samples count = div_ceil (count * product_inside mask sizes) (product_inside mask (map length samples))

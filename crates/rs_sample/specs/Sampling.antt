@@ -23,7 +23,7 @@ use Rattle.rs_sample.specs.Words.{words_of}
 use Rattle.rs_sample.specs.declared.fault.SampleFault.{SampleFault}
 use Rattle.rs_sample.specs.declared.fault.SampleFault.TheVariants.{Memory, Probe}
 
--- the samples of a block whose entries have so many rows, and the words that are left
+-- the samples of a block whose entries have this many rows, and the words that are left
 abbrev pub block_samples : Block → List ℕ → List ℕ → List (List ℕ) × List ℕ
 block_samples block sizes words = samples_from (length block.from) sizes words
 
@@ -89,7 +89,7 @@ worths_by_term answer catalogue block samples =
     map (λ (t : Term). map (λ rows. worth_of answer catalogue block rows t) (sampled_choices t.entries samples)) block.terms
 
 module _ (answer : Answering) (catalogue : Catalogue) where
-  -- the cards of a block whose entries have so many rows, by its samples
+  -- the cards of a block whose entries have this many rows, by its samples
   abbrev pub sampled_cards : Block → List ℕ → List (List ℕ) → Option ℕ → BlockCards
   sampled_cards block sizes samples limit =
       let cutoff = cutoff_of answer catalogue block sizes samples limit in

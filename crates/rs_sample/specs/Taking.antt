@@ -6,12 +6,12 @@ abbrev pub with_row : Bool → ℕ → List ℕ × List ℕ → List ℕ × List
 with_row true row taken = (row ∷ taken.0, taken.1)
 with_row false row taken = taken
 
--- how many rows are still needed behind one, where one and so many more were
+-- how many rows are still needed behind one, where one and this many more were
 abbrev pub still_needed : Bool → ℕ → ℕ
 still_needed true more = more
 still_needed false more = suc more
 
--- the rows that are taken of those from this number on, and the words that are left: so many rows are still to see, and so many still
+-- the rows that are taken of those from this number on, and the words that are left: this many rows are still to see, and this many still
 -- needed. As long as one is needed a word is drawn for each row, and the row is taken where the word, modulo the rows still to see with
 -- this one, is less than the rows still needed
 unfoldable pub taken_from : ℕ → ℕ → ℕ → List ℕ → List ℕ × List ℕ
@@ -22,6 +22,6 @@ taken_from row (suc others) (suc more) (word ∷ words) =
     let takes = nat_lt (word % suc others) (suc more) in
     with_row takes row (taken_from (suc row) others (still_needed takes more) words)
 
--- the rows that are taken of a table of so many rows, where so many are needed, and the words that are left
+-- the rows that are taken of a table of this many rows, where this many are needed, and the words that are left
 abbrev pub taken_of : ℕ → ℕ → List ℕ → List ℕ × List ℕ
 taken_of size needed words = taken_from 1 size needed words

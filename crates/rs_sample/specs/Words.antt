@@ -9,6 +9,6 @@ use Rattle.rand_pcg.specs.Pcg.{pcg32, pcg32_of_seed}
 abbrev pub generator_of : ℕ → Lcg
 generator_of seed = pcg32_of_seed (pcg32_seed 16 seed)
 
--- its first words, so many
+-- this many of its first words
 abbrev pub words_of : ℕ → ℕ → List ℕ
 words_of seed count = first_words pcg32 count (generator_of seed)

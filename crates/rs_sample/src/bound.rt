@@ -46,8 +46,8 @@ fn bounds(weights: &Weights, worths: &[u32; 8]) -> [u64; 256]
     bounds
 }
 
-/// Puts a term in front of those of which these are the bounds, so many: in a mask its bit is the lowest one. It gives its
-/// worth where it is evaluated, or else at most so much.
+/// Puts a term in front of those of which these are the bounds, this many masks: in a mask its bit is the lowest one. It gives its
+/// worth where it is evaluated, or else at most this much.
 fn add_term(bounds: &mut [u64; 256], masks: usize, worth: u64, most: u64)
     requires masks { masks ≤ 128 }
     requires worth { worth ≤ 4294967295000000 }

@@ -31,7 +31,7 @@ pub(crate) fn take_samples(
     Ok(samples)
 }
 
-/// How many rows are taken of a table of so many rows, in a block of so many entries.
+/// How many rows are taken of a table of this many rows, in a block of this many entries.
 fn sample_size(entries: u8, rows: u32) -> u32
     requires some { 1 ≤ entries }
     requires most { entries ≤ 6 }
@@ -42,7 +42,7 @@ fn sample_size(entries: u8, rows: u32) -> u32
     MOST[entries as usize - 1].min(rows)
 }
 
-/// So many rows of a table, counted from 1. A word is drawn for each row as long as one is needed.
+/// This many rows of a table, counted from 1. A word is drawn for each row as long as one is needed.
 fn take_rows(alloc: Global, size: u32, needed: u32, words: &mut Pcg32) -> Result<Vec<u32>, Memory>
     requires { needed ≤ size }
     ensures are { IfOk result (λ rows. IsSample needed size rows.items) }

@@ -1,4 +1,4 @@
--- The rows that scans give, and what a scan keeps. A view is the first rows of a table, so many.
+-- The rows that scans give, and what a scan keeps. A view is the first rows of a table, up to a number.
 use Rattle.std.specs.Prelude.{ℕ, zero, suc, ◌≡◌, ◌≤◌, ◌-◌, ◌*◌, nat_le, List, [], ◌∷◌, length, map, Some, option_map, slice_get, slice_set}
 use Rattle.std.specs.List.{filter}
 use Rattle.rs_rank.specs.declared.row.RankRow.{RankRow}
@@ -15,7 +15,7 @@ entry_row block entry number sum = record {
   sum = sum;
 }
 
--- so many rows of a table, from one on
+-- this many rows of a table, from one on
 abbrev pub rows_from : ℕ → ℕ → ℕ → ℕ → List RankRow
 rows_from block entry first zero = []
 rows_from block entry first (suc count) = entry_row block entry first 0 ∷ rows_from block entry (suc first) count

@@ -36,8 +36,8 @@ impl Model for RankScan {
 }
 
 impl RankScan {
-    /// The scan of a rank index, counted from 0, for a FROM entry, from 1 to 6, of a block. Its view is the first rows of
-    /// the table, so many.
+    /// The scan of a rank index, counted from 0, for a FROM entry, from 1 to 6, of a block. Its view is this many of the
+    /// first rows of the table.
     pub fn new(index: u8, entry: u8, block: u8, weight: u32, rows: u32) -> RankScan
         requires least { 1 ≤ entry }
         requires most { entry ≤ 6 }

@@ -25,7 +25,7 @@ impl Model for SeqScan {
 }
 
 impl SeqScan {
-    /// The scan of the table of a FROM entry, from 1 to 6, of a block. Its view is the first rows of the table, so many.
+    /// The scan of the table of a FROM entry, from 1 to 6, of a block. Its view is this many of the first rows of the table.
     pub fn new(entry: u8, block: u8, rows: u32) -> SeqScan
         requires least { 1 ≤ entry }
         requires most { entry ≤ 6 }

@@ -86,7 +86,7 @@ at_least-above bound (key ∷ keys) (suc i) d climbs within le =
       | inr passes ↦ let e = at_least-passes bound key keys passes in omega arith
     ]
 
--- behind so many keys as have the bound all are below it
+-- behind as many keys as have the bound all are below it
 pub below-rest : (bound : ℕ) (keys : List Key) (n : ℕ) → Climbs key_cmp (λ k. k) keys → at_least bound keys ≤ n → (other : Key) → In other (drop n keys) → other.bound < bound
 below-rest bound [] zero climbs le other h = absurd h
 below-rest bound [] (suc n) climbs le other h = absurd h

@@ -239,7 +239,7 @@ module _ (s : Sides) (shared : Bool) (lefts rights : List OutputRow) (made : Lis
   abbrev left_turns : ℕ
   left_turns = asks_for key_cmp (λ key. key) (keys_of s (drop stands.left lefts)) bar_now
 
-  -- so many of the rows that are left come before the bar
+  -- this many of the rows that are left come before the bar
   scheduled : (n : ℕ) → left_turns ≡ suc n → schedule_of s (op_of shared) lefts rights (suc count)
       ≡ made ++ (due Left stands.left (asked Left made) ++ asks_behind (keys_of s rights) (keys_of s (drop stands.left lefts)) (suc (suc stands.left)) (asked Right made) n)
   scheduled n e =

@@ -43,7 +43,7 @@ pub record AreOver (lefts rights : List OutputRow) (left right : ℕ) : Type 0 w
   pub left_over : slice_get lefts left ≡ None
   pub right_over : slice_get rights right ≡ None
 
--- what an ask tells, of so many asks of each side
+-- what an ask tells, of this many asks of each side
 abbrev pub Shows : Sides → List OutputRow → List OutputRow → ℕ → ℕ → ℕ → ℕ → Heads → JoinAsk → Type 0
 Shows s lefts rights left right left_asks right_asks heads NeedLeft = left_asks ≡ left
 Shows s lefts rights left right left_asks right_asks heads NeedRight = (left_asks ≡ suc left) × (right_asks ≡ right)

@@ -64,13 +64,13 @@ pub record AreBases (s : Sides) (lefts rights : List OutputRow) : Type 0 where
 abbrev pub answers : Sides → SetOp → List OutputRow → List OutputRow → List OutputRow
 answers s op lefts rights = sorted key_cmp (row_key s) (set_rows op lefts rights)
 
--- the asks in their order that so many answers take
+-- the asks in their order that this many answers take
 abbrev pub schedule_of : Sides → SetOp → List OutputRow → List OutputRow → ℕ → List SideAsk
 schedule_of s op lefts rights zero = []
 schedule_of s op lefts rights (suc n) =
     set_schedule op (keys_of s lefts) (keys_of s rights) (bar_after (row_key s) (answers s op lefts rights) n)
 
--- what is known of the next row of a side of which so many rows are gone, after so many asks
+-- what is known of the next row of a side of which this many rows are gone, after this many asks
 abbrev pub head_of : Sides → Option OutputRow → Head
 head_of s None = Ended
 head_of s (Some row) = head_of_row s.weights s.terms row.row row.values

@@ -30,7 +30,7 @@ abbrev pub turns_left : Sides → List OutputRow → List OutputRow → ℕ → 
 turns_left s lefts rights left right =
     merged key_cmp (λ turn. turn.key) (turns_from Left (suc (suc left)) (keys_of s (drop left lefts))) (turns_from Right (suc (suc right)) (keys_of s (drop right rights)))
 
--- so many left and right rows of a union are gone, in the order of the keys, and all of them come before the bar of the next
+-- this many left and right rows of a union are gone, in the order of the keys, and all of them come before the bar of the next
 -- answer. The asks that were made, and those that are due, are the first ones of both sides and those of the rows that are gone
 pub record IsMerging (s : Sides) (lefts rights : List OutputRow) (made : List SideAsk) (bar : Option Key) (left right : ℕ) (gone : List (Turn Key)) : Type 0 where
   pub left_least : left ≤ asked Left made
@@ -51,7 +51,7 @@ heads_after s lefts rights made left right =
 abbrev pub rows_left : Sides → List OutputRow → List OutputRow → ℕ → ℕ → List OutputRow
 rows_left s lefts rights left right = merged key_cmp (row_key s) (drop left lefts) (drop right rights)
 
--- UNION ALL has so many rows of each side left, and knows their heads; all of them are answers still to come
+-- UNION ALL has this many rows of each side left, and knows their heads; all of them are answers still to come
 pub record UnionAllStands (s : Sides) (lefts rights : List OutputRow) (made : List SideAsk) (count : ℕ) (u : UnionAll) : Type 0 where
   pub input : AreSides s lefts rights
   pub left : ℕ
@@ -80,7 +80,7 @@ pub record UnionStands (s : Sides) (lefts rights : List OutputRow) (made : List 
   pub place : UnionAt s lefts rights made count u
   pub new : first_was_taken u ≡ false
 
--- the right side after so many asks. The ask behind the last row tells that no more comes
+-- the right side after this many asks. The ask behind the last row tells that no more comes
 abbrev pub right_after : Sides → List OutputRow → ℕ → Reach
 right_after s rights asks = record {
   last = option_map (λ row. (row_key s row).bound) (last_of (take asks rights));
@@ -88,7 +88,7 @@ right_after s rights asks = record {
   values = lists_of (take asks rights);
 }
 
--- the asks that the next left row, if it is known, wants of the right side, and then those of so many left rows behind it; that
+-- the asks that the next left row, if it is known, wants of the right side, and then those of this many left rows behind it; that
 -- row is the first of these, and the ask behind it has this number
 abbrev pub asks_behind : List Key → List Key → ℕ → ℕ → ℕ → List SideAsk
 asks_behind rights [] next asks count = []
@@ -104,7 +104,7 @@ abbrev pub is_kept : Bool → List OutputRow → OutputRow → Bool
 is_kept true rights row = occurs_in rights row
 is_kept false rights row = not (occurs_in rights row)
 
--- INTERSECT and EXCEPT have so many left rows behind them, and keep exactly what these and the right rows that came tell. The
+-- INTERSECT and EXCEPT have this many left rows behind them, and keep exactly what these and the right rows that came tell. The
 -- answers still to come are the first ones of the rows that are left and count, but for values that were seen. The asks that
 -- were made go on with what is due, and with what the next left row wants
 pub record ComparedAt (s : Sides) (shared : Bool) (lefts rights : List OutputRow) (made : List SideAsk) (count left : ℕ) (c : Comparison) : Type 0 where

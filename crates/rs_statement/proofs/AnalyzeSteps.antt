@@ -30,7 +30,7 @@ use Rattle.rs_events.proofs.SteppedFacts.{Stepped-still, step_of}
 max-none : (n : ℕ) → max 0 n ≡ n
 max-none n = omega arith
 
--- where fewer asks were made than there are in all, one more changes nothing of how many they are to be, and where all were made they are so many
+-- where fewer asks were made than there are in all, one more changes nothing of how many they are to be, and where all were made they are that many
 max-more : (n next own all most : ℕ) → n < own → own ≡ all → next ≡ suc n → max n all ≡ most → max next all ≡ most
 max-more n next own all most less same more is = omega arith
 

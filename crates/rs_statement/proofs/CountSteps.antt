@@ -33,7 +33,7 @@ length-counts w number (SetOperator left right) n =
     ap suc (length-append (counts w 1 left (asked_of w number (SetOperator left right) n Left)) (counts w 2 right (asked_of w number (SetOperator left right) n Right))
     ∙ ap₂ (λ a b. a + b) (length-counts w 1 left (asked_of w number (SetOperator left right) n Left)) (length-counts w 2 right (asked_of w number (SetOperator left right) n Right)))
 
--- no plan has so many nodes that their places pass a byte
+-- no plan has more nodes than a byte can count
 pub few-counts : (catalogue : Catalogue) (answer : Answering) (cursor : CursorState) (node : ℕ) (own : Counts) → StandsFor catalogue answer cursor
     → slice_get (counts_of_plan (world_of catalogue answer cursor.query) (plan_of cursor) (asks_of cursor)) node ≡ Some own → node < 255
 few-counts catalogue answer cursor node own stands is =
@@ -43,7 +43,7 @@ few-counts catalogue answer cursor node own stands is =
     let few = plan-nodes catalogue cursor.query stands.query (plan_of cursor) stands.plan in
     omega arith
 
--- the counts of a cursor of this query and plan that was asked so often
+-- the counts of a cursor of this query and plan that was asked this many times
 pub counts-at : (catalogue : Catalogue) (answer : Answering) (query : Query) (tree : PlanTree) (n : ℕ) (cursor : CursorState) → IsAt query tree n cursor
     → counts_of_plan (world_of catalogue answer cursor.query) (plan_of cursor) (asks_of cursor) ≡ counts_of_plan (world_of catalogue answer query) tree n
 counts-at catalogue answer query tree n cursor at =

@@ -99,7 +99,7 @@ module _ (catalogue : Catalogue) (answer : Answering) (cursor : CursorState) whe
         → left_of catalogue answer cursor ≡ call_step catalogue answer cursor
     ended-call old new asks = left-ended w tree n (outcome-next None old new asks) ∙ ap (asked_step catalogue (suc n)) (sym call-next)
 
-    -- a call that gave a row was one ask more, and so many rows were given; what is left behind it is left of the cursor
+    -- a call that gave a row was one ask more, and this many rows were given; what is left behind it is left of the cursor
     pub record GivenCall (next : CursorState) : Type 0 where
       pub at : IsAt cursor.query tree (suc n) next
       pub left : left_of catalogue answer cursor ≡ then_step (call_step catalogue answer cursor) (left_of catalogue answer next)

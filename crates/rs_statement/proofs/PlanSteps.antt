@@ -123,7 +123,7 @@ module _ (w : World) (tree : PlanTree) where
   pub asks_after-more : (n : ℕ) → is_over w tree n ≡ false → asks_after w tree n ≡ suc n
   asks_after-more n more = ap (λ b. if b then n else suc n) more
 
-  -- so many rows were given
+  -- this many rows were given
   pub gave-all : (n : ℕ) → n < length (list_of_plan w tree) → gave_of w 1 tree (suc n) ≡ suc n
   gave-all n within = omega arith
 

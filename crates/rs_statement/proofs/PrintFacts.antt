@@ -19,7 +19,7 @@ rank_lines-at rank zero (first ∷ rest) row within is =
 rank_lines-at rank (suc i) (first ∷ rest) row within is =
     rank_lines-at (rank + 1) i rest row (omega arith) is ∙ ap (λ n. line_of n row.score row.values) (let same : rank + 1 + i ≡ rank + suc i = omega arith in same)
 
--- behind so many rows that were given
+-- behind this many rows that were given
 module _ (given : ℕ) (rows : List Answer) (i : ℕ) (row : Answer) (line : List ℕ) (within : i < length rows) (is : row ≡ get_or rows i row)
     (line_is : line ≡ line_of (given + i + 1) row.score row.values) where
   abbrev lines : List (List ℕ)

@@ -31,7 +31,7 @@ use Rattle.rs_statement.specs.Planned.{ask_count}
 use Rattle.rs_statement.specs.Session.{ByPlan, OpenCursor, Ready, asked_more, cursor_named, most_cursors, next_rows, or_session_fault, room_for_cursor}
 use Rattle.rs_statement.proofs.UnfilteredFacts.{unfiltered}
 
--- of the first rows so many, where no more are taken than there are
+-- this many of the first rows, where no more are taken than there are
 take-cap : {A : Type 0} (xs : List A) (w c : ℕ) → length xs ≤ c → take (min w c) xs ≡ take w xs
 take-cap xs w c within = go (nat_le w c) refl where
   go : (b : Bool) → nat_le w c ≡ b → take (min w c) xs ≡ take w xs
@@ -82,7 +82,7 @@ counts-rows : (limit : Option ℕ) (rows : List Answer) → CountsRows limit row
 counts-rows None rows = record { least = omega arith; most = omega arith }
 counts-rows (Some limit) rows = record { least = omega (arith, length-take limit rows); most = omega (arith, length-take limit rows) }
 
--- of a cursor that asks a plan of these rows, and was asked so often, and of one that has them ready up to LIMIT
+-- of a cursor that asks a plan of these rows, and was asked this many times, and of one that has them ready up to LIMIT
 module _ (limit : Option ℕ) (rows : List Answer) (n wanted : ℕ) where
   abbrev ready : List Answer
   ready = cut limit rows

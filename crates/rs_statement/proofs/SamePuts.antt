@@ -225,7 +225,7 @@ module _ (give : GiveAnswers) (same : AskTheSame) (finds : Finds) (one : OneFile
     abbrev planned_state : State
     planned_state = record { catalogue = catalogue; cursors = qs }
 
-    -- a statement that is of no cursor
+    -- a statement that concerns no cursor
     beside-alike : (command : Command) (a b : Step State) → IsWritten command → IsNoExplain command → (x y : Step Catalogue)
         → Does finds answer Plainly catalogue command x → Does finds answer (Planned seed) catalogue command y
         → a ≡ beside_cursors ps x → b ≡ beside_cursors qs y → a.outcome ≡ Ok left → b.outcome ≡ Ok right → AlikeStates a b left right

@@ -151,7 +151,7 @@ module _ (catalogue : Catalogue) (name : Name) (file : List ℕ) (bound : Result
         leaves = made ∙ ap Ok (sym joins);
       }
 
--- a statement that is of no cursor is one of six kinds
+-- a statement that concerns no cursor is one of six kinds
 pub of_a_kind : (s : Statement)
     → ((name : Name) (columns : List (Name × Kind)) (file : List ℕ) → s ≡ statement.CreateTable name columns file → ⊥)
     → ((name : Name) (params : List (Name × Kind)) (max : ℤ × Span) (cost : Option (ℤ × Span)) (formula : Node) → s ≡ statement.CreatePredicate name params max cost formula → ⊥)

@@ -21,7 +21,7 @@ use Rattle.rs_events.proofs.SoFar.{SoFar, SoFar-ends, SoFar-more, Stepped-broken
 use Rattle.rs_events.proofs.SteppedFacts.{Stepped-still}
 
 module _ (w : plan.World) (tree : PlanTree) where
-  -- the asks that come next where so many are wanted
+  -- the asks that come next where this many are wanted
   abbrev wanted : ℕ → ℕ → Step Catalogue
   wanted n count = asks_from w tree n (next_asks w tree n count)
 
@@ -72,7 +72,7 @@ module _ (catalogue : Catalogue) (answer : Answering) where
       → asks_of next + next_of_cursor catalogue answer next count ≡ n + next_asks (world_of catalogue answer cursor.query) (plan_of cursor) n count
   count-at cursor next n count at = λ i. at.asks_are i + next_asks (world_of catalogue answer (at.query_is i)) (at.plan_is i) (at.asks_are i) count
 
-  -- a cursor of which so many rows were wanted at first, and of which so many are wanted still
+  -- a cursor of which this many rows were wanted at first, and of which this many are wanted still
   pub record IsFetching (start : CursorState) (count : ℕ) (cursor : CursorState) (left : ℕ) : Type 0 where
     pub asks : asks_of cursor + next_of_cursor catalogue answer cursor left ≡ asks_of start + next_of_cursor catalogue answer start count
     pub query_is : cursor.query ≡ start.query
@@ -103,7 +103,7 @@ module _ (catalogue : Catalogue) (answer : Answering) where
   pub none-wanted : (cursor : CursorState) → next_of_cursor catalogue answer cursor 0 ≡ 0
   none-wanted cursor = omega arith
 
-  -- then it was asked so often as was wanted
+  -- then it was asked as often as was wanted
   pub fetching-all : (start : CursorState) (count : ℕ) (cursor : CursorState) (left : ℕ) → IsFetching start count cursor left → next_of_cursor catalogue answer cursor left ≡ 0
       → IsAskedMore start (next_of_cursor catalogue answer start count) cursor
   fetching-all start count cursor left fetching none = record {

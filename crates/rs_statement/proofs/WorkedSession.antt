@@ -95,7 +95,7 @@ named text = record { text = text; at = at 20 }
 abbrev indexed : PlanTree
 indexed = Rank 2 (RankScan 1 1 0)
 
--- the cursors k and d, which were asked so often, over both terms and over q
+-- the cursors k and d, which were asked this many times, over both terms and over q
 abbrev k : ℕ → OpenCursor
 k asked = record { name = codes "k"; source = ByPlan (both None) indexed; asked = asked }
 

@@ -55,12 +55,12 @@ asked_step catalogue rank given = inquiry_step (given_lines rank) (ask_outcome c
 abbrev pub ask_step : World → PlanTree → ℕ → Step Catalogue
 ask_step w tree n = asked_step w.catalogue (suc n) (next_answer w tree n)
 
--- so many asks one after another, from ask n + 1 on
+-- this many asks one after another, from ask n + 1 on
 abbrev pub asks_from : World → PlanTree → ℕ → ℕ → Step Catalogue
 asks_from w tree n zero = still (Ok w.catalogue)
 asks_from w tree n (suc count) = then_step (ask_step w tree n) (asks_from w tree (suc n) count)
 
--- a plan of so many rows is asked until LIMIT rows were given, or an ask met their end
+-- a plan of this many rows is asked until LIMIT rows were given, or an ask met their end
 abbrev pub ask_count : Option ℕ → ℕ → ℕ
 ask_count None rows = suc rows
 ask_count (Some limit) rows = min limit (suc rows)
@@ -72,6 +72,6 @@ asks_in_all w tree = ask_count (limit_of w.query) (length (list_of_plan w tree))
 abbrev pub planned_step : World → PlanTree → Step Catalogue
 planned_step w tree = asks_from w tree 0 (asks_in_all w tree)
 
--- of a plan that was asked so often, the asks that come next where so many are wanted
+-- of a plan that was asked this many times, the asks that come next where this many are wanted
 abbrev pub next_asks : World → PlanTree → ℕ → ℕ → ℕ
 next_asks w tree asked wanted = min wanted (asks_in_all w tree - asked)

@@ -80,7 +80,7 @@ cursor_named name (cursor ∷ rest) = if bytes_eq cursor.name name then Ok curso
 abbrev pub with_cursor : List ℕ → Source → State → State
 with_cursor name source state = record state { cursors = state.cursors ++ record { name = name; source = source; asked = 0 } ∷ [] }
 
--- the cursor of this name was asked so many times more; all others stay as they are
+-- the cursor of this name was asked this many times more; all others stay as they are
 abbrev pub asked_more : List ℕ → ℕ → OpenCursor → OpenCursor
 asked_more name asks cursor = if bytes_eq cursor.name name then record cursor { asked = cursor.asked + asks } else cursor
 
@@ -114,7 +114,7 @@ abbrev pub declare_step : Evaluating → Answering → State → Name → syntax
 declare_step evaluating answer state name query =
     refused_or (opened_step evaluating answer name.text state) (declared_query state name query)
 
--- of rows that stand ready, so many were given: how many come next where so many are wanted
+-- of rows that stand ready, this many were given: how many come next where this many are wanted
 abbrev pub next_rows : List Answer → ℕ → ℕ → ℕ
 next_rows rows given wanted = min wanted (length rows - given)
 
@@ -135,7 +135,7 @@ IsCursorOf catalogue cursor = of cursor.source where
   of (ByPlan query tree) = Covers catalogue query
   of (Ready rows) = Unit {0}
 
--- of a cursor so many rows are wanted
+-- of a cursor this many rows are wanted
 abbrev pub fetched_step : Answering → State → OpenCursor × ℕ → Step State
 fetched_step answer state wanted = fetched_from answer state wanted.0.name wanted.0.asked wanted.1 wanted.0.source
 

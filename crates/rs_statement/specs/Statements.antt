@@ -1,4 +1,4 @@
--- The statements of a script that are of no cursor: what each does, and the catalogue that it leaves.
+-- The statements of a script that concern no cursor: what each does, and the catalogue that it leaves.
 use Rattle.std.specs.Prelude.{ℕ, ◌≡◌, List, [], ◌∷◌, Option, Some, None, Result, Ok, Err}
 use Rattle.rs_rank.specs.declared.answer.Answer.{Answer}
 use Rattle.rs_rank.specs.declared.scored_row.ScoredRow.{ScoredRow}

@@ -12,7 +12,7 @@ use rs_outside::Sink;
 use rs_rank::Answer;
 use std::alloc::Global;
 
-/// Puts the lines of rows, ranked behind so many that were given before them, each in one put before the next row is looked at.
+/// Puts the lines of rows, ranked behind this many that were given before them, each in one put before the next row is looked at.
 pub fn put_rows<O: Sink>(
     alloc: Global,
     given: usize,

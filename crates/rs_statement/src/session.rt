@@ -48,7 +48,7 @@ const MOST_CURSORS: usize = 64;
 enum Held {
     /// A plan, which is asked for one row after another.
     Asked(Cursor),
-    /// They stand ready, and so many of them were given.
+    /// They stand ready, and this many of them were given.
     Ready { rows: Vec<Answer>, given: usize },
 }
 
@@ -233,7 +233,7 @@ fn insert(session: &mut Session, name: Text, held: Held) -> Result<(), Memory>
     }
 }
 
-/// FETCH: puts the next rows of a cursor, at most so many. Ranks go on from the FETCH before it.
+/// FETCH: puts the next rows of a cursor, at most this many. Ranks go on from the FETCH before it.
 pub fn fetch<S: Scorer, O: Sink>(
     alloc: Global,
     count: &(i64, Span),
@@ -257,7 +257,7 @@ pub fn fetch<S: Scorer, O: Sink>(
     }
 }
 
-/// Puts the next rows of a cursor, at most so many.
+/// Puts the next rows of a cursor, at most this many.
 fn fetch_rows<S: Scorer, O: Sink>(
     alloc: Global,
     count: u32,
@@ -280,7 +280,7 @@ fn fetch_rows<S: Scorer, O: Sink>(
     }
 }
 
-/// Asks a cursor so often, or up to the end of its rows, and puts each row before it asks for the next one.
+/// Asks a cursor this many times, or up to the end of its rows, and puts each row before it asks for the next one.
 fn fetch_asked<S: Scorer, O: Sink>(
     alloc: Global,
     count: u32,
@@ -304,7 +304,7 @@ fn fetch_asked<S: Scorer, O: Sink>(
     Ok(())
 }
 
-/// Puts the rows that stand ready behind those that were given, at most so many.
+/// Puts the rows that stand ready behind those that were given, at most this many.
 fn fetch_ready<O: Sink>(
     alloc: Global,
     count: u32,

@@ -352,7 +352,7 @@ only_begun : Refuses (codes "SELECT a FROM") begun_tokens (fault.Expected 13)
 unfolding computes
 only_begun = refuses-by 200 _ _ _ (lit≤ tt) refl
 
--- so many times NOT, and their tokens from a place on
+-- this many times NOT, and their tokens from a place on
 abbrev denials : ℕ → List ℕ
 denials zero = []
 denials (suc n) = codes "NOT " ++ denials n

@@ -7,11 +7,11 @@
 //! - `front BYTES`: these bytes come in front of the scripts behind this line, behind those of earlier such lines.
 //!   `front` alone takes away all of them.
 //! - `script BYTES`: the file `s.sql` has the front and then these bytes.
-//! - `more COUNT BYTES`: so many times these bytes are added to the file of the last line `file` or `script`.
+//! - `more COUNT BYTES`: this many times these bytes are added to the file of the last line `file` or `script`.
 //! - `score SCORE PREDICATE ARGUMENT..`: in the next run this call is answered so. Other calls are answered by formulas.
 //! - `fail call N`, `fail fetch N`: in the next run the Nth call of the scorer, the Nth fetch fails.
 //! - `fail out N AFTER`, `fail err N AFTER`: in the next run the Nth put on standard output, on standard error fails
-//!   after so many bytes.
+//!   after this many bytes.
 //! - `run WORD..`: these words are run.
 //! - a comment that begins with `#`, or nothing.
 //!

@@ -65,7 +65,7 @@ impl Outside {
         Ok(())
     }
 
-    /// Adds these bytes, which are escaped, to the last file, so many times.
+    /// Adds these bytes, which are escaped, to the last file, this many times.
     pub fn add_to_file(&mut self, count: u32, escaped: &[u8]) -> Result<(), Fault> {
         match self.held.last_mut() {
             Some(file) => read_times(count, escaped, &mut file.bytes),

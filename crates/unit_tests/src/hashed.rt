@@ -25,7 +25,7 @@ fn number(alloc: Global, number: i64) -> Result<Vec<Value>, AllocError>
     Ok(vec![in alloc; Value::Int(number)]?)
 }
 
-// Both rows have the same join values. So many calls are made of the matcher.
+// Both rows have the same join values. This many calls are made of the matcher.
 fn assert_a_pair(
     rt: &impl Abort,
     alloc: Global,

@@ -123,7 +123,7 @@ fn put_all<S: Sink>(sink: &mut S, pieces: &[&[u8]]) -> Result<u32, Fail> {
     Ok(failed)
 }
 
-/// Puts pieces, of which so many fail.
+/// Puts pieces, of which this many fail.
 fn assert_puts<S: Sink>(
     rt: &impl Abort,
     sink: &mut S,

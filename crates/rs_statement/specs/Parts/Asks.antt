@@ -16,7 +16,7 @@ use Rattle.rs_statement.specs.declared.fault.Fault.{Fault}
 use Rattle.rs_statement.specs.Planned.{ask_count, asked_step, asks_from, asks_in_all}
 use Rattle.rs_statement.specs.Steps.{Step}
 
--- what is left of the asks of a plan after so many
+-- what is left of the asks of a plan after this many
 abbrev pub asks_left : World → PlanTree → ℕ → Step Catalogue
 asks_left w tree n = asks_from w tree n (ask_count (limit_of w.query) (length (list_of_plan w tree)) - n)
 
@@ -28,7 +28,7 @@ left_of catalogue answer cursor = asks_left (world_of catalogue answer cursor.qu
 abbrev pub call_step : Catalogue → Answering → CursorState → Step Catalogue
 call_step catalogue answer cursor = asked_step catalogue (suc (asks_of cursor)) (call_of catalogue answer cursor)
 
--- a cursor of this query and plan that was asked so often
+-- a cursor of this query and plan that was asked this many times
 pub record IsAt (query : Query) (tree : PlanTree) (n : ℕ) (cursor : CursorState) : Type 0 where
   pub query_is : cursor.query ≡ query
   pub plan_is : plan_of cursor ≡ tree
@@ -45,7 +45,7 @@ pub record AskedOnce (catalogue : Catalogue) (answer : Answering) (cursor : Curs
 abbrev pub most_asks : Catalogue → Answering → CursorState → ℕ
 most_asks catalogue answer cursor = max (asks_of cursor) (asks_in_all (world_of catalogue answer cursor.query) (plan_of cursor))
 
--- a cursor that was asked so often
+-- a cursor that was asked this many times
 abbrev pub AskedForAll : Catalogue → Answering → CursorState → CursorState → Type 0
 AskedForAll catalogue answer cursor next = IsAt cursor.query (plan_of cursor) (most_asks catalogue answer cursor) next
 

@@ -50,7 +50,7 @@ CanBeAsked answer catalogue (held.Ready rows given) = given ≤ length rows.item
 abbrev pub CanAllBeAsked : Answering → Catalogue → List (List ℕ × Held) → Type 0
 CanAllBeAsked answer catalogue cursors = AllByRecursion (λ (entry : List ℕ × Held). CanBeAsked answer catalogue entry.1) cursors
 
--- the asks of a cursor that come next where so many are wanted, and how many they are
+-- the asks of a cursor that come next where this many are wanted, and how many they are
 abbrev pub next_of_cursor : Catalogue → Answering → CursorState → ℕ → ℕ
 next_of_cursor catalogue answer cursor wanted = next_asks (world_of catalogue answer cursor.query) (plan_of cursor) (asks_of cursor) wanted
 
@@ -58,7 +58,7 @@ abbrev pub wanted_step : Catalogue → Answering → CursorState → ℕ → Ste
 wanted_step catalogue answer cursor wanted =
     asks_from (world_of catalogue answer cursor.query) (plan_of cursor) (asks_of cursor) (next_of_cursor catalogue answer cursor wanted)
 
--- the same of every cursor: of rows that stand ready, so many are put
+-- the same of every cursor: of rows that stand ready, this many are put
 abbrev pub next_of : Catalogue → Answering → Held → ℕ → ℕ
 next_of catalogue answer (held.Asked cursor) wanted = next_of_cursor catalogue answer cursor wanted
 next_of catalogue answer (held.Ready rows given) wanted = next_rows rows.items given wanted
@@ -68,7 +68,7 @@ rows_step catalogue answer (held.Asked cursor) wanted = wanted_step catalogue an
 rows_step catalogue answer (held.Ready rows given) wanted =
     lines_step (rank_lines (suc given) (take (next_rows rows.items given wanted) (drop given rows.items))) catalogue
 
--- a cursor of the same query and plan that was asked so many times more
+-- a cursor of the same query and plan that was asked this many times more
 abbrev pub IsAskedMore : CursorState → ℕ → CursorState → Type 0
 IsAskedMore old asks new = IsAt old.query (plan_of old) (asks_of old + asks) new
 

@@ -18,7 +18,7 @@ use rs_value::Text;
 /// The most tokens of a statement that count towards its depth.
 pub const MOST_DEEP: u32 = 256;
 
-/// How many tokens that count towards the depth may still come behind a token of this kind, where so many may
+/// How many tokens that count towards the depth may still come behind a token of this kind, where this many may
 /// from it on; `None` where it is one too many.
 fn left_behind(kind: TokenKind, left: u32) -> Option<u32>
     ensures { MatchOption result (is_too_deep kind left ≡ true) (λ n. (is_too_deep kind left ≡ false) × (n ≡ left_behind kind left)) }

@@ -2,10 +2,10 @@ use Rattle.std.proofs.Common.{◌≡◌}
 use Rattle.data_cases.specs.Work.{filled, worked}
 use Rattle.data_cases.proofs.load.Load.work.Given as goal
 
--- so many pairs are put in
+-- this many pairs are put in
 abbrev pub invariant-loop-pair : goal.invariant-loop-pair
 invariant-loop-pair l = l.load ≡ filled l.sizes.held l._pair
 
--- and so many operations are done
+-- and this many operations are done
 abbrev pub invariant-loop-operation : goal.invariant-loop-operation
 invariant-loop-operation l = l.load ≡ worked l.sizes.held l._operation
