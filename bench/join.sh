@@ -1,7 +1,7 @@
 #!/usr/bin/env bash
 # Measures rank joins of three tables of 150, 600 and 2,000 rows, for the first 1, 10 and 100 rows, by plans of hash joins and
 # of nested joins; and one join of two tables of 2,000 rows, for more and more rows. Beside them, in the same run, sqlite3
-# joins and sorts all. The plans are given to the program plan_cases, which is told the tables and the query line by line. It
+# joins and sorts all. The plans are given to the program cases_plans, which is told the tables and the query line by line. It
 # and sqlite3 have to print the same rows. How often a plan calls the scorer and how many rows it draws has to be what the
 # definitions say, which checks/executor.py reckons over finished lists.
 # Each query runs five times, in turn, more often where it takes less than 50 ms, and once where it takes more than a second;
@@ -19,8 +19,8 @@ needs python3 'it takes the times, and reckons what the definitions say'
 if [ -n "${PLAN_CASES:-}" ]; then
     program=$PLAN_CASES
 else
-    (cd "$root/crates/plan_cases" && rt run </dev/null) >"$work/built" 2>&1
-    program=$root/crates/plan_cases/out/plan_cases
+    (cd "$root/crates/cases_plans" && rt run </dev/null) >"$work/built" 2>&1
+    program=$root/crates/cases_plans/out/cases_plans
     [ -x "$program" ] || { cat "$work/built" >&2; exit 1; }
 fi
 
@@ -222,7 +222,7 @@ def select(theirs, query, limit):
 
 
 def told_rows(lines):
-    """The rows that plan_cases told, as sqlite3 prints them."""
+    """The rows that cases_plans told, as sqlite3 prints them."""
     rows = []
     for line in lines[1:-1]:
         score = re.match(r"  1 \d+ \[[^]]*\] (\d+) ", line)

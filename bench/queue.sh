@@ -1,5 +1,5 @@
 #!/usr/bin/env bash
-# Measures the queue of rs_queue, by lines `work` of the program data_cases: each fills a queue of 1,000, 10,000 or
+# Measures the queue of rs_queue, by lines `work` of the program cases_data: each fills a queue of 1,000, 10,000 or
 # 100,000 pairs of scattered keys, and then takes a pair out and puts one in 100,000 times. A new key lies somewhere among
 # those that are held. The time of an operation, one of each, is what these add to the time of a run without them. Each
 # run is given one line. Beside it, in the same run, python3's heapq does the same with the same keys. Each runs five
@@ -55,8 +55,8 @@ report() {
 if [ -n "${DATA_CASES:-}" ]; then
     program=$DATA_CASES
 else
-    (cd "$root/crates/data_cases" && rt run </dev/null) >"$work/built" 2>&1 || { cat "$work/built" >&2; exit 1; }
-    program=$root/crates/data_cases/out/data_cases
+    (cd "$root/crates/cases_data" && rt run </dev/null) >"$work/built" 2>&1 || { cat "$work/built" >&2; exit 1; }
+    program=$root/crates/cases_data/out/cases_data
 fi
 
 names=(rs_queue)

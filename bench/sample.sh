@@ -1,5 +1,5 @@
 #!/usr/bin/env bash
-# Measures the samples of rs_sample, by the program plan_cases: for queries of one to six entries of a table of
+# Measures the samples of rs_sample, by the program cases_plans: for queries of one to six entries of a table of
 # 131,072 rows, each with eight terms, the time of a sample with all its estimates, and that of one estimate, which is
 # asked for by a mask of entries and one of terms. The time of a sample is what ten more samples add to the time of a
 # run, and that of an estimate what ten thousand rounds of all of them add, with the tests of which may be asked for.
@@ -60,7 +60,7 @@ take_times() {
     { cat "$work/front"; echo "time $2 $3 $4"; } >"$work/cases"
     for _ in $(seq "$RUNS"); do
         { time "$program" <"$work/cases" >"$work/out" 2>"$work/err"; } 2>"$work/seconds" ||
-            { echo "bench: plan_cases failed" >&2; cat "$work/err" >&2; exit 1; }
+            { echo "bench: cases_plans failed" >&2; cat "$work/err" >&2; exit 1; }
         tr -d '.,\n' <"$work/seconds" >>"$work/sample.$1.times"
         echo 000 >>"$work/sample.$1.times"
     done
@@ -84,8 +84,8 @@ count_all() {
 if [ -n "${PLAN_CASES:-}" ]; then
     program=$PLAN_CASES
 else
-    (cd "$root/crates/plan_cases" && rt run </dev/null) >"$work/built" 2>&1 || { cat "$work/built" >&2; exit 1; }
-    program=$root/crates/plan_cases/out/plan_cases
+    (cd "$root/crates/cases_plans" && rt run </dev/null) >"$work/built" 2>&1 || { cat "$work/built" >&2; exit 1; }
+    program=$root/crates/cases_plans/out/cases_plans
 fi
 
 make_front >"$work/front"

@@ -1,13 +1,13 @@
 #!/usr/bin/env python3
-r"""Works out what plans of queries give, and prints it as cases of the program plan_cases.
+r"""Works out what plans of queries give, and prints it as cases of the program cases_plans.
 
 The tables are small, and most are random. Of one table there are queries of one, two and three terms, and of each query all
 plans. Of two and three tables there are queries with joins of every shape, in which the terms are evaluated at places taken by
 chance. So there are of DISTINCT and of the four set operators over pairs of tables. What a plan gives is computed as it is
 defined, over finished lists: there is no queue, no threshold and no set of values seen here. The cases are the last ones
-of the tests of rs_exec in crates/plan_cases/stdout. This makes them anew, at the top of the repository:
+of the tests of rs_exec in crates/cases_plans/stdout. This makes them anew, at the top of the repository:
 
-    cases=crates/plan_cases
+    cases=crates/cases_plans
     sed -i -e '/^# Tests of rs_sample/e python3 checks/executor.py; echo' \
         -e '/^# Random .*executor.py/,/^# Tests of rs_sample/{/^# Tests/!d}' $cases/stdout
     grep -v '^  ' $cases/stdout >$cases/stdin

@@ -4,16 +4,16 @@
 # and then `memory` with status 1.
 # Before that it counts the allocations of runs over a table of 1,000 rows that print more or fewer rows, or call the scorer
 # more or less often: a printed row takes its values alone, and a call with numbers none.
-# A join by a hash and a union are executed by the program plan_cases, whichever plan `run` would choose. That program
+# A join by a hash and a union are executed by the program cases_plans, whichever plan `run` would choose. That program
 # tells its input line by line, and names the line at which there is no memory.
-# The programs are crates/ranksql/out/ranksql and crates/plan_cases/out/plan_cases, or those that the variables RANKSQL and
+# The programs are crates/ranksql/out/ranksql and crates/cases_plans/out/cases_plans, or those that the variables RANKSQL and
 # PLAN_CASES name. A C compiler is needed: the allocations fail by a small library in front of the system's.
 set -u -o pipefail
 export LC_ALL=C
 
 root=$(cd "$(dirname "$0")/.." && pwd -P)
 program=${RANKSQL:-$root/crates/ranksql/out/ranksql}
-cases=${PLAN_CASES:-$root/crates/plan_cases/out/plan_cases}
+cases=${PLAN_CASES:-$root/crates/cases_plans/out/cases_plans}
 if [ ! -x "$program" ]; then
     echo "there is no program $program: ./ranksql builds it" >&2
     exit 1

@@ -1,11 +1,11 @@
 #!/usr/bin/env python3
-r"""Works out the least plans of small queries, and prints their texts as cases of the program plan_cases.
+r"""Works out the least plans of small queries, and prints their texts as cases of the program cases_plans.
 
 The tables are random and no larger than their samples, so all rows are sampled, whatever the seed is. Each plan of a query is
 made and its cost computed: nothing is kept of a signature. The cases are the last ones of the tests of rs_enum in
-crates/plan_cases/stdout. This makes them anew, at the top of the repository:
+crates/cases_plans/stdout. This makes them anew, at the top of the repository:
 
-    cases=crates/plan_cases
+    cases=crates/cases_plans
     sed -i -e '/^# Tests of rs_exec/e python3 checks/planner.py; echo' \
         -e '/^# Random .*planner.py/,/^# Tests of rs_exec/{/^# Tests/!d}' $cases/stdout
     grep -v '^  ' $cases/stdout >$cases/stdin

@@ -338,7 +338,7 @@ while IFS= read -r line; do
     grep -qxF -e "    $line" "$root/docs/GRAMMAR.md" || failed "GRAMMAR.md doesn't have the line: $line"
 done <"$root/examples/travel/guides.out"
 
-# The queries that the program plan_cases plans, with tables in files: EXPLAIN has to print the text that stands there, and
+# The queries that the program cases_plans plans, with tables in files: EXPLAIN has to print the text that stands there, and
 # `run` the rows of `plain`.
 mkdir planned
 awk '
@@ -366,7 +366,7 @@ awk '
         printf "" >("planned/" number ".plan")
     }
     /^  / && number { print substr($0, 3) >>("planned/" number ".plan") }
-' "$root/crates/plan_cases/stdout"
+' "$root/crates/cases_plans/stdout"
 queries=0
 while [ -e "planned/$((queries + 1)).sql" ]; do
     queries=$((queries + 1))
@@ -377,7 +377,7 @@ while [ -e "planned/$((queries + 1)).sql" ]; do
     timeout 60 "$program" run "planned/$queries.sql" "$seed" >"$work/said/out" 2>&1 </dev/null
     cmp -s "$work/said/out" "$work/said/out.wanted" || failed "run and plain print other rows for $(tail -n 1 "planned/$queries.sql")"
 done
-[ "$queries" -ge 50 ] || failed "plan_cases has only $queries queries"
+[ "$queries" -ge 50 ] || failed "cases_plans has only $queries queries"
 passed "the plans and the rows of $queries queries"
 
 # The statements that docs/GRAMMAR.md shows in blocks and in its table of statements stand in these scripts, line by line.

@@ -1,10 +1,10 @@
 #!/usr/bin/env python3
-"""Works out what the words `run` and `plain` do in the cases of the program run_cases whose scripts it can read, from the definitions.
+"""Works out what the words `run` and `plain` do in the cases of the program cases_runs whose scripts it can read, from the definitions.
 
 Queries, their plans and their calls are those of queries.py. The cases that it can't read stay as they are: those in which a
 name, a type or a file is refused, and those of other words. This makes the cases anew, at the top of the repository:
 
-    cases=crates/run_cases
+    cases=crates/cases_runs
     python3 checks/runs.py <$cases/stdout >cases.new && mv cases.new $cases/stdout && grep -v '^  ' $cases/stdout >$cases/stdin
 
 With a script and a seed it tells of a run in the current folder: what it prints, and how many calls it makes, of an index, of a

@@ -1,13 +1,13 @@
 #!/usr/bin/env python3
-"""Works out what samples of random tables give, and prints it as cases of the program plan_cases.
+"""Works out what samples of random tables give, and prints it as cases of the program cases_plans.
 
 The tables have more rows than are sampled of them. What is expected of each part of a plan is computed as it is defined, from the
 words of the generator on: there is no table of worths, and no two estimates share any work. The generator is the PCG32 (XSH RR)
 of O'Neill, "PCG: a family of simple fast space-efficient statistically good algorithms for random number generation", with the
 seeding of Rust's crate rand_core. The cases are the last ones of the tests of rs_sample in
-crates/plan_cases/stdout, at its end. This makes them anew, at the top of the repository:
+crates/cases_plans/stdout, at its end. This makes them anew, at the top of the repository:
 
-    cases=crates/plan_cases
+    cases=crates/cases_plans
     sed -i '/^# Random .*sample.py/,$d' $cases/stdout && python3 checks/sample.py >>$cases/stdout
     grep -v '^  ' $cases/stdout >$cases/stdin
 """

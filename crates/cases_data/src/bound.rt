@@ -1,0 +1,169 @@
+//! What statements are bound to.
+
+ghost use Rattle.std.specs.Prelude.{IfOk};
+ghost use Rattle.rs_syntax.specs.Syntax.{command_of, commands_of};
+ghost use Rattle.rs_query.specs.WellFormed.{IsQuery};
+ghost use Rattle.rs_syntax.specs.Written.{AreWritten, IsWritten};
+
+use crate::queries::{tell_combinations, tell_plain};
+use crate::show::{show_count, show_index, show_predicate, show_query, show_table};
+use cases_lines::{Fault, cut_word, number_of, text_of};
+use cases_scripts::{make, statements_of};
+use rs_bind::{bind, bind_count, bind_index, bind_predicate, bind_table};
+use rs_catalog::Catalog;
+use rs_query::Query;
+use rs_syntax::Statement;
+use std::alloc::Global;
+
+/// Binds the only statement of a script, and tells what came of it.
+pub fn tell_bound(alloc: Global, catalog: &Catalog, script: &[u8]) -> Result<String, Fault> {
+    let statements = statements_of(alloc, &text_of(alloc, script)?)?;
+    let told = tell_statement(alloc, catalog, &statements);
+    drop(statements);
+    told
+}
+
+/// The same, and the statement joins the catalogue.
+pub fn tell_joined(alloc: Global, catalog: &mut Catalog, script: &[u8]) -> Result<String, Fault> {
+    let statements = statements_of(alloc, &text_of(alloc, script)?)?;
+    let told = make_statement(alloc, catalog, &statements);
+    drop(statements);
+    told
+}
+
+/// What is asked of a query.
+#[derive(Clone, Copy)]
+pub enum Asked {
+    /// Its combinations of rows.
+    Rows,
+    /// Its answers, where the call of this number fails, counted from 1.
+    Answers(u64),
+}
+
+/// The answers of a query where a call fails: `NUMBER QUERY`.
+pub fn tell_failing(alloc: Global, catalog: &Catalog, words: &[u8]) -> Result<String, Fault> {
+    let (number, script) = cut_word(words);
+    tell_query(alloc, catalog, Asked::Answers(number_of(number)?), script)
+}
+
+/// Binds the query that is the only statement of a script, and tells what is asked of it.
+pub fn tell_query(
+    alloc: Global,
+    catalog: &Catalog,
+    asked: Asked,
+    script: &[u8],
+) -> Result<String, Fault> {
+    let query = query_in(alloc, catalog, script)?;
+    let told = tell_asked(alloc, catalog, asked, &query);
+    drop(query);
+    told
+}
+
+fn tell_asked(
+    alloc: Global,
+    catalog: &Catalog,
+    asked: Asked,
+    query: &Query,
+) -> Result<String, Fault>
+    requires { IsQuery catalog.now query.now }
+{
+    match asked {
+        Asked::Rows => tell_combinations(alloc, catalog, query),
+        Asked::Answers(failing) => tell_plain(alloc, catalog, query, failing),
+    }
+}
+
+/// The query that is the only statement of a script.
+fn query_in(alloc: Global, catalog: &Catalog, script: &[u8]) -> Result<Query, Fault>
+    ensures { IfOk result (λ query. IsQuery catalog.now query) }
+{
+    let statements = statements_of(alloc, &text_of(alloc, script)?)?;
+    let query = query_of(alloc, catalog, &statements);
+    drop(statements);
+    query
+}
+
+fn query_of(alloc: Global, catalog: &Catalog, statements: &[Statement]) -> Result<Query, Fault>
+    requires { AreWritten (commands_of statements.now) }
+    ensures { IfOk result (λ query. IsQuery catalog.now query) }
+{
+    if statements.len() != 1 {
+        return Err(Fault::Form);
+    }
+    let Statement::Query(select) = &statements[0] else {
+        return Err(Fault::Form);
+    };
+    match bind(alloc, catalog, select) {
+        Ok(query) => Ok(query),
+        Err(_) => Err(Fault::Form),
+    }
+}
+
+fn tell_statement(
+    alloc: Global,
+    catalog: &Catalog,
+    statements: &[Statement],
+) -> Result<String, Fault>
+    requires { AreWritten (commands_of statements.now) }
+{
+    if statements.len() != 1 {
+        return Err(Fault::Form);
+    }
+    let mut told = String::new(alloc);
+    show_bound(alloc, catalog, &statements[0], &mut told)?;
+    Ok(told)
+}
+
+fn make_statement(
+    alloc: Global,
+    catalog: &mut Catalog,
+    statements: &[Statement],
+) -> Result<String, Fault>
+    requires { AreWritten (commands_of statements.now) }
+{
+    let told = tell_statement(alloc, catalog, statements)?;
+    if statements.len() != 1 {
+        return Err(Fault::Form);
+    }
+    make(alloc, catalog, &statements[0])?;
+    Ok(told)
+}
+
+/// Binds a statement, and shows what came of it.
+fn show_bound(
+    alloc: Global,
+    catalog: &Catalog,
+    statement: &Statement,
+    told: &mut String,
+) -> Result<(), Fault>
+    requires { IsWritten (command_of statement.now) }
+{
+    match statement {
+        Statement::CreateTable { columns, .. } => {
+            let bound = bind_table(alloc, columns.items());
+            let shown = show_table(told, &bound);
+            drop(bound);
+            shown
+        }
+        Statement::CreatePredicate { .. } => {
+            let bound = bind_predicate(alloc, statement);
+            let shown = show_predicate(told, &bound);
+            drop(bound);
+            shown
+        }
+        Statement::CreateRankIndex { .. } => {
+            let bound = bind_index(alloc, catalog, statement);
+            let shown = show_index(told, &bound);
+            drop(bound);
+            shown
+        }
+        Statement::Query(select) => {
+            let bound = bind(alloc, catalog, select);
+            let shown = show_query(told, &bound);
+            drop(bound);
+            shown
+        }
+        Statement::Fetch { count, .. } => show_count(told, bind_count(count.0, count.1)),
+        _ => Err(Fault::Form),
+    }
+}

@@ -1,0 +1,104 @@
+//! What the lines ask for.
+
+use crate::outside::Outside;
+use crate::told::tell_run;
+use cases_lines::{Cases, Fault, count_of, cut_word, text_of};
+use rs_value::{Text, Value, int_of};
+use std::alloc::Global;
+
+impl Cases for Outside {
+    fn answer(&mut self, alloc: Global, line: &[u8]) -> Result<String, Fault> {
+        let (word, rest) = cut_word(line);
+        match word {
+            b"run" => tell_words(alloc, rest, self),
+            _ => {
+                prepare(alloc, word, rest, self)?;
+                Ok(String::new(alloc))
+            }
+        }
+    }
+}
+
+/// Runs the words of a line, and tells what came of it.
+fn tell_words(alloc: Global, words: &[u8], outside: &mut Outside) -> Result<String, Fault> {
+    let words = words_of(alloc, words)?;
+    let status = outside.run(alloc, &words)?;
+    let told = tell_run(alloc, status, outside)?;
+    outside.forget_run(alloc);
+    Ok(told)
+}
+
+/// The words of a command line.
+fn words_of(alloc: Global, line: &[u8]) -> Result<Vec<Text>, Fault> {
+    let mut words = Vec::new(alloc);
+    if line.is_empty() {
+        return Ok(words);
+    }
+    for word in line.split(|byte| *byte == b' ') {
+        words.push(text_of(alloc, word)?)?;
+    }
+    Ok(words)
+}
+
+/// Does what a line asks for that is no run.
+fn prepare(alloc: Global, word: &[u8], rest: &[u8], outside: &mut Outside) -> Result<(), Fault> {
+    match word {
+        b"file" => {
+            let (name, bytes) = cut_word(rest);
+            outside.set_file(alloc, name, bytes)
+        }
+        b"front" => outside.add_to_front(rest),
+        b"script" => outside.set_script(alloc, rest),
+        b"more" => {
+            let (count, bytes) = cut_word(rest);
+            outside.add_to_file(count_of(count)?, bytes)
+        }
+        b"score" => write_score(alloc, rest, outside),
+        b"fail" => plan_failure(rest, outside),
+        _ => Err(Fault::Form),
+    }
+}
+
+/// Writes the score of a call.
+fn write_score(alloc: Global, rest: &[u8], outside: &mut Outside) -> Result<(), Fault> {
+    let (score, call) = cut_word(rest);
+    let Some(score) = int_of(score) else {
+        return Err(Fault::Form);
+    };
+    let (predicate, args) = cut_word(call);
+    let predicate = text_of(alloc, predicate)?;
+    let args = values_of(alloc, args)?;
+    outside.scorer.set(&predicate, &args, score as i128)?;
+    Ok(())
+}
+
+/// The arguments of a call: numbers, and each word that is no number is a text.
+fn values_of(alloc: Global, args: &[u8]) -> Result<Vec<Value>, Fault> {
+    let mut values = Vec::new(alloc);
+    for word in args.split(|byte| *byte == b' ') {
+        values.push(value_of(alloc, word)?)?;
+    }
+    Ok(values)
+}
+
+fn value_of(alloc: Global, word: &[u8]) -> Result<Value, Fault> {
+    match int_of(word) {
+        Some(number) => Ok(Value::Int(number)),
+        None => Ok(Value::Text(text_of(alloc, word)?)),
+    }
+}
+
+/// Plans that something fails in the next run.
+fn plan_failure(rest: &[u8], outside: &mut Outside) -> Result<(), Fault> {
+    let (what, rest) = cut_word(rest);
+    let (number, after) = cut_word(rest);
+    let number = count_of(number)?;
+    match what {
+        b"call" => outside.scorer.fail_at(number as u64)?,
+        b"fetch" => outside.fail_fetch(number)?,
+        b"out" => outside.out.fail_at(number, count_of(after)? as usize)?,
+        b"err" => outside.err.fail_at(number, count_of(after)? as usize)?,
+        _ => return Err(Fault::Form),
+    }
+    Ok(())
+}

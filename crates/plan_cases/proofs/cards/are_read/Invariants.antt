@@ -1,7 +1,0 @@
-use Rattle.rs_sample.specs.Cards.{AreRead}
-use Rattle.plan_cases.proofs.ReadFacts.{ReadFrom, reads_of}
-use Rattle.plan_cases.proofs.cards.are_read.Given as goal
-
--- the first terms read entries in the mask alone
-abbrev pub invariant-loop-place : goal.invariant-loop-place
-invariant-loop-place l = ReadFrom l.terms l.mask l.block.terms l.place → AreRead l.terms l.mask (reads_of l.block.terms)

@@ -1,0 +1,60 @@
+-- The block that the tests build is well-formed.
+use Rattle.std.proofs.Common.{◌≡◌, true, [], ◌∷◌, Some, length, refl, subst, sym, arith}
+use Rattle.std.specs.Prelude.{pos}
+use Rattle.std.specs.List.{AllByRecursion}
+use Rattle.rs_value.specs.declared.kind.Kind.TheVariants as kind
+use Rattle.rs_value.specs.declared.rel.Rel.TheVariants.{Eq}
+use Rattle.rs_expr.specs.Formulas.{Argument, Numbers}
+use Rattle.rs_expr.specs.Uses.{is_kind}
+use Rattle.rs_catalog.specs.Catalogue.{Catalogue}
+use Rattle.rs_catalog.specs.declared.index.BoundArg.TheVariants as arg
+use Rattle.test_units.proofs.KindFacts.{a_number}
+use Rattle.rs_query.specs.declared.block.Block.{Block}
+use Rattle.test_units.specs.Joined.{IsJoin}
+use Rattle.test_units.specs.Tables.{HasPredicate}
+use Rattle.rs_query.specs.WellFormed.{IsBlock, IsColumn, IsConjunct, IsFromEntry, IsTerm, column_kind}
+
+is_conjunct : (catalogue : Catalogue) (block : Block) → IsColumn catalogue block (1, 0) → IsColumn catalogue block (2, 0)
+    → is_kind kind.Int (column_kind catalogue block (1, 0)) ≡ true → is_kind kind.Int (column_kind catalogue block (2, 0)) ≡ true
+    → IsConjunct catalogue block (record { condition = Numbers Eq (Argument 0) (Argument 1); columns = (1, 0) ∷ (2, 0) ∷ []; entries = 3; equality = Some ((1, 0), (2, 0)) })
+is_conjunct catalogue block left right left_number right_number = record {
+  columns = (left, (right, tt));
+  distinct = (refl, (refl, tt));
+  entries = refl;
+  uses = rw (left_number, right_number) refl;
+  narrow = refl;
+  equality = refl;
+}
+
+is_term : (catalogue : Catalogue) (block : Block) → HasPredicate (kind.Int ∷ kind.Int ∷ []) 100 catalogue → IsColumn catalogue block (2, 0) → column_kind catalogue block (2, 0) ≡ Some kind.Int
+    → IsTerm catalogue block (record { weight = 3; predicate = 0; args = arg.Column 2 0 ∷ arg.Int (pos 7) ∷ []; max = 100; entries = 2 })
+is_term catalogue block has column number = record {
+  predicate = record { name = has.name; params = kind.Int ∷ kind.Int ∷ []; max = 100; cost = 1; formula = Argument 0 };
+  has_predicate = rw has.predicates refl;
+  args = ((column, number), (omega arith, tt));
+  some_column = omega arith;
+  entries = refl;
+  some_weight = omega arith;
+  most_weight = omega arith;
+  max = refl;
+}
+
+pub IsBlock-join : (catalogue : Catalogue) (block : Block) → length catalogue.tables ≡ 2 → HasPredicate (kind.Int ∷ kind.Int ∷ []) 100 catalogue → IsJoin block
+    → is_kind kind.Int (column_kind catalogue block (1, 0)) ≡ true → is_kind kind.Int (column_kind catalogue block (2, 0)) ≡ true → IsBlock catalogue block
+IsBlock-join catalogue block two has join left_number right_number =
+    let left_kind : column_kind catalogue block (1, 0) ≡ Some kind.Int = a_number (column_kind catalogue block (1, 0)) left_number in
+    let right_kind : column_kind catalogue block (2, 0) ≡ Some kind.Int = a_number (column_kind catalogue block (2, 0)) right_number in
+    let from : length block.from ≡ 2 = rw join.from refl in
+    let left : IsColumn catalogue block (1, 0) = (omega arith, omega arith, (kind.Int, left_kind)) in
+    let right : IsColumn catalogue block (2, 0) = (omega arith, omega arith, (kind.Int, right_kind)) in
+    record {
+      some_entries = omega arith;
+      most_entries = omega arith;
+      entries = subst (AllByRecursion (IsFromEntry catalogue)) (sym join.from) (omega arith, (omega arith, tt));
+      most_conjuncts = rw join.conjuncts (omega arith);
+      conjuncts = subst (AllByRecursion (IsConjunct catalogue block)) (sym join.conjuncts) (is_conjunct catalogue block left right left_number right_number, tt);
+      most_items = rw join.items (omega arith);
+      items = subst (AllByRecursion (IsColumn catalogue block)) (sym join.items) (right, (left, tt));
+      most_terms = rw join.terms (omega arith);
+      terms = subst (AllByRecursion (IsTerm catalogue block)) (sym join.terms) (is_term catalogue block has right right_kind, tt);
+    }
