@@ -40,7 +40,7 @@ use Rattle.rs_ripple.proofs.PairFacts.{In-ordered, In-ordered-back, IsPair, orde
 use Rattle.rs_ripple.proofs.SideFacts.{sides-grid}
 use Rattle.rs_plan.specs.Lists.{World, ids_of, key_under, list_of, numbered_block, row_under, sizes_in, sources, weights_in}
 use Rattle.rs_plan.specs.Plans.{AreJoined, HasNoDistinct, IsPart}
-use Rattle.rs_plan.specs.Trees.{Distinct, HashJoin, NestedJoin, Rank, RankScan, SeqScan, SetOperator, PlanTree, entries, terms}
+use Rattle.rs_plan.specs.Trees.{Distinct, NestedJoin, Rank, SetOperator, PlanTree, entries, terms}
 use Rattle.rs_exec.specs.Joining.{join_for, side_for}
 use Rattle.rs_exec.proofs.ListFacts.{list-climbs, list-others, unsorted}
 use Rattle.rs_exec.proofs.PartMaskFacts.{can-join, entries-few, terms-apart, terms-inside}
@@ -96,13 +96,10 @@ module _ (w : World) (number : ℕ) where
 
   -- such a part has all combinations of its entries
   sources-all : (tree : PlanTree) → IsPart w.catalogue (numbered_block w number) tree → HasNoDistinct tree → sources w number tree ≡ ids_of w number (entries tree)
-  sources-all (SeqScan entry) part whole = refl
-  sources-all (RankScan entry term index) part whole = refl
   sources-all (Rank term child) part whole = sources-all child part.0 whole
-  sources-all (HashJoin left right) part whole = refl
-  sources-all (NestedJoin left right) part whole = refl
   sources-all (Distinct child) part whole = absurd whole
   sources-all (SetOperator left right) part whole = absurd part
+  sources-all tree part whole = refl
 
   pub In-list : (tree : PlanTree) → IsPart w.catalogue (numbered_block w number) tree → HasNoDistinct tree → (row : RankRow) → IsRowFor w number tree row
       → In row (list_of w number tree)

@@ -306,13 +306,9 @@ module _ (catalogue more : Catalogue) where
   complete-larger block tree complete = record { part = part-larger block tree complete.part; all = complete.all; drops = complete.drops }
 
   set_plan-larger : (left right : Block) (tree : PlanTree) → IsSetPlan catalogue left right tree → IsSetPlan larger left right tree
-  set_plan-larger left right (SeqScan entry) plan = absurd plan
-  set_plan-larger left right (RankScan entry term number) plan = absurd plan
   set_plan-larger left right (Rank term child) plan = (set_plan-larger left right child plan.0, plan.1)
-  set_plan-larger left right (HashJoin l r) plan = absurd plan
-  set_plan-larger left right (NestedJoin l r) plan = absurd plan
-  set_plan-larger left right (Distinct child) plan = absurd plan
   set_plan-larger left right (SetOperator l r) plan = (complete-larger left l plan.0, complete-larger right r plan.1, plan.2)
+  set_plan-larger left right tree plan = absurd plan
 
   pub plan-larger : (query : Query) (tree : PlanTree) → IsPlan catalogue query tree → IsPlan larger query tree
   plan-larger (One block limit) tree plan = (complete-larger block tree plan.0, plan.1)

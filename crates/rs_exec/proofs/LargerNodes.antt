@@ -99,20 +99,14 @@ side-parts catalogue (Set op l r limit) number left right part = (part.1.part, p
 indexes_of-larger : (catalogue more : Catalogue) (query : Query) (number : ℕ) → Covers catalogue query → (answer : Answering) (tree : PlanTree) → IsPartOf catalogue query number tree
     → HoldIndexes answer catalogue tree → HoldIndexes answer (joined catalogue more) tree
 indexes_of-larger catalogue more query number covered answer (SeqScan entry) part holds = holds
-indexes_of-larger catalogue more query number covered answer (RankScan entry term index) part holds =
-    indexes-larger catalogue more (block_in query number) (block-covered catalogue query number covered) answer (RankScan entry term index) part holds
 indexes_of-larger catalogue more query number covered answer (Rank term child) part holds = indexes_of-larger catalogue more query number covered answer child part.0 holds
-indexes_of-larger catalogue more query number covered answer (HashJoin left right) part holds =
-    indexes-larger catalogue more (block_in query number) (block-covered catalogue query number covered) answer (HashJoin left right) part holds
-indexes_of-larger catalogue more query number covered answer (NestedJoin left right) part holds =
-    indexes-larger catalogue more (block_in query number) (block-covered catalogue query number covered) answer (NestedJoin left right) part holds
-indexes_of-larger catalogue more query number covered answer (Distinct child) part holds =
-    indexes-larger catalogue more (block_in query number) (block-covered catalogue query number covered) answer (Distinct child) part holds
 indexes_of-larger catalogue more query number covered answer (SetOperator left right) part holds =
     let parts = side-parts catalogue query number left right part in (
       indexes-larger catalogue more (block_in query 1) (block-covered catalogue query 1 covered) answer left parts.0 holds.0,
       indexes-larger catalogue more (block_in query 2) (block-covered catalogue query 2 covered) answer right parts.1 holds.1,
     )
+indexes_of-larger catalogue more query number covered answer tree part holds =
+    indexes-larger catalogue more (block_in query number) (block-covered catalogue query number covered) answer tree part holds
 
 module _ (catalogue more : Catalogue) (answer : Answering) (query : Query) (covered : Covers catalogue query) where
   abbrev small : World

@@ -30,7 +30,7 @@ use Rattle.rs_query.proofs.RiseFacts.{each-firsts}
 use Rattle.rs_plan.specs.Lists.{World, key_under, list_of, numbered_block, row_under, sources}
 use Rattle.rs_query.specs.Blocks.{block_in}
 use Rattle.rs_plan.specs.Plans.{IsPart, IsPlan, IsRank, IsSetPlan}
-use Rattle.rs_plan.specs.Trees.{Distinct, HashJoin, NestedJoin, Rank, RankScan, SeqScan, SetOperator, PlanTree, entries, terms}
+use Rattle.rs_plan.specs.Trees.{Rank, SetOperator, PlanTree, entries, terms}
 use Rattle.rs_exec.specs.Asked.{HasBlock}
 use Rattle.rs_exec.specs.Asking.{world_of}
 use Rattle.rs_exec.specs.Outputs.{CanPutOut}
@@ -41,24 +41,16 @@ use Rattle.rs_exec.proofs.ListFacts.{IsOf, each-base, each-source, list-length, 
 
 -- a part of a plan of a block is one of the query
 pub part-of : (catalogue : Catalogue) (query : Query) (number : ℕ) (tree : PlanTree) → IsPart catalogue (block_in query number) tree → IsPartOf catalogue query number tree
-part-of catalogue query number (SeqScan entry) part = part
-part-of catalogue query number (RankScan entry term index) part = part
 part-of catalogue query number (Rank term child) part = (part-of catalogue query number child part.0, part.1)
-part-of catalogue query number (HashJoin left right) part = part
-part-of catalogue query number (NestedJoin left right) part = part
-part-of catalogue query number (Distinct child) part = part
 part-of catalogue query number (SetOperator left right) part = absurd part
+part-of catalogue query number tree part = part
 
 -- a plan is one
 plan-set : (catalogue : Catalogue) (op : SetOp) (left right : Block) (limit : Option ℕ) (tree : PlanTree) → IsSetPlan catalogue left right tree
     → IsPartOf catalogue (Set op left right limit) 1 tree
-plan-set catalogue op left right limit (SeqScan entry) plan = absurd plan
-plan-set catalogue op left right limit (RankScan entry term index) plan = absurd plan
 plan-set catalogue op left right limit (Rank term child) plan = (plan-set catalogue op left right limit child plan.0, plan.1)
-plan-set catalogue op left right limit (HashJoin l r) plan = absurd plan
-plan-set catalogue op left right limit (NestedJoin l r) plan = absurd plan
-plan-set catalogue op left right limit (Distinct child) plan = absurd plan
 plan-set catalogue op left right limit (SetOperator l r) plan = (refl, plan.0, plan.1, plan.2)
+plan-set catalogue op left right limit tree plan = absurd plan
 
 pub plan-part : (catalogue : Catalogue) (query : Query) (tree : PlanTree) → IsPlan catalogue query tree → IsPartOf catalogue query 1 tree
 plan-part catalogue (One block limit) tree plan = part-of catalogue (One block limit) 1 tree plan.0.part
@@ -66,13 +58,9 @@ plan-part catalogue (Set op left right limit) tree plan = plan-set catalogue op 
 
 -- it ranges over all entries
 set-entries : (catalogue : Catalogue) (left right : Block) (tree : PlanTree) → IsSetPlan catalogue left right tree → entries tree ≡ all_entries left
-set-entries catalogue left right (SeqScan entry) plan = absurd plan
-set-entries catalogue left right (RankScan entry term index) plan = absurd plan
 set-entries catalogue left right (Rank term child) plan = set-entries catalogue left right child plan.0
-set-entries catalogue left right (HashJoin l r) plan = absurd plan
-set-entries catalogue left right (NestedJoin l r) plan = absurd plan
-set-entries catalogue left right (Distinct child) plan = absurd plan
 set-entries catalogue left right (SetOperator l r) plan = plan.0.all
+set-entries catalogue left right tree plan = absurd plan
 
 pub plan-entries : (catalogue : Catalogue) (query : Query) (tree : PlanTree) → IsPlan catalogue query tree → entries tree ≡ all_entries (block_in query 1)
 plan-entries catalogue (One block limit) tree plan = plan.0.all
@@ -146,13 +134,9 @@ module _ (catalogue : Catalogue) (answer : Answering) where
 
   each-placed : (query : Query) (number : ℕ) (tree : PlanTree) → IsQuery catalogue query → HasBlock query number → IsPartOf catalogue query number tree
       → AllByRecursion (IsPlaced (world_of catalogue answer query) number (entries tree)) (sources (world_of catalogue answer query) number tree)
-  each-placed query number (SeqScan entry) formed has part = each-part query number (SeqScan entry) formed has part
-  each-placed query number (RankScan entry term index) formed has part = each-part query number (RankScan entry term index) formed has part
   each-placed query number (Rank term child) formed has part = each-placed query number child formed has part.0
-  each-placed query number (HashJoin left right) formed has part = each-part query number (HashJoin left right) formed has part
-  each-placed query number (NestedJoin left right) formed has part = each-part query number (NestedJoin left right) formed has part
-  each-placed query number (Distinct child) formed has part = each-part query number (Distinct child) formed has part
   each-placed query number (SetOperator left right) formed has part = each-sides query number left right formed part
+  each-placed query number tree formed has part = each-part query number tree formed has part
 
   -- so are those of each row of its list
   pub row-placed : (query : Query) (number : ℕ) (tree : PlanTree) → IsQuery catalogue query → HasBlock query number → IsPartOf catalogue query number tree
@@ -191,11 +175,7 @@ module _ (catalogue : Catalogue) (answer : Answering) where
       → IsPartOf catalogue query number tree → length (sources (world_of catalogue answer query) number tree) ≤ 2 ^ 103
   few-placed query number (Rank term child) has tables part = few-placed query number child has tables part.0
   few-placed query number (SetOperator left right) has tables part = few-sides query number left right tables part
-  few-placed query number (SeqScan entry) has tables part = few-part query number (SeqScan entry) has tables part
-  few-placed query number (RankScan entry term index) has tables part = few-part query number (RankScan entry term index) has tables part
-  few-placed query number (HashJoin left right) has tables part = few-part query number (HashJoin left right) has tables part
-  few-placed query number (NestedJoin left right) has tables part = few-part query number (NestedJoin left right) has tables part
-  few-placed query number (Distinct child) has tables part = few-part query number (Distinct child) has tables part
+  few-placed query number tree has tables part = few-part query number tree has tables part
 
   pub list-few-of : (query : Query) (number : ℕ) (tree : PlanTree) → HasBlock query number → ((n : ℕ) → AllByRecursion (λ size. size ≤ 131072) (sizes_of catalogue (block_in query n)))
       → IsPartOf catalogue query number tree → length (list_of (world_of catalogue answer query) number tree) ≤ 2 ^ 103

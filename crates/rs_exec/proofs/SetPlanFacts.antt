@@ -6,7 +6,7 @@ use Rattle.rs_query.specs.WellFormed.{AreSetSides}
 use Rattle.rs_query.specs.declared.block.Block.{Block}
 use Rattle.rs_plan.specs.Numbers.{HasNumbers}
 use Rattle.rs_plan.specs.Plans.{IsSetPlan}
-use Rattle.rs_plan.specs.Trees.{Distinct, HashJoin, NestedJoin, Rank, RankScan, SeqScan, SetOperator, PlanTree}
+use Rattle.rs_plan.specs.Trees.{Rank, SetOperator, PlanTree}
 use Rattle.rs_plan.proofs.DecidingFacts.{part-numbers}
 
 pub set-numbers : (catalogue : Catalogue) (left right : Block) (tree : PlanTree) → AreSetSides catalogue left right → IsSetPlan catalogue left right tree → HasNumbers tree
@@ -18,8 +18,4 @@ set-numbers catalogue left right (SetOperator l r) sides is = (
   part-numbers catalogue left l sides.left_block.most_entries sides.left_block.most_terms is.0.part,
   part-numbers catalogue right r sides.right_block.most_entries sides.right_block.most_terms is.1.part,
 )
-set-numbers catalogue left right (SeqScan entry) sides is = absurd is
-set-numbers catalogue left right (RankScan entry term index) sides is = absurd is
-set-numbers catalogue left right (HashJoin l r) sides is = absurd is
-set-numbers catalogue left right (NestedJoin l r) sides is = absurd is
-set-numbers catalogue left right (Distinct child) sides is = absurd is
+set-numbers catalogue left right tree sides is = absurd is

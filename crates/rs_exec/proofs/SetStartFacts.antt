@@ -14,7 +14,7 @@ use Rattle.rs_value.specs.declared.set_op.SetOp.{SetOp}
 use Rattle.rs_plan.specs.Lists.{World, list_of, weights_in}
 use Rattle.rs_query.specs.Blocks.{block_in}
 use Rattle.rs_plan.specs.Plans.{IsPlan, IsSetPlan}
-use Rattle.rs_plan.specs.Trees.{Distinct, HashJoin, NestedJoin, Rank, RankScan, SeqScan, SetOperator, PlanTree, terms}
+use Rattle.rs_plan.specs.Trees.{Rank, SetOperator, PlanTree, terms}
 use Rattle.rs_exec.specs.Asking.{world_of}
 use Rattle.rs_exec.specs.Nodes.{asked_in, tree_in}
 use Rattle.rs_exec.specs.Outputs.{outputs_in}
@@ -33,25 +33,11 @@ use Rattle.rs_exec.proofs.StartFacts.{none-given, rank-none, start-asked, start-
 
 -- the nodes are of the tree that they were made for
 set-tree : (catalogue : Catalogue) (op : SetOp) (left_block right_block : Block) (tree : PlanTree) (n : Node) → IsSetStart catalogue op left_block right_block tree n → tree_in n ≡ tree
-set-tree catalogue op left_block right_block (SeqScan entry) n is = absurd is
-set-tree catalogue op left_block right_block (RankScan entry term index) n is = absurd is
-set-tree catalogue op left_block right_block (HashJoin left right) n is = absurd is
-set-tree catalogue op left_block right_block (NestedJoin left right) n is = absurd is
-set-tree catalogue op left_block right_block (Distinct child) n is = absurd is
-set-tree catalogue op left_block right_block (Rank term child) (node.SeqScan head) is = absurd is
-set-tree catalogue op left_block right_block (Rank term child) (node.RankScan head) is = absurd is
 set-tree catalogue op left_block right_block (Rank term child) (node.Rank' head p below) is =
     ap (λ (h : RankNode). Rank h.term (tree_in below)) is.0 ∙ ap (Rank term) (set-tree catalogue op left_block right_block child below is.1)
-set-tree catalogue op left_block right_block (Rank term child) (node.Join' head p l q r) is = absurd is
-set-tree catalogue op left_block right_block (Rank term child) (node.Distinct' head p below) is = absurd is
-set-tree catalogue op left_block right_block (Rank term child) (node.Set' head p l q r) is = absurd is
-set-tree catalogue op left_block right_block (SetOperator left right) (node.SeqScan head) is = absurd is
-set-tree catalogue op left_block right_block (SetOperator left right) (node.RankScan head) is = absurd is
-set-tree catalogue op left_block right_block (SetOperator left right) (node.Rank' head p below) is = absurd is
-set-tree catalogue op left_block right_block (SetOperator left right) (node.Join' head p l q r) is = absurd is
-set-tree catalogue op left_block right_block (SetOperator left right) (node.Distinct' head p below) is = absurd is
 set-tree catalogue op left_block right_block (SetOperator left right) (node.Set' head p l q r) is =
     ap₂ SetOperator (start-tree catalogue left_block 1 left l is.1) (start-tree catalogue right_block 2 right r is.2)
+set-tree catalogue op left_block right_block tree n is = absurd is
 
 pub query-tree : (catalogue : Catalogue) (query : Query) (tree : PlanTree) (n : Node) → IsQueryStart catalogue query tree n → tree_in n ≡ tree
 query-tree catalogue (One block limit) tree n is = start-tree catalogue block 1 tree n is
@@ -59,23 +45,9 @@ query-tree catalogue (Set op left right limit) tree n is = set-tree catalogue op
 
 -- they were not asked
 set-unasked : (catalogue : Catalogue) (op : SetOp) (left_block right_block : Block) (tree : PlanTree) (n : Node) → IsSetStart catalogue op left_block right_block tree n → asked_in n ≡ 0
-set-unasked catalogue op left_block right_block (SeqScan entry) n is = absurd is
-set-unasked catalogue op left_block right_block (RankScan entry term index) n is = absurd is
-set-unasked catalogue op left_block right_block (HashJoin left right) n is = absurd is
-set-unasked catalogue op left_block right_block (NestedJoin left right) n is = absurd is
-set-unasked catalogue op left_block right_block (Distinct child) n is = absurd is
-set-unasked catalogue op left_block right_block (Rank term child) (node.SeqScan head) is = absurd is
-set-unasked catalogue op left_block right_block (Rank term child) (node.RankScan head) is = absurd is
 set-unasked catalogue op left_block right_block (Rank term child) (node.Rank' head p below) is = ap (λ (h : RankNode). h.tally.asked) is.0
-set-unasked catalogue op left_block right_block (Rank term child) (node.Join' head p l q r) is = absurd is
-set-unasked catalogue op left_block right_block (Rank term child) (node.Distinct' head p below) is = absurd is
-set-unasked catalogue op left_block right_block (Rank term child) (node.Set' head p l q r) is = absurd is
-set-unasked catalogue op left_block right_block (SetOperator left right) (node.SeqScan head) is = absurd is
-set-unasked catalogue op left_block right_block (SetOperator left right) (node.RankScan head) is = absurd is
-set-unasked catalogue op left_block right_block (SetOperator left right) (node.Rank' head p below) is = absurd is
-set-unasked catalogue op left_block right_block (SetOperator left right) (node.Join' head p l q r) is = absurd is
-set-unasked catalogue op left_block right_block (SetOperator left right) (node.Distinct' head p below) is = absurd is
 set-unasked catalogue op left_block right_block (SetOperator left right) (node.Set' head p l q r) is = ap (λ (h : SetNode). h.tally.asked) is.0
+set-unasked catalogue op left_block right_block tree n is = absurd is
 
 pub query-asked : (catalogue : Catalogue) (query : Query) (tree : PlanTree) (n : Node) → IsQueryStart catalogue query tree n → asked_in n ≡ 0
 query-asked catalogue (One block limit) tree n is = start-asked catalogue block 1 tree n is
@@ -91,13 +63,6 @@ module _ (catalogue : Catalogue) (answer : Answering) (op : SetOp) (left_block r
   w = world_of catalogue answer query
 
   set-stands : (tree : PlanTree) (n : Node) → IsSetPlan catalogue left_block right_block tree → IsSetStart catalogue op left_block right_block tree n → Stands w 1 n
-  set-stands (SeqScan entry) n plan is = absurd is
-  set-stands (RankScan entry term index) n plan is = absurd is
-  set-stands (HashJoin left right) n plan is = absurd is
-  set-stands (NestedJoin left right) n plan is = absurd is
-  set-stands (Distinct child) n plan is = absurd is
-  set-stands (Rank term child) (node.SeqScan head) plan is = absurd is
-  set-stands (Rank term child) (node.RankScan head) plan is = absurd is
   set-stands (Rank term child) (node.Rank' head p below) plan is =
       let tree = set-tree catalogue op left_block right_block child below is.1 in (
         subst (λ (h : RankNode). HeadStands w 1 h (tree_in below) (asked_in below)) (sym is.0) (record {
@@ -107,14 +72,6 @@ module _ (catalogue : Catalogue) (answer : Answering) (op : SetOp) (left_block r
         }),
         set-stands child below plan.0 is.1,
       )
-  set-stands (Rank term child) (node.Join' head p l q r) plan is = absurd is
-  set-stands (Rank term child) (node.Distinct' head p below) plan is = absurd is
-  set-stands (Rank term child) (node.Set' head p l q r) plan is = absurd is
-  set-stands (SetOperator left right) (node.SeqScan head) plan is = absurd is
-  set-stands (SetOperator left right) (node.RankScan head) plan is = absurd is
-  set-stands (SetOperator left right) (node.Rank' head p below) plan is = absurd is
-  set-stands (SetOperator left right) (node.Join' head p l q r) plan is = absurd is
-  set-stands (SetOperator left right) (node.Distinct' head p below) plan is = absurd is
   set-stands (SetOperator left right) (node.Set' head p l q r) plan is =
       let on_left = start-tree catalogue left_block 1 left l is.1 in
       let on_right = start-tree catalogue right_block 2 right r is.2 in
@@ -132,6 +89,7 @@ module _ (catalogue : Catalogue) (answer : Answering) (op : SetOp) (left_block r
         start-stands w 1 (few-entries catalogue query 1 formed) (sizes-are catalogue answer query 1 (inl refl)) refl left l plan.0.part is.1,
         start-stands w 2 (few-entries catalogue query 2 formed) (sizes-are catalogue answer query 2 (inr refl)) (sym (same-sides left_block right_block formed.0.terms)) right r plan.1.part is.2,
       )
+  set-stands tree n plan is = absurd is
 
 pub query-stands : (catalogue : Catalogue) (answer : Answering) (query : Query) (tree : PlanTree) (n : Node) → IsQuery catalogue query → IsWeights (weights_of (block_in query 1))
     → IsPlan catalogue query tree → IsQueryStart catalogue query tree n

@@ -26,13 +26,10 @@ module _ (w : World) where
   -- where no duplicates are dropped, they are all combinations of the entries
   pub sources-combinations : (block : Block) (number : ℕ) (tree : PlanTree) → IsPart w.catalogue block tree → HasNoDistinct tree
       → sources w number tree ≡ ids_of w number (entries tree)
-  sources-combinations block number (SeqScan entry) part none = refl
-  sources-combinations block number (RankScan entry term index) part none = refl
   sources-combinations block number (Rank term child) part none = sources-combinations block number child part.0 none
-  sources-combinations block number (HashJoin left right) part none = refl
-  sources-combinations block number (NestedJoin left right) part none = refl
   sources-combinations block number (Distinct child) part none = absurd none
   sources-combinations block number (SetOperator left right) part none = absurd part
+  sources-combinations block number tree part none = refl
 
   -- the rows of a block
   abbrev base : ℕ → List Answer
@@ -89,13 +86,9 @@ module _ (catalogue : Catalogue) (answer : Answering) (view : View) where
 
   sources-set : (op : SetOp) (left right : Block) (limit : Option ℕ) (tree : PlanTree) → IsSetPlan catalogue left right tree
       → sources (world (Set op left right limit)) 1 tree ≡ ids_in (rows_of answer catalogue (Set op left right limit) view)
-  sources-set op left right limit (SeqScan entry) plan = absurd plan
-  sources-set op left right limit (RankScan entry term index) plan = absurd plan
   sources-set op left right limit (Rank term child) plan = sources-set op left right limit child plan.0
-  sources-set op left right limit (HashJoin l r) plan = absurd plan
-  sources-set op left right limit (NestedJoin l r) plan = absurd plan
-  sources-set op left right limit (Distinct child) plan = absurd plan
   sources-set op left right limit (SetOperator l r) plan = refl
+  sources-set op left right limit tree plan = absurd plan
 
   -- the ids of the rows of a plan are those of the rows of the query
   sources-query : (query : Query) (tree : PlanTree) → IsPlan catalogue query tree → sources (world query) 1 tree ≡ ids_in (rows_of answer catalogue query view)

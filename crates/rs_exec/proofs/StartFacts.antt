@@ -13,7 +13,7 @@ use Rattle.rs_rank.specs.declared.weights.Weights.{Weights}
 use Rattle.rs_plan.specs.Counts.{size_at}
 use Rattle.rs_plan.specs.Lists.{World, list_of, numbered_block, sizes_in, weights_in}
 use Rattle.rs_plan.specs.Plans.{IsEntryNumber, IsPart}
-use Rattle.rs_plan.specs.Trees.{Distinct, HashJoin, NestedJoin, Rank, RankScan, SeqScan, SetOperator, PlanTree, entries, terms}
+use Rattle.rs_plan.specs.Trees.{Distinct, HashJoin, NestedJoin, Rank, RankScan, SeqScan, PlanTree, entries, terms}
 use Rattle.rs_hrjn.specs.Hashed.{new_hashed}
 use Rattle.rs_ripple.specs.Joined.{Joined, new_joined}
 use Rattle.rs_ripple.specs.Stands.{side_keys, state_after}
@@ -37,87 +37,27 @@ use Rattle.rs_exec.specs.declared.tally.Tally.{Tally}
 -- the nodes are of the tree that they were made for
 pub start-tree : (catalogue : Catalogue) (block : Block) (number : ℕ) (tree : PlanTree) (n : Node) → IsStart catalogue block number tree n → tree_in n ≡ tree
 start-tree catalogue block number (SeqScan entry) (node.SeqScan head) is = ap (λ (h : TableNode). SeqScan h.entry) is
-start-tree catalogue block number (SeqScan entry) (node.RankScan head) is = absurd is
-start-tree catalogue block number (SeqScan entry) (node.Rank' head p below) is = absurd is
-start-tree catalogue block number (SeqScan entry) (node.Join' head p l q r) is = absurd is
-start-tree catalogue block number (SeqScan entry) (node.Set' head p l q r) is = absurd is
-start-tree catalogue block number (SeqScan entry) (node.Distinct' head p below) is = absurd is
-start-tree catalogue block number (RankScan entry term index) (node.SeqScan head) is = absurd is
 start-tree catalogue block number (RankScan entry term index) (node.RankScan head) is = ap (λ (h : IndexNode). RankScan h.entry h.term h.scan.index) is
-start-tree catalogue block number (RankScan entry term index) (node.Rank' head p below) is = absurd is
-start-tree catalogue block number (RankScan entry term index) (node.Join' head p l q r) is = absurd is
-start-tree catalogue block number (RankScan entry term index) (node.Set' head p l q r) is = absurd is
-start-tree catalogue block number (RankScan entry term index) (node.Distinct' head p below) is = absurd is
-start-tree catalogue block number (Rank term child) (node.SeqScan head) is = absurd is
-start-tree catalogue block number (Rank term child) (node.RankScan head) is = absurd is
 start-tree catalogue block number (Rank term child) (node.Rank' head p below) is =
     ap (λ (h : RankNode). Rank h.term (tree_in below)) is.0 ∙ ap (Rank term) (start-tree catalogue block number child below is.1)
-start-tree catalogue block number (Rank term child) (node.Join' head p l q r) is = absurd is
-start-tree catalogue block number (Rank term child) (node.Set' head p l q r) is = absurd is
-start-tree catalogue block number (Rank term child) (node.Distinct' head p below) is = absurd is
-start-tree catalogue block number (HashJoin left right) (node.SeqScan head) is = absurd is
-start-tree catalogue block number (HashJoin left right) (node.RankScan head) is = absurd is
-start-tree catalogue block number (HashJoin left right) (node.Rank' head p below) is = absurd is
-start-tree catalogue block number (HashJoin left right) (node.Distinct' head p below) is = absurd is
-start-tree catalogue block number (HashJoin left right) (node.Set' head p l q r) is = absurd is
 start-tree catalogue block number (HashJoin left right) (node.Join' head p l q r) is =
     ap (λ (h : JoinNode). tree_with h.core (tree_in l) (tree_in r)) is.0
     ∙ ap₂ HashJoin (start-tree catalogue block number left l is.1) (start-tree catalogue block number right r is.2)
-start-tree catalogue block number (NestedJoin left right) (node.SeqScan head) is = absurd is
-start-tree catalogue block number (NestedJoin left right) (node.RankScan head) is = absurd is
-start-tree catalogue block number (NestedJoin left right) (node.Rank' head p below) is = absurd is
-start-tree catalogue block number (NestedJoin left right) (node.Distinct' head p below) is = absurd is
-start-tree catalogue block number (NestedJoin left right) (node.Set' head p l q r) is = absurd is
 start-tree catalogue block number (NestedJoin left right) (node.Join' head p l q r) is =
     ap (λ (h : JoinNode). tree_with h.core (tree_in l) (tree_in r)) is.0
     ∙ ap₂ NestedJoin (start-tree catalogue block number left l is.1) (start-tree catalogue block number right r is.2)
-start-tree catalogue block number (Distinct child) (node.SeqScan head) is = absurd is
-start-tree catalogue block number (Distinct child) (node.RankScan head) is = absurd is
-start-tree catalogue block number (Distinct child) (node.Rank' head p below) is = absurd is
-start-tree catalogue block number (Distinct child) (node.Join' head p l q r) is = absurd is
-start-tree catalogue block number (Distinct child) (node.Set' head p l q r) is = absurd is
 start-tree catalogue block number (Distinct child) (node.Distinct' head p below) is = ap Distinct (start-tree catalogue block number child below is.1)
-start-tree catalogue block number (SetOperator left right) n is = absurd is
+start-tree catalogue block number tree n is = absurd is
 
 -- they were not asked
 pub start-asked : (catalogue : Catalogue) (block : Block) (number : ℕ) (tree : PlanTree) (n : Node) → IsStart catalogue block number tree n → asked_in n ≡ 0
 start-asked catalogue block number (SeqScan entry) (node.SeqScan head) is = ap (λ (h : TableNode). h.tally.asked) is
-start-asked catalogue block number (SeqScan entry) (node.RankScan head) is = absurd is
-start-asked catalogue block number (SeqScan entry) (node.Rank' head p below) is = absurd is
-start-asked catalogue block number (SeqScan entry) (node.Join' head p l q r) is = absurd is
-start-asked catalogue block number (SeqScan entry) (node.Set' head p l q r) is = absurd is
-start-asked catalogue block number (SeqScan entry) (node.Distinct' head p below) is = absurd is
-start-asked catalogue block number (RankScan entry term index) (node.SeqScan head) is = absurd is
 start-asked catalogue block number (RankScan entry term index) (node.RankScan head) is = ap (λ (h : IndexNode). h.tally.asked) is
-start-asked catalogue block number (RankScan entry term index) (node.Rank' head p below) is = absurd is
-start-asked catalogue block number (RankScan entry term index) (node.Join' head p l q r) is = absurd is
-start-asked catalogue block number (RankScan entry term index) (node.Set' head p l q r) is = absurd is
-start-asked catalogue block number (RankScan entry term index) (node.Distinct' head p below) is = absurd is
-start-asked catalogue block number (Rank term child) (node.SeqScan head) is = absurd is
-start-asked catalogue block number (Rank term child) (node.RankScan head) is = absurd is
 start-asked catalogue block number (Rank term child) (node.Rank' head p below) is = ap (λ (h : RankNode). h.tally.asked) is.0
-start-asked catalogue block number (Rank term child) (node.Join' head p l q r) is = absurd is
-start-asked catalogue block number (Rank term child) (node.Set' head p l q r) is = absurd is
-start-asked catalogue block number (Rank term child) (node.Distinct' head p below) is = absurd is
-start-asked catalogue block number (HashJoin left right) (node.SeqScan head) is = absurd is
-start-asked catalogue block number (HashJoin left right) (node.RankScan head) is = absurd is
-start-asked catalogue block number (HashJoin left right) (node.Rank' head p below) is = absurd is
-start-asked catalogue block number (HashJoin left right) (node.Distinct' head p below) is = absurd is
-start-asked catalogue block number (HashJoin left right) (node.Set' head p l q r) is = absurd is
 start-asked catalogue block number (HashJoin left right) (node.Join' head p l q r) is = ap (λ (h : JoinNode). h.tally.asked) is.0
-start-asked catalogue block number (NestedJoin left right) (node.SeqScan head) is = absurd is
-start-asked catalogue block number (NestedJoin left right) (node.RankScan head) is = absurd is
-start-asked catalogue block number (NestedJoin left right) (node.Rank' head p below) is = absurd is
-start-asked catalogue block number (NestedJoin left right) (node.Distinct' head p below) is = absurd is
-start-asked catalogue block number (NestedJoin left right) (node.Set' head p l q r) is = absurd is
 start-asked catalogue block number (NestedJoin left right) (node.Join' head p l q r) is = ap (λ (h : JoinNode). h.tally.asked) is.0
-start-asked catalogue block number (Distinct child) (node.SeqScan head) is = absurd is
-start-asked catalogue block number (Distinct child) (node.RankScan head) is = absurd is
-start-asked catalogue block number (Distinct child) (node.Rank' head p below) is = absurd is
-start-asked catalogue block number (Distinct child) (node.Join' head p l q r) is = absurd is
-start-asked catalogue block number (Distinct child) (node.Set' head p l q r) is = absurd is
 start-asked catalogue block number (Distinct child) (node.Distinct' head p below) is = ap (λ (h : DistinctNode). h.tally.asked) is.0
-start-asked catalogue block number (SetOperator left right) n is = absurd is
+start-asked catalogue block number tree n is = absurd is
 
 -- the item of a number among six
 of-six : (f : ℕ → ℕ) (entry : ℕ) → 1 ≤ entry → entry ≤ 6 → unwrap_or (slice_get (map f (1 ∷ 2 ∷ 3 ∷ 4 ∷ 5 ∷ 6 ∷ [])) (entry - 1)) 0 ≡ f entry
@@ -226,24 +166,12 @@ module _ (w : World) (number : ℕ) (most : length (numbered_block w number).fro
         (ap (new_table_node (numbered_block w number) number entry) (size-is entry part)
         ∙ ap (λ (tally : Tally). record (new_table_node (numbered_block w number) number entry (size_at w number entry)) { tally = tally })
         (tally-none w number (SeqScan entry)))
-    start-stands (SeqScan entry) (node.RankScan head) part is = absurd is
-    start-stands (SeqScan entry) (node.Rank' head p below) part is = absurd is
-    start-stands (SeqScan entry) (node.Join' head p l q r) part is = absurd is
-    start-stands (SeqScan entry) (node.Set' head p l q r) part is = absurd is
-    start-stands (SeqScan entry) (node.Distinct' head p below) part is = absurd is
-    start-stands (RankScan entry term index) (node.SeqScan head) part is = absurd is
     start-stands (RankScan entry term index) (node.RankScan head) part is =
         subst (λ (h : IndexNode). h ≡ index_node_after w number h.entry h.term h.scan.index h.tally.asked) (sym is)
         (ap (new_index_node (numbered_block w number) number entry term index (slice_index (weights_of (numbered_block w number)).weight (term - 1))) (size-is entry part.is_entry)
         ∙ ap (λ (ws : Weights). new_index_node (numbered_block w number) number entry term index (slice_index ws.weight (term - 1)) (size_at w number entry)) weights
         ∙ ap (λ (tally : Tally). record (new_index_node (numbered_block w number) number entry term index (slice_index (weights_in w).weight (term - 1)) (size_at w number entry)) { tally = tally })
         (tally-none w number (RankScan entry term index)))
-    start-stands (RankScan entry term index) (node.Rank' head p below) part is = absurd is
-    start-stands (RankScan entry term index) (node.Join' head p l q r) part is = absurd is
-    start-stands (RankScan entry term index) (node.Set' head p l q r) part is = absurd is
-    start-stands (RankScan entry term index) (node.Distinct' head p below) part is = absurd is
-    start-stands (Rank term child) (node.SeqScan head) part is = absurd is
-    start-stands (Rank term child) (node.RankScan head) part is = absurd is
     start-stands (Rank term child) (node.Rank' head p below) part is =
         let tree = start-tree w.catalogue (numbered_block w number) number child below is.1 in (
           subst (λ (h : RankNode). HeadStands w number h (tree_in below) (asked_in below)) (sym is.0) (record {
@@ -254,36 +182,18 @@ module _ (w : World) (number : ℕ) (most : length (numbered_block w number).fro
           }),
           start-stands child below part.0 is.1,
         )
-    start-stands (Rank term child) (node.Join' head p l q r) part is = absurd is
-    start-stands (Rank term child) (node.Set' head p l q r) part is = absurd is
-    start-stands (Rank term child) (node.Distinct' head p below) part is = absurd is
-    start-stands (HashJoin left right) (node.SeqScan head) part is = absurd is
-    start-stands (HashJoin left right) (node.RankScan head) part is = absurd is
-    start-stands (HashJoin left right) (node.Rank' head p below) part is = absurd is
-    start-stands (HashJoin left right) (node.Distinct' head p below) part is = absurd is
-    start-stands (HashJoin left right) (node.Set' head p l q r) part is = absurd is
     start-stands (HashJoin left right) (node.Join' head p l q r) part is = (
       join-starts values left right l r head is.0 (start-tree w.catalogue (numbered_block w number) number left l is.1) (start-tree w.catalogue (numbered_block w number) number right r is.2)
           (start-asked w.catalogue (numbered_block w number) number left l is.1) (start-asked w.catalogue (numbered_block w number) number right r is.2),
       start-stands left l part.0 is.1,
       start-stands right r part.1 is.2,
     )
-    start-stands (NestedJoin left right) (node.SeqScan head) part is = absurd is
-    start-stands (NestedJoin left right) (node.RankScan head) part is = absurd is
-    start-stands (NestedJoin left right) (node.Rank' head p below) part is = absurd is
-    start-stands (NestedJoin left right) (node.Distinct' head p below) part is = absurd is
-    start-stands (NestedJoin left right) (node.Set' head p l q r) part is = absurd is
     start-stands (NestedJoin left right) (node.Join' head p l q r) part is = (
       join-starts pairs left right l r head is.0 (start-tree w.catalogue (numbered_block w number) number left l is.1) (start-tree w.catalogue (numbered_block w number) number right r is.2)
           (start-asked w.catalogue (numbered_block w number) number left l is.1) (start-asked w.catalogue (numbered_block w number) number right r is.2),
       start-stands left l part.0 is.1,
       start-stands right r part.1 is.2,
     )
-    start-stands (Distinct child) (node.SeqScan head) part is = absurd is
-    start-stands (Distinct child) (node.RankScan head) part is = absurd is
-    start-stands (Distinct child) (node.Rank' head p below) part is = absurd is
-    start-stands (Distinct child) (node.Join' head p l q r) part is = absurd is
-    start-stands (Distinct child) (node.Set' head p l q r) part is = absurd is
     start-stands (Distinct child) (node.Distinct' head p below) part is = (
       subst (λ (h : DistinctNode). DropsStand w number h (tree_in below) (asked_in below)) (sym is.0) (record {
         keeps = distinct-none w number (tree_in below);
@@ -291,4 +201,4 @@ module _ (w : World) (number : ℕ) (most : length (numbered_block w number).fro
       }),
       start-stands child below part.0 is.1,
     )
-    start-stands (SetOperator left right) n part is = absurd is
+    start-stands tree n part is = absurd is

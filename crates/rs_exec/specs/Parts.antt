@@ -5,7 +5,7 @@ use Rattle.rs_query.specs.declared.query.Query.{Query}
 use Rattle.rs_query.specs.declared.query.Query.TheVariants.{One, Set}
 use Rattle.rs_query.specs.Blocks.{block_in}
 use Rattle.rs_plan.specs.Plans.{IsComplete, IsPart, IsRank}
-use Rattle.rs_plan.specs.Trees.{Distinct, HashJoin, NestedJoin, Rank, RankScan, SeqScan, SetOperator, PlanTree, terms}
+use Rattle.rs_plan.specs.Trees.{Rank, SetOperator, PlanTree, terms}
 
 -- plans of both blocks of a set query, which evaluate the same terms; what stands from their set operator on has the number of the
 -- first block
@@ -16,10 +16,6 @@ AreSides catalogue (Set op left_block right_block limit) number left right =
 
 -- a tree is a part of a plan of a query, with this number
 abbrev pub IsPartOf : Catalogue → Query → ℕ → PlanTree → Type 0
-IsPartOf catalogue query number (SeqScan entry) = IsPart catalogue (block_in query number) (SeqScan entry)
-IsPartOf catalogue query number (RankScan entry term index) = IsPart catalogue (block_in query number) (RankScan entry term index)
 IsPartOf catalogue query number (Rank term child) = IsPartOf catalogue query number child × IsRank (block_in query number) term child
-IsPartOf catalogue query number (HashJoin left right) = IsPart catalogue (block_in query number) (HashJoin left right)
-IsPartOf catalogue query number (NestedJoin left right) = IsPart catalogue (block_in query number) (NestedJoin left right)
-IsPartOf catalogue query number (Distinct child) = IsPart catalogue (block_in query number) (Distinct child)
 IsPartOf catalogue query number (SetOperator left right) = AreSides catalogue query number left right
+IsPartOf catalogue query number tree = IsPart catalogue (block_in query number) tree

@@ -102,35 +102,19 @@ IsQueryStart catalogue (Set op left right limit) tree nodes = IsSetStart catalog
 -- an operator over these nodes
 abbrev pub IsRankOver : RankNode → Node → Node → Type 0
 IsRankOver head below (node.Rank' top p child) = (top ≡ head) × (child ≡ below)
-IsRankOver head below (node.SeqScan top) = ⊥
-IsRankOver head below (node.RankScan top) = ⊥
-IsRankOver head below (node.Join' top p left q right) = ⊥
-IsRankOver head below (node.Distinct' top p child) = ⊥
-IsRankOver head below (node.Set' top p left q right) = ⊥
+IsRankOver head below top = ⊥
 
 -- a join over these nodes
 abbrev pub IsJoinOver : JoinNode → Node → Node → Node → Type 0
 IsJoinOver head on_left on_right (node.Join' top p left q right) = (top ≡ head) × (left ≡ on_left) × (right ≡ on_right)
-IsJoinOver head on_left on_right (node.SeqScan top) = ⊥
-IsJoinOver head on_left on_right (node.RankScan top) = ⊥
-IsJoinOver head on_left on_right (node.Rank' top p child) = ⊥
-IsJoinOver head on_left on_right (node.Distinct' top p child) = ⊥
-IsJoinOver head on_left on_right (node.Set' top p left q right) = ⊥
+IsJoinOver head on_left on_right top = ⊥
 
 -- an operator that drops duplicates over these nodes
 abbrev pub IsDistinctOver : DistinctNode → Node → Node → Type 0
 IsDistinctOver head below (node.Distinct' top p child) = (top ≡ head) × (child ≡ below)
-IsDistinctOver head below (node.SeqScan top) = ⊥
-IsDistinctOver head below (node.RankScan top) = ⊥
-IsDistinctOver head below (node.Rank' top p child) = ⊥
-IsDistinctOver head below (node.Join' top p left q right) = ⊥
-IsDistinctOver head below (node.Set' top p left q right) = ⊥
+IsDistinctOver head below top = ⊥
 
 -- a set operator over these nodes
 abbrev pub IsSetOver : SetNode → Node → Node → Node → Type 0
 IsSetOver head on_left on_right (node.Set' top p left q right) = (top ≡ head) × (left ≡ on_left) × (right ≡ on_right)
-IsSetOver head on_left on_right (node.SeqScan top) = ⊥
-IsSetOver head on_left on_right (node.RankScan top) = ⊥
-IsSetOver head on_left on_right (node.Rank' top p child) = ⊥
-IsSetOver head on_left on_right (node.Join' top p left q right) = ⊥
-IsSetOver head on_left on_right (node.Distinct' top p child) = ⊥
+IsSetOver head on_left on_right top = ⊥
