@@ -1,6 +1,7 @@
 """What the cells of a real table are: numbers in their many spellings, dates, and words for no value."""
 
 import datetime
+import functools
 import re
 from decimal import Context, Decimal
 from typing import NamedTuple
@@ -49,6 +50,7 @@ class Moment(NamedTuple):
     timed: bool
 
 
+@functools.lru_cache(maxsize=2**18)
 def number_of(cell, mark):
     """The number that a cell spells with its decimals behind a `point` or a `comma`, or None."""
     cell = cell.strip()

@@ -8,14 +8,16 @@ from typing import NamedTuple, Optional
 from .csv_cells import DATE_ORDERS, MISSING, decimals_of, moment_of, number_of, scaled
 from .refusal import TABLE, USAGE, Refusal
 from .script_parse import FOREIGN, RESERVED
+from .table_file import GREATEST, name_in_script
 
-# The limits of a number of `ranksql`.
-WIDEST_NUMBER = 4 * 10**18
 MOST_DECIMALS = 18
 # Beyond so many decimals it is told how to have fewer.
 MANY_DECIMALS = 9
 MOST_COLUMNS = 64
 DAY_SECONDS = 86400
+# Letters that have no accent to take away.
+LETTERS = str.maketrans({"ß": "ss", "æ": "ae", "Æ": "Ae", "œ": "oe", "Œ": "Oe", "ø": "o", "Ø": "O", "ł": "l", "Ł": "L", "đ": "d", "Đ": "D",
+                         "ð": "d", "þ": "th", "ı": "i"})
 # How many strange cells a note shows.
 SHOWN_CELLS = 3
 # A column of texts is told to be nearly one of numbers where this share of its cells are numbers.
@@ -72,21 +74,15 @@ class Column(NamedTuple):
         return self.cells[row] if self.values is None else self.values[self.cells[row]]
 
 
-def is_free_word(name):
-    """Whether a script can write a name as it is."""
-    is_word = name.isascii() and name.replace("_", "a").isalnum() and not name[0].isdigit()
-    return is_word and name.upper() not in RESERVED | FOREIGN
-
-
 def plain_name(heading, place):
     """A heading as a word that needs no marks: without accents, with `_` for what no word has, with `_` in front of a digit
     and behind a word that can't be a name."""
-    signs = (sign for sign in unicodedata.normalize("NFKD", heading) if not unicodedata.combining(sign))
+    signs = (sign for sign in unicodedata.normalize("NFKD", heading.translate(LETTERS)) if not unicodedata.combining(sign))
     words = "".join(sign if sign.isascii() and (sign.isalnum() or sign == "_") else " " for sign in signs).split()
     name = "_".join(words) or "column_%d" % place
     if name[0].isdigit():
         return "_" + name
-    return name if is_free_word(name) else name + "_"
+    return name + "_" if name.upper() in RESERVED | FOREIGN else name
 
 
 def unused(name, taken):
@@ -105,11 +101,6 @@ def make_names(headings, keep=False):
         wanted = heading.replace("\ufeff", "").strip() if keep else plain_name(heading, place)
         made.append(unused(wanted or "column_%d" % place, made))
     return made
-
-
-def in_script(name):
-    """A name as a script writes it: between marks where it is no free word."""
-    return name if is_free_word(name) else '"%s"' % name.replace('"', '""')
 
 
 def find_mark(raws, delimiter, missing):
@@ -171,9 +162,9 @@ def reason_for_text(raw, numbers):
     signs = {number.sign for number in numbers.values()}
     if len(signs) > 1:
         return "only some numbers have a sign: %s; --number %s leaves it out" % (", ".join(sorted(signs - {""})), raw.name)
-    wide = [cell for cell, number in numbers.items() if abs(number.value) > WIDEST_NUMBER]
+    wide = [cell for cell, number in numbers.items() if abs(number.value) > GREATEST]
     if wide:
-        return "numbers are beyond 4,000,000,000,000,000,000: %s" % shown_cells(wide)
+        return "numbers are beyond 4 * 10^18: %s" % shown_cells(wide)
     return ""
 
 
@@ -198,8 +189,8 @@ def number_column(raw, numbers, wishes, strange):
     values = [number.value for number in numbers.values()] + ([null] if empty else [])
     decimals, rounded = power_for(values, raw.said(wishes.decimals_of, wishes.decimals))
     made = {cell: scaled(number.value, decimals) for cell, number in numbers.items()}
-    if any(abs(value) > WIDEST_NUMBER for value in made.values()):
-        raise Refusal(TABLE, "%s: its numbers are beyond 4,000,000,000,000,000,000: --decimals %s=N with a smaller N, or --text %s"
+    if any(abs(value) > GREATEST for value in made.values()):
+        raise Refusal(TABLE, "%s: its numbers are beyond 4 * 10^18: --decimals %s=N with a smaller N, or --text %s"
                       % (raw.name, raw.name, raw.name))
     notes += spelling_notes(raw, numbers)
     if decimals:
@@ -231,7 +222,7 @@ def power_for(values, wished):
     needed = max(map(decimals_of, values))
     decimals = min(needed, MOST_DECIMALS) if wished is None else wished
     widest = max(abs(value) for value in values)
-    while wished is None and decimals and widest.scaleb(decimals) > WIDEST_NUMBER:
+    while wished is None and decimals and widest.scaleb(decimals) > GREATEST:
         decimals -= 1
     return decimals, needed > decimals
 
@@ -276,7 +267,7 @@ def date_columns(raw, wishes, taken, room):
     timed = any(moment.timed for moment in moments.values())
     numbers = {cell: moment.day * DAY_SECONDS + moment.second if timed else moment.day for cell, moment in moments.items()}
     name = unused(raw.name + ("_second" if timed else "_day"), taken)
-    return [text_column(raw, ["dates; numbers of them are in %s" % in_script(name)]), moment_column(raw, name, numbers, wishes, timed)]
+    return [text_column(raw, ["dates, as numbers in %s" % name_in_script(name)]), moment_column(raw, name, numbers, wishes, timed)]
 
 
 def fitting_orders(cells, wished):

@@ -165,6 +165,16 @@ def spool(path):
     """A copy of the file that can be read twice, so that a pipe serves too. What gzip has packed is unpacked."""
     spooled = tempfile.SpooledTemporaryFile(max_size=HELD)
     try:
+        copy_into(spooled, path)
+    except BaseException:
+        spooled.close()
+        raise
+    return spooled
+
+
+def copy_into(spooled, path):
+    """Copies a file."""
+    try:
         with sys.stdin.buffer if path == "-" else open(path, "rb") as file:
             packed = file.peek(2)[:2] == b"\x1f\x8b"
             shutil.copyfileobj(gzip.GzipFile(fileobj=file) if packed else file, spooled, CHUNK)
@@ -176,7 +186,6 @@ def spool(path):
         raise Refusal(READ, "%s can't be unpacked: %s" % (path, error)) from None
     except (OSError, ValueError) as error:
         raise Refusal(READ, "%s can't be read: %s" % (path, getattr(error, "strerror", None) or error)) from None
-    return spooled
 
 
 def find_encoding(path, spooled):
@@ -233,7 +242,8 @@ def find_delimiter(text):
 
 def read_shape(source, quotes=True):
     """The shape of a file by the first way to read quotes by which it can be read, and, but for the usual way, by which
-    all rows have as many fields as the header. The way is kept in the source."""
+    all rows have as many fields as the header. A lenient reading that finds line ends in a cell has met a quote that is
+    never closed. The way is kept in the source."""
     refused = None
     for way in (DOUBLED, ESCAPED, ORDINARY, LENIENT) if quotes else (ORDINARY,):
         source.quotes = way
@@ -242,7 +252,8 @@ def read_shape(source, quotes=True):
         except csv.Error as error:
             refused = refused or error
             continue
-        if way is DOUBLED or not quotes or set(shape.lengths) <= {len(shape.header)}:
+        fits = set(shape.lengths) <= {len(shape.header)} and not (way is LENIENT and shape.many_lines)
+        if way is DOUBLED or not quotes or fits:
             return shape
     raise Refusal(TABLE, "%s: the quotes can't be read (%s); --no-quotes takes them as ordinary characters"
                   % (source.path, refused))

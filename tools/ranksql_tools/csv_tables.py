@@ -7,10 +7,11 @@ import tempfile
 from collections import Counter
 from typing import NamedTuple
 
-from .csv_columns import MOST_COLUMNS, Raw, counted, find_mark, in_script, make_columns, make_names, plain_name, unused
+from .csv_columns import MOST_COLUMNS, Raw, counted, find_mark, make_columns, make_names, plain_name, unused
 from .csv_source import open_source, read_shape
 from .refusal import TABLE, USAGE, WRITE, Refusal
 from .script_text import shown
+from .table_file import name_in_script, text_in_script
 
 MOST_ROWS = 131_072
 MOST_BYTES = 32 * 1024 * 1024
@@ -75,7 +76,7 @@ def with_names(source, shape, options):
     if options.no_header:
         lengths[len(headings)] += 1
         headings = [""] * len(headings)
-    elif set(lengths) == {len(headings) + 1} and shape.filled_behind:
+    elif set(lengths) == {len(headings) + 1} and shape.filled_behind and not headings[0].startswith("#"):
         headings = ["row"] + headings
         notes.append("Each row has one field more than the header: the first is its name, in the column row")
         shape = shape._replace(filled_behind=False)
@@ -273,13 +274,13 @@ def file_notes(opened, rows, columns, mark):
 
 def statement(table, columns, path):
     """The CREATE TABLE, with what was done to each column behind it."""
-    lines = ["CREATE TABLE %s (" % in_script(table)]
+    lines = ["CREATE TABLE %s (" % name_in_script(table)]
     for place, column in enumerate(columns, 1):
         notes = column.notes + ([] if column.least is None else ["%d to %d" % (column.least, column.greatest)])
         comma = "," if place < len(columns) else ""
         comment = " -- " + shown("; ".join(notes)) if notes else ""
-        lines.append("    %s %s%s%s" % (in_script(column.name), column.kind, comma, comment))
-    return lines + [") FROM '%s';" % path.replace("'", "''")]
+        lines.append("    %s %s%s%s" % (name_in_script(column.name), column.kind, comma, comment))
+    return lines + [") FROM %s;" % text_in_script(path)]
 
 
 def proposals(table, columns, predicates):
@@ -292,15 +293,15 @@ def proposals(table, columns, predicates):
         name = unused("high_" + plain_name(column.name, 1), predicates)
         predicates.append(name)
         most, formula = scores_of(column)
-        lines.append("-- CREATE PREDICATE %s (%s INT) MAX %d AS %s;" % (name, in_script(column.name), most, formula))
+        lines.append("-- CREATE PREDICATE %s (%s INT) MAX %d AS %s;" % (name, name_in_script(column.name), most, formula))
         if column is numbers[0]:
-            example = "-- SELECT * FROM %s ORDER BY %s(%s) LIMIT 10;" % (in_script(table), name, in_script(column.name))
+            example = "-- SELECT * FROM %s ORDER BY %s(%s) LIMIT 10;" % (name_in_script(table), name, name_in_script(column.name))
     return lines + [example]
 
 
 def scores_of(column):
     """The MAX and the formula of the scores that grow with a column."""
-    name, span, divisor = in_script(column.name), column.greatest - column.least, 1
+    name, span, divisor = name_in_script(column.name), column.greatest - column.least, 1
     while span // divisor > GREATEST_MAX:
         divisor *= 10
     formula = name

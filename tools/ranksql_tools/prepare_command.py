@@ -1,8 +1,8 @@
 """The words of `prepare`."""
 
 import argparse
+import contextlib
 import os
-
 from typing import NamedTuple, Optional
 
 from .command import run_command, tell
@@ -40,7 +40,7 @@ class Options(NamedTuple):
 
 
 def parser():
-    words = argparse.ArgumentParser(prog="prepare", description=ABOUT, epilog=STATUSES, allow_abbrev=False,
+    words = argparse.ArgumentParser( description=ABOUT, epilog=STATUSES, allow_abbrev=False,
                                     formatter_class=argparse.RawDescriptionHelpFormatter)
     words.add_argument("files", nargs="+", metavar="FILE", help="a CSV or TSV file")
     table = words.add_argument_group("the table")
@@ -121,29 +121,28 @@ def delimiter_of(word):
 
 def work(words):
     """Makes all tables that can be made. The status is that of the first one that can't."""
-    options, status = options_of(words), 0
-    opened = []
-    for path in words.files:
-        try:
-            opened.append(open_table(path, options))
-        except Refusal as refusal:
-            tell("prepare", str(refusal))
-            status = status or refusal.status
-    if not status:
-        check_names(opened, options)
-    tables, predicates = [], []
-    for one in opened:
-        try:
-            made = make_table(one, options, tables, predicates)
-        except Refusal as refusal:
-            tell("prepare", str(refusal))
-            status = status or refusal.status
-            continue
-        finally:
-            one.source.close()
-        print("\n".join(made.script), flush=True)
-        for sentence in made.told:
-            tell("prepare", sentence)
+    options, opened, status = options_of(words), [], 0
+    with contextlib.ExitStack() as closing:
+        for path in words.files:
+            try:
+                opened.append(open_table(path, options))
+                closing.callback(opened[-1].source.close)
+            except Refusal as refusal:
+                tell("prepare", str(refusal))
+                status = status or refusal.status
+        if not status:
+            check_names(opened, options)
+        tables, predicates = [], []
+        for one in opened:
+            try:
+                made = make_table(one, options, tables, predicates)
+            except Refusal as refusal:
+                tell("prepare", str(refusal))
+                status = status or refusal.status
+                continue
+            print("\n".join(made.script), flush=True)
+            for sentence in made.told:
+                tell("prepare", sentence)
     return status
 
 

@@ -1,0 +1,276 @@
+"""What a query will cost, and what to change so that it costs less."""
+
+from statistics import mean
+from typing import NamedTuple
+
+from .queries import arguments_of, entries_of, indexes_of, key_of_term, sources_of
+from .table_file import name_in_script
+from .trials import Copy, Failed, TooLong, call_of, combinations, greatest_score, rows_of_table
+
+# Of so many tables this many rows of each are sampled.
+SAMPLED = {1: 256, 2: 64, 3: 24, 4: 12, 5: 8, 6: 6}
+# A rank scan costs 2 a row, so a call has to cost as much for it to be taken.
+COST_OF_RANK_SCAN = 2
+MUCH_OF_A_SAMPLE = 4096
+# A lower MAX is proposed where the greatest score is at most this share of it.
+LOOSE_MAX = 0.8
+
+
+class Price(NamedTuple):
+    """How often each predicate is called."""
+
+    calls: dict
+
+    def total(self):
+        return sum(self.calls.values())
+
+    def cost(self, query):
+        """The calls, each counted by the COST of its predicate."""
+        return sum(calls * cost_of(query.predicate(name)) for name, calls in self.calls.items())
+
+
+class Case:
+    """A query with all that is asked of it: the runs of its copies, and what they show."""
+
+    def __init__(self, body, query, runner, seeds):
+        self.body, self.query, self.runner, self.seeds = body, query, runner, seeds
+        self.trials = {seed: runner.trial(Copy(body, query), seed) for seed in seeds}
+        self._rows = {}
+
+    def rows(self, table):
+        """How many rows a table has."""
+        if table not in self._rows:
+            self._rows[table] = rows_of_table(self.runner, self.body, self.query, table)
+        return self._rows[table]
+
+    def terms(self):
+        """The terms, with their numbers."""
+        return enumerate(self.query.select.terms, 1)
+
+    def term(self, number):
+        return self.query.select.terms[number - 1]
+
+    def price_of(self, trial):
+        """The calls of a plan, by predicate."""
+        calls = {}
+        for number, count in trial.calls.items():
+            name = self.term(number).predicate.says
+            calls[name] = calls.get(name, 0) + count
+        return Price(calls)
+
+    def mean_cost(self, trials=None):
+        """The cost of a plan's calls in the mean of the seeds."""
+        return mean(self.price_of(trial).cost(self.query) for trial in (trials or self.trials).values())
+
+    def mean_calls(self, trials=None):
+        """The calls of a plan in the mean of the seeds."""
+        return round(mean(self.price_of(trial).total() for trial in (trials or self.trials).values()))
+
+    def sample(self):
+        """The calls of the sample, by predicate: each term is asked for each combination of the sampled rows of its tables."""
+        calls = {}
+        for block in self.query.select.blocks:
+            for _, term in self.terms():
+                name = term.predicate.says
+                calls[name] = calls.get(name, 0) + self.sample_of(block, term)
+        return Price(calls)
+
+    def sample_of(self, block, term):
+        sources, count = sources_of(block), 1
+        for entry in entries_of(self.query, block, term):
+            count *= min(SAMPLED[len(sources)], self.rows(sources[entry][0]))
+        return count
+
+    def index_calls(self, create):
+        """The calls that make a rank index: one for each row of its table."""
+        return self.rows(create.parsed.table.says)
+
+    def used_indexes(self):
+        """The rank indexes that a term of the query could be taken from."""
+        keys = {key_of_term(self.query, block, term) for block in self.query.select.blocks for _, term in self.terms()}
+        return [create for key, create in indexes_of(self.query).items() if key in keys]
+
+    def combinations(self):
+        """How many combinations `plain` scores, or None where counting them takes too long."""
+        try:
+            return sum(combinations(self.runner, self.body, self.query, number) for number in range(len(self.query.select.blocks)))
+        except (Failed, TooLong):
+            return None
+
+    def plain(self, count):
+        """The calls of `plain`, by predicate: each term is asked for each combination that satisfies the condition."""
+        calls = {}
+        for _, term in self.terms():
+            calls[term.predicate.says] = calls.get(term.predicate.says, 0) + count
+        return Price(calls)
+
+    def other_trials(self, copy):
+        """The runs of a changed copy, or None where one fails or takes too long."""
+        try:
+            return {seed: self.runner.trial(copy, seed) for seed in self.seeds}
+        except (Failed, TooLong):
+            return None
+
+
+def cost_of(predicate):
+    """The COST of a predicate."""
+    return int(predicate.cost.text) if predicate.cost else 1
+
+
+def number(count):
+    return format(count, ",")
+
+
+def all_advice(case, count):
+    """The sentences on what to change, `count` being how many combinations there are, or None where that isn't known."""
+    cheap = cheap_with_index(case)
+    return [*on_estimates(case, count), *cheap, *on_indexes(case), *on_most(case), *on_sample(case), *on_plain(case, count)]
+
+
+def on_estimates(case, count):
+    """That nothing is known of a plan by which no row is expected."""
+    blind = [seed for seed, trial in case.trials.items() if any(operator.est == 0 for operator in trial.operators)]
+    if not blind or count == 0:
+        return []
+    sentence = "With %s an operator has est=0: the sample met no row of its join or its WHERE, so nothing is known of what stands" \
+               " above it, and the plan may score far more than it needs." % seeds_text(blind)
+    by_cost = sorted(case.seeds, key=lambda seed: case.price_of(case.trials[seed]).cost(case.query))
+    best, worst = (case.price_of(case.trials[seed]).total() for seed in (by_cost[0], by_cost[-1]))
+    if best < worst:
+        sentence += " Another seed chooses another plan: with seed %d it makes %s calls, with seed %d %s." % (
+            by_cost[0], number(best), by_cost[-1], number(worst))
+    else:
+        sentence += " All these seeds lead to as many calls: %s." % number(best)
+    return [sentence]
+
+
+def cheap_with_index(case):
+    """A COST below that of a rank scan, of a predicate that has an index which the plan doesn't take."""
+    sentences, seen = [], set()
+    indexes = indexes_of(case.query)
+    for place, term in case.terms():
+        name = term.predicate.says
+        predicate = case.query.predicate(name)
+        keys = {key_of_term(case.query, block, term) for block in case.query.select.blocks}
+        taken = all(place in trial.scanned for trial in case.trials.values())
+        if name in seen or taken or cost_of(predicate) >= COST_OF_RANK_SCAN or not keys & set(indexes):
+            continue
+        seen.add(name)
+        copy = Copy(case.body, case.query)
+        copy.set_cost(predicate, COST_OF_RANK_SCAN)
+        trials = case.other_trials(copy)
+        if trials and case.mean_cost(trials) < case.mean_cost():
+            sentences.append(
+                "The COST of %s is %d, and a rank scan costs 2 a row, so the planner calls %s on the rows of a scan although there is a"
+                " rank index. Write its true price, at least COST 2: then the plan makes %s calls in the place of %s." % (
+                    name, cost_of(predicate), name, number(case.mean_calls(trials)), number(case.mean_calls())))
+    return sentences
+
+
+def on_indexes(case):
+    """A rank index that isn't there, where it would save calls."""
+    sentences, seen = [], set()
+    for place, term in case.terms():
+        for block in case.query.select.blocks:
+            key = key_of_term(case.query, block, term)
+            if key is None or key in indexes_of(case.query) or key in seen:
+                continue
+            seen.add(key)
+            sentences += with_index(case, place, term, key, arguments_of(case.query, block, term))
+    return sentences
+
+
+def with_index(case, place, term, key, arguments):
+    """What a rank index for a term would change, if it saves calls."""
+    table, name, predicate = key[0], key[1], case.query.predicate(key[1])
+    copy = Copy(case.body, case.query)
+    create = "CREATE RANK INDEX advised ON %s (%s)" % (name_in_script(table), call_of(name, arguments))
+    copy.added.append(create)
+    cheap = cost_of(predicate) < COST_OF_RANK_SCAN
+    if cheap:
+        copy.set_cost(predicate, COST_OF_RANK_SCAN)
+    trials = case.other_trials(copy)
+    if not trials:
+        return []
+    saved = case.mean_cost() - case.mean_cost(trials)
+    if saved <= 0:
+        return []
+    calls = case.rows(table)
+    paid = calls * max(1, cost_of(predicate))
+    return ["There is no rank index for term %d. %s%s makes %s calls once, and then the plan makes %s in the place of %s, so it pays"
+            " from %s on." % (place, create.replace(" advised ", " %s_%s " % (plain(table), plain(name))),
+                              ", with COST 2 for %s or its true price if that is more," % name if cheap else "", number(calls),
+                              number(case.mean_calls(trials)), number(case.mean_calls()), times_text(int(paid // saved) + 1))]
+
+
+def on_most(case):
+    """A MAX far above each score, where a lower one would save calls."""
+    sentences, seen = [], set()
+    for _, term in case.terms():
+        name, greatest = term.predicate.says, []
+        predicate = case.query.predicate(name)
+        if name in seen:
+            continue
+        seen.add(name)
+        try:
+            for other in (other for _, other in case.terms() if other.predicate.says == name):
+                for block in case.query.select.blocks:
+                    key = key_of_term(case.query, block, other)
+                    call = key and call_of(name, arguments_of(case.query, block, other))
+                    greatest.append(key and greatest_score(case.runner, case.body, case.query, key[0], call))
+        except (Failed, TooLong):
+            continue
+        most = int(predicate.most.text)
+        if None in greatest or max(greatest) > LOOSE_MAX * most:
+            continue
+        lower = max(1, *greatest)
+        copy = Copy(case.body, case.query)
+        copy.set_most(predicate, lower)
+        trials = case.other_trials(copy)
+        if trials and case.mean_cost(trials) < case.mean_cost():
+            sentences.append("The MAX of %s is %d, and no row of these tables scores above %d. With MAX %d the plan makes %s calls in the"
+                             " place of %s." % (name, most, max(greatest), lower, number(case.mean_calls(trials)), number(case.mean_calls())))
+    return sentences
+
+
+def on_sample(case):
+    """A term over several tables that the sample alone calls often."""
+    sentences = []
+    for place, term in case.terms():
+        for block in case.query.select.blocks:
+            tables = len(entries_of(case.query, block, term))
+            calls = case.sample_of(block, term)
+            if tables > 1 and calls >= MUCH_OF_A_SAMPLE:
+                sentences.append("Term %d reads %d tables, so the sample alone calls %s %s times, and again for each query and cursor. A cursor"
+                                 " that is fetched from again takes one sample in all; a term over one table takes %s calls." % (
+                                     place, tables, term.predicate.says, number(calls),
+                                     number(max(min(SAMPLED[len(sources_of(block))], case.rows(table)) for table, _ in sources_of(block)))))
+    return sentences
+
+
+def on_plain(case, count):
+    """That `plain` is cheaper, or that little is saved."""
+    if count is None:
+        return []
+    plain_cost = case.plain(count).cost(case.query)
+    sample, plan = case.sample().cost(case.query), case.mean_cost()
+    if plain_cost < sample + plan:
+        return ["`plain` is cheaper here: it makes %s calls, and `run` %s with its sample." % (
+            number(case.plain(count).total()), number(case.sample().total() + case.mean_calls()))]
+    if plan * 2 > plain_cost:
+        return ["The plan saves less than half of the calls of `plain`. That is so where the scores of most rows lie near each other or"
+                " near the least, or where LIMIT asks for most of the rows."]
+    return []
+
+
+def seeds_text(seeds):
+    return "%s %s" % ("seed" if len(seeds) == 1 else "seeds", ", ".join(map(str, seeds)))
+
+
+def times_text(times):
+    """From which such query on something pays."""
+    return "the first such query" if times == 1 else "%s such queries" % number(times)
+
+
+def plain(name):
+    return "".join(sign if sign.isascii() and sign.isalnum() else "_" for sign in name)

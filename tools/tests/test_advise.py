@@ -1,0 +1,220 @@
+"""Tests of `advise`: the reading of plans, what it counts beside what the program counts, its sentences, and its faults."""
+
+import contextlib
+import io
+import os
+import re
+import shutil
+import subprocess
+import sys
+import tempfile
+import unittest
+from unittest import mock
+
+HERE = os.path.dirname(os.path.abspath(__file__))
+TOOLS = os.path.dirname(HERE)
+ROOT = os.path.dirname(TOOLS)
+sys.path.insert(0, TOOLS)
+
+from ranksql_tools.advise_command import main  # noqa: E402
+from ranksql_tools.plans import calls_by_term, read_plan, scanned_terms, shape_of  # noqa: E402
+from ranksql_tools.program import find_program  # noqa: E402
+from ranksql_tools.queries import indexes_of, key_of_term, read_queries, rows_wanted  # noqa: E402
+
+PROGRAM = find_program()
+COUNTER = os.environ.get("COUNT_CALLS") or os.path.join(ROOT, "crates", "count_calls", "out", "count_calls")
+NEEDS_PROGRAM = unittest.skipUnless(PROGRAM, "no program is built: ./ranksql builds it")
+NEEDS_COUNTER = unittest.skipUnless(PROGRAM and os.access(COUNTER, os.X_OK), "count_calls isn't built: rt run in crates/count_calls builds it")
+PLAN = """\
+Rank term 3 est=9 cost=2334 asked=5 gave=5 calls=121
+  HashRankJoin est=0 cost=933 asked=121 gave=121
+    RankScan hotels h term 1 est=42 cost=84 asked=35 gave=35 drawn=35
+    SeqScan "a est=3" m est=36 cost=36 asked=37 gave=36 drawn=36
+"""
+# Towns of which each has another size, and lies at another place: 2,000 rows.
+TOWNS = "name,land,size,east\n" + "".join("t%d,l%d,%d,%d\n" % (n, n % 40, n * 7919 % 10007, n * 104729 % 5003) for n in range(2000))
+FRONT = """CREATE TABLE towns (name TEXT, land TEXT, size INT, east INT) FROM 'towns.csv';
+CREATE PREDICATE big (size INT) MAX 10007 AS size;
+CREATE PREDICATE west (east INT) MAX 5003 COST 40 AS 5003 - east;
+CREATE PREDICATE apart (a INT, b INT) MAX 10007 AS ABS(a - b);
+"""
+
+
+def calls_in(text):
+    """The calls that a line of advise names."""
+    found = re.search(r"([\d,]+) calls?", text)
+    return int(found[1].replace(",", "")) if found else 0
+
+
+class InFolder(unittest.TestCase):
+    """A test that works in a folder with the towns."""
+
+    def setUp(self):
+        self.folder = tempfile.mkdtemp(prefix="advise")
+        self.addCleanup(shutil.rmtree, self.folder)
+        self.put("towns.csv", TOWNS)
+
+    def put(self, name, text):
+        with open(os.path.join(self.folder, name), "w", encoding="utf-8") as file:
+            file.write(text)
+
+    def advise(self, *words, status=0, folder=None):
+        """Runs advise, and gives what it prints and what it tells."""
+        out, err = (io.TextIOWrapper(io.BytesIO(), encoding="utf-8") for _ in range(2))
+        before = os.getcwd()
+        os.chdir(folder or self.folder)
+        try:
+            with contextlib.redirect_stdout(out), contextlib.redirect_stderr(err):
+                ended = main(list(words))
+        except SystemExit as ends:
+            ended = ends.code
+        finally:
+            os.chdir(before)
+        printed, told = [stream.buffer.getvalue().decode() for stream in (out, err) if stream.flush() is None]
+        self.assertEqual(status, ended, told)
+        return printed, told
+
+    def of_script(self, script, *words):
+        self.put("s.sql", FRONT + script)
+        return self.advise("s.sql", *(words or ("--seeds", "1")))[0]
+
+
+class Reading(unittest.TestCase):
+    """Plans and scripts are read."""
+
+    def test_plan(self):
+        plan = read_plan(PLAN)
+        self.assertEqual(["Rank", "HashRankJoin", "RankScan", "SeqScan"], [operator.word for operator in plan])
+        self.assertEqual([0, 1, 2, 2], [operator.depth for operator in plan])
+        self.assertEqual([9, 0, 42, 36], [operator.est for operator in plan])
+        self.assertEqual({3: 121}, calls_by_term(plan))
+        self.assertEqual({1}, scanned_terms(plan))
+        self.assertEqual('Rank term 3\n  HashRankJoin\n    RankScan hotels h term 1\n    SeqScan "a est=3" m\n', shape_of(PLAN))
+        self.assertRaises(ValueError, read_plan, "1,2,x\n")
+
+    def test_queries(self):
+        script = FRONT + """CREATE RANK INDEX i ON towns (west(east)); CREATE RANK INDEX j ON towns (apart(size, -5));
+        SELECT name FROM towns ORDER BY west(east) LIMIT 3; EXPLAIN SELECT * FROM towns t ORDER BY apart(t.size, -05);
+        DECLARE c CURSOR FOR SELECT name FROM towns a, towns b ORDER BY apart(a.size, b.size) LIMIT 7; FETCH 2 FROM c; FETCH 3 FROM c; CLOSE c; FETCH 9 FROM c;
+        SELECT size, east FROM towns UNION SELECT east, size FROM towns ORDER BY big(east)"""
+        queries = read_queries(script.encode())
+        self.assertEqual([3, None, 5, None], [rows_wanted(query) for query in queries])
+        keys = [[key_of_term(query, block, query.select.terms[0]) for block in query.select.blocks] for query in queries]
+        self.assertEqual([[("towns", "west", ((True, "east"),))], [("towns", "apart", ((True, "size"), (False, "-5")))], [None],
+                          [("towns", "big", ((True, "east"),)), ("towns", "big", ((True, "size"),))]], keys)
+        self.assertEqual({keys[0][0], keys[1][0]}, set(indexes_of(queries[0])))
+        self.assertIsNone(read_queries(b"SELECT"))
+        self.assertEqual([], read_queries(b"-- nothing\n"))
+
+
+@NEEDS_PROGRAM
+class Counts(InFolder):
+    """What advise counts is what the program does."""
+
+    def test_evening(self):
+        printed, _ = self.advise("examples/travel/evening.sql", folder=ROOT)
+        for line in ("121 calls of near", "  sample: 624 calls (cheap 24, tasty 24, near 576)", "  index by_price, once in a run: 42 calls of cheap",
+                     "  index by_rating, once in a run: 41 calls of tasty",
+                     "  plain: 3,780 calls (cheap 1,260, tasty 1,260, near 1,260), one for each term and each of 1,260 combinations"):
+            self.assertIn(line, printed)
+        self.assertNotIn("  - ", printed)
+
+    @NEEDS_COUNTER
+    def test_totals(self):
+        """The indexes, the sample and the plan together are the calls of `run`, and the indexes and the plain calls those of `plain`."""
+        index = "CREATE RANK INDEX i ON towns (big(size));\n"
+        for query in ("SELECT name FROM towns ORDER BY big(size) + west(east) LIMIT 3", "SELECT name FROM towns WHERE size > 500 ORDER BY west(east)",
+                      "SELECT a.name FROM towns a, towns b WHERE a.land = b.land AND a.size < 40 ORDER BY apart(a.size, b.east) + big(a.size) LIMIT 2",
+                      "SELECT DISTINCT land, size FROM towns ORDER BY big(size) + big(size) LIMIT 4",
+                      "SELECT size, east FROM towns UNION SELECT east, size FROM towns WHERE size < 300 ORDER BY big(east) + west(size) LIMIT 5",
+                      "SELECT size FROM towns INTERSECT SELECT east FROM towns ORDER BY big(size) LIMIT 5"):
+            for front in ("", index):
+                with self.subTest(front + query):
+                    printed = self.of_script(front + query + ";", "--seeds", "3")
+                    made = {line.split(":")[0].split()[0]: 0 for line in printed.splitlines()[1:] if re.match(r"  \w", line)}
+                    for line in printed.splitlines()[1:]:
+                        if re.match(r"  \w", line):
+                            made[line.split(":")[0].split()[0]] += calls_in(line.split(":", 1)[1])
+                    indexes = 2000 if front else 0
+                    self.assertEqual(self.counted("run", "s.sql", "3"), indexes + made["sample"] + made["plan"])
+                    self.assertEqual(self.counted("plain", "s.sql"), indexes + made["plain"])
+
+    def counted(self, *words):
+        ended = subprocess.run([COUNTER, *words], cwd=self.folder, stdout=subprocess.DEVNULL, stderr=subprocess.PIPE, check=True)
+        return int(ended.stderr.split()[1])
+
+
+@NEEDS_PROGRAM
+class Sentences(InFolder):
+    """Each sentence comes where it should, with numbers of runs."""
+
+    def test_cost(self):
+        printed = self.of_script("CREATE RANK INDEX i ON towns (big(size)); SELECT name FROM towns ORDER BY big(size) + west(east) LIMIT 2;")
+        self.assertNotIn("The COST of big", printed)
+        free = FRONT.replace("COST 40", "COST 1")
+        self.put("s.sql", free + "CREATE RANK INDEX i ON towns (west(east)); SELECT name FROM towns ORDER BY 20 * big(size) + west(east) LIMIT 3;")
+        printed, _ = self.advise("s.sql", "--seeds", "1,2")
+        self.assertRegex(printed, r"The COST of west is 1, .* at least COST 2: then the plan makes [\d,]+ calls in the place of [\d,]+\.")
+
+    def test_index(self):
+        printed = self.of_script("SELECT name FROM towns ORDER BY west(east) LIMIT 3;")
+        self.assertIn("There is no rank index for term 1. CREATE RANK INDEX towns_west ON towns (west(east)) makes 2,000 calls once, and then the"
+                      " plan makes 0 in the place of 2,000, so it pays from 2 such queries on.", printed)
+
+    def test_estimates(self):
+        printed = self.of_script("SELECT a.name FROM towns a, towns b, towns c WHERE a.name = b.name AND b.name = c.name ORDER BY west(a.east) + big(c.size) LIMIT 3;")
+        self.assertIn("an operator has est=0", printed)
+
+    def test_sample(self):
+        printed = self.of_script("SELECT a.name FROM towns a, towns b WHERE a.land = b.land ORDER BY apart(a.size, b.size) LIMIT 3;")
+        self.assertIn("Term 1 reads 2 tables, so the sample alone calls apart 4,096 times", printed)
+
+    def test_most(self):
+        loose = FRONT.replace("MAX 10007", "MAX 1000000")
+        self.put("s.sql", loose + "CREATE RANK INDEX i ON towns (west(east)); SELECT name FROM towns ORDER BY big(size) + 20 * west(east) LIMIT 3;")
+        printed, _ = self.advise("s.sql", "--seeds", "1,2")
+        self.assertRegex(printed, r"The MAX of big is 1000000, and no row of these tables scores above 10006\. With MAX 10006 the plan makes")
+
+    def test_plain(self):
+        printed = self.of_script("SELECT name FROM towns WHERE size < 20 ORDER BY big(size) LIMIT 3;")
+        self.assertIn("`plain` is cheaper here", printed)
+
+    def test_cursor(self):
+        printed = self.of_script("DECLARE c CURSOR FOR SELECT name FROM towns ORDER BY west(east); FETCH 3 FROM c; FETCH 4 FROM c;")
+        self.assertIn("cursor c with 7 rows fetched", printed)
+        self.assertIn("asked=7", printed)
+
+
+class Faults(InFolder):
+    """What advise ends with."""
+
+    @NEEDS_PROGRAM
+    def test_scripts(self):
+        self.assertIn("no script none.sql", self.advise("none.sql", status=3)[1])
+        self.advise(".", status=3)
+        self.put("s.sql", "SELECT a FROM t")
+        self.assertIn("script: parse Expected at 15", self.advise("s.sql", status=5)[1])
+        self.put("s.sql", "SELECT a FROM t ORDER BY p(a)")
+        self.assertIn("script: bind NoTable at 14", self.advise("s.sql", status=5)[1])
+        self.put("s.sql", FRONT.replace("towns.csv", "none.csv") + "SELECT name FROM towns ORDER BY big(size);")
+        self.assertIn("read: none.csv: missing", self.advise("s.sql", status=3)[1])
+        self.put("s.sql", FRONT.replace("MAX 10007", "MAX 10") + "SELECT name FROM towns ORDER BY big(size);")
+        self.assertIn("score: big rows", self.advise("s.sql", status=7)[1])
+        self.put("s.sql", "-- nothing")
+        self.assertIn("has no query", self.advise("s.sql")[1])
+
+    @NEEDS_PROGRAM
+    def test_words(self):
+        self.put("s.sql", FRONT + "SELECT name FROM towns ORDER BY big(size);")
+        for words in ((), ("s.sql", "--seeds", "x"), ("s.sql", "--seeds", ""), ("s.sql", "--query", "2"), ("s.sql", "--seconds", "0")):
+            self.advise(*words, status=2)
+        self.assertIn("usage:", self.advise("--help")[0])
+        self.assertIn("took more than", self.advise("s.sql", "--seconds", "0.000001", status=1)[1])
+
+    def test_no_program(self):
+        with mock.patch("ranksql_tools.advise_command.find_program", return_value=None):
+            self.assertIn("program", self.advise("s.sql", status=70)[1])
+
+
+if __name__ == "__main__":
+    unittest.main()
