@@ -217,17 +217,10 @@ def numbers(place):
 
 
 def statements(place):
-    """The first word of a statement, and what stands behind one that is complete."""
+    """The first word of a statement."""
     token = place.token
-    if place.inside("statement"):
-        return first_word(place)
-    if not place.inside("behind", "desc") and not (place.inside("select", "statement", "where", "from") and token.is_word("CREATE")):
+    if not place.inside("statement"):
         return None
-    return None
-
-
-def first_word(place):
-    token = place.token
     if token.is_symbol(";"):
         return "A statement may not be empty. Take one of the two `;` away."
     if token.is_symbol("("):
@@ -582,8 +575,6 @@ def no_order(place):
         return join(place, word)
     if token.is_word("ON") or word == "USING":
         return "A condition that joins tables stands in WHERE: FROM hotels h, restaurants r WHERE h.city = r.city."
-    if token.is_word("NOT", "CASE", "WHEN") or token.is_symbol(*COMPARISONS, "+", "-", "/"):
-        return None
     return None
 
 
