@@ -256,7 +256,7 @@ def behind_statement(place):
 
 def creations(place):
     """CREATE, and what it makes."""
-    token, before, behind = place.token, place.near(-1), place.near(1)
+    token, before = place.token, place.near(-1)
     word = token.text.upper()
     if place.inside("create"):
         if word in ("INDEX", "UNIQUE"):
@@ -376,7 +376,7 @@ def indexes(place):
 
 def queries(place):
     """SELECT, FROM, and the order of the parts of a query."""
-    token, word = place.token, place.token.text.upper()
+    token = place.token
     if place.within("declare", "fetch", "close") and not place.within("select"):
         return cursors(place)
     if place.inside("explain", "select") and place.expected == ["ANALYZE", "SELECT"] or place.expected == ["SELECT"]:
@@ -480,8 +480,7 @@ def sources(place):
 
 def orders(place):
     """ORDER BY, its terms, and LIMIT."""
-    token, before, behind = place.token, place.near(-1), place.near(1)
-    word = token.text.upper()
+    word = place.token.text.upper()
     if place.within("terms"):
         says = terms(place)
         if says:
