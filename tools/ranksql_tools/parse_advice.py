@@ -217,17 +217,10 @@ def numbers(place):
 
 
 def statements(place):
-    """The first word of a statement, and what stands behind one that is complete."""
+    """The first word of a statement."""
     token = place.token
-    if place.inside("statement"):
-        return first_word(place)
-    if not place.inside("behind", "desc") and not (place.inside("select", "statement", "where", "from") and token.is_word("CREATE")):
+    if not place.inside("statement"):
         return None
-    return None
-
-
-def first_word(place):
-    token = place.token
     if token.is_symbol(";"):
         return "A statement may not be empty. Take one of the two `;` away."
     if token.is_symbol("("):
@@ -263,7 +256,7 @@ def behind_statement(place):
 
 def creations(place):
     """CREATE, and what it makes."""
-    token, before, behind = place.token, place.near(-1), place.near(1)
+    token, before = place.token, place.near(-1)
     word = token.text.upper()
     if place.inside("create"):
         if word in ("INDEX", "UNIQUE"):
@@ -383,7 +376,7 @@ def indexes(place):
 
 def queries(place):
     """SELECT, FROM, and the order of the parts of a query."""
-    token, word = place.token, place.token.text.upper()
+    token = place.token
     if place.within("declare", "fetch", "close") and not place.within("select"):
         return cursors(place)
     if place.inside("explain", "select") and place.expected == ["ANALYZE", "SELECT"] or place.expected == ["SELECT"]:
@@ -487,8 +480,7 @@ def sources(place):
 
 def orders(place):
     """ORDER BY, its terms, and LIMIT."""
-    token, before, behind = place.token, place.near(-1), place.near(1)
-    word = token.text.upper()
+    word = place.token.text.upper()
     if place.within("terms"):
         says = terms(place)
         if says:
@@ -582,8 +574,6 @@ def no_order(place):
         return join(place, word)
     if token.is_word("ON") or word == "USING":
         return "A condition that joins tables stands in WHERE: FROM hotels h, restaurants r WHERE h.city = r.city."
-    if token.is_word("NOT", "CASE", "WHEN") or token.is_symbol(*COMPARISONS, "+", "-", "/"):
-        return None
     return None
 
 

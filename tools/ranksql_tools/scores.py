@@ -1,6 +1,6 @@
 """The values of formulas over rows of tables, to find the call that gave a bad score."""
 
-from ranksql_tools.script_parse import Explain, Index, Predicate, Select, Table
+from ranksql_tools.script_parse import Index, Predicate, Select, Table
 from ranksql_tools.table_file import read_file, records
 
 

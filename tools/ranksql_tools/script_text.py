@@ -93,12 +93,6 @@ def line_number(body, place):
     return body.count(b"\n", 0, place) + 1
 
 
-def column_number(body, place):
-    """The number of the character at a byte in its line, from 1."""
-    start = body.rfind(b"\n", 0, place) + 1
-    return len(body[start:place].decode("utf-8", "replace")) + 1
-
-
 def with_caret(body, place):
     """The line in which a byte stands, with its number, and below it a line with a caret under the byte. The end of a script
     is shown behind its last character that is no blank."""
