@@ -3,8 +3,8 @@
 # are asked for, and by the number of tables; and the time and the memory of `run` beside sqlite3, by rows. The pictures are written
 # to docs/ as SVG, and the numbers beside each as a file of tabs: docs/calls_by_rows.svg and docs/calls_by_rows.tsv, and so on.
 # Calls are those that tools/advise counts: of `run` those of its indexes, its sample and its plan, by the seed 1. They are the same
-# on each machine. Times are the shortest of five runs, the reading of the files included, and memory is the most that a process
-# held. Both sides have to print the same rows. The table has the numbers of a generator, so each run makes the same files.
+# on each machine. Times are processor time, the shortest of five runs, the reading of the files included; memory is the most that
+# a process held, as GNU time tells it. Both sides have to print the same rows. The table has the numbers of a generator, so each run makes the same files.
 # `bench/report.sh calls` leaves time and memory as they are, and `bench/report.sh times` leaves the calls. It needs gnuplot and python3, and sqlite3 for the times.
 # The program is the one that ./ranksql builds, or the one that the variable RANKSQL names.
 # shellcheck source=bench/functions.sh
@@ -14,12 +14,12 @@ needs gnuplot 'it draws (on Debian: apt-get install gnuplot-nox)'
 needs python3 'it counts'
 find_program
 [ "${1:-}" = calls ] || needs sqlite3 'nothing is timed without it (on Debian: apt-get install sqlite3)'
+[ "${1:-}" = calls ] || needs /usr/bin/time 'it tells the memory (on Debian: apt-get install time)'
 
 RANKSQL=$program PYTHONDONTWRITEBYTECODE=1 python3 -S - "$root" "$work" "${1:-all}" <<'PYTHON' || exit 1
 import os
 import subprocess
 import sys
-import time
 
 root, work, wanted = sys.argv[1:]
 sys.path.insert(0, root + "/tools")
@@ -91,14 +91,13 @@ def calls(script, runner=None):
 
 
 def spent(words):
-    """The seconds of a run, what it printed, and the most memory that it held in MB."""
-    start = time.perf_counter()
-    ended = subprocess.Popen(words, stdout=subprocess.PIPE, stdin=subprocess.DEVNULL)
-    printed = ended.stdout.read().decode()
-    _, status, usage = os.wait4(ended.pid, 0)
-    if status != 0:
-        sys.exit("bench: %s ended with %d" % (words[0], status))
-    return time.perf_counter() - start, printed, usage.ru_maxrss * 1024 / 1000000
+    """The seconds of processor time of a run, what it printed, and the most memory that it held in MB."""
+    ended = subprocess.run(["/usr/bin/time", "-f", "%U %S %M", "-o", "spent", *words], stdout=subprocess.PIPE, stdin=subprocess.DEVNULL)
+    if ended.returncode != 0:
+        sys.exit("bench: %s ended with %d" % (words[0], ended.returncode))
+    with open("spent") as file:
+        user, system, most = file.read().split()
+    return float(user) + float(system), ended.stdout.decode(), int(most) * 1024 / 1000000
 
 
 def timed():
@@ -135,7 +134,7 @@ for rows in ROWS:
         by_rows.append((rows, *calls(films_script(LIMIT))))
     if wanted != "calls":
         best, most = timed()
-        times.append((rows, *("%.1f" % number for number in best)))
+        times.append((rows, *("%.0f" % number for number in best)))
         memory.append((rows, *("%.1f" % number for number in most)))
 if wanted != "times":
     write("calls_by_rows", ["rows", *HEADS], by_rows)
@@ -176,5 +175,5 @@ draw calls_by_rows 'Calls of the scorer for the 10 best of one table' 'rows of t
 draw calls_by_limit 'Calls of the scorer for the K best of 50,000 rows' 'K, the rows that LIMIT asks for' 'calls' 'set logscale xy; set yrange [100:1000000]' "$calls"
 draw calls_by_tables 'Calls of the scorer for the 10 best combinations, by tables' 'tables of 300 rows, joined by city' 'calls' \
     'set logscale y; set xtics 1; set xrange [0.8:4.2]' "$calls"
-draw time_by_rows 'Time for the 10 best of one table, its file read' 'rows of the table' 'milliseconds' 'set yrange [0:*]' "$sides"
+draw time_by_rows 'Time for the 10 best of one table, its file read' 'rows of the table' 'milliseconds of processor time' 'set yrange [0:*]' "$sides"
 draw memory_by_rows 'Memory for the 10 best of one table' 'rows of the table' 'MB' 'set yrange [0:*]' "$sides"
