@@ -310,7 +310,7 @@ while IFS= read -r script; do
     # Only `run` says something of a plan. All else is the same under both words.
     words=(plain run)
     case $script in
-        */plans.sql | */analyzed.sql) words=(run) ;;
+        */plans.sql | */analyzed.sql | */savings.sql) words=(run) ;;
         *) ! grep -q '^EXPLAIN' "$root/$script" || words=(plain) ;;
     esac
     # The command gives no line feeds at the end, so a mark goes behind them.
@@ -330,11 +330,7 @@ while IFS= read -r line; do
     grep -qxF -e "    $line" "$root/docs/PLANS.md" || failed "PLANS.md doesn't have the line: $line"
 done < <(cd "$root/examples/travel" && cat plans.out analyzed.out && sed -s -n '/^EXPLAIN/,/;$/p' plans.sql analyzed.sql)
 while IFS= read -r line; do
-    grep -qxF -e "    $line" "$root/README.md" || failed "README.md doesn't have the line: $line"
-done < <(head -n 6 "$root/examples/travel/analyzed.out")
-
-while IFS= read -r line; do
-    grep -qxF -e "    $line" "$root/README.md" || failed "README.md doesn't have the line: $line"
+    grep -qxF -e "    $line" "$root/docs/FORMATS.md" || failed "FORMATS.md doesn't have the line: $line"
 done < <(tail -n 7 "$root/checks/gen_7_600.out")
 
 # docs/GRAMMAR.md shows what guides.sql prints.

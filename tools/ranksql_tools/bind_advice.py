@@ -163,6 +163,8 @@ def columns_of(names, block):
 def reference_at(names, place):
     """The block and the column of a query at a place; the block is None in a term of a query of two blocks."""
     select = names.select
+    if not isinstance(select, Select):
+        return None, None
     for block in select.blocks:
         for column in [*block.items, *references(block.where)]:
             if getattr(column, "start", None) == place and hasattr(column, "alias"):
@@ -287,6 +289,8 @@ def distinct_output(names, token, place):
 
 
 def set_columns(names, token, place):
+    if not isinstance(names.select, Select) or len(names.select.blocks) < 2:
+        return None
     counts, kinds = [], []
     for block in names.select.blocks:
         aliases = {alias.says: names.tables[table.says].columns for table, alias in block.sources if table.says in names.tables}
@@ -308,7 +312,7 @@ def set_columns(names, token, place):
 
 
 def too_wide(names, token, place):
-    return "The numbers of this part could be too great for any row. Multiply two columns at most, or divide a product before the next one."
+    return "The numbers of this part could be too great to compute with. Multiply two columns at most, or divide a product before the next one."
 
 
 def bad_divisor(names, token, place):

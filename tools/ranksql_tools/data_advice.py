@@ -80,7 +80,7 @@ def of_table(fault, parser):
     name = statement.columns[column][0].says if statement and column < len(statement.columns) else header[column] if column < len(header) else ""
     if fault.variant == "NotUtf8":
         return token, lines, (
-            f"Row {row} has a text in column {fault.numbers[1]} that isn't UTF-8. The file was likely saved in Latin-1: {helper('prepare')}"
+            f"{f'Row {row}' if row else 'The header'} has a text in column {fault.numbers[1]} that isn't UTF-8. The file was likely saved in Latin-1: {helper('prepare')}"
             f" {fault.name} writes it anew, and so does iconv -f CP1252 -t UTF-8 {fault.name} >NEW."
         )
     cells = [other.fields[column] for other in found[1:] if column < len(other.fields)]
@@ -269,7 +269,8 @@ def of_read(fault, parser, script):
         if os.path.exists(fault.name) and not os.access(fault.name, os.R_OK):
             return token, "You may not read this file. Its rights are changed by chmod."
         return token, "The system can't read this file. Look at its name: what stands in front of a `/` has to be a folder."
-    says = f"There is no {what} {fault.name} here." if fault.name else f"The name of the {what} is empty."
+    kind = "script" if what == "script" else "file"
+    says = f"There is no {kind} {fault.name} here." if fault.name else f"The name of the {kind} is empty."
     if what == "table" and script:
         beside = os.path.join(os.path.dirname(script), fault.name)
         if os.path.dirname(script) and not os.path.isabs(fault.name) and os.path.exists(beside):

@@ -108,9 +108,10 @@ def with_caret(body, place):
     end = body.find(b"\n", place)
     if end < 0:
         end = len(body)
-    before = shown(body[start:place].decode("utf-8", "replace"))
-    behind = shown(body[place:end].decode("utf-8", "replace")).rstrip()
-    if len(before) > WIDEST * 2 // 3:
+    # A long line is cut before its characters are looked at; a character that is cut there isn't shown.
+    before = shown(body[start:place].decode("utf-8", "replace")[-2 * WIDEST:])
+    behind = shown(body[place:min(end, place + 8 * WIDEST)].decode("utf-8", "replace")).rstrip()
+    if len(before) + len(behind) > WIDEST and len(before) > WIDEST * 2 // 3:
         before = "..." + before[-(WIDEST * 2 // 3):]
     if len(before) + len(behind) > WIDEST:
         behind = behind[:max(10, WIDEST - len(before))] + "..."
