@@ -92,12 +92,13 @@ def calls(script, runner=None):
 
 def spent(words):
     """The seconds of processor time of a run, what it printed, and the most memory that it held in MB."""
-    ended = subprocess.run(["/usr/bin/time", "-f", "%U %S %M", "-o", "spent", *words], stdout=subprocess.PIPE, stdin=subprocess.DEVNULL)
-    if ended.returncode != 0:
-        sys.exit("bench: %s ended with %d" % (words[0], ended.returncode))
-    with open("spent") as file:
-        user, system, most = file.read().split()
-    return float(user) + float(system), ended.stdout.decode(), int(most) * 1024 / 1000000
+    ended = subprocess.Popen(["/usr/bin/time", "-f", "%M", "-o", "held", *words], stdout=subprocess.PIPE, stdin=subprocess.DEVNULL)
+    printed = ended.stdout.read().decode()
+    _, status, usage = os.wait4(ended.pid, 0)
+    if status != 0:
+        sys.exit("bench: %s ended with %d" % (words[0], status))
+    with open("held") as file:
+        return usage.ru_utime + usage.ru_stime, printed, int(file.read()) * 1024 / 1000000
 
 
 def timed():
@@ -134,7 +135,7 @@ for rows in ROWS:
         by_rows.append((rows, *calls(films_script(LIMIT))))
     if wanted != "calls":
         best, most = timed()
-        times.append((rows, *("%.0f" % number for number in best)))
+        times.append((rows, *("%.1f" % number for number in best)))
         memory.append((rows, *("%.1f" % number for number in most)))
 if wanted != "times":
     write("calls_by_rows", ["rows", *HEADS], by_rows)
