@@ -3,9 +3,9 @@
 # are asked for, and by the number of tables; and the time and the memory of `run` beside sqlite3, by rows. The pictures are written
 # to docs/ as SVG, and the numbers beside each as a file of tabs: docs/calls_by_rows.svg and docs/calls_by_rows.tsv, and so on.
 # Calls are those that tools/advise counts: of `run` those of its indexes, its sample and its plan, by the seed 1. They are the same
-# on each machine. Times are the shortest of five runs, the reading of the files included, and memory is the most that a process
-# held. Both sides have to print the same rows. The table has the numbers of a generator, so each run makes the same files.
-# `bench/report.sh calls` leaves time and memory as they are. It needs gnuplot and python3, and sqlite3 for the times.
+# on each machine. Times are processor time, the shortest of five runs, the reading of the files included; memory is the most that
+# a process held, as GNU time tells it. Both sides have to print the same rows. The table has the numbers of a generator, so each run makes the same files.
+# `bench/report.sh calls` leaves time and memory as they are, and `bench/report.sh times` leaves the calls. It needs gnuplot and python3, and sqlite3 for the times.
 # The program is the one that ./ranksql builds, or the one that the variable RANKSQL names.
 # shellcheck source=bench/functions.sh
 . "$(dirname "$0")/functions.sh"
@@ -14,12 +14,12 @@ needs gnuplot 'it draws (on Debian: apt-get install gnuplot-nox)'
 needs python3 'it counts'
 find_program
 [ "${1:-}" = calls ] || needs sqlite3 'nothing is timed without it (on Debian: apt-get install sqlite3)'
+[ "${1:-}" = calls ] || needs /usr/bin/time 'it tells the memory (on Debian: apt-get install time)'
 
-RANKSQL=$program PYTHONDONTWRITEBYTECODE=1 python3 - "$root" "$work" "${1:-all}" <<'PYTHON' || exit 1
+RANKSQL=$program PYTHONDONTWRITEBYTECODE=1 python3 -S - "$root" "$work" "${1:-all}" <<'PYTHON' || exit 1
 import os
 import subprocess
 import sys
-import time
 
 root, work, wanted = sys.argv[1:]
 sys.path.insert(0, root + "/tools")
@@ -80,24 +80,25 @@ def joined_script(tables):
         " + ".join("p%d(t%d.worth)" % (place, place) for place in names), LIMIT)
 
 
-def calls(script):
-    """The calls of the indexes, of the sample, of the plan, of `run` in all, and of `plain`, both without the indexes in the last."""
+def calls(script, runner=None):
+    """The calls of the indexes, of the sample, of the plan, of `run` in all, and those of the query under `plain`. Scripts over the
+    same files may share what was run."""
     body = script.encode()
-    case = Case(body, read_queries(body)[0], Runner(program, SECONDS), [SEED])
+    case = Case(body, read_queries(body)[0], runner or Runner(program, SECONDS), [SEED])
     indexes = sum(map(case.index_calls, case.used_indexes()))
     sample, plan = case.sample().total(), case.price_of(case.trials[SEED]).total()
     return indexes, sample, plan, indexes + sample + plan, case.plain(case.combinations()).total()
 
 
 def spent(words):
-    """The seconds of a run, what it printed, and the most memory that it held in MB."""
-    start = time.perf_counter()
-    ended = subprocess.Popen(words, stdout=subprocess.PIPE, stdin=subprocess.DEVNULL)
+    """The seconds of processor time of a run, what it printed, and the most memory that it held in MB."""
+    ended = subprocess.Popen(["/usr/bin/time", "-f", "%M", "-o", "held", *words], stdout=subprocess.PIPE, stdin=subprocess.DEVNULL)
     printed = ended.stdout.read().decode()
     _, status, usage = os.wait4(ended.pid, 0)
     if status != 0:
         sys.exit("bench: %s ended with %d" % (words[0], status))
-    return time.perf_counter() - start, printed, usage.ru_maxrss * 1024 / 1000000
+    with open("held") as file:
+        return usage.ru_utime + usage.ru_stime, printed, int(file.read()) * 1024 / 1000000
 
 
 def timed():
@@ -123,22 +124,25 @@ def write(name, heads, lines):
         file.writelines("\t".join(map(str, line)) + "\n" for line in lines)
     print(name)
     for line in [heads, *lines]:
-        print("  " + "".join("%14s" % word for word in line))
+        print("  " + "".join("%14s" % word for word in line), flush=True)
 
 
 HEADS = ["indexes", "sample", "plan", "run", "plain"]
 by_rows, times, memory = [], [], []
 for rows in ROWS:
     put_films(rows)
-    by_rows.append((rows, *calls(films_script(LIMIT))))
+    if wanted != "times":
+        by_rows.append((rows, *calls(films_script(LIMIT))))
     if wanted != "calls":
         best, most = timed()
         times.append((rows, *("%.1f" % number for number in best)))
         memory.append((rows, *("%.1f" % number for number in most)))
-write("calls_by_rows", ["rows", *HEADS], by_rows)
-put_films(ROWS_FOR_LIMITS)
-write("calls_by_limit", ["limit", *HEADS], [(limit, *calls(films_script(limit))) for limit in LIMITS])
-write("calls_by_tables", ["tables", *HEADS], [(tables, *calls(joined_script(tables))) for tables in TABLES])
+if wanted != "times":
+    write("calls_by_rows", ["rows", *HEADS], by_rows)
+    put_films(ROWS_FOR_LIMITS)
+    shared = Runner(program, SECONDS)
+    write("calls_by_limit", ["limit", *HEADS], [(limit, *calls(films_script(limit), shared)) for limit in LIMITS])
+    write("calls_by_tables", ["tables", *HEADS], [(tables, *calls(joined_script(tables))) for tables in TABLES])
 if wanted != "calls":
     write("time_by_rows", ["rows", "run", "sqlite3"], times)
     write("memory_by_rows", ["rows", "run", "sqlite3"], memory)
@@ -147,7 +151,7 @@ PYTHON
 # Draws a picture: draw NAME TITLE XLABEL YLABEL AXES PLOT..
 draw() {
     local name=$1 title=$2 xlabel=$3 ylabel=$4 axes=$5 plot=$6
-    [ -r "$root/docs/$name.tsv" ] || return
+    [ -r "$root/docs/$name.tsv" ] || return 0
     gnuplot <<GNUPLOT || exit 1
 set terminal svg size 640,400 dynamic font 'sans-serif,13' background '#ffffff'
 set output '$root/docs/$name.svg'
@@ -172,5 +176,5 @@ draw calls_by_rows 'Calls of the scorer for the 10 best of one table' 'rows of t
 draw calls_by_limit 'Calls of the scorer for the K best of 50,000 rows' 'K, the rows that LIMIT asks for' 'calls' 'set logscale xy; set yrange [100:1000000]' "$calls"
 draw calls_by_tables 'Calls of the scorer for the 10 best combinations, by tables' 'tables of 300 rows, joined by city' 'calls' \
     'set logscale y; set xtics 1; set xrange [0.8:4.2]' "$calls"
-draw time_by_rows 'Time for the 10 best of one table, its file read' 'rows of the table' 'milliseconds' 'set yrange [0:*]' "$sides"
+draw time_by_rows 'Time for the 10 best of one table, its file read' 'rows of the table' 'milliseconds of processor time' 'set yrange [0:*]' "$sides"
 draw memory_by_rows 'Memory for the 10 best of one table' 'rows of the table' 'MB' 'set yrange [0:*]' "$sides"

@@ -255,8 +255,8 @@ def on_plain(case, count):
     plain_cost = case.plain(count).cost(case.query)
     sample, plan = case.sample().cost(case.query), case.mean_cost()
     if plain_cost < sample + plan:
-        return ["`plain` is cheaper here: it makes %s calls, and `run` %s with its sample." % (
-            number(case.plain(count).total()), number(case.sample().total() + case.mean_calls()))]
+        return ["`plain` is cheaper here: its calls cost %s, and those of `run` %s with its sample, each call counted by its COST." % (
+            number(plain_cost), number(round(sample + plan)))]
     if plan * 2 > plain_cost:
         return ["The plan saves less than half of the calls of `plain`. That is so where the scores of most rows lie near each other or"
                 " near the least, or where LIMIT asks for most of the rows."]

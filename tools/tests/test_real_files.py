@@ -55,7 +55,8 @@ class RealFiles(InFolder):
         columns = re.findall(r"^    (\w+) (INT|TEXT),?(.*)", script, re.MULTILINE)
         own = [column for column in columns if not (DATE_COLUMN.fullmatch(column[0]) and "since 1970-01-01" in column[2])]
         self.assertEqual(width, len(own))
-        made = list(csv.DictReader(open(os.path.join(self.folder, table + ".table.csv"), encoding="utf-8", newline="")))
+        with open(os.path.join(self.folder, table + ".table.csv"), encoding="utf-8", newline="") as file:
+            made = list(csv.DictReader(file))
         self.assertEqual(len(source), len(made))
         for place, (name, kind, notes) in enumerate(own):
             times = Decimal((re.search(r"times (\d+)", notes) or (0, 1))[1])
