@@ -12,10 +12,6 @@ use Rattle.rs_value.specs.declared.value.Value.TheVariants.{Int, Text}
 use Rattle.rs_value.specs.contracts.value.ValuePartialEq.TheImpl as value
 use Rattle.rs_outputs.specs.Seen.{has_list, same_value, same_values, with_list}
 
--- the values of a list
-abbrev pub items_in : Vec Value Global → List Value
-items_in list = list.items
-
 -- equal by the test is equal
 same_value-decides : (u v : Value) → Decides (same_value u v) (u ≡ v)
 same_value-decides (Int n) (Int m) = (λ e. ap Int ((Decides-int_eq n m).0 e), λ e. (Decides-int_eq n m).1 (cc))
@@ -45,37 +41,3 @@ same_values-same us vs e = (same_values-decides us vs).0 e
 
 pub same_values-itself : (us : List Value) → same_values us us ≡ true
 same_values-itself us = (same_values-decides us us).1 refl
-
--- equal by `==` is equal by the test
-eq-same_value : (u v : Value) → value.ghosts.eq u v ≡ same_value u v
-eq-same_value (Int n) (Int m) = refl
-eq-same_value (Text t) (Text u) = refl
-eq-same_value (Int n) (Text u) = refl
-eq-same_value (Text t) (Int m) = refl
-
-pointwise-same_values : (us vs : List Value) → pointwise value.ghosts.eq us vs ≡ same_values us vs
-pointwise-same_values [] [] = refl
-pointwise-same_values [] (v ∷ vs) = refl
-pointwise-same_values (u ∷ us) [] = refl
-pointwise-same_values (u ∷ us) (v ∷ vs) = ap (λ b. b && pointwise value.ghosts.eq us vs) (eq-same_value u v) ∙ ap (λ b. same_value u v && b) (pointwise-same_values us vs)
-
--- a test of the keys of a set of lists is one of the lists
-pub has_list-keys : {K : Type 0} (items : K → List Value) (keys : List K) (values : List Value)
-    → list_any (λ k. pointwise value.ghosts.eq values (items k)) keys ≡ has_list values (map items keys)
-has_list-keys items [] values = refl
-has_list-keys items (key ∷ keys) values =
-    ap (λ b. b || list_any (λ k. pointwise value.ghosts.eq values (items k)) keys) (pointwise-same_values values (items key))
-    ∙ ap (λ b. same_values values (items key) || b) (has_list-keys items keys values)
-
--- one more list in a set of lists
-pub with_list-keys : {K : Type 0} (items : K → List Value) (keys new : List K) (key : K)
-    → new ≡ (if list_any (λ k. pointwise value.ghosts.eq (items key) (items k)) keys then keys else keys ++ key ∷ [])
-    → map items new ≡ with_list (items key) (map items keys)
-with_list-keys items keys new key e =
-    ap (map items) e
-    ∙ mapped (list_any (λ k. pointwise value.ghosts.eq (items key) (items k)) keys)
-    ∙ ap (λ b. if b then map items keys else map items keys ++ items key ∷ []) (has_list-keys items keys (items key))
-  where
-    mapped : (b : Bool) → map items (if b then keys else keys ++ key ∷ []) ≡ (if b then map items keys else map items keys ++ items key ∷ [])
-    mapped true = refl
-    mapped false = map-append items keys (key ∷ [])
