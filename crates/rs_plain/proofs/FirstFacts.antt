@@ -16,10 +16,6 @@ use Rattle.rs_rank.specs.declared.answer.Answer.{Answer}
 use Rattle.rs_query.specs.Answers.{firsts, occurs_in, others, same_value, same_values}
 use Rattle.rs_plain.specs.Lists.{has_list, with_list}
 
--- the values of a list
-abbrev pub items_in : Vec Value Global → List Value
-items_in list = list.items
-
 -- equal by the test is equal
 same_value-decides : (u v : Value) → Decides (same_value u v) (u ≡ v)
 same_value-decides (Int n) (Int m) = (λ e. ap Int ((Decides-int_eq n m).0 e), λ e. (Decides-int_eq n m).1 (cc))
@@ -44,45 +40,10 @@ same_values-decides (u ∷ us) (v ∷ vs) = (
       ap (λ b. b && same_values us vs) ((same_value-decides u v).1 first) ∙ (same_values-decides us vs).1 rest),
 )
 
--- the order of two lists doesn't matter
-same_values-sym : (us vs : List Value) → same_values us vs ≡ same_values vs us
-same_values-sym us vs = same_from_decides (same_values us vs) (same_values vs us) (same_values-decides us vs)
-    (λ e. sym ((same_values-decides vs us).0 e), λ e. (same_values-decides vs us).1 (sym e))
-
--- equal by `==` is equal by the test
-eq-same_value : (u v : Value) → value.ghosts.eq u v ≡ same_value u v
-eq-same_value (Int n) (Int m) = refl
-eq-same_value (Text t) (Text u) = refl
-eq-same_value (Int n) (Text u) = refl
-eq-same_value (Text t) (Int m) = refl
-
-pointwise-same_values : (us vs : List Value) → pointwise value.ghosts.eq us vs ≡ same_values us vs
-pointwise-same_values [] [] = refl
-pointwise-same_values [] (v ∷ vs) = refl
-pointwise-same_values (u ∷ us) [] = refl
-pointwise-same_values (u ∷ us) (v ∷ vs) = ap (λ b. b && pointwise value.ghosts.eq us vs) (eq-same_value u v) ∙ ap (λ b. same_value u v && b) (pointwise-same_values us vs)
-
--- a test of the keys of a set of lists is one of the lists
-pub has_list-keys : {K : Type 0} (items : K → List Value) (keys : List K) (values : List Value)
-    → list_any (λ k. pointwise value.ghosts.eq values (items k)) keys ≡ has_list values (map items keys)
-has_list-keys items [] values = refl
-has_list-keys items (key ∷ keys) values =
-    ap (λ b. b || list_any (λ k. pointwise value.ghosts.eq values (items k)) keys) (pointwise-same_values values (items key) ∙ same_values-sym values (items key))
-    ∙ ap (λ b. same_values (items key) values || b) (has_list-keys items keys values)
-
 -- a test of the lists of some rows is one of the rows
 pub has_list-rows : (rows : List Answer) (row : Answer) → has_list row.values (map (λ (other : Answer). other.values) rows) ≡ occurs_in rows row
 has_list-rows [] row = refl
 has_list-rows (first ∷ rows) row = ap (λ b. same_values first.values row.values || b) (has_list-rows rows row)
-
--- one more list in a set of lists
-pub with_list-key : {K : Type 0} (items : K → List Value) (keys new : List K) (key : K) (values : List Value) (lists : List (List Value))
-    → new ≡ (if list_any (λ k. pointwise value.ghosts.eq (items key) (items k)) keys then keys else keys ++ key ∷ []) → map items keys ≡ lists → items key ≡ values
-    → has_list values lists ≡ false → map items new ≡ with_list values lists
-with_list-key items keys new key values lists is old same absent =
-    let none : list_any (λ k. pointwise value.ghosts.eq (items key) (items k)) keys ≡ false = has_list-keys items keys (items key) ∙ ap (λ v. has_list v (map items keys)) same ∙ ap (has_list values) old ∙ absent in
-    ap (map items) (is ∙ ap (λ b. if b then keys else keys ++ key ∷ []) none) ∙ map-append items keys (key ∷ [])
-    ∙ ap (λ l. l ++ items key ∷ []) old ∙ ap (λ v. lists ++ v ∷ []) same ∙ ap (λ b. if b then lists else lists ++ values ∷ []) (sym absent)
 
 or_false : (a : Bool) → (a || false) ≡ a
 or_false true = refl
