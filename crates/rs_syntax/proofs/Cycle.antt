@@ -73,19 +73,6 @@ counted-less h c d = counted-left h.read c d
 pub part-less : {p : Part} {A : Type 0} {f : Tree → A} {b a : State} {value : A} → Found p f b a value → is_quiet p ≡ true → a.left ≤ b.left
 part-less h q = quiet-left h.read q
 
--- fewer are left behind an operator and its operand
-pub item-less : {kinds : List TokenKind} {p : Part} {A B : Type 0} {f : Tree → A} {g : Tree → B} {b x a : State} {v : A} {w : B} → Found (One kinds) f b x v → Found p g x a w
-    → within kinds counted_kinds ≡ true → disjoint kinds (Semicolon ∷ []) ≡ true → is_quiet p ≡ true → a.left < b.left
-item-less {b = b} {x = x} {a = a} k h c d q =
-    let one : x.left < b.left = counted-left k.read c d in
-    let two : a.left ≤ x.left = quiet-left h.read q in
-    omega arith
-
--- as many or fewer than before are left there
-pub behind-le : {kinds : List TokenKind} {p : Part} {A B : Type 0} {f : Tree → A} {g : Tree → B} {b x a : State} {v : A} {w : B} {n : ℕ} → Found (One kinds) f b x v → Found p g x a w
-    → within kinds counted_kinds ≡ true → disjoint kinds (Semicolon ∷ []) ≡ true → is_quiet p ≡ true → b.left ≤ n → a.left ≤ n
-behind-le {b = b} {a = a} {n = n} k h c d q le = let less : a.left < b.left = item-less k h c d q in omega arith
-
 -- fewer are left behind a WHEN part
 pub when-less : {A : Type 0} {f : Tree → A} {b a : State} {value : A} → Found (Use when) f b a value → a.left < b.left
 when-less {b = b} {a = a} h = go h.tree h.read
