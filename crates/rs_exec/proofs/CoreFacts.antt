@@ -26,14 +26,6 @@ rows-with : (values : List ℕ → List Value) (rows : List RankRow) → rows_of
 rows-with values [] = refl
 rows-with values (row ∷ rows) = ap (λ (rest : List RankRow). row ∷ rest) (rows-with values rows)
 
--- with one row more
-with-more : (values : List ℕ → List Value) (drawn : List DrawnRow) (row : RankRow) (own : List Value) → drawn ≡ with_values values (rows_of drawn) → own ≡ values row.ids.rows
-    → drawn ++ record { row = row; values = own } ∷ [] ≡ with_values values (rows_of drawn ++ row ∷ [])
-with-more values drawn row own has is =
-    ap (λ (rows : List DrawnRow). rows ++ record { row = row; values = own } ∷ []) has
-    ∙ ap (λ (v : List Value). with_values values (rows_of drawn) ++ record { row = row; values = v } ∷ []) is
-    ∙ sym (map-append (λ (r : RankRow). record { row = r; values = values r.ids.rows }) (rows_of drawn) (row ∷ []))
-
 -- the rows of a hash join; a nested one has none with join values
 abbrev lefts_in : JoinCore → List DrawnRow
 lefts_in (Nested joined) = []
@@ -79,25 +71,6 @@ module _ (catalogue : Catalogue) (block : Block) (left right : ℕ) where
   pub with-has : (core : JoinCore) (ripple : Ripple) → HasValues catalogue block left right core → HasValues catalogue block left right (core_with core ripple)
   with-has (Nested joined) ripple has = refl
   with-has (Hash hashed) ripple has = λ i. Hash (record { ripple = ripple; lefts = lefts_in (has i); rights = rights_in (has i) })
-
-  -- a row of a hash join is taken with its join values
-  pub hash-left-is : (matches : RankRow → RankRow → Bool) (row : RankRow) (values : List Value) (hashed : Hashed) → HasValues catalogue block left right (Hash hashed)
-      → values ≡ left_values catalogue block left right row.ids.rows
-      → hash_left matches row values hashed ≡ hashed_with catalogue block left right (fed_left matches row (joined_of hashed))
-  hash-left-is matches row values hashed has is = λ i. record {
-    ripple = (fed_left matches row (joined_of hashed)).ripple;
-    lefts = with-more (left_values catalogue block left right) hashed.lefts row values (ap lefts_in has) is i;
-    rights = rights_in (has i);
-  }
-
-  pub hash-right-is : (matches : RankRow → RankRow → Bool) (row : RankRow) (values : List Value) (hashed : Hashed) → HasValues catalogue block left right (Hash hashed)
-      → values ≡ right_values catalogue block left right row.ids.rows
-      → hash_right matches row values hashed ≡ hashed_with catalogue block left right (fed_right matches row (joined_of hashed))
-  hash-right-is matches row values hashed has is = λ i. record {
-    ripple = (fed_right matches row (joined_of hashed)).ripple;
-    lefts = lefts_in (has i);
-    rights = with-more (right_values catalogue block left right) hashed.rights row values (ap rights_in has) is i;
-  }
 
   module _ (formed : IsBlock catalogue block) (apart : AreDisjoint left right) where
     -- a row that matches one of the other side has its join values

@@ -86,16 +86,6 @@ module _ {catalogue : Catalogue} {query : Query} {number : ℕ} {tree : PlanTree
   abbrev whole : World
   whole = world_of catalogue old.answer query
 
-  pub drops_turn-alive : head.core.spent ≡ false
-  drops_turn-alive = drops-alive catalogue query number tree a old can (asked_in child) head.core now turn.between
-
-  pub drops_turn-small : head.tally.gave < 2 ^ 128 - 1
-  drops_turn-small =
-      let more = can.more in
-      let few = can.few in
-      let gave = turn.gave_is in
-      omega arith
-
   pub drops_turn-can : CanAsk catalogue now.answer query (number_in child) (tree_in child) (asked_in child)
   drops_turn-can =
       subst (λ n. CanAsk catalogue now.answer query n (tree_in child) (asked_in child)) (sym turn.number_is)
@@ -168,14 +158,6 @@ module _ {catalogue : Catalogue} {query : Query} {number : ℕ} {tree : PlanTree
 
     pub drops_turn-puts : CanPutOut catalogue query row
     drops_turn-puts = drops-puts catalogue query number tree a old can (asked_in child) head.core now turn.between row asked below
-
-    -- fewer rows are left
-    pub drops_turn-nearer : (next : Node) → NodeAfter (world_of catalogue now.answer query) (number_in child) (tree_in child) (asked_in child) next
-        → suc (length (list_of (world_of catalogue old.answer query) number tree)) - asked_in next < suc (length (list_of (world_of catalogue old.answer query) number tree)) - asked_in child
-    drops_turn-nearer next left =
-        let is = left.asked_is in
-        let inside = drops-inside catalogue query number tree a old can (asked_in child) head.core now turn.between in
-        omega arith
 
     -- there was no memory for the row
     pub drops_turn-stopped : (After : Type 0) (result : Result (Option RankRow) ExecFault) → result ≡ Err Memory

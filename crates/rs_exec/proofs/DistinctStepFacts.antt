@@ -278,12 +278,6 @@ module _ (catalogue : Catalogue) (query : Query) (number : ℕ) (child : PlanTre
     less : asks < asked_of (world_of catalogue old.answer query) number (Distinct child) (suc a) Left
     less = asks-less world number child can.formed can.part can.weights asks a inside drops.counted
 
-    pub drops-alive : core.spent ≡ false
-    drops-alive = ap (λ (k : Kept). k.spent) drops.core_stands.state
-
-    pub drops-inside : asks ≤ length (list_of (world_of catalogue old.answer query) number child)
-    drops-inside = inside
-
     -- its input can be asked once more
     pub drops-can : CanAsk catalogue now.answer query number child asks
     drops-can =

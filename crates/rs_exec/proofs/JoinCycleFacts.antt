@@ -181,9 +181,6 @@ module _ {catalogue : Catalogue} {query : Query} {number : ℕ} {core : JoinCore
       subst₂ (λ b m. AllByRecursion (λ (row : RankRow). is_side catalogue (block_in query b) m row ≡ true) (joined_in head.core).rights) (sym turn.block_is) (sym turn.right_is)
       (between-rights catalogue query number left right a old can (asked_in on_left) (asked_in on_right) (joined_in head.core) now turn.between)
 
-  pub turn-alive : (joined_in head.core).ripple.spent ≡ false
-  turn-alive = ap (λ (r : Ripple). r.spent) turn.between.keeps.core.state
-
   -- the left side is asked once more
   module _ (need : ask_of (joined_in head.core).ripple ≡ NeedLeft) where
     pub turn-left_can : CanAsk catalogue now.answer query (number_in on_left) (tree_in on_left) (asked_in on_left)
@@ -289,10 +286,6 @@ module _ {catalogue : Catalogue} {query : Query} {number : ℕ} {core : JoinCore
       turn-left_stopped After result is =
           ask-failed whole number (NestedJoin left right) a After result Memory old asked is
           (left-stopped catalogue query number left right a old can (asked_in on_left) (asked_in on_right) (joined_in head.core) now turn.between need (Some row) asked left-below)
-
-    -- its end is told
-    pub turn-left_ends : CanEnd NeedLeft (joined_in head.core).ripple
-    turn-left_ends = record { alive = turn-alive; need = need }
 
     pub turn-left_ended : (got : Option RankRow) → got ≡ None → (asked : ScorerState) (fed : JoinNode) (next : Node) → fed ≡ record head { core = core_with head.core (left_ended (joined_in head.core).ripple) }
         → Inquires Memory (next_row (world_of catalogue now.answer query) (number_in on_left) (tree_in on_left) (asked_in on_left)) (Ok got) now asked
@@ -413,10 +406,6 @@ module _ {catalogue : Catalogue} {query : Query} {number : ℕ} {core : JoinCore
       turn-right_stopped After result is =
           ask-failed whole number (NestedJoin left right) a After result Memory old asked is
           (right-stopped catalogue query number left right a old can (asked_in on_left) (asked_in on_right) (joined_in head.core) now turn.between need (Some row) asked right-below)
-
-    -- its end is told
-    pub turn-right_ends : CanEnd NeedRight (joined_in head.core).ripple
-    turn-right_ends = record { alive = turn-alive; need = need }
 
     pub turn-right_ended : (got : Option RankRow) → got ≡ None → (asked : ScorerState) (fed : JoinNode) (next : Node) → fed ≡ record head { core = core_with head.core (right_ended (joined_in head.core).ripple) }
         → Inquires Memory (next_row (world_of catalogue now.answer query) (number_in on_right) (tree_in on_right) (asked_in on_right)) (Ok got) now asked
