@@ -16,33 +16,6 @@ use Rattle.rs_statement.proofs.RanFacts.{HasDone-files, Ran-all, Ran-no_memory, 
 pub fault-at : {A B : Type 0} (f g : Fault) → ◌≡◌ {A = Result A Fault} (Err f) (Err g) → ◌≡◌ {A = Result B Fault} (Err f) (Err g)
 fault-at f g e = ap Err (let same : f ≡ g = cc in same)
 
--- a fault of the fetch, or of what it gives, goes on
-pub FetchesFile-err : {A B : Type 0} (file : List ℕ) (fault : Fault) (gives : Option (List ℕ) → Result A Fault → Type 0) (more : Option (List ℕ) → Result B Fault → Type 0) (old new : Outside FilesTold)
-    → ((there : Option (List ℕ)) → gives there (Err fault) → more there (Err fault)) → FetchesFile file (Err fault) gives old new → FetchesFile file (Err fault) more old new
-FetchesFile-err {A} {B} file fault gives more old new turn f = record { there = f.there; is_told = f.is_told; does = go f.does; keeps = f.keeps } where
-  go : (NotFetched {A = A} (Err fault) old new ⊎ FetchFails {A = A} file (Err fault) old new) ⊎ Fetched file (gives f.there) (Err fault) old new
-      → (NotFetched {A = B} (Err fault) old new ⊎ FetchFails {A = B} file (Err fault) old new) ⊎ Fetched file (more f.there) (Err fault) old new
-  go (inl (inl nothing)) = inl (inl (record { same = nothing.same; memory = fault-at fault Memory nothing.memory }))
-  go (inl (inr failed)) = inl (inr (record {
-    fetched = failed.fetched;
-    faulted = failed.faulted;
-    answers = elim failed.answers [ inl e ↦ inl (fault-at fault (Read file Failed) e) | inr e ↦ inr (fault-at fault Memory e) ];
-  }))
-  go (inr fetched) = inr (record {
-    fetched = fetched.fetched;
-    answers = elim fetched.answers [ inl g ↦ inl (turn f.there g) | inr e ↦ inr (fault-at fault Memory e) ];
-  })
-
--- what is made of what was fetched, or no memory for it
-pub FetchesFile-ok : {A B : Type 0} (file : List ℕ) (a : A) (result : Result B Fault) (gives : Option (List ℕ) → Result A Fault → Type 0) (more : Option (List ℕ) → Result B Fault → Type 0) (old new : Outside FilesTold)
-    → ((there : Option (List ℕ)) → gives there (Ok a) → more there result ⊎ (result ≡ Err Memory)) → FetchesFile file (Ok a) gives old new → FetchesFile file result more old new
-FetchesFile-ok {A} {B} file a result gives more old new turn f = record { there = f.there; is_told = f.is_told; does = go f.does; keeps = f.keeps } where
-  go : (NotFetched (Ok a) old new ⊎ FetchFails file (Ok a) old new) ⊎ Fetched file (gives f.there) (Ok a) old new
-      → (NotFetched result old new ⊎ FetchFails file result old new) ⊎ Fetched file (more f.there) result old new
-  go (inl (inl nothing)) = absurd (let e = nothing.memory in cc)
-  go (inl (inr failed)) = absurd (elim failed.answers [ inl e ↦ cc | inr e ↦ cc ])
-  go (inr fetched) = inr (record { fetched = fetched.fetched; answers = elim fetched.answers [ inl g ↦ turn f.there g | inr e ↦ absurd cc ] })
-
 -- a file that was fetched, and what it gives
 pub record IsFetched {A : Type 0} (file : List ℕ) (a : A) (gives : Result A Fault → Type 0) (old new : World) : Type 0 where
   pub has : HasDone (Fetch file ∷ []) old new

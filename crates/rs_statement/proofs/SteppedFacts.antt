@@ -11,17 +11,8 @@ use Rattle.rs_statement.specs.Sequence.{Step, lines_step, still}
 use Rattle.rs_statement.specs.World.{World}
 use Rattle.rs_statement.proofs.RanFacts.{HasDone-none, Ran-all, Ran-first}
 
--- the fault of an outcome, if it is one
-abbrev pub fault_in : {S : Type 0} → Result S Fault → Option Fault
-fault_in (Ok next) = None
-fault_in (Err fault) = Some fault
-
 abbrev pub step_of : {S : Type 0} → List Event → Result S Fault → Step S
 step_of events outcome = record { events = events; outcome = outcome }
-
-fault-run_of : {S : Type 0} (events : List Event) (outcome : Result S Fault) → (run_of (step_of events outcome)).fault ≡ fault_in outcome
-fault-run_of events (Ok next) = refl
-fault-run_of events (Err fault) = refl
 
 pub events-run_of : {S : Type 0} (events : List Event) (outcome : Result S Fault) → (run_of (step_of events outcome)).events ≡ events
 events-run_of events (Ok next) = refl
