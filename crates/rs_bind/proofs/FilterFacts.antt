@@ -37,21 +37,6 @@ few_parts-fit parts rest e =
 pub few_parts-full : (parts : List Expression) (fault : BindFault) → option_map one_too_many (slice_get parts 32) ≡ Some fault → few_parts parts ≡ Err fault
 few_parts-full parts fault e = refusal-at 32 parts fault e
 
--- the part that is one too many stands in the left part of an expression, or in the right one
-pub too_many-left : (left right : List Expression) (room : ℕ) (fault : BindFault) → option_map one_too_many (slice_get left room) ≡ Some fault
-    → option_map one_too_many (slice_get (left ++ right) room) ≡ Some fault
-too_many-left [] right room fault e = cc
-too_many-left (x ∷ left) right zero fault e = e
-too_many-left (x ∷ left) right (suc room) fault e = too_many-left left right room fault e
-
-pub too_many-right : (left right : List Expression) (rest room : ℕ) (fault : BindFault) → length left + rest ≡ room
-    → option_map one_too_many (slice_get right rest) ≡ Some fault → option_map one_too_many (slice_get (left ++ right) room) ≡ Some fault
-too_many-right [] right rest room fault split e =
-    let same : rest ≡ room = omega arith in
-    subst (λ (n : ℕ). option_map one_too_many (slice_get right n) ≡ Some fault) same e
-too_many-right (x ∷ left) right rest zero fault split e = absurd (omega arith)
-too_many-right (x ∷ left) right rest (suc room) fault split e = too_many-right left right rest room fault (omega arith) e
-
 -- the conjuncts of a condition behind those that were made
 module _ (sources : List Source) (made : List ConjunctDef) where
   abbrev pub with_parts : List Expression → Result (List ConjunctDef) BindFault

@@ -244,10 +244,6 @@ limit-refused (Some limit) fault h = elim (Err-steps (number_in 0 most_rows limi
 limit-is_refused : (written : Option (ℤ × Span)) (fault : BindFault) → RefusedLimit written fault → bound_limit written ≡ Err fault
 limit-is_refused written fault (outside n at out) = ap (λ r. r >>= λ k. well (Some k)) (outside-is 0 most_rows (n, at) out)
 
--- the terms of a set query are typed over the right block where they are over the left one
-same-kinds : (a b : Found) → is_kind a.1 (Some b.1) ≡ true → b.1 ≡ a.1
-same-kinds a b h = same-kind a.1 b.1 h
-
 agree-called : (name : List ℕ) (names : List (List ℕ)) (left right : List Found) → agree left right ≡ true
     → agree (called name names left) (called name names right) ≡ true
 agree-called name [] left right h = refl

@@ -32,7 +32,7 @@ const MOST_CONJUNCTS: usize = 32;
 /// The conjuncts of the condition of a block, none where it has no condition. The rules are looked at in this order: those
 /// of the condition, its parts first; that it is a truth value (`WrongKind`); and that AND joins at most 32 parts at its
 /// top (`LimitOf` for the 33rd).
-pub fn bind_filter(
+pub(crate) fn bind_filter(
     alloc: Global,
     sources: &Sources,
     filter: &Option<Node>,

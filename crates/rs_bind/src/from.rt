@@ -16,11 +16,11 @@ use rs_value::{List, Text};
 use std::alloc::Global;
 
 /// The most FROM entries of a block.
-pub const MOST_ENTRIES: usize = 6;
+pub(crate) const MOST_ENTRIES: usize = 6;
 
 /// The tables of FROM by their numbers, with their aliases. The rules are looked at for one entry after the other, from left
 /// to right: that there are no more than six (`LimitOf`), its table (`NoTable`), and its alias (`NameTwice`).
-pub fn bind_entries(
+pub(crate) fn bind_entries(
     alloc: Global,
     catalog: &Catalog,
     from: &[(Name, Option<Name>)],

@@ -19,7 +19,7 @@ const MOST_ITEMS: usize = MOST_ENTRIES * MOST_COLUMNS;
 /// The output columns of a block, FROM entries counted from 1 and columns from 0, with their kinds. The rules are looked at
 /// for one column after the other, from left to right: that there are no more than 384 (`LimitOf`), and that it is a column
 /// (`NoColumn`, `Ambiguous`). `*` stands for all columns of all entries.
-pub fn bind_items(
+pub(crate) fn bind_items(
     alloc: Global,
     sources: &Sources,
     items: &Items,

@@ -14,7 +14,7 @@ use std::alloc::Global;
 /// The arguments of a predicate with parameters of these kinds, in a term at this place. The rules are looked at in this
 /// order: their number (`WrongCount`); each of them, from left to right (what `columns` says of a column, then `WrongKind`);
 /// and that one of them is a column (`ConstantTerm`).
-pub fn term_args<C: Columns>(
+pub(crate) fn term_args<C: Columns>(
     alloc: Global,
     columns: &C,
     params: &[Kind],

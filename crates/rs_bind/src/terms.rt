@@ -32,7 +32,7 @@ const MOST_WEIGHT: u32 = 1_000_000;
 /// The terms of ORDER BY, at most eight, over what their columns stand for. At each, from left to right, the rules are
 /// looked at in this order: its number (`LimitOf` for the ninth); its weight (`LimitOf`); its predicate (`NoPredicate`); its
 /// arguments; and where output columns are needed, that each of its columns is one (`DistinctNeedsOutput`).
-pub fn bind_terms<C: Columns>(
+pub(crate) fn bind_terms<C: Columns>(
     alloc: Global,
     catalog: &Catalog,
     columns: &C,

@@ -33,7 +33,7 @@ pub struct Unranked {
 
 /// A block without the terms. The rules are looked at in this order: those of the FROM entries from left to right, of the
 /// condition, and of the output columns from left to right.
-pub fn bind_unranked(
+pub(crate) fn bind_unranked(
     alloc: Global,
     catalog: &Catalog,
     block: &BlockSyn,
@@ -61,7 +61,7 @@ pub fn bind_unranked(
 }
 
 /// The block of these terms.
-pub fn with_terms(alloc: Global, block: Unranked, terms: List<Term>) -> Result<Block, Memory>
+pub(crate) fn with_terms(alloc: Global, block: Unranked, terms: List<Term>) -> Result<Block, Memory>
     ensures { IfOk result (λ made. made ≡ with_terms block terms) }
 {
     match columns_of(alloc, block.items.items()) {
@@ -92,7 +92,7 @@ fn columns_of(alloc: Global, items: &[((u8, u8), Kind)]) -> Result<Vec<(u8, u8)>
 }
 
 /// The output columns, where DISTINCT needs them.
-pub fn needed_by(block: &Unranked) -> Option<&[((u8, u8), Kind)]>
+pub(crate) fn needed_by(block: &Unranked) -> Option<&[((u8, u8), Kind)]>
     ensures { option_copied result ≡ needed_by block.now }
 {
     if block.distinct {
@@ -103,7 +103,7 @@ pub fn needed_by(block: &Unranked) -> Option<&[((u8, u8), Kind)]>
 }
 
 /// The names of the output columns of a block: those of the columns of its tables.
-pub fn names_of(alloc: Global, catalog: &Catalog, block: &Unranked) -> Result<Vec<Text>, Memory>
+pub(crate) fn names_of(alloc: Global, catalog: &Catalog, block: &Unranked) -> Result<Vec<Text>, Memory>
     requires tables { AllByRecursion (λ entry. entry.0 < length catalog.now.tables) block.now.from }
     requires items { AllByRecursion (IsItemOf (sources_of catalog.now block.now.from)) block.now.items }
     ensures { IfOk result (λ names. names.items ≡ output_names catalog.now block.now) }
@@ -137,7 +137,7 @@ pub fn agree(left: &[((u8, u8), Kind)], right: &[((u8, u8), Kind)]) -> bool
 }
 
 /// The place of the first output column, or of `*`.
-pub fn first_item(items: &Items) -> Span
+pub(crate) fn first_item(items: &Items) -> Span
     ensures { result ≡ first_item items.now }
 {
     match items {

@@ -24,17 +24,6 @@ module _ (tables : List (List ℕ × Relation)) (predicates : List (List ℕ × 
   pub names_of_tables : names_of Table (catalogue_of tables predicates indexes) ≡ keys_of tables
   names_of_tables = map-map (λ t. t.name) (λ t. record { name = t.0; table = t.1 }) tables
 
-  -- no list has more names than it may, or two equal ones
-  pub names-few : IsInside tables predicates indexes → (what : What) → length (names_of what (catalogue_of tables predicates indexes)) ≤ most_of what
-  names-few inside Table = let few = inside.few_tables in omega (arith, few, ap length names_of_tables, length-keys tables)
-  names-few inside Predicate = let few = inside.few_predicates in omega (arith, few, ap length inside.predicate_keys, length-keys predicates)
-  names-few inside Index = let few = inside.few_indexes in omega (arith, few, ap length inside.index_keys, length-keys indexes)
-
-  pub names-differ : IsInside tables predicates indexes → (what : What) → NamesDiffer (names_of what (catalogue_of tables predicates indexes))
-  names-differ inside Table = subst NamesDiffer (sym names_of_tables) inside.tables_differ
-  names-differ inside Predicate = subst NamesDiffer inside.predicate_keys inside.predicates_differ
-  names-differ inside Index = subst NamesDiffer inside.index_keys inside.indexes_differ
-
   -- a table, and an index, at its place
   pub table_at : (n : ℕ) (table : Relation) → slice_get (values_of tables) n ≡ Some table → option_map (λ t. t.table) (slice_get (catalogue_of tables predicates indexes).tables n) ≡ Some table
   table_at n table at =

@@ -40,10 +40,6 @@ module _ (answer : List Value → ℤ) (request : List Value → Request IndexFa
     pub made : Made (calls_of (map request (take i rows))) old new
     pub keeps : KeepsScorer old new
 
-  -- before the first row
-  pub Between-none : (scorer : ScorerState) → Between 0 [] scorer scorer
-  Between-none scorer = record { rest = rest-none answer max rows; made = Made-none scorer; keeps = KeepsScorer-refl scorer }
-
   -- the rows up to a place, with the one behind
   take-row : (i : ℕ) → i < length rows → take (i + 1) rows ≡ take i rows ++ row_at rows (i + 1) ∷ []
   take-row i within =

@@ -170,19 +170,6 @@ impl Catalog {
         &self.indexes[number as usize].def
     }
 
-    /// What holds of each list of every catalogue: it isn't over its limit, and each name stands at one place of it, which
-    /// is its number. The function computes nothing; it is called for its contract.
-    pub fn names_differ(&self)
-        ensures few { (what : Lists) → length (names_of what self.now) ≤ most_of what }
-        ensures found { (what : Lists) (number : ℕ) (name : List ℕ) → slice_get (names_of what self.now) number ≡ Some name
-            → number_named what name self.now ≡ Some number }
-        ensures differ { (what : Lists) (first second : ℕ) (name : List ℕ) → slice_get (names_of what self.now) first ≡ Some name
-            → slice_get (names_of what self.now) second ≡ Some name → first ≡ second }
-    {
-        // What holds inside is known where a field is named.
-        let _ = &self.tables;
-    }
-
     /// The number of the first index of this table and predicate and these arguments, where a column of FROM entry
     /// `entry` is read as that of entry 1. It takes no memory.
     pub fn index_for(&self, table: u8, predicate: u8, args: &[BoundArg], entry: u8) -> Option<u8>

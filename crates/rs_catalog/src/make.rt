@@ -14,7 +14,7 @@ use std::alloc::Global;
 
 /// The rows of a table by the score that a predicate gives them, the greatest first. The scorer is called once a row, in
 /// the order of the rows, up to the first fault.
-pub fn rank_rows<S: Scorer>(
+pub(crate) fn rank_rows<S: Scorer>(
     alloc: Global,
     table: &Table,
     predicate: &Predicate,

@@ -22,10 +22,6 @@ none_left : {A : Type 0} (first more : List A) → first ++ more ≡ [] → (fir
 none_left [] more e = (refl, e)
 none_left (a ∷ first) more e = cc
 
--- no call: the outcome is there at once
-pub Inquires-none : {A F : Type 0} (memory : F) (outcome : Result A F) (scorer : ScorerState) → Inquires memory (record { requests = []; outcome = outcome }) outcome scorer scorer
-Inquires-none memory outcome scorer = record { comes = inl (inl (record { made = Made-none scorer; gives = refl })); keeps = KeepsScorer-refl scorer }
-
 -- want of memory before any call
 pub Inquires-unasked : {A F : Type 0} (memory : F) (inquiry : Inquiry A F) (scorer : ScorerState) → (inquiry.requests ≡ [] → IsOk inquiry.outcome) → Inquires memory inquiry (Err memory) scorer scorer
 Inquires-unasked memory inquiry scorer good = record {
@@ -164,26 +160,3 @@ Inquires-begun {A} {B} {F} memory first whole fault old new begins inquires = re
   ];
   keeps = inquires.keeps;
 }
-
--- the first of two inquiries that follow each other is their beginning, where the second is good if it has no request
-pub Begins-and_then : {A B F : Type 0} (first : Inquiry A F) (next : A → Inquiry B F)
-    → ((a : A) → first.outcome ≡ Ok a → (next a).requests ≡ [] → IsOk (next a).outcome) → Begins first (and_then first next)
-Begins-and_then {A} {B} {F} first next good = go first.outcome good where
-  go : (outcome : Result A F) → ((a : A) → outcome ≡ Ok a → (next a).requests ≡ [] → IsOk (next a).outcome)
-      → Begins (record { requests = first.requests; outcome = outcome }) (and_then (record { requests = first.requests; outcome = outcome }) next)
-  go (Ok a) good = record { more = (next a).requests; split = refl; bad = λ fault e. cc; good = λ ok none. good a refl none }
-  go (Err fault) good = record { more = []; split = sym (append-nil first.requests); bad = λ other e. (refl, let same : fault ≡ other = cc in ap Err same); good = λ ok none. cc }
-
--- the second of two inquiries goes on behind the first
-pub Inquires-then : {A B F : Type 0} (memory : F) (first : Inquiry A F) (next : A → Inquiry B F) (a : A) (result : Result B F) (old middle new : ScorerState)
-    → Inquires memory first (Ok a) old middle → Inquires memory (next a) result middle new → Inquires memory (and_then first next) result old new
-Inquires-then memory first next a result old middle new one two =
-    let ends = InquiryEnds-ok memory first a old middle one in
-    subst (λ outcome. Inquires memory (and_then (record { requests = first.requests; outcome = outcome }) next) result old new) ends.gives
-    (Inquires-behind memory first.requests (next a) result old middle new ends.made one.keeps two)
-
--- the first of two inquiries ended both
-pub Inquires-ended : {A B F : Type 0} (memory : F) (first : Inquiry A F) (next : A → Inquiry B F) (fault : F) (old new : ScorerState)
-    → ((a : A) → first.outcome ≡ Ok a → (next a).requests ≡ [] → IsOk (next a).outcome)
-    → Inquires memory first (Err fault) old new → Inquires memory (and_then first next) (Err fault) old new
-Inquires-ended memory first next fault old new good inquires = Inquires-begun memory first (and_then first next) fault old new (Begins-and_then first next good) inquires

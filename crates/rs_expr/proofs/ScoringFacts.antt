@@ -35,11 +35,6 @@ Made-append first more old middle new one two = record {
   counted = two.counted ∙ ap (counted more) one.counted ∙ sym (counted-append first more old.calls);
 }
 
--- the count of calls rises by as many as are made, and stands still at 2^64 - 1
-pub counted-min : (calls : List Call) (count : ℕ) → count ≤ 2 ^ 64 - 1 → counted calls count ≡ min (count + length calls) (2 ^ 64 - 1)
-counted-min [] count few = omega arith
-counted-min (call ∷ rest) count few = counted-min rest (raised count) (omega arith) ∙ (let same : min (raised count + length rest) (2 ^ 64 - 1) ≡ min (count + length (call ∷ rest)) (2 ^ 64 - 1) = omega arith in same)
-
 -- a scorer that isn't called
 pub KeepsScorer-refl : (scorer : ScorerState) → KeepsScorer scorer scorer
 KeepsScorer-refl scorer = record { answer = refl; outside = Keeps-refl scorer.outside }

@@ -171,9 +171,3 @@ run-says (suc n) (Either p q) b =
 run-says (suc n) (Many p) b =
     chosen-holds (opens p b) _ _ (Says (Many p) b) (λ e. many-says p b (run n p b) (run n (Many p)) e (run-says n p b) (run-says n (Many p))) (λ e. reading.Read.stop p b e)
 run-says (suc n) (Use r) b = use-says r b (run n (rule r) b) (run-says n (rule r) b)
-
-pub run-read : (n : ℕ) (p : Part) (b : State) (t : Tree) (a : State) → run n p b ≡ Got t a → Read p b t a
-run-read n p b t a e = subst (Says p b) e (run-says n p b)
-
-pub run-fails : (n : ℕ) (p : Part) (b : State) (c : Cause) (a : State) → run n p b ≡ Stuck c a → Fails p b c a
-run-fails n p b c a e = subst (Says p b) e (run-says n p b)

@@ -39,10 +39,6 @@ tokens_from script at bytes tokens within is (spelling.Spells.takes _ n sort _ r
     (record { ordered = omega arith; within = omega (arith, size.1, left); found = rw (some, ← is) e })
     (tokens_from script (at + n) (drop n bytes) rest (omega (arith, size.1, left)) (ap (drop n) is ∙ drop-drop n at script) h)
 
--- this many of the tokens that a script spells are the first ones
-pub IsFront-take : (script : List ℕ) (n : ℕ) (tokens : List Token) → Spells 0 script tokens → IsFront script (take n tokens)
-IsFront-take script n tokens h = record { more = drop n tokens; spelled = rw (take-append-drop n tokens) h }
-
 -- all tokens of a script are its first ones
 pub IsFront-whole : (script : List ℕ) (tokens : List Token) → Spells 0 script tokens → IsFront script tokens
 IsFront-whole script tokens h = record { more = []; spelled = rw append-nil h }

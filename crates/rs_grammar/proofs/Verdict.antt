@@ -71,14 +71,6 @@ IsShallow-append left (l ∷ xs) ys h =
     let both : IsShallow (left_behind l.kind left) xs × IsShallow (left_after (left_behind l.kind left) xs) ys = IsShallow-append (left_behind l.kind left) xs ys h.1 in
     ((h.0, both.0), both.1)
 
-IsShallow-join : (left : ℕ) (xs ys : List Lexeme) → IsShallow left xs → IsShallow (left_after left xs) ys → IsShallow left (xs ++ ys)
-IsShallow-join left [] ys h k = k
-IsShallow-join left (l ∷ xs) ys h k = (h.0, IsShallow-join (left_behind l.kind left) xs ys h.1 k)
-
-left_after-append : (left : ℕ) (xs ys : List Lexeme) → left_after left (xs ++ ys) ≡ left_after (left_after left xs) ys
-left_after-append left [] ys = refl
-left_after-append left (l ∷ xs) ys = left_after-append (left_behind l.kind left) xs ys
-
 -- a token that is one too many is counted, and none is left
 is_too_deep-parts : (c : Bool) (left : ℕ) → (c && (left == 0)) ≡ true → (c ≡ true) × (left ≡ 0)
 is_too_deep-parts true left e = (refl, eqb-true left 0 e)
@@ -99,39 +91,6 @@ IsShallow-full front token behind shallow counts full =
     let fits : (is_counted token && (left_after most_deep front == 0)) ≡ false = parts.1.0 in
     let no : (true && (0 == 0)) ≡ false = rw (counts, none) at fits in
     cc
-
--- so no token is one too many where all are within the limit
-pub IsShallow-none : (ls : List Lexeme) (at : ℕ) → IsShallow most_deep ls → IsTooDeep ls at → ⊥
-IsShallow-none ls at shallow x =
-    let is : ls ≡ take at ls ++ x.token ∷ x.behind = sym (take-append-drop at ls) ∙ ap (λ xs. take at ls ++ xs) x.here in
-    IsShallow-full (take at ls) x.token x.behind (subst (IsShallow most_deep) is shallow) x.counts x.full
-
--- no token that counts stands behind 256 that do in one statement
-abbrev pub IsWithinDepth : List Lexeme → Type 0
-IsWithinDepth ls = (front : List Lexeme) (token : Lexeme) (behind : List Lexeme) → ls ≡ front ++ token ∷ behind → is_counted token ≡ true → tally front ≡ most_deep → ⊥
-
-IsShallow-more : (front ls : List Lexeme) → IsShallow most_deep front → IsWithinDepth (front ++ ls) → IsShallow (left_after most_deep front) ls
-IsShallow-more front [] shallow limit = tt
-IsShallow-more front (l ∷ ls) shallow limit = go (is_too_deep l.kind (left_after most_deep front)) refl (λ fits. IsShallow-more (front ++ l ∷ []) ls (joins fits) next)
-  where
-    joins : is_too_deep l.kind (left_after most_deep front) ≡ false → IsShallow most_deep (front ++ l ∷ [])
-    joins fits = IsShallow-join most_deep front (l ∷ []) shallow (fits, tt)
-
-    next : IsWithinDepth (front ++ l ∷ [] ++ ls)
-    next before token behind is = limit before token behind (sym (append_assoc front (l ∷ []) ls) ∙ is)
-
-    go : (deep : Bool) → is_too_deep l.kind (left_after most_deep front) ≡ deep → (is_too_deep l.kind (left_after most_deep front) ≡ false → IsShallow (left_after most_deep (front ++ l ∷ [])) ls)
-        → IsShallow (left_after most_deep front) (l ∷ ls)
-    go true e more =
-        let parts : (tally front ≡ most_deep) × (is_counted l ≡ true) = is_too_deep-tally front l shallow e in
-        absurd (limit front l ls refl parts.1 parts.0)
-    go false e more = (e, rw (left_after-append most_deep front (l ∷ [])) at more e)
-
-pub IsWithinDepth-shallow : (ls : List Lexeme) → IsWithinDepth ls → IsShallow most_deep ls
-IsWithinDepth-shallow ls limit = IsShallow-more [] ls tt limit
-
-pub IsShallow-within : (ls : List Lexeme) → IsShallow most_deep ls → IsWithinDepth ls
-IsShallow-within ls shallow front token behind is counts full = IsShallow-full front token behind (rw is at shallow) counts full
 
 -- the token at a place, and what stands in front of it and behind
 record Token (ls : List Lexeme) (at : ℕ) : Type 0 where
@@ -529,25 +488,6 @@ Read-none ls kept more b t a s h here whole =
 abbrev pub SomeRefusal : List Lexeme → Type 0
 SomeRefusal ls = (problem : Problem) × (at : ℕ) × IsRefused ls problem at
 
--- tokens with no problem aren't refused
-pub HasNoProblem-refused : (ls : List Lexeme) → HasNoProblem ls → SomeRefusal ls → ⊥
-HasNoProblem-refused ls none (problem, at, refused) = none problem at refused.stands
-
--- a reader that failed refuses
-pub Fails-refused : (ls kept more : List Lexeme) (b : State) (c : Cause) (a : State) → Begins ls kept more b → (more ≡ []) ⊎ IsCut kept more → Fails script b c a → SomeRefusal ls
-Fails-refused ls kept more b TooDeep a s given h =
-    let f : Front script b a = Fails-front script TooDeep b a h in
-    (places.TooDeep, length f.tokens, Fails-too_deep ls kept more b a s h f.tokens (sym s.rest ∙ f.split))
-Fails-refused ls kept more b Expected a s given h = go a.rest refl given
-  where
-    front : Front script b a
-    front = Fails-front script Expected b a h
-
-    go : (rest : List Lexeme) → a.rest ≡ rest → (more ≡ []) ⊎ IsCut kept more → SomeRefusal ls
-    go [] here (inl whole) = (Unexpected, length ls, Fails-end ls kept more b a s h here whole)
-    go [] here (inr cut) = (TooMany, length kept, Fails-too_many ls kept more b a s cut h here)
-    go (l ∷ behind) here given = (unexpected a.rest, length front.tokens, Fails-unexpected ls kept more b a s h front.tokens (sym s.rest ∙ front.split) l behind here)
-
 -- a reader that read a script refuses where a token stands behind it
 pub Read-refused : (ls kept more : List Lexeme) (b : State) (t : Tree) (a : State) → Begins ls kept more b → (more ≡ []) ⊎ IsCut kept more → Read script b t a
     → SomeRefusal ls ⊎ ((a.rest ≡ []) × (more ≡ []))
@@ -557,19 +497,3 @@ Read-refused ls kept more b t a s given h = go a.rest refl given
     go [] here (inl whole) = inr (here, whole)
     go [] here (inr cut) = inl (TooMany, length kept, Read-too_many ls kept more b t a s cut h here)
     go (l ∷ behind) here given = inl (unexpected a.rest, length (yield t), Read-unexpected ls kept more b t a s h l behind here)
-
--- a script within the limits isn't refused
-pub script-refused : (ls : List Lexeme) → IsScript ls → IsShallow most_deep ls → IsWithinStatements ls → SomeRefusal ls → ⊥
-script-refused ls is shallow few = HasNoProblem-refused ls (script-none ls is shallow few)
-
--- nor does the reader fail on tokens with no problem, nor stop before their end
-pub HasNoProblem-fails : (ls kept more : List Lexeme) (b : State) (c : Cause) (a : State) → Begins ls kept more b → (more ≡ []) ⊎ IsCut kept more → HasNoProblem ls → Fails script b c a → ⊥
-HasNoProblem-fails ls kept more b c a s given none h = HasNoProblem-refused ls none (Fails-refused ls kept more b c a s given h)
-
-pub HasNoProblem-whole : (ls kept more : List Lexeme) (b : State) (t : Tree) (a : State) → Begins ls kept more b → (more ≡ []) ⊎ IsCut kept more → HasNoProblem ls → Read script b t a
-    → (a.rest ≡ []) × (more ≡ [])
-HasNoProblem-whole ls kept more b t a s given none h = go (Read-refused ls kept more b t a s given h)
-  where
-    go : SomeRefusal ls ⊎ ((a.rest ≡ []) × (more ≡ [])) → (a.rest ≡ []) × (more ≡ [])
-    go (inl refused) = absurd (HasNoProblem-refused ls none refused)
-    go (inr whole) = whole

@@ -111,14 +111,14 @@ fn kind_in(mut table: &[(&[u8], TokenKind)], word: &[u8]) -> TokenKind
 
 impl TokenKind {
     /// The kind of a word, in capitals or not.
-    pub fn of_word(word: &[u8]) -> TokenKind
+    pub(crate) fn of_word(word: &[u8]) -> TokenKind
         ensures { result ≡ kind_in words word.now }
     {
         kind_in(&WORDS, word)
     }
 
     /// The kind of a symbol.
-    pub fn of_symbol(symbol: &[u8]) -> TokenKind
+    pub(crate) fn of_symbol(symbol: &[u8]) -> TokenKind
         ensures { result ≡ kind_in symbols symbol.now }
     {
         kind_in(&SYMBOLS, symbol)

@@ -172,10 +172,6 @@ run-longest test (byte ∷ rest) (suc m) le e =
 pub run-first : (test : ℕ → Bool) (byte : ℕ) (rest : List ℕ) → test byte ≡ true → run_length test (byte ∷ rest) ≡ suc (run_length test rest)
 run-first test byte rest e = rw (take_while-cons, e) refl
 
--- digits, of which there is at least one
-are_digits-take : (byte : ℕ) (rest : List ℕ) (n : ℕ) → list_all is_digit (take (suc n) (byte ∷ rest)) ≡ true → are_digits (take (suc n) (byte ∷ rest)) ≡ true
-are_digits-take byte rest n e = e
-
 -- a symbol of one byte, as one of the list
 symbol_at : (byte c k : ℕ) → (byte == c) ≡ true → k < 16 → get_or symbols k (c ∷ []) ≡ c ∷ [] → Contains symbols (byte ∷ [])
 symbol_at byte c k e lt is = let same : byte ≡ c = eqb-true byte c e in rw same (k, lt, is)

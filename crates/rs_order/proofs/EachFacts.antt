@@ -46,14 +46,6 @@ each-filter P test (x ∷ xs) all = go (test x) (each-filter P test xs all.1)
     go true rest = (all.0, rest)
     go false rest = rest
 
--- the other way round, and back
-pub each-reverse : {X : Type 0} (P : X → Type 0) (xs : List X) → AllByRecursion P xs → AllByRecursion P (reverse xs)
-each-reverse P [] all = tt
-each-reverse P (x ∷ xs) all = rw (reverse-append (x ∷ []) xs) (each-push P (reverse xs) x (each-reverse P xs all.1) all.0)
-
-pub each-reversed : {X : Type 0} (P : X → Type 0) (xs : List X) → AllByRecursion P (reverse xs) → AllByRecursion P xs
-each-reversed P xs all = subst (AllByRecursion P) (reverse-reverse xs) (each-reverse P (reverse xs) all)
-
 -- what follows of each item
 pub each-weaker : {X : Type 0} (P Q : X → Type 0) → ((x : X) → P x → Q x) → (xs : List X) → AllByRecursion P xs → AllByRecursion Q xs
 each-weaker P Q follows [] all = tt

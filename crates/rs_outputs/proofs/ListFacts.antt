@@ -119,11 +119,6 @@ pub before-rest : {X K : Type 0} (cmp : K → K → Ordering) (key : X → K) (x
 before-rest cmp key x [] all = refl
 before-rest cmp key x (y ∷ rest) all = ap is_lt all.0
 
--- and the bar lies further on than its key
-pub further-rest : {X K : Type 0} (cmp : K → K → Ordering) (key : X → K) (x : X) (rest : List X) → AllByRecursion (Precedes cmp key x) rest → IsNoFurther cmp (Some (key x)) (bar_after key rest 0)
-further-rest cmp key x [] all = tt
-further-rest cmp key x (y ∷ rest) all = ap is_gt all.0
-
 -- none comes before a key that none precedes
 pub none-before : {X K : Type 0} (cmp : K → K → Ordering) (key : X → K) (k : K) (xs : List X) → ((x : X) → In x xs → is_lt (cmp (key x) k) ≡ false) → those_before cmp key (Some k) xs ≡ []
 none-before cmp key k xs late = filter-none (λ x. is_lt (cmp (key x) k)) xs late

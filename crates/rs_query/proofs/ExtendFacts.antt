@@ -232,15 +232,6 @@ module _ (catalogue : Catalogue) (block : Block) (is : IsBlock catalogue block) 
       (subst (IsPartialCombination catalogue block (suc n)) (sym is_longer)
       (IsPartialCombination-next n rows (row + 1) prefix within (omega arith) (subst (λ m. row + 1 ≤ size_of catalogue block m) (add-one n) most)))
 
-  -- what is found so far, and the combinations of one more row of the next entry
-  pub combinations_from-row : (n row : ℕ) (rows longer : List ℕ) (old found more : List (List ℕ)) → found ≡ old ++ flat_map (with_row catalogue block n rows) (numbers_to row) → longer ≡ set rows n (row + 1)
-      → more ≡ found ++ combinations_from catalogue block (n + 1) longer → more ≡ old ++ flat_map (with_row catalogue block n rows) (numbers_to (row + 1))
-  combinations_from-row n row rows longer old found more so_far is_longer one =
-      one
-      ∙ ap₂ (λ f l. f ++ combinations_from catalogue block (n + 1) l) so_far is_longer
-      ∙ flat_map_more (with_row catalogue block n rows) old (numbers_to row) (row + 1)
-      ∙ subst (λ m. old ++ flat_map (with_row catalogue block n rows) (numbers_to row ++ m ∷ []) ≡ old ++ flat_map (with_row catalogue block n rows) (numbers_to m)) (sym (add-one row)) refl
-
   -- of all its rows
   pub combinations_from-rows : (n size : ℕ) (rows : List ℕ) (old found : List (List ℕ)) → IsPartialCombination catalogue block n rows → n < length block.from → size ≡ size_of catalogue block (n + 1)
       → found ≡ old ++ flat_map (with_row catalogue block n rows) (numbers_to size) → found ≡ old ++ combinations_from catalogue block n rows
@@ -253,10 +244,6 @@ module _ (catalogue : Catalogue) (block : Block) (is : IsBlock catalogue block) 
   -- the rows that are chosen so far
   pub HasRows-prefix : (n : ℕ) (rows : List ℕ) → IsPartialCombination catalogue block n rows → HasRows catalogue block (2 ^ n - 1) rows
   HasRows-prefix n rows prefix = HasRows-choice catalogue block (2 ^ n - 1) rows is.most_entries prefix.choice
-
--- none is chosen at first
-pub IsPartialCombination-none : (catalogue : Catalogue) (block : Block) → IsPartialCombination catalogue block 0 (0 ∷ 0 ∷ 0 ∷ 0 ∷ 0 ∷ 0 ∷ [])
-IsPartialCombination-none catalogue block = record { most = omega arith; choice = (refl, (refl, (refl, (refl, (refl, (refl, tt)))))) }
 
 pub combinations_from-all : (catalogue : Catalogue) (block : Block) (rows : List ℕ) → combinations_from catalogue block 0 rows ≡ all_combinations catalogue block
 unfolding combinations_from extensions

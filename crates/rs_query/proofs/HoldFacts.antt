@@ -44,11 +44,3 @@ module _ (catalogue : Catalogue) (block : Block) (rows : List ℕ) where
       hold_from-step conjuncts all i conjunct within is
       ∙ ap (λ b. (cond b (conjunct_holds catalogue block rows conjunct) true) && hold_from conjuncts all (i + 1)) in_
       ∙ ap (λ b. b && hold_from conjuncts all (i + 1)) holds
-
-  -- one that is in it and doesn't hold decides
-  pub hold_from-fails : (conjuncts : ℕ) (all : List ConjunctDef) (i : ℕ) (conjunct : ConjunctDef) → i < length all → conjunct ≡ get_or all i conjunct
-      → eqb (conjuncts / 2 ^ i % 2) 1 ≡ true → conjunct_holds catalogue block rows conjunct ≡ false → hold_from conjuncts all i ≡ false
-  hold_from-fails conjuncts all i conjunct within is in_ fails =
-      hold_from-step conjuncts all i conjunct within is
-      ∙ ap (λ b. (cond b (conjunct_holds catalogue block rows conjunct) true) && hold_from conjuncts all (i + 1)) in_
-      ∙ ap (λ b. b && hold_from conjuncts all (i + 1)) fails

@@ -123,25 +123,7 @@ module _ {K V : Type 0} (cmp : K → K → Ordering) where
         (AllByRecursion-In (λ other. is_lt (cmp other.0 pair.0) ≡ false) rest most other behind)
         (AllByRecursion-In (λ other. is_eq (cmp other.0 pair.0) ≡ false) rest differs other behind)))
 
-    -- so it is where it stands first in the heap
-    pub sorted-top : (pair : K × V) (xs : List (K × V)) → 0 < length xs → pair ≡ get_or xs 0 pair → AreApart xs → IsUpperBound (by_falling_key cmp) pair xs → slice_get (sorted cmp key_of xs) 0 ≡ Some pair
-    sorted-top pair [] some top apart most = absurd (omega arith)
-    sorted-top pair (first ∷ rest) some top apart most =
-        ap (λ pairs. slice_get pairs 0) (sorted-first first (first ∷ rest) rest (IsPermutation-refl (first ∷ rest)) apart (subst (λ one. IsUpperBound (by_falling_key cmp) one rest) top most.1))
-        ∙ ap Some (sym top)
-
   -- a heap without a pair is a queue without one
   pub sorted-none : (pairs : List (K × V)) → length pairs ≡ 0 → sorted cmp key_of pairs ≡ []
   sorted-none [] none = refl
   sorted-none (pair ∷ rest) none = absurd (omega arith)
-
-  -- and has no first pair
-  pub sorted-no_top : (pairs : List (K × V)) → (0 < length pairs → false ≡ true) → sorted cmp key_of pairs ≡ []
-  sorted-no_top [] none = refl
-  sorted-no_top (pair ∷ rest) none = absurd (true≢false (sym (none (omega arith))))
-
-  pub sorted-empty : (pairs : List (K × V)) → IsTrue (length pairs == 0) ↔ (sorted cmp key_of pairs ≡ [])
-  sorted-empty pairs = (
-    λ test. sorted-none pairs (eqb-true (length pairs) 0 test),
-    λ same. eq-eqb (length pairs) 0 (sym (length-sorted pairs) ∙ ap length same),
-  )

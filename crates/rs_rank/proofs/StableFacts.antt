@@ -177,10 +177,6 @@ Falls-unique score (x ∷ xs) (y ∷ ys) xs_fall ys_fall same =
     let rest : xs ≡ ys = Falls-unique score xs ys xs_fall.1 ys_fall.1 (λ row. of_score-rest score (score row) x xs ys (same row ∙ ap (λ z. of_score score (score row) (z ∷ ys)) (sym first))) in
     cc
 
--- the stable order of rows whose scores fall is the rows as they stand
-pub stable-Falls : {T : Type 0} (score : T → ℕ) (rows : List T) → Falls score rows → stable score rows ≡ rows
-stable-Falls score rows falls = Falls-unique score (stable score rows) rows (Falls-stable score rows) falls (λ row. of_score-stable score (score row) rows)
-
 -- no later row of a list whose scores fall has a higher score
 pub Falls-at : {T : Type 0} (score : T → ℕ) (rows : List T) → Falls score rows → (i j : ℕ) (d : T) → i ≤ j → j < length rows → score (get_or rows j d) ≤ score (get_or rows i d)
 unfolding Falls

@@ -49,16 +49,6 @@ IsBeyond-last cmp key n [] z k beyond e = absurd beyond
 IsBeyond-last cmp key zero (x ∷ xs) z k beyond e = let same : key x ≡ k = cc in subst (λ l. cmp l (key z) ≡ Less) same beyond.0
 IsBeyond-last cmp key (suc n) (x ∷ xs) z k beyond e = IsBeyond-last cmp key n xs z k beyond.1 e
 
--- an item among the first n comes before the one at place n
-pub Climbs-before : {X K : Type 0} (cmp : K → K → Ordering) (key : X → K) (n : ℕ) (xs : List X) (x z : X) → Climbs cmp key xs → slice_get xs n ≡ Some x → In z (take n xs) → Precedes cmp key z x
-Climbs-before cmp key zero xs x z climbs e h = absurd h
-Climbs-before cmp key (suc n) [] x z climbs e h = absurd h
-Climbs-before cmp key (suc n) (y ∷ ys) x z climbs e h =
-    elim h [
-      | inl same ↦ subst (λ w. Precedes cmp key w x) (sym same) (AllByRecursion-In (Precedes cmp key y) ys climbs.0 x (In-slice_get n ys x e))
-      | inr k ↦ Climbs-before cmp key n ys x z climbs.1 e k
-    ]
-
 -- a list that has all of another one, and new items beside
 pub record Grows {X K : Type 0} (cmp : K → K → Ordering) (key : X → K) (old new : List X) (more : List X) : Type 0 where
   pub total : IsTotalOrder cmp

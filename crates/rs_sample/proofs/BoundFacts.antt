@@ -40,39 +40,6 @@ pub record AddedFrom (old new : List ℕ) (masks from worth most : ℕ) : Type 0
   pub below : (k : ℕ) → k < from → get_or new k 0 ≡ get_or old k 0
   pub done : (k : ℕ) → 2 * from ≤ k → k < 2 * masks → get_or new k 0 ≡ get_or old (k / 2) 0 + cond (eqb (k % 2) 1) worth most
 
-pub AddedFrom-more : (old bounds : List ℕ) (masks mask worth most : ℕ) → masks ≤ 128 → mask < masks → AddedFrom old bounds masks (suc mask) worth most
-    → AddedFrom old (set (set bounds (2 * mask + 1) (get_or bounds mask 0 + worth)) (2 * mask) (get_or bounds mask 0 + most)) masks mask worth most
-AddedFrom-more old bounds masks mask worth most few within added =
-    let bound = get_or bounds mask 0 in
-    let first = set bounds (2 * mask + 1) (bound + worth) in
-    let long : length first ≡ 256 = length-set bounds (2 * mask + 1) (bound + worth) ∙ added.count in
-    let full = added.count in
-    let same : bound ≡ get_or old mask 0 = added.below mask (omega arith) in
-    record {
-      count = length-set first (2 * mask) (bound + most) ∙ long;
-      below = λ k less. set-there first (2 * mask) k (bound + most) (inl (omega arith)) ∙ set-there bounds (2 * mask + 1) k (bound + worth) (inl (omega arith)) ∙ added.below k (omega arith);
-      done = λ k least inside. elim (cases_lt k (2 * mask + 1)) [
-        | inl even ↦
-            let is : 2 * mask ≡ k = omega arith in
-            let half : mask ≡ 2 * mask / 2 = omega arith in
-            let none : 2 * mask % 2 ≡ 0 = omega arith in
-            subst (λ j. get_or (set first (2 * mask) (bound + most)) j 0 ≡ get_or old (j / 2) 0 + cond (eqb (j % 2) 1) worth most) is
-            (set-here first (2 * mask) (bound + most) (omega arith) ∙ ap (λ n. n + most) (same ∙ ap (λ n. get_or old n 0) half)
-            ∙ ap (λ n. get_or old (2 * mask / 2) 0 + cond (eqb n 1) worth most) (sym none))
-        | inr behind ↦ elim (cases_lt k (2 * mask + 2)) [
-          | inl odd ↦
-              let is : 2 * mask + 1 ≡ k = omega arith in
-              let half : mask ≡ (2 * mask + 1) / 2 = omega arith in
-              let one : (2 * mask + 1) % 2 ≡ 1 = omega arith in
-              subst (λ j. get_or (set first (2 * mask) (bound + most)) j 0 ≡ get_or old (j / 2) 0 + cond (eqb (j % 2) 1) worth most) is
-              (set-there first (2 * mask) (2 * mask + 1) (bound + most) (inr (omega arith)) ∙ set-here bounds (2 * mask + 1) (bound + worth) (omega arith)
-              ∙ ap (λ n. n + worth) (same ∙ ap (λ n. get_or old n 0) half)
-              ∙ ap (λ n. get_or old ((2 * mask + 1) / 2) 0 + cond (eqb n 1) worth most) (sym one))
-          | inr beyond ↦ set-there first (2 * mask) k (bound + most) (inr (omega arith)) ∙ set-there bounds (2 * mask + 1) k (bound + worth) (inr (omega arith)) ∙ added.done k (omega arith) inside
-        ]
-      ];
-    }
-
 -- numbers with 0 behind them give what they give
 no-value : (terms n : ℕ) (weights : List ℕ) → sum_inside terms weights (padded n []) ≡ 0
 no-value terms zero [] = refl

@@ -75,10 +75,6 @@ module _ (mask : ℕ) (samples : List (List ℕ)) where
       ∙ ap (λ b. map (behind place) (flat_map (λ row. map (λ rows. row ∷ rows) later) (cond b (0 ∷ []) sample))) (sym (eq-eqb (mask / 2 ^ place % 2) 0 bit))
       ∙ sym (from-step place sample within is)
 
-  -- behind the last entry there is one choice
-  pub choices_from-last : length samples ≡ 6 → choices_from 6 ≡ (0 ∷ 0 ∷ 0 ∷ 0 ∷ 0 ∷ 0 ∷ []) ∷ []
-  choices_from-last six = ap (λ all. map (behind 6) (sampled_choices (mask / 2 ^ 6) all)) (drop_all 6 samples (omega arith))
-
   -- from the first entry on they are all
   map-same : (cs : List (List ℕ)) → map (behind 0) cs ≡ cs
   map-same [] = refl

@@ -19,9 +19,6 @@ module _ (catalogue : Catalogue) {X A : Type 0} (asks : X → List Question) (va
     pub asked : Asked catalogue (flat_map asks xs) old new
     pub values_are : values ≡ map (value old.answer) xs
 
-  pub EachAsked-none : (scorer : ScorerState) → EachAsked [] [] scorer scorer
-  EachAsked-none scorer = record { asked = Asked-none catalogue scorer; values_are = refl }
-
   module _ (xs : List X) (i : ℕ) (x : X) (values : List A) (old middle new : ScorerState) (within : i < length xs) (is : x ≡ get_or xs i x)
       (each : EachAsked (take i xs) values old middle) where
     -- one more item

@@ -100,9 +100,6 @@ module _ (n : ℕ) (sizes : List ℕ) (samples : List (List ℕ)) (some : 1 ≤ 
       let whole = most-power n some few in
       omega arith
 
-  pub choices-few : (mask : ℕ) → mask < 2 ^ n → length (sampled_choices mask samples) ≤ 65536
-  choices-few mask within = subst (λ k. k ≤ 65536) (sym (length-choices mask samples)) (product-small mask within)
-
   pub samples-small : AllByRecursion (λ (sample : List ℕ). length sample ≤ 256) samples
   samples-small = small (most_sampled n) samples sizes (most-few n some few) are
 

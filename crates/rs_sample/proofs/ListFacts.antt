@@ -48,12 +48,6 @@ slice-map f [] i x at = absurd (cc)
 slice-map f (y ∷ xs) zero x at = let same : y ≡ x = cc in ap (λ z. Some (f z)) same
 slice-map f (y ∷ xs) (suc i) x at = slice-map f xs i x at
 
--- two lists that functions make, item by item
-pub map-same-at : {X Y Z : Type 0} (f : X → Z) (g : Y → Z) (xs : List X) (ys : List Y) (i : ℕ) (x : X) (y : Y) → map f xs ≡ map g ys → slice_get xs i ≡ Some x → slice_get ys i ≡ Some y → f x ≡ g y
-map-same-at f g xs ys i x y same here there =
-    let both : Some (f x) ≡ Some (g y) = sym (slice-map f xs i x here) ∙ ap (λ zs. slice_get zs i) same ∙ slice-map g ys i y there in
-    cc
-
 -- an item that is there, with any default
 pub get_or-any : {X : Type 0} (xs : List X) (i : ℕ) (d e : X) → i < length xs → get_or xs i d ≡ get_or xs i e
 get_or-any [] i d e within = absurd (omega arith)

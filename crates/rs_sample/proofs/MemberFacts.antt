@@ -57,31 +57,6 @@ inside-others entries mask inside =
     eq-eqb (bit_and (entries / 2) (mask / 2)) (entries / 2)
     (sym (bit_and-others entries mask) ∙ ap (λ n. n / 2) (eqb-true (bit_and entries mask) entries inside))
 
--- the row of one entry, where it is cut to fewer entries
-cut-row : (entries mask : ℕ) (sample : List ℕ) (row : ℕ) → is_inside entries mask ≡ true → In row (rows_of (eqb (mask % 2) 0) sample)
-    → In (cond (eqb (entries % 2) 0) 0 row) (rows_of (eqb (entries % 2) 0) sample)
-cut-row entries mask sample row inside h = go (eqb (entries % 2) 0) refl where
-  go : (b : Bool) → eqb (entries % 2) 0 ≡ b → In (cond b 0 row) (rows_of b sample)
-  go true e = inl refl
-  go false e =
-      let odd : entries % 2 ≡ 1 = (let some = eqb-false (entries % 2) 0 e in omega arith) in
-      let one = inside-first entries mask inside odd in
-      subst (λ b. In row (rows_of b sample)) (let none : eqb (mask % 2) 0 ≡ false = ap (λ n. eqb n 0) one in none) h
-
--- a choice that is cut to fewer entries is one of them
-pub In-cut : (entries mask : ℕ) (samples : List (List ℕ)) (rows : List ℕ) → is_inside entries mask ≡ true → In rows (sampled_choices mask samples)
-    → In (rows_inside entries rows) (sampled_choices entries samples)
-In-cut entries mask [] rows inside h = elim h [ inl e ↦ inl (ap (rows_inside entries) e) | inr none ↦ absurd none ]
-In-cut entries mask (sample ∷ samples) rows inside h =
-    let made = In-flat_map-back (λ r. map (before r) (sampled_choices (mask / 2) samples)) rows (rows_of (eqb (mask % 2) 0) sample) h in
-    let image = In-map-back (before made.source) rows (sampled_choices (mask / 2) samples) made.made in
-    let first = cond (eqb (entries % 2) 0) 0 made.source in
-    subst (λ all. In (rows_inside entries all) (sampled_choices entries (sample ∷ samples))) (sym image.image)
-    (In-flat_map (λ r. map (before r) (sampled_choices (entries / 2) samples)) first (first ∷ rows_inside (entries / 2) image.source) (rows_of (eqb (entries % 2) 0) sample)
-    (cut-row entries mask sample made.source inside made.is_in)
-    (In-map (before first) (rows_inside (entries / 2) image.source) (sampled_choices (entries / 2) samples)
-    (In-cut (entries / 2) (mask / 2) samples image.source (inside-others entries mask inside) image.is_in)))
-
 -- how many choices there are
 length-rows : (numbers : List ℕ) (lists : List (List ℕ)) → length (flat_map (λ r. map (before r) lists) numbers) ≡ length numbers * length lists
 length-rows [] lists = omega arith

@@ -186,17 +186,6 @@ module _ (mask place : ℕ) (sizes places : List ℕ) (p : place < length sizes)
       let same = ap (λ n. cond (eqb n 0) 1 (get_or sizes place 0) * product_inside (mask / 2 ^ suc place) (drop (suc place) sizes)) bit in
       mul_comm (product_inside (mask / 2 ^ suc place) (drop (suc place) sizes)) (get_or sizes place 0) ∙ sym (step ∙ same)
 
--- where a row stands from a place on
-pub place-here : (sample : List ℕ) (place row : ℕ) → place < length sample → get_or sample place 0 ≡ row → place_in row (drop place sample) ≡ 0
-place-here sample place row within is =
-    ap (place_in row) (drop-cons sample place 0 within)
-    ∙ ap (λ b. cond b 0 (suc (place_in row (drop (suc place) sample)))) (eq-eqb (get_or sample place 0) row is)
-
-pub place-past : (sample : List ℕ) (place row : ℕ) → place < length sample → eqb (get_or sample place 0) row ≡ false → place_in row (drop place sample) ≡ suc (place_in row (drop (suc place) sample))
-place-past sample place row within apart =
-    ap (place_in row) (drop-cons sample place 0 within)
-    ∙ ap (λ b. cond b 0 (suc (place_in row (drop (suc place) sample)))) apart
-
 -- the places of rows, one by one
 pub length-places : (samples : List (List ℕ)) (rows : List ℕ) → length samples ≡ length rows → length (places_in samples rows) ≡ length samples
 length-places [] rows same = refl

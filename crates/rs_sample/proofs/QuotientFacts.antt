@@ -74,18 +74,6 @@ product-limit mask (number ∷ numbers) few =
     subst (λ n. cond (eqb (mask % 2) 0) 1 number * product_inside (mask / 2) numbers ≤ 131072 ^ n) (sym (ones_step mask))
     (one-limit (mask % 2) number (product_inside (mask / 2) numbers) (count_ones (mask / 2)) (omega arith) few.0 (product-limit (mask / 2) numbers few.1))
 
--- a part of the whole, scaled up, is at most the whole
-pub quotient-limit : (count rows all : ℕ) → 0 < all → count ≤ all → div_ceil (count * rows) all ≤ rows
-quotient-limit count rows all some few =
-    let times = div_ceil_times (count * rows) all some in
-    let part = mul-le count rows all rows few (omega arith) in
-    go (div_ceil (count * rows) all) times.1 part where
-      go : (quotient : ℕ) → quotient * all < count * rows + all → count * rows ≤ all * rows → quotient ≤ rows
-      go quotient less part = elim (cases_lt rows quotient) [
-        | inl above ↦ (let more = mul-le (suc rows) all quotient all (omega arith) (omega arith) in let wide : suc rows * all ≡ all * rows + all = (omega (arith, mul_comm rows all)) in absurd (omega arith))
-        | inr below ↦ omega arith
-      ]
-
 -- one entry
 pub ones-one : (k : ℕ) → count_ones (2 ^ k) ≡ 1
 ones-one zero = (let step = ones_step 1 in let none = ones_le_self 0 in omega arith)

@@ -27,9 +27,6 @@ module _ (weights : Weights) (worths : List ℕ) (cutoff : ℕ) where
     pub reached : (k : ℕ) → k < terms → get_or new k 0 ≡ get_or old k 0 + one_if k
     pub others : (k : ℕ) → terms ≤ k → get_or new k 0 ≡ get_or old k 0
 
-  pub CountedTo-none : (old : List ℕ) → CountedTo old old 0
-  CountedTo-none old = record { count = refl; reached = λ k less. absurd (omega (arith, less)); others = λ k least. refl }
-
   -- one more mask was counted
   pub CountedTo-more : (old new : List ℕ) (terms number : ℕ) → terms < length new → number ≡ get_or new terms 0 + one_if terms → CountedTo old new terms
       → CountedTo old (set new terms number) (terms + 1)

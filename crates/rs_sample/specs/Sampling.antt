@@ -27,13 +27,6 @@ use Rattle.rs_sample.specs.declared.fault.SampleFault.TheVariants.{Memory, Probe
 abbrev pub block_samples : Block → List ℕ → List ℕ → List (List ℕ) × List ℕ
 block_samples block sizes words = samples_from (length block.from) sizes words
 
--- the samples of the blocks of a query by a seed, block after block: no row takes more than one word
-abbrev pub samples_of : Query → View → ℕ → List (List (List ℕ))
-samples_of (One block limit) view seed = (block_samples block view.first (words_of seed (sum view.first))).0 ∷ []
-samples_of (Set op left right limit) view seed =
-    let first = block_samples left view.first (words_of seed (sum view.first + sum view.second)) in
-    first.0 ∷ (block_samples right view.second first.1).0 ∷ []
-
 -- the questions of a term: one for each choice among the samples of its entries
 abbrev pub term_questions : ℕ → Block → List (List ℕ) → Term → List Question
 term_questions number block samples term = map (λ rows. question_of number block rows term) (sampled_choices term.entries samples)

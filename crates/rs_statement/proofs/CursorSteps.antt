@@ -30,11 +30,6 @@ use Rattle.rs_events.proofs.InquirySteps.{TellFailedCalls, Stepped-asked}
 use Rattle.rs_statement.proofs.PlanSteps.{asks_after-more, gave-all, given-row, left-ended, left-next, over-ended}
 use Rattle.rs_statement.proofs.QuerySteps.{Probes-questions}
 
--- a new cursor is one that was asked 0 times
-pub at-started : (query : Query) (own tree : PlanTree) (started : Result CursorState value.Memory) → own ≡ tree → IfOk started (IsNew query own) → IfOk started (IsAt query tree 0)
-at-started query own tree (Ok cursor) is new = record { query_is = new.query_is; plan_is = new.plan_is ∙ is; asks_are = new.unasked }
-at-started query own tree (Err memory) is new = tt
-
 module _ (catalogue : Catalogue) (answer : Answering) (cursor : CursorState) where
   abbrev w : plan.World
   w = world_of catalogue answer cursor.query

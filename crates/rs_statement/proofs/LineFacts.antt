@@ -44,7 +44,3 @@ IsSpaced-some i rows text space within some made = record {
   more : numbers_of (take (i + 1) rows) ≡ numbers_of (take i rows) ++ get_or rows i 0 ∷ []
   more = ap numbers_of (take_more rows i 0 within) ∙ filter-append (λ row. not (row == 0)) (take i rows) (get_or rows i 0 ∷ [])
       ∙ ap (λ last. numbers_of (take i rows) ++ last) (numbers_of-one (get_or rows i 0) some)
-
--- all rows were told
-pub IsSpaced-all : (i : ℕ) (rows text space : List ℕ) → length rows ≤ i → IsSpaced (take i rows) text space → text ≡ spaced (numbers_of rows)
-IsSpaced-all i rows text space all made = made.text_is ∙ ap (λ rows. spaced (numbers_of rows)) (take_all i rows all)

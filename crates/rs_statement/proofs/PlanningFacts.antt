@@ -20,16 +20,6 @@ use Rattle.rs_enum.specs.QueryCards.{AreCards}
 use Rattle.rs_statement.specs.declared.fault.Fault.{Fault}
 use Rattle.rs_statement.specs.Planned.{cards_for}
 
--- cards that say what the sample says are cards of its query
-abbrev pub AreOfQuery : Type 0
-AreOfQuery = (answer : Answering) (catalogue : Catalogue) (query : Query) (view : View) (seed : ℕ) (cards : List BlockCards)
-    → AllSayTheSame cards (query_cards answer catalogue query view seed) → AreCards query cards
-
-pub own-cards : AreOfQuery → (answer : Answering) (catalogue : Catalogue) (seed : ℕ) (query : Query) (taken : Result Cards Fault)
-    → IfOk taken (λ cards. AllSayTheSame (cards_of cards) (cards_for answer catalogue seed query)) → IfOk taken (λ cards. AreCards query (cards_of cards))
-own-cards are answer catalogue seed query (Ok cards) same = are answer catalogue query (all_rows catalogue query) seed (cards_of cards) same
-own-cards are answer catalogue seed query (Err fault) same = tt
-
 -- the laws of the least plan
 abbrev pub OneLeast : Type 0
 OneLeast = (catalogue : Catalogue) (query : Query) (cards : List BlockCards) (a b : PlanTree) → IsLeast catalogue query cards a → IsLeast catalogue query cards b → a ≡ b

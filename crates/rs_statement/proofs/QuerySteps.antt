@@ -37,15 +37,3 @@ Gives-unbound bound why fault (inr e) told = inr (ap Err (told ∙ ap bind_fault
 -- EXPLAIN leaves the catalogue as it is, or the query isn't bound
 pub explained : (catalogue : Catalogue) (query : syntax.Query) (bound : Query) → Gives bind.Memory (bound_query catalogue query) (Ok bound) → explain_outcome catalogue query ≡ Ok catalogue
 explained catalogue query bound gives = ap (λ r. r >>= (λ bound. Ok catalogue)) (bound-ok (or_bind_fault (bound_query catalogue query)) bound (Gives-bound _ bound gives))
-
-pub unexplained : (catalogue : Catalogue) (query : syntax.Query) (why : BindFault) (fault : Fault) → Gives bind.Memory (bound_query catalogue query) (Err why) → fault ≡ bind_fault why
-    → (fault ≡ Memory) ⊎ (explain_outcome catalogue query ≡ Err fault)
-unexplained catalogue query why fault gives told = elim (Gives-unbound _ why fault gives told) [
-  | inl e ↦ inr (ap (λ r. r >>= (λ bound. Ok catalogue)) (sym e))
-  | inr e ↦ inl cc
-]
-
--- the name of a predicate of the catalogue
-pub name-at : (catalogue : Catalogue) (number : ℕ) (predicate : PredicateDef) (name : List ℕ) → slice_get catalogue.predicates number ≡ Some predicate → name ≡ predicate.name
-    → name ≡ (predicate_at catalogue number).name
-name-at catalogue number predicate name e n = n ∙ (rw e refl)

@@ -214,14 +214,6 @@ module _ (catalogue : Catalogue) (entries after : List (List ℕ × Held)) (name
   pub opened-ready : (kept : Held) → after ≡ entries ++ (name, kept) ∷ [] → asked_of kept ≡ 0 → with_cursor name (source_of kept) (state_of catalogue entries) ≡ state_of catalogue after
   opened-ready kept is none = sym (opened-last kept (record { name = name; source = source_of kept; asked = 0 }) is (λ i. record { name = name; source = source_of kept; asked = none i }))
 
--- the query of a DECLARE that can open its cursor is bound
-pub declared-bound : (state : State) (name : Name) (query : syntax.Query) (bound : Query) → Gives Memory (declared_query state name query) (Ok bound) → bound_query state.catalogue query ≡ Ok bound
-declared-bound state name query bound gives = go (bound_query state.catalogue query) (room_for_cursor name.text state.cursors) (bound-ok (declared_query state name query) bound gives) where
-  go : (r : Result Query BindFault) (room : Result (Unit {0}) Fault) → (or_bind_fault r >>= (λ b. room >>= (λ free. Ok b))) ≡ Ok bound → r ≡ Ok bound
-  go (Ok b) (Ok free) e = let same : b ≡ bound = cc in ap Ok same
-  go (Ok b) (Err fault) e = absurd cc
-  go (Err why) room e = absurd cc
-
 -- a DECLARE by a plan whose query is bound, and whose sample was taken
 module _ (answer : Answering) (seed : ℕ) (name : Name) (state : State) (query : syntax.Query) (bound : Query) (left : State) (old new : Environment)
     (gives : Gives Memory (declared_query state name query) (Ok bound)) (sampled : Stepped (λ step. step ≡ sample_step state.catalogue seed bound) state.catalogue (Ok tt) old new) where

@@ -51,17 +51,6 @@ module _ (w : plan.World) (tree : PlanTree) where
     go true over = ap (λ asks. n + asks) (none-over n (suc count) over ∙ sym (none-over n count over))
     go false more = ap (λ asks. n + asks) (some-more n count more) ∙ (let same : n + suc (next_asks w tree (suc n) count) ≡ suc n + next_asks w tree (suc n) count = omega arith in same)
 
-  -- behind one that gave no row none comes
-  wanted-ended : (n count : ℕ) → (next_of w tree n).outcome ≡ Ok None → wanted n (suc count) ≡ asked_step w.catalogue (suc n) (next_of w tree n)
-  wanted-ended n count none =
-      wanted-next n count ∙ ap (λ asks. then_step (asked_step w.catalogue (suc n) (next_of w tree n)) (asks_from w tree (asks_after w tree n) asks)) (none-over (asks_after w tree n) count (over-ended w tree n none))
-      ∙ then-still (asked_step w.catalogue (suc n) (next_of w tree n)) w.catalogue (ap (ask_outcome w.catalogue) none)
-
-  count-ended : (n count : ℕ) → (next_of w tree n).outcome ≡ Ok None → n + next_asks w tree n (suc count) ≡ asks_after w tree n
-  count-ended n count none =
-      let over = none-over (asks_after w tree n) count (over-ended w tree n none) in
-      count-next n count ∙ ap (λ asks. asks_after w tree n + asks) over ∙ (let same : asks_after w tree n + 0 ≡ asks_after w tree n = omega arith in same)
-
 module _ (catalogue : Catalogue) (answer : Answering) where
   -- what is wanted of a cursor, by its query, its plan and how often it was asked
   wanted-at : (cursor next : CursorState) (n count : ℕ) → IsAt cursor.query (plan_of cursor) n next

@@ -178,14 +178,6 @@ pub case_of-node : (w first others otherwise t end : Tree)
 unfolding case_of
 case_of-node w first others otherwise t end = refl
 
-pub cases-more : (to : ℕ) (otherwise : Expression) (t u : Tree) → cases to otherwise (More t u) ≡ Case (condition_of t) (result_of t) (cases to otherwise u) (span (starts_at t) to)
-unfolding cases
-cases-more to otherwise t u = refl
-
-pub cases-end : (to : ℕ) (otherwise : Expression) → cases to otherwise Nothing ≡ otherwise
-unfolding cases
-cases-end to otherwise = refl
-
 pub condition_of-node : (w t behind u : Tree) → condition_of (Node (Pair w (Pair t (Pair behind u)))) ≡ expr_of t
 unfolding condition_of
 condition_of-node w t behind u = refl

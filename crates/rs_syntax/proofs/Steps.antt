@@ -12,9 +12,6 @@ use Rattle.rs_syntax.specs.declared.parser.Fault.TheVariants.{Expected, TooDeep,
 pub read-both : {p q : Part} {t u : Tree} {b x a : State} → Read p b t x → Read q x u a → Read (Seq p q) b (Pair t u) a
 read-both {p = p} {q = q} {t = t} {u = u} {b = b} {x = x} {a = a} r s = reading.Read.both p q t u b x a r s
 
-pub read-empty : {b : State} → Read Empty b Nothing b
-read-empty {b = b} = reading.Read.empty b
-
 pub read-this : {p q : Part} {t : Tree} {b a : State} → opens p b ≡ true → Read p b t a → Read (Either p q) b (This t) a
 read-this {p = p} {q = q} {t = t} {b = b} {a = a} o r = reading.Read.this p q t b a o r
 

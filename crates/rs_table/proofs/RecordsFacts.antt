@@ -170,13 +170,3 @@ pub IsReading-new : (reader : ByteReader) (bytes : List ℕ) → reader_config r
 IsReading-new reader bytes config untrimmed named headers flexible known few =
     let shorter = length-strip_bom bytes in
     record { config = config; untrimmed = untrimmed; ready = inr (inr (named, headers)); flexible = flexible; bytes = strip_bom bytes; known = known; few = omega arith }
-
--- a read of bytes by a flexible reader fails for the reader underneath or for memory alone
-pub stops_reader-explained : (old new : ByteReader) (k : ErrorKind) → is_flexible old ≡ true
-    → ExplainsRead (λ (bytes : Bor (List ℕ)). Some bytes.now) old new false k → stops_reader k ≡ true
-stops_reader-explained old new (kind.Io e) flexible h = refl
-stops_reader-explained old new kind.OutOfMemory flexible h = refl
-stops_reader-explained old new (kind.UnequalLengths pos expected len) flexible h = cc (flexible, h.0)
-stops_reader-explained old new (kind.Utf8 pos err) flexible h = cc h.0
-stops_reader-explained old new (kind.Serialize why) flexible h = absurd h
-stops_reader-explained old new (kind.Deserialize pos err) flexible h = absurd h

@@ -28,12 +28,6 @@ pub each-then : {A : Type 0} (P Q : A → Type 0) → ((x : A) → P x → Q x) 
 each-then P Q step [] h = tt
 each-then P Q step (x ∷ xs) h = (step x h.0, each-then P Q step xs h.1)
 
--- what follows of each element of which two things hold
-pub each-with : {A : Type 0} (P Q R : A → Type 0) → ((x : A) → P x → Q x → R x) → (xs : List A) → AllByRecursion P xs → AllByRecursion Q xs
-    → AllByRecursion R xs
-each-with P Q R step [] h k = tt
-each-with P Q R step (x ∷ xs) h k = (step x h.0 k.0, each-with P Q R step xs h.1 k.1)
-
 -- what holds of each element that is made of others
 pub each-map : {A B : Type 0} (P : B → Type 0) (f : A → B) (xs : List A) → AllByRecursion (λ x. P (f x)) xs → AllByRecursion P (map f xs)
 each-map P f [] h = tt

@@ -29,7 +29,7 @@ pub fn argument(found: (u16, Kind)) -> Typed
 }
 
 /// What a node of one part is, where that part is typed.
-pub fn rule_of_one(alloc: Global, node: &Node, part: Typed) -> Result<Typed, BindFault>
+pub(crate) fn rule_of_one(alloc: Global, node: &Node, part: Typed) -> Result<Typed, BindFault>
     requires { length (parts_of (expression_of node.now)) ≡ 1 }
     ensures { (scope : Scope) → Gives BindFault.Memory (rule scope (expression_of node.now) (typed_of part ∷ [])) (result_map typed_of result) }
 {
@@ -42,7 +42,7 @@ pub fn rule_of_one(alloc: Global, node: &Node, part: Typed) -> Result<Typed, Bin
 }
 
 /// What a node of two parts is, where these are typed.
-pub fn rule_of_two(
+pub(crate) fn rule_of_two(
     alloc: Global,
     node: &Node,
     left: Typed,

@@ -1,4 +1,3 @@
-pub mod Equal
 pub mod OutsideFacts
 pub mod ResultFacts
 pub mod NumberFacts

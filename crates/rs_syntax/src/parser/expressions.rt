@@ -207,7 +207,7 @@ impl Parser {
 
     /// An expression, and a token of this kind behind it.
     #[cycle(expr)]
-    pub fn expr_before(&mut self, alloc: Global, kind: TokenKind) -> Result<Node, Fault>
+    pub(crate) fn expr_before(&mut self, alloc: Global, kind: TokenKind) -> Result<Node, Fault>
         ensures { Reads (Use expr ⨟ word kind) first_expr_of expression_of self.old self.new result }
     {
         let node = self.chain(alloc, Level::Or)?;

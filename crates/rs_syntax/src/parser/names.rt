@@ -13,7 +13,7 @@ use std::alloc::Global;
 
 impl Parser {
     /// A column: `name [ "." name ]`.
-    pub fn colref(&mut self) -> Result<ColRef, Fault>
+    pub(crate) fn colref(&mut self) -> Result<ColRef, Fault>
         ensures { Reads (Use colref) colref_of (λ c. c) self.old self.new result }
     {
         let first = self.name()?;
@@ -21,7 +21,7 @@ impl Parser {
     }
 
     /// What may stand behind a name that is a column or its alias: `[ "." name ]`.
-    pub fn qualified(&mut self, first: Name) -> Result<ColRef, Fault>
+    pub(crate) fn qualified(&mut self, first: Name) -> Result<ColRef, Fault>
         ensures { Reads (optional (word Dot ⨟ name_part)) (qualified first) (λ c. c) self.old self.new result }
     {
         if !self.at(TokenKind::Dot) {

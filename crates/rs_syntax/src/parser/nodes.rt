@@ -86,7 +86,7 @@ pub fn compare(alloc: Global, rel: Rel, left: Node, right: Node, at: Span) -> Re
 }
 
 /// The lesser one of two where the word is MIN, else the greater one.
-pub fn extreme(
+pub(crate) fn extreme(
     alloc: Global,
     word: TokenKind,
     first: Node,

@@ -32,7 +32,7 @@ pub enum Operator {
 
 impl Parser {
     /// Whether the next token is an operator of this level.
-    pub fn at_operator(&self, level: Level) -> bool
+    pub(crate) fn at_operator(&self, level: Level) -> bool
         ensures { result ≡ next_is (operators level) self.now.rest }
     {
         match level {
@@ -107,7 +107,7 @@ impl Parser {
     }
 }
 
-pub const COMPARISONS: [TokenKind; 6] = [
+pub(crate) const COMPARISONS: [TokenKind; 6] = [
     TokenKind::Equal,
     TokenKind::NotEqual,
     TokenKind::Less,

@@ -16,7 +16,7 @@ use rs_lex::Span;
 use rs_value::Text;
 
 /// The most tokens of a statement that count towards its depth.
-pub const MOST_DEEP: u32 = 256;
+pub(crate) const MOST_DEEP: u32 = 256;
 
 /// How many tokens that count towards the depth may still come behind a token of this kind, where this many may
 /// from it on; `None` where it is one too many.
@@ -44,7 +44,7 @@ impl Parser {
     }
 
     /// Whether the next token is of one of these kinds.
-    pub fn at_any(&self, kinds: &[TokenKind]) -> bool
+    pub(crate) fn at_any(&self, kinds: &[TokenKind]) -> bool
         ensures { result ≡ next_is kinds.now self.now.rest }
     {
         match self.reversed.last() {
@@ -54,7 +54,7 @@ impl Parser {
     }
 
     /// Whether the next token may be a name.
-    pub fn at_name(&self) -> bool
+    pub(crate) fn at_name(&self) -> bool
         ensures { result ≡ next_is names self.now.rest }
     {
         match self.reversed.last() {
@@ -64,7 +64,7 @@ impl Parser {
     }
 
     /// Whether the next token may be a name that is no function's.
-    pub fn at_plain_name(&self) -> bool
+    pub(crate) fn at_plain_name(&self) -> bool
         ensures { result ≡ next_is plain_names self.now.rest }
     {
         match self.reversed.last() {
@@ -81,7 +81,7 @@ impl Parser {
     }
 
     /// Whether no token is left.
-    pub fn is_done(&self) -> bool
+    pub(crate) fn is_done(&self) -> bool
         ensures { IsTrue result ↔ (self.now.rest ≡ []) }
     {
         self.reversed.is_empty()
@@ -130,7 +130,7 @@ impl Parser {
     }
 
     /// Takes a token of this kind, and says where it stands.
-    pub fn expect(&mut self, kind: TokenKind) -> Result<Span, Fault>
+    pub(crate) fn expect(&mut self, kind: TokenKind) -> Result<Span, Fault>
         ensures { Reads (word kind) leaf_span (λ at. at) self.old self.new result }
     {
         let accepted = self.at(kind);
@@ -139,7 +139,7 @@ impl Parser {
     }
 
     /// Takes a token of this kind if it stands there, and says whether it did.
-    pub fn accept(&mut self, kind: TokenKind) -> Result<bool, Fault>
+    pub(crate) fn accept(&mut self, kind: TokenKind) -> Result<bool, Fault>
         ensures { Reads (optional (word kind)) is_there (λ there. there) self.old self.new result }
     {
         if !self.at(kind) {
@@ -150,7 +150,7 @@ impl Parser {
     }
 
     /// Takes a token of one of these kinds.
-    pub fn any_of(&mut self, kinds: &[TokenKind]) -> Result<TokenKind, Fault>
+    pub(crate) fn any_of(&mut self, kinds: &[TokenKind]) -> Result<TokenKind, Fault>
         ensures { Reads (One kinds.now) kind_at (λ kind. kind) self.old self.new result }
     {
         let accepted = self.at_any(kinds);
@@ -167,7 +167,7 @@ impl Parser {
     }
 
     /// A name that is no function's.
-    pub fn plain_name(&mut self) -> Result<Name, Fault>
+    pub(crate) fn plain_name(&mut self) -> Result<Name, Fault>
         ensures { Reads (One plain_names) leaf_name (λ name. name) self.old self.new result }
     {
         let accepted = self.at_plain_name();
