@@ -14,7 +14,11 @@ use rs_value::Memory;
 use std::alloc::Global;
 
 /// The columns that an expression names, each once, by its first occurrence from left to right.
-pub(crate) fn named_columns(alloc: Global, sources: &Sources, node: &Node) -> Result<Vec<(u8, u8)>, Memory>
+pub(crate) fn named_columns(
+    alloc: Global,
+    sources: &Sources,
+    node: &Node,
+) -> Result<Vec<(u8, u8)>, Memory>
     ensures { IfOk result (λ made. made.items ≡ named_columns (sources_of sources.now.catalog.now sources.now.from.now) (expression_of node.now)) }
 {
     let mut columns = Vec::new(alloc);

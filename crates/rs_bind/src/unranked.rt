@@ -103,7 +103,11 @@ pub(crate) fn needed_by(block: &Unranked) -> Option<&[((u8, u8), Kind)]>
 }
 
 /// The names of the output columns of a block: those of the columns of its tables.
-pub(crate) fn names_of(alloc: Global, catalog: &Catalog, block: &Unranked) -> Result<Vec<Text>, Memory>
+pub(crate) fn names_of(
+    alloc: Global,
+    catalog: &Catalog,
+    block: &Unranked,
+) -> Result<Vec<Text>, Memory>
     requires tables { AllByRecursion (λ entry. entry.0 < length catalog.now.tables) block.now.from }
     requires items { AllByRecursion (IsItemOf (sources_of catalog.now block.now.from)) block.now.items }
     ensures { IfOk result (λ names. names.items ≡ output_names catalog.now block.now) }

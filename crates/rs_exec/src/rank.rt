@@ -77,13 +77,7 @@ impl RankNode {
             (left_by result self.new) (S.state scorer.old) (S.state scorer.new) }
     {
         let block = context.block(row.ids.block);
-        let worth = block.ask(
-            context.catalog,
-            self.term,
-            &row.ids,
-            &mut self.args,
-            scorer,
-        )?;
+        let worth = block.ask(context.catalog, self.term, &row.ids, &mut self.args, scorer)?;
         self.calls += 1;
         self.core.feed(row, worth)?;
         Ok(())

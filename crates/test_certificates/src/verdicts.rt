@@ -9,6 +9,7 @@ use std::test::Fail;
 
 // The text and the score of each row that was drawn of a side.
 const LEFT: &[(&str, u32)] = &[("a", 9), ("b", 8)];
+
 const RIGHT: &[(&str, u32)] = &[("b", 9), ("a", 6)];
 
 fn side_of(alloc: Global, rows: &[(&str, u32)], ended: bool) -> Result<CertSide, Fail> {
@@ -34,7 +35,12 @@ fn pairs_of(alloc: Global, pairs: &[(u32, u32)]) -> Result<List<(u32, u32)>, Fai
     Ok(List::of(made))
 }
 
-fn assert_verdict(rt: &impl Abort, alloc: Global, cert: &Cert, wanted: Verdict) -> Result<(), Fail> {
+fn assert_verdict(
+    rt: &impl Abort,
+    alloc: Global,
+    cert: &Cert,
+    wanted: Verdict,
+) -> Result<(), Fail> {
     if cert.left.rows.len() < 10 && cert.right.rows.len() < 10 {
         assert_eq!(rt; check(alloc, cert)?, wanted);
         return Ok(());
@@ -79,7 +85,15 @@ fn looks_at_the_pairs(rt: HostRuntime) -> Result<(), Fail> {
     let alloc = rt.alloc();
     assert_check(&rt, alloc, 1, LEFT, RIGHT, &[(1, 1)], Verdict::Pairs)?;
     assert_check(&rt, alloc, 1, LEFT, RIGHT, &[(1, 2)], Verdict::Pairs)?;
-    assert_check(&rt, alloc, 1, LEFT, RIGHT, &[(2, 1), (1, 2)], Verdict::Pairs)?;
+    assert_check(
+        &rt,
+        alloc,
+        1,
+        LEFT,
+        RIGHT,
+        &[(2, 1), (1, 2)],
+        Verdict::Pairs,
+    )?;
     assert_check(&rt, alloc, 2, LEFT, RIGHT, &[(2, 1)], Verdict::Short)
 }
 
@@ -87,6 +101,22 @@ fn looks_at_the_pairs(rt: HostRuntime) -> Result<(), Fail> {
 fn looks_at_the_order_of_rows(rt: HostRuntime) -> Result<(), Fail> {
     let alloc = rt.alloc();
     let rising = &[("a", 6), ("b", 6), ("b", 9)];
-    assert_check(&rt, alloc, 1, rising, rising, &[(1, 1)], Verdict::Order { side: 1, row: 3 })?;
-    assert_check(&rt, alloc, 1, LEFT, rising, &[(1, 1)], Verdict::Order { side: 2, row: 3 })
+    assert_check(
+        &rt,
+        alloc,
+        1,
+        rising,
+        rising,
+        &[(1, 1)],
+        Verdict::Order { side: 1, row: 3 },
+    )?;
+    assert_check(
+        &rt,
+        alloc,
+        1,
+        LEFT,
+        rising,
+        &[(1, 1)],
+        Verdict::Order { side: 2, row: 3 },
+    )
 }

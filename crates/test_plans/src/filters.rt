@@ -7,9 +7,7 @@ ghost use Rattle.test_plans.specs.Pair.{HasPredicate, IsPair};
 
 use crate::query::{catalogue, formed_pair};
 use rs_catalog::Catalog;
-use rs_filter::{
-    BlockMatch, JoinConditions, passes, project, sides_and_matches_are_combinations,
-};
+use rs_filter::{BlockMatch, JoinConditions, passes, project, sides_and_matches_are_combinations};
 use rs_query::{Block, KeptList};
 use rs_rank::{Ids, Matcher, RankRow};
 use rs_value::Value;
