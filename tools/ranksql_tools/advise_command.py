@@ -1,7 +1,6 @@
 """The words of `advise`, and what it prints."""
 
 import argparse
-import os
 import subprocess
 
 from .advice import Case, all_advice, number, seeds_text

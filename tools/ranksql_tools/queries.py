@@ -2,11 +2,10 @@
 
 from typing import NamedTuple, Optional
 
-from .script_parse import Column, Cursor, Explain, Index, Predicate, Select, Table, parse
+from .script_parse import Column, Cursor, Index, Predicate, Select, Table, parse
 from .script_text import line_number, tokens_of
 
 SET_OPERATORS = ("UNION", "INTERSECT", "EXCEPT")
-ROWS_PLANNED_FOR = 10
 
 
 class Statement(NamedTuple):

@@ -151,7 +151,7 @@ class Counts(InFolder):
         for query in ("SELECT name FROM towns ORDER BY big(size) + west(east) LIMIT 3", "SELECT name FROM towns WHERE size > 500 ORDER BY west(east)",
                       "SELECT a.name FROM towns a, towns b WHERE a.land = b.land AND a.size < 40 ORDER BY apart(a.size, b.east) + big(a.size) LIMIT 2",
                       "SELECT DISTINCT land, size FROM towns ORDER BY big(size) + big(size) LIMIT 4",
-                      "SELECT size, east FROM towns UNION SELECT east, size FROM towns WHERE size < 300 ORDER BY big(east) + west(size) LIMIT 5",
+                      "SELECT size, east FROM towns UNION SELECT east, size FROM towns WHERE size < 300 ORDER BY big(east) + apart(size, east) LIMIT 5",
                       "SELECT size FROM towns INTERSECT SELECT east FROM towns ORDER BY big(size) LIMIT 5"):
             for front in ("", index):
                 with self.subTest(front + query):
