@@ -94,7 +94,7 @@ module _ (limit : Option ℕ) (rows : List Answer) (n wanted : ℕ) where
   asks = min wanted (ask_count limit (length rows) - n)
 
   -- both give the same lines
-  same-lines : rank_lines (suc given) (take (next_rows ready given wanted) (drop given ready)) ≡ rank_lines (suc n) (take asks (drop n rows))
+  pub same-lines : rank_lines (suc given) (take (next_rows ready given wanted) (drop given ready)) ≡ rank_lines (suc n) (take asks (drop n rows))
   same-lines = go (nat_le n (length ready)) refl where
     go : (b : Bool) → nat_le n (length ready) ≡ b → rank_lines (suc given) (take (next_rows ready given wanted) (drop given ready)) ≡ rank_lines (suc n) (take asks (drop n rows))
     go true less =

@@ -1,5 +1,5 @@
 -- Statements that end well both ways put the same lines: the rows of their plans are the answers of their queries, and those of their cursors too.
-use Rattle.std.proofs.Common.{ℕ, ℤ, zero, suc, ◌≡◌, ◌∙◌, ◌+◌, ◌-◌, ◌++◌, Bool, true, false, List, [], ◌∷◌, length, take, drop, map, min, append-nil, refl, sym, ap, subst, arith}
+use Rattle.std.proofs.Common.{ℕ, ℤ, zero, suc, ◌≡◌, ◌∙◌, ◌+◌, ◌-◌, ◌++◌, Bool, true, false, List, [], ◌∷◌, length, take, drop, map, min, append-nil, append_assoc, refl, sym, ap, subst, arith}
 use Rattle.std.specs.Prelude.{Option, Some, None, Result, Ok, Err, nat_le, option_map, slice_get}
 use Rattle.std.specs.List.{AllByRecursion}
 use Rattle.std.proofs.Math.Seq.{take-nil}
@@ -32,21 +32,21 @@ use Rattle.rs_exec.specs.Cursors.{HasFewTerms, answer_for, answers_of, next_answ
 use Rattle.rs_exec.specs.declared.fault.ExecFault.{ExecFault}
 use Rattle.rs_statement.specs.declared.evaluating.Evaluating.TheVariants.{Planned, Plainly}
 use Rattle.rs_statement.specs.declared.fault.Fault.{Fault}
-use Rattle.rs_statement.specs.Lines.{rank_lines}
+use Rattle.rs_statement.specs.Lines.{ComeFirst, rank_lines}
 use Rattle.rs_statement.specs.Planned.{ask_count, ask_outcome, ask_step, asks_from, cards_for, given_lines, next_asks, plan_for, planned_step}
-use Rattle.rs_events.specs.Events.{Finds, Put, calls_in, puts}
+use Rattle.rs_events.specs.Events.{Event, Finds, Put, calls_in, puts}
 use Rattle.rs_statement.specs.Steps.{Run, Step}
 use Rattle.rs_events.specs.Run.{behind}
 use Rattle.rs_statement.specs.Sampled.{sample_step, sampling}
 use Rattle.rs_events.specs.Sequence.{RunOf, RunsOn, still, then_step}
 use Rattle.rs_statement.specs.Statements.{Does, IsNoExplain, answer_lines, evaluation_step, or_bind_fault, query_outcome, query_step, refused_or, select_step}
-use Rattle.rs_statement.specs.Session.{ByPlan, DoesInSession, OpenCursor, Ready, State, StatementsRun, asked_more, beside_cursors, close_outcome, cursor_named, declare_step, fetch_step, fetched_from, fetched_step, next_rows, opened_step, ready_outcome, room_for_cursor, with_asks, with_cursor, without_cursor}
+use Rattle.rs_statement.specs.Session.{ByPlan, DoesInSession, OpenCursor, Ready, State, StatementsRun, asked_more, beside_cursors, close_outcome, cursor_named, declare_step, fetch_step, fetched_from, fetched_step, next_lines, next_rows, opened_step, ready_outcome, room_for_cursor, with_asks, with_cursor, without_cursor}
 use Rattle.rs_statement.proofs.HeldSteps.{Ok-then, kept-step}
 use Rattle.rs_statement.proofs.OneStep.{Does-one}
 use Rattle.rs_events.proofs.OneRun.{OneFile}
 use Rattle.rs_statement.proofs.PlanSteps.{outcome-value, row-given}
 use Rattle.rs_events.proofs.RanFacts.{puts-append, puts-scores}
-use Rattle.rs_statement.proofs.SameFetches.{Agree, AgreeAll, AskTheSame, agree-fetched, all-closed, all-fetched, all-opened, all-with_index, all-with_predicate, all-with_table, covers-unfiltered, found-agree, lines-fetched, others-free, without}
+use Rattle.rs_statement.proofs.SameFetches.{same-lines, Agree, AgreeAll, AskTheSame, agree-fetched, all-closed, all-fetched, all-opened, all-with_index, all-with_predicate, all-with_table, covers-unfiltered, found-agree, lines-fetched, others-free, without}
 use Rattle.rs_statement.proofs.UnfilteredFacts.{few-terms, least-plan, unfiltered-formed}
 
 -- lines alone
@@ -126,10 +126,99 @@ module _ (w : plan.World) (tree : PlanTree) where
         all.1,
       )
 
+  -- an ask that came to a fault put nothing
+  puts-no_row : (n : ℕ) (fault : Fault) → (ask_step w tree n).outcome ≡ Err fault → puts (ask_step w tree n).events ≡ []
+  puts-no_row n fault ends = puts-inquiry (next_answer w tree n) (given_lines (suc n) (next_answer w tree n).outcome) ∙ go (next_answer w tree n).outcome ends where
+    go : (outcome : Result (Option Answer) ExecFault) → ask_outcome w.catalogue outcome ≡ Err fault → given_lines (suc n) outcome ≡ []
+    go (Ok given) e = absurd cc
+    go (Err why) e = refl
+
+  -- whatever ends them, asks put the first of their lines
+  first-asks : (n count : ℕ) → ComeFirst (puts (asks_from w tree n count).events) (rank_lines (suc n) (take count (drop n rows)))
+  first-asks n zero = record { rest = []; split = refl }
+  first-asks n (suc count) = go (first-asks (suc n) count) (ask_step w tree n).outcome refl where
+    go : ComeFirst (puts (asks_from w tree (suc n) count).events) (rank_lines (suc (suc n)) (take count (drop (suc n) rows)))
+        → (outcome : Result Catalogue Fault) → (ask_step w tree n).outcome ≡ outcome
+        → ComeFirst (puts (then_step (record (ask_step w tree n) { outcome = outcome }) (asks_from w tree (suc n) count)).events) (rank_lines (suc n) (take (suc count) (drop n rows)))
+    go later (Ok state) is = record {
+      rest = later.rest;
+      split = sym (lines-next (suc n) n count rows)
+          ∙ ap (λ rank. given_lines (suc n) (Ok (slice_get rows n)) ++ rank_lines rank (take count (drop (suc n) rows))) (let same : suc n + 1 ≡ suc (suc n) = omega arith in same)
+          ∙ ap (λ lines. given_lines (suc n) (Ok (slice_get rows n)) ++ lines) later.split
+          ∙ sym (append_assoc (given_lines (suc n) (Ok (slice_get rows n))) (puts (asks_from w tree (suc n) count).events) later.rest)
+          ∙ ap (λ lines. lines ++ later.rest) (sym (puts-append (ask_step w tree n).events (asks_from w tree (suc n) count).events
+          ∙ ap (λ lines. lines ++ puts (asks_from w tree (suc n) count).events) (puts-ask n state is)));
+    }
+    go later (Err fault) is = record {
+      rest = rank_lines (suc n) (take (suc count) (drop n rows));
+      split = ap (λ lines. lines ++ rank_lines (suc n) (take (suc count) (drop n rows))) (sym (puts-no_row n fault is));
+    }
+
+  first-planned : ComeFirst (puts (planned_step w tree).events) (rank_lines 1 (cut (limit_of w.query) rows))
+  first-planned = subst (ComeFirst (puts (planned_step w tree).events))
+      (ap (λ size. rank_lines 1 (take (ask_count (limit_of w.query) size) rows)) (sym (length-map (list_of_plan w tree) (answer_for w))) ∙ ap (rank_lines 1) (take-asks (limit_of w.query) rows))
+      (first-asks 0 (ask_count (limit_of w.query) (length (list_of_plan w tree))))
+
 -- the rows of a plan up to LIMIT are the answer of its query
 abbrev pub GiveAnswers : Type 0
 GiveAnswers = (w : plan.World) (tree : PlanTree) → HasFewTerms w.query → IsPlan w.catalogue w.query tree
     → cut (limit_of w.query) (answers_of w tree) ≡ answer_of w.answer w.catalogue w.query w.view
+
+-- what changes the state alone puts nothing
+puts-then_still : (events : List Event) (outcome : Result Catalogue Fault) (state : State)
+    → puts (then_step (record { events = events; outcome = outcome }) (still (Ok state))).events ≡ puts events
+puts-then_still events (Ok next) state = ap puts (append-nil events)
+puts-then_still events (Err fault) state = refl
+
+-- a sample puts nothing
+puts-behind : {S : Type 0} (seed : ℕ) (catalogue : Catalogue) (query : Query) (rest : Step S) → puts (then_step (sample_step catalogue seed query) rest).events ≡ puts rest.events
+puts-behind seed catalogue query rest =
+    puts-append (sample_step catalogue seed query).events rest.events ∙ ap (λ lines. lines ++ puts rest.events) (puts-inquiry (sampling catalogue seed query) [])
+
+module _ (give : GiveAnswers) (answer : Answering) where
+  -- what a query puts by its plan comes first among the lines of its answer, whatever ends it
+  pub first-query : (seed : ℕ) (catalogue : Catalogue) (query : syntax.Query) (bound : Query) → IsWrittenQuery query → bound_query catalogue query ≡ Ok bound
+      → ComeFirst (puts (query_step (Planned seed) answer catalogue bound).events) (rank_lines 1 (answer_of answer catalogue bound (all_rows catalogue bound)))
+  first-query seed catalogue query bound written is =
+      let formed = unfiltered-formed catalogue query bound written is in
+      let w = world_of catalogue answer bound in
+      let tree = plan_for answer catalogue seed bound in
+      let plans = least-plan catalogue bound (cards_for answer catalogue seed bound) formed in
+      subst (λ lines. ComeFirst lines (rank_lines 1 (answer_of answer catalogue bound (all_rows catalogue bound)))) (sym (puts-behind seed catalogue bound (planned_step w tree)))
+      (subst (λ answers. ComeFirst (puts (planned_step w tree).events) (rank_lines 1 answers)) (give w tree (few-terms catalogue bound formed) plans) (first-planned w tree))
+
+  -- and what a FETCH puts of a cursor by a plan comes first among the lines of the next rows of the answer
+  first-fetch : (state : State) (query : Query) (tree : PlanTree) (name : List ℕ) (asked wanted : ℕ) → HasFewTerms query → IsPlan state.catalogue query tree
+      → ComeFirst (puts (fetched_from answer state name asked wanted (ByPlan query tree)).events) (next_lines (answer_of answer state.catalogue query (all_rows state.catalogue query)) asked wanted)
+  first-fetch state query tree name asked wanted few plans =
+      let w = world_of state.catalogue answer query in
+      let all = answers_of w tree in
+      let asks = next_asks w tree asked wanted in
+      let step = asks_from w tree asked asks in
+      let asks_are : asks ≡ min wanted (ask_count (limit_of query) (length all) - asked) =
+      ap (λ size. min wanted (ask_count (limit_of query) size - asked)) (sym (length-map (list_of_plan w tree) (answer_for w))) in
+      subst (λ lines. ComeFirst lines (next_lines (answer_of answer state.catalogue query (all_rows state.catalogue query)) asked wanted))
+      (sym (puts-then_still step.events step.outcome (with_asks name asks state)))
+      (subst (λ rows. ComeFirst (puts step.events) (next_lines rows asked wanted)) (give w tree few plans)
+      (subst (ComeFirst (puts step.events)) (ap (λ n. rank_lines (suc asked) (take n (drop asked all))) asks_are ∙ sym (same-lines (limit_of query) all asked wanted))
+      (first-asks w tree asked asks)))
+
+-- and what a FETCH of a cursor puts whose plan is the chosen one
+pub first-fetched : GiveAnswers → (answer : Answering) (seed : ℕ) (state : State) (query : syntax.Query) (bound : Query) (name : List ℕ) (asked wanted : ℕ) → IsWrittenQuery query
+    → bound_query state.catalogue query ≡ Ok bound
+    → ComeFirst (puts (fetched_from answer state name asked wanted (ByPlan bound (plan_for answer state.catalogue seed bound))).events)
+    (next_lines (answer_of answer state.catalogue bound (all_rows state.catalogue bound)) asked wanted)
+first-fetched give answer seed state query bound name asked wanted written is =
+    let formed = unfiltered-formed state.catalogue query bound written is in
+    first-fetch give answer state bound (plan_for answer state.catalogue seed bound) name asked wanted (few-terms state.catalogue bound formed)
+    (least-plan state.catalogue bound (cards_for answer state.catalogue seed bound) formed)
+
+-- what the first of some events put comes first where what all of them put does
+pub first-of_part : (events done rest : List Event) (lines : List (List ℕ)) → events ≡ done ++ rest → ComeFirst (puts events) lines → ComeFirst (puts done) lines
+first-of_part events done rest lines split all = record {
+  rest = puts rest ++ all.rest;
+  split = all.split ∙ ap (λ put. put ++ all.rest) (ap puts split ∙ puts-append done rest) ∙ append_assoc (puts done) (puts rest) all.rest;
+}
 
 -- what two steps have in common that went well
 record Alike (a b : Step Catalogue) (left right : Catalogue) : Type 0 where
@@ -160,11 +249,6 @@ module _ (give : GiveAnswers) (same : AskTheSame) (finds : Finds) (one : OneFile
         )
         go (Err fault) is e = absurd cc
 
-  -- a sample puts nothing
-  puts-behind : {S : Type 0} (catalogue : Catalogue) (query : Query) (rest : Step S) → puts (then_step (sample_step catalogue seed query) rest).events ≡ puts rest.events
-  puts-behind catalogue query rest =
-      puts-append (sample_step catalogue seed query).events rest.events ∙ ap (λ lines. lines ++ puts rest.events) (puts-inquiry (sampling catalogue seed query) [])
-
   -- a bound query
   alike-bound : (catalogue : Catalogue) (query : syntax.Query) (bound : Query) (left right : Catalogue) → IsWrittenQuery query → bound_query catalogue query ≡ Ok bound
       → (query_step Plainly answer catalogue bound).outcome ≡ Ok left → (query_step (Planned seed) answer catalogue bound).outcome ≡ Ok right
@@ -177,7 +261,7 @@ module _ (give : GiveAnswers) (same : AskTheSame) (finds : Finds) (one : OneFile
       let planned = puts-planned w tree right lb in
       let plans = least-plan catalogue bound (cards_for answer catalogue seed bound) formed in
       record {
-        lines = plainly.0 ∙ sym (ap (rank_lines 1) (give w tree (few-terms catalogue bound formed) plans)) ∙ sym planned.0 ∙ sym (puts-behind catalogue bound (planned_step w tree));
+        lines = plainly.0 ∙ sym (ap (rank_lines 1) (give w tree (few-terms catalogue bound formed) plans)) ∙ sym planned.0 ∙ sym (puts-behind seed catalogue bound (planned_step w tree));
         states = plainly.1 ∙ sym planned.1;
       }
 
@@ -265,7 +349,7 @@ module _ (give : GiveAnswers) (same : AskTheSame) (finds : Finds) (one : OneFile
           let q : OpenCursor = record { name = name.text; source = ByPlan bound tree; asked = 0 } in
           let plain_left : with_cursor name.text (Ready rows) plain_state ≡ left = cc in
           let planned_left : with_cursor name.text (ByPlan bound tree) planned_state ≡ right = (let own = lb in cc) in record {
-            lines = puts-inquiry (evaluation_of answer catalogue bound (all_rows catalogue bound)) [] ∙ sym (puts-behind catalogue bound (still (Ok (with_cursor name.text (ByPlan bound tree) planned_state))));
+            lines = puts-inquiry (evaluation_of answer catalogue bound (all_rows catalogue bound)) [] ∙ sym (puts-behind seed catalogue bound (still (Ok (with_cursor name.text (ByPlan bound tree) planned_state))));
             next = catalogue;
             ps = ps ++ p ∷ [];
             qs = qs ++ q ∷ [];

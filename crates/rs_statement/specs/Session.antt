@@ -118,6 +118,12 @@ declare_step evaluating answer state name query =
 abbrev pub next_rows : List Answer → ℕ → ℕ → ℕ
 next_rows rows given wanted = min wanted (length rows - given)
 
+-- the lines of the rows of an answer that come next behind so many asks, where so many are wanted
+abbrev pub next_lines : List Answer → ℕ → ℕ → List (List ℕ)
+next_lines rows asked wanted =
+    let given = min asked (length rows) in
+    rank_lines (suc given) (take (next_rows rows given wanted) (drop given rows))
+
 -- a FETCH goes on from the last ask of its cursor, and ranks go on too. It asks as often as it wants rows, but no more once LIMIT rows were given or an ask
 -- met the end
 abbrev pub fetched_from : Answering → State → List ℕ → ℕ → ℕ → Source → Step State
