@@ -118,7 +118,7 @@ declare_step evaluating answer state name query =
 abbrev pub next_rows : List Answer → ℕ → ℕ → ℕ
 next_rows rows given wanted = min wanted (length rows - given)
 
--- the lines of the rows of an answer that come next behind so many asks, where so many are wanted
+-- the lines of the rows of an answer that come next behind this many asks, where this many are wanted
 abbrev pub next_lines : List Answer → ℕ → ℕ → List (List ℕ)
 next_lines rows asked wanted =
     let given = min asked (length rows) in
