@@ -4,7 +4,7 @@ ghost use Rattle.std.specs.Prelude.{◌≡◌, ◌≤◌, ◌<◌, IfOk, IfSome,
 ghost use Rattle.rs_value.specs.declared.kind.Kind.TheVariants as kind;
 ghost use Rattle.rs_expr.specs.Formulas.{Argument};
 ghost use Rattle.rs_expr.specs.Uses.{is_kind};
-ghost use Rattle.rs_catalog.specs.Catalogue.{names_of};
+ghost use Rattle.rs_catalog.specs.Catalog.{names_of};
 
 use crate::keys::is_space;
 use cases_lines::{Fault, bytes_of, columns_of, count_of, cut_word, text_of, value_of};

@@ -1,7 +1,7 @@
 //! What is asked of rank indexes.
 
 ghost use Rattle.std.specs.Prelude.{◌≡◌, ◌<◌, IfOk, Ok, length, true};
-ghost use Rattle.rs_catalog.specs.Catalogue.{names_of, room_for};
+ghost use Rattle.rs_catalog.specs.Catalog.{names_of, room_for};
 ghost use Rattle.rs_catalog.specs.Indexes.{IsIndex, arg_fits, args_fit};
 ghost use Rattle.rs_catalog.specs.declared.room.What.TheVariants as what;
 

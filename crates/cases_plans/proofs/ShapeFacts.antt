@@ -1,7 +1,7 @@
 -- The cards that are taken of a query are those of its blocks.
 use Rattle.std.proofs.Common.{ℕ, ◌≡◌, List, [], ◌∷◌, subst, arith}
 use Rattle.rs_expr.specs.Scoring.{Answering}
-use Rattle.rs_catalog.specs.Catalogue.{Catalogue}
+use Rattle.rs_catalog.specs.Catalog.{CatalogDef}
 use Rattle.rs_query.specs.Views.{View}
 use Rattle.rs_query.specs.WellFormed.{IsQuery}
 use Rattle.rs_query.specs.declared.query.Query.{Query}
@@ -10,7 +10,7 @@ use Rattle.rs_sample.specs.Cards.{AllSayTheSame, BlockCards}
 use Rattle.rs_sample.specs.Sampling.{query_cards}
 use Rattle.cases_plans.specs.Shapes.{HasShape, IsFor}
 
-module _ (answer : Answering) (catalogue : Catalogue) where
+module _ (answer : Answering) (catalogue : CatalogDef) where
   pub HasShape-taken : (query : Query) (view : View) (seed : ℕ) (all : List BlockCards) → IsQuery catalogue query
       → AllSayTheSame all (query_cards answer catalogue query view seed) → HasShape query all
   HasShape-taken (One block limit) view seed [] formed same = absurd same

@@ -4,7 +4,7 @@ ghost use Rattle.std.specs.Prelude.{◌≡◌, IfOk, false, is_err};
 ghost use Rattle.rs_expr.specs.MemScorer.{answered_score};
 ghost use Rattle.rs_query.specs.WellFormed.{IsQuery};
 ghost use Rattle.rs_exec.specs.Cursors.{CanGo};
-ghost use Rattle.rs_catalog.specs.Held.{AreHeld};
+ghost use Rattle.rs_catalog.specs.Held.{IndexesHold};
 
 use crate::calls::tell_calls;
 use cases_lines::Fault;
@@ -26,7 +26,7 @@ pub fn tell_rows(
     scorer: &mut MemScorer,
 ) -> Result<String, Fault>
     requires formed { IsQuery catalog.now query }
-    requires held { AreHeld (answered_score scorer.old) catalog.now }
+    requires held { IndexesHold (answered_score scorer.old) catalog.now }
 {
     if !plan.valid(catalog, &query) {
         drop(query);

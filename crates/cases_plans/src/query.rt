@@ -4,7 +4,7 @@ ghost use Rattle.rs_expr.specs.MemScorer.{answered_score};
 ghost use Rattle.rs_syntax.specs.Syntax.{query_of};
 ghost use Rattle.rs_syntax.specs.Written.{IsWrittenQuery};
 ghost use Rattle.rs_query.specs.WellFormed.{IsQuery};
-ghost use Rattle.rs_catalog.specs.Held.{AreHeld};
+ghost use Rattle.rs_catalog.specs.Held.{IndexesHold};
 
 use crate::asks::tell_rows;
 use crate::cards::{tell_cards, tell_sample};
@@ -46,7 +46,7 @@ pub fn tell_query(
     scorer: &mut MemScorer,
 ) -> Result<String, Fault>
     requires written { IsWrittenQuery (query_of select.now) }
-    requires held { AreHeld (answered_score scorer.old) catalog.now }
+    requires held { IndexesHold (answered_score scorer.old) catalog.now }
 {
     match bind(alloc, catalog, select) {
         Ok(query) => tell_bound(alloc, catalog, query, asked, scorer),
@@ -63,7 +63,7 @@ fn tell_bound(
     scorer: &mut MemScorer,
 ) -> Result<String, Fault>
     requires formed { IsQuery catalog.now query }
-    requires held { AreHeld (answered_score scorer.old) catalog.now }
+    requires held { IndexesHold (answered_score scorer.old) catalog.now }
 {
     let told = match asked {
         Asked::Least(seed) => tell_least(alloc, catalog, &query, *seed, None, scorer),

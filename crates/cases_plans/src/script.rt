@@ -4,11 +4,11 @@ ghost use Rattle.std.specs.Prelude.{◌≡◌, IfOk, Ok};
 ghost use Rattle.rs_syntax.specs.Syntax.{command_of, commands_of};
 ghost use Rattle.rs_syntax.specs.Written.{AreWritten, IsWritten};
 ghost use Rattle.rs_bind.specs.Indexes.{IsCreateRankIndex};
-ghost use Rattle.rs_catalog.specs.Catalogue.{room_for};
+ghost use Rattle.rs_catalog.specs.Catalog.{room_for};
 ghost use Rattle.rs_catalog.specs.Indexes.{IsIndex};
 ghost use Rattle.rs_catalog.specs.declared.room.What.TheVariants as what;
 ghost use Rattle.rs_expr.specs.MemScorer.{answered_score};
-ghost use Rattle.rs_catalog.specs.Held.{AreHeld};
+ghost use Rattle.rs_catalog.specs.Held.{IndexesHold};
 
 use crate::calls::tell_calls;
 use crate::query::{Asked, tell_query};
@@ -44,7 +44,7 @@ fn tell_statements(
     scorer: &mut MemScorer,
 ) -> Result<String, Fault>
     requires written { AreWritten (commands_of statements.now) }
-    requires held { AreHeld (answered_score scorer.old) catalog.old }
+    requires held { IndexesHold (answered_score scorer.old) catalog.old }
 {
     for statement in statements {
         if let Statement::Query(select) = statement {
@@ -65,8 +65,8 @@ fn join(
     scorer: &mut MemScorer,
 ) -> Result<Option<IndexFault>, Fault>
     requires written { IsWritten (command_of statement.now) }
-    requires held { AreHeld (answered_score scorer.old) catalog.old }
-    ensures { IfOk result (λ _. AreHeld (answered_score scorer.new) catalog.new) }
+    requires held { IndexesHold (answered_score scorer.old) catalog.old }
+    ensures { IfOk result (λ _. IndexesHold (answered_score scorer.new) catalog.new) }
 {
     match statement {
         Statement::CreateRankIndex { .. } => make_index(alloc, catalog, statement, scorer),
@@ -85,8 +85,8 @@ fn make_index(
 ) -> Result<Option<IndexFault>, Fault>
     requires form { IsCreateRankIndex (command_of statement.now) }
     requires written { IsWritten (command_of statement.now) }
-    requires held { AreHeld (answered_score scorer.old) catalog.old }
-    ensures { IfOk result (λ _. AreHeld (answered_score scorer.new) catalog.new) }
+    requires held { IndexesHold (answered_score scorer.old) catalog.old }
+    ensures { IfOk result (λ _. IndexesHold (answered_score scorer.new) catalog.new) }
 {
     let def = match bind_index(alloc, catalog, statement) {
         Ok(def) => def,
@@ -112,8 +112,8 @@ fn add_index(
 ) -> Result<(), IndexFault>
     requires room { room_for what.Index def.name catalog.old ≡ Ok tt }
     requires fits { IsIndex catalog.old def }
-    requires held { AreHeld (answered_score scorer.old) catalog.old }
-    ensures { AreHeld (answered_score scorer.new) catalog.new }
+    requires held { IndexesHold (answered_score scorer.old) catalog.old }
+    ensures { IndexesHold (answered_score scorer.new) catalog.new }
 {
     catalog.add_index(alloc, def, scorer)
 }

@@ -13,7 +13,7 @@ use Rattle.rs_syntax.specs.Syntax as syntax
 use Rattle.rs_syntax.specs.Syntax.{Expression}
 use Rattle.rs_value.specs.Results.{◌>>=◌}
 use Rattle.rs_expr.specs.Formulas.{Condition}
-use Rattle.rs_catalog.specs.Catalogue.{Catalogue, number_named}
+use Rattle.rs_catalog.specs.Catalog.{CatalogDef, number_named}
 use Rattle.rs_catalog.specs.declared.room.What.TheVariants as what
 use Rattle.rs_query.specs.Conjuncts.{ConjunctDef}
 use Rattle.rs_query.specs.WellFormed.{entries_mask, equality_of}
@@ -47,7 +47,7 @@ any-map test f [] = refl
 any-map test f (x ∷ xs) = ap (λ b. test (f x) || b) (any-map test f xs)
 
 -- FROM
-module _ (catalogue : Catalogue) where
+module _ (catalogue : CatalogDef) where
   abbrev taken : List ℕ → List Entry → Bool
   taken alias before = list_any (λ (entry : Entry). bytes_eq entry.1 alias) before
 
@@ -380,7 +380,7 @@ module _ (sources : List Source) where
       list-steps [] list ∙ steps-FirstRefused (TypesItem sources) (RefusedItem sources) item_step item-follows first
 
 -- a block without its terms
-module _ (catalogue : Catalogue) where
+module _ (catalogue : CatalogDef) where
   abbrev behind_items : List Entry → List ConjunctDef → Bool → List Found → Result Unranked BindFault
   behind_items from conjuncts distinct found = well (record { from = from; conjuncts = conjuncts; items = found; distinct = distinct })
 

@@ -14,7 +14,7 @@ use Rattle.rs_syntax.specs.declared.select.Items.TheVariants as items
 use Rattle.rs_table.specs.Column.{Column}
 use Rattle.rs_table.specs.Relation.{Relation}
 use Rattle.rs_value.specs.Results.{◌>>=◌}
-use Rattle.rs_catalog.specs.Catalogue.{Catalogue, NamedTable, number_named}
+use Rattle.rs_catalog.specs.Catalog.{CatalogDef, NamedTable, number_named}
 use Rattle.rs_catalog.specs.declared.room.What.TheVariants as what
 use Rattle.rs_query.specs.declared.block.Block.{Block}
 use Rattle.rs_query.specs.WellFormed.{IsColumn, IsFromEntry, column_kind}
@@ -31,7 +31,7 @@ use Rattle.rs_bind.specs.Sources.{Found, alias_of, all_columns_from, column_in, 
 use Rattle.rs_bind.proofs.PlaceFacts.{kind-placed, slice_get-numbered}
 
 -- the kind of a column of one of some entries, counted from 0
-abbrev pub kind_at : Catalogue → List (ℕ × List ℕ) → ℕ → ℕ → Option Kind
+abbrev pub kind_at : CatalogDef → List (ℕ × List ℕ) → ℕ → ℕ → Option Kind
 kind_at catalogue from entry place =
     option_and_then (λ (f : ℕ × List ℕ). option_map (λ (c : Column). c.1) (slice_get (columns_in catalogue f.0) place)) (slice_get from entry)
 
@@ -41,19 +41,19 @@ schema_kind : (o : Option NamedTable) (place : ℕ)
 schema_kind None place = refl
 schema_kind (Some n) place = refl
 
-entry_kind : (catalogue : Catalogue) (o : Option (ℕ × List ℕ)) (place : ℕ)
+entry_kind : (catalogue : CatalogDef) (o : Option (ℕ × List ℕ)) (place : ℕ)
     → option_map (λ (c : Column). c.1) (option_and_then (λ (t : Relation). slice_get t.schema place)
     (option_and_then (λ (f : ℕ × List ℕ). option_map (λ (n : NamedTable). n.table) (slice_get catalogue.tables f.0)) o))
     ≡ option_and_then (λ (f : ℕ × List ℕ). option_map (λ (c : Column). c.1) (slice_get (columns_in catalogue f.0) place)) o
 entry_kind catalogue None place = refl
 entry_kind catalogue (Some f) place = schema_kind (slice_get catalogue.tables f.0) place
 
-pub column_kind-at : (catalogue : Catalogue) (block : Block) (column : ℕ × ℕ)
+pub column_kind-at : (catalogue : CatalogDef) (block : Block) (column : ℕ × ℕ)
     → column_kind catalogue block column ≡ kind_at catalogue block.from (column.0 - 1) column.1
 column_kind-at catalogue block column = entry_kind catalogue (slice_get block.from (column.0 - 1)) column.1
 
 -- a column that has a kind is one of the block
-kind_at-within : (catalogue : Catalogue) (from : List (ℕ × List ℕ)) (entry place : ℕ) (kind : Kind) → kind_at catalogue from entry place ≡ Some kind
+kind_at-within : (catalogue : CatalogDef) (from : List (ℕ × List ℕ)) (entry place : ℕ) (kind : Kind) → kind_at catalogue from entry place ≡ Some kind
     → (f : ℕ × List ℕ) × (slice_get from entry ≡ Some f) × (place < length (columns_in catalogue f.0))
 kind_at-within catalogue from entry place kind h = go (slice_get from entry) refl h where
   at : (f : ℕ × List ℕ) → (c : Option Column) → slice_get (columns_in catalogue f.0) place ≡ c → option_map (λ (c : Column). c.1) c ≡ Some kind
@@ -67,7 +67,7 @@ kind_at-within catalogue from entry place kind h = go (slice_get from entry) ref
   go None is e = cc
   go (Some f) is e = (f, is, at f (slice_get (columns_in catalogue f.0) place) refl e)
 
-pub IsColumn-kind : (catalogue : Catalogue) (block : Block) (column : ℕ × ℕ) (kind : Kind) → 1 ≤ column.0 → column_kind catalogue block column ≡ Some kind
+pub IsColumn-kind : (catalogue : CatalogDef) (block : Block) (column : ℕ × ℕ) (kind : Kind) → 1 ≤ column.0 → column_kind catalogue block column ≡ Some kind
     → IsColumn catalogue block column
 IsColumn-kind catalogue block column kind least h =
     let there = kind_at-within catalogue block.from (column.0 - 1) column.1 kind (sym (column_kind-at catalogue block column) ∙ h) in
@@ -75,36 +75,36 @@ IsColumn-kind catalogue block column kind least h =
     (least, omega (arith, within), (kind, h))
 
 -- a column that was found is one of the block, of its kind
-pub record IsFound (catalogue : Catalogue) (block : Block) (found : Found) : Type 0 where
+pub record IsFound (catalogue : CatalogDef) (block : Block) (found : Found) : Type 0 where
   pub least : 1 ≤ found.0.0
   pub has_kind : column_kind catalogue block found.0 ≡ Some found.1
 
-pub IsColumn-found : (catalogue : Catalogue) (block : Block) (found : Found) → IsFound catalogue block found → IsColumn catalogue block found.0
+pub IsColumn-found : (catalogue : CatalogDef) (block : Block) (found : Found) → IsFound catalogue block found → IsColumn catalogue block found.0
 IsColumn-found catalogue block found h = IsColumn-kind catalogue block found.0 found.1 h.least h.has_kind
 
 -- the same of entries that count from another number on
-record IsMatch (catalogue : Catalogue) (from : List (ℕ × List ℕ)) (entry : ℕ) (found : Found) : Type 0 where
+record IsMatch (catalogue : CatalogDef) (from : List (ℕ × List ℕ)) (entry : ℕ) (found : Found) : Type 0 where
   least : entry ≤ found.0.0
   has_kind : kind_at catalogue from (found.0.0 - entry) found.0.1 ≡ Some found.1
 
-IsMatch-behind : (catalogue : Catalogue) (f : ℕ × List ℕ) (from : List (ℕ × List ℕ)) (entry : ℕ) (found : Found) → IsMatch catalogue from (suc entry) found
+IsMatch-behind : (catalogue : CatalogDef) (f : ℕ × List ℕ) (from : List (ℕ × List ℕ)) (entry : ℕ) (found : Found) → IsMatch catalogue from (suc entry) found
     → IsMatch catalogue (f ∷ from) entry found
 IsMatch-behind catalogue f from entry found h =
     let least = h.least in
     let one_more : found.0.0 - entry ≡ suc (found.0.0 - suc entry) = omega (arith, least) in
     record { least = omega (arith, least); has_kind = ap (λ e. kind_at catalogue (f ∷ from) e found.0.1) one_more ∙ h.has_kind }
 
-IsMatch-first : (catalogue : Catalogue) (f : ℕ × List ℕ) (from : List (ℕ × List ℕ)) (entry place : ℕ) (kind : Kind)
+IsMatch-first : (catalogue : CatalogDef) (f : ℕ × List ℕ) (from : List (ℕ × List ℕ)) (entry place : ℕ) (kind : Kind)
     → option_map (λ (c : Column). c.1) (slice_get (columns_in catalogue f.0) place) ≡ Some kind → IsMatch catalogue (f ∷ from) entry ((entry, place), kind)
 IsMatch-first catalogue f from entry place kind h =
     let none : entry - entry ≡ 0 = omega arith in
     record { least = omega arith; has_kind = ap (λ e. kind_at catalogue (f ∷ from) e place) none ∙ h }
 
-IsFound-match : (catalogue : Catalogue) (block : Block) (found : Found) → IsMatch catalogue block.from 1 found → IsFound catalogue block found
+IsFound-match : (catalogue : CatalogDef) (block : Block) (found : Found) → IsMatch catalogue block.from 1 found → IsFound catalogue block found
 IsFound-match catalogue block found h = record { least = h.least; has_kind = column_kind-at catalogue block found.0 ∙ h.has_kind }
 
 -- all that a reference can stand for
-matches : (catalogue : Catalogue) (from : List (ℕ × List ℕ)) (entry : ℕ) (c : ColRef)
+matches : (catalogue : CatalogDef) (from : List (ℕ × List ℕ)) (entry : ℕ) (c : ColRef)
     → AllByRecursion (IsMatch catalogue from entry) (matches_from entry c (sources_of catalogue from))
 matches catalogue [] entry c = tt
 matches catalogue (f ∷ from) entry c =
@@ -125,7 +125,7 @@ the_only-is at (b ∷ []) a h = cc
 the_only-is at (b ∷ c ∷ more) a h = cc
 
 -- the column that a reference stands for
-pub column_in-found : (catalogue : Catalogue) (block : Block) (c : ColRef) (found : Found) → column_in (sources_of catalogue block.from) c ≡ Ok found
+pub column_in-found : (catalogue : CatalogDef) (block : Block) (c : ColRef) (found : Found) → column_in (sources_of catalogue block.from) c ≡ Ok found
     → IsFound catalogue block found
 column_in-found catalogue block c found h =
     let only : matches_from 1 c (sources_of catalogue block.from) ≡ found ∷ [] =
@@ -133,7 +133,7 @@ column_in-found catalogue block c found h =
     IsFound-match catalogue block found (subst (AllByRecursion (IsMatch catalogue block.from 1)) only (matches catalogue block.from 1 c)).0
 
 -- the columns of a table, from one of them on
-columns : (catalogue : Catalogue) (f : ℕ × List ℕ) (from : List (ℕ × List ℕ)) (entry place : ℕ) (rest : List Column)
+columns : (catalogue : CatalogDef) (f : ℕ × List ℕ) (from : List (ℕ × List ℕ)) (entry place : ℕ) (rest : List Column)
     → ((i : ℕ) → slice_get (columns_in catalogue f.0) (place + i) ≡ slice_get rest i)
     → AllByRecursion (IsMatch catalogue (f ∷ from) entry) (columns_from entry place rest)
 columns catalogue f from entry place [] behind = tt
@@ -146,7 +146,7 @@ columns catalogue f from entry place (column ∷ rest) behind =
           ap (slice_get (columns_in catalogue f.0)) next ∙ behind (suc i)),
     )
 
-all_columns : (catalogue : Catalogue) (from : List (ℕ × List ℕ)) (entry : ℕ)
+all_columns : (catalogue : CatalogDef) (from : List (ℕ × List ℕ)) (entry : ℕ)
     → AllByRecursion (IsMatch catalogue from entry) (all_columns_from entry (sources_of catalogue from))
 all_columns catalogue [] entry = tt
 all_columns catalogue (f ∷ from) entry =
@@ -158,11 +158,11 @@ all_columns catalogue (f ∷ from) entry =
     (all_columns_from (suc entry) (sources_of catalogue from)) (all_columns catalogue from (suc entry)))
 
 -- output columns behind this many others
-pub record AreItems (catalogue : Catalogue) (block : Block) (before : ℕ) (made : List Found) : Type 0 where
+pub record AreItems (catalogue : CatalogDef) (block : Block) (before : ℕ) (made : List Found) : Type 0 where
   pub most : before + length made ≤ 384
   pub each : AllByRecursion (IsFound catalogue block) made
 
-listed : (catalogue : Catalogue) (block : Block) (before : ℕ) (columns : List ColRef) (made : List Found) → before ≤ 384
+listed : (catalogue : CatalogDef) (block : Block) (before : ℕ) (columns : List ColRef) (made : List Found) → before ≤ 384
     → items_behind (sources_of catalogue block.from) before columns ≡ Ok made → AreItems catalogue block before made
 listed catalogue block before [] made most h =
     let same : [] ≡ made = cc in
@@ -183,7 +183,7 @@ listed catalogue block before (c ∷ rest) made most h =
     })
 
 -- the output columns of a block
-pub items_of-found : (catalogue : Catalogue) (block : Block) (items : Items) (made : List Found) → items_of (sources_of catalogue block.from) items ≡ Ok made
+pub items_of-found : (catalogue : CatalogDef) (block : Block) (items : Items) (made : List Found) → items_of (sources_of catalogue block.from) items ≡ Ok made
     → AreItems catalogue block 0 made
 items_of-found catalogue block (items.List columns) made h = listed catalogue block 0 columns made (omega arith) h
 items_of-found catalogue block (items.Star at) made h =
@@ -197,12 +197,12 @@ items_of-found catalogue block (items.Star at) made h =
     })
 
 -- FROM entries behind this many others
-pub record AreEntries (catalogue : Catalogue) (before : ℕ) (from : List (Name × Option Name)) (made : List (ℕ × List ℕ)) : Type 0 where
+pub record AreEntries (catalogue : CatalogDef) (before : ℕ) (from : List (Name × Option Name)) (made : List (ℕ × List ℕ)) : Type 0 where
   pub many : length made ≡ length from
   pub most : before + length made ≤ 6
   pub each : AllByRecursion (IsFromEntry catalogue) made
 
-entries : (catalogue : Catalogue) (before : List (List ℕ)) (from : List (Name × Option Name)) (made : List (ℕ × List ℕ)) → length before ≤ 6
+entries : (catalogue : CatalogDef) (before : List (List ℕ)) (from : List (Name × Option Name)) (made : List (ℕ × List ℕ)) → length before ≤ 6
     → entries_behind catalogue before from ≡ Ok made → AreEntries catalogue (length before) from made
 entries catalogue before [] made most h =
     let same : [] ≡ made = cc in
@@ -231,6 +231,6 @@ entries catalogue before (entry ∷ rest) made most h =
     })
 
 -- the FROM entries of a block
-pub entries_of-formed : (catalogue : Catalogue) (from : List (Name × Option Name)) (made : List (ℕ × List ℕ)) → entries_of catalogue from ≡ Ok made
+pub entries_of-formed : (catalogue : CatalogDef) (from : List (Name × Option Name)) (made : List (ℕ × List ℕ)) → entries_of catalogue from ≡ Ok made
     → AreEntries catalogue 0 from made
 entries_of-formed catalogue from made h = entries catalogue [] from made (omega arith) h

@@ -9,7 +9,7 @@ use Rattle.rs_syntax.specs.Syntax.{Expression}
 use Rattle.rs_value.specs.Results.{◌>>=◌}
 use Rattle.rs_expr.specs.Formulas.{Condition}
 use Rattle.rs_expr.specs.Uses.{is_kind}
-use Rattle.rs_catalog.specs.Catalogue.{Catalogue}
+use Rattle.rs_catalog.specs.Catalog.{CatalogDef}
 use Rattle.rs_query.specs.declared.block.Block.{Block}
 use Rattle.rs_query.specs.Conjuncts.{ConjunctDef}
 use Rattle.rs_query.specs.WellFormed.{IsColumn, IsConjunct, has_kind}
@@ -44,7 +44,7 @@ is_kind-same : (k : Kind) → is_kind k (Some k) ≡ true
 is_kind-same kind.Int = refl
 is_kind-same kind.Text = refl
 
-module _ (catalogue : Catalogue) (block : Block) where
+module _ (catalogue : CatalogDef) (block : Block) where
   abbrev sources : List Source
   sources = sources_of catalogue block.from
 

@@ -8,7 +8,7 @@ use Rattle.std.proofs.lemmas.List.{drop_more}
 use Rattle.rs_syntax.specs.declared.name.Name.{Name}
 use Rattle.rs_table.specs.Appended.{appended}
 use Rattle.rs_value.specs.Results.{◌>>=◌}
-use Rattle.rs_catalog.specs.Catalogue.{Catalogue, number_named}
+use Rattle.rs_catalog.specs.Catalog.{CatalogDef, number_named}
 use Rattle.rs_catalog.specs.declared.room.What.TheVariants as what
 use Rattle.rs_typing.specs.declared.fault.BindFault.{BindFault}
 use Rattle.rs_typing.specs.declared.fault.BindFault.TheVariants.{At}
@@ -68,7 +68,7 @@ appended-next : {A : Type 0} (made : List A) (item : A) (rest : Result (List A) 
 appended-next made item (Ok items) = ap (λ all. Ok all) (sym (append_assoc made (item ∷ []) items))
 appended-next made item (Err fault) = refl
 
-module _ (catalogue : Catalogue) where
+module _ (catalogue : CatalogDef) where
   -- what is left behind entries that were bound
   abbrev pub entries_left : List (ℕ × List ℕ) → List (Name × Option Name) → Result (List (ℕ × List ℕ)) BindFault
   entries_left made left = appended made (entries_behind catalogue (aliases_of made []) left)

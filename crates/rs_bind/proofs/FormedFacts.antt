@@ -7,7 +7,7 @@ use Rattle.rs_value.specs.Answer.{Gives}
 use Rattle.rs_value.specs.declared.set_op.SetOp.{SetOp}
 use Rattle.rs_syntax.specs.Syntax as syntax
 use Rattle.rs_value.specs.Results.{◌>>=◌}
-use Rattle.rs_catalog.specs.Catalogue.{Catalogue}
+use Rattle.rs_catalog.specs.Catalog.{CatalogDef}
 use Rattle.rs_query.specs.Conjuncts.{ConjunctDef}
 use Rattle.rs_query.specs.WellFormed.{AreSetSides, HasOutputs, IsBlock, IsColumn, IsOutput, IsQuery, IsTerm, argument_columns, same_column}
 use Rattle.rs_query.specs.declared.term.Term.{Term}
@@ -30,12 +30,12 @@ use Rattle.rs_bind.proofs.SameTermFacts.{AreArguments-output, same-kinds, terms_
 use Rattle.rs_bind.proofs.TermFacts.{AreArguments-block, AreNeeded, IsLimit-limit_of, terms_of-formed}
 
 -- what the parts of a block are, without its terms
-record HasParts (catalogue : Catalogue) (written : syntax.Block) (block : Unranked) : Type 0 where
+record HasParts (catalogue : CatalogDef) (written : syntax.Block) (block : Unranked) : Type 0 where
   from : entries_of catalogue written.from ≡ Ok block.from
   conjuncts : filter_of (sources_of catalogue block.from) written.filter ≡ Ok block.conjuncts
   items : items_of (sources_of catalogue block.from) written.items ≡ Ok block.items
 
-HasParts-unranked_of : (catalogue : Catalogue) (written : syntax.Block) (block : Unranked) → unranked_of catalogue written ≡ Ok block
+HasParts-unranked_of : (catalogue : CatalogDef) (written : syntax.Block) (block : Unranked) → unranked_of catalogue written ≡ Ok block
     → HasParts catalogue written block
 HasParts-unranked_of catalogue written block h =
     let of_items = λ (from : List (ℕ × List ℕ)) (conjuncts : List ConjunctDef) (items : List Found).
@@ -51,12 +51,12 @@ HasParts-unranked_of catalogue written block h =
     subst (HasParts catalogue written) {x = made} same (record { from = first.1; conjuncts = second.1; items = third.1 })
 
 -- what holds of a block, whatever its terms
-record IsUnranked (catalogue : Catalogue) (written : syntax.Block) (block : Unranked) (terms : List Term) : Type 0 where
+record IsUnranked (catalogue : CatalogDef) (written : syntax.Block) (block : Unranked) (terms : List Term) : Type 0 where
   entries : AreEntries catalogue 0 written.from block.from
   conjuncts : AreConjuncts catalogue (with_terms block terms) block.conjuncts
   items : AreItems catalogue (with_terms block terms) 0 block.items
 
-IsUnranked-of : (catalogue : Catalogue) (written : syntax.Block) (block : Unranked) (terms : List Term) → HasNarrowConjuncts (with_terms block terms)
+IsUnranked-of : (catalogue : CatalogDef) (written : syntax.Block) (block : Unranked) (terms : List Term) → HasNarrowConjuncts (with_terms block terms)
     → unranked_of catalogue written ≡ Ok block → IsUnranked catalogue written block terms
 IsUnranked-of catalogue written block terms narrow h =
     let parts = HasParts-unranked_of catalogue written block h in
@@ -67,7 +67,7 @@ IsUnranked-of catalogue written block terms narrow h =
     }
 
 -- a block with its terms
-IsBlock-of : (catalogue : Catalogue) (written : syntax.Block) (block : Unranked) (terms : List Term) → IsWrittenBlock written
+IsBlock-of : (catalogue : CatalogDef) (written : syntax.Block) (block : Unranked) (terms : List Term) → IsWrittenBlock written
     → IsUnranked catalogue written block terms → length terms ≤ 8 → AllByRecursion (IsTerm catalogue (with_terms block terms)) terms
     → IsBlock catalogue (with_terms block terms)
 IsBlock-of catalogue written block terms some h most are =
@@ -106,7 +106,7 @@ HasOutputs-needed block terms term distinct needed =
     (each-all is_item columns outputs)
 
 -- what a query of one block is made of
-record IsOne (catalogue : Catalogue) (query : syntax.Query) (bound : Query) : Type 0 where
+record IsOne (catalogue : CatalogDef) (query : syntax.Query) (bound : Query) : Type 0 where
   block : Unranked
   terms : List Term
   limit : Option ℕ
@@ -115,7 +115,7 @@ record IsOne (catalogue : Catalogue) (query : syntax.Query) (bound : Query) : Ty
   is_limit : bound_limit query.limit ≡ Ok limit
   is : One (with_terms block terms) limit ≡ bound
 
-IsOne-one_of : (catalogue : Catalogue) (query : syntax.Query) (bound : Query) → one_of catalogue query ≡ Ok bound → IsOne catalogue query bound
+IsOne-one_of : (catalogue : CatalogDef) (query : syntax.Query) (bound : Query) → one_of catalogue query ≡ Ok bound → IsOne catalogue query bound
 IsOne-one_of catalogue query bound h =
     let terms_in = λ (block : Unranked). terms_of catalogue (block_columns (sources_of catalogue block.from)) (needed_by block) query.terms in
     let after_terms = λ (block : Unranked) (terms : List Term). bound_limit query.limit >>= λ limit. well (One (with_terms block terms) limit) in
@@ -134,7 +134,7 @@ IsOne-one_of catalogue query bound h =
       is = same;
     }
 
-one_of-formed : (catalogue : Catalogue) (query : syntax.Query) (block : Unranked) (terms : List Term) (limit : Option ℕ) → IsWrittenQuery query
+one_of-formed : (catalogue : CatalogDef) (query : syntax.Query) (block : Unranked) (terms : List Term) (limit : Option ℕ) → IsWrittenQuery query
     → HasNarrowConjuncts (with_terms block terms) → unranked_of catalogue query.left ≡ Ok block
     → terms_of catalogue (block_columns (sources_of catalogue block.from)) (needed_by block) query.terms ≡ Ok terms → bound_limit query.limit ≡ Ok limit
     → IsQuery catalogue (One (with_terms block terms) limit)
@@ -149,7 +149,7 @@ one_of-formed catalogue query block terms limit written narrow is_block are_term
     )
 
 -- what a query of two blocks is made of
-record IsSet (catalogue : Catalogue) (query : syntax.Query) (op : SetOp) (second : syntax.Block) (bound : Query) : Type 0 where
+record IsSet (catalogue : CatalogDef) (query : syntax.Query) (op : SetOp) (second : syntax.Block) (bound : Query) : Type 0 where
   left : Unranked
   right : Unranked
   terms : List Term
@@ -163,7 +163,7 @@ record IsSet (catalogue : Catalogue) (query : syntax.Query) (op : SetOp) (second
   is_limit : bound_limit query.limit ≡ Ok limit
   is : Set op (with_terms left terms) (with_terms right others) limit ≡ bound
 
-IsSet-set_of : (catalogue : Catalogue) (query : syntax.Query) (op : SetOp) (second : syntax.Block) (bound : Query)
+IsSet-set_of : (catalogue : CatalogDef) (query : syntax.Query) (op : SetOp) (second : syntax.Block) (bound : Query)
     → set_of catalogue query op second ≡ Ok bound → IsSet catalogue query op second bound
 IsSet-set_of catalogue query op second bound h =
     let terms_in = λ (left of : Unranked). terms_of catalogue (output_columns (output_names catalogue left) of.items) None query.terms in
@@ -197,7 +197,7 @@ IsSet-set_of catalogue query op second bound h =
     }
 
 -- two blocks of which each is well formed, whose terms are the same
-set_of-sides : (catalogue : Catalogue) (query : syntax.Query) (second : syntax.Block) (left right : Unranked) (terms others : List Term) → IsWrittenBlock query.left
+set_of-sides : (catalogue : CatalogDef) (query : syntax.Query) (second : syntax.Block) (left right : Unranked) (terms others : List Term) → IsWrittenBlock query.left
     → IsWrittenBlock second → AllByRecursion IsWrittenTerm query.terms → IsUnranked catalogue query.left left terms → IsUnranked catalogue second right others
     → agree left.items right.items ≡ true → terms_of catalogue (output_columns (output_names catalogue left) left.items) None query.terms ≡ Ok terms
     → terms_of catalogue (output_columns (output_names catalogue left) right.items) None query.terms ≡ Ok others
@@ -220,7 +220,7 @@ set_of-sides catalogue query second left right terms others some_left some_right
     }
 
 -- the query that a SELECT is is well formed
-pub formed : (catalogue : Catalogue) (query : syntax.Query) (bound : Query) → IsWrittenQuery query → HaveNarrowConjuncts bound
+pub formed : (catalogue : CatalogDef) (query : syntax.Query) (bound : Query) → IsWrittenQuery query → HaveNarrowConjuncts bound
     → bound_query catalogue query ≡ Ok bound → IsQuery catalogue bound
 formed catalogue query bound written narrow h = go query.right refl where
   go : (right : Option (SetOp × syntax.Block)) → query.right ≡ right → IsQuery catalogue bound
@@ -241,7 +241,7 @@ formed catalogue query bound written narrow h = go query.right refl where
       (sides, IsLimit-limit_of query.limit made.limit made.is_limit)
 
 -- the same of what was made
-pub IfOk-formed : (catalogue : Catalogue) (query : syntax.Query) (result : Result Query BindFault) → IsWrittenQuery query
+pub IfOk-formed : (catalogue : CatalogDef) (query : syntax.Query) (result : Result Query BindFault) → IsWrittenQuery query
     → IfOk result (λ bound. HaveNarrowConjuncts bound) → Gives Memory (bound_query catalogue query) result → IfOk result (λ bound. IsQuery catalogue bound)
 IfOk-formed catalogue query (Ok bound) written narrow (inl h) = formed catalogue query bound written narrow (sym h)
 IfOk-formed catalogue query (Ok bound) written narrow (inr h) = cc

@@ -18,7 +18,7 @@ use Rattle.rs_table.specs.Column.{Column}
 use Rattle.rs_value.specs.Results.{◌>>=◌}
 use Rattle.rs_expr.specs.Predicates.{PredicateDef}
 use Rattle.rs_expr.specs.Uses.{is_kind}
-use Rattle.rs_catalog.specs.Catalogue.{Catalogue, NamedTable, number_named}
+use Rattle.rs_catalog.specs.Catalog.{CatalogDef, NamedTable, number_named}
 use Rattle.rs_catalog.specs.declared.room.What.TheVariants as what
 use Rattle.rs_catalog.specs.declared.index.IndexDef.{IndexDef}
 use Rattle.rs_catalog.specs.Indexes.{IsIndex, arg_fits, args_fit}
@@ -104,7 +104,7 @@ fits-term columns alias kinds args at made written h =
     subst (λ bs. args_fit columns kinds bs ≡ true) same (fits-args columns alias kinds args steps.0 written (grind (arith, nat_tests)) steps.1)
 
 -- the index of a statement, behind its table, its predicate and its arguments
-module _ (catalogue : Catalogue) (name table predicate : Name) (args : List Arg) (at : Span) where
+module _ (catalogue : CatalogDef) (name table predicate : Name) (args : List Arg) (at : Span) where
   abbrev of_args : ℕ → ℕ → List BoundArg → IndexDef
   of_args t p made = record { name = name.text; table = t; predicate = p; args = made }
 
@@ -145,13 +145,13 @@ module _ (catalogue : Catalogue) (name table predicate : Name) (args : List Arg)
       (Ok-or_fault (At NoTable table.at) (number_named what.Table table.text catalogue) first.0 first.1)
       (Ok-or_fault (At NoPredicate predicate.at) (number_named what.Predicate predicate.text catalogue) second.0 second.1) third.1)
 
-IsIndex-of_command : (catalogue : Catalogue) (command : Command) (def : IndexDef) → IsWritten command → index_def_of catalogue command ≡ Ok def
+IsIndex-of_command : (catalogue : CatalogDef) (command : Command) (def : IndexDef) → IsWritten command → index_def_of catalogue command ≡ Ok def
     → IsIndex catalogue def
 IsIndex-of_command catalogue (CreateRankIndex name table predicate args at) def written h = IsIndex-index_def_of catalogue name table predicate args at def written h
 IsIndex-of_command catalogue command def written h = cc
 
 -- what is given is that index
-pub IsIndex-given : (catalogue : Catalogue) (command : Command) (def : IndexDef) → IsWritten command → Gives Memory (index_def_of catalogue command) (Ok def)
+pub IsIndex-given : (catalogue : CatalogDef) (command : Command) (def : IndexDef) → IsWritten command → Gives Memory (index_def_of catalogue command) (Ok def)
     → IsIndex catalogue def
 IsIndex-given catalogue command def written (inl h) = IsIndex-of_command catalogue command def written (sym h)
 IsIndex-given catalogue command def written (inr h) = cc

@@ -14,7 +14,7 @@ use Rattle.rs_syntax.specs.declared.select.TermSyn.{TermSyn}
 use Rattle.rs_syntax.specs.Syntax as syntax
 use Rattle.rs_value.specs.Results.{◌>>=◌}
 use Rattle.rs_expr.specs.Uses.{is_kind}
-use Rattle.rs_catalog.specs.Catalogue.{Catalogue, number_named}
+use Rattle.rs_catalog.specs.Catalog.{CatalogDef, number_named}
 use Rattle.rs_catalog.specs.declared.index.BoundArg.{BoundArg}
 use Rattle.rs_catalog.specs.declared.room.What.TheVariants as what
 use Rattle.rs_query.specs.WellFormed.{argument_columns, entries_mask}
@@ -46,7 +46,7 @@ use Rattle.rs_bind.proofs.TermFacts.{same-kind, term_with}
 use Rattle.rs_bind.proofs.TestFacts.{Err-else, Err-or_fault, Err-test, apart-test, equal-test, is-apart, is-equal}
 
 -- terms
-module _ (catalogue : Catalogue) (entries : Entries) (needed : Option (List Found)) where
+module _ (catalogue : CatalogDef) (entries : Entries) (needed : Option (List Found)) where
   abbrev params_of : ℕ → List Kind
   params_of predicate = params_in catalogue predicate
 
@@ -338,7 +338,7 @@ module _ (names : List (List ℕ)) (left right : List Found) (alike : agree left
       }
 
   -- terms that are typed in the left block are typed in the right one
-  other-terms : (catalogue : Catalogue) {before : List Term} (others_before : List Term) {terms : List TermSyn} {made : List Term} → length before ≡ length others_before
+  other-terms : (catalogue : CatalogDef) {before : List Term} (others_before : List Term) {terms : List TermSyn} {made : List Term} → length before ≡ length others_before
       → Each (TypesTerm catalogue (output_columns names left) None) before terms made
       → (others : List Term) × Each (TypesTerm catalogue (output_columns names right) None) others_before terms others
   other-terms catalogue others_before e (none before) = ([], none others_before)
@@ -363,7 +363,7 @@ module _ (names : List (List ℕ)) (left right : List Found) (alike : agree left
         }) rest.1,
       )
 
-module _ (catalogue : Catalogue) where
+module _ (catalogue : CatalogDef) where
   -- a query of one block
   abbrev with_limit : Unranked → List Term → Option ℕ → Result Query BindFault
   with_limit block terms limit = well (One (with_terms block terms) limit)

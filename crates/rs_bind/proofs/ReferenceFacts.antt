@@ -15,7 +15,7 @@ use Rattle.rs_value.specs.declared.value.Value.{Value}
 use Rattle.rs_syntax.specs.declared.name.ColRef.{ColRef}
 use Rattle.rs_syntax.specs.Syntax.{Expression}
 use Rattle.rs_value.specs.Results.{◌>>=◌}
-use Rattle.rs_catalog.specs.Catalogue.{Catalogue}
+use Rattle.rs_catalog.specs.Catalog.{CatalogDef}
 use Rattle.rs_query.specs.WellFormed.{AreDistinct, same_column}
 use Rattle.rs_typing.specs.declared.fault.BindFault.{BindFault}
 use Rattle.rs_typing.specs.declared.fault.BindFault.TheVariants.{At}
@@ -361,7 +361,7 @@ few-columns columns h near =
     omega (arith, many, same)
 
 -- where a block has six entries at most, of 64 columns each
-module _ (catalogue : Catalogue) (from : List (ℕ × List ℕ)) (few : length from ≤ 6)
+module _ (catalogue : CatalogDef) (from : List (ℕ × List ℕ)) (few : length from ≤ 6)
     (columns : AllByRecursion (λ (entry : ℕ × List ℕ). length (columns_in catalogue entry.0) ≤ 64) from) (x : Expression) where
   near : AllByRecursion IsNear (named_columns (sources_of catalogue from) x)
   near = each-named-column IsNear (sources_of catalogue from) x (λ c found is.

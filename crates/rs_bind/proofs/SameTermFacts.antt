@@ -14,7 +14,7 @@ use Rattle.rs_syntax.specs.declared.name.Name.{Name}
 use Rattle.rs_syntax.specs.declared.select.TermSyn.{TermSyn}
 use Rattle.rs_value.specs.Results.{◌>>=◌}
 use Rattle.rs_expr.specs.Uses.{is_kind}
-use Rattle.rs_catalog.specs.Catalogue.{Catalogue}
+use Rattle.rs_catalog.specs.Catalog.{CatalogDef}
 use Rattle.rs_catalog.specs.declared.index.BoundArg.{BoundArg}
 use Rattle.rs_catalog.specs.declared.index.BoundArg.TheVariants as bound
 use Rattle.rs_query.specs.declared.block.Block.{Block}
@@ -60,7 +60,7 @@ each-called P name (own ∷ names) (item ∷ items) h = go (bytes_eq own name) (
   go false others = others
 
 -- what a reference of a set query stands for is an argument of either block
-pub AreArguments-output : (catalogue : Catalogue) (block : Block) (names : List (List ℕ)) (items : List Found)
+pub AreArguments-output : (catalogue : CatalogDef) (block : Block) (names : List (List ℕ)) (items : List Found)
     → AllByRecursion (IsFound catalogue block) items → AreArguments catalogue block (output_columns names items)
 AreArguments-output catalogue block names items are c found h =
     let is = output-called names items c found h in
@@ -163,7 +163,7 @@ module _ (left right : Block) (names : List (List ℕ)) (lefts rights : List Fou
       let test = Ok-test (list_any is_column steps.0) (Ok steps.0) (At ConstantTerm at) made steps.2 in
       cc
 
-  same-terms : (catalogue : Catalogue) (before : ℕ) (written : List TermSyn) (made other : List Term)
+  same-terms : (catalogue : CatalogDef) (before : ℕ) (written : List TermSyn) (made other : List Term)
       → terms_behind catalogue in_left None before written ≡ Ok made → terms_behind catalogue in_right None before written ≡ Ok other
       → AreSameTerms left right made other
   same-terms catalogue before [] made other h k =
@@ -189,12 +189,12 @@ module _ (left right : Block) (names : List (List ℕ)) (lefts rights : List Fou
       (subst (AreSameTerms left right (term_with catalogue a.weight a.predicate a.args ∷ a.more)) b.is
       (first, same-terms catalogue (suc before) rest a.more b.more a.is_more b.is_more))
 
-  pub terms_of-same : (catalogue : Catalogue) (written : List TermSyn) (made other : List Term) → terms_of catalogue in_left None written ≡ Ok made
+  pub terms_of-same : (catalogue : CatalogDef) (written : List TermSyn) (made other : List Term) → terms_of catalogue in_left None written ≡ Ok made
       → terms_of catalogue in_right None written ≡ Ok other → AreSameTerms left right made other
   terms_of-same catalogue written made other h k = same-terms catalogue 0 written made other h k
 
 -- the kinds of the output columns of two blocks
-kinds-found : (catalogue : Catalogue) (block : Block) (items : List Found) → AllByRecursion (IsFound catalogue block) items
+kinds-found : (catalogue : CatalogDef) (block : Block) (items : List Found) → AllByRecursion (IsFound catalogue block) items
     → map (column_kind catalogue block) (map (λ (item : Found). item.0) items) ≡ map (λ (item : Found). Some item.1) items
 kinds-found catalogue block [] h = refl
 kinds-found catalogue block (item ∷ items) h = λ i. h.0.has_kind i ∷ kinds-found catalogue block items h.1 i
@@ -208,7 +208,7 @@ kinds-agree (a ∷ left) (b ∷ right) h =
     let parts = parts_true (is_kind a.1 (Some b.1)) (agree left right) h in
     λ i. Some (sym (same-kind a.1 b.1 parts.0) i) ∷ kinds-agree left right parts.1 i
 
-pub same-kinds : (catalogue : Catalogue) (left right : Block) (lefts rights : List Found) → AllByRecursion (IsFound catalogue left) lefts
+pub same-kinds : (catalogue : CatalogDef) (left right : Block) (lefts rights : List Found) → AllByRecursion (IsFound catalogue left) lefts
     → AllByRecursion (IsFound catalogue right) rights → agree lefts rights ≡ true
     → map (column_kind catalogue left) (map (λ (item : Found). item.0) lefts) ≡ map (column_kind catalogue right) (map (λ (item : Found). item.0) rights)
 same-kinds catalogue left right lefts rights h k test =

@@ -8,7 +8,7 @@ use Rattle.rs_lex.specs.declared.token.Span.{Span}
 use Rattle.rs_syntax.specs.declared.name.ColRef.{ColRef}
 use Rattle.rs_table.specs.Column.{Column, is_named}
 use Rattle.rs_value.specs.Results.{◌>>=◌}
-use Rattle.rs_catalog.specs.Catalogue.{Catalogue}
+use Rattle.rs_catalog.specs.Catalog.{CatalogDef}
 use Rattle.rs_typing.specs.declared.fault.BindFault.{BindFault}
 use Rattle.rs_typing.specs.Parameters.{placed, placed_from}
 use Rattle.rs_bind.specs.Indexes.{columns_in, is_of_entry}
@@ -78,13 +78,13 @@ the_only-holds P at (x ∷ []) all = all.0
 the_only-holds P at (x ∷ y ∷ more) all = tt
 
 -- what holds of the columns of each entry's table holds of each source's
-sources_of-columns : (catalogue : Catalogue) (from : List (ℕ × List ℕ)) → AllByRecursion (λ (entry : ℕ × List ℕ). length (columns_in catalogue entry.0) ≤ 64) from
+sources_of-columns : (catalogue : CatalogDef) (from : List (ℕ × List ℕ)) → AllByRecursion (λ (entry : ℕ × List ℕ). length (columns_in catalogue entry.0) ≤ 64) from
     → AllByRecursion (λ (source : Source). length source.1 ≤ 64) (sources_of catalogue from)
 sources_of-columns catalogue [] columns = tt
 sources_of-columns catalogue (entry ∷ rest) columns = (columns.0, sources_of-columns catalogue rest columns.1)
 
 -- where a block has six entries at most, of 64 columns each
-module _ (catalogue : Catalogue) (from : List (ℕ × List ℕ)) (few : length from ≤ 6)
+module _ (catalogue : CatalogDef) (from : List (ℕ × List ℕ)) (few : length from ≤ 6)
     (columns : AllByRecursion (λ (entry : ℕ × List ℕ). length (columns_in catalogue entry.0) ≤ 64) from) (c : ColRef) where
   -- a column is one of an entry from 1 to 6
   pub column_in-within : IfOk (column_in (sources_of catalogue from) c) (IsWithin 6)

@@ -12,7 +12,7 @@ use Rattle.rs_table.specs.Column.{Column, is_named}
 use Rattle.rs_value.specs.Results.{◌>>=◌}
 use Rattle.rs_expr.specs.Formulas.{Formula}
 use Rattle.rs_expr.specs.Predicates.{PredicateDef}
-use Rattle.rs_catalog.specs.Catalogue.{Catalogue, number_named}
+use Rattle.rs_catalog.specs.Catalog.{CatalogDef, number_named}
 use Rattle.rs_catalog.specs.declared.index.BoundArg.{BoundArg}
 use Rattle.rs_catalog.specs.declared.index.IndexDef.{IndexDef}
 use Rattle.rs_catalog.specs.declared.room.What.TheVariants as what
@@ -245,7 +245,7 @@ module _ (name : Name) (params : List (Name × Kind)) (max : ℤ × Span) (cost 
   predicates_refused_by_rules fault = (λ h. predicate-refused fault h, λ h. predicate-is_refused fault h)
 
 -- a rank index
-module _ (catalogue : Catalogue) (name table predicate : Name) (args : List Arg) (at : Span) where
+module _ (catalogue : CatalogDef) (name table predicate : Name) (args : List Arg) (at : Span) where
   abbrev index_of : ℕ → ℕ → List BoundArg → IndexDef
   index_of t p bound = record { name = name.text; table = t; predicate = p; args = bound }
 

@@ -13,7 +13,7 @@ use Rattle.rs_syntax.specs.declared.select.TermSyn.{TermSyn}
 use Rattle.rs_value.specs.Results.{◌>>=◌}
 use Rattle.rs_expr.specs.Predicates.{PredicateDef}
 use Rattle.rs_expr.specs.Uses.{is_kind}
-use Rattle.rs_catalog.specs.Catalogue.{Catalogue, number_named}
+use Rattle.rs_catalog.specs.Catalog.{CatalogDef, number_named}
 use Rattle.rs_catalog.specs.declared.index.BoundArg.{BoundArg}
 use Rattle.rs_catalog.specs.declared.index.BoundArg.TheVariants as bound
 use Rattle.rs_catalog.specs.declared.room.What.TheVariants as what
@@ -56,22 +56,22 @@ same-kind kind.Int kind.Text h = cc
 same-kind kind.Text kind.Int h = cc
 
 -- a column that was found as an argument
-pub IsArg-found : (catalogue : Catalogue) (block : Block) (found : Found) → IsFound catalogue block found
+pub IsArg-found : (catalogue : CatalogDef) (block : Block) (found : Found) → IsFound catalogue block found
     → IsArg catalogue block (as_argument found).1 (as_argument found).0
 IsArg-found catalogue block found h = (IsColumn-found catalogue block found h, h.has_kind)
 
 -- what a reference stands for is an argument of the block
-abbrev pub AreArguments : Catalogue → Block → Entries → Type 0
+abbrev pub AreArguments : CatalogDef → Block → Entries → Type 0
 AreArguments catalogue block entries = (c : ColRef) (found : BoundArg × Kind) → entries c ≡ Ok found → IsArg catalogue block found.1 found.0
 
-pub AreArguments-block : (catalogue : Catalogue) (block : Block) → AreArguments catalogue block (block_columns (sources_of catalogue block.from))
+pub AreArguments-block : (catalogue : CatalogDef) (block : Block) → AreArguments catalogue block (block_columns (sources_of catalogue block.from))
 AreArguments-block catalogue block c found h =
     let steps = Ok-steps (column_in (sources_of catalogue block.from) c) (λ column. Ok (as_argument column)) found h in
     let same : as_argument steps.0 ≡ found = cc in
     subst (λ (f : BoundArg × Kind). IsArg catalogue block f.1 f.0) same (IsArg-found catalogue block steps.0 (column_in-found catalogue block c steps.0 steps.1))
 
 -- the term of this weight, predicate and arguments
-abbrev pub term_with : Catalogue → ℕ → ℕ → List BoundArg → Term
+abbrev pub term_with : CatalogDef → ℕ → ℕ → List BoundArg → Term
 term_with catalogue weight predicate args =
     record { weight = weight; predicate = predicate; args = args; max = max_in catalogue predicate; entries = entries_mask (argument_columns args) }
 
@@ -80,7 +80,7 @@ pub record AreNeeded (needed : Option (List Found)) (term : Term) : Type 0 where
   pub outputs : are_outputs needed (argument_columns term.args) ≡ true
 
 -- what the first one of some terms is made of
-pub record IsMade (catalogue : Catalogue) (entries : Entries) (needed : Option (List Found)) (before : ℕ) (term : TermSyn) (rest : List TermSyn) (made : List Term) : Type 0 where
+pub record IsMade (catalogue : CatalogDef) (entries : Entries) (needed : Option (List Found)) (before : ℕ) (term : TermSyn) (rest : List TermSyn) (made : List Term) : Type 0 where
   pub weight : ℕ
   pub predicate : ℕ
   pub args : List BoundArg
@@ -93,7 +93,7 @@ pub record IsMade (catalogue : Catalogue) (entries : Entries) (needed : Option (
   pub is_more : terms_behind catalogue entries needed (suc before) rest ≡ Ok more
   pub is : term_with catalogue weight predicate args ∷ more ≡ made
 
-pub IsMade-terms : (catalogue : Catalogue) (entries : Entries) (needed : Option (List Found)) (before : ℕ) (term : TermSyn) (rest : List TermSyn) (made : List Term)
+pub IsMade-terms : (catalogue : CatalogDef) (entries : Entries) (needed : Option (List Found)) (before : ℕ) (term : TermSyn) (rest : List TermSyn) (made : List Term)
     → terms_behind catalogue entries needed before (term ∷ rest) ≡ Ok made → IsMade catalogue entries needed before term rest made
 IsMade-terms catalogue entries needed before term rest made h =
     let weight = number_in 1 most_weight term.weight in
@@ -126,7 +126,7 @@ IsMade-terms catalogue entries needed before term rest made h =
       is = same;
     }
 
-module _ (catalogue : Catalogue) (block : Block) (entries : Entries) (are : AreArguments catalogue block entries) where
+module _ (catalogue : CatalogDef) (block : Block) (entries : Entries) (are : AreArguments catalogue block entries) where
   -- an argument is one for its parameter
   of_kind-fits : (wanted : Kind) (at : Span) (found : BoundArg × Kind) (made : BoundArg) → IsArg catalogue block found.1 found.0
       → of_kind wanted at found ≡ Ok made → IsArg catalogue block wanted made

@@ -7,7 +7,7 @@ use Rattle.rs_value.specs.Answer.{Gives}
 use Rattle.rs_syntax.specs.declared.select.TermSyn.{TermSyn}
 use Rattle.rs_table.specs.Appended.{appended}
 use Rattle.rs_value.specs.Results.{◌>>=◌}
-use Rattle.rs_catalog.specs.Catalogue.{Catalogue, number_named}
+use Rattle.rs_catalog.specs.Catalog.{CatalogDef, number_named}
 use Rattle.rs_catalog.specs.declared.index.BoundArg.{BoundArg}
 use Rattle.rs_catalog.specs.declared.room.What.TheVariants as what
 use Rattle.rs_query.specs.WellFormed.{argument_columns, entries_mask}
@@ -62,7 +62,7 @@ appended-next : (made : List Term) (term : Term) (rest : Result (List Term) Bind
 appended-next made term (Ok more) = ap (λ all. Ok all) (sym (append_assoc made (term ∷ []) more))
 appended-next made term (Err fault) = refl
 
-module _ (catalogue : Catalogue) (entries : Entries) (needed : Option (List Found)) where
+module _ (catalogue : CatalogDef) (entries : Entries) (needed : Option (List Found)) where
   abbrev term_with : ℕ → ℕ → List BoundArg → Term
   term_with weight predicate args = record {
     weight = weight;

@@ -14,7 +14,7 @@ use Rattle.rs_syntax.specs.declared.select.Items.TheVariants as items
 use Rattle.rs_table.specs.Column.{Column}
 use Rattle.rs_value.specs.Results.{◌>>=◌}
 use Rattle.rs_expr.specs.Uses.{is_kind}
-use Rattle.rs_catalog.specs.Catalogue.{Catalogue}
+use Rattle.rs_catalog.specs.Catalog.{CatalogDef}
 use Rattle.rs_typing.specs.declared.fault.BindFault.{BindFault}
 use Rattle.rs_typing.specs.declared.fault.BindFault.TheVariants.{At, Memory}
 use Rattle.rs_typing.specs.declared.fault.Why.TheVariants.{LimitOf}
@@ -122,7 +122,7 @@ items-given sources written made (inl h) = All-items_of sources written made (sy
 items-given sources written made (inr h) = cc
 
 -- where there are six entries at most, they are columns of entries from 1 to 6
-pub items-entries : (catalogue : Catalogue) (from : List (ℕ × List ℕ)) (made : List Found) → length from ≤ 6
+pub items-entries : (catalogue : CatalogDef) (from : List (ℕ × List ℕ)) (made : List Found) → length from ≤ 6
     → AllByRecursion (IsItemOf (sources_of catalogue from)) made → AllByRecursion IsEntryItem made
 items-entries catalogue from made few all = All-weaker (IsItemOf (sources_of catalogue from)) IsEntryItem entry_of made all where
   count : length (sources_of catalogue from) ≡ length from
@@ -158,7 +158,7 @@ agree-same_length (a ∷ left) [] h = cc
 agree-same_length (a ∷ left) (b ∷ right) h = ap suc (agree-same_length left right (both (is_kind a.1 (Some b.1)) (agree left right) h))
 
 -- the names of the left output columns are no more than the right output columns
-pub output_names-few : (catalogue : Catalogue) (left : Unranked) (names : List (List ℕ)) (right : List Found) → names ≡ output_names catalogue left
+pub output_names-few : (catalogue : CatalogDef) (left : Unranked) (names : List (List ℕ)) (right : List Found) → names ≡ output_names catalogue left
     → agree left.items right ≡ true → length names ≤ length right
 output_names-few catalogue left names right same h =
     let count : length (output_names catalogue left) ≡ length left.items = length-map left.items (λ (item : Found). name_of catalogue left item.0) in

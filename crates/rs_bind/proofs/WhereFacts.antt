@@ -5,7 +5,7 @@ use Rattle.std.specs.List.{list_all}
 use Rattle.rs_syntax.specs.Syntax as syntax
 use Rattle.rs_syntax.specs.Syntax.{Expression}
 use Rattle.rs_expr.specs.Formulas.{Condition}
-use Rattle.rs_catalog.specs.Catalogue.{Catalogue}
+use Rattle.rs_catalog.specs.Catalog.{CatalogDef}
 use Rattle.rs_query.specs.Conjuncts.{ConjunctDef}
 use Rattle.rs_query.specs.Meaning.{column_value, conjunct_holds}
 use Rattle.rs_query.specs.declared.block.Block.{Block}
@@ -31,7 +31,7 @@ filter-parts sources filter made (rules_of.condition y c conjuncts typed few eac
     let same : y ≡ x = cc in
     subst (λ z. conjuncts_of sources (parts_of_and z) ≡ Ok made) same (conjuncts-are sources each)
 
-module _ (catalogue : Catalogue) (block : Block) (rows : List ℕ) where
+module _ (catalogue : CatalogDef) (block : Block) (rows : List ℕ) where
   abbrev all_hold : List ConjunctDef → Type 0
   all_hold made = list_all (conjunct_holds catalogue block rows) made ≡ true
 
@@ -63,7 +63,7 @@ module _ (catalogue : Catalogue) (block : Block) (rows : List ℕ) where
         λ w. let means = WhereHolds-means w in parts-hold x made (named_columns sources x) means.0 are means.1 ∙ means.2,
       )
 
-module _ (catalogue : Catalogue) (written : syntax.Block) (bound : Unranked) (terms : List Term) (rows : List ℕ) (typed : TypesBlock catalogue written bound) where
+module _ (catalogue : CatalogDef) (written : syntax.Block) (bound : Unranked) (terms : List Term) (rows : List ℕ) (typed : TypesBlock catalogue written bound) where
   pub holds-where : (conjuncts_hold catalogue (with_terms bound terms) rows ≡ true) ↔ WhereHolds catalogue (with_terms bound terms) rows written.filter
   holds-where = filter-holds catalogue (with_terms bound terms) rows written.filter bound.conjuncts typed.conjuncts
 

@@ -11,7 +11,7 @@ use Rattle.rs_syntax.specs.Syntax.{CreateRankIndex}
 use Rattle.rs_table.specs.Column.{Column}
 use Rattle.rs_expr.specs.Formulas.{Constant}
 use Rattle.rs_expr.specs.Predicates.{PredicateDef}
-use Rattle.rs_catalog.specs.Catalogue.{Catalogue, NamedTable}
+use Rattle.rs_catalog.specs.Catalog.{CatalogDef, NamedTable}
 use Rattle.rs_catalog.specs.declared.index.BoundArg.{BoundArg}
 use Rattle.rs_catalog.specs.declared.index.BoundArg.TheVariants as bound
 use Rattle.rs_catalog.specs.declared.index.IndexDef.{IndexDef}
@@ -28,7 +28,7 @@ abbrev predicate : List ℕ → List Kind → PredicateDef
 predicate name params = record { name = name; params = params; max = 9; cost = 1; formula = Constant (pos 1) }
 
 -- the tables u (x TEXT) and t (x INT, y INT, s TEXT), and the predicates p (v INT), near (a INT, b INT), name (s TEXT) and tag (v INT, s TEXT)
-abbrev made : Catalogue
+abbrev made : CatalogDef
 made = record {
   tables = table (codes "u") ((codes "x", kind.Text) ∷ []) ∷ table (codes "t") ((codes "x", kind.Int) ∷ (codes "y", kind.Int) ∷ (codes "s", kind.Text) ∷ []) ∷ [];
   predicates = predicate (codes "p") (kind.Int ∷ []) ∷ predicate (codes "near") (kind.Int ∷ kind.Int ∷ []) ∷ predicate (codes "name") (kind.Text ∷ [])

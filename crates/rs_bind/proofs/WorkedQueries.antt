@@ -17,7 +17,7 @@ use Rattle.rs_syntax.specs.Syntax.{And, Arith, Compare, Column, Int, Query}
 use Rattle.rs_table.specs.Column as table
 use Rattle.rs_expr.specs.Formulas.{Argument, Constant, Numbers, Sum}
 use Rattle.rs_expr.specs.Predicates.{PredicateDef}
-use Rattle.rs_catalog.specs.Catalogue.{Catalogue, NamedTable}
+use Rattle.rs_catalog.specs.Catalog.{CatalogDef, NamedTable}
 use Rattle.rs_catalog.specs.declared.index.BoundArg.{BoundArg}
 use Rattle.rs_catalog.specs.declared.index.BoundArg.TheVariants as bound
 use Rattle.rs_query.specs.declared.query.Query.TheVariants.{One, Set}
@@ -39,7 +39,7 @@ abbrev predicate : List ℕ → List Kind → PredicateDef
 predicate name params = record { name = name; params = params; max = 100; cost = 1; formula = Constant (pos 1) }
 
 -- the tables h (name TEXT, price INT, city INT), u (v INT) and w (k TEXT, v INT), and the predicates near (a INT, b INT) and p (v INT)
-abbrev made : Catalogue
+abbrev made : CatalogDef
 made = record {
   tables = named_table (codes "h") ((codes "name", kind.Text) ∷ number (codes "price") ∷ number (codes "city") ∷ [])
       ∷ named_table (codes "u") (number (codes "v") ∷ []) ∷ named_table (codes "w") ((codes "k", kind.Text) ∷ number (codes "v") ∷ []) ∷ [];

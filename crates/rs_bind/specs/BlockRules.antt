@@ -10,7 +10,7 @@ use Rattle.rs_syntax.specs.declared.select.Items.TheVariants as items
 use Rattle.rs_syntax.specs.Syntax as syntax
 use Rattle.rs_syntax.specs.Syntax.{Expression}
 use Rattle.rs_expr.specs.Formulas.{Condition}
-use Rattle.rs_catalog.specs.Catalogue.{Catalogue, number_named}
+use Rattle.rs_catalog.specs.Catalog.{CatalogDef, number_named}
 use Rattle.rs_catalog.specs.declared.room.What.TheVariants as what
 use Rattle.rs_query.specs.Conjuncts.{ConjunctDef}
 use Rattle.rs_query.specs.WellFormed.{entries_mask, equality_of}
@@ -38,7 +38,7 @@ is_taken alias before = list_any (λ (entry : Entry). bytes_eq entry.1 alias) be
 abbrev pub is_free : List ℕ → List Entry → Type 0
 is_free alias before = list_any (λ (entry : Entry). bytes_eq entry.1 alias) before ≡ false
 
-module _ (catalogue : Catalogue) where
+module _ (catalogue : CatalogDef) where
   -- at most six entries, each of a table that is there, with an alias that no entry before it has
   pub record TypesEntry (before : List Entry) (entry : FromEntry) (bound : Entry) : Type 0 where
     pub room : length before ≢ most_entries
@@ -99,7 +99,7 @@ module _ (sources : List Source) where
     too_many : (at : Span) → most_items < length (all_columns_from 1 sources) → RefusedItems (items.Star at) (At LimitOf at)
     in_list : (columns : List ColRef) (fault : BindFault) → FirstRefused TypesItem RefusedItem [] columns fault → RefusedItems (items.List columns) fault
 
-module _ (catalogue : Catalogue) where
+module _ (catalogue : CatalogDef) where
   -- a block: FROM comes first, then WHERE, and then the output columns
   pub record TypesBlock (block : syntax.Block) (bound : Unranked) : Type 0 where
     pub from : Each (TypesEntry catalogue) [] block.from bound.from

@@ -13,7 +13,7 @@ use Rattle.rs_syntax.specs.Syntax.{Command, CreateRankIndex}
 use Rattle.rs_table.specs.Column.{Column}
 use Rattle.rs_value.specs.Results.{◌>>=◌}
 use Rattle.rs_expr.specs.Uses.{is_kind}
-use Rattle.rs_catalog.specs.Catalogue.{Catalogue, number_named}
+use Rattle.rs_catalog.specs.Catalog.{CatalogDef, number_named}
 use Rattle.rs_catalog.specs.declared.room.What.TheVariants as what
 use Rattle.rs_catalog.specs.declared.index.BoundArg.{BoundArg}
 use Rattle.rs_catalog.specs.declared.index.BoundArg.TheVariants as bound
@@ -77,14 +77,14 @@ entry_column alias columns c =
     else Err (At NoColumn (span_of_column c))
 
 -- the columns of the table of this number, and the kinds of the parameters of the predicate
-abbrev pub columns_in : Catalogue → ℕ → List Column
+abbrev pub columns_in : CatalogDef → ℕ → List Column
 columns_in catalogue table = unwrap_or (option_map (λ t. t.table.schema) (slice_get catalogue.tables table)) []
 
-abbrev pub params_in : Catalogue → ℕ → List Kind
+abbrev pub params_in : CatalogDef → ℕ → List Kind
 params_in catalogue predicate = unwrap_or (option_map (λ p. p.params) (slice_get catalogue.predicates predicate)) []
 
 -- the table, then the predicate and its arguments, which are those of a term over the table under its own name
-abbrev pub index_def_of : Catalogue → Command → Result IndexDef BindFault
+abbrev pub index_def_of : CatalogDef → Command → Result IndexDef BindFault
 index_def_of catalogue (CreateRankIndex name table predicate args at) = do
   t ← or_fault (At NoTable table.at) (number_named what.Table table.text catalogue)
   p ← or_fault (At NoPredicate predicate.at) (number_named what.Predicate predicate.text catalogue)

@@ -13,7 +13,7 @@ use Rattle.rs_syntax.specs.Syntax as syntax
 use Rattle.rs_table.specs.Column.{Column}
 use Rattle.rs_value.specs.Results.{◌>>=◌}
 use Rattle.rs_expr.specs.Uses.{is_kind}
-use Rattle.rs_catalog.specs.Catalogue.{Catalogue, number_named}
+use Rattle.rs_catalog.specs.Catalog.{CatalogDef, number_named}
 use Rattle.rs_catalog.specs.declared.index.BoundArg.{BoundArg}
 use Rattle.rs_catalog.specs.declared.index.BoundArg.TheVariants as bound
 use Rattle.rs_catalog.specs.declared.room.What.TheVariants as what
@@ -38,7 +38,7 @@ abbrev pub Unranked : Type 0
 Unranked = parts.Unranked
 
 -- FROM comes first, then WHERE, and then the output columns
-abbrev pub unranked_of : Catalogue → syntax.Block → Result Unranked BindFault
+abbrev pub unranked_of : CatalogDef → syntax.Block → Result Unranked BindFault
 unranked_of catalogue block = do
   from ← entries_of catalogue block.from
   conjuncts ← filter_of (sources_of catalogue from) block.filter
@@ -69,7 +69,7 @@ IsEntryArg (bound.Int n) = Unit {0}
 IsEntryArg (bound.Text text) = Unit {0}
 
 -- the greatest score of a predicate
-abbrev pub max_in : Catalogue → ℕ → ℕ
+abbrev pub max_in : CatalogDef → ℕ → ℕ
 max_in catalogue predicate = unwrap_or (option_map (λ p. p.max) (slice_get catalogue.predicates predicate)) 0
 
 -- where output columns are needed, as DISTINCT needs them, each column of a term is one
@@ -83,7 +83,7 @@ most_weight = 1000000
 
 -- terms behind this many: at each, from left to right, there may be no more than eight; then its weight, its predicate, its arguments, and whether its
 -- columns are output columns where they have to be
-abbrev pub terms_behind : Catalogue → Entries → Option (List Found) → ℕ → List TermSyn → Result (List Term) BindFault
+abbrev pub terms_behind : CatalogDef → Entries → Option (List Found) → ℕ → List TermSyn → Result (List Term) BindFault
 terms_behind catalogue entries needed before [] = Ok []
 terms_behind catalogue entries needed before (term ∷ rest) =
     if before == 8 then Err (At LimitOf term.at)
@@ -101,7 +101,7 @@ terms_behind catalogue entries needed before (term ∷ rest) =
         entries = entries_mask (argument_columns args);
       } ∷ more))
 
-abbrev pub terms_of : Catalogue → Entries → Option (List Found) → List TermSyn → Result (List Term) BindFault
+abbrev pub terms_of : CatalogDef → Entries → Option (List Found) → List TermSyn → Result (List Term) BindFault
 terms_of catalogue entries needed terms = terms_behind catalogue entries needed 0 terms
 
 -- the greatest number of rows that LIMIT or FETCH asks for
@@ -114,14 +114,14 @@ bound_limit None = Ok None
 bound_limit (Some limit) = number_in 0 most_rows limit >>= λ n. Ok (Some n)
 
 -- the name of a column of a block
-abbrev pub name_of : Catalogue → Unranked → ℕ × ℕ → List ℕ
+abbrev pub name_of : CatalogDef → Unranked → ℕ × ℕ → List ℕ
 name_of catalogue block column = unwrap_or (option_map (λ (c : Column). c.0) (column_at (slice_get (sources_of catalogue block.from) (column.0 - 1)))) [] where
   column_at : Option Source → Option Column
   column_at (Some source) = slice_get source.1 column.1
   column_at None = None
 
 -- what the output columns of the left block are called
-abbrev pub output_names : Catalogue → Unranked → List (List ℕ)
+abbrev pub output_names : CatalogDef → Unranked → List (List ℕ)
 output_names catalogue left = map (λ (item : Found). name_of catalogue left item.0) left.items
 
 -- the output columns of this name, each as the item at its place
@@ -156,7 +156,7 @@ abbrev pub needed_by : Unranked → Option (List Found)
 needed_by block = if block.distinct then Some block.items else None
 
 -- a query of one block: the block, the terms, and then LIMIT
-abbrev pub one_of : Catalogue → syntax.Query → Result Query BindFault
+abbrev pub one_of : CatalogDef → syntax.Query → Result Query BindFault
 one_of catalogue query = do
   block ← unranked_of catalogue query.left
   terms ← terms_of catalogue (block_columns (sources_of catalogue block.from)) (needed_by block) query.terms
@@ -164,7 +164,7 @@ one_of catalogue query = do
   Ok (One (with_terms block terms) limit)
 
 -- a query of two blocks: the left one, the right one, whether their output columns agree, the terms, and then LIMIT
-abbrev pub set_of : Catalogue → syntax.Query → SetOp → syntax.Block → Result Query BindFault
+abbrev pub set_of : CatalogDef → syntax.Query → SetOp → syntax.Block → Result Query BindFault
 set_of catalogue query op second = do
   left ← unranked_of catalogue query.left
   right ← unranked_of catalogue second
@@ -176,7 +176,7 @@ set_of catalogue query op second = do
   Ok (Set op (with_terms left terms) (with_terms right others) limit)
 
 -- the query that a SELECT is
-abbrev pub bound_query : Catalogue → syntax.Query → Result Query BindFault
+abbrev pub bound_query : CatalogDef → syntax.Query → Result Query BindFault
 bound_query catalogue query = of query.right where
   of : Option (SetOp × syntax.Block) → Result Query BindFault
   of None = one_of catalogue query

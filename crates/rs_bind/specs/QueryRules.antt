@@ -4,7 +4,7 @@ use Rattle.rs_lex.specs.declared.token.Span.{Span}
 use Rattle.rs_value.specs.declared.set_op.SetOp.{SetOp}
 use Rattle.rs_syntax.specs.declared.select.TermSyn.{TermSyn}
 use Rattle.rs_syntax.specs.Syntax as syntax
-use Rattle.rs_catalog.specs.Catalogue.{Catalogue, number_named}
+use Rattle.rs_catalog.specs.Catalog.{CatalogDef, number_named}
 use Rattle.rs_catalog.specs.declared.index.BoundArg.{BoundArg}
 use Rattle.rs_catalog.specs.declared.room.What.TheVariants as what
 use Rattle.rs_query.specs.WellFormed.{argument_columns, entries_mask}
@@ -22,13 +22,13 @@ use Rattle.rs_bind.specs.Queries.{Unranked, agree, are_outputs, block_columns, f
 use Rattle.rs_bind.specs.Sources.{Found, sources_of}
 
 -- a term that there may be, whose weight lies in its limits and whose predicate has this number
-pub record HasPredicate (catalogue : Catalogue) (before : List Term) (term : TermSyn) (predicate : ℕ) : Type 0 where
+pub record HasPredicate (catalogue : CatalogDef) (before : List Term) (term : TermSyn) (predicate : ℕ) : Type 0 where
   pub room : length before ≢ 8
   pub weight : ℕ
   pub is_weight : IsWithin 1 most_weight term.weight.0 weight
   pub is_predicate : number_named what.Predicate term.predicate.text catalogue ≡ Some predicate
 
-module _ (catalogue : Catalogue) (entries : Entries) (needed : Option (List Found)) where
+module _ (catalogue : CatalogDef) (entries : Entries) (needed : Option (List Found)) where
   -- at most eight terms, each of a weight in its limits and a predicate that is there, with arguments for it, of which each column is an output column where
   -- it has to be
   pub record TypesTerm (before : List Term) (term : TermSyn) (made : Term) : Type 0 where
@@ -66,7 +66,7 @@ pub data TypesLimit : Option (ℤ × Span) → Option ℕ → Type 0 where
 pub data RefusedLimit : Option (ℤ × Span) → BindFault → Type 0 where
   outside : (written : ℤ) (at : Span) → IsOutside 0 most_rows written → RefusedLimit (Some (written, at)) (At LimitOf at)
 
-module _ (catalogue : Catalogue) where
+module _ (catalogue : CatalogDef) where
   -- the columns that a term may name: those of the block; in a set query the output columns, by the names of those of the left block
   abbrev pub columns_in : Unranked → Entries
   columns_in block = block_columns (sources_of catalogue block.from)

@@ -10,7 +10,7 @@ use Rattle.rs_syntax.specs.declared.select.Items.{Items}
 use Rattle.rs_syntax.specs.declared.select.Items.TheVariants as items
 use Rattle.rs_table.specs.Column.{Column}
 use Rattle.rs_value.specs.Results.{◌>>=◌}
-use Rattle.rs_catalog.specs.Catalogue.{Catalogue, number_named}
+use Rattle.rs_catalog.specs.Catalog.{CatalogDef, number_named}
 use Rattle.rs_catalog.specs.declared.room.What.TheVariants as what
 use Rattle.rs_typing.specs.declared.fault.BindFault.{BindFault}
 use Rattle.rs_typing.specs.declared.fault.BindFault.TheVariants.{At}
@@ -34,7 +34,7 @@ most_entries = 6
 
 -- entries behind those of these aliases: at each, from left to right, there may be no more than six, its table has to be there, and its alias may not
 -- stand before
-abbrev pub entries_behind : Catalogue → List (List ℕ) → List (Name × Option Name) → Result (List (ℕ × List ℕ)) BindFault
+abbrev pub entries_behind : CatalogDef → List (List ℕ) → List (Name × Option Name) → Result (List (ℕ × List ℕ)) BindFault
 entries_behind catalogue before [] = Ok []
 entries_behind catalogue before (entry ∷ rest) =
     if length before == most_entries then Err (At LimitOf entry.0.at)
@@ -45,14 +45,14 @@ entries_behind catalogue before (entry ∷ rest) =
       Ok ((table, (alias_of entry).text) ∷ more))
 
 -- the tables of FROM by their numbers, with their aliases
-abbrev pub entries_of : Catalogue → List (Name × Option Name) → Result (List (ℕ × List ℕ)) BindFault
+abbrev pub entries_of : CatalogDef → List (Name × Option Name) → Result (List (ℕ × List ℕ)) BindFault
 entries_of catalogue from = entries_behind catalogue [] from
 
 -- an entry as the columns of expressions see it: its alias, and the columns of its table
 abbrev pub Source : Type 0
 Source = List ℕ × List Column
 
-abbrev pub sources_of : Catalogue → List (ℕ × List ℕ) → List Source
+abbrev pub sources_of : CatalogDef → List (ℕ × List ℕ) → List Source
 sources_of catalogue from = map (λ (entry : ℕ × List ℕ). (entry.1, columns_in catalogue entry.0)) from
 
 -- a column of a block, the FROM entry counted from 1 and the table's column from 0, with its kind

@@ -9,7 +9,7 @@ use Rattle.rs_syntax.specs.Syntax.{Expression}
 use Rattle.rs_table.specs.Column.{Column, is_named}
 use Rattle.rs_expr.specs.Formulas.{Formula}
 use Rattle.rs_expr.specs.Predicates.{PredicateDef}
-use Rattle.rs_catalog.specs.Catalogue.{Catalogue, number_named}
+use Rattle.rs_catalog.specs.Catalog.{CatalogDef, number_named}
 use Rattle.rs_catalog.specs.declared.index.IndexDef.{IndexDef}
 use Rattle.rs_catalog.specs.declared.room.What.TheVariants as what
 use Rattle.rs_typing.specs.declared.fault.BindFault.{BindFault}
@@ -69,7 +69,7 @@ pub data RefusedPredicate (params : List (Name × Kind)) (max : ℤ × Span) (co
   no_number : (columns : List Column) (most price : ℕ) (t : Typed) → TypesNames 8 params columns → IsWithin 1 4294967295 max.0 most → TypesCost cost price
       → Types (parameter_in columns) formula t → IsNoNumber t → RefusedPredicate params max cost formula (At WrongKind (span_of formula))
 
-module _ (catalogue : Catalogue) where
+module _ (catalogue : CatalogDef) where
   -- the columns of a table, by its name or with no dot
   abbrev pub index_columns : Name → ℕ → Entries
   index_columns table number = entry_column table.text (columns_in catalogue number)

@@ -3,7 +3,7 @@ use Rattle.std.specs.Prelude.{ℕ, ◌≡◌, ◌≤◌, ◌<◌, ◌-◌, Bool,
 use Rattle.std.specs.List.{list_any}
 use Rattle.rs_syntax.specs.declared.select.TermSyn.{TermSyn}
 use Rattle.rs_value.specs.Results.{◌>>=◌}
-use Rattle.rs_catalog.specs.Catalogue.{Catalogue, number_named}
+use Rattle.rs_catalog.specs.Catalog.{CatalogDef, number_named}
 use Rattle.rs_catalog.specs.declared.index.BoundArg.{BoundArg}
 use Rattle.rs_catalog.specs.declared.index.BoundArg.TheVariants as bound
 use Rattle.rs_catalog.specs.declared.room.What.TheVariants as what
@@ -19,7 +19,7 @@ use Rattle.rs_bind.specs.Queries.{are_outputs, max_in, most_weight}
 use Rattle.rs_bind.specs.Sources.{Found, Source}
 
 -- a term: its weight, its predicate, its arguments, and whether its columns are output columns where they have to be
-abbrev pub term_of : Catalogue → Entries → Option (List Found) → TermSyn → Result Term BindFault
+abbrev pub term_of : CatalogDef → Entries → Option (List Found) → TermSyn → Result Term BindFault
 term_of catalogue entries needed term = do
   weight ← number_in 1 most_weight term.weight
   predicate ← or_fault (At NoPredicate term.predicate.at) (number_named what.Predicate term.predicate.text catalogue)

@@ -9,7 +9,7 @@ ghost use Rattle.rs_expr.specs.Formulas.{condition_of};
 ghost use Rattle.rs_expr.specs.Widths.{is_narrow};
 ghost use Rattle.rs_query.specs.WellFormed.{across, entries_mask, equality_of, equated};
 ghost use Rattle.rs_typing.specs.Typing.{span_of, as_truth, type_of};
-ghost use Rattle.rs_typing.specs.Views.{result_map};
+ghost use Rattle.rs_typing.specs.Models.{result_map};
 ghost use Rattle.rs_bind.specs.Conditions.{condition_over, conjunct_in, conjuncts_in, conjuncts_of, few_parts, filter_of, parts_of_and};
 ghost use Rattle.rs_bind.specs.Narrow.{IsNarrow};
 ghost use Rattle.rs_bind.specs.Sources.{most_block_columns, sources_of};

@@ -1,5 +1,5 @@
 ghost use Rattle.std.specs.Prelude.{◌≡◌, ◌<◌, IfOk, length};
-ghost use Rattle.rs_catalog.specs.Catalogue.{names_of, number_named};
+ghost use Rattle.rs_catalog.specs.Catalog.{names_of, number_named};
 ghost use Rattle.rs_catalog.specs.Indexes.{IsIndex};
 ghost use Rattle.rs_syntax.specs.Syntax.{command_of};
 ghost use Rattle.rs_value.specs.Answer.{Gives};

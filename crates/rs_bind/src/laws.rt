@@ -3,7 +3,7 @@
 ghost use Rattle.std.specs.Prelude.{◌≡◌, ◌↔◌, Err, Ok, Some, true};
 ghost use Rattle.std.specs.Prelude.{List, Option, ℕ, ℤ};
 ghost use Rattle.std.specs.List.{AllByRecursion};
-ghost use Rattle.rs_catalog.specs.Catalogue.{Catalogue};
+ghost use Rattle.rs_catalog.specs.Catalog.{CatalogDef};
 ghost use Rattle.rs_catalog.specs.declared.index.IndexDef.{IndexDef};
 ghost use Rattle.rs_expr.specs.Formulas.{Condition};
 ghost use Rattle.rs_expr.specs.Predicates.{PredicateDef};
@@ -38,10 +38,10 @@ ghost use Rattle.rs_bind.specs.Where.{WhereHolds, conjuncts_hold, holds_of};
 /// those that it names. Over the columns that it names, a reference in it is refused exactly where it stands for no column, or
 /// for several.
 pub fn conjuncts_mean_where()
-    ensures holds { (catalogue : Catalogue) (written : BlockSelect) (bound : UnrankedBlock) (terms : List BoundTerm) (rows : List ℕ)
+    ensures holds { (catalogue : CatalogDef) (written : BlockSelect) (bound : UnrankedBlock) (terms : List BoundTerm) (rows : List ℕ)
         → TypesBlock catalogue written bound
         → (conjuncts_hold catalogue (with_terms bound terms) rows ≡ true) ↔ WhereHolds catalogue (with_terms bound terms) rows written.filter }
-    ensures columns { (catalogue : Catalogue) (written : BlockSelect) (bound : UnrankedBlock) (terms : List BoundTerm) (rows : List ℕ)
+    ensures columns { (catalogue : CatalogDef) (written : BlockSelect) (bound : UnrankedBlock) (terms : List BoundTerm) (rows : List ℕ)
         (x : Expression) (columns : List (ℕ × ℕ)) (c : Condition)
         → TypesBlock catalogue written bound → written.filter ≡ Some x → Types (places_in columns (sources_of catalogue bound.from)) x (Truth c)
         → conjuncts_hold catalogue (with_terms bound terms) rows ≡ holds_of catalogue (with_terms bound terms) rows columns c }
@@ -52,10 +52,10 @@ pub fn conjuncts_mean_where()
 /// A SELECT is one query at most, as the rules say, or refused with one fault, that of the first rule that fails; it is
 /// never both.
 pub fn queries_are_typed_by_rules()
-    ensures typed { (catalogue : Catalogue) (select : Select) (query : Query) → (bound_query catalogue select ≡ Ok query) ↔ TypesQuery catalogue select query }
-    ensures refused { (catalogue : Catalogue) (select : Select) (fault : BindFault)
+    ensures typed { (catalogue : CatalogDef) (select : Select) (query : Query) → (bound_query catalogue select ≡ Ok query) ↔ TypesQuery catalogue select query }
+    ensures refused { (catalogue : CatalogDef) (select : Select) (fault : BindFault)
         → (bound_query catalogue select ≡ Err fault) ↔ RefusedQuery catalogue select fault }
-    ensures one { (catalogue : Catalogue) (select : Select) (query other : Query) → TypesQuery catalogue select query → TypesQuery catalogue select other
+    ensures one { (catalogue : CatalogDef) (select : Select) (query other : Query) → TypesQuery catalogue select query → TypesQuery catalogue select other
         → query ≡ other }
 {}
 
@@ -68,9 +68,9 @@ pub fn statements_are_typed_by_rules()
         → (predicate_of (CreatePredicate name params max cost formula) ≡ Ok made) ↔ TypesPredicate name params max cost formula made }
     ensures no_predicate { (name : Name) (params : List (Name × ValueKind)) (max : ℤ × Place) (cost : Option (ℤ × Place)) (formula : Expression) (fault : BindFault)
         → (predicate_of (CreatePredicate name params max cost formula) ≡ Err fault) ↔ RefusedPredicate params max cost formula fault }
-    ensures index { (catalogue : Catalogue) (name table predicate : Name) (args : List Arg) (at : Place) (made : IndexDef)
+    ensures index { (catalogue : CatalogDef) (name table predicate : Name) (args : List Arg) (at : Place) (made : IndexDef)
         → (index_def_of catalogue (CreateRankIndex name table predicate args at) ≡ Ok made) ↔ TypesIndex catalogue name table predicate args made }
-    ensures no_index { (catalogue : Catalogue) (name table predicate : Name) (args : List Arg) (at : Place) (fault : BindFault)
+    ensures no_index { (catalogue : CatalogDef) (name table predicate : Name) (args : List Arg) (at : Place) (fault : BindFault)
         → (index_def_of catalogue (CreateRankIndex name table predicate args at) ≡ Err fault) ↔ RefusedIndex catalogue table predicate args at fault }
     ensures count { (count : ℤ × Place) (made : ℕ) → (count_of count ≡ Ok made) ↔ IsWithin 0 most_rows count.0 made }
     ensures no_count { (count : ℤ × Place) (fault : BindFault)

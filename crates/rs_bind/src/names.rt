@@ -2,7 +2,7 @@ ghost use Rattle.std.specs.Prelude.{◌≡◌, ◌≤◌, IfOk, length};
 ghost use Rattle.std.specs.List.{list_any};
 ghost use Rattle.rs_value.specs.Answer.{Gives};
 ghost use Rattle.rs_table.specs.Column.{is_named};
-ghost use Rattle.rs_typing.specs.Views.{result_map};
+ghost use Rattle.rs_typing.specs.Models.{result_map};
 ghost use Rattle.rs_bind.specs.Names.{named, number_in};
 
 use rs_lex::Span;

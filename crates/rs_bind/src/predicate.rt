@@ -5,7 +5,7 @@ ghost use Rattle.rs_expr.specs.Formulas.{formula_of};
 ghost use Rattle.rs_expr.specs.Uses.{has_parameter, uses};
 ghost use Rattle.rs_expr.specs.Widths.{width_of};
 ghost use Rattle.rs_typing.specs.Parameters.{formula_in};
-ghost use Rattle.rs_typing.specs.Views.{result_map};
+ghost use Rattle.rs_typing.specs.Models.{result_map};
 ghost use Rattle.rs_bind.specs.Predicates.{IsCreatePredicate, cost_of, predicate_of};
 ghost use Rattle.rs_syntax.specs.Written.{IsWritten};
 

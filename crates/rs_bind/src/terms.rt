@@ -2,7 +2,7 @@ ghost use Rattle.std.specs.Prelude.{◌≡◌, ◌<◌, ◌∷◌, [], IfOk, Som
 ghost use Rattle.std.specs.List.{AllByRecursion, list_any};
 ghost use Rattle.std.specs.Option.{option_copied};
 ghost use Rattle.rs_syntax.specs.declared.name.ColRef.{ColRef};
-ghost use Rattle.rs_catalog.specs.Catalogue.{number_named};
+ghost use Rattle.rs_catalog.specs.Catalog.{number_named};
 ghost use Rattle.rs_catalog.specs.declared.room.What.TheVariants as what;
 ghost use Rattle.rs_value.specs.Answer.{Gives};
 ghost use Rattle.rs_query.specs.WellFormed.{argument_columns, entries_mask, same_column};

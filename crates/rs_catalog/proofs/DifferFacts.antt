@@ -9,7 +9,7 @@ use Rattle.std.specs.Prelude.{None, slice_get}
 use Rattle.std.specs.List.{position_or_len}
 use Rattle.std.specs.Map.{keys_of}
 use Rattle.std.specs.Str.{bytes_eq}
-use Rattle.rs_catalog.specs.Catalogue.{has_name, place_of_name}
+use Rattle.rs_catalog.specs.Catalog.{has_name, place_of_name}
 use Rattle.rs_catalog.specs.Inside.{NamesDiffer}
 
 -- a list doesn't have a name behind another one of it

@@ -7,7 +7,7 @@ use Rattle.std.specs.Map.{keys_of, values_of}
 use Rattle.rs_value.specs.declared.memory.Memory.{Memory}
 use Rattle.rs_table.specs.Relation.{Relation}
 use Rattle.rs_expr.specs.Predicates.{PredicateDef}
-use Rattle.rs_catalog.specs.Catalogue.{Catalogue, NamedTable, RankIndex, with_index}
+use Rattle.rs_catalog.specs.Catalog.{CatalogDef, NamedTable, RankIndex, with_index}
 use Rattle.rs_catalog.specs.Indexes.{IsRanking, predicate_for, rows_for}
 use Rattle.rs_catalog.specs.Inside.{IsInside, IsRanked, catalogue_of}
 use Rattle.rs_catalog.specs.declared.catalog.RankIndex.{RankIndex as StoredIndex}
@@ -18,18 +18,18 @@ use Rattle.rs_order.proofs.EachFacts.{each-push, each-weaker}
 use Rattle.rs_catalog.proofs.PlaceFacts.{slice_get-push}
 
 -- each table and predicate of a catalogue has its place in another one
-record Grows (old new : Catalogue) : Type 0 where
+record Grows (old new : CatalogDef) : Type 0 where
   tables : (n : ℕ) (t : NamedTable) → slice_get old.tables n ≡ Some t → slice_get new.tables n ≡ Some t
   predicates : (n : ℕ) (p : PredicateDef) → slice_get old.predicates n ≡ Some p → slice_get new.predicates n ≡ Some p
 
-rows_for-index : (catalogue : Catalogue) (def : IndexDef) (table : NamedTable) → slice_get catalogue.tables def.table ≡ Some table → rows_for catalogue def ≡ table.table.rows
+rows_for-index : (catalogue : CatalogDef) (def : IndexDef) (table : NamedTable) → slice_get catalogue.tables def.table ≡ Some table → rows_for catalogue def ≡ table.table.rows
 rows_for-index catalogue def table at = ap (λ found. unwrap_or (option_map (λ t. t.table.rows) found) []) at
 
-pub max_for-index : (catalogue : Catalogue) (def : IndexDef) (predicate : PredicateDef) → slice_get catalogue.predicates def.predicate ≡ Some predicate → (predicate_for catalogue def).max ≡ predicate.max
+pub max_for-index : (catalogue : CatalogDef) (def : IndexDef) (predicate : PredicateDef) → slice_get catalogue.predicates def.predicate ≡ Some predicate → (predicate_for catalogue def).max ≡ predicate.max
 max_for-index catalogue def predicate at = rw at refl
 
 -- the rows of an index are those of its table
-pub rows_for-table : (catalogue : Catalogue) (def : IndexDef) (table : Relation) → option_map (λ t. t.table) (slice_get catalogue.tables def.table) ≡ Some table → rows_for catalogue def ≡ table.rows
+pub rows_for-table : (catalogue : CatalogDef) (def : IndexDef) (table : Relation) → option_map (λ t. t.table) (slice_get catalogue.tables def.table) ≡ Some table → rows_for catalogue def ≡ table.rows
 rows_for-table catalogue def table at = by (slice_get catalogue.tables def.table) at
   where
     by : (found : Option NamedTable) → option_map (λ t. t.table) found ≡ Some table → unwrap_or (option_map (λ t. t.table.rows) found) [] ≡ table.rows
@@ -37,7 +37,7 @@ rows_for-table catalogue def table at = by (slice_get catalogue.tables def.table
     by None same = cc
 
 -- an index stays one of a catalogue that grows
-IsRanked-grows : (old new : Catalogue) → Grows old new → (index : RankIndex) → IsRanked old index → IsRanked new index
+IsRanked-grows : (old new : CatalogDef) → Grows old new → (index : RankIndex) → IsRanked old index → IsRanked new index
 IsRanked-grows old new grows index ranked =
     let fits = ranked.fits in
     let table = grows.tables index.def.table fits.table fits.has_table in

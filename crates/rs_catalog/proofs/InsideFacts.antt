@@ -7,7 +7,7 @@ use Rattle.std.specs.Map.{keys_of, values_of}
 use Rattle.rs_rank.specs.declared.scored_row.ScoredRow.{ScoredRow}
 use Rattle.rs_table.specs.Relation.{Relation}
 use Rattle.rs_expr.specs.Predicates.{PredicateDef}
-use Rattle.rs_catalog.specs.Catalogue.{Catalogue, most_of, names_of}
+use Rattle.rs_catalog.specs.Catalog.{CatalogDef, most_of, names_of}
 use Rattle.rs_catalog.specs.Indexes.{IsIndexEntry, index_of, is_for, predicate_for, ranking_at, rows_for}
 use Rattle.rs_catalog.specs.Inside.{IsInside, IsRanked, NamesDiffer, catalogue_of}
 use Rattle.rs_catalog.specs.declared.catalog.RankIndex.{RankIndex as StoredIndex}
@@ -32,7 +32,7 @@ module _ (tables : List (List ℕ × Relation)) (predicates : List (List ℕ × 
   pub index_at : (n : ℕ) (stored : StoredIndex) → slice_get (values_of indexes) n ≡ Some stored → slice_get (catalogue_of tables predicates indexes).indexes n ≡ Some (record { def = stored.def; ranking = stored.ranking.items })
   index_at n stored at = slice_get-map (λ i. record { def = i.def; ranking = i.ranking.items }) (values_of indexes) n ∙ ap (option_map (λ i. record { def = i.def; ranking = i.ranking.items })) at
 
-  pub ranking_at-index : (catalogue : Catalogue) → catalogue_of tables predicates indexes ≡ catalogue → (n : ℕ) (stored : StoredIndex) → slice_get (values_of indexes) n ≡ Some stored → ranking_at catalogue n ≡ stored.ranking.items
+  pub ranking_at-index : (catalogue : CatalogDef) → catalogue_of tables predicates indexes ≡ catalogue → (n : ℕ) (stored : StoredIndex) → slice_get (values_of indexes) n ≡ Some stored → ranking_at catalogue n ≡ stored.ranking.items
   ranking_at-index catalogue is n stored at = ap (λ whole. ranking_at whole n) (sym is) ∙ ap (λ found. unwrap_or (option_map (λ i. i.ranking) found) []) (index_at n stored at)
 
   -- the first index of a table, a predicate and arguments is the first in the map

@@ -4,11 +4,11 @@ use Rattle.std.specs.Prelude.{slice_get}
 use Rattle.rs_table.specs.Relation.{Relation}
 use Rattle.rs_expr.specs.Predicates.{PredicateDef}
 use Rattle.rs_rank.specs.declared.scored_row.ScoredRow.{ScoredRow}
-use Rattle.rs_catalog.specs.Catalogue.{Catalogue, with_index, with_predicate, with_table}
+use Rattle.rs_catalog.specs.Catalog.{CatalogDef, with_index, with_predicate, with_table}
 use Rattle.rs_catalog.specs.declared.index.IndexDef.{IndexDef}
 
 -- a catalogue with the tables, predicates and indexes of another one behind its own
-abbrev pub joined : Catalogue → Catalogue → Catalogue
+abbrev pub joined : CatalogDef → CatalogDef → CatalogDef
 joined catalogue more = record {
   tables = catalogue.tables ++ more.tables;
   predicates = catalogue.predicates ++ more.predicates;
@@ -16,30 +16,30 @@ joined catalogue more = record {
 }
 
 -- a table, a predicate or an index that joins is the only one of such a catalogue
-abbrev pub only_table : List ℕ → Relation → Catalogue
+abbrev pub only_table : List ℕ → Relation → CatalogDef
 only_table name table = record { tables = record { name = name; table = table } ∷ []; predicates = []; indexes = [] }
 
-abbrev pub only_predicate : PredicateDef → Catalogue
+abbrev pub only_predicate : PredicateDef → CatalogDef
 only_predicate predicate = record { tables = []; predicates = predicate ∷ []; indexes = [] }
 
-abbrev pub only_index : IndexDef → List ScoredRow → Catalogue
+abbrev pub only_index : IndexDef → List ScoredRow → CatalogDef
 only_index def ranking = record { tables = []; predicates = []; indexes = record { def = def; ranking = ranking } ∷ [] }
 
-pub joined-table : (catalogue : Catalogue) (name : List ℕ) (table : Relation) → joined catalogue (only_table name table) ≡ with_table name table catalogue
+pub joined-table : (catalogue : CatalogDef) (name : List ℕ) (table : Relation) → joined catalogue (only_table name table) ≡ with_table name table catalogue
 joined-table catalogue name table = λ i. record {
   tables = catalogue.tables ++ record { name = name; table = table } ∷ [];
   predicates = append-nil catalogue.predicates i;
   indexes = append-nil catalogue.indexes i;
 }
 
-pub joined-predicate : (catalogue : Catalogue) (predicate : PredicateDef) → joined catalogue (only_predicate predicate) ≡ with_predicate predicate catalogue
+pub joined-predicate : (catalogue : CatalogDef) (predicate : PredicateDef) → joined catalogue (only_predicate predicate) ≡ with_predicate predicate catalogue
 joined-predicate catalogue predicate = λ i. record {
   tables = append-nil catalogue.tables i;
   predicates = catalogue.predicates ++ predicate ∷ [];
   indexes = append-nil catalogue.indexes i;
 }
 
-pub joined-index : (catalogue : Catalogue) (def : IndexDef) (ranking : List ScoredRow) → joined catalogue (only_index def ranking) ≡ with_index def ranking catalogue
+pub joined-index : (catalogue : CatalogDef) (def : IndexDef) (ranking : List ScoredRow) → joined catalogue (only_index def ranking) ≡ with_index def ranking catalogue
 joined-index catalogue def ranking = λ i. record {
   tables = append-nil catalogue.tables i;
   predicates = append-nil catalogue.predicates i;

@@ -12,7 +12,7 @@ use Rattle.rs_expr.specs.InOrder.{Inquires, Inquiry, Request, calls_of}
 use Rattle.rs_expr.proofs.ScoringFacts.{KeepsScorer-refl, KeepsScorer-then, Made-none}
 use Rattle.rs_expr.proofs.InOrderFacts.{Begins, InquiryEnds-ok, Inquires-begun, Inquires-behind, Inquires-unheld, Made-requests, behind, one}
 use Rattle.rs_rank.specs.declared.scored_row.ScoredRow.{ScoredRow}
-use Rattle.rs_catalog.specs.Catalogue.{Catalogue, with_index}
+use Rattle.rs_catalog.specs.Catalog.{CatalogDef, with_index}
 use Rattle.rs_catalog.specs.Indexes.{args_in, asked_rows, making, making_of, predicate_for, ranking_of, row_request, row_at, rows_for, scored_from}
 use Rattle.rs_catalog.specs.Making.{MakesIndex, score_for, scoring_of, scoring_row}
 use Rattle.rs_catalog.specs.declared.index.BoundArg.{BoundArg}
@@ -193,7 +193,7 @@ pub Inquires-unsorted : (scoring : Inquiry (List ScoredRow) IndexFault) (entries
 Inquires-unsorted scoring entries old new inquires = Inquires-unranked scoring Memory old new (Inquires-unheld Memory scoring entries old new inquires)
 
 -- making an index of a catalogue is making one of its table and its predicate
-pub Inquires-making : (answer : Answering) (catalogue : Catalogue) (def : IndexDef) (table : Relation) (predicate : PredicateDef) (args : List BoundArg) (result : Result (List ScoredRow) IndexFault) (old new : ScorerState)
+pub Inquires-making : (answer : Answering) (catalogue : CatalogDef) (def : IndexDef) (table : Relation) (predicate : PredicateDef) (args : List BoundArg) (result : Result (List ScoredRow) IndexFault) (old new : ScorerState)
     → option_map (λ t. t.table) (slice_get catalogue.tables def.table) ≡ Some table → slice_get catalogue.predicates def.predicate ≡ Some predicate → args ≡ def.args
     → Inquires Memory (making_of answer predicate args table.rows) result old new → Inquires Memory (making answer catalogue def) result old new
 Inquires-making answer catalogue def table predicate args result old new has_table has_predicate has_args inquires =
@@ -203,11 +203,11 @@ Inquires-making answer catalogue def table predicate args result old new has_tab
     (subst (λ some. Inquires Memory (making_of answer predicate some table.rows) result old new) has_args inquires))
 
 -- a ranking joined a catalogue
-pub MakesIndex-ok : (making : Inquiry (List ScoredRow) IndexFault) (def : IndexDef) (ranking : List ScoredRow) (old new : Catalogue) (before after : ScorerState)
+pub MakesIndex-ok : (making : Inquiry (List ScoredRow) IndexFault) (def : IndexDef) (ranking : List ScoredRow) (old new : CatalogDef) (before after : ScorerState)
     → Inquires Memory making (Ok ranking) before after → new ≡ with_index def ranking old → MakesIndex making def old new (Ok tt) before after
 MakesIndex-ok making def ranking old new before after inquires joins = record { ranking = Ok ranking; inquires = inquires; answers = refl; joins = joins }
 
 -- nothing joined it, by a fault of the ranking
-pub MakesIndex-err : (making : Inquiry (List ScoredRow) IndexFault) (def : IndexDef) (fault : IndexFault) (old new : Catalogue) (before after : ScorerState)
+pub MakesIndex-err : (making : Inquiry (List ScoredRow) IndexFault) (def : IndexDef) (fault : IndexFault) (old new : CatalogDef) (before after : ScorerState)
     → Inquires Memory making (Err fault) before after → new ≡ old → MakesIndex making def old new (Err fault) before after
 MakesIndex-err making def fault old new before after inquires same = record { ranking = Err fault; inquires = inquires; answers = refl; joins = same }

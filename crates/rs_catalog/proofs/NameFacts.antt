@@ -9,7 +9,7 @@ use Rattle.std.specs.List.{list_any}
 use Rattle.std.specs.Map.{keys_of, lookup}
 use Rattle.std.specs.Str.{bytes_eq}
 use Rattle.indexmap.specs.IndexMap.{insert_entry}
-use Rattle.rs_catalog.specs.Catalogue.{has_name, room_in}
+use Rattle.rs_catalog.specs.Catalog.{has_name, room_in}
 
 -- the equality of keys is that of names
 pub same_name : (name other : List ℕ) → pointwise nat_eq name other ≡ bytes_eq other name

@@ -5,7 +5,7 @@ use Rattle.rs_value.specs.declared.kind.Kind.TheVariants as kind
 use Rattle.rs_table.specs.Relation.{Relation}
 use Rattle.rs_expr.specs.Formulas.{Argument}
 use Rattle.rs_expr.specs.Predicates.{PredicateDef}
-use Rattle.rs_catalog.specs.Catalogue.{Catalogue, empty, names_of, number_named, room_for, with_index, with_predicate, with_table}
+use Rattle.rs_catalog.specs.Catalog.{CatalogDef, empty, names_of, number_named, room_for, with_index, with_predicate, with_table}
 use Rattle.rs_catalog.specs.Indexes.{index_of, ranking_at}
 use Rattle.rs_catalog.specs.declared.index.BoundArg.TheVariants.{Column, Int, Text}
 use Rattle.rs_catalog.specs.declared.index.IndexDef.{IndexDef}
@@ -20,7 +20,7 @@ abbrev near : PredicateDef
 near = record { name = codes "near"; params = kind.Int ∷ kind.Int ∷ []; max = 100; cost = 5; formula = Argument 0 }
 
 -- two tables whose names differ by case, and a predicate
-abbrev session : Catalogue
+abbrev session : CatalogDef
 session = with_predicate near (with_table (codes "Houses") houses (with_table (codes "houses") houses empty))
 
 tables_in_order : names_of Table session ≡ codes "houses" ∷ codes "Houses" ∷ []
@@ -59,7 +59,7 @@ taken_elsewhere : room_for Index (codes "near") session ≡ Ok tt
 taken_elsewhere = refl
 
 -- tables whose names are of one byte, from 0 on
-abbrev tables_named : ℕ → Catalogue
+abbrev tables_named : ℕ → CatalogDef
 tables_named count = record { tables = map (λ n. record { name = n ∷ []; table = houses }) (range_with_len 0 count); predicates = []; indexes = [] }
 
 sixteenth : room_for Table (codes "x") (tables_named 15) ≡ Ok tt
@@ -78,7 +78,7 @@ full_of_tables_alone = refl
 abbrev index : List ℕ → ℕ → ℕ → IndexDef
 index name table constant = record { name = name; table = table; predicate = 0; args = Column 1 0 ∷ Int (pos constant) ∷ [] }
 
-abbrev indexed : Catalogue
+abbrev indexed : CatalogDef
 indexed =
     with_index (index (codes "d") 1 7) [] (with_index (index (codes "c") 0 7) [] (with_index (index (codes "b") 0 8) (record { score = 3; row = 1 } ∷ []) (with_index (index (codes "a") 0 7) [] session)))
 

@@ -16,7 +16,7 @@ use Rattle.rs_expr.specs.Scores.{is_score, as_score}
 use Rattle.rs_expr.specs.Scoring.{Answering, call_of}
 use Rattle.rs_expr.specs.InOrder.{Inquiry, Request}
 use Rattle.rs_expr.specs.Uses.{is_kind}
-use Rattle.rs_catalog.specs.Catalogue.{Catalogue, NamedTable}
+use Rattle.rs_catalog.specs.Catalog.{CatalogDef, NamedTable}
 use Rattle.rs_catalog.specs.declared.index.BoundArg.{BoundArg}
 use Rattle.rs_catalog.specs.declared.index.BoundArg.TheVariants as arg
 use Rattle.rs_catalog.specs.declared.index.IndexDef.{IndexDef}
@@ -39,7 +39,7 @@ args_fit columns (kind ∷ kinds) [] = false
 args_fit columns (kind ∷ kinds) (a ∷ args) = arg_fits columns kind a && args_fit columns kinds args
 
 -- an index is of a table and a predicate of the catalogue, and its arguments are those that the predicate takes
-pub record IsIndex (catalogue : Catalogue) (def : IndexDef) : Type 0 where
+pub record IsIndex (catalogue : CatalogDef) (def : IndexDef) : Type 0 where
   pub table : NamedTable
   pub has_table : slice_get catalogue.tables def.table ≡ Some table
   pub predicate : PredicateDef
@@ -90,19 +90,19 @@ making_of answer predicate args rows =
     record { requests = map (row_request predicate args) (asked_rows scored rows); outcome = ranking_of scored }
 
 -- the rows and the predicate of an index
-abbrev pub rows_for : Catalogue → IndexDef → List (List Value)
+abbrev pub rows_for : CatalogDef → IndexDef → List (List Value)
 rows_for catalogue def = unwrap_or (option_map (λ t. t.table.rows) (slice_get catalogue.tables def.table)) []
 
-abbrev pub predicate_for : Catalogue → IndexDef → PredicateDef
+abbrev pub predicate_for : CatalogDef → IndexDef → PredicateDef
 predicate_for catalogue def =
     unwrap_or (slice_get catalogue.predicates def.predicate) (record { name = []; params = []; max = 0; cost = 0; formula = Constant (pos 0) })
 
 -- making an index of a catalogue
-abbrev pub making : Answering → Catalogue → IndexDef → Inquiry (List ScoredRow) IndexFault
+abbrev pub making : Answering → CatalogDef → IndexDef → Inquiry (List ScoredRow) IndexFault
 making answer catalogue def = making_of answer (predicate_for catalogue def) def.args (rows_for catalogue def)
 
 -- the ranking of the index of this number
-abbrev pub ranking_at : Catalogue → ℕ → List ScoredRow
+abbrev pub ranking_at : CatalogDef → ℕ → List ScoredRow
 ranking_at catalogue number = unwrap_or (option_map (λ i. i.ranking) (slice_get catalogue.indexes number)) []
 
 -- an entry comes before another one: its score is greater, or they are equal and its row is an earlier one
@@ -159,5 +159,5 @@ abbrev pub is_for : ℕ → ℕ → List BoundArg → ℕ → IndexDef → Bool
 is_for table predicate args entry def = (def.table == table) && ((def.predicate == predicate) && same_args entry args def.args)
 
 -- the number of the first such index, counted from 0
-abbrev pub index_of : ℕ → ℕ → List BoundArg → ℕ → Catalogue → Option ℕ
+abbrev pub index_of : ℕ → ℕ → List BoundArg → ℕ → CatalogDef → Option ℕ
 index_of table predicate args entry catalogue = position (λ i. is_for table predicate args entry i.def) catalogue.indexes

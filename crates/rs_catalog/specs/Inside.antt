@@ -4,13 +4,13 @@ use Rattle.std.specs.List.{AllByRecursion}
 use Rattle.std.specs.Map.{keys_of, values_of}
 use Rattle.rs_table.specs.Relation.{Relation}
 use Rattle.rs_expr.specs.Predicates.{PredicateDef}
-use Rattle.rs_catalog.specs.Catalogue.{Catalogue, RankIndex, has_name, names_of}
+use Rattle.rs_catalog.specs.Catalog.{CatalogDef, RankIndex, has_name, names_of}
 use Rattle.rs_catalog.specs.Indexes.{IsIndex, IsRanking, rows_for, predicate_for}
 use Rattle.rs_catalog.specs.declared.catalog.RankIndex.{RankIndex as StoredIndex}
 use Rattle.rs_catalog.specs.declared.room.What.TheVariants.{Predicate, Index}
 
 -- the catalogue that the entries of the maps make
-abbrev pub catalogue_of : List (List ℕ × Relation) → List (List ℕ × PredicateDef) → List (List ℕ × StoredIndex) → Catalogue
+abbrev pub catalogue_of : List (List ℕ × Relation) → List (List ℕ × PredicateDef) → List (List ℕ × StoredIndex) → CatalogDef
 catalogue_of tables predicates indexes = record {
   tables = map (λ t. record { name = t.0; table = t.1 }) tables;
   predicates = values_of predicates;
@@ -18,7 +18,7 @@ catalogue_of tables predicates indexes = record {
 }
 
 -- an index of a catalogue, and its ranking is one of its table's rows by scores of its predicate
-pub record IsRanked (catalogue : Catalogue) (index : RankIndex) : Type 0 where
+pub record IsRanked (catalogue : CatalogDef) (index : RankIndex) : Type 0 where
   pub fits : IsIndex catalogue index.def
   pub ranking : IsRanking (length (rows_for catalogue index.def)) (predicate_for catalogue index.def).max index.ranking
 

@@ -1,4 +1,4 @@
-pub mod Catalogue
+pub mod Catalog
 pub mod Held
 pub mod Indexes
 pub mod Making

@@ -7,7 +7,7 @@ use Rattle.rs_expr.specs.Predicates.{PredicateDef}
 use Rattle.rs_expr.specs.Scores.{score_within}
 use Rattle.rs_expr.specs.Scoring.{Answering, ScorerState}
 use Rattle.rs_expr.specs.InOrder.{Inquires, Inquiry}
-use Rattle.rs_catalog.specs.Catalogue.{Catalogue, with_index}
+use Rattle.rs_catalog.specs.Catalog.{CatalogDef, with_index}
 use Rattle.rs_catalog.specs.Indexes.{args_in, asked_rows, row_request, scored_from}
 use Rattle.rs_catalog.specs.declared.index.BoundArg.{BoundArg}
 use Rattle.rs_catalog.specs.declared.index.IndexDef.{IndexDef}
@@ -43,12 +43,12 @@ without_ranking (Ok ranking) = Ok tt
 without_ranking (Err fault) = Err fault
 
 -- the catalogue behind such a result: the index joins it, or it is as before
-abbrev pub catalogue_after : IndexDef → Result (List ScoredRow) IndexFault → Catalogue → Catalogue
+abbrev pub catalogue_after : IndexDef → Result (List ScoredRow) IndexFault → CatalogDef → CatalogDef
 catalogue_after def (Ok ranking) catalogue = with_index def ranking catalogue
 catalogue_after def (Err fault) catalogue = catalogue
 
 -- the ranking that was made joined the catalogue, or nothing did, and its fault is answered
-pub record MakesIndex (making : Inquiry (List ScoredRow) IndexFault) (def : IndexDef) (old new : Catalogue) (result : Result (Unit {0}) IndexFault) (before after : ScorerState) : Type 0 where
+pub record MakesIndex (making : Inquiry (List ScoredRow) IndexFault) (def : IndexDef) (old new : CatalogDef) (result : Result (Unit {0}) IndexFault) (before after : ScorerState) : Type 0 where
   pub ranking : Result (List ScoredRow) IndexFault
   pub inquires : Inquires Memory making ranking before after
   pub answers : result ≡ without_ranking ranking

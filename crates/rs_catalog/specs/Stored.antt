@@ -7,7 +7,7 @@ use Rattle.rs_rank.specs.contracts.scored_row.ScoredRow as entry
 use Rattle.rs_rank.specs.declared.scored_row.ScoredRow.{ScoredRow}
 use Rattle.rs_expr.specs.Predicates.{PredicateDef}
 use Rattle.rs_expr.specs.Stored.{predicate_code}
-use Rattle.rs_catalog.specs.Catalogue.{Catalogue, NamedTable, RankIndex}
+use Rattle.rs_catalog.specs.Catalog.{CatalogDef, NamedTable, RankIndex}
 use Rattle.rs_catalog.specs.contracts.index.IndexDef as def
 use Rattle.rs_catalog.specs.declared.index.IndexDef.{IndexDef}
 
@@ -18,7 +18,7 @@ abbrev pub index_code : Coded RankIndex
 index_code =
     code_by (IndexDef × List ScoredRow) (coded× def.the_row.coded (coded_list entry.the_row.coded)) (λ i. (i.def, i.ranking)) (λ t. record { def = t.0; ranking = t.1 }) (λ _. refl)
 
-abbrev pub catalogue_code : Coded Catalogue
+abbrev pub catalogue_code : Coded CatalogDef
 catalogue_code =
     code_by (List NamedTable × (List PredicateDef × List RankIndex)) (coded× (coded_list table_code) (coded× (coded_list predicate_code) (coded_list index_code)))
     (λ c. (c.tables, (c.predicates, c.indexes))) (λ t. record { tables = t.0; predicates = t.1.0; indexes = t.1.1 }) (λ _. refl)

@@ -1,6 +1,6 @@
 ghost use Rattle.std.specs.Prelude.{◌≡◌, ℕ, ◌<◌, ◌≤◌, ◌-◌, ◌∷◌, [], ◌++◌, List, Ok, false, OnErr, OnOk, length, slice_get, Some, IfSome, option_map};
 ghost use Rattle.indexmap.specs.IndexMap.{index_map_len, keys};
-ghost use Rattle.rs_catalog.specs.Catalogue.{empty, has_name, most_of, names_of, place_of_name, number_named, room_for, room_in, with_predicate, with_table};
+ghost use Rattle.rs_catalog.specs.Catalog.{empty, has_name, most_of, names_of, place_of_name, number_named, room_for, room_in, with_predicate, with_table};
 ghost use Rattle.rs_catalog.specs.Indexes.{IsIndexEntry, IsIndex, IsRanking, index_of, making, predicate_for, ranking_at, rows_for};
 ghost use Rattle.rs_catalog.specs.Making.{MakesIndex};
 ghost use Rattle.rs_catalog.specs.declared.room.What.{What as Lists};
@@ -43,11 +43,11 @@ pub struct Catalog {
 }
 
 impl Model for Catalog {
-    ghost use Rattle.rs_catalog.specs.Catalogue.{Catalogue};
+    ghost use Rattle.rs_catalog.specs.Catalog.{CatalogDef};
     ghost use Rattle.rs_catalog.specs.Inside.{IsInside, catalogue_of};
     ghost use Rattle.rs_catalog.specs.Stored.{catalogue_code};
 
-    ghost Value = { Catalogue };
+    ghost Value = { CatalogDef };
 
     ghost coded = { catalogue_code };
 

@@ -5,8 +5,8 @@ ghost use Rattle.std.specs.Prelude.{ℕ, List, Result};
 ghost use Rattle.rs_expr.specs.Predicates.{PredicateDef};
 ghost use Rattle.rs_expr.specs.Scoring.{Answering, ScorerState};
 ghost use Rattle.rs_table.specs.Relation.{Relation};
-ghost use Rattle.rs_catalog.specs.Catalogue.{Catalogue, empty, with_predicate, with_table};
-ghost use Rattle.rs_catalog.specs.Held.{AreHeld};
+ghost use Rattle.rs_catalog.specs.Catalog.{CatalogDef, empty, with_predicate, with_table};
+ghost use Rattle.rs_catalog.specs.Held.{IndexesHold};
 ghost use Rattle.rs_catalog.specs.Indexes.{IsIndex, making};
 ghost use Rattle.rs_catalog.specs.Making.{MakesIndex};
 ghost use Rattle.rs_catalog.specs.declared.index.IndexDef.{IndexDef};
@@ -15,12 +15,12 @@ ghost use Rattle.rs_catalog.specs.declared.index.IndexFault.{IndexFault};
 /// An empty catalogue has no index that lacks a scorer's answers. Where none does, none does behind what joins: a table, a
 /// predicate, or an index for which the scorer was called, whatever came of that.
 pub fn indexes_go_on_to_hold_answers()
-    ensures start { (answer : Answering) → AreHeld answer empty }
-    ensures tables { (catalogue : Catalogue) (answer : Answering) (name : List ℕ) (table : Relation)
-        → AreHeld answer catalogue → AreHeld answer (with_table name table catalogue) }
-    ensures predicates { (catalogue : Catalogue) (answer : Answering) (predicate : PredicateDef)
-        → AreHeld answer catalogue → AreHeld answer (with_predicate predicate catalogue) }
-    ensures indexes { (catalogue new : Catalogue) (def : IndexDef) (result : Result (Unit {0}) IndexFault) (before after : ScorerState)
-        → IsIndex catalogue def → AreHeld before.answer catalogue
-        → MakesIndex (making before.answer catalogue def) def catalogue new result before after → AreHeld after.answer new }
+    ensures start { (answer : Answering) → IndexesHold answer empty }
+    ensures tables { (catalogue : CatalogDef) (answer : Answering) (name : List ℕ) (table : Relation)
+        → IndexesHold answer catalogue → IndexesHold answer (with_table name table catalogue) }
+    ensures predicates { (catalogue : CatalogDef) (answer : Answering) (predicate : PredicateDef)
+        → IndexesHold answer catalogue → IndexesHold answer (with_predicate predicate catalogue) }
+    ensures indexes { (catalogue new : CatalogDef) (def : IndexDef) (result : Result (Unit {0}) IndexFault) (before after : ScorerState)
+        → IsIndex catalogue def → IndexesHold before.answer catalogue
+        → MakesIndex (making before.answer catalogue def) def catalogue new result before after → IndexesHold after.answer new }
 {}

@@ -10,7 +10,7 @@ use Rattle.rs_order.specs.Climbing.{In}
 use Rattle.rs_order.specs.Schedule.{numbers_from}
 use Rattle.rs_order.proofs.ItemFacts.{In-left, In-right, In-append, In-map, In-map-back, In-flat_map, In-flat_map-back, In-filter, In-filter-back}
 use Rattle.rs_rank.specs.Masks.{AreDisjoint, mask_of}
-use Rattle.rs_catalog.specs.Catalogue.{Catalogue}
+use Rattle.rs_catalog.specs.Catalog.{CatalogDef}
 use Rattle.rs_query.specs.Combinations.{numbers_to}
 use Rattle.rs_query.specs.WellFormed.{IsBlock, IsQuery}
 use Rattle.rs_query.specs.declared.block.Block.{Block}
@@ -266,10 +266,10 @@ module _ (es ts indexes : List ℕ) where
   ]
 
 -- the numbers of a plan of a catalogue's tables
-abbrev IsNumbered : Catalogue → PlanTree → Type 0
+abbrev IsNumbered : CatalogDef → PlanTree → Type 0
 IsNumbered catalogue tree = IsOver (numbers_to 6) (numbers_to 8) (numbers_from 0 (length catalogue.indexes)) tree
 
-numbered-back : (catalogue : Catalogue) (tree : PlanTree) → IsNumbered catalogue tree → HasNumbers tree
+numbered-back : (catalogue : CatalogDef) (tree : PlanTree) → IsNumbered catalogue tree → HasNumbers tree
 numbered-back catalogue (SeqScan e) over = In-numbers_to-back e 6 over
 numbered-back catalogue (RankScan e t i) over = (In-numbers_to-back e 6 over.0, In-numbers_to-back t 8 over.1)
 numbered-back catalogue (Rank t child) over = (In-numbers_to-back t 8 over.0, numbered-back catalogue child over.1)
@@ -291,7 +291,7 @@ found-within p xs i is = go (nat_lt (position_or_len p xs) (length xs)) refl whe
       omega arith
   go false e = absurd (none-some i (sym (ap (λ b. cond b (Some (position_or_len p xs)) None) e) ∙ is))
 
-numbered-part : (catalogue : Catalogue) (block : Block) (tree : PlanTree) → IsPart catalogue block tree → HasNumbers tree → IsNumbered catalogue tree
+numbered-part : (catalogue : CatalogDef) (block : Block) (tree : PlanTree) → IsPart catalogue block tree → HasNumbers tree → IsNumbered catalogue tree
 numbered-part catalogue block (SeqScan e) is numbers = upto-in 6 e numbers
 numbered-part catalogue block (RankScan e t i) is numbers = (
   upto-in 6 e numbers.0,
@@ -306,7 +306,7 @@ numbered-part catalogue block (NestedJoin l r) is numbers =
 numbered-part catalogue block (Distinct child) is numbers = numbered-part catalogue block child is.0 numbers
 numbered-part catalogue block (SetOperator l r) is numbers = absurd is
 
-numbered-set : (catalogue : Catalogue) (left right : Block) (tree : PlanTree) → IsSetPlan catalogue left right tree → HasNumbers tree → IsNumbered catalogue tree
+numbered-set : (catalogue : CatalogDef) (left right : Block) (tree : PlanTree) → IsSetPlan catalogue left right tree → HasNumbers tree → IsNumbered catalogue tree
 numbered-set catalogue left right (Rank t child) is numbers = (upto-in 8 t numbers.0, numbered-set catalogue left right child is.0 numbers.1)
 numbered-set catalogue left right (SetOperator l r) is numbers =
     (numbered-part catalogue left l is.0.part numbers.0, numbered-part catalogue right r is.1.part numbers.1)
@@ -316,14 +316,14 @@ numbered-set catalogue left right (HashJoin l r) is numbers = absurd is
 numbered-set catalogue left right (NestedJoin l r) is numbers = absurd is
 numbered-set catalogue left right (Distinct child) is numbers = absurd is
 
-numbered-plan : (catalogue : Catalogue) (query : Query) (tree : PlanTree) → IsQuery catalogue query → IsPlan catalogue query tree → IsNumbered catalogue tree
+numbered-plan : (catalogue : CatalogDef) (query : Query) (tree : PlanTree) → IsQuery catalogue query → IsPlan catalogue query tree → IsNumbered catalogue tree
 numbered-plan catalogue (One block limit) tree q is =
     numbered-part catalogue block tree is.0.part (plan-numbers catalogue (One block limit) tree q is)
 numbered-plan catalogue (Set op left right limit) tree q is =
     numbered-set catalogue left right tree is.0 (plan-numbers catalogue (Set op left right limit) tree q is)
 
 -- how many levels a plan has at most: one for each entry and each term, one for a Distinct, and one for a set operator
-module _ (catalogue : Catalogue) (block : Block) (formed : IsBlock catalogue block) where
+module _ (catalogue : CatalogDef) (block : Block) (formed : IsBlock catalogue block) where
   both-ones : (l r : PlanTree) → IsPart catalogue block l → IsPart catalogue block r → AreDisjoint (entries l) (entries r)
       → (count_ones (bit_or (entries l) (entries r)) ≡ count_ones (entries l) + count_ones (entries r))
       × (count_ones (bit_or (terms l) (terms r)) ≡ count_ones (terms l) + count_ones (terms r))
@@ -395,7 +395,7 @@ module _ (catalogue : Catalogue) (block : Block) (formed : IsBlock catalogue blo
       let six = ones-le 6 (entries tree) (entries-small catalogue block formed tree is) in
       omega arith
 
-set-levels : (catalogue : Catalogue) (left right : Block) → IsBlock catalogue left → IsBlock catalogue right → (tree : PlanTree) → IsSetPlan catalogue left right tree
+set-levels : (catalogue : CatalogDef) (left right : Block) → IsBlock catalogue left → IsBlock catalogue right → (tree : PlanTree) → IsSetPlan catalogue left right tree
     → terms tree < 2 ^ 8 → levels tree ≤ count_ones (terms tree) + 8
 set-levels catalogue left right left_formed right_formed (Rank t child) is small =
     let below = or_below (terms child) (mask_of t) small in
@@ -416,7 +416,7 @@ set-levels catalogue left right left_formed right_formed (HashJoin l r) is small
 set-levels catalogue left right left_formed right_formed (NestedJoin l r) is small = absurd is
 set-levels catalogue left right left_formed right_formed (Distinct child) is small = absurd is
 
-plan-levels : (catalogue : Catalogue) (query : Query) (tree : PlanTree) → IsQuery catalogue query → IsPlan catalogue query tree → levels tree ≤ 16
+plan-levels : (catalogue : CatalogDef) (query : Query) (tree : PlanTree) → IsQuery catalogue query → IsPlan catalogue query tree → levels tree ≤ 16
 plan-levels catalogue (One block limit) tree q is =
     let few = block-levels catalogue block q.0 tree is.0.part in
     let eight = ones-le 8 (terms tree) (terms-small catalogue block q.0 tree is.0.part) in
@@ -431,7 +431,7 @@ plan-levels catalogue (Set op left right limit) tree q is =
     omega arith
 
 -- all plans, and nothing else
-pub In-plans : (catalogue : Catalogue) (query : Query) (tree : PlanTree) → IsQuery catalogue query → IsPlan catalogue query tree → In tree (all_plans catalogue query)
+pub In-plans : (catalogue : CatalogDef) (query : Query) (tree : PlanTree) → IsQuery catalogue query → IsPlan catalogue query tree → In tree (all_plans catalogue query)
 unfolding all_plans
 In-plans catalogue query tree q is =
     In-filter (is_plan catalogue query) tree (trees_of (numbers_to 6) (numbers_to 8) (numbers_from 0 (length catalogue.indexes)) 16)
@@ -440,7 +440,7 @@ In-plans catalogue query tree q is =
     ((plan-decided catalogue query tree (plan-numbers catalogue query tree q is)).1 is)
 
 -- a plan of a query and of one that is well formed
-pub In-plans-shared : (catalogue : Catalogue) (query formed : Query) (tree : PlanTree) → IsQuery catalogue formed → IsPlan catalogue formed tree → IsPlan catalogue query tree
+pub In-plans-shared : (catalogue : CatalogDef) (query formed : Query) (tree : PlanTree) → IsQuery catalogue formed → IsPlan catalogue formed tree → IsPlan catalogue query tree
     → In tree (all_plans catalogue query)
 unfolding all_plans
 In-plans-shared catalogue query formed tree q is_formed is =
@@ -449,7 +449,7 @@ In-plans-shared catalogue query formed tree q is_formed is =
     (numbered-plan catalogue formed tree q is_formed))
     ((plan-decided catalogue query tree (plan-numbers catalogue formed tree q is_formed)).1 is)
 
-pub In-plans-back : (catalogue : Catalogue) (query : Query) (tree : PlanTree) → In tree (all_plans catalogue query) → IsPlan catalogue query tree
+pub In-plans-back : (catalogue : CatalogDef) (query : Query) (tree : PlanTree) → In tree (all_plans catalogue query) → IsPlan catalogue query tree
 unfolding all_plans
 In-plans-back catalogue query tree h =
     let both = In-filter-back (is_plan catalogue query) tree (trees_of (numbers_to 6) (numbers_to 8) (numbers_from 0 (length catalogue.indexes)) 16) h in

@@ -1,6 +1,6 @@
 -- A block of a query, and the same block as a query of its own.
 use Rattle.std.proofs.Common.{◌≡◌, ◌∙◌, ℕ, ◌+◌, ◌*◌, List, refl, sym}
-use Rattle.rs_catalog.specs.Catalogue.{Catalogue}
+use Rattle.rs_catalog.specs.Catalog.{CatalogDef}
 use Rattle.rs_query.specs.declared.query.Query.{Query}
 use Rattle.rs_sample.specs.Cards.{BlockCards}
 use Rattle.rs_query.specs.Blocks.{block_in}
@@ -17,7 +17,7 @@ pub alone-are : (query : Query) (cards : List BlockCards) (number : ℕ) → Are
 alone-are query cards number are is = (cards_at cards number, refl, block-cards query cards number are is)
 
 -- a part of a plan of a block costs as much as in a query of that block alone
-module _ (catalogue : Catalogue) (query : Query) (cards : List BlockCards) (number : ℕ) where
+module _ (catalogue : CatalogDef) (query : Query) (cards : List BlockCards) (number : ℕ) where
   pub estimate-alone : (tree : PlanTree) → IsPart catalogue (block_in query number) tree
       → estimate_of cards number tree ≡ estimate_of (alone_cards cards number) 1 tree
   estimate-alone tree is =

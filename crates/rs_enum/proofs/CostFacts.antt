@@ -9,7 +9,7 @@ use Rattle.std.proofs.lemmas.Option.{slice_get-map, slice_get_within}
 use Rattle.std.proofs.Math.Nat.{pow-le-pow_right}
 use Rattle.rs_order.proofs.EachFacts.{each-slice_get}
 use Rattle.rs_rank.specs.Masks.{AreDisjoint, mask_of}
-use Rattle.rs_catalog.specs.Catalogue.{Catalogue}
+use Rattle.rs_catalog.specs.Catalog.{CatalogDef}
 use Rattle.rs_query.specs.Meaning.{is_inside}
 use Rattle.rs_query.specs.Tables.{all_entries}
 use Rattle.rs_query.specs.WellFormed.{AreSameTerms, IsBlock, IsQuery}
@@ -32,7 +32,7 @@ use Rattle.rs_enum.proofs.OrderOfPlans.{estimate-part}
 use Rattle.rs_enum.proofs.WithinFacts.{entries-below, sides-apart, terms-below, terms-within, terms_within-only}
 
 -- each block of a well-formed query is well-formed
-pub block-formed : (catalogue : Catalogue) (query : Query) (number : ℕ) → IsQuery catalogue query → IsBlock catalogue (block_in query number)
+pub block-formed : (catalogue : CatalogDef) (query : Query) (number : ℕ) → IsQuery catalogue query → IsBlock catalogue (block_in query number)
 block-formed catalogue (One block limit) number q = q.0
 block-formed catalogue (Set op left right limit) number q =
     elim (nat_eq number 1) as (λ b. IsBlock catalogue (cond b left right)) [ true ↦ q.0.left_block | false ↦ q.0.right_block ]
@@ -94,12 +94,12 @@ module _ (block : Block) (cards : BlockCards) (are : AreBlockCards block cards) 
     read = subst (AreRead second first) (sym are.reads) (read-of first second block.terms inside);
   }
 
-  pub masks-part : (catalogue : Catalogue) (tree : PlanTree) → IsPart catalogue block tree → IsEstimated cards (entries tree) (terms tree)
+  pub masks-part : (catalogue : CatalogDef) (tree : PlanTree) → IsPart catalogue block tree → IsEstimated cards (entries tree) (terms tree)
   masks-part catalogue tree is =
       masks-of (entries tree) (terms tree) (entries-below catalogue block tree is) (terms-below catalogue block tree is)
       (λ place term there has. terms_within-only (entries tree) block.terms (terms tree) place term (terms-within catalogue block tree is) there has)
 
-  pub masks-all : (catalogue : Catalogue) (second : ℕ) → IsBlock catalogue block → second < 2 ^ length block.terms → IsEstimated cards (all_entries block) second
+  pub masks-all : (catalogue : CatalogDef) (second : ℕ) → IsBlock catalogue block → second < 2 ^ length block.terms → IsEstimated cards (all_entries block) second
   masks-all catalogue second formed below =
       masks-of (all_entries block) second (all-below (length block.from)) below
       (λ place term there has. each-slice_get (λ (t : Term). is_inside t.entries (all_entries block) ≡ true) block.terms place term (terms-inside catalogue block formed) there)
@@ -117,7 +117,7 @@ module _ (block : Block) (cards : BlockCards) (are : AreBlockCards block cards) 
         ∙ ap (option_map (λ (x : Term). x.entries)) is_term.there ∙ ap Some alone;
   }
 
-  pub term-alone : (catalogue : Catalogue) (e t i : ℕ) → IsPart catalogue block (RankScan e t i) → IsIndexed cards e t
+  pub term-alone : (catalogue : CatalogDef) (e t i : ℕ) → IsPart catalogue block (RankScan e t i) → IsIndexed cards e t
   term-alone catalogue e t i is = indexed e t is.term is.is_entry is.is_term is.alone
 
 pub numbered : (block : Block) (number : ℕ) (term : Term) → IsTermOf block number term → IsNumberedTerm block number
@@ -126,7 +126,7 @@ numbered block number term is =
     let within = slice_get_within block.terms (number - 1) term is.there in
     record { some = some; most = omega arith }
 
-module _ (catalogue : Catalogue) (block : Block) (formed : IsBlock catalogue block) where
+module _ (catalogue : CatalogDef) (block : Block) (formed : IsBlock catalogue block) where
   pub part-has-numbers : (tree : PlanTree) → IsPart catalogue block tree → HasNumbers tree
   part-has-numbers tree is = part-numbers catalogue block tree formed.most_entries formed.most_terms is
 
@@ -195,7 +195,7 @@ module _ (catalogue : Catalogue) (block : Block) (formed : IsBlock catalogue blo
       let c = rows-most (bit_or (entries l) (entries r)) rows (both-small l r is_l is_r) few in
       omega arith
 
-module _ (catalogue : Catalogue) (left right : Block) where
+module _ (catalogue : CatalogDef) (left right : Block) where
   -- plans of two blocks
   pub set-has-numbers : IsBlock catalogue left → IsBlock catalogue right → (tree : PlanTree) → IsSetPlan catalogue left right tree → HasNumbers tree
   set-has-numbers l r (Rank t child) is =
@@ -243,7 +243,7 @@ same-terms left right (x ∷ xs) [] are = absurd are
 same-terms left right (x ∷ xs) (y ∷ ys) are = ap suc (same-terms left right xs ys are.1)
 
 -- a part of a block has no set operator, and a part of a plan of two blocks is told by it
-pub part-has-none : (catalogue : Catalogue) (block : Block) (tree : PlanTree) → IsPart catalogue block tree → has_set_operator tree ≡ false
+pub part-has-none : (catalogue : CatalogDef) (block : Block) (tree : PlanTree) → IsPart catalogue block tree → has_set_operator tree ≡ false
 part-has-none catalogue block (SeqScan e) is = refl
 part-has-none catalogue block (RankScan e t i) is = refl
 part-has-none catalogue block (Rank t child) is = part-has-none catalogue block child is.0
@@ -252,7 +252,7 @@ part-has-none catalogue block (NestedJoin l r) is = refl
 part-has-none catalogue block (Distinct child) is = refl
 part-has-none catalogue block (SetOperator l r) is = absurd is
 
-set-has-one : (catalogue : Catalogue) (left right : Block) (tree : PlanTree) → IsSetPlan catalogue left right tree → has_set_operator tree ≡ true
+set-has-one : (catalogue : CatalogDef) (left right : Block) (tree : PlanTree) → IsSetPlan catalogue left right tree → has_set_operator tree ≡ true
 set-has-one catalogue left right (Rank t child) is = set-has-one catalogue left right child is.0
 set-has-one catalogue left right (SetOperator a b) is = refl
 set-has-one catalogue left right (SeqScan e) is = absurd is
@@ -261,7 +261,7 @@ set-has-one catalogue left right (HashJoin a b) is = absurd is
 set-has-one catalogue left right (NestedJoin a b) is = absurd is
 set-has-one catalogue left right (Distinct child) is = absurd is
 
-pub set-part : (catalogue : Catalogue) (query : Query) (tree : PlanTree) → (IsPlan catalogue query tree ⊎ IsPart catalogue (block_in query 1) tree)
+pub set-part : (catalogue : CatalogDef) (query : Query) (tree : PlanTree) → (IsPlan catalogue query tree ⊎ IsPart catalogue (block_in query 1) tree)
     → has_set_operator tree ≡ true → IsSetPart catalogue query tree
 set-part catalogue (One block limit) tree is has = absurd (elim is [
   | inl plan ↦ true≢false (sym has ∙ part-has-none catalogue block tree plan.0.part)
@@ -272,7 +272,7 @@ set-part catalogue (Set op left right limit) tree is has = elim is [
   | inr part ↦ absurd (true≢false (sym has ∙ part-has-none catalogue left tree part))
 ]
 
-pub block-part : (catalogue : Catalogue) (query : Query) (tree : PlanTree) → (IsPlan catalogue query tree ⊎ IsPart catalogue (block_in query 1) tree)
+pub block-part : (catalogue : CatalogDef) (query : Query) (tree : PlanTree) → (IsPlan catalogue query tree ⊎ IsPart catalogue (block_in query 1) tree)
     → has_set_operator tree ≡ false → IsPart catalogue (block_in query 1) tree
 block-part catalogue (One block limit) tree is none = elim is [ inl plan ↦ plan.0.part | inr part ↦ part ]
 block-part catalogue (Set op left right limit) tree is none = elim is [
@@ -281,7 +281,7 @@ block-part catalogue (Set op left right limit) tree is none = elim is [
 ]
 
 -- the same of a query of two blocks
-module _ (catalogue : Catalogue) where
+module _ (catalogue : CatalogDef) where
   pub set-numbers : (query : Query) (tree : PlanTree) → IsQuery catalogue query → IsSetPart catalogue query tree → HasNumbers tree
   set-numbers (One block limit) tree q is = absurd is
   set-numbers (Set op left right limit) tree q is = set-has-numbers catalogue left right q.0.left_block q.0.right_block tree is

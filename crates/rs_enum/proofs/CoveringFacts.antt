@@ -2,7 +2,7 @@
 use Rattle.std.proofs.Common.{◌≡◌, ℕ, ◌-◌, ◌^◌, ◌<◌, false, true, List, length, refl, sym, ◌∙◌, ap, subst₂, arith, bit_and, bit_or}
 use Rattle.std.specs.Prelude.{Option, Some}
 use Rattle.std.proofs.lemmas.Nat.{pow_pos}
-use Rattle.rs_catalog.specs.Catalogue.{Catalogue}
+use Rattle.rs_catalog.specs.Catalog.{CatalogDef}
 use Rattle.rs_rank.specs.Masks.{AreDisjoint, has_number, mask_of}
 use Rattle.rs_query.specs.Meaning.{is_inside}
 use Rattle.rs_query.specs.declared.block.Block.{Block}
@@ -27,7 +27,7 @@ rank-of block t a b same_entries same_terms is = record {
 all-below : (n : ℕ) → 2 ^ n - 1 < 2 ^ n
 all-below n = let some : 0 < 2 ^ n = pow_pos n in omega arith
 
-module _ (catalogue : Catalogue) (block : Block) where
+module _ (catalogue : CatalogDef) (block : Block) where
   -- where the block doesn't say so, no duplicates are dropped
   pub keeps-duplicates : (tree : PlanTree) → block.distinct ≡ false → IsPart catalogue block tree → HasNoDistinct tree
   keeps-duplicates (SeqScan e) says is = tt

@@ -6,7 +6,7 @@ use Rattle.std.proofs.lemmas.Nat.Bits.{and_pow, bit_at_ones_above}
 use Rattle.std.proofs.lemmas.Option.{slice_get_cases}
 use Rattle.std.proofs.Math.Nat.{pow-suc}
 use Rattle.rs_order.proofs.EachFacts.{each-slice_get}
-use Rattle.rs_catalog.specs.Catalogue.{Catalogue}
+use Rattle.rs_catalog.specs.Catalog.{CatalogDef}
 use Rattle.rs_rank.specs.Masks.{has_number, mask_of}
 use Rattle.rs_query.specs.Meaning.{is_inside}
 use Rattle.rs_query.specs.Tables.{all_entries}
@@ -96,7 +96,7 @@ drops-ranked zero true tree is whole = whole
 drops-ranked zero false tree is whole = absurd (cc)
 drops-ranked (suc n) b tree is whole = drops-ranked n b tree is whole
 
-module _ (catalogue : Catalogue) (block : Block) (formed : IsBlock catalogue block) where
+module _ (catalogue : CatalogDef) (block : Block) (formed : IsBlock catalogue block) where
   part-left_deep : (n : ℕ) → suc n ≤ length block.from → IsPart catalogue block (left_deep n)
   unfolding left_deep
   part-left_deep zero within = record { some = omega arith; most = within }
@@ -181,7 +181,7 @@ module _ (catalogue : Catalogue) (block : Block) (formed : IsBlock catalogue blo
   unfolding ranked
   complete-base = complete-ranked zero (omega arith)
 
-module _ (catalogue : Catalogue) (left right : Block) (left_formed : IsBlock catalogue left) (right_formed : IsBlock catalogue right) where
+module _ (catalogue : CatalogDef) (left right : Block) (left_formed : IsBlock catalogue left) (right_formed : IsBlock catalogue right) where
   sides : PlanTree
   sides = SetOperator (base catalogue left left_formed) (base catalogue right right_formed)
 
@@ -205,7 +205,7 @@ module _ (catalogue : Catalogue) (left right : Block) (left_formed : IsBlock cat
     rank-next catalogue left left_formed n (ranked n sides) within (entries-ranked n sides ∙ entries-sides) (terms-ranked n sides terms-sides),
   )
 
-pub some-plan : (catalogue : Catalogue) (query : Query) → IsQuery catalogue query → (tree : PlanTree) × IsPlan catalogue query tree
+pub some-plan : (catalogue : CatalogDef) (query : Query) → IsQuery catalogue query → (tree : PlanTree) × IsPlan catalogue query tree
 some-plan catalogue (One block limit) q = (ranked (length block.terms) (base catalogue block q.0), block-plan catalogue block q.0 limit)
 some-plan catalogue (Set op left right limit) q =
     let l = q.0.left_block in

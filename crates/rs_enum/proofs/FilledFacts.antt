@@ -3,7 +3,7 @@ use Rattle.std.proofs.Common.{◌≡◌, ℕ, ◌+◌, ◌*◌, ◌/◌, ◌%◌
 use Rattle.std.specs.Prelude.{Option}
 use Rattle.std.proofs.lemmas.Nat.{div-add-mod', div_below, mod_below, pow_pos}
 use Rattle.std.proofs.Math.Nat.{pow-le-pow_right}
-use Rattle.rs_catalog.specs.Catalogue.{Catalogue}
+use Rattle.rs_catalog.specs.Catalog.{CatalogDef}
 use Rattle.rs_query.specs.WellFormed.{IsBlock}
 use Rattle.rs_query.specs.declared.query.Query.{Query}
 use Rattle.rs_sample.specs.Cards.{BlockCards}
@@ -24,7 +24,7 @@ entries-within place rows columns count first columns_is less first_is =
     let some : 0 < columns = subst (λ n. 0 < n) (sym columns_is) (pow_pos count) in
     subst (λ n. n < rows) (sym first_is) (div_below place columns rows some less)
 
-pub filled-next : (catalogue : Catalogue) (query : Query) (cards : List BlockCards) → IsBlock catalogue (block_in query 1) → (places : List (Option Kept))
+pub filled-next : (catalogue : CatalogDef) (query : Query) (cards : List BlockCards) → IsBlock catalogue (block_in query 1) → (places : List (Option Kept))
     → IsFilled catalogue query cards places → (place columns first second : ℕ) → length places ≡ place → columns ≡ 2 ^ length (block_in query 1).terms
     → first ≡ place / columns → second ≡ place % columns → (made : Option Kept) → IsFound catalogue query cards places first second made
     → IsFilled catalogue query cards (places ++ made ∷ [])

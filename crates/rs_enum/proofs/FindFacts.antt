@@ -6,7 +6,7 @@ use Rattle.std.proofs.lemmas.Nat.{and_le_l, or_comm, pow_below, pow_pos, xor_lt}
 use Rattle.std.proofs.lemmas.Nat.Bits.{bit_at-lt, bit_at-pow_same, bit_at_or}
 use Rattle.std.proofs.lemmas.Option.{none-some, same_Some}
 use Rattle.rs_rank.specs.Masks.{AreDisjoint, has_number, mask_of}
-use Rattle.rs_catalog.specs.Catalogue.{Catalogue}
+use Rattle.rs_catalog.specs.Catalog.{CatalogDef}
 use Rattle.rs_query.specs.Meaning.{is_inside}
 use Rattle.rs_query.specs.Tables.{size_of}
 use Rattle.rs_query.specs.WellFormed.{IsBlock}
@@ -45,7 +45,7 @@ has-own a t =
     let one : bit_at (bit_or a (mask_of t)) (t - 1) ≡ 1 = omega arith in
     ap (λ n. n == 1) one
 
-module _ (catalogue : Catalogue) (block : Block) (formed : IsBlock catalogue block) (kept : ℕ → ℕ → Option PlanTree) (first second : ℕ) where
+module _ (catalogue : CatalogDef) (block : Block) (formed : IsBlock catalogue block) (kept : ℕ → ℕ → Option PlanTree) (first second : ℕ) where
   -- which tree starts so
   pub record IsRankOf (t : ℕ) (tree : PlanTree) : Type 0 where
     pub child : PlanTree
@@ -115,7 +115,7 @@ module _ (catalogue : Catalogue) (block : Block) (formed : IsBlock catalogue blo
       sym (left-without (terms r.child) (mask_of t) (number-apart (terms r.child) t y.part.1.absent)) ∙ ap (λ m. bit_xor m (mask_of t)) y.its_terms in
       none-some r.child (sym missing ∙ (λ i. kept (sym y.its_entries i) (sym below i)) ∙ y.made)
 
-module _ (catalogue : Catalogue) (query : Query) (cards : List BlockCards) (formed : IsBlock catalogue (block_in query 1)) (places : List (Option Kept)) (kept : AreKept catalogue query cards places)
+module _ (catalogue : CatalogDef) (query : Query) (cards : List BlockCards) (formed : IsBlock catalogue (block_in query 1)) (places : List (Option Kept)) (kept : AreKept catalogue query cards places)
     (first second : ℕ) (small : second < 2 ^ length (block_in query 1).terms) where
   -- an operator for a term over what is kept
   pub rank-one : (t : ℕ) (term : Term) → IsTermOf (block_in query 1) t term → has_number second t ≡ true → is_inside term.entries first ≡ true

@@ -7,7 +7,7 @@ use Rattle.std.specs.declared.cmp.Ordering.{Ordering}
 use Rattle.std.specs.declared.cmp.Ordering.TheVariants.{Less, Equal, Greater}
 use Rattle.std.proofs.lemmas.Cmp.{tied_itself, upto}
 use Rattle.rs_order.specs.Climbing.{In}
-use Rattle.rs_catalog.specs.Catalogue.{Catalogue}
+use Rattle.rs_catalog.specs.Catalog.{CatalogDef}
 use Rattle.rs_query.specs.WellFormed.{IsQuery}
 use Rattle.rs_query.specs.declared.query.Query.{Query}
 use Rattle.rs_sample.specs.Cards.{BlockCards}
@@ -83,7 +83,7 @@ module _ {X : Type 0} (cmp : X → X → Ordering) (total : IsTotalOrder cmp) wh
     ];
   }
 
-pub least-found : (catalogue : Catalogue) (query : Query) (cards : List BlockCards) → IsQuery catalogue query → IsLeast catalogue query cards (least_plan catalogue query cards)
+pub least-found : (catalogue : CatalogDef) (query : Query) (cards : List BlockCards) → IsQuery catalogue query → IsLeast catalogue query cards (least_plan catalogue query cards)
 unfolding least_plan
 least-found catalogue query cards q =
     let some = some-plan catalogue query q in
@@ -96,7 +96,7 @@ least-found catalogue query cards q =
     })
 
 -- it is a plan of a query that may be not well formed, where each plan of some well formed query is a plan of that query too
-pub plan-found : (catalogue : Catalogue) (query formed : Query) (cards : List BlockCards) → IsQuery catalogue formed
+pub plan-found : (catalogue : CatalogDef) (query formed : Query) (cards : List BlockCards) → IsQuery catalogue formed
     → ((tree : PlanTree) → IsPlan catalogue formed tree → IsPlan catalogue query tree) → IsPlan catalogue query (least_plan catalogue query cards)
 unfolding least_plan
 plan-found catalogue query formed cards q shared =

@@ -3,7 +3,7 @@ use Rattle.std.proofs.Common.{◌≡◌, ◌∙◌, ℕ, ◌+◌, ◌*◌, ◌^�
 use Rattle.std.specs.Prelude.{Option, Some, None, option_and_then, slice_get}
 use Rattle.std.proofs.lemmas.Bool.{ltb-false, ltb-true}
 use Rattle.std.proofs.lemmas.Option.{none-some, same_Some, slice_get_within}
-use Rattle.rs_catalog.specs.Catalogue.{Catalogue}
+use Rattle.rs_catalog.specs.Catalog.{CatalogDef}
 use Rattle.rs_query.specs.Tables.{all_entries}
 use Rattle.rs_query.specs.WellFormed.{IsQuery}
 use Rattle.rs_query.specs.declared.block.Block.{Block}
@@ -35,7 +35,7 @@ top-within tops e k at = go (slice_get tops e) refl where
   go (Some x) there = slice_get_within tops e x there
   go None there = absurd (none-some k (sym (ap (option_and_then (λ (m : Option Kept). m)) there) ∙ at))
 
-module _ (catalogue : Catalogue) (query : Query) (q : IsQuery catalogue query) (cards : List BlockCards) (number : ℕ) where
+module _ (catalogue : CatalogDef) (query : Query) (q : IsQuery catalogue query) (cards : List BlockCards) (number : ℕ) where
   -- the last row of the places
   module _ (places tops : List (Option Kept)) (filled : IsFilled catalogue (alone query number) (alone_cards cards number) places)
       (all : length places ≡ 2 ^ length (block_in query number).from * 2 ^ length (block_in query number).terms) (row : IsLastRow (block_in query number) places tops) where

@@ -3,7 +3,7 @@ use Rattle.std.proofs.Common.{◌≡◌, ℕ, ◌≤◌, List, length, refl, sym
 use Rattle.std.specs.Prelude.{Option, Some, None, IsSome, option_map}
 use Rattle.std.proofs.lemmas.Option.{none-some, same_Some}
 use Rattle.rs_rank.specs.Masks.{mask_of}
-use Rattle.rs_catalog.specs.Catalogue.{Catalogue}
+use Rattle.rs_catalog.specs.Catalog.{CatalogDef}
 use Rattle.rs_query.specs.WellFormed.{IsBlock}
 use Rattle.rs_query.specs.declared.query.Query.{Query}
 use Rattle.rs_query.specs.Blocks.{block_in}
@@ -47,7 +47,7 @@ module _ (query : Query) (places : List (Option Kept)) (first second : ℕ) wher
       let r = same-right left x.0 x.1 y.0 y.1 x.3 y.3 in
       x.2 ∙ (λ i. NestedJoin (l i) (r i)) ∙ sym y.2
 
-module _ (catalogue : Catalogue) (query : Query) (formed : IsBlock catalogue (block_in query 1)) (places : List (Option Kept)) (first second : ℕ) where
+module _ (catalogue : CatalogDef) (query : Query) (formed : IsBlock catalogue (block_in query 1)) (places : List (Option Kept)) (first second : ℕ) where
   kept-sides : (l r : PlanTree) → CanBeMade catalogue query places first second (NestedJoin l r) → AreKeptSides query places first second (entries l) l r
   kept-sides l r x =
       let right : entries r ≡ bit_xor first (entries l) =

@@ -1,6 +1,6 @@
 -- How much a tree costs at most that is a node of this kind.
 use Rattle.std.proofs.Common.{◌≡◌, ℕ, ◌+◌, ◌*◌, ◌^◌, ◌<◌, ◌≤◌, sym, subst, arith, count_ones}
-use Rattle.rs_catalog.specs.Catalogue.{Catalogue}
+use Rattle.rs_catalog.specs.Catalog.{CatalogDef}
 use Rattle.rs_query.specs.WellFormed.{IsBlock, IsQuery}
 use Rattle.rs_query.specs.declared.block.Block.{Block}
 use Rattle.rs_query.specs.declared.query.Query.{Query}
@@ -11,7 +11,7 @@ use Rattle.rs_enum.specs.Bounds.{IsSetPart, most_cost, most_set_cost}
 use Rattle.rs_enum.proofs.BoundFacts.{most-rank_scan, most-scan, most-sides}
 use Rattle.rs_enum.proofs.CostFacts.{entries-small, hash-most, nested-most, part-rows, rank-most, set-rank-most}
 
-module _ (catalogue : Catalogue) (block : Block) (formed : IsBlock catalogue block) where
+module _ (catalogue : CatalogDef) (block : Block) (formed : IsBlock catalogue block) where
   pub scan-whole : (whole : PlanTree) (e rows : ℕ) → whole ≡ SeqScan e → rows ≤ 2 ^ 18 → rows + 2 ^ 105 ≤ most_cost (entries whole) (terms whole)
   scan-whole whole e rows is few = subst (λ w. rows + 2 ^ 105 ≤ most_cost (entries w) (terms w)) (sym is) (most-scan e rows few)
 
@@ -50,14 +50,14 @@ module _ (catalogue : Catalogue) (block : Block) (formed : IsBlock catalogue blo
       let all = part-rows catalogue block formed child rows part few in
       subst (λ w. below + rows ≤ most_cost (entries w) (terms w)) (sym is) (omega arith)
 
-module _ (catalogue : Catalogue) (query : Query) (q : IsQuery catalogue query) where
+module _ (catalogue : CatalogDef) (query : Query) (q : IsQuery catalogue query) where
   pub set_rank-whole : (whole child : PlanTree) (t below rows call : ℕ) → whole ≡ Rank t child → IsSetPart catalogue query whole
       → rows ≤ 2 ^ 103 → call < 2 ^ 16 → below ≤ most_set_cost (terms child) → below + rows * call ≤ most_set_cost (terms whole)
   set_rank-whole whole child t below rows call is part few small most =
       subst (λ w. below + rows * call ≤ most_set_cost (terms w)) (sym is)
       (set-rank-most catalogue query t child below rows call q (subst (IsSetPart catalogue query) is part) few small most)
 
-sides-most : (catalogue : Catalogue) (query : Query) → IsQuery catalogue query → (a b : PlanTree) (left right left_rows right_rows : ℕ)
+sides-most : (catalogue : CatalogDef) (query : Query) → IsQuery catalogue query → (a b : PlanTree) (left right left_rows right_rows : ℕ)
     → IsSetPart catalogue query (SetOperator a b)
     → left ≤ most_cost (entries a) (terms a) → right ≤ most_cost (entries b) (terms b)
     → left_rows ≤ 131072 ^ count_ones (entries a) → right_rows ≤ 131072 ^ count_ones (entries b)
@@ -70,7 +70,7 @@ sides-most catalogue (Set op l r limit) q a b left right left_rows right_rows is
     let same : right ≤ most_cost (entries b) (terms a) = subst (λ n. right ≤ most_cost (entries b) n) (sym is.2) right_most in
     omega arith
 
-pub sides-whole : (catalogue : Catalogue) (query : Query) → IsQuery catalogue query → (whole a b : PlanTree) (left right left_rows right_rows : ℕ)
+pub sides-whole : (catalogue : CatalogDef) (query : Query) → IsQuery catalogue query → (whole a b : PlanTree) (left right left_rows right_rows : ℕ)
     → whole ≡ SetOperator a b → IsSetPart catalogue query whole
     → left ≤ most_cost (entries a) (terms a) → right ≤ most_cost (entries b) (terms b)
     → left_rows ≤ 131072 ^ count_ones (entries a) → right_rows ≤ 131072 ^ count_ones (entries b)

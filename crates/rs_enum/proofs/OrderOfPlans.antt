@@ -7,7 +7,7 @@ use Rattle.std.specs.Ordering.{is_gt, nat_cmp, ordering_reverse, ordering_then}
 use Rattle.std.specs.declared.cmp.Ordering.{Ordering}
 use Rattle.std.specs.declared.cmp.Ordering.TheVariants.{Less, Equal, Greater}
 use Rattle.std.proofs.lemmas.Cmp.{nat_cmp_total, on_total, ranked, then_total, tied_itself, upto}
-use Rattle.rs_catalog.specs.Catalogue.{Catalogue}
+use Rattle.rs_catalog.specs.Catalog.{CatalogDef}
 use Rattle.rs_query.specs.declared.block.Block.{Block}
 use Rattle.rs_query.specs.declared.query.Query.{Query}
 use Rattle.rs_sample.specs.Cards.{BlockCards}
@@ -62,7 +62,7 @@ masks-front l m xs ys same_entries same_terms =
     λ at. code_cmp (same_entries at ∷ same_terms at ∷ xs) (entries m ∷ terms m ∷ ys) in
     equal ∙ same-front (entries m) (terms m ∷ xs) (terms m ∷ ys) ∙ same-front (terms m) xs ys
 
-module _ (catalogue : Catalogue) (query : Query) (cards : List BlockCards) where
+module _ (catalogue : CatalogDef) (query : Query) (cards : List BlockCards) where
   pub plans-total : IsTotalOrder (plan_cmp catalogue query cards)
   plans-total = then_total (on_total (cost_of catalogue query cards) nat_cmp_total) (on_total code code-total)
 

@@ -8,7 +8,7 @@ use Rattle.std.proofs.lemmas.Nat.{mul-add-lt, mul-le, pow_pos, same_from_place}
 use Rattle.std.proofs.Math.Nat.{mul_comm}
 use Rattle.std.proofs.lemmas.Option.{none-some, same_Some, slice_get_past}
 use Rattle.rs_rank.specs.Masks.{mask_of}
-use Rattle.rs_catalog.specs.Catalogue.{Catalogue}
+use Rattle.rs_catalog.specs.Catalog.{CatalogDef}
 use Rattle.rs_query.specs.WellFormed.{IsBlock}
 use Rattle.rs_query.specs.declared.block.Block.{Block}
 use Rattle.rs_query.specs.declared.query.Query.{Query}
@@ -46,7 +46,7 @@ earlier-row size s t p q less small =
     let more : (s + 1) * size ≡ s * size + size = omega arith in
     omega arith
 
-module _ (catalogue : Catalogue) (block : Block) where
+module _ (catalogue : CatalogDef) (block : Block) where
   -- what a plan is made of stands at earlier places
   children-kept : (kept other : ℕ → ℕ → Option PlanTree) (first second : ℕ) → second < 2 ^ length block.terms
       → ((s p : ℕ) → p < 2 ^ length block.terms → s * 2 ^ length block.terms + p < first * 2 ^ length block.terms + second → kept s p ≡ other s p)
@@ -84,7 +84,7 @@ module _ (catalogue : Catalogue) (block : Block) where
   children-kept kept other first second small same (Distinct child) is = absurd is.made
   children-kept kept other first second small same (SetOperator l r) is = absurd is.made
 
-module _ (catalogue : Catalogue) (query : Query) (cards : List BlockCards) where
+module _ (catalogue : CatalogDef) (query : Query) (cards : List BlockCards) where
   -- a plan that is made of places and of one more, for an earlier place, is made of them alone
   made-before : (places : List (Option Kept)) (x : Option Kept) (first second : ℕ) → second < 2 ^ length (block_in query 1).terms
       → first * 2 ^ length (block_in query 1).terms + second ≤ length places → (tree : PlanTree)
@@ -204,7 +204,7 @@ pub mapped : {A B : Type 0} (f : A → B) (o : Option A) (y : B) → option_map 
 mapped f (Some x) y is = (x, refl, same_Some (f x) y is)
 mapped f None y is = absurd (none-some y is)
 
-module _ (catalogue : Catalogue) (block : Block) (limit : Option ℕ) (cards : List BlockCards) (formed : IsBlock catalogue block)
+module _ (catalogue : CatalogDef) (block : Block) (limit : Option ℕ) (cards : List BlockCards) (formed : IsBlock catalogue block)
     (places : List (Option Kept)) (filled : IsFilled catalogue (One block limit) cards places)
     (all : length places ≡ 2 ^ length block.from * 2 ^ length block.terms) where
   pub sound : (first second : ℕ) (tree : PlanTree) → second < 2 ^ length block.terms → tree_at (length block.terms) places first second ≡ Some tree

@@ -4,7 +4,7 @@ use Rattle.std.specs.Prelude.{Option, codes, replicate, slice_get, unwrap_or}
 use Rattle.std.specs.Fmt.{decimal}
 use Rattle.std.specs.Ordering.{is_gt, nat_cmp, ordering_then}
 use Rattle.rs_value.specs.declared.set_op.SetOp.{SetOp}
-use Rattle.rs_catalog.specs.Catalogue.{Catalogue}
+use Rattle.rs_catalog.specs.Catalog.{CatalogDef}
 use Rattle.rs_expr.specs.Scoring.{Answering}
 use Rattle.rs_query.specs.Tables.{all_entries}
 use Rattle.rs_query.specs.Views.{View}
@@ -42,7 +42,7 @@ same-block : (cards other : List BlockCards) (number : ℕ) → AllSayTheSame ca
     → SayTheSame (cards_at cards number) (cards_at other number)
 same-block cards other number same is = same-at cards other (number - 1) same (let some = is.some in let most = is.most in omega arith)
 
-module _ (catalogue : Catalogue) (query : Query) (formed : IsQuery catalogue query) (cards other : List BlockCards) (are : AreCards query cards)
+module _ (catalogue : CatalogDef) (query : Query) (formed : IsQuery catalogue query) (cards other : List BlockCards) (are : AreCards query cards)
     (same : AllSayTheSame cards other) where
   module _ (number : ℕ) (is_number : IsBlockNumber cards number) where
     part-estimate : (tree : PlanTree) → IsPart catalogue (block_in query number) tree → estimate_of cards number tree ≡ estimate_of other number tree
@@ -90,7 +90,7 @@ module _ (catalogue : Catalogue) (query : Query) (formed : IsQuery catalogue que
     part-lines level (SetOperator l r) counts is = absurd is
 
 -- the same of two blocks
-module _ (catalogue : Catalogue) (op : SetOp) (left right : Block) (limit : Option ℕ) (formed : IsQuery catalogue (Set op left right limit))
+module _ (catalogue : CatalogDef) (op : SetOp) (left right : Block) (limit : Option ℕ) (formed : IsQuery catalogue (Set op left right limit))
     (cards other : List BlockCards) (are : AreCards (Set op left right limit) cards) (same : AllSayTheSame cards other) where
   set-estimate : (tree : PlanTree) → IsSetPlan catalogue left right tree → estimate_of cards 1 tree ≡ estimate_of other 1 tree
   set-estimate tree is =
@@ -141,21 +141,21 @@ module _ (catalogue : Catalogue) (op : SetOp) (left right : Block) (limit : Opti
   set-lines level (NestedJoin l r) counts is = absurd is
   set-lines level (Distinct child) counts is = absurd is
 
-plan-cost : (catalogue : Catalogue) (query : Query) → IsQuery catalogue query → (cards other : List BlockCards) → AreCards query cards → AllSayTheSame cards other
+plan-cost : (catalogue : CatalogDef) (query : Query) → IsQuery catalogue query → (cards other : List BlockCards) → AreCards query cards → AllSayTheSame cards other
     → (tree : PlanTree) → IsPlan catalogue query tree → cost_of catalogue query cards tree ≡ cost_of catalogue query other tree
 plan-cost catalogue (One block limit) formed cards other are same tree is =
     part-cost catalogue (One block limit) formed cards other are same 1 (first-numbered (One block limit) cards are) tree is.0.part
 plan-cost catalogue (Set op left right limit) formed cards other are same tree is =
     set-cost catalogue op left right limit formed cards other are same tree is.0
 
-pub same-text : (catalogue : Catalogue) (query : Query) → IsQuery catalogue query → (cards other : List BlockCards) → AreCards query cards → AllSayTheSame cards other
+pub same-text : (catalogue : CatalogDef) (query : Query) → IsQuery catalogue query → (cards other : List BlockCards) → AreCards query cards → AllSayTheSame cards other
     → (tree : PlanTree) → IsPlan catalogue query tree → (counts : Option (List Counts)) → text_of catalogue query cards tree counts ≡ text_of catalogue query other tree counts
 same-text catalogue (One block limit) formed cards other are same tree is counts =
     part-lines catalogue (One block limit) formed cards other are same 1 (first-numbered (One block limit) cards are) 0 tree counts is.0.part
 same-text catalogue (Set op left right limit) formed cards other are same tree is counts =
     set-lines catalogue op left right limit formed cards other are same 0 tree counts is.0
 
-pub same-least : (catalogue : Catalogue) (query : Query) → IsQuery catalogue query → (cards other : List BlockCards) → AreCards query cards → AllSayTheSame cards other
+pub same-least : (catalogue : CatalogDef) (query : Query) → IsQuery catalogue query → (cards other : List BlockCards) → AreCards query cards → AllSayTheSame cards other
     → least_plan catalogue query cards ≡ least_plan catalogue query other
 same-least catalogue query formed cards other are same =
     let least = least-found catalogue query cards formed in
@@ -172,7 +172,7 @@ same-least catalogue query formed cards other are same =
     (least-found catalogue query other formed)
 
 -- the cards of a sample are those of a query
-pub sampled-are : (answer : Answering) (catalogue : Catalogue) (query : Query) (view : View) (seed : ℕ) (cards : List BlockCards)
+pub sampled-are : (answer : Answering) (catalogue : CatalogDef) (query : Query) (view : View) (seed : ℕ) (cards : List BlockCards)
     → AllSayTheSame cards (query_cards answer catalogue query view seed) → AreCards query cards
 sampled-are answer catalogue (One block limit) view seed [] same = absurd same
 sampled-are answer catalogue (One block limit) view seed (own ∷ []) same = (own, refl, record { entries = same.0.entries; reads = same.0.reads })

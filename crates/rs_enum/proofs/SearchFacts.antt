@@ -5,7 +5,7 @@ use Rattle.std.proofs.lemmas.Bool.{eq-eqb, eqb-true}
 use Rattle.std.proofs.lemmas.Nat.{and_le_l, pow_below, xor_lt}
 use Rattle.std.proofs.Math.Nat.{pow-le-pow_right}
 use Rattle.rs_rank.specs.Masks.{mask_of}
-use Rattle.rs_catalog.specs.Catalogue.{Catalogue}
+use Rattle.rs_catalog.specs.Catalog.{CatalogDef}
 use Rattle.rs_query.specs.Meaning.{is_inside}
 use Rattle.rs_query.specs.WellFormed.{IsBlock}
 use Rattle.rs_query.specs.declared.query.Query.{Query}
@@ -33,7 +33,7 @@ inside-false part whole other = go (bit_and part whole == part) refl where
   go true e = absurd (other (eqb-true (bit_and part whole) part e))
   go false e = refl
 
-module _ (catalogue : Catalogue) (query : Query) (cards : List BlockCards) (formed : IsBlock catalogue (block_in query 1)) (places : List (Option Kept)) (first second : ℕ) where
+module _ (catalogue : CatalogDef) (query : Query) (cards : List BlockCards) (formed : IsBlock catalogue (block_in query 1)) (places : List (Option Kept)) (first second : ℕ) where
   -- what is found fits
   pub one-fits : (start : ℕ) (found : Candidate) → IsOne catalogue query cards places first second start found → found.cost < 2 ^ 122
   one-fits start found is =
@@ -80,7 +80,7 @@ module _ (catalogue : Catalogue) (query : Query) (cards : List BlockCards) (form
       let power : 2 ^ length (block_in query 1).from ≤ 2 ^ 6 = pow-le-pow_right {n = 2} (omega arith) most in
       omega arith
 
-module _ (catalogue : Catalogue) (query : Query) (cards : List BlockCards) (places : List (Option Kept)) (kept : AreKept catalogue query cards places)
+module _ (catalogue : CatalogDef) (query : Query) (cards : List BlockCards) (places : List (Option Kept)) (kept : AreKept catalogue query cards places)
     (second : ℕ) (small : second < 2 ^ length (block_in query 1).terms) where
   -- what is kept of some of the terms
   pub kept-some : (first mask : ℕ) (k : Kept) → kept_at (length (block_in query 1).terms) places first (bit_and second mask) ≡ Some k

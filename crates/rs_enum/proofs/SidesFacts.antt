@@ -4,7 +4,7 @@ use Rattle.std.specs.Prelude.{Option, Some, None, slice_get}
 use Rattle.std.proofs.lemmas.Nat.{pow_pos}
 use Rattle.std.proofs.lemmas.Option.{none-some, same_Some, option_and_then_some}
 use Rattle.rs_value.specs.declared.set_op.SetOp.{SetOp}
-use Rattle.rs_catalog.specs.Catalogue.{Catalogue}
+use Rattle.rs_catalog.specs.Catalog.{CatalogDef}
 use Rattle.rs_query.specs.Answers.{all_terms}
 use Rattle.rs_query.specs.Tables.{all_entries}
 use Rattle.rs_query.specs.WellFormed.{IsQuery}
@@ -28,7 +28,7 @@ use Rattle.rs_enum.proofs.ExistenceFacts.{some-plan}
 use Rattle.rs_enum.proofs.OrderOfPlans.{estimate-part, left-codes, right-codes, same-front}
 use Rattle.rs_enum.proofs.WholeFacts.{by_value-more, by_value-on, right-terms-below}
 
-module _ (catalogue : Catalogue) (op : SetOp) (l r : Block) (limit : Option ℕ) (q : IsQuery catalogue (Set op l r limit)) (cards : List BlockCards)
+module _ (catalogue : CatalogDef) (op : SetOp) (l r : Block) (limit : Option ℕ) (q : IsQuery catalogue (Set op l r limit)) (cards : List BlockCards)
     (lefts rights : List (Option Kept))
     (are_left : AreTops catalogue (Set op l r limit) cards (extent.Block 1) lefts) (are_right : AreTops catalogue (Set op l r limit) cards (extent.Block 2) rights) (e : ℕ)
     (left_within : e < length lefts) (right_within : e < length rights) where
@@ -128,18 +128,18 @@ module _ (catalogue : Catalogue) (op : SetOp) (l r : Block) (limit : Option ℕ)
       }
 
 -- what is kept of all terms is the least plan
-pub record KeepsLeast (catalogue : Catalogue) (query : Query) (cards : List BlockCards) (tops : List (Option Kept)) : Type 0 where
+pub record KeepsLeast (catalogue : CatalogDef) (query : Query) (cards : List BlockCards) (tops : List (Option Kept)) : Type 0 where
   pub kept : Kept
   pub last : slice_get tops (length tops - 1) ≡ Some (Some kept)
   pub least : IsLeast catalogue query cards (tree_of kept.plan)
   pub some : 0 < length tops
 
-plan-whole : (catalogue : Catalogue) (query : Query) (tree : PlanTree) → IsPlan catalogue query tree
+plan-whole : (catalogue : CatalogDef) (query : Query) (tree : PlanTree) → IsPlan catalogue query tree
     → IsWhole catalogue query (extent_of query) tree × (terms tree ≡ all_terms (block_in query 1))
 plan-whole catalogue (One block limit) tree is = is
 plan-whole catalogue (Set op l r limit) tree is = is
 
-whole-plan : (catalogue : Catalogue) (query : Query) (tree : PlanTree) → IsWhole catalogue query (extent_of query) tree → terms tree ≡ all_terms (block_in query 1)
+whole-plan : (catalogue : CatalogDef) (query : Query) (tree : PlanTree) → IsWhole catalogue query (extent_of query) tree → terms tree ≡ all_terms (block_in query 1)
     → IsPlan catalogue query tree
 whole-plan catalogue (One block limit) tree is same = (is, same)
 whole-plan catalogue (Set op l r limit) tree is same = (is, same)
@@ -148,7 +148,7 @@ first-number : (query : Query) → number_of (extent_of query) ≡ 1
 first-number (One block limit) = refl
 first-number (Set op l r limit) = refl
 
-pub keeps-least : (catalogue : Catalogue) (query : Query) (cards : List BlockCards) (tops : List (Option Kept)) → IsQuery catalogue query
+pub keeps-least : (catalogue : CatalogDef) (query : Query) (cards : List BlockCards) (tops : List (Option Kept)) → IsQuery catalogue query
     → AreTops catalogue query cards (extent_of query) tops → length tops ≡ 2 ^ length (block_in query 1).terms → KeepsLeast catalogue query cards tops
 keeps-least catalogue query cards tops q are counted =
     let count = length (block_in query 1).terms in
@@ -178,21 +178,21 @@ keeps-least catalogue query cards tops q are counted =
     }
 
 -- the same of any query that has two blocks
-pub sides-none-left : (catalogue : Catalogue) (query : Query) → IsQuery catalogue query → (cards : List BlockCards) → IsExtent query cards extent.Both
+pub sides-none-left : (catalogue : CatalogDef) (query : Query) → IsQuery catalogue query → (cards : List BlockCards) → IsExtent query cards extent.Both
     → (lefts rights : List (Option Kept)) → AreTops catalogue query cards (extent.Block 1) lefts → AreTops catalogue query cards (extent.Block 2) rights
     → (e : ℕ) → e < length lefts → e < length rights → top_at lefts e ≡ None → IsTheBase catalogue query cards extent.Both e None
 sides-none-left catalogue (One block limit) q cards both lefts rights are_left are_right e left_within right_within none = absurd both
 sides-none-left catalogue (Set op l r limit) q cards both lefts rights are_left are_right e left_within right_within none =
     no-left catalogue op l r limit q cards lefts rights are_left are_right e left_within right_within none
 
-pub sides-none-right : (catalogue : Catalogue) (query : Query) → IsQuery catalogue query → (cards : List BlockCards) → IsExtent query cards extent.Both
+pub sides-none-right : (catalogue : CatalogDef) (query : Query) → IsQuery catalogue query → (cards : List BlockCards) → IsExtent query cards extent.Both
     → (lefts rights : List (Option Kept)) → AreTops catalogue query cards (extent.Block 1) lefts → AreTops catalogue query cards (extent.Block 2) rights
     → (e : ℕ) → e < length lefts → e < length rights → top_at rights e ≡ None → IsTheBase catalogue query cards extent.Both e None
 sides-none-right catalogue (One block limit) q cards both lefts rights are_left are_right e left_within right_within none = absurd both
 sides-none-right catalogue (Set op l r limit) q cards both lefts rights are_left are_right e left_within right_within none =
     no-right catalogue op l r limit q cards lefts rights are_left are_right e left_within right_within none
 
-pub sides-kept : (catalogue : Catalogue) (query : Query) → IsQuery catalogue query → (cards : List BlockCards) → IsExtent query cards extent.Both
+pub sides-kept : (catalogue : CatalogDef) (query : Query) → IsQuery catalogue query → (cards : List BlockCards) → IsExtent query cards extent.Both
     → (lefts rights : List (Option Kept)) → AreTops catalogue query cards (extent.Block 1) lefts → AreTops catalogue query cards (extent.Block 2) rights
     → (e : ℕ) → e < length lefts → e < length rights
     → (k m : Kept) → top_at lefts e ≡ Some k → top_at rights e ≡ Some m → (left_rows right_rows : ℕ)
@@ -205,7 +205,7 @@ sides-kept catalogue (One block limit) q cards both lefts rights are_left are_ri
 sides-kept catalogue (Set op l r limit) q cards both lefts rights are_left are_right e left_within right_within k m at_left at_right left_rows right_rows left_is right_is left_few right_few base cost_is plan_is =
     both-kept catalogue op l r limit q cards lefts rights are_left are_right e left_within right_within k m at_left at_right left_rows right_rows left_is right_is left_few right_few base cost_is plan_is
 
-pub right-within : (catalogue : Catalogue) (query : Query) (cards : List BlockCards) → IsQuery catalogue query → IsExtent query cards extent.Both
+pub right-within : (catalogue : CatalogDef) (query : Query) (cards : List BlockCards) → IsQuery catalogue query → IsExtent query cards extent.Both
     → (rights : List (Option Kept)) (e : ℕ) → length rights ≡ 2 ^ length (block_in query 2).terms → e < 2 ^ length (block_in query 1).terms → e < length rights
 right-within catalogue query cards q both rights e all below =
     subst (λ n. e < n) (sym all) (subst (λ n. e < 2 ^ n) (right-terms-below catalogue query cards q both) below)

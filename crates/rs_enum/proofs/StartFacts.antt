@@ -11,7 +11,7 @@ use Rattle.std.proofs.lemmas.Cmp.{ranked}
 use Rattle.std.proofs.lemmas.Option.{same_Some, slice_get_within}
 use Rattle.std.proofs.Math.Nat.{pow-le-pow_right}
 use Rattle.rs_rank.specs.Masks.{AreDisjoint, mask_of}
-use Rattle.rs_catalog.specs.Catalogue.{Catalogue}
+use Rattle.rs_catalog.specs.Catalog.{CatalogDef}
 use Rattle.rs_catalog.specs.Indexes.{index_of}
 use Rattle.rs_query.specs.WellFormed.{IsBlock}
 use Rattle.rs_query.specs.declared.block.Block.{Block}
@@ -79,14 +79,14 @@ earlier-pair k s m u xs ys small_s small_u less = go (nat_cmp k m) refl where
   go Greater e = let more = ranked k m Greater (sym e) in absurd (omega arith)
 
 -- the index of a rank scan is the first one for its term
-same-index : (catalogue : Catalogue) (block : Block) (e t i f u j : ℕ) → IsRankScan catalogue block e t i → IsRankScan catalogue block f u j → e ≡ f → t ≡ u → i ≡ j
+same-index : (catalogue : CatalogDef) (block : Block) (e t i f u j : ℕ) → IsRankScan catalogue block e t i → IsRankScan catalogue block f u j → e ≡ f → t ≡ u → i ≡ j
 same-index catalogue block e t i f u j x y same_entry same_number =
     let z : IsRankScan catalogue block e t j = subst₂ (λ m n. IsRankScan catalogue block m n j) (sym same_entry) (sym same_number) y in
     let term : x.term ≡ z.term = same_Some x.term z.term (sym x.is_term.there ∙ z.is_term.there) in
     let from : (x.table, x.alias) ≡ (z.table, z.alias) = same_Some (x.table, x.alias) (z.table, z.alias) (sym x.from ∙ z.from) in
     same_Some i j (sym x.first ∙ (λ at. index_of (from at).0 (term at).predicate (term at).args e catalogue) ∙ z.first)
 
-module _ (catalogue : Catalogue) (block : Block) (formed : IsBlock catalogue block) where
+module _ (catalogue : CatalogDef) (block : Block) (formed : IsBlock catalogue block) where
   code-starts : (tree : PlanTree) → IsPart catalogue block tree → HasNoDistinct tree → code tree ≡ kind_number tree ∷ second_number tree ∷ rest_of tree
   code-starts (SeqScan e) is whole = refl
   code-starts (RankScan e t i) is whole = refl
@@ -248,7 +248,7 @@ module _ (catalogue : Catalogue) (block : Block) (formed : IsBlock catalogue blo
     no-more-nested (Distinct child) x above = x.made
     no-more-nested (SetOperator l r) x above = x.made
 
-module _ (catalogue : Catalogue) (query : Query) (cards : List BlockCards) (formed : IsBlock catalogue (block_in query 1)) (places : List (Option Kept)) (first second : ℕ) where
+module _ (catalogue : CatalogDef) (query : Query) (cards : List BlockCards) (formed : IsBlock catalogue (block_in query 1)) (places : List (Option Kept)) (first second : ℕ) where
   -- what was found so far, and the plan whose code starts next
   pub IsTheFirst-cheaper : (bound : ℕ) (best next : Option Candidate) → IsTheFirst catalogue query cards places first second bound best
       → IsTheOne catalogue query cards places first second bound next → IsTheFirst catalogue query cards places first second (bound + 1) (cheaper best next)

@@ -4,7 +4,7 @@ use Rattle.std.specs.Prelude.{Option, Some, option_and_then, option_map, slice_g
 use Rattle.std.proofs.lemmas.List.{replicate-append-replicate}
 use Rattle.std.proofs.lemmas.Nat.{ones-le}
 use Rattle.std.proofs.Math.Nat.{pow-le-pow_right}
-use Rattle.rs_catalog.specs.Catalogue.{Catalogue, NamedTable}
+use Rattle.rs_catalog.specs.Catalog.{CatalogDef, NamedTable}
 use Rattle.rs_query.specs.WellFormed.{IsBlock, IsQuery}
 use Rattle.rs_query.specs.declared.block.Block.{Block}
 use Rattle.rs_query.specs.declared.query.Query.{Query}
@@ -26,7 +26,7 @@ indent-more n xs =
     ∙ ap (λ ys. xs ++ ys) (replicate-append-replicate (2 * n) 2 32 ∙ ap (λ k. replicate k 32) sum)
 
 -- the names of an entry
-pub table-is : (catalogue : Catalogue) (block : Block) (entry : ℕ) (from : ℕ × List ℕ) (name : List ℕ) → slice_get block.from (entry - 1) ≡ Some from
+pub table-is : (catalogue : CatalogDef) (block : Block) (entry : ℕ) (from : ℕ × List ℕ) (name : List ℕ) → slice_get block.from (entry - 1) ≡ Some from
     → option_map (λ (t : NamedTable). t.name) (slice_get catalogue.tables from.0) ≡ Some name → table_of catalogue block entry ≡ name
 table-is catalogue block entry from name at is =
     ap (λ (o : Option (ℕ × List ℕ)). unwrap_or (option_map (λ (t : NamedTable). t.name) (option_and_then (λ (f : ℕ × List ℕ). slice_get catalogue.tables f.0) o)) []) at
@@ -50,7 +50,7 @@ entry-text old one two three name alias table_name entry_alias first second thir
     ∙ (λ at. old ++ ((same at ++ (32 ∷ [])) ++ other at))
 
 -- the nodes of parts are fewer than this many
-pub nodes-most : (catalogue : Catalogue) (block : Block) → IsBlock catalogue block → (tree : PlanTree) → IsPart catalogue block tree → HasNoDistinct tree
+pub nodes-most : (catalogue : CatalogDef) (block : Block) → IsBlock catalogue block → (tree : PlanTree) → IsPart catalogue block tree → HasNoDistinct tree
     → nodes_of tree + 1 ≤ 2 * count_ones (entries tree) + count_ones (terms tree)
 nodes-most catalogue block formed (SeqScan e) is whole = let one = ones-mask (e - 1) in omega arith
 nodes-most catalogue block formed (RankScan e t i) is whole = let one = ones-mask (e - 1) in let other = ones-mask (t - 1) in omega arith
@@ -77,7 +77,7 @@ nodes-most catalogue block formed (Distinct child) is whole = absurd whole
 nodes-most catalogue block formed (SetOperator l r) is whole = absurd is
 
 -- with duplicates dropped there is one more
-nodes-part : (catalogue : Catalogue) (block : Block) → IsBlock catalogue block → (tree : PlanTree) → IsPart catalogue block tree
+nodes-part : (catalogue : CatalogDef) (block : Block) → IsBlock catalogue block → (tree : PlanTree) → IsPart catalogue block tree
     → nodes_of tree ≤ 2 * count_ones (entries tree) + count_ones (terms tree)
 nodes-part catalogue block formed (SeqScan e) is = let one = ones-mask (e - 1) in omega arith
 nodes-part catalogue block formed (RankScan e t i) is = let one = ones-mask (e - 1) in let other = ones-mask (t - 1) in omega arith
@@ -93,14 +93,14 @@ nodes-part catalogue block formed (NestedJoin l r) is =
 nodes-part catalogue block formed (Distinct child) is = let most = nodes-most catalogue block formed child is.0 is.1.first in omega arith
 nodes-part catalogue block formed (SetOperator l r) is = absurd is
 
-pub few-nodes : (catalogue : Catalogue) (block : Block) → IsBlock catalogue block → (tree : PlanTree) → IsPart catalogue block tree → nodes_of tree ≤ 20
+pub few-nodes : (catalogue : CatalogDef) (block : Block) → IsBlock catalogue block → (tree : PlanTree) → IsPart catalogue block tree → nodes_of tree ≤ 20
 few-nodes catalogue block formed tree is =
     let most = nodes-part catalogue block formed tree is in
     let some : count_ones (entries tree) ≤ 6 = ones-le 6 (entries tree) (entries-small catalogue block formed tree is) in
     let others : count_ones (terms tree) ≤ 8 = ones-le 8 (terms tree) (terms-small catalogue block formed tree is) in
     omega arith
 
-set-nodes : (catalogue : Catalogue) (left right : Block) → IsBlock catalogue left → IsBlock catalogue right → (tree : PlanTree) → IsSetPlan catalogue left right tree
+set-nodes : (catalogue : CatalogDef) (left right : Block) → IsBlock catalogue left → IsBlock catalogue right → (tree : PlanTree) → IsSetPlan catalogue left right tree
     → nodes_of tree ≤ 41 + count_ones (terms tree)
 set-nodes catalogue left right l r (Rank t child) is =
     let below = set-nodes catalogue left right l r child is.0 in
@@ -120,7 +120,7 @@ set-nodes catalogue left right l r (HashJoin a b) is = absurd is
 set-nodes catalogue left right l r (NestedJoin a b) is = absurd is
 set-nodes catalogue left right l r (Distinct child) is = absurd is
 
-pub few-set-nodes : (catalogue : Catalogue) (query : Query) → IsQuery catalogue query → (tree : PlanTree) → IsSetPart catalogue query tree → nodes_of tree ≤ 49
+pub few-set-nodes : (catalogue : CatalogDef) (query : Query) → IsQuery catalogue query → (tree : PlanTree) → IsSetPart catalogue query tree → nodes_of tree ≤ 49
 few-set-nodes catalogue (One block limit) q tree is = absurd is
 few-set-nodes catalogue (Set op left right limit) q tree is =
     let most = set-nodes catalogue left right q.0.left_block q.0.right_block tree is in
@@ -130,12 +130,12 @@ few-set-nodes catalogue (Set op left right limit) q tree is =
     let ones : count_ones (terms tree) ≤ 8 = ones-le 8 (terms tree) (omega arith) in
     omega arith
 
-pub plan-nodes : (catalogue : Catalogue) (query : Query) → IsQuery catalogue query → (tree : PlanTree) → IsPlan catalogue query tree → nodes_of tree ≤ 255
+pub plan-nodes : (catalogue : CatalogDef) (query : Query) → IsQuery catalogue query → (tree : PlanTree) → IsPlan catalogue query tree → nodes_of tree ≤ 255
 plan-nodes catalogue (One block limit) q tree is = let few = few-nodes catalogue block q.0 tree is.0.part in omega arith
 plan-nodes catalogue (Set op left right limit) q tree is = let few = few-set-nodes catalogue (Set op left right limit) q tree is.0 in omega arith
 
 -- a scan is of an entry
-pub entry-of : (catalogue : Catalogue) (block : Block) (tree : PlanTree) → IsPart catalogue block tree → HasEntry block tree
+pub entry-of : (catalogue : CatalogDef) (block : Block) (tree : PlanTree) → IsPart catalogue block tree → HasEntry block tree
 entry-of catalogue block (SeqScan e) is = is
 entry-of catalogue block (RankScan e t i) is = is.is_entry
 entry-of catalogue block (Rank t child) is = tt
@@ -144,7 +144,7 @@ entry-of catalogue block (NestedJoin l r) is = tt
 entry-of catalogue block (Distinct child) is = tt
 entry-of catalogue block (SetOperator l r) is = tt
 
-pub entry-of-set : (catalogue : Catalogue) (query : Query) (block : Block) (tree : PlanTree) → IsSetPart catalogue query tree → HasEntry block tree
+pub entry-of-set : (catalogue : CatalogDef) (query : Query) (block : Block) (tree : PlanTree) → IsSetPart catalogue query tree → HasEntry block tree
 entry-of-set catalogue (One b limit) block tree is = absurd is
 entry-of-set catalogue (Set op left right limit) block (Rank t child) is = tt
 entry-of-set catalogue (Set op left right limit) block (SetOperator a b) is = tt

@@ -9,7 +9,7 @@ use Rattle.std.proofs.lemmas.Nat.Bits.{bit_at-lt, bit_at-pow_same, bit_at_or}
 use Rattle.std.proofs.lemmas.Option.{none-some, same_Some, slice_get_cases, slice_get_past}
 use Rattle.std.specs.Int.{bit_at}
 use Rattle.rs_rank.specs.Masks.{has_number, mask_of}
-use Rattle.rs_catalog.specs.Catalogue.{Catalogue}
+use Rattle.rs_catalog.specs.Catalog.{CatalogDef}
 use Rattle.rs_query.specs.Meaning.{is_inside}
 use Rattle.rs_query.specs.Tables.{all_entries}
 use Rattle.rs_query.specs.WellFormed.{IsQuery}
@@ -108,7 +108,7 @@ less-or-equal x y h = go (nat_lt x y) refl where
   go true e = inl (ltb-true x y e)
   go false e = inr (let no = ltb-false x y e in omega arith)
 
-module _ (catalogue : Catalogue) (query : Query) (q : IsQuery catalogue query) (cards : List BlockCards) (e : Extent) (topped : IsTopped query e)
+module _ (catalogue : CatalogDef) (query : Query) (q : IsQuery catalogue query) (cards : List BlockCards) (e : Extent) (topped : IsTopped query e)
     (bases tops : List (Option Kept)) (evaluated : ℕ) where
   -- what was found so far, and what is found for the next number
   pub top-cheaper : (bound : ℕ) (best next : Option Top) → IsTheFirstTop catalogue query cards e bases tops evaluated bound best

@@ -7,7 +7,7 @@ use Rattle.std.specs.declared.cmp.Ordering.TheVariants.{Less, Equal, Greater}
 use Rattle.std.proofs.lemmas.Cmp.{nat_cmp_total, on_total, ranked, then_total, tied_itself, upto}
 use Rattle.std.proofs.Math.Nat.{pow-le-pow_right}
 use Rattle.rs_rank.specs.Masks.{mask_of}
-use Rattle.rs_catalog.specs.Catalogue.{Catalogue}
+use Rattle.rs_catalog.specs.Catalog.{CatalogDef}
 use Rattle.rs_query.specs.Tables.{all_entries}
 use Rattle.rs_query.specs.WellFormed.{IsQuery}
 use Rattle.rs_query.specs.declared.query.Query.{Query}
@@ -71,7 +71,7 @@ by_value-more value other a b c d more first second codes is =
 pub by_value-same : (value other : PlanTree → ℕ) (a b : PlanTree) → other a ≡ value a → other b ≡ value b → NoLaterBy value a b → NoLaterBy other a b
 by_value-same value other a b first second is = by_value-more value other a b a b 0 (omega arith) (omega arith) refl is
 
-module _ (catalogue : Catalogue) where
+module _ (catalogue : CatalogDef) where
   -- below an operator for a term
   pub whole-below : (query : Query) (e : Extent) (t : ℕ) (child : PlanTree) → IsWhole catalogue query e (Rank t child)
       → IsWhole catalogue query e child × IsRank (block_in query (number_of e)) t child
@@ -216,7 +216,7 @@ extent-numbered (Set op left right limit) cards are is =
     let two : length cards ≡ 2 = ap length are.2 in
     (record { some = omega arith; most = omega arith }, record { some = omega arith; most = omega arith })
 
-pub right-terms-below : (catalogue : Catalogue) (query : Query) (cards : List BlockCards) → IsQuery catalogue query → IsExtent query cards extent.Both
+pub right-terms-below : (catalogue : CatalogDef) (query : Query) (cards : List BlockCards) → IsQuery catalogue query → IsExtent query cards extent.Both
     → length (block_in query 1).terms ≡ length (block_in query 2).terms
 right-terms-below catalogue (One block limit) cards q is = absurd is
 right-terms-below catalogue (Set op left right limit) cards q is = same-terms left right left.terms right.terms q.0.terms

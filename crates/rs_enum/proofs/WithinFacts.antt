@@ -11,7 +11,7 @@ use Rattle.std.proofs.lemmas.Nat.Bits.{bit_at-lt, bit_at-suc, bit_at_lowest}
 use Rattle.std.proofs.lemmas.Option.{none-some, same_Some}
 use Rattle.std.proofs.Math.Nat.{pow-suc}
 use Rattle.rs_rank.specs.Masks.{AreDisjoint, mask_of}
-use Rattle.rs_catalog.specs.Catalogue.{Catalogue}
+use Rattle.rs_catalog.specs.Catalog.{CatalogDef}
 use Rattle.rs_query.specs.Meaning.{is_inside}
 use Rattle.rs_query.specs.WellFormed.{IsBlock, IsTerm, argument_columns, entries_mask}
 use Rattle.rs_query.specs.declared.block.Block.{Block}
@@ -151,7 +151,7 @@ of-sides block l r left right =
     (inside-inside (terms r) (terms_within (entries r) block.terms) both right
     (terms_within-more (entries r) (bit_or (entries l) (entries r)) block.terms (inside-union-right (entries l) (entries r))))
 
-module _ (catalogue : Catalogue) (block : Block) where
+module _ (catalogue : CatalogDef) (block : Block) where
   some-entries : (ts : List Term) → AllByRecursion (IsTerm catalogue block) ts → AllByRecursion (λ (t : Term). 1 ≤ t.entries) ts
   some-entries [] are = tt
   some-entries (t ∷ ts) are = (

@@ -8,7 +8,7 @@ use Rattle.rs_value.specs.declared.value.Value.{Value}
 use Rattle.rs_value.specs.declared.value.Value.TheVariants as value
 use Rattle.rs_expr.specs.Formulas.{Argument}
 use Rattle.rs_expr.specs.Predicates.{PredicateDef}
-use Rattle.rs_catalog.specs.Catalogue.{Catalogue, NamedTable}
+use Rattle.rs_catalog.specs.Catalog.{CatalogDef, NamedTable}
 use Rattle.rs_catalog.specs.declared.index.BoundArg.TheVariants as arg
 use Rattle.rs_query.specs.declared.block.Block.{Block}
 use Rattle.rs_query.specs.declared.query.Query.{Query}
@@ -31,7 +31,7 @@ abbrev pub named : List ℕ → List ℕ → NamedTable
 named name rows = record { name = name; table = record { schema = (codes "x", kind.Int) ∷ (codes "y", kind.Int) ∷ []; rows = map row rows } }
 
 -- a table t of four rows, an index of p(x), and h of three rows; the plan alone says which index it scans
-abbrev pub catalogue : Catalogue
+abbrev pub catalogue : CatalogDef
 catalogue = record {
   tables = named (codes "t") (10 ∷ 8 ∷ 5 ∷ 2 ∷ []) ∷ named (codes "h") (1 ∷ 2 ∷ 3 ∷ []) ∷ [];
   predicates = predicate (codes "p") 1 ∷ predicate (codes "q") 100 ∷ [];

@@ -2,7 +2,7 @@
 use Rattle.std.specs.Prelude.{ℕ, zero, suc, List, [], ◌++◌, length, map}
 use Rattle.std.specs.List.{filter, flat_map}
 use Rattle.rs_order.specs.Schedule.{numbers_from}
-use Rattle.rs_catalog.specs.Catalogue.{Catalogue}
+use Rattle.rs_catalog.specs.Catalog.{CatalogDef}
 use Rattle.rs_query.specs.Combinations.{numbers_to}
 use Rattle.rs_query.specs.declared.query.Query.{Query}
 use Rattle.rs_plan.specs.Deciding.{is_plan}
@@ -28,5 +28,5 @@ trees_of entries terms indexes (suc levels) = all_scans entries terms indexes ++
 
 -- the plans of a query. None has more than sixteen levels: a set operator, a Distinct below it, eight operators for terms, five
 -- joins and a scan
-unfoldable pub all_plans : Catalogue → Query → List PlanTree
+unfoldable pub all_plans : CatalogDef → Query → List PlanTree
 all_plans catalogue query = filter (is_plan catalogue query) (trees_of (numbers_to 6) (numbers_to 8) (numbers_from 0 (length catalogue.indexes)) 16)

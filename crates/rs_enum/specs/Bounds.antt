@@ -1,6 +1,6 @@
 -- How much plans can cost. The numbers are far from what any plan costs; they show that costs fit 128 bits.
 use Rattle.std.specs.Prelude.{ℕ, ◌≤◌, ◌+◌, ◌*◌, ◌^◌, Bool, true, false, count_ones, length}
-use Rattle.rs_catalog.specs.Catalogue.{Catalogue}
+use Rattle.rs_catalog.specs.Catalog.{CatalogDef}
 use Rattle.rs_query.specs.declared.block.Block.{Block}
 use Rattle.rs_query.specs.declared.query.Query.{Query}
 use Rattle.rs_query.specs.declared.query.Query.TheVariants.{One, Set}
@@ -31,6 +31,6 @@ has_set_operator (Distinct child) = false
 has_set_operator (SetOperator left right) = true
 
 -- a part of a plan of two blocks that has the set operator
-abbrev pub IsSetPart : Catalogue → Query → PlanTree → Type 0
+abbrev pub IsSetPart : CatalogDef → Query → PlanTree → Type 0
 IsSetPart catalogue (One block limit) tree = ⊥
 IsSetPart catalogue (Set op left right limit) tree = IsSetPlan catalogue left right tree

@@ -1,6 +1,6 @@
 -- Plans that are made of the plans that are kept, one of each signature.
 use Rattle.std.specs.Prelude.{ℕ, ◌≡◌, Option, Some}
-use Rattle.rs_catalog.specs.Catalogue.{Catalogue}
+use Rattle.rs_catalog.specs.Catalog.{CatalogDef}
 use Rattle.rs_query.specs.declared.block.Block.{Block}
 use Rattle.rs_plan.specs.Plans.{HasNoDistinct, IsPart}
 use Rattle.rs_plan.specs.Trees.{Distinct, HashJoin, NestedJoin, Rank, RankScan, SeqScan, SetOperator, PlanTree, entries, terms}
@@ -16,7 +16,7 @@ HasKeptChildren kept (Distinct child) = ⊥
 HasKeptChildren kept (SetOperator left right) = ⊥
 
 -- a part of a plan of a block, of these entries and terms and without duplicates dropped, that is made of kept plans
-pub record IsCandidate (catalogue : Catalogue) (block : Block) (kept : ℕ → ℕ → Option PlanTree) (first second : ℕ) (tree : PlanTree) : Type 0 where
+pub record IsCandidate (catalogue : CatalogDef) (block : Block) (kept : ℕ → ℕ → Option PlanTree) (first second : ℕ) (tree : PlanTree) : Type 0 where
   pub part : IsPart catalogue block tree
   pub whole : HasNoDistinct tree
   pub its_entries : entries tree ≡ first

@@ -1,6 +1,6 @@
 -- How many rows are expected of the nodes of a plan, and what the nodes cost.
 use Rattle.std.specs.Prelude.{ℕ, ◌+◌, ◌-◌, ◌*◌, List, option_map, slice_get, unwrap_or}
-use Rattle.rs_catalog.specs.Catalogue.{Catalogue}
+use Rattle.rs_catalog.specs.Catalog.{CatalogDef}
 use Rattle.rs_query.specs.Answers.{predicate_at}
 use Rattle.rs_query.specs.Tables.{size_of}
 use Rattle.rs_query.specs.declared.block.Block.{Block}
@@ -22,12 +22,12 @@ abbrev pub estimate_of : List BlockCards → ℕ → PlanTree → ℕ
 estimate_of cards number tree = estimate_under cards number tree (terms tree)
 
 -- what a call of the predicate of a term costs
-abbrev pub call_cost : Catalogue → Block → ℕ → ℕ
+abbrev pub call_cost : CatalogDef → Block → ℕ → ℕ
 call_cost catalogue block number =
     unwrap_or (option_map (λ (term : Term). (predicate_at catalogue term.predicate).cost) (slice_get block.terms (number - 1))) 0
 
 -- the cost of a plan of the block of this number
-abbrev pub cost_in : Catalogue → Query → List BlockCards → ℕ → PlanTree → ℕ
+abbrev pub cost_in : CatalogDef → Query → List BlockCards → ℕ → PlanTree → ℕ
 cost_in catalogue query cards number (SeqScan entry) = size_of catalogue (block_in query number) entry
 cost_in catalogue query cards number (RankScan entry term index) = 2 * (cards_at cards number).index_estimate entry term
 cost_in catalogue query cards number (Rank term child) =
@@ -43,5 +43,5 @@ cost_in catalogue query cards number (SetOperator left right) =
     cost_in catalogue query cards 1 left + cost_in catalogue query cards 2 right + estimate_of cards 1 left + estimate_of cards 2 right
 
 -- the cost of a plan
-abbrev pub cost_of : Catalogue → Query → List BlockCards → PlanTree → ℕ
+abbrev pub cost_of : CatalogDef → Query → List BlockCards → PlanTree → ℕ
 cost_of catalogue query cards tree = cost_in catalogue query cards 1 tree

@@ -1,7 +1,7 @@
 -- What a choice makes of the plans that are kept.
 use Rattle.std.specs.Prelude.{ℕ, ◌≡◌, ◌≤◌, ◌*◌, List, length, Option, Some, bit_and, bit_xor}
 use Rattle.rs_rank.specs.Masks.{mask_of}
-use Rattle.rs_catalog.specs.Catalogue.{Catalogue}
+use Rattle.rs_catalog.specs.Catalog.{CatalogDef}
 use Rattle.rs_query.specs.declared.query.Query.{Query}
 use Rattle.rs_sample.specs.Cards.{BlockCards}
 use Rattle.rs_query.specs.Blocks.{block_in}
@@ -31,7 +31,7 @@ IsChosen query places first second (choice.NestedJoin left) tree =
     (l : PlanTree) × (r : PlanTree) × (tree ≡ NestedJoin l r) × AreKeptSides query places first second left l r
 
 -- what is to be kept of a signature: the first of all plans that can be made, if there is one
-pub record IsFound (catalogue : Catalogue) (query : Query) (cards : List BlockCards) (places : List (Option Kept)) (first second : ℕ) (made : Option Kept) : Type 0 where
+pub record IsFound (catalogue : CatalogDef) (query : Query) (cards : List BlockCards) (places : List (Option Kept)) (first second : ℕ) (made : Option Kept) : Type 0 where
   pub found : Option Candidate
   pub is_first : IsTheFirst catalogue query cards places first second (6 * 256) found
   pub is_made : IsMadeOf catalogue query places first second found made

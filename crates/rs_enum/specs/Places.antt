@@ -1,6 +1,6 @@
 -- Places that keep a plan for each signature, and what is found for one more.
 use Rattle.std.specs.Prelude.{ℕ, ◌≡◌, ◌<◌, ◌+◌, ◌*◌, ◌^◌, List, length, Option, Some, None, option_and_then, option_map, slice_get, nat_lt, bit_or, count_ones, ◌≤◌, if◌then◌else◌}
-use Rattle.rs_catalog.specs.Catalogue.{Catalogue}
+use Rattle.rs_catalog.specs.Catalog.{CatalogDef}
 use Rattle.rs_rank.specs.Masks.{AreDisjoint}
 use Rattle.rs_query.specs.declared.query.Query.{Query}
 use Rattle.rs_sample.specs.Cards.{BlockCards}
@@ -26,7 +26,7 @@ abbrev pub tree_at : ℕ → List (Option Kept) → ℕ → ℕ → Option PlanT
 tree_at count places first second = option_map (λ (kept : Kept). tree_of kept.plan) (kept_at count places first second)
 
 -- a plan that is kept of a signature of the first block, with its cost
-pub record IsKept (catalogue : Catalogue) (query : Query) (cards : List BlockCards) (first second : ℕ) (kept : Kept) : Type 0 where
+pub record IsKept (catalogue : CatalogDef) (query : Query) (cards : List BlockCards) (first second : ℕ) (kept : Kept) : Type 0 where
   pub part : IsPart catalogue (block_in query 1) (tree_of kept.plan)
   pub whole : HasNoDistinct (tree_of kept.plan)
   pub its_entries : entries (tree_of kept.plan) ≡ first
@@ -35,7 +35,7 @@ pub record IsKept (catalogue : Catalogue) (query : Query) (cards : List BlockCar
   pub spare : kept.cost + 2 ^ 105 ≤ most_cost first second
 
 -- all that is kept is so
-abbrev pub AreKept : Catalogue → Query → List BlockCards → List (Option Kept) → Type 0
+abbrev pub AreKept : CatalogDef → Query → List BlockCards → List (Option Kept) → Type 0
 AreKept catalogue query cards places =
     (first second : ℕ) (kept : Kept) → second < 2 ^ length (block_in query 1).terms
     → kept_at (length (block_in query 1).terms) places first second ≡ Some kept → IsKept catalogue query cards first second kept
@@ -61,12 +61,12 @@ start_of (Distinct child) = 6 * 256
 start_of (SetOperator left right) = 7 * 256
 
 -- a plan that can be made of kept ones for a signature
-abbrev pub CanBeMade : Catalogue → Query → List (Option Kept) → ℕ → ℕ → PlanTree → Type 0
+abbrev pub CanBeMade : CatalogDef → Query → List (Option Kept) → ℕ → ℕ → PlanTree → Type 0
 CanBeMade catalogue query places first second tree =
     IsCandidate catalogue (block_in query 1) (tree_at (length (block_in query 1).terms) places) first second tree
 
 -- a candidate stands for such a plan
-pub record StandsFor (catalogue : Catalogue) (query : Query) (cards : List BlockCards) (places : List (Option Kept)) (first second : ℕ)
+pub record StandsFor (catalogue : CatalogDef) (query : Query) (cards : List BlockCards) (places : List (Option Kept)) (first second : ℕ)
     (found : Candidate) (tree : PlanTree) : Type 0 where
   pub made : CanBeMade catalogue query places first second tree
   pub chosen : choice_of tree ≡ Some found.choice
@@ -74,7 +74,7 @@ pub record StandsFor (catalogue : Catalogue) (query : Query) (cards : List Block
   pub spare : found.cost + 2 ^ 105 ≤ most_cost first second
 
 -- what is kept of the sides of a join of a signature, where the left one has these entries
-pub record AreSides (catalogue : Catalogue) (query : Query) (cards : List BlockCards) (places : List (Option Kept)) (first second left : ℕ) (found : Sides) : Type 0 where
+pub record AreSides (catalogue : CatalogDef) (query : Query) (cards : List BlockCards) (places : List (Option Kept)) (first second left : ℕ) (found : Sides) : Type 0 where
   pub l : PlanTree
   pub r : PlanTree
   pub left_kept : tree_at (length (block_in query 1).terms) places (entries l) (terms l) ≡ Some l
@@ -97,43 +97,43 @@ pub record AreSides (catalogue : Catalogue) (query : Query) (cards : List BlockC
   pub right_few : found.right_rows ≤ 131072 ^ count_ones (entries r)
 
 -- no two kept plans are such sides
-abbrev pub AreNoSides : Catalogue → Query → List (Option Kept) → ℕ → ℕ → ℕ → Type 0
+abbrev pub AreNoSides : CatalogDef → Query → List (Option Kept) → ℕ → ℕ → ℕ → Type 0
 AreNoSides catalogue query places first second left =
     (l r : PlanTree) → IsPart catalogue (block_in query 1) l → IsPart catalogue (block_in query 1) r → AreDisjoint (entries l) (entries r)
     → bit_or (entries l) (entries r) ≡ first → bit_or (terms l) (terms r) ≡ second → entries l ≡ left
     → tree_at (length (block_in query 1).terms) places (entries l) (terms l) ≡ Some l
     → tree_at (length (block_in query 1).terms) places (entries r) (terms r) ≡ Some r → ⊥
 
-abbrev pub AreTheSides : Catalogue → Query → List BlockCards → List (Option Kept) → ℕ → ℕ → ℕ → Option Sides → Type 0
+abbrev pub AreTheSides : CatalogDef → Query → List BlockCards → List (Option Kept) → ℕ → ℕ → ℕ → Option Sides → Type 0
 AreTheSides catalogue query cards places first second left (Some found) = AreSides catalogue query cards places first second left found
 AreTheSides catalogue query cards places first second left None = AreNoSides catalogue query places first second left
 
 -- what is found is the scan of an entry in the order of a term, if there is one
-pub record IsScan (catalogue : Catalogue) (query : Query) (cards : List BlockCards) (entry term : ℕ) (found : Candidate) : Type 0 where
+pub record IsScan (catalogue : CatalogDef) (query : Query) (cards : List BlockCards) (entry term : ℕ) (found : Candidate) : Type 0 where
   pub index : ℕ
   pub part : IsRankScan catalogue (block_in query 1) entry term index
   pub chosen : found.choice ≡ choice.RankScan entry term index
   pub cost : found.cost ≡ cost_of catalogue query cards (RankScan entry term index)
   pub few : found.cost ≤ 2 ^ 18
 
-abbrev pub IsTheScan : Catalogue → Query → List BlockCards → ℕ → ℕ → Option Candidate → Type 0
+abbrev pub IsTheScan : CatalogDef → Query → List BlockCards → ℕ → ℕ → Option Candidate → Type 0
 IsTheScan catalogue query cards entry term (Some found) = IsScan catalogue query cards entry term found
 IsTheScan catalogue query cards entry term None = (index : ℕ) → IsRankScan catalogue (block_in query 1) entry term index → ⊥
 
 -- what is found is the one plan whose code starts so, if there is one
-pub record IsOne (catalogue : Catalogue) (query : Query) (cards : List BlockCards) (places : List (Option Kept)) (first second start : ℕ)
+pub record IsOne (catalogue : CatalogDef) (query : Query) (cards : List BlockCards) (places : List (Option Kept)) (first second start : ℕ)
     (found : Candidate) : Type 0 where
   pub tree : PlanTree
   pub stands : StandsFor catalogue query cards places first second found tree
   pub starts : start_of tree ≡ start
 
-abbrev pub IsTheOne : Catalogue → Query → List BlockCards → List (Option Kept) → ℕ → ℕ → ℕ → Option Candidate → Type 0
+abbrev pub IsTheOne : CatalogDef → Query → List BlockCards → List (Option Kept) → ℕ → ℕ → ℕ → Option Candidate → Type 0
 IsTheOne catalogue query cards places first second start (Some found) = IsOne catalogue query cards places first second start found
 IsTheOne catalogue query cards places first second start None =
     (other : PlanTree) → CanBeMade catalogue query places first second other → start_of other ≡ start → ⊥
 
 -- what is found comes no later than all plans whose codes start below a number, if there is one
-pub record IsFirst (catalogue : Catalogue) (query : Query) (cards : List BlockCards) (places : List (Option Kept)) (first second bound : ℕ)
+pub record IsFirst (catalogue : CatalogDef) (query : Query) (cards : List BlockCards) (places : List (Option Kept)) (first second bound : ℕ)
     (found : Candidate) : Type 0 where
   pub tree : PlanTree
   pub stands : StandsFor catalogue query cards places first second found tree
@@ -141,7 +141,7 @@ pub record IsFirst (catalogue : Catalogue) (query : Query) (cards : List BlockCa
   pub no_later : (other : PlanTree) → CanBeMade catalogue query places first second other → start_of other < bound
       → ComesNoLater catalogue query cards tree other
 
-abbrev pub IsTheFirst : Catalogue → Query → List BlockCards → List (Option Kept) → ℕ → ℕ → ℕ → Option Candidate → Type 0
+abbrev pub IsTheFirst : CatalogDef → Query → List BlockCards → List (Option Kept) → ℕ → ℕ → ℕ → Option Candidate → Type 0
 IsTheFirst catalogue query cards places first second bound (Some found) = IsFirst catalogue query cards places first second bound found
 IsTheFirst catalogue query cards places first second bound None =
     (other : PlanTree) → CanBeMade catalogue query places first second other → start_of other < bound → ⊥
@@ -153,24 +153,24 @@ cheaper (Some best) None = Some best
 cheaper (Some best) (Some next) = (if nat_lt next.cost best.cost then Some next else Some best)
 
 -- what is kept of a candidate: a plan that it stands for, with its cost
-pub record IsKeptOf (catalogue : Catalogue) (query : Query) (places : List (Option Kept)) (first second : ℕ) (found : Candidate) (made : Option Kept) : Type 0 where
+pub record IsKeptOf (catalogue : CatalogDef) (query : Query) (places : List (Option Kept)) (first second : ℕ) (found : Candidate) (made : Option Kept) : Type 0 where
   pub kept : Kept
   pub is : made ≡ Some kept
   pub cost : kept.cost ≡ found.cost
   pub tree : (tree : PlanTree) → CanBeMade catalogue query places first second tree → choice_of tree ≡ Some found.choice → tree_of kept.plan ≡ tree
 
-abbrev pub IsMadeOf : Catalogue → Query → List (Option Kept) → ℕ → ℕ → Option Candidate → Option Kept → Type 0
+abbrev pub IsMadeOf : CatalogDef → Query → List (Option Kept) → ℕ → ℕ → Option Candidate → Option Kept → Type 0
 IsMadeOf catalogue query places first second None made = made ≡ None
 IsMadeOf catalogue query places first second (Some found) made = IsKeptOf catalogue query places first second found made
 
 -- what is kept of a signature comes no later than a plan
-pub record KeepsFirst (catalogue : Catalogue) (query : Query) (cards : List BlockCards) (places : List (Option Kept)) (first second : ℕ) (tree : PlanTree) : Type 0 where
+pub record KeepsFirst (catalogue : CatalogDef) (query : Query) (cards : List BlockCards) (places : List (Option Kept)) (first second : ℕ) (tree : PlanTree) : Type 0 where
   pub kept : Kept
   pub is : kept_at (length (block_in query 1).terms) places first second ≡ Some kept
   pub no_later : ComesNoLater catalogue query cards (tree_of kept.plan) tree
 
 -- each place keeps a plan of its signature that comes no later than all that are made of kept ones, where there is one
-pub record IsFilled (catalogue : Catalogue) (query : Query) (cards : List BlockCards) (places : List (Option Kept)) : Type 0 where
+pub record IsFilled (catalogue : CatalogDef) (query : Query) (cards : List BlockCards) (places : List (Option Kept)) : Type 0 where
   pub kept : AreKept catalogue query cards places
   pub first : (first second : ℕ) (tree : PlanTree) → second < 2 ^ length (block_in query 1).terms
       → first * 2 ^ length (block_in query 1).terms + second < length places → CanBeMade catalogue query places first second tree

@@ -2,7 +2,7 @@
 use Rattle.std.specs.Prelude.{ℕ, suc, ◌+◌, ◌-◌, ◌*◌, List, [], ◌∷◌, ◌++◌, codes, drop, Option, Some, None, option_and_then, option_map, replicate, slice_get, unwrap_or}
 use Rattle.std.specs.Fmt.{decimal}
 use Rattle.rs_value.specs.declared.set_op.SetOp.TheVariants.{UnionAll, Union, Intersect, Except}
-use Rattle.rs_catalog.specs.Catalogue.{Catalogue, NamedTable}
+use Rattle.rs_catalog.specs.Catalog.{CatalogDef, NamedTable}
 use Rattle.rs_query.specs.declared.block.Block.{Block}
 use Rattle.rs_query.specs.declared.query.Query.{Query}
 use Rattle.rs_query.specs.declared.query.Query.TheVariants.{One, Set}
@@ -14,7 +14,7 @@ use Rattle.rs_plan.specs.declared.counts.Counts.{Counts}
 use Rattle.rs_enum.specs.Costs.{cost_in, estimate_of}
 
 -- the name of the table of an entry, and the entry's alias
-abbrev pub table_of : Catalogue → Block → ℕ → List ℕ
+abbrev pub table_of : CatalogDef → Block → ℕ → List ℕ
 table_of catalogue block entry =
     unwrap_or (option_map (λ (t : NamedTable). t.name)
     (option_and_then (λ (from : ℕ × List ℕ). slice_get catalogue.tables from.0) (slice_get block.from (entry - 1)))) []
@@ -37,7 +37,7 @@ operator_of (Set Intersect left right limit) = codes "Intersect"
 operator_of (Set Except left right limit) = codes "Except"
 
 -- what a node is
-abbrev pub name_of : Catalogue → Query → ℕ → PlanTree → List ℕ
+abbrev pub name_of : CatalogDef → Query → ℕ → PlanTree → List ℕ
 name_of catalogue query number (SeqScan entry) =
     codes "SeqScan " ++ table_of catalogue (block_in query number) entry ++ codes " " ++ alias_of (block_in query number) entry
 name_of catalogue query number (RankScan entry term index) =
@@ -61,7 +61,7 @@ done_by tree None = []
 done_by tree (Some counts) = codes " asked=" ++ decimal counts.asked ++ codes " gave=" ++ decimal counts.gave ++ counted tree counts
 
 -- the line of a node that stands this many levels below the root, in the plan of the block of this number
-abbrev pub plan_line : Catalogue → Query → List BlockCards → ℕ → ℕ → PlanTree → Option Counts → List ℕ
+abbrev pub plan_line : CatalogDef → Query → List BlockCards → ℕ → ℕ → PlanTree → Option Counts → List ℕ
 plan_line catalogue query cards level number tree counts =
     replicate (2 * level) 32 ++ name_of catalogue query number tree
     ++ codes " est=" ++ decimal (estimate_of cards number tree) ++ codes " cost=" ++ decimal (cost_in catalogue query cards number tree)
@@ -85,7 +85,7 @@ abbrev pub behind : ℕ → Option (List Counts) → Option (List Counts)
 behind nodes counts = option_map (drop nodes) counts
 
 -- the lines of a plan that stands this many levels below the root, with the counts of its nodes where they are told
-abbrev pub plan_lines : Catalogue → Query → List BlockCards → ℕ → ℕ → PlanTree → Option (List Counts) → List ℕ
+abbrev pub plan_lines : CatalogDef → Query → List BlockCards → ℕ → ℕ → PlanTree → Option (List Counts) → List ℕ
 plan_lines catalogue query cards level number (SeqScan entry) counts =
     plan_line catalogue query cards level number (SeqScan entry) (first_of counts)
 plan_lines catalogue query cards level number (RankScan entry term index) counts =
@@ -110,5 +110,5 @@ plan_lines catalogue query cards level number (SetOperator left right) counts =
     ++ plan_lines catalogue query cards (level + 1) 2 right (behind (1 + nodes_of left) counts)
 
 -- the text of a plan, with the counts of its nodes where they are told
-abbrev pub text_of : Catalogue → Query → List BlockCards → PlanTree → Option (List Counts) → List ℕ
+abbrev pub text_of : CatalogDef → Query → List BlockCards → PlanTree → Option (List Counts) → List ℕ
 text_of catalogue query cards tree counts = plan_lines catalogue query cards 0 1 tree counts

@@ -2,7 +2,7 @@
 use Rattle.std.specs.Prelude.{ℕ, ◌≡◌, ◌<◌, ◌≤◌, ◌+◌, ◌^◌, false, true, List, length, Option, Some, None, bit_xor, nat_lt, option_and_then, option_map, slice_get, if◌then◌else◌}
 use Rattle.rs_rank.specs.Masks.{mask_of}
 use Rattle.std.specs.Ordering.{is_gt, nat_cmp, on, then_cmp}
-use Rattle.rs_catalog.specs.Catalogue.{Catalogue}
+use Rattle.rs_catalog.specs.Catalog.{CatalogDef}
 use Rattle.rs_query.specs.Tables.{all_entries}
 use Rattle.rs_query.specs.declared.block.Block.{Block}
 use Rattle.rs_query.specs.declared.query.Query.{Query}
@@ -27,11 +27,11 @@ number_of (whole.Block number) = number
 number_of whole.Both = 1
 
 -- a tree of all entries: a plan of the block, or the set operator of both blocks, or operators for terms above it
-abbrev pub IsWhole : Catalogue → Query → Extent → PlanTree → Type 0
+abbrev pub IsWhole : CatalogDef → Query → Extent → PlanTree → Type 0
 IsWhole catalogue query (whole.Block number) tree = IsComplete catalogue (block_in query number) tree
 IsWhole catalogue query whole.Both tree = IsSetPart catalogue query tree
 
-abbrev pub whole_cost : Catalogue → Query → List BlockCards → Extent → PlanTree → ℕ
+abbrev pub whole_cost : CatalogDef → Query → List BlockCards → Extent → PlanTree → ℕ
 whole_cost catalogue query cards extent tree = cost_in catalogue query cards (number_of extent) tree
 
 -- how many rows are expected of it, once these terms are evaluated
@@ -96,11 +96,11 @@ root_term (NestedJoin left right) = 9
 root_term (Distinct child) = 9
 root_term (SetOperator left right) = 9
 
-abbrev pub IsBase : Catalogue → Query → Extent → PlanTree → Type 0
+abbrev pub IsBase : CatalogDef → Query → Extent → PlanTree → Type 0
 IsBase catalogue query extent tree = IsWhole catalogue query extent tree × (root_term tree ≡ 9)
 
 -- a part of a plan of all entries of a block that drops no duplicates
-pub record IsLower (catalogue : Catalogue) (query : Query) (number : ℕ) (tree : PlanTree) : Type 0 where
+pub record IsLower (catalogue : CatalogDef) (query : Query) (number : ℕ) (tree : PlanTree) : Type 0 where
   pub part : IsPart catalogue (block_in query number) tree
   pub all : entries tree ≡ all_entries (block_in query number)
   pub whole : HasNoDistinct tree
@@ -112,14 +112,14 @@ FitsLower query number evaluated cost = cost + 2 ^ 105 ≤ most_cost (all_entrie
 abbrev pub FitsWhole : Query → Extent → ℕ → ℕ → Type 0
 FitsWhole query extent evaluated cost = cost ≤ most_whole query extent evaluated
 
-abbrev pub AreLower : Catalogue → Query → List BlockCards → ℕ → List (Option Kept) → Type 0
+abbrev pub AreLower : CatalogDef → Query → List BlockCards → ℕ → List (Option Kept) → Type 0
 AreLower catalogue query cards number tops = AreFirst (IsLower catalogue query number) (cost_in catalogue query cards number) (FitsLower query number) tops
 
-abbrev pub AreBases : Catalogue → Query → List BlockCards → Extent → List (Option Kept) → Type 0
+abbrev pub AreBases : CatalogDef → Query → List BlockCards → Extent → List (Option Kept) → Type 0
 AreBases catalogue query cards extent tops =
     AreFirst (IsBase catalogue query extent) (whole_cost catalogue query cards extent) (FitsWhole query extent) tops
 
-abbrev pub AreTops : Catalogue → Query → List BlockCards → Extent → List (Option Kept) → Type 0
+abbrev pub AreTops : CatalogDef → Query → List BlockCards → Extent → List (Option Kept) → Type 0
 AreTops catalogue query cards extent tops =
     AreFirst (IsWhole catalogue query extent) (whole_cost catalogue query cards extent) (FitsWhole query extent) tops
 
@@ -133,7 +133,7 @@ IsMadeTop bases tops evaluated (Some term) tree =
     (child : PlanTree) × (tree ≡ Rank term child) × (top_tree tops (bit_xor evaluated (mask_of term)) ≡ Some child) × (1 ≤ term) × (term ≤ 8)
 
 -- what is found stands for a tree of all entries and of these terms
-pub record StandsForTop (catalogue : Catalogue) (query : Query) (cards : List BlockCards) (extent : Extent) (bases tops : List (Option Kept)) (evaluated : ℕ)
+pub record StandsForTop (catalogue : CatalogDef) (query : Query) (cards : List BlockCards) (extent : Extent) (bases tops : List (Option Kept)) (evaluated : ℕ)
     (found : Top) (tree : PlanTree) : Type 0 where
   pub is : IsWhole catalogue query extent tree
   pub its_terms : terms tree ≡ evaluated
@@ -142,7 +142,7 @@ pub record StandsForTop (catalogue : Catalogue) (query : Query) (cards : List Bl
   pub made : IsMadeTop bases tops evaluated found.term tree
 
 -- it is the first one with an operator for this term at the root, if there is one
-pub record IsOneTop (catalogue : Catalogue) (query : Query) (cards : List BlockCards) (extent : Extent) (bases tops : List (Option Kept)) (evaluated root : ℕ)
+pub record IsOneTop (catalogue : CatalogDef) (query : Query) (cards : List BlockCards) (extent : Extent) (bases tops : List (Option Kept)) (evaluated root : ℕ)
     (found : Top) : Type 0 where
   pub tree : PlanTree
   pub stands : StandsForTop catalogue query cards extent bases tops evaluated found tree
@@ -150,13 +150,13 @@ pub record IsOneTop (catalogue : Catalogue) (query : Query) (cards : List BlockC
   pub no_later : (other : PlanTree) → IsWhole catalogue query extent other → terms other ≡ evaluated → root_term other ≡ root
       → NoLaterBy (whole_cost catalogue query cards extent) tree other
 
-abbrev pub IsTheOneTop : Catalogue → Query → List BlockCards → Extent → List (Option Kept) → List (Option Kept) → ℕ → ℕ → Option Top → Type 0
+abbrev pub IsTheOneTop : CatalogDef → Query → List BlockCards → Extent → List (Option Kept) → List (Option Kept) → ℕ → ℕ → Option Top → Type 0
 IsTheOneTop catalogue query cards extent bases tops evaluated root (Some found) = IsOneTop catalogue query cards extent bases tops evaluated root found
 IsTheOneTop catalogue query cards extent bases tops evaluated root None =
     (other : PlanTree) → IsWhole catalogue query extent other → terms other ≡ evaluated → root_term other ≡ root → ⊥
 
 -- it is the first one of all with an operator for a term below a number at the root, if there is one
-pub record IsFirstTop (catalogue : Catalogue) (query : Query) (cards : List BlockCards) (extent : Extent) (bases tops : List (Option Kept)) (evaluated bound : ℕ)
+pub record IsFirstTop (catalogue : CatalogDef) (query : Query) (cards : List BlockCards) (extent : Extent) (bases tops : List (Option Kept)) (evaluated bound : ℕ)
     (found : Top) : Type 0 where
   pub tree : PlanTree
   pub stands : StandsForTop catalogue query cards extent bases tops evaluated found tree
@@ -164,17 +164,17 @@ pub record IsFirstTop (catalogue : Catalogue) (query : Query) (cards : List Bloc
   pub no_later : (other : PlanTree) → IsWhole catalogue query extent other → terms other ≡ evaluated → root_term other < bound
       → NoLaterBy (whole_cost catalogue query cards extent) tree other
 
-abbrev pub IsTheFirstTop : Catalogue → Query → List BlockCards → Extent → List (Option Kept) → List (Option Kept) → ℕ → ℕ → Option Top → Type 0
+abbrev pub IsTheFirstTop : CatalogDef → Query → List BlockCards → Extent → List (Option Kept) → List (Option Kept) → ℕ → ℕ → Option Top → Type 0
 IsTheFirstTop catalogue query cards extent bases tops evaluated bound (Some found) = IsFirstTop catalogue query cards extent bases tops evaluated bound found
 IsTheFirstTop catalogue query cards extent bases tops evaluated bound None =
     (other : PlanTree) → IsWhole catalogue query extent other → terms other ≡ evaluated → root_term other < bound → ⊥
 
 -- the same whatever stands there already, which has no operator for a term at the root
-abbrev pub IsTheOneRank : Catalogue → Query → List BlockCards → Extent → List (Option Kept) → ℕ → ℕ → Option Top → Type 0
+abbrev pub IsTheOneRank : CatalogDef → Query → List BlockCards → Extent → List (Option Kept) → ℕ → ℕ → Option Top → Type 0
 IsTheOneRank catalogue query cards extent tops evaluated root found =
     (bases : List (Option Kept)) → IsTheOneTop catalogue query cards extent bases tops evaluated root found
 
-abbrev pub IsTheFirstRank : Catalogue → Query → List BlockCards → Extent → List (Option Kept) → ℕ → ℕ → Option Top → Type 0
+abbrev pub IsTheFirstRank : CatalogDef → Query → List BlockCards → Extent → List (Option Kept) → ℕ → ℕ → Option Top → Type 0
 IsTheFirstRank catalogue query cards extent tops evaluated bound found =
     (bases : List (Option Kept)) → IsTheFirstTop catalogue query cards extent bases tops evaluated bound found
 
@@ -198,11 +198,11 @@ abbrev pub IsTheFirstOf : (PlanTree → Type 0) → (PlanTree → ℕ) → (ℕ 
 IsTheFirstOf Of value Fits evaluated (Some kept) = IsKeptFirst Of value Fits evaluated kept
 IsTheFirstOf Of value Fits evaluated None = (other : PlanTree) → Of other → terms other ≡ evaluated → ⊥
 
-abbrev pub IsTheTop : Catalogue → Query → List BlockCards → Extent → ℕ → Option Kept → Type 0
+abbrev pub IsTheTop : CatalogDef → Query → List BlockCards → Extent → ℕ → Option Kept → Type 0
 IsTheTop catalogue query cards extent evaluated kept =
     IsTheFirstOf (IsWhole catalogue query extent) (whole_cost catalogue query cards extent) (FitsWhole query extent) evaluated kept
 
-abbrev pub IsTheBase : Catalogue → Query → List BlockCards → Extent → ℕ → Option Kept → Type 0
+abbrev pub IsTheBase : CatalogDef → Query → List BlockCards → Extent → ℕ → Option Kept → Type 0
 IsTheBase catalogue query cards extent evaluated kept =
     IsTheFirstOf (IsBase catalogue query extent) (whole_cost catalogue query cards extent) (FitsWhole query extent) evaluated kept
 

@@ -5,7 +5,7 @@ use Rattle.rs_expr.specs.InOrder.{Inquires}
 use Rattle.rs_expr.specs.Scoring.{ScorerState}
 use Rattle.rs_rank.specs.declared.answer.Answer.{Answer}
 use Rattle.rs_rank.specs.declared.row.RankRow.{RankRow}
-use Rattle.rs_catalog.specs.Catalogue.{Catalogue}
+use Rattle.rs_catalog.specs.Catalog.{CatalogDef}
 use Rattle.rs_query.specs.Tables.{all_entries}
 use Rattle.rs_query.proofs.QuestionFacts.{Gave-ok, Stopped-behind}
 use Rattle.rs_plan.specs.Calls.{questions_of_ask}
@@ -24,7 +24,7 @@ use Rattle.rs_exec.proofs.CursorFacts.{cursor-after, cursor-can, first-block, ne
 use Rattle.rs_exec.proofs.JoinCycleFacts.{node-number}
 use Rattle.rs_exec.proofs.PlacesFacts.{can-put_out, plan-entries, plan-part, row-placed}
 
-module _ (catalogue : Catalogue) (cursor : CursorState) (old : ScorerState) (stands : StandsFor catalogue old.answer cursor) where
+module _ (catalogue : CatalogDef) (cursor : CursorState) (old : ScorerState) (stands : StandsFor catalogue old.answer cursor) where
   abbrev w : World
   w = world_of catalogue old.answer cursor.query
 

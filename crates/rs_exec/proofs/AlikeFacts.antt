@@ -5,7 +5,7 @@ use Rattle.std.proofs.lemmas.Option.{same_Some, slice_get-map}
 use Rattle.std.specs.List.{AllByRecursion, list_any}
 use Rattle.std.specs.Prelude.{option_map, slice_get}
 use Rattle.rs_expr.specs.Scoring.{Answering}
-use Rattle.rs_catalog.specs.Catalogue.{Catalogue}
+use Rattle.rs_catalog.specs.Catalog.{CatalogDef}
 use Rattle.rs_catalog.specs.declared.index.BoundArg.{BoundArg}
 use Rattle.rs_catalog.specs.declared.index.BoundArg.TheVariants as arg
 use Rattle.rs_query.specs.Answers.{clamped, predicate_at, worth_of}
@@ -95,7 +95,7 @@ right-terms left right (t ∷ ts) (u ∷ us) are =
     (record { weight = refl; predicate = refl; max = refl; args = right-args left right t.args u.args are.0.args }, right-terms left right ts us are.1)
 
 -- rows of two blocks with the same terms and the same output values
-module _ (answer : Answering) (catalogue : Catalogue) (left right : Block) (xs ys : List ℕ) (same : outputs_of catalogue left xs ≡ outputs_of catalogue right ys) where
+module _ (answer : Answering) (catalogue : CatalogDef) (left right : Block) (xs ys : List ℕ) (same : outputs_of catalogue left xs ≡ outputs_of catalogue right ys) where
   column-same : (place : ℕ) (a b : ℕ × ℕ) → slice_get left.items place ≡ Some a → slice_get right.items place ≡ Some b
       → column_value catalogue left xs a ≡ column_value catalogue right ys b
   column-same place a b at_left at_right =
@@ -138,7 +138,7 @@ IsAlike (One block limit) = block.distinct ≡ true
 IsAlike (Set op left right limit) = Unit {0}
 
 -- any two of its blocks have the same terms
-same-terms : (catalogue : Catalogue) (query : Query) → IsQuery catalogue query → IsAlike query → (m n : ℕ)
+same-terms : (catalogue : CatalogDef) (query : Query) → IsQuery catalogue query → IsAlike query → (m n : ℕ)
     → AreSameTerms (block_in query m) (block_in query n) (block_in query m).terms (block_in query n).terms
 same-terms catalogue (One block limit) formed alike m n = own-terms block block.terms (formed.1 alike)
 same-terms catalogue (Set op left right limit) formed alike m n =

@@ -15,7 +15,7 @@ use Rattle.rs_rank.specs.declared.answer.Answer.{Answer}
 use Rattle.rs_rank.specs.declared.row.RankRow.{RankRow}
 use Rattle.rs_rank.proofs.SortedFacts.{stable-by_key, stable-by_score}
 use Rattle.rs_expr.specs.Scoring.{Answering}
-use Rattle.rs_catalog.specs.Catalogue.{Catalogue}
+use Rattle.rs_catalog.specs.Catalog.{CatalogDef}
 use Rattle.rs_value.specs.declared.set_op.SetOp.{SetOp}
 use Rattle.rs_value.specs.declared.set_op.SetOp.TheVariants.{UnionAll, Union, Intersect, Except}
 use Rattle.rs_query.specs.Answers.{all_terms, base_of, distinct_if, occurs_in, answer_row, rows_of, score_of, set_base, weights_of, worths_of}
@@ -107,7 +107,7 @@ module _ (w : World) (mask : ℕ) where
       ∙ ap (stable (λ (a : Answer). a.score)) (map-given rows given)
 
 -- the scores of a block whose terms are all in the mask
-scores-block : (answer : Answering) (catalogue : Catalogue) (block : Block) (mask : ℕ) → mask ≡ all_terms block → length block.terms ≤ 8
+scores-block : (answer : Answering) (catalogue : CatalogDef) (block : Block) (mask : ℕ) → mask ≡ all_terms block → length block.terms ≤ 8
     → (rows : List ℕ) → evaluated (weights_of block) mask (worths_of answer catalogue block rows) ≡ score_of answer catalogue block rows block.terms
 scores-block answer catalogue block mask all few rows =
     ap (λ m. evaluated (weights_of block) m (worths_of answer catalogue block rows)) all ∙ score-evaluated answer catalogue block rows 8 block.terms few
@@ -119,7 +119,7 @@ same-count left right same =
     ∙ ap (λ (weights : List ℕ). length weights) (same-weights left right left.terms right.terms same)
     ∙ length-map right.terms (λ (t : Term). t.weight)
 
-module _ (catalogue : Catalogue) (answer : Answering) (view : View) where
+module _ (catalogue : CatalogDef) (answer : Answering) (view : View) where
   abbrev world : Query → World
   world query = record { catalogue = catalogue; answer = answer; query = query; view = view }
 

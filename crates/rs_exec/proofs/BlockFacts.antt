@@ -4,7 +4,7 @@ use Rattle.std.specs.List.{AllByRecursion}
 use Rattle.std.specs.Prelude.{None, Some, slice_get}
 use Rattle.rs_order.proofs.EachFacts.{each-weaker}
 use Rattle.rs_expr.specs.Scoring.{Answering}
-use Rattle.rs_catalog.specs.Catalogue.{Catalogue}
+use Rattle.rs_catalog.specs.Catalog.{CatalogDef}
 use Rattle.rs_query.specs.Tables.{sizes_of}
 use Rattle.rs_query.specs.WellFormed.{IsBlock, IsQuery, IsTerm}
 use Rattle.rs_query.specs.declared.block.Block.{Block}
@@ -24,20 +24,20 @@ slice_get-none (x ∷ xs) zero e = absurd (let f : Some x ≡ None = e in cc)
 slice_get-none (x ∷ xs) (suc i) e = let rest = slice_get-none xs i e in omega arith
 
 -- each block of a query is well formed
-pub block-formed : (catalogue : Catalogue) (query : Query) (number : ℕ) → IsQuery catalogue query → IsBlock catalogue (block_in query number)
+pub block-formed : (catalogue : CatalogDef) (query : Query) (number : ℕ) → IsQuery catalogue query → IsBlock catalogue (block_in query number)
 block-formed catalogue (One block limit) number formed = formed.0
 block-formed catalogue (Set op left right limit) number formed =
     elim (eqb number 1) as (λ b. IsBlock catalogue (cond b left right)) [ true ↦ formed.0.left_block | false ↦ formed.0.right_block ]
 
 -- its weights are small enough
-pub light-terms : (catalogue : Catalogue) (block : Block) → IsBlock catalogue block → AllByRecursion (λ (term : Term). term.weight ≤ 1000000) block.terms
+pub light-terms : (catalogue : CatalogDef) (block : Block) → IsBlock catalogue block → AllByRecursion (λ (term : Term). term.weight ≤ 1000000) block.terms
 light-terms catalogue block is = each-weaker (IsTerm catalogue block) (λ (term : Term). term.weight ≤ 1000000) (λ term is. is.most_weight) block.terms is.terms
 
-pub few-entries : (catalogue : Catalogue) (query : Query) (number : ℕ) → IsQuery catalogue query → length (block_in query number).from ≤ 6
+pub few-entries : (catalogue : CatalogDef) (query : Query) (number : ℕ) → IsQuery catalogue query → length (block_in query number).from ≤ 6
 few-entries catalogue query number formed = let is = block-formed catalogue query number formed in is.most_entries
 
 -- a query sees all rows of its tables
-pub sizes-are : (catalogue : Catalogue) (answer : Answering) (query : Query) (number : ℕ) → HasBlock query number
+pub sizes-are : (catalogue : CatalogDef) (answer : Answering) (query : Query) (number : ℕ) → HasBlock query number
     → sizes_in (world_of catalogue answer query) number ≡ sizes_of catalogue (block_in query number)
 sizes-are catalogue answer (One block limit) number is =
     subst (λ n. sizes_in (world_of catalogue answer (One block limit)) n ≡ sizes_of catalogue (block_in (One block limit) n)) (sym is) refl
@@ -49,7 +49,7 @@ sizes-are catalogue answer (Set op left right limit) number is =
     ]
 
 -- each block of a query has as many terms
-pub same-counts : (catalogue : Catalogue) (query : Query) (number other : ℕ) → IsQuery catalogue query
+pub same-counts : (catalogue : CatalogDef) (query : Query) (number other : ℕ) → IsQuery catalogue query
     → length (block_in query number).terms ≡ length (block_in query other).terms
 same-counts catalogue (One block limit) number other formed = refl
 same-counts catalogue (Set op left right limit) number other formed =

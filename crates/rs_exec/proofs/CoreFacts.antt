@@ -2,7 +2,7 @@
 use Rattle.std.proofs.Common.{◌≡◌, ◌∙◌, ℕ, ◌++◌, Bool, true, List, [], ◌∷◌, refl, sym, ap, subst}
 use Rattle.std.proofs.lemmas.List.{map-append}
 use Rattle.std.specs.List.{AllByRecursion}
-use Rattle.rs_catalog.specs.Catalogue.{Catalogue}
+use Rattle.rs_catalog.specs.Catalog.{CatalogDef}
 use Rattle.rs_filter.specs.JoinValues.{is_equi, left_values, right_values}
 use Rattle.rs_filter.specs.Matching.{is_side, joins}
 use Rattle.rs_filter.proofs.EquiFacts.{equal-values-join}
@@ -52,7 +52,7 @@ pub tree-with : (core : JoinCore) (ripple : Ripple) (l r : PlanTree) → tree_wi
 tree-with (Nested joined) ripple l r = refl
 tree-with (Hash hashed) ripple l r = refl
 
-module _ (catalogue : Catalogue) (block : Block) (left right : ℕ) where
+module _ (catalogue : CatalogDef) (block : Block) (left right : ℕ) where
   pub joined-like : (core : JoinCore) (joined : Joined) → joined_in (core_like core catalogue block left right joined) ≡ joined
   joined-like (Nested other) joined = refl
   joined-like (Hash other) joined = λ i. record {

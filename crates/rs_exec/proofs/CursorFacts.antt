@@ -8,7 +8,7 @@ use Rattle.rs_expr.specs.Scoring.{Answering, ScorerState}
 use Rattle.rs_rank.specs.Weights.{IsWeights}
 use Rattle.rs_rank.specs.declared.answer.Answer.{Answer}
 use Rattle.rs_rank.specs.declared.row.RankRow.{RankRow}
-use Rattle.rs_catalog.specs.Catalogue.{Catalogue}
+use Rattle.rs_catalog.specs.Catalog.{CatalogDef}
 use Rattle.rs_query.specs.Answers.{limit_of, weights_of}
 use Rattle.rs_query.specs.Tables.{sizes_of}
 use Rattle.rs_query.specs.WellFormed.{IsQuery}
@@ -25,7 +25,7 @@ use Rattle.rs_exec.specs.Asking.{exec_faults, next_row, world_of}
 use Rattle.rs_exec.specs.Cursors.{CursorState, StandsFor, answer_for, asks_of, is_limit, is_over, next_answer, plan_of}
 use Rattle.rs_exec.specs.declared.fault.ExecFault.{ExecFault}
 use Rattle.rs_exec.specs.declared.fault.ExecFault.TheVariants.{Memory}
-use Rattle.rs_exec.specs.Indexes.{HoldIndexes}
+use Rattle.rs_exec.specs.Indexes.{PlanIndexesHold}
 use Rattle.rs_exec.specs.Nodes.{tree_in}
 use Rattle.rs_exec.specs.Starting.{IsQueryStart}
 use Rattle.rs_exec.specs.declared.node.Node.{Node}
@@ -37,9 +37,9 @@ first-block (One block limit) = refl
 first-block (Set op left right limit) = inl refl
 
 -- a cursor whose nodes were made for a plan stands
-pub cursor-start : (catalogue : Catalogue) (answer : Answering) (query : Query) (tree : PlanTree) (root : Node) → IsQuery catalogue query → IsPlan catalogue query tree
+pub cursor-start : (catalogue : CatalogDef) (answer : Answering) (query : Query) (tree : PlanTree) (root : Node) → IsQuery catalogue query → IsPlan catalogue query tree
     → ((number : ℕ) → AllByRecursion (λ size. size ≤ 131072) (sizes_of catalogue (block_in query number))) → IsWeights (weights_of (block_in query 1))
-    → HoldIndexes answer catalogue tree → IsQueryStart catalogue query tree root
+    → PlanIndexesHold answer catalogue tree → IsQueryStart catalogue query tree root
     → StandsFor catalogue answer (record { query = query; root = root; failed = false })
 cursor-start catalogue answer query tree root formed plan tables weights indexes is =
     let w = world_of catalogue answer query in
@@ -49,7 +49,7 @@ cursor-start catalogue answer query tree root formed plan tables weights indexes
       sound = refl;
       query = formed;
       plan = subst (IsPlan catalogue query) (sym same) plan;
-      indexes = subst (HoldIndexes answer catalogue) (sym same) indexes;
+      indexes = subst (PlanIndexesHold answer catalogue) (sym same) indexes;
       tables = tables;
       weights = weights;
       nodes = query-stands catalogue answer query tree root formed weights plan is;
@@ -57,7 +57,7 @@ cursor-start catalogue answer query tree root formed plan tables weights indexes
     }
 
 -- a cursor that stands and isn't over can ask its plan once more
-pub cursor-can : (catalogue : Catalogue) (answer : Answering) (cursor : CursorState) → StandsFor catalogue answer cursor
+pub cursor-can : (catalogue : CatalogDef) (answer : Answering) (cursor : CursorState) → StandsFor catalogue answer cursor
     → is_over (world_of catalogue answer cursor.query) (plan_of cursor) (asks_of cursor) ≡ false
     → CanAsk (world_of catalogue answer cursor.query) 1 (plan_of cursor) (asks_of cursor)
 cursor-can catalogue answer cursor stands more =
@@ -78,7 +78,7 @@ cursor-can catalogue answer cursor stands more =
     }
 
 -- and stands after it
-pub cursor-after : (catalogue : Catalogue) (answer : Answering) (cursor : CursorState) (root : Node) → StandsFor catalogue answer cursor
+pub cursor-after : (catalogue : CatalogDef) (answer : Answering) (cursor : CursorState) (root : Node) → StandsFor catalogue answer cursor
     → CanAsk (world_of catalogue answer cursor.query) 1 (plan_of cursor) (asks_of cursor)
     → NodeAfter (world_of catalogue answer cursor.query) 1 (plan_of cursor) (asks_of cursor) root
     → StandsFor catalogue answer (record cursor { root = root })
@@ -91,7 +91,7 @@ cursor-after catalogue answer cursor root stands can after =
       sound = stands.sound;
       query = stands.query;
       plan = subst (IsPlan catalogue cursor.query) (sym after.tree_is) stands.plan;
-      indexes = subst (HoldIndexes answer catalogue) (sym after.tree_is) stands.indexes;
+      indexes = subst (PlanIndexesHold answer catalogue) (sym after.tree_is) stands.indexes;
       tables = stands.tables;
       weights = stands.weights;
       nodes = after.stands;

@@ -7,7 +7,7 @@ use Rattle.rs_table.specs.Relation.{Relation}
 use Rattle.rs_expr.specs.InOrder.{Inquires}
 use Rattle.rs_expr.specs.Scoring.{Answering, ScorerState}
 use Rattle.rs_rank.specs.declared.row.RankRow.{RankRow}
-use Rattle.rs_catalog.specs.Catalogue.{Catalogue, NamedTable, RankIndex}
+use Rattle.rs_catalog.specs.Catalog.{CatalogDef, NamedTable, RankIndex}
 use Rattle.rs_catalog.specs.Indexes.{rows_for}
 use Rattle.rs_catalog.specs.declared.index.IndexDef.{IndexDef}
 use Rattle.rs_scan.specs.Scans.{rows_of_index, rows_of_table}
@@ -98,7 +98,7 @@ size-rows : (o : Option NamedTable) → unwrap_or (option_map (λ (r : Relation)
 size-rows (Some t) = refl
 size-rows None = refl
 
-module _ (catalogue : Catalogue) (answer : Answering) (query : Query) where
+module _ (catalogue : CatalogDef) (answer : Answering) (query : Query) where
   abbrev w : World
   w = world_of catalogue answer query
 
@@ -224,13 +224,13 @@ ask-failed w number tree a After result fault old new is inquires = record {
 
 -- during ask a + 1 of an operator, between two asks of its input: the input is of this number and this tree, and stands, and the
 -- operator stands between these asks
-pub record Turn (catalogue : Catalogue) (query : Query) (number term : ℕ) (tree : PlanTree) (a : ℕ) (old : ScorerState) (head : RankNode) (child : Node) (now : ScorerState) : Type 0 where
+pub record Turn (catalogue : CatalogDef) (query : Query) (number term : ℕ) (tree : PlanTree) (a : ℕ) (old : ScorerState) (head : RankNode) (child : Node) (now : ScorerState) : Type 0 where
   pub number_is : number_in child ≡ number
   pub tree_is : tree_in child ≡ tree
   pub stands : Stands (world_of catalogue old.answer query) (number_in child) child
   pub between : Between (world_of catalogue old.answer query) number term tree a (asked_in child) head old now
 
-module _ {catalogue : Catalogue} {query : Query} {number term : ℕ} {tree : PlanTree} {a : ℕ} {old : ScorerState} {head : RankNode} {child : Node} {now : ScorerState}
+module _ {catalogue : CatalogDef} {query : Query} {number term : ℕ} {tree : PlanTree} {a : ℕ} {old : ScorerState} {head : RankNode} {child : Node} {now : ScorerState}
     (turn : Turn catalogue query number term tree a old head child now) (can : CanAsk (world_of catalogue old.answer query) number (Rank term tree) a) where
   abbrev whole : World
   whole = world_of catalogue old.answer query

@@ -6,7 +6,7 @@ use Rattle.rs_order.specs.Schedule.{Left}
 use Rattle.rs_expr.specs.InOrder.{Inquires}
 use Rattle.rs_expr.specs.Scoring.{ScorerState}
 use Rattle.rs_rank.specs.declared.row.RankRow.{RankRow}
-use Rattle.rs_catalog.specs.Catalogue.{Catalogue}
+use Rattle.rs_catalog.specs.Catalog.{CatalogDef}
 use Rattle.rs_filter.specs.Distinct.{Distinct as Kept, given_for}
 use Rattle.rs_outputs.specs.Seen.{has_list, with_list}
 use Rattle.rs_query.specs.declared.query.Query.{Query}
@@ -43,7 +43,7 @@ module _ (w : World) (self : Node) (head after : DistinctNode) (box : Box Node G
 
 -- during ask a + 1 of an operator, between two asks of its input: the input is of this number and this tree, and stands, and the
 -- operator stands between these asks
-pub record DropsTurn (catalogue : Catalogue) (query : Query) (number : ℕ) (tree : PlanTree) (a : ℕ) (old : ScorerState) (head : DistinctNode) (child : Node) (now : ScorerState) : Type 0 where
+pub record DropsTurn (catalogue : CatalogDef) (query : Query) (number : ℕ) (tree : PlanTree) (a : ℕ) (old : ScorerState) (head : DistinctNode) (child : Node) (now : ScorerState) : Type 0 where
   pub number_is : number_in child ≡ number
   pub tree_is : tree_in child ≡ tree
   pub stands : Stands (world_of catalogue old.answer query) (number_in child) child
@@ -52,7 +52,7 @@ pub record DropsTurn (catalogue : Catalogue) (query : Query) (number : ℕ) (tre
   pub between : DropsBetween (world_of catalogue old.answer query) number tree a (asked_in child) head.core old now
 
 -- at its start
-pub drops_turn-start : (catalogue : Catalogue) (query : Query) (head : DistinctNode) (child : Node) (old : ScorerState)
+pub drops_turn-start : (catalogue : CatalogDef) (query : Query) (head : DistinctNode) (child : Node) (old : ScorerState)
     → CanAsk (world_of catalogue old.answer query) (number_in child) (Distinct (tree_in child)) head.tally.asked
     → DropsStand (world_of catalogue old.answer query) (number_in child) head (tree_in child) (asked_in child)
     → Stands (world_of catalogue old.answer query) (number_in child) child
@@ -81,7 +81,7 @@ fed-row b row given is = (elim b as (λ b. Some given ≡ (if b then None else S
   | false ↦ λ e. cc
 ]) is
 
-module _ {catalogue : Catalogue} {query : Query} {number : ℕ} {tree : PlanTree} {a : ℕ} {old : ScorerState} {head : DistinctNode} {child : Node} {now : ScorerState}
+module _ {catalogue : CatalogDef} {query : Query} {number : ℕ} {tree : PlanTree} {a : ℕ} {old : ScorerState} {head : DistinctNode} {child : Node} {now : ScorerState}
     (turn : DropsTurn catalogue query number tree a old head child now) (can : CanAsk (world_of catalogue old.answer query) number (Distinct tree) a) where
   abbrev whole : World
   whole = world_of catalogue old.answer query

@@ -18,7 +18,7 @@ use Rattle.rs_rank.specs.declared.row.RankRow.{RankRow}
 use Rattle.rs_rank.proofs.OrderFacts.{key_cmp-total}
 use Rattle.rs_expr.specs.InOrder.{Inquires}
 use Rattle.rs_expr.specs.Scoring.{ScorerState}
-use Rattle.rs_catalog.specs.Catalogue.{Catalogue}
+use Rattle.rs_catalog.specs.Catalog.{CatalogDef}
 use Rattle.rs_filter.specs.Distinct.{Distinct as Kept, DistinctStands, given_for}
 use Rattle.rs_filter.proofs.DistinctLists.{all-asks, fed-stands, new-values, old-values}
 use Rattle.rs_outputs.specs.Rows.{OutputRow, firsts, lists_of, values_of}
@@ -233,7 +233,7 @@ pub record DropsAsked (w : World) (number : ℕ) (child : PlanTree) (a asks : �
   pub keeps : core ≡ record { lists = lists_of (take (asked_of w number (Distinct child) (suc a) Left) (outputs_in w number child)); spent = false }
 
 -- an operator that can be asked once more
-module _ (catalogue : Catalogue) (query : Query) (number : ℕ) (child : PlanTree) (a : ℕ) (old : ScorerState)
+module _ (catalogue : CatalogDef) (query : Query) (number : ℕ) (child : PlanTree) (a : ℕ) (old : ScorerState)
     (can : CanAsk (world_of catalogue old.answer query) number (Distinct child) a) where
   abbrev world : World
   world = world_of catalogue old.answer query

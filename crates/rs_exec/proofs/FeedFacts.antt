@@ -4,7 +4,7 @@ use Rattle.std.specs.Prelude.{Result, Ok, Err}
 use Rattle.rs_expr.specs.InOrder.{Inquires}
 use Rattle.rs_expr.specs.Scoring.{ScorerState}
 use Rattle.rs_rank.specs.declared.row.RankRow.{RankRow}
-use Rattle.rs_catalog.specs.Catalogue.{Catalogue}
+use Rattle.rs_catalog.specs.Catalog.{CatalogDef}
 use Rattle.rs_query.specs.Answers.{worth_of}
 use Rattle.rs_query.specs.Questions.{Question, question_of}
 use Rattle.rs_query.specs.declared.block.Block.{Block}
@@ -19,7 +19,7 @@ use Rattle.rs_exec.specs.declared.fault.ExecFault.{ExecFault}
 use Rattle.rs_exec.specs.declared.fault.ExecFault.TheVariants.{Memory}
 use Rattle.rs_exec.specs.declared.rank.RankNode.{RankNode}
 
-module _ (catalogue : Catalogue) (query : Query) (row : RankRow) (term : Term) (head : RankNode) (old new : ScorerState) where
+module _ (catalogue : CatalogDef) (query : Query) (row : RankRow) (term : Term) (head : RankNode) (old new : ScorerState) where
   abbrev question : Question
   question = question_of row.ids.block (block_in query row.ids.block) row.ids.rows term
 

@@ -26,7 +26,7 @@ use Rattle.rs_rank.proofs.SortedFacts.{ids_cmp-total}
 use Rattle.rs_rank.proofs.StableFacts.{AllByRecursion-stable, length-stable}
 use Rattle.rs_rank.proofs.WeightFacts.{sum_inside-one}
 use Rattle.rs_expr.specs.Scores.{is_score, as_score}
-use Rattle.rs_catalog.specs.Catalogue.{Catalogue, NamedTable, RankIndex}
+use Rattle.rs_catalog.specs.Catalog.{CatalogDef, NamedTable, RankIndex}
 use Rattle.rs_catalog.specs.Indexes.{RowsDiffer, args_in, predicate_for, ranking_at, rows_for, scored_from}
 use Rattle.rs_query.specs.Answers.{padded, weights_of, worth_of}
 use Rattle.rs_query.specs.Combinations.{choices, numbers_to}
@@ -103,13 +103,13 @@ length-padded (suc n) [] = ap suc (length-padded n [])
 length-padded (suc n) (x ∷ numbers) = ap suc (length-padded n numbers)
 
 -- each block of a query has the weights of the first one
-weights-same : (catalogue : Catalogue) (query : Query) (number : ℕ) → IsQuery catalogue query → weights_of (block_in query 1) ≡ weights_of (block_in query number)
+weights-same : (catalogue : CatalogDef) (query : Query) (number : ℕ) → IsQuery catalogue query → weights_of (block_in query 1) ≡ weights_of (block_in query number)
 weights-same catalogue (One block limit) number formed = refl
 weights-same catalogue (Set op left right limit) number formed =
     elim (eqb number 1) as (λ b. weights_of left ≡ weights_of (cond b left right)) [ true ↦ refl | false ↦ same-sides left right formed.0.terms ]
 
 -- the number of rows of an entry of six
-sizes-at : (catalogue : Catalogue) (block : Block) (entry : ℕ) → 1 ≤ entry → entry ≤ 6 → unwrap_or (slice_get (sizes_of catalogue block) (entry - 1)) 0 ≡ size_of catalogue block entry
+sizes-at : (catalogue : CatalogDef) (block : Block) (entry : ℕ) → 1 ≤ entry → entry ≤ 6 → unwrap_or (slice_get (sizes_of catalogue block) (entry - 1)) 0 ≡ size_of catalogue block entry
 sizes-at catalogue block zero some few = absurd (omega arith)
 sizes-at catalogue block (suc zero) some few = refl
 sizes-at catalogue block (suc (suc zero)) some few = refl

@@ -10,7 +10,7 @@ use Rattle.rs_expr.specs.InOrder.{Inquires, Inquiry}
 use Rattle.rs_expr.specs.Scoring.{ScorerState}
 use Rattle.rs_rank.specs.declared.ask.JoinAsk.TheVariants.{End, NeedLeft, NeedRight, Ready}
 use Rattle.rs_rank.specs.declared.row.RankRow.{RankRow}
-use Rattle.rs_catalog.specs.Catalogue.{Catalogue}
+use Rattle.rs_catalog.specs.Catalog.{CatalogDef}
 use Rattle.rs_query.specs.Tables.{HasRows}
 use Rattle.rs_query.specs.WellFormed.{IsBlock}
 use Rattle.rs_rank.specs.Masks.{AreDisjoint}
@@ -97,7 +97,7 @@ module _ (w : World) (self : Node) (head after : JoinNode) (left_box right_box :
 
 -- during ask a + 1 of a join, between two asks of its sides: the sides are of this number and these trees, and stand, and the join
 -- stands between these asks. Its core is of the kind of the first one
-pub record JoinTurn (catalogue : Catalogue) (query : Query) (number : ℕ) (core : JoinCore) (left right : PlanTree) (a : ℕ) (old : ScorerState) (head : JoinNode) (on_left on_right : Node) (now : ScorerState) : Type 0 where
+pub record JoinTurn (catalogue : CatalogDef) (query : Query) (number : ℕ) (core : JoinCore) (left right : PlanTree) (a : ℕ) (old : ScorerState) (head : JoinNode) (on_left on_right : Node) (now : ScorerState) : Type 0 where
   pub left_tree : tree_in on_left ≡ left
   pub right_tree : tree_in on_right ≡ right
   pub left_stands : Stands (world_of catalogue old.answer query) number on_left
@@ -111,7 +111,7 @@ pub record JoinTurn (catalogue : Catalogue) (query : Query) (number : ℕ) (core
   pub between : JoinBetween (world_of catalogue old.answer query) number left right a (asked_in on_left) (asked_in on_right) (joined_in head.core) old now
 
 -- at its start
-pub turn-start : (catalogue : Catalogue) (query : Query) (head : JoinNode) (on_left on_right : Node) (old : ScorerState)
+pub turn-start : (catalogue : CatalogDef) (query : Query) (head : JoinNode) (on_left on_right : Node) (old : ScorerState)
     → CanAsk (world_of catalogue old.answer query) head.block (NestedJoin (tree_in on_left) (tree_in on_right)) head.tally.asked
     → JoinStands (world_of catalogue old.answer query) head.block head (tree_in on_left) (tree_in on_right) (asked_in on_left) (asked_in on_right)
     → Stands (world_of catalogue old.answer query) head.block on_left → Stands (world_of catalogue old.answer query) head.block on_right
@@ -144,7 +144,7 @@ turn-start catalogue query head on_left on_right old can stands left right tally
           (like-joined catalogue b l r head.core kept core) stands.left_asked stands.right_asked;
     }
 
-module _ {catalogue : Catalogue} {query : Query} {number : ℕ} {core : JoinCore} {left right : PlanTree} {a : ℕ} {old : ScorerState} {head : JoinNode} {on_left on_right : Node} {now : ScorerState}
+module _ {catalogue : CatalogDef} {query : Query} {number : ℕ} {core : JoinCore} {left right : PlanTree} {a : ℕ} {old : ScorerState} {head : JoinNode} {on_left on_right : Node} {now : ScorerState}
     (turn : JoinTurn catalogue query number core left right a old head on_left on_right now) (can : CanAsk (world_of catalogue old.answer query) number (NestedJoin left right) a) where
   abbrev whole : World
   whole = world_of catalogue old.answer query

@@ -20,7 +20,7 @@ use Rattle.rs_rank.specs.declared.row.RankRow.{RankRow}
 use Rattle.rs_rank.proofs.OrderFacts.{key_cmp-total}
 use Rattle.rs_rank.proofs.WeightFacts.{sum_inside-union}
 use Rattle.rs_expr.specs.Scoring.{Answering}
-use Rattle.rs_catalog.specs.Catalogue.{Catalogue}
+use Rattle.rs_catalog.specs.Catalog.{CatalogDef}
 use Rattle.rs_query.specs.Answers.{clamped, predicate_at, worth_of, worths_of}
 use Rattle.rs_query.specs.Choices.{AgreeOn, IsChoice}
 use Rattle.rs_query.specs.Combinations.{combinations}
@@ -61,7 +61,7 @@ sum-same f g mask (weight ∷ weights) (t ∷ all) same =
     first true e = ap (λ n. weight * n) (same zero t (bit_at_lowest mask ∙ eqb-true (mask % 2) 1 e) refl)
     first false e = refl
 
-module _ (answer : Answering) (catalogue : Catalogue) (block : Block) (formed : IsBlock catalogue block) (tree : PlanTree) (part : IsPart catalogue block tree)
+module _ (answer : Answering) (catalogue : CatalogDef) (block : Block) (formed : IsBlock catalogue block) (tree : PlanTree) (part : IsPart catalogue block tree)
     (xs ys : List ℕ) (agree : AgreeOn (entries tree) xs ys) where
   worth-same : (place : ℕ) (t : Term) → bit_at (terms tree) place ≡ 1 → slice_get block.terms place ≡ Some t
       → worth_of answer catalogue block xs t ≡ worth_of answer catalogue block ys t

@@ -17,7 +17,7 @@ use Rattle.rs_rank.specs.declared.key.Key.{Key}
 use Rattle.rs_rank.specs.declared.row.RankRow.{RankRow}
 use Rattle.rs_expr.specs.InOrder.{Inquires}
 use Rattle.rs_expr.specs.Scoring.{ScorerState}
-use Rattle.rs_catalog.specs.Catalogue.{Catalogue}
+use Rattle.rs_catalog.specs.Catalog.{CatalogDef}
 use Rattle.rs_query.specs.Questions.{Question}
 use Rattle.rs_query.specs.Tables.{HasRows, sizes_of}
 use Rattle.rs_query.specs.declared.query.Query.{Query}
@@ -41,7 +41,7 @@ use Rattle.rs_plan.specs.Plans.{IsPart}
 use Rattle.rs_plan.specs.Trees.{NestedJoin, PlanTree, entries, HashJoin}
 use Rattle.rs_exec.specs.Asked.{CanAsk}
 use Rattle.rs_exec.specs.Asking.{exec_faults, next_row, world_of}
-use Rattle.rs_exec.specs.Indexes.{HoldIndexes}
+use Rattle.rs_exec.specs.Indexes.{PlanIndexesHold}
 use Rattle.rs_exec.specs.Joining.{join_for}
 use Rattle.rs_exec.specs.declared.fault.ExecFault.{ExecFault}
 use Rattle.rs_exec.specs.declared.fault.ExecFault.TheVariants.{Memory}
@@ -175,7 +175,7 @@ hash-asks w number left right zero = refl
 hash-asks w number left right (suc n) = refl
 
 -- a join that can be asked once more
-module _ (catalogue : Catalogue) (query : Query) (number : ℕ) (left right : PlanTree) (a : ℕ) (old : ScorerState)
+module _ (catalogue : CatalogDef) (query : Query) (number : ℕ) (left right : PlanTree) (a : ℕ) (old : ScorerState)
     (can : CanAsk (world_of catalogue old.answer query) number (NestedJoin left right) a) where
   abbrev world : World
   world = world_of catalogue old.answer query
@@ -195,7 +195,7 @@ module _ (catalogue : Catalogue) (query : Query) (number : ℕ) (left right : Pl
   }
 
   -- a side of it, once it is known that it was asked no further than to its end
-  side-can : (side : PlanTree) (asks : ℕ) (now : ScorerState) → IsPart catalogue (block_in query number) side → HoldIndexes old.answer catalogue side
+  side-can : (side : PlanTree) (asks : ℕ) (now : ScorerState) → IsPart catalogue (block_in query number) side → PlanIndexesHold old.answer catalogue side
       → asks ≤ length (list_of (world_of catalogue old.answer query) number side) → now.answer ≡ old.answer → CanAsk (world_of catalogue now.answer query) number side asks
   side-can side asks now part indexes most same =
       subst (λ answer. CanAsk (world_of catalogue answer query) number side asks) (sym same)

@@ -12,7 +12,7 @@ use Rattle.rs_rank.specs.declared.key.Key.{Key}
 use Rattle.rs_rank.specs.declared.row.RankRow.{RankRow}
 use Rattle.rs_expr.specs.Scores.{is_score}
 use Rattle.rs_expr.specs.Scoring.{Answering, call_of}
-use Rattle.rs_catalog.specs.Catalogue.{Catalogue}
+use Rattle.rs_catalog.specs.Catalog.{CatalogDef}
 use Rattle.rs_catalog.specs.declared.index.BoundArg.{BoundArg}
 use Rattle.rs_query.specs.Answers.{predicate_at}
 use Rattle.rs_query.specs.Questions.{Question, asking, call_for, first_of, got_for, ids_for, is_bad, outcome_for, request_for, through_first}
@@ -39,7 +39,7 @@ each-part : {Y : Type 0} (P : Y → Type 0) (f : ℕ → List Y) (n : ℕ) → (
 each-part P f zero all = tt
 each-part P f (suc n) all = each-drop P (length (f n)) (f (suc n)) (all (suc n))
 
-module _ (catalogue more : Catalogue) (answer : Answering) (query : Query) (covered : Covers catalogue query) where
+module _ (catalogue more : CatalogDef) (answer : Answering) (query : Query) (covered : Covers catalogue query) where
   abbrev small : World
   small = world_of catalogue answer query
 

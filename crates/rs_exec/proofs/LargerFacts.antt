@@ -19,7 +19,7 @@ use Rattle.rs_expr.specs.Predicates.{PredicateDef}
 use Rattle.rs_expr.specs.Scoring.{Answering}
 use Rattle.rs_expr.specs.Uses.{condition_uses, is_kind}
 use Rattle.rs_rank.specs.declared.scored_row.ScoredRow.{ScoredRow}
-use Rattle.rs_catalog.specs.Catalogue.{Catalogue, NamedTable, RankIndex, with_index, with_predicate, with_table}
+use Rattle.rs_catalog.specs.Catalog.{CatalogDef, NamedTable, RankIndex, with_index, with_predicate, with_table}
 use Rattle.rs_catalog.specs.Indexes.{is_for, making, making_of, ranking_at, same_args}
 use Rattle.rs_catalog.specs.declared.index.IndexDef.{IndexDef}
 use Rattle.rs_catalog.specs.declared.index.IndexFault.{IndexFault}
@@ -44,7 +44,7 @@ use Rattle.rs_plan.specs.Plans.{IsComplete, IsPart, IsPlan, IsRankScan, IsSetPla
 use Rattle.rs_plan.specs.Trees.{Distinct, HashJoin, NestedJoin, Rank, RankScan, SeqScan, SetOperator, PlanTree}
 use Rattle.rs_exec.specs.Covering.{CoversBlock, HasPredicate}
 use Rattle.rs_catalog.specs.Held.{Holds}
-use Rattle.rs_exec.specs.Indexes.{HoldIndexes}
+use Rattle.rs_exec.specs.Indexes.{PlanIndexesHold}
 use Rattle.rs_exec.proofs.CoversFacts.{covers-block}
 
 -- the first one that passes keeps its place in front of others
@@ -60,8 +60,8 @@ position-front p (x ∷ xs) more n is =
     let inside : nat_lt n (length ((x ∷ xs) ++ more)) ≡ true = lt-ltb n (length ((x ∷ xs) ++ more)) (omega arith) in
     ap (λ k. cond (nat_lt k (length ((x ∷ xs) ++ more))) (Some k) None) at ∙ ap (λ b. cond b (Some n) None) inside
 
-module _ (catalogue more : Catalogue) where
-  abbrev larger : Catalogue
+module _ (catalogue more : CatalogDef) where
+  abbrev larger : CatalogDef
   larger = joined catalogue more
 
   -- FROM entries stand for the same tables
@@ -257,7 +257,7 @@ module _ (catalogue more : Catalogue) where
           let there = sym (slice_get-front catalogue.indexes more.indexes number index-within) ∙ at in
           ap (λ (m : Inquiry (List ScoredRow) IndexFault). m.outcome) (making-same answer index there) ∙ holds index there
 
-    pub indexes-larger : (answer : Answering) (tree : PlanTree) → IsPart catalogue block tree → HoldIndexes answer catalogue tree → HoldIndexes answer larger tree
+    pub indexes-larger : (answer : Answering) (tree : PlanTree) → IsPart catalogue block tree → PlanIndexesHold answer catalogue tree → PlanIndexesHold answer larger tree
     indexes-larger answer (SeqScan entry) part holds = tt
     indexes-larger answer (RankScan entry term number) part holds = holds-larger entry term number part answer holds
     indexes-larger answer (Rank term child) part holds = indexes-larger answer child part.0 holds

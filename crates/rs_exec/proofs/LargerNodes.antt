@@ -16,7 +16,7 @@ use Rattle.rs_rank.specs.declared.row.RankRow.{RankRow}
 use Rattle.rs_rank.specs.declared.scored_row.ScoredRow.{ScoredRow}
 use Rattle.rs_expr.specs.Scoring.{Answering}
 use Rattle.rs_mu.specs.Stands.{state_after}
-use Rattle.rs_catalog.specs.Catalogue.{Catalogue}
+use Rattle.rs_catalog.specs.Catalog.{CatalogDef}
 use Rattle.rs_query.specs.Answers.{rows_of, set_base}
 use Rattle.rs_query.specs.Views.{all_rows}
 use Rattle.rs_query.specs.declared.block.Block.{Block}
@@ -42,7 +42,7 @@ use Rattle.rs_exec.specs.Cores.{core_like, tree_with, with_values}
 use Rattle.rs_exec.specs.Drawing.{entry_conjuncts}
 use Rattle.rs_exec.specs.Covering.{Covers, CoversBlock}
 use Rattle.rs_exec.specs.Joining.{side_for}
-use Rattle.rs_exec.specs.Indexes.{HoldIndexes}
+use Rattle.rs_exec.specs.Indexes.{PlanIndexesHold}
 use Rattle.rs_exec.specs.Nodes.{asked_in, tree_in}
 use Rattle.rs_exec.specs.Parts.{IsPartOf}
 use Rattle.rs_exec.specs.SetCores.{CoreStands}
@@ -59,11 +59,11 @@ use Rattle.rs_exec.proofs.LargerFacts.{base-same, combinations-same, indexes-lar
 use Rattle.rs_exec.proofs.PlacesFacts.{part-of, plan-part}
 
 -- the tables of a block are as large
-tables-same : (catalogue more : Catalogue) (block : Block) → CoversBlock catalogue block → sizes_of (joined catalogue more) block ≡ sizes_of catalogue block
+tables-same : (catalogue more : CatalogDef) (block : Block) → CoversBlock catalogue block → sizes_of (joined catalogue more) block ≡ sizes_of catalogue block
 tables-same catalogue more block covered = λ i. map (size-same catalogue more block covered i) (1 ∷ 2 ∷ 3 ∷ 4 ∷ 5 ∷ 6 ∷ [])
 
 -- a query sees the same rows of its tables
-view-same : (catalogue more : Catalogue) (query : Query) → Covers catalogue query → all_rows (joined catalogue more) query ≡ all_rows catalogue query
+view-same : (catalogue more : CatalogDef) (query : Query) → Covers catalogue query → all_rows (joined catalogue more) query ≡ all_rows catalogue query
 view-same catalogue more (One block limit) covered = λ i. record { first = map (size-same catalogue more block covered i) (1 ∷ 2 ∷ 3 ∷ 4 ∷ 5 ∷ 6 ∷ []); second = [] }
 view-same catalogue more (Set op left right limit) covered = λ i. record {
   first = map (size-same catalogue more left covered.0 i) (1 ∷ 2 ∷ 3 ∷ 4 ∷ 5 ∷ 6 ∷ []);
@@ -71,12 +71,12 @@ view-same catalogue more (Set op left right limit) covered = λ i. record {
 }
 
 -- the sides of a join are parts of a plan, whichever way it is done
-part-with : (catalogue : Catalogue) (block : Block) (core : JoinCore) (l r : PlanTree) → IsPart catalogue block (tree_with core l r) → IsPart catalogue block l × IsPart catalogue block r
+part-with : (catalogue : CatalogDef) (block : Block) (core : JoinCore) (l r : PlanTree) → IsPart catalogue block (tree_with core l r) → IsPart catalogue block l × IsPart catalogue block r
 part-with catalogue block (Nested joined) l r part = (part.0, part.1)
 part-with catalogue block (Hash hashed) l r part = (part.0, part.1)
 
 -- and has the same rows
-rows-same : (catalogue more : Catalogue) (answer : Answering) (query : Query) → Covers catalogue query
+rows-same : (catalogue more : CatalogDef) (answer : Answering) (query : Query) → Covers catalogue query
     → rows_of answer (joined catalogue more) query (all_rows (joined catalogue more) query) ≡ rows_of answer catalogue query (all_rows catalogue query)
 rows-same catalogue more answer (One block limit) covered = λ i. base-same catalogue more block covered answer 1 i (view-same catalogue more (One block limit) covered i).first
 rows-same catalogue more answer (Set op left right limit) covered = λ i.
@@ -84,20 +84,20 @@ rows-same catalogue more answer (Set op left right limit) covered = λ i.
     (base-same catalogue more right covered.1 answer 2 i (view-same catalogue more (Set op left right limit) covered i).second)
 
 -- a join's part of a plan is one of a block
-part-joined : (catalogue : Catalogue) (query : Query) (number : ℕ) (core : JoinCore) (left right : PlanTree) → IsPartOf catalogue query number (tree_with core left right)
+part-joined : (catalogue : CatalogDef) (query : Query) (number : ℕ) (core : JoinCore) (left right : PlanTree) → IsPartOf catalogue query number (tree_with core left right)
     → IsPart catalogue (block_in query number) (tree_with core left right)
 part-joined catalogue query number (Nested other) left right part = part
 part-joined catalogue query number (Hash other) left right part = part
 
 -- the sides of a set operator are plans of both blocks
-side-parts : (catalogue : Catalogue) (query : Query) (number : ℕ) (left right : PlanTree) → IsPartOf catalogue query number (SetOperator left right)
+side-parts : (catalogue : CatalogDef) (query : Query) (number : ℕ) (left right : PlanTree) → IsPartOf catalogue query number (SetOperator left right)
     → IsPart catalogue (block_in query 1) left × IsPart catalogue (block_in query 2) right
 side-parts catalogue (One block limit) number left right part = absurd part
 side-parts catalogue (Set op l r limit) number left right part = (part.1.part, part.2.part)
 
 -- the indexes of a part of a plan go on to hold the answers
-indexes_of-larger : (catalogue more : Catalogue) (query : Query) (number : ℕ) → Covers catalogue query → (answer : Answering) (tree : PlanTree) → IsPartOf catalogue query number tree
-    → HoldIndexes answer catalogue tree → HoldIndexes answer (joined catalogue more) tree
+indexes_of-larger : (catalogue more : CatalogDef) (query : Query) (number : ℕ) → Covers catalogue query → (answer : Answering) (tree : PlanTree) → IsPartOf catalogue query number tree
+    → PlanIndexesHold answer catalogue tree → PlanIndexesHold answer (joined catalogue more) tree
 indexes_of-larger catalogue more query number covered answer (SeqScan entry) part holds = holds
 indexes_of-larger catalogue more query number covered answer (Rank term child) part holds = indexes_of-larger catalogue more query number covered answer child part.0 holds
 indexes_of-larger catalogue more query number covered answer (SetOperator left right) part holds =
@@ -108,7 +108,7 @@ indexes_of-larger catalogue more query number covered answer (SetOperator left r
 indexes_of-larger catalogue more query number covered answer tree part holds =
     indexes-larger catalogue more (block_in query number) (block-covered catalogue query number covered) answer tree part holds
 
-module _ (catalogue more : Catalogue) (answer : Answering) (query : Query) (covered : Covers catalogue query) where
+module _ (catalogue more : CatalogDef) (answer : Answering) (query : Query) (covered : Covers catalogue query) where
   abbrev small : World
   small = world_of catalogue answer query
 
@@ -341,7 +341,7 @@ module _ (catalogue more : Catalogue) (answer : Answering) (query : Query) (cove
         stands-larger 2 right (part-of catalogue query 2 (tree_in right) parts.1) is.3,
       )
 
-pub cursor-larger : (catalogue more : Catalogue) (answer : Answering) (cursor : CursorState) → StandsFor catalogue answer cursor → StandsFor (joined catalogue more) answer cursor
+pub cursor-larger : (catalogue more : CatalogDef) (answer : Answering) (cursor : CursorState) → StandsFor catalogue answer cursor → StandsFor (joined catalogue more) answer cursor
 cursor-larger catalogue more answer cursor stands =
     let query = cursor.query in
     let tree = plan_of cursor in

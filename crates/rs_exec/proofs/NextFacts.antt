@@ -9,7 +9,7 @@ use Rattle.rs_order.proofs.PartFacts.{In-slice_get}
 use Rattle.rs_rank.specs.Masks.{mask_of}
 use Rattle.rs_rank.specs.declared.row.RankRow.{RankRow}
 use Rattle.rs_rank.specs.declared.scored_row.ScoredRow.{ScoredRow}
-use Rattle.rs_catalog.specs.Catalogue.{Catalogue}
+use Rattle.rs_catalog.specs.Catalog.{CatalogDef}
 use Rattle.rs_catalog.specs.Indexes.{ranking_at}
 use Rattle.rs_query.specs.Choices.{IsChoice}
 use Rattle.rs_query.specs.Combinations.{satisfies}
@@ -90,7 +90,7 @@ pub record IsOfEntry (block entry rows : ℕ) (row : RankRow) : Type 0 where
   pub row_is : row ≡ entry_row block entry number sum
 
 -- the number of a row of the table of an entry makes a choice of this entry
-choice-entry : (catalogue : Catalogue) (bound : Block) (block entry number sum : ℕ) → 1 ≤ entry → entry ≤ 6 → 1 ≤ number → number ≤ size_of catalogue bound entry
+choice-entry : (catalogue : CatalogDef) (bound : Block) (block entry number sum : ℕ) → 1 ≤ entry → entry ≤ 6 → 1 ≤ number → number ≤ size_of catalogue bound entry
     → IsChoice (mask_of entry) (sizes_of catalogue bound) (entry_row block entry number sum).ids.rows
 choice-entry catalogue bound block zero number sum least few some most = absurd (omega arith)
 choice-entry catalogue bound block (suc zero) number sum least few some most = ((some, most), (refl, (refl, (refl, (refl, (refl, tt))))))
@@ -102,7 +102,7 @@ choice-entry catalogue bound block (suc (suc (suc (suc (suc (suc zero)))))) numb
 choice-entry catalogue bound block (suc (suc (suc (suc (suc (suc (suc entry))))))) number sum least few some most = absurd (omega arith)
 
 -- a row of an entry, where its block and the mask of the conjuncts that are looked at are given
-module _ (catalogue : Catalogue) (query : Query) (bound : Block) (block entry rows first conjuncts : ℕ) (row : RankRow) (is : IsOfEntry block entry rows row)
+module _ (catalogue : CatalogDef) (query : Query) (bound : Block) (block entry rows first conjuncts : ℕ) (row : RankRow) (is : IsOfEntry block entry rows row)
     (is_block : bound ≡ block_in query block) (scans : ScansEntry catalogue query block entry rows first) (same : conjuncts ≡ first) where
   -- it has a row of the table of the entry
   pub entry-rows : HasRows catalogue bound row.ids.mask row.ids.rows
@@ -226,7 +226,7 @@ index_asked old drawn = record old {
   tally = record old.tally { asked = old.tally.asked + 1 };
 }
 
-module _ (catalogue : Catalogue) (old loop : IndexNode) (is : loop ≡ index_asked old loop.scan.drawn) where
+module _ (catalogue : CatalogDef) (old loop : IndexNode) (is : loop ≡ index_asked old loop.scan.drawn) where
   -- it is of the same rows
   pub index-place : (row : Option RankRow) → row ≡ slice_get (rows_of_index catalogue loop.scan) loop.scan.drawn → slice_get (rows_of_index catalogue old.scan) loop.scan.drawn ≡ row
   index-place row there = sym (there ∙ ap (λ (node : IndexNode). slice_get (rows_of_index catalogue node.scan) loop.scan.drawn) is)

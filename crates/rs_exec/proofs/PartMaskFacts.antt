@@ -9,7 +9,7 @@ use Rattle.std.proofs.lemmas.Nat.Bits.{bit_at-lt, bit_at-pow_other, bit_at-zero,
 use Rattle.std.proofs.lemmas.Option.{same_Some}
 use Rattle.rs_order.proofs.EachFacts.{each-slice_get}
 use Rattle.rs_rank.specs.Masks.{AreDisjoint, has_number, mask_of}
-use Rattle.rs_catalog.specs.Catalogue.{Catalogue}
+use Rattle.rs_catalog.specs.Catalog.{CatalogDef}
 use Rattle.rs_query.specs.Meaning.{is_inside}
 use Rattle.rs_query.specs.WellFormed.{IsBlock, IsTerm, argument_columns, entries_mask}
 use Rattle.rs_query.specs.declared.block.Block.{Block}
@@ -31,7 +31,7 @@ mask-few entry most some within few =
     omega arith
 
 -- the entries are among six
-pub entries-few : (catalogue : Catalogue) (block : Block) (tree : PlanTree) → length block.from ≤ 6 → IsPart catalogue block tree → entries tree < 2 ^ 6
+pub entries-few : (catalogue : CatalogDef) (block : Block) (tree : PlanTree) → length block.from ≤ 6 → IsPart catalogue block tree → entries tree < 2 ^ 6
 entries-few catalogue block (SeqScan entry) few part = mask-few entry (length block.from) part.some part.most few
 entries-few catalogue block (RankScan entry term index) few part = mask-few entry (length block.from) part.is_entry.some part.is_entry.most few
 entries-few catalogue block (Rank term child) few part = entries-few catalogue block child few part.0
@@ -76,7 +76,7 @@ in-either m n place bit =
     ]
 
 -- each term that is evaluated is one of the block, and speaks of entries of the part alone
-pub terms-inside : (catalogue : Catalogue) (block : Block) (tree : PlanTree) → IsPart catalogue block tree → (place : ℕ) → bit_at (terms tree) place ≡ 1
+pub terms-inside : (catalogue : CatalogDef) (block : Block) (tree : PlanTree) → IsPart catalogue block tree → (place : ℕ) → bit_at (terms tree) place ≡ 1
     → HasTerm block place (entries tree)
 terms-inside catalogue block (SeqScan entry) part place bit = let none = bit_at-zero place in absurd (omega arith)
 terms-inside catalogue block (RankScan entry term index) part place bit =
@@ -116,7 +116,7 @@ in-both m n number apart left right =
     omega arith
 
 -- a term has a column, so not all its entries are in each of two masks that share none
-not-in-both : (catalogue : Catalogue) (block : Block) (term : Term) (m n : ℕ) → IsTerm catalogue block term → AreDisjoint m n
+not-in-both : (catalogue : CatalogDef) (block : Block) (term : Term) (m n : ℕ) → IsTerm catalogue block term → AreDisjoint m n
     → is_inside term.entries m ≡ true → is_inside term.entries n ≡ true → ⊥
 not-in-both catalogue block term m n is apart left right =
     go (argument_columns term.args) is.some_column
@@ -128,7 +128,7 @@ not-in-both catalogue block term m n is apart left right =
         in-both m n column.0 apart (columns-have (column ∷ columns) m l column (inl refl)) (columns-have (column ∷ columns) n r column (inl refl))
 
 -- two parts that share no entry evaluate no term both
-pub terms-apart : (catalogue : Catalogue) (block : Block) (left right : PlanTree) → IsBlock catalogue block → IsPart catalogue block left → IsPart catalogue block right
+pub terms-apart : (catalogue : CatalogDef) (block : Block) (left right : PlanTree) → IsBlock catalogue block → IsPart catalogue block left → IsPart catalogue block right
     → AreDisjoint (entries left) (entries right) → AreDisjoint (terms left) (terms right)
 terms-apart catalogue block left right formed l r apart = same_from_bits (bit_and (terms left) (terms right)) 0 (λ place.
     let both = bit_at_and (terms left) (terms right) place in
@@ -150,7 +150,7 @@ terms-apart catalogue block left right formed l r apart = same_from_bits (bit_an
     ])
 
 -- so they are two sides that can be joined
-pub can-join : (catalogue : Catalogue) (block : Block) (weights : Weights) (left right : PlanTree) → IsBlock catalogue block → IsPart catalogue block left → IsPart catalogue block right
+pub can-join : (catalogue : CatalogDef) (block : Block) (weights : Weights) (left right : PlanTree) → IsBlock catalogue block → IsPart catalogue block left → IsPart catalogue block right
     → AreJoined left right → IsWeights weights → CanJoin weights (side_for left) (side_for right)
 can-join catalogue block weights left right formed l r joined limits = record {
   limits = limits;

@@ -14,7 +14,7 @@ use Rattle.rs_rank.specs.declared.answer.Answer.{Answer}
 use Rattle.rs_rank.specs.declared.ids.Ids.{Ids}
 use Rattle.rs_rank.specs.declared.row.RankRow.{RankRow}
 use Rattle.rs_expr.specs.Scoring.{Answering}
-use Rattle.rs_catalog.specs.Catalogue.{Catalogue}
+use Rattle.rs_catalog.specs.Catalog.{CatalogDef}
 use Rattle.rs_value.specs.declared.set_op.SetOp.{SetOp}
 use Rattle.rs_value.specs.declared.set_op.SetOp.TheVariants.{UnionAll, Union, Intersect, Except}
 use Rattle.rs_query.specs.Answers.{base_of, occurs_in, set_base}
@@ -40,29 +40,29 @@ use Rattle.rs_exec.proofs.FewFacts.{base-few, filter-less, length-firsts, source
 use Rattle.rs_exec.proofs.ListFacts.{IsOf, each-base, each-source, list-length, unsorted}
 
 -- a part of a plan of a block is one of the query
-pub part-of : (catalogue : Catalogue) (query : Query) (number : ℕ) (tree : PlanTree) → IsPart catalogue (block_in query number) tree → IsPartOf catalogue query number tree
+pub part-of : (catalogue : CatalogDef) (query : Query) (number : ℕ) (tree : PlanTree) → IsPart catalogue (block_in query number) tree → IsPartOf catalogue query number tree
 part-of catalogue query number (Rank term child) part = (part-of catalogue query number child part.0, part.1)
 part-of catalogue query number (SetOperator left right) part = absurd part
 part-of catalogue query number tree part = part
 
 -- a plan is one
-plan-set : (catalogue : Catalogue) (op : SetOp) (left right : Block) (limit : Option ℕ) (tree : PlanTree) → IsSetPlan catalogue left right tree
+plan-set : (catalogue : CatalogDef) (op : SetOp) (left right : Block) (limit : Option ℕ) (tree : PlanTree) → IsSetPlan catalogue left right tree
     → IsPartOf catalogue (Set op left right limit) 1 tree
 plan-set catalogue op left right limit (Rank term child) plan = (plan-set catalogue op left right limit child plan.0, plan.1)
 plan-set catalogue op left right limit (SetOperator l r) plan = (refl, plan.0, plan.1, plan.2)
 plan-set catalogue op left right limit tree plan = absurd plan
 
-pub plan-part : (catalogue : Catalogue) (query : Query) (tree : PlanTree) → IsPlan catalogue query tree → IsPartOf catalogue query 1 tree
+pub plan-part : (catalogue : CatalogDef) (query : Query) (tree : PlanTree) → IsPlan catalogue query tree → IsPartOf catalogue query 1 tree
 plan-part catalogue (One block limit) tree plan = part-of catalogue (One block limit) 1 tree plan.0.part
 plan-part catalogue (Set op left right limit) tree plan = plan-set catalogue op left right limit tree plan.0
 
 -- it ranges over all entries
-set-entries : (catalogue : Catalogue) (left right : Block) (tree : PlanTree) → IsSetPlan catalogue left right tree → entries tree ≡ all_entries left
+set-entries : (catalogue : CatalogDef) (left right : Block) (tree : PlanTree) → IsSetPlan catalogue left right tree → entries tree ≡ all_entries left
 set-entries catalogue left right (Rank term child) plan = set-entries catalogue left right child plan.0
 set-entries catalogue left right (SetOperator l r) plan = plan.0.all
 set-entries catalogue left right tree plan = absurd plan
 
-pub plan-entries : (catalogue : Catalogue) (query : Query) (tree : PlanTree) → IsPlan catalogue query tree → entries tree ≡ all_entries (block_in query 1)
+pub plan-entries : (catalogue : CatalogDef) (query : Query) (tree : PlanTree) → IsPlan catalogue query tree → entries tree ≡ all_entries (block_in query 1)
 plan-entries catalogue (One block limit) tree plan = plan.0.all
 plan-entries catalogue (Set op left right limit) tree plan = set-entries catalogue left right tree plan.0
 
@@ -87,7 +87,7 @@ length-set Intersect lefts rights =
 length-set Except lefts rights =
     let few = length-firsts (filter (λ a. not (occurs_in rights a)) lefts) in let kept = filter-less (λ a. not (occurs_in rights a)) lefts in omega arith
 
-module _ (catalogue : Catalogue) (answer : Answering) where
+module _ (catalogue : CatalogDef) (answer : Answering) where
   placed-rows : (query : Query) (number mask : ℕ) (ids : Ids) → ids.block ≡ number → ids.mask ≡ mask → HasRows catalogue (block_in query number) mask ids.rows
       → HasRows catalogue (block_in query ids.block) ids.mask ids.rows
   placed-rows query number mask ids block is_mask rows =
@@ -183,13 +183,13 @@ module _ (catalogue : Catalogue) (answer : Answering) where
       let same = list-length (world_of catalogue answer query) number tree in let all = few-placed query number tree has tables part in omega arith
 
 -- a term of the block of a row, all of whose entries the row has
-pub record TermFor (catalogue : Catalogue) (query : Query) (number : ℕ) (ids : Ids) : Type 0 where
+pub record TermFor (catalogue : CatalogDef) (query : Query) (number : ℕ) (ids : Ids) : Type 0 where
   pub term : Term
   pub there : slice_get (block_in query ids.block).terms (number - 1) ≡ Some term
   pub inside : is_inside term.entries ids.mask ≡ true
 
 -- a term that is evaluated above a part of a plan is one of the block of each of its rows
-pub row-term : (catalogue : Catalogue) (answer : Answering) (query : Query) (number term : ℕ) (child : PlanTree) (ids : Ids) → IsQuery catalogue query
+pub row-term : (catalogue : CatalogDef) (answer : Answering) (query : Query) (number term : ℕ) (child : PlanTree) (ids : Ids) → IsQuery catalogue query
     → IsRank (block_in query number) term child → IsPlaced (world_of catalogue answer query) number (entries child) ids → TermFor catalogue query term ids
 row-term catalogue answer query number term child ids formed rank placed = elim placed.place [
   | inl at ↦ record {
@@ -216,7 +216,7 @@ row-term catalogue answer query number term child ids formed rank placed = elim 
     }
 
 -- a row of all entries of its block has those of its output columns
-pub can-put_out : (catalogue : Catalogue) (query : Query) (row : RankRow) → IsQuery catalogue query → row.ids.mask ≡ all_entries (block_in query row.ids.block)
+pub can-put_out : (catalogue : CatalogDef) (query : Query) (row : RankRow) → IsQuery catalogue query → row.ids.mask ≡ all_entries (block_in query row.ids.block)
     → HasRows catalogue (block_in query row.ids.block) row.ids.mask row.ids.rows → CanPutOut catalogue query row
 can-put_out catalogue query row formed mask rows =
     let block = block-formed catalogue query row.ids.block formed in

@@ -21,7 +21,7 @@ use Rattle.rs_rank.proofs.WeightFacts.{sum_inside-one}
 use Rattle.rs_mu.specs.Mu.{IsNewTerm}
 use Rattle.rs_mu.specs.Stands.{Evaluation, IsInput, answers, asks_of, new_key, old_key, with_worth}
 use Rattle.rs_mu.proofs.StandFacts.{asks-grow, row_key}
-use Rattle.rs_catalog.specs.Catalogue.{Catalogue}
+use Rattle.rs_catalog.specs.Catalog.{CatalogDef}
 use Rattle.rs_query.specs.Answers.{worth_of}
 use Rattle.rs_query.specs.Questions.{Question}
 use Rattle.rs_query.specs.WellFormed.{IsQuery}
@@ -108,7 +108,7 @@ module _ (w : World) (number term : ℕ) (child : PlanTree) where
         let within = slice_get_within (numbered_block w number).terms (term - 1) part.1.term is.there in
         let few = few-terms w.catalogue w.query number formed in
         record { least = is.some; most = omega arith; absent = part.1.absent } where
-          few-terms : (catalogue : Catalogue) (query : Query) (number : ℕ) → IsQuery catalogue query → length (block_in query number).terms ≤ 8
+          few-terms : (catalogue : CatalogDef) (query : Query) (number : ℕ) → IsQuery catalogue query → length (block_in query number).terms ≤ 8
           few-terms catalogue (One block limit) number formed = formed.0.most_terms
           few-terms catalogue (Set op left right limit) number formed =
               elim (eqb number 1) as (λ b. length (cond b left right).terms ≤ 8) [

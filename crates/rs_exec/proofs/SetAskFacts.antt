@@ -14,7 +14,7 @@ use Rattle.rs_rank.specs.declared.key.Key.{Key}
 use Rattle.rs_rank.proofs.OrderFacts.{key_cmp-total}
 use Rattle.rs_rank.specs.SetTurns.{one_by_one, set_schedule, wanted_for}
 use Rattle.rs_expr.specs.Scoring.{Answering}
-use Rattle.rs_catalog.specs.Catalogue.{Catalogue}
+use Rattle.rs_catalog.specs.Catalog.{CatalogDef}
 use Rattle.rs_query.specs.Views.{View}
 use Rattle.rs_query.specs.declared.query.Query.{Query}
 use Rattle.rs_query.specs.declared.query.Query.TheVariants.{One, Set}
@@ -97,7 +97,7 @@ right-asked op.Except lefts rights bar climbs = let count = right-count rights l
 keys-climb : (w : World) (number : ℕ) (tree : PlanTree) → Climbs key_cmp (λ (k : Key). k) (keys_of w number tree)
 keys-climb w number tree = climbs-map key_cmp (λ (k : Key). k) (key_under w (terms tree)) (list_of w number tree) (list-climbs w number tree)
 
-module _ (catalogue : Catalogue) (answer : Answering) (view : View) (left right : PlanTree) (n : ℕ) where
+module _ (catalogue : CatalogDef) (answer : Answering) (view : View) (left right : PlanTree) (n : ℕ) where
   pub left-asks : (query : Query) → AreSides catalogue query 1 left right
       → asked_of (seen catalogue answer view query) 1 (SetOperator left right) (suc n) Left
       ≡ asks_for key_cmp (λ (k : Key). k) (keys_of (seen catalogue answer view query) 1 left) (bar_of (seen catalogue answer view query) 1 (SetOperator left right) n)

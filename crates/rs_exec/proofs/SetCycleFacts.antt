@@ -8,7 +8,7 @@ use Rattle.rs_expr.specs.Scoring.{ScorerState}
 use Rattle.rs_rank.specs.Rows.{HasSum}
 use Rattle.rs_rank.specs.declared.ask.JoinAsk.TheVariants.{End, NeedLeft, NeedRight, Ready}
 use Rattle.rs_rank.specs.declared.row.RankRow.{RankRow}
-use Rattle.rs_catalog.specs.Catalogue.{Catalogue}
+use Rattle.rs_catalog.specs.Catalog.{CatalogDef}
 use Rattle.rs_query.specs.declared.query.Query.{Query}
 use Rattle.rs_plan.specs.Asks.{child_asks}
 use Rattle.rs_plan.specs.Counts.{asked_of, gave_of}
@@ -62,7 +62,7 @@ module _ (w : World) (self : Node) (head after : SetNode) (left_box right_box : 
 
 -- during ask a + 1 of a set operator, between two asks of its sides: the sides are of these trees, and stand, and the operator stands
 -- between these asks
-pub record SetTurn (catalogue : Catalogue) (query : Query) (left right : PlanTree) (a : ℕ) (old : ScorerState) (head : SetNode) (on_left on_right : Node) (now : ScorerState) : Type 0 where
+pub record SetTurn (catalogue : CatalogDef) (query : Query) (left right : PlanTree) (a : ℕ) (old : ScorerState) (head : SetNode) (on_left on_right : Node) (now : ScorerState) : Type 0 where
   pub left_tree : tree_in on_left ≡ left
   pub right_tree : tree_in on_right ≡ right
   pub left_stands : Stands (world_of catalogue old.answer query) 1 on_left
@@ -72,7 +72,7 @@ pub record SetTurn (catalogue : Catalogue) (query : Query) (left right : PlanTre
   pub between : SetBetween (world_of catalogue old.answer query) left right a (asked_in on_left) (asked_in on_right) head.core old now
 
 -- at its start
-pub set_turn-start : (catalogue : Catalogue) (query : Query) (head : SetNode) (on_left on_right : Node) (old : ScorerState)
+pub set_turn-start : (catalogue : CatalogDef) (query : Query) (head : SetNode) (on_left on_right : Node) (old : ScorerState)
     → CanAsk (world_of catalogue old.answer query) 1 (SetOperator (tree_in on_left) (tree_in on_right)) head.tally.asked
     → SetStands (world_of catalogue old.answer query) head (tree_in on_left) (tree_in on_right) (asked_in on_left) (asked_in on_right)
     → Stands (world_of catalogue old.answer query) 1 on_left → Stands (world_of catalogue old.answer query) 2 on_right
@@ -95,7 +95,7 @@ set_turn-start catalogue query head on_left on_right old can stands left right t
           stands.core stands.left_asked stands.right_asked;
     }
 
-module _ {catalogue : Catalogue} {query : Query} {left right : PlanTree} {a : ℕ} {old : ScorerState} {head : SetNode} {on_left on_right : Node} {now : ScorerState}
+module _ {catalogue : CatalogDef} {query : Query} {left right : PlanTree} {a : ℕ} {old : ScorerState} {head : SetNode} {on_left on_right : Node} {now : ScorerState}
     (turn : SetTurn catalogue query left right a old head on_left on_right now) (can : CanAsk (world_of catalogue old.answer query) 1 (SetOperator left right) a) where
   abbrev whole : World
   whole = world_of catalogue old.answer query

@@ -11,7 +11,7 @@ use Rattle.rs_rank.specs.Weights.{IsWeights}
 use Rattle.rs_rank.specs.declared.answer.Answer.{Answer}
 use Rattle.rs_rank.specs.declared.ids.Ids.{Ids}
 use Rattle.rs_expr.specs.Scoring.{Answering}
-use Rattle.rs_catalog.specs.Catalogue.{Catalogue}
+use Rattle.rs_catalog.specs.Catalog.{CatalogDef}
 use Rattle.rs_value.specs.declared.set_op.SetOp.{SetOp}
 use Rattle.rs_value.specs.declared.set_op.SetOp.TheVariants as op
 use Rattle.rs_outputs.specs.Rows.{OutputRow, firsts as output_firsts, occurs_in as output_occurs}
@@ -89,7 +89,7 @@ module _ (w : World) (mask : ℕ) where
       before (other ∷ others) k = (k.0, before others k.1)
 
 -- the two sides of the set operator of a query
-module _ (catalogue : Catalogue) (answer : Answering) (view : View) (o : SetOp) (left_block right_block : Block) (limit : Option ℕ) (left right : PlanTree) where
+module _ (catalogue : CatalogDef) (answer : Answering) (view : View) (o : SetOp) (left_block right_block : Block) (limit : Option ℕ) (left right : PlanTree) where
   abbrev pub set_world : World
   set_world = record { catalogue = catalogue; answer = answer; query = Set o left_block right_block limit; view = view }
 

@@ -1,7 +1,7 @@
 -- The numbers that stand in the plans of a set query.
 use Rattle.std.proofs.Common.{◌-◌, arith}
 use Rattle.std.proofs.lemmas.Option.{slice_get_within}
-use Rattle.rs_catalog.specs.Catalogue.{Catalogue}
+use Rattle.rs_catalog.specs.Catalog.{CatalogDef}
 use Rattle.rs_query.specs.WellFormed.{AreSetSides}
 use Rattle.rs_query.specs.declared.block.Block.{Block}
 use Rattle.rs_plan.specs.Numbers.{HasNumbers}
@@ -9,7 +9,7 @@ use Rattle.rs_plan.specs.Plans.{IsSetPlan}
 use Rattle.rs_plan.specs.Trees.{Rank, SetOperator, PlanTree}
 use Rattle.rs_plan.proofs.DecidingFacts.{part-numbers}
 
-pub set-numbers : (catalogue : Catalogue) (left right : Block) (tree : PlanTree) → AreSetSides catalogue left right → IsSetPlan catalogue left right tree → HasNumbers tree
+pub set-numbers : (catalogue : CatalogDef) (left right : Block) (tree : PlanTree) → AreSetSides catalogue left right → IsSetPlan catalogue left right tree → HasNumbers tree
 set-numbers catalogue left right (Rank term child) sides is =
     let inside = slice_get_within left.terms (term - 1) is.1.term is.1.is_term.there in
     let most = sides.left_block.most_terms in

@@ -1,7 +1,7 @@
 -- The nodes of a plan of a query, as they are made, stand before any ask.
 use Rattle.std.proofs.Common.{◌≡◌, ◌∙◌, ℕ, [], Option, length, refl, sym, ap, ap₂, subst, inl, inr}
 use Rattle.rs_mu.specs.Mu.{new_mu}
-use Rattle.rs_catalog.specs.Catalogue.{Catalogue}
+use Rattle.rs_catalog.specs.Catalog.{CatalogDef}
 use Rattle.rs_expr.specs.Scoring.{Answering}
 use Rattle.rs_query.specs.Answers.{weights_of}
 use Rattle.rs_query.specs.WellFormed.{IsQuery}
@@ -32,29 +32,29 @@ use Rattle.rs_exec.proofs.SetStepFacts.{set-facts}
 use Rattle.rs_exec.proofs.StartFacts.{none-given, rank-none, start-asked, start-stands, start-tree}
 
 -- the nodes are of the tree that they were made for
-set-tree : (catalogue : Catalogue) (op : SetOp) (left_block right_block : Block) (tree : PlanTree) (n : Node) → IsSetStart catalogue op left_block right_block tree n → tree_in n ≡ tree
+set-tree : (catalogue : CatalogDef) (op : SetOp) (left_block right_block : Block) (tree : PlanTree) (n : Node) → IsSetStart catalogue op left_block right_block tree n → tree_in n ≡ tree
 set-tree catalogue op left_block right_block (Rank term child) (node.Rank' head p below) is =
     ap (λ (h : RankNode). Rank h.term (tree_in below)) is.0 ∙ ap (Rank term) (set-tree catalogue op left_block right_block child below is.1)
 set-tree catalogue op left_block right_block (SetOperator left right) (node.Set' head p l q r) is =
     ap₂ SetOperator (start-tree catalogue left_block 1 left l is.1) (start-tree catalogue right_block 2 right r is.2)
 set-tree catalogue op left_block right_block tree n is = absurd is
 
-pub query-tree : (catalogue : Catalogue) (query : Query) (tree : PlanTree) (n : Node) → IsQueryStart catalogue query tree n → tree_in n ≡ tree
+pub query-tree : (catalogue : CatalogDef) (query : Query) (tree : PlanTree) (n : Node) → IsQueryStart catalogue query tree n → tree_in n ≡ tree
 query-tree catalogue (One block limit) tree n is = start-tree catalogue block 1 tree n is
 query-tree catalogue (Set op left right limit) tree n is = set-tree catalogue op left right tree n is
 
 -- they were not asked
-set-unasked : (catalogue : Catalogue) (op : SetOp) (left_block right_block : Block) (tree : PlanTree) (n : Node) → IsSetStart catalogue op left_block right_block tree n → asked_in n ≡ 0
+set-unasked : (catalogue : CatalogDef) (op : SetOp) (left_block right_block : Block) (tree : PlanTree) (n : Node) → IsSetStart catalogue op left_block right_block tree n → asked_in n ≡ 0
 set-unasked catalogue op left_block right_block (Rank term child) (node.Rank' head p below) is = ap (λ (h : RankNode). h.tally.asked) is.0
 set-unasked catalogue op left_block right_block (SetOperator left right) (node.Set' head p l q r) is = ap (λ (h : SetNode). h.tally.asked) is.0
 set-unasked catalogue op left_block right_block tree n is = absurd is
 
-pub query-asked : (catalogue : Catalogue) (query : Query) (tree : PlanTree) (n : Node) → IsQueryStart catalogue query tree n → asked_in n ≡ 0
+pub query-asked : (catalogue : CatalogDef) (query : Query) (tree : PlanTree) (n : Node) → IsQueryStart catalogue query tree n → asked_in n ≡ 0
 query-asked catalogue (One block limit) tree n is = start-asked catalogue block 1 tree n is
 query-asked catalogue (Set op left right limit) tree n is = set-unasked catalogue op left right tree n is
 
 -- and they stand
-module _ (catalogue : Catalogue) (answer : Answering) (op : SetOp) (left_block right_block : Block) (limit : Option ℕ) (formed : IsQuery catalogue (Set op left_block right_block limit))
+module _ (catalogue : CatalogDef) (answer : Answering) (op : SetOp) (left_block right_block : Block) (limit : Option ℕ) (formed : IsQuery catalogue (Set op left_block right_block limit))
     (weights : IsWeights (weights_of left_block)) where
   abbrev query : Query
   query = Set op left_block right_block limit
@@ -91,7 +91,7 @@ module _ (catalogue : Catalogue) (answer : Answering) (op : SetOp) (left_block r
       )
   set-stands tree n plan is = absurd is
 
-pub query-stands : (catalogue : Catalogue) (answer : Answering) (query : Query) (tree : PlanTree) (n : Node) → IsQuery catalogue query → IsWeights (weights_of (block_in query 1))
+pub query-stands : (catalogue : CatalogDef) (answer : Answering) (query : Query) (tree : PlanTree) (n : Node) → IsQuery catalogue query → IsWeights (weights_of (block_in query 1))
     → IsPlan catalogue query tree → IsQueryStart catalogue query tree n
     → Stands (world_of catalogue answer query) 1 n
 query-stands catalogue answer (One block limit) tree n formed weights plan is =

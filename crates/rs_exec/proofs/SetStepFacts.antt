@@ -17,7 +17,7 @@ use Rattle.rs_rank.specs.declared.row.RankRow.{RankRow}
 use Rattle.rs_rank.specs.SetTurns.{set_schedule}
 use Rattle.rs_expr.specs.InOrder.{Inquires}
 use Rattle.rs_expr.specs.Scoring.{Answering, ScorerState}
-use Rattle.rs_catalog.specs.Catalogue.{Catalogue}
+use Rattle.rs_catalog.specs.Catalog.{CatalogDef}
 use Rattle.rs_outputs.specs.Rows.{OutputRow}
 use Rattle.rs_query.specs.Questions.{Question}
 use Rattle.rs_query.specs.Tables.{all_entries}
@@ -38,7 +38,7 @@ use Rattle.rs_plan.specs.Plans.{IsPart}
 use Rattle.rs_plan.specs.Trees.{SetOperator, PlanTree, entries, terms}
 use Rattle.rs_exec.specs.Asked.{CanAsk, HasBlock}
 use Rattle.rs_exec.specs.Asking.{exec_faults, next_row, world_of}
-use Rattle.rs_exec.specs.Indexes.{HoldIndexes}
+use Rattle.rs_exec.specs.Indexes.{PlanIndexesHold}
 use Rattle.rs_exec.specs.Outputs.{CanPutOut, output_row, outputs_in, values_for}
 use Rattle.rs_exec.specs.Parts.{AreSides}
 use Rattle.rs_exec.specs.SetCores as set
@@ -71,10 +71,10 @@ pub record SetFacts (w : World) (left right : PlanTree) : Type 0 where
   pub right_all : entries right ≡ all_entries (block_in w.query 2)
 
 -- a query that sees this many rows
-abbrev pub seen : Catalogue → Answering → View → Query → World
+abbrev pub seen : CatalogDef → Answering → View → Query → World
 seen catalogue answer view query = record { catalogue = catalogue; answer = answer; query = query; view = view }
 
-pub set-facts : (catalogue : Catalogue) (answer : Answering) (view : View) (query : Query) (number : ℕ) (left right : PlanTree) → IsQuery catalogue query → IsWeights (weights_in (seen catalogue answer view query))
+pub set-facts : (catalogue : CatalogDef) (answer : Answering) (view : View) (query : Query) (number : ℕ) (left right : PlanTree) → IsQuery catalogue query → IsWeights (weights_in (seen catalogue answer view query))
     → AreSides catalogue query number left right → SetFacts (seen catalogue answer view query) left right
 set-facts catalogue answer view (One block limit) number left right formed weights parts = absurd parts
 set-facts catalogue answer view (Set o l r limit) number left right formed weights parts =
@@ -140,7 +140,7 @@ pub record SetAsked (w : World) (left right : PlanTree) (a left_asks right_asks 
       (child_asks w 1 (SetOperator left right) (suc a)) (gave_of w 1 (SetOperator left right) (suc a)) core
 
 -- the operator can be asked once more
-module _ (catalogue : Catalogue) (query : Query) (left right : PlanTree) (a : ℕ) (old : ScorerState) (can : CanAsk (world_of catalogue old.answer query) 1 (SetOperator left right) a) where
+module _ (catalogue : CatalogDef) (query : Query) (left right : PlanTree) (a : ℕ) (old : ScorerState) (can : CanAsk (world_of catalogue old.answer query) 1 (SetOperator left right) a) where
   abbrev w : World
   w = world_of catalogue old.answer query
 
@@ -239,7 +239,7 @@ module _ (catalogue : Catalogue) (query : Query) (left right : PlanTree) (a : �
     -- a side that is asked once more
     module _ (x : SideAsk) (number : ℕ) (side : PlanTree) (asks : ℕ)
         (is : side_part (questions (world_of catalogue old.answer query) 1 left) (questions (world_of catalogue old.answer query) 2 right) x ≡ questions_of_ask (world_of catalogue old.answer query) number side (suc asks)) where
-      side-can : HasBlock query number → IsPart catalogue (block_in query number) side → HoldIndexes old.answer catalogue side
+      side-can : HasBlock query number → IsPart catalogue (block_in query number) side → PlanIndexesHold old.answer catalogue side
           → asks ≤ length (list_of (world_of catalogue old.answer query) number side) → CanAsk (world_of catalogue now.answer query) number side asks
       side-can has part indexes most =
           subst (λ answer. CanAsk (world_of catalogue answer query) number side asks) (sym between.all_asked.keeps.answer)

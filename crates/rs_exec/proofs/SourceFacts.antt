@@ -4,7 +4,7 @@ use Rattle.std.proofs.lemmas.Bool.{true≢false}
 use Rattle.rs_rank.specs.declared.answer.Answer.{Answer}
 use Rattle.rs_rank.specs.declared.ids.Ids.{Ids}
 use Rattle.rs_expr.specs.Scoring.{Answering}
-use Rattle.rs_catalog.specs.Catalogue.{Catalogue}
+use Rattle.rs_catalog.specs.Catalog.{CatalogDef}
 use Rattle.rs_value.specs.declared.set_op.SetOp.{SetOp}
 use Rattle.rs_query.specs.Answers.{all_terms, base_of, distinct_if, answer_row, rows_of}
 use Rattle.rs_query.specs.Combinations.{combinations}
@@ -80,7 +80,7 @@ module _ (w : World) where
         ∙ ids-rows number (all number)
         ∙ ap (λ b. ids_in (distinct_if b (map (row number) (all number)))) (sym plain)
 
-module _ (catalogue : Catalogue) (answer : Answering) (view : View) where
+module _ (catalogue : CatalogDef) (answer : Answering) (view : View) where
   abbrev world : Query → World
   world query = record { catalogue = catalogue; answer = answer; query = query; view = view }
 
@@ -99,6 +99,6 @@ pub sources-plan : (w : World) (tree : PlanTree) → IsPlan w.catalogue w.query 
 sources-plan w tree plan = sources-query w.catalogue w.answer w.view w.query tree plan
 
 -- a plan evaluates all terms
-pub terms-plan : (catalogue : Catalogue) (query : Query) (tree : PlanTree) → IsPlan catalogue query tree → terms tree ≡ all_terms (block_in query 1)
+pub terms-plan : (catalogue : CatalogDef) (query : Query) (tree : PlanTree) → IsPlan catalogue query tree → terms tree ≡ all_terms (block_in query 1)
 terms-plan catalogue (One block limit) tree plan = plan.1
 terms-plan catalogue (Set op left right limit) tree plan = plan.1

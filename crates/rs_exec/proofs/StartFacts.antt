@@ -8,7 +8,7 @@ use Rattle.rs_mu.specs.Mu.{new_mu}
 use Rattle.rs_query.specs.Answers.{weights_of}
 use Rattle.rs_query.specs.Tables.{size_of, sizes_of}
 use Rattle.rs_query.specs.declared.block.Block.{Block}
-use Rattle.rs_catalog.specs.Catalogue.{Catalogue}
+use Rattle.rs_catalog.specs.Catalog.{CatalogDef}
 use Rattle.rs_rank.specs.declared.weights.Weights.{Weights}
 use Rattle.rs_plan.specs.Counts.{size_at}
 use Rattle.rs_plan.specs.Lists.{World, list_of, numbered_block, sizes_in, weights_in}
@@ -35,7 +35,7 @@ use Rattle.rs_exec.specs.declared.scan.TableNode.{TableNode}
 use Rattle.rs_exec.specs.declared.tally.Tally.{Tally}
 
 -- the nodes are of the tree that they were made for
-pub start-tree : (catalogue : Catalogue) (block : Block) (number : ℕ) (tree : PlanTree) (n : Node) → IsStart catalogue block number tree n → tree_in n ≡ tree
+pub start-tree : (catalogue : CatalogDef) (block : Block) (number : ℕ) (tree : PlanTree) (n : Node) → IsStart catalogue block number tree n → tree_in n ≡ tree
 start-tree catalogue block number (SeqScan entry) (node.SeqScan head) is = ap (λ (h : TableNode). SeqScan h.entry) is
 start-tree catalogue block number (RankScan entry term index) (node.RankScan head) is = ap (λ (h : IndexNode). RankScan h.entry h.term h.scan.index) is
 start-tree catalogue block number (Rank term child) (node.Rank' head p below) is =
@@ -50,7 +50,7 @@ start-tree catalogue block number (Distinct child) (node.Distinct' head p below)
 start-tree catalogue block number tree n is = absurd is
 
 -- they were not asked
-pub start-asked : (catalogue : Catalogue) (block : Block) (number : ℕ) (tree : PlanTree) (n : Node) → IsStart catalogue block number tree n → asked_in n ≡ 0
+pub start-asked : (catalogue : CatalogDef) (block : Block) (number : ℕ) (tree : PlanTree) (n : Node) → IsStart catalogue block number tree n → asked_in n ≡ 0
 start-asked catalogue block number (SeqScan entry) (node.SeqScan head) is = ap (λ (h : TableNode). h.tally.asked) is
 start-asked catalogue block number (RankScan entry term index) (node.RankScan head) is = ap (λ (h : IndexNode). h.tally.asked) is
 start-asked catalogue block number (Rank term child) (node.Rank' head p below) is = ap (λ (h : RankNode). h.tally.asked) is.0

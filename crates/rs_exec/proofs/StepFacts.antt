@@ -20,7 +20,7 @@ use Rattle.rs_mu.specs.Stands.{Evaluation, Stands as MuStands, asks_of, old_key,
 use Rattle.rs_mu.proofs.AnswerFacts.{length-answers}
 use Rattle.rs_mu.proofs.StandFacts.{Tells, asks-grow, asks-most, asks_of-upto, length-sorted, row_key, stands-tells}
 use Rattle.rs_mu.proofs.StepFacts.{ended-can, ended-stands, fed-can, fed-stands, taken-stands}
-use Rattle.rs_catalog.specs.Catalogue.{Catalogue}
+use Rattle.rs_catalog.specs.Catalog.{CatalogDef}
 use Rattle.rs_query.specs.Answers.{worth_of}
 use Rattle.rs_query.specs.Questions.{Question, question_of}
 use Rattle.rs_query.specs.declared.query.Query.{Query}
@@ -121,7 +121,7 @@ head-is n core term tally calls p q r s =
     ∙ ap (λ c. record { core = core; term = term; args = tt; tally = tally; calls = c }) s
 
 -- the operator can be asked once more
-module _ (catalogue : Catalogue) (query : Query) (number term : ℕ) (child : PlanTree) (a : ℕ) (old : ScorerState)
+module _ (catalogue : CatalogDef) (query : Query) (number term : ℕ) (child : PlanTree) (a : ℕ) (old : ScorerState)
     (can : CanAsk (world_of catalogue old.answer query) number (Rank term child) a) where
   abbrev w : World
   w = world_of catalogue old.answer query

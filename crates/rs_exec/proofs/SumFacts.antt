@@ -11,7 +11,7 @@ use Rattle.rs_rank.specs.Rows.{HasSum}
 use Rattle.rs_rank.specs.Weights.{sum_inside}
 use Rattle.rs_rank.specs.declared.ids.Ids.{Ids}
 use Rattle.rs_expr.specs.Scoring.{Answering}
-use Rattle.rs_catalog.specs.Catalogue.{Catalogue}
+use Rattle.rs_catalog.specs.Catalog.{CatalogDef}
 use Rattle.rs_query.specs.Answers.{clamped, scorer_answer, padded, predicate_at, worth_of}
 use Rattle.rs_query.specs.WellFormed.{IsQuery, IsTerm}
 use Rattle.rs_query.specs.declared.block.Block.{Block}
@@ -47,7 +47,7 @@ clamped-most : (max : ℕ) (n : ℤ) → clamped max n ≤ max
 clamped-most max (pos n) = omega arith
 clamped-most max (negsuc n) = omega arith
 
-module _ (answer : Answering) (catalogue : Catalogue) (block : Block) (rows : List ℕ) where
+module _ (answer : Answering) (catalogue : CatalogDef) (block : Block) (rows : List ℕ) where
   -- a worth is at most the maximum of its term
   pub worth-most : (term : Term) → IsTerm catalogue block term → worth_of answer catalogue block rows term ≤ term.max
   worth-most term is =
@@ -63,7 +63,7 @@ module _ (answer : Answering) (catalogue : Catalogue) (block : Block) (rows : Li
   worths-most (suc n) (term ∷ all) is few = (worth-most term is.0, worths-most n all is.1 (omega arith))
 
 -- the maxima of the first block are those of every block
-worths-within : (catalogue : Catalogue) (answer : Answering) (query : Query) (number : ℕ) (rows : List ℕ) → IsQuery catalogue query
+worths-within : (catalogue : CatalogDef) (answer : Answering) (query : Query) (number : ℕ) (rows : List ℕ) → IsQuery catalogue query
     → AtMost (map (worth_of answer catalogue (block_in query number) rows) (block_in query number).terms) (padded 8 (map (λ (t : Term). t.max) (block_in query 1).terms))
 worths-within catalogue answer (One block limit) number rows formed = worths-most answer catalogue block rows 8 block.terms formed.0.terms formed.0.most_terms
 worths-within catalogue answer (Set op left right limit) number rows formed =

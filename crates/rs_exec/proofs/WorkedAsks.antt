@@ -12,7 +12,7 @@ use Rattle.rs_expr.specs.Formulas.{Argument}
 use Rattle.rs_expr.specs.InOrder.{Request}
 use Rattle.rs_expr.specs.Meaning.{value_of}
 use Rattle.rs_expr.specs.Predicates.{PredicateDef}
-use Rattle.rs_catalog.specs.Catalogue.{Catalogue}
+use Rattle.rs_catalog.specs.Catalog.{CatalogDef}
 use Rattle.rs_catalog.specs.Indexes.{making}
 use Rattle.rs_catalog.specs.declared.index.BoundArg.TheVariants as arg
 use Rattle.rs_catalog.specs.declared.index.IndexDef.{IndexDef}
@@ -39,7 +39,7 @@ abbrev px : IndexDef
 px = record { name = codes "px"; table = 0; predicate = 0; args = arg.Column 1 0 ∷ [] }
 
 -- a table t of two columns with these rows; the predicates p and q are their argument, and at most 10; an index px of p(x)
-abbrev catalogue : List (List Value) → List ScoredRow → Catalogue
+abbrev catalogue : List (List Value) → List ScoredRow → CatalogDef
 catalogue rows ranking = record {
   tables = record { name = codes "t"; table = record { schema = (codes "x", kind.Int) ∷ (codes "y", kind.Int) ∷ []; rows = rows } } ∷ [];
   predicates = predicate (codes "p") ∷ predicate (codes "q") ∷ [];

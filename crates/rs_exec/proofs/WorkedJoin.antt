@@ -10,7 +10,7 @@ use Rattle.rs_rank.specs.declared.key.Key.{Key}
 use Rattle.rs_rank.specs.declared.row.RankRow.{RankRow}
 use Rattle.rs_expr.specs.Formulas.{Argument, Numbers}
 use Rattle.rs_expr.specs.Meaning.{value_of}
-use Rattle.rs_catalog.specs.Catalogue.{Catalogue, NamedTable}
+use Rattle.rs_catalog.specs.Catalog.{CatalogDef, NamedTable}
 use Rattle.rs_catalog.specs.declared.index.BoundArg.TheVariants as arg
 use Rattle.rs_query.specs.declared.query.Query.TheVariants.{One}
 use Rattle.rs_hrjn.specs.Hashed.{new_hashed}
@@ -30,7 +30,7 @@ int n = value.Int (pos n)
 abbrev table : List ℕ → List (List Value) → NamedTable
 table name rows = record { name = name; table = record { schema = (codes "g", kind.Int) ∷ []; rows = rows } }
 
-abbrev catalogue : Catalogue
+abbrev catalogue : CatalogDef
 catalogue = record {
   tables = table (codes "a") ((int 1 ∷ []) ∷ (int 2 ∷ []) ∷ []) ∷ table (codes "b") ((int 2 ∷ []) ∷ (int 1 ∷ []) ∷ (int 1 ∷ []) ∷ []) ∷ [];
   predicates = record { name = codes "p"; params = kind.Int ∷ []; max = 10; cost = 1; formula = Argument 0 } ∷ [];

@@ -22,7 +22,7 @@ use Rattle.rs_exec.specs.declared.set.SetNode.{SetNode}
 use Rattle.rs_exec.specs.Asking.{next_row}
 use Rattle.rs_exec.specs.Cores.{tree_with}
 use Rattle.rs_exec.specs.Distincts.{DropsStand}
-use Rattle.rs_exec.specs.Indexes.{HoldIndexes}
+use Rattle.rs_exec.specs.Indexes.{PlanIndexesHold}
 use Rattle.rs_exec.specs.Nodes.{asked_in, number_in, tree_in}
 use Rattle.rs_exec.specs.Parts.{IsPartOf}
 use Rattle.rs_exec.specs.SetNodes.{SetStands}
@@ -39,7 +39,7 @@ pub record CanAsk (w : World) (number : ℕ) (tree : PlanTree) (asked : ℕ) : T
   pub formed : IsQuery w.catalogue w.query
   pub number_is : HasBlock w.query number
   pub part : IsPartOf w.catalogue w.query number tree
-  pub indexes : HoldIndexes w.answer w.catalogue tree
+  pub indexes : PlanIndexesHold w.answer w.catalogue tree
   pub weights : IsWeights (weights_in w)
   pub more : asked ≤ length (list_of w number tree)
   pub tables : (n : ℕ) → AllByRecursion (λ size. size ≤ 131072) (sizes_of w.catalogue (numbered_block w n))

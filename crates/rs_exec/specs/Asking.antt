@@ -3,7 +3,7 @@ use Rattle.std.specs.Prelude.{ℕ, suc, Option, slice_get}
 use Rattle.rs_expr.specs.InOrder.{Inquiry}
 use Rattle.rs_expr.specs.Scoring.{Answering, ScorerState}
 use Rattle.rs_rank.specs.declared.row.RankRow.{RankRow}
-use Rattle.rs_catalog.specs.Catalogue.{Catalogue}
+use Rattle.rs_catalog.specs.Catalog.{CatalogDef}
 use Rattle.rs_query.specs.Asking.{faults_by}
 use Rattle.rs_query.specs.Questions.{Faults, asking}
 use Rattle.rs_query.specs.Views.{all_rows}
@@ -18,7 +18,7 @@ use Rattle.rs_exec.specs.declared.fault.ExecFault.{ExecFault}
 use Rattle.rs_exec.specs.declared.fault.ExecFault.TheVariants.{BadScore, Memory, Probe}
 
 -- a query that sees all rows of its tables
-abbrev pub world_of : Catalogue → Answering → Query → World
+abbrev pub world_of : CatalogDef → Answering → Query → World
 world_of catalogue answer query = record { catalogue = catalogue; answer = answer; query = query; view = all_rows catalogue query }
 
 -- what the nodes of a query see, where a scorer is in this state

@@ -1,7 +1,7 @@
 -- The core of a join as a node: what it keeps of the rows of its sides, without how it finds those that match.
 use Rattle.std.specs.Prelude.{ℕ, ◌≡◌, true, List, map}
 use Rattle.std.specs.List.{AllByRecursion}
-use Rattle.rs_catalog.specs.Catalogue.{Catalogue}
+use Rattle.rs_catalog.specs.Catalog.{CatalogDef}
 use Rattle.rs_filter.specs.Conditions.{AreConditions}
 use Rattle.rs_filter.specs.JoinValues.{left_values, right_values}
 use Rattle.rs_filter.specs.Matching.{is_side, joins}
@@ -34,7 +34,7 @@ tree_with (Hash hashed) left right = HashJoin left right
 abbrev pub with_values : (List ℕ → List Value) → List RankRow → List DrawnRow
 with_values values rows = map (λ (row : RankRow). record { row = row; values = values row.ids.rows }) rows
 
-abbrev pub hashed_with : Catalogue → Block → ℕ → ℕ → Joined → Hashed
+abbrev pub hashed_with : CatalogDef → Block → ℕ → ℕ → Joined → Hashed
 hashed_with catalogue block left right joined = record {
   ripple = joined.ripple;
   lefts = with_values (left_values catalogue block left right) joined.lefts;
@@ -42,16 +42,16 @@ hashed_with catalogue block left right joined = record {
 }
 
 -- a core of the same kind that keeps these rows; a hash join keeps them with their join values
-abbrev pub core_like : JoinCore → Catalogue → Block → ℕ → ℕ → Joined → JoinCore
+abbrev pub core_like : JoinCore → CatalogDef → Block → ℕ → ℕ → Joined → JoinCore
 core_like (Nested other) catalogue block left right joined = Nested joined
 core_like (Hash other) catalogue block left right joined = Hash (hashed_with catalogue block left right joined)
 
 -- the rows of a hash join have their own join values
-abbrev pub HasValues : Catalogue → Block → ℕ → ℕ → JoinCore → Type 0
+abbrev pub HasValues : CatalogDef → Block → ℕ → ℕ → JoinCore → Type 0
 HasValues catalogue block left right core = core ≡ core_like core catalogue block left right (joined_in core)
 
 -- a core can take a row of its left side: the row comes next and is one of the side, as those are that were drawn
-pub record CanTakeLeft (catalogue : Catalogue) (block : Block) (conditions : JoinConditions) (row : RankRow) (core : JoinCore) : Type 0 where
+pub record CanTakeLeft (catalogue : CatalogDef) (block : Block) (conditions : JoinConditions) (row : RankRow) (core : JoinCore) : Type 0 where
   pub block_is : IsBlock catalogue block
   pub conditions_are : AreConditions catalogue block conditions
   pub apart : AreDisjoint conditions.left conditions.right
@@ -63,7 +63,7 @@ pub record CanTakeLeft (catalogue : Catalogue) (block : Block) (conditions : Joi
   pub fits : Fits (joins catalogue block conditions.left conditions.right) (joined_in core)
 
 -- the same of a row of its right side
-pub record CanTakeRight (catalogue : Catalogue) (block : Block) (conditions : JoinConditions) (row : RankRow) (core : JoinCore) : Type 0 where
+pub record CanTakeRight (catalogue : CatalogDef) (block : Block) (conditions : JoinConditions) (row : RankRow) (core : JoinCore) : Type 0 where
   pub block_is : IsBlock catalogue block
   pub conditions_are : AreConditions catalogue block conditions
   pub apart : AreDisjoint conditions.left conditions.right
@@ -75,11 +75,11 @@ pub record CanTakeRight (catalogue : Catalogue) (block : Block) (conditions : Jo
   pub fits : Fits (joins catalogue block conditions.left conditions.right) (joined_in core)
 
 -- the core after it took a row of a side, and found the rows drawn of the other one that match
-abbrev pub left_taken : Catalogue → Block → JoinConditions → RankRow → JoinCore → JoinCore
+abbrev pub left_taken : CatalogDef → Block → JoinConditions → RankRow → JoinCore → JoinCore
 left_taken catalogue block conditions row core =
     core_like core catalogue block conditions.left conditions.right (fed_left (joins catalogue block conditions.left conditions.right) row (joined_in core))
 
-abbrev pub right_taken : Catalogue → Block → JoinConditions → RankRow → JoinCore → JoinCore
+abbrev pub right_taken : CatalogDef → Block → JoinConditions → RankRow → JoinCore → JoinCore
 right_taken catalogue block conditions row core =
     core_like core catalogue block conditions.left conditions.right (fed_right (joins catalogue block conditions.left conditions.right) row (joined_in core))
 

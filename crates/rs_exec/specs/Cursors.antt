@@ -6,7 +6,7 @@ use Rattle.rs_expr.specs.Scoring.{Answering}
 use Rattle.rs_rank.specs.declared.answer.Answer.{Answer}
 use Rattle.rs_rank.specs.declared.row.RankRow.{RankRow}
 use Rattle.rs_rank.specs.Weights.{IsWeights}
-use Rattle.rs_catalog.specs.Catalogue.{Catalogue}
+use Rattle.rs_catalog.specs.Catalog.{CatalogDef}
 use Rattle.rs_query.specs.Answers.{limit_of, weights_of}
 use Rattle.rs_query.specs.Meaning.{outputs_of}
 use Rattle.rs_query.specs.Questions.{asking}
@@ -23,7 +23,7 @@ use Rattle.rs_exec.specs.declared.fault.ExecFault.{ExecFault}
 use Rattle.rs_exec.specs.declared.fault.ExecFault.TheVariants.{Broken}
 use Rattle.rs_exec.specs.declared.node.Node.{Node}
 use Rattle.rs_exec.specs.Asking.{exec_faults, world_of}
-use Rattle.rs_exec.specs.Indexes.{HoldIndexes}
+use Rattle.rs_exec.specs.Indexes.{PlanIndexesHold}
 use Rattle.rs_exec.specs.Nodes.{asked_in, tree_in}
 use Rattle.rs_exec.specs.Standing.{Stands}
 
@@ -94,25 +94,25 @@ pub record IsNew (query : Query) (tree : PlanTree) (cursor : CursorState) : Type
 
 -- a cursor stands for a catalogue and a scorer of these answers: its query and its plan are those of the catalogue, the indexes of
 -- its plan hold the answers, its tables and weights are within their limits, and all that it keeps is what this many asks give
-pub record StandsFor (catalogue : Catalogue) (answer : Answering) (cursor : CursorState) : Type 0 where
+pub record StandsFor (catalogue : CatalogDef) (answer : Answering) (cursor : CursorState) : Type 0 where
   pub sound : cursor.failed ≡ false
   pub query : IsQuery catalogue cursor.query
   pub plan : IsPlan catalogue cursor.query (plan_of cursor)
-  pub indexes : HoldIndexes answer catalogue (plan_of cursor)
+  pub indexes : PlanIndexesHold answer catalogue (plan_of cursor)
   pub tables : (number : ℕ) → AllByRecursion (λ size. size ≤ 131072) (sizes_of catalogue (block_in cursor.query number))
   pub weights : IsWeights (weights_of (block_in cursor.query 1))
   pub nodes : Stands (world_of catalogue answer cursor.query) 1 cursor.root
   pub asks : asks_of cursor ≤ suc (length (list_of_plan (world_of catalogue answer cursor.query) (plan_of cursor)))
 
 -- it stands, or a call of it failed
-abbrev pub CanGo : Catalogue → Answering → CursorState → Type 0
+abbrev pub CanGo : CatalogDef → Answering → CursorState → Type 0
 CanGo catalogue answer cursor = cursor.failed ≡ false → StandsFor catalogue answer cursor
 
 -- what a call of a cursor is that failed already, or didn't
-abbrev pub call_of : Catalogue → Answering → CursorState → Inquiry (Option Answer) ExecFault
+abbrev pub call_of : CatalogDef → Answering → CursorState → Inquiry (Option Answer) ExecFault
 call_of catalogue answer cursor =
     if cursor.failed then no_question (Err Broken) else next_of (world_of catalogue answer cursor.query) (plan_of cursor) (asks_of cursor)
 
 -- nothing is left to be asked
-abbrev pub IsOver : Catalogue → Answering → CursorState → Type 0
+abbrev pub IsOver : CatalogDef → Answering → CursorState → Type 0
 IsOver catalogue answer cursor = (cursor.failed ≡ false) × (is_over (world_of catalogue answer cursor.query) (plan_of cursor) (asks_of cursor) ≡ true)

@@ -2,7 +2,7 @@
 use Rattle.std.specs.Prelude.{ℕ, ◌≡◌, ◌≤◌, ◌+◌, ◌^◌, Bool, List, length, drop, Option, is_some, if◌then◌else◌}
 use Rattle.rs_rank.specs.Masks.{mask_of}
 use Rattle.rs_rank.specs.declared.row.RankRow.{RankRow}
-use Rattle.rs_catalog.specs.Catalogue.{Catalogue}
+use Rattle.rs_catalog.specs.Catalog.{CatalogDef}
 use Rattle.rs_query.specs.Combinations.{satisfies}
 use Rattle.rs_query.specs.Meaning.{conjuncts_within}
 use Rattle.rs_query.specs.Questions.{first_of, through_first}
@@ -15,7 +15,7 @@ use Rattle.rs_plan.specs.Plans.{IsEntryNumber}
 use Rattle.rs_exec.specs.declared.tally.Tally.{Tally}
 
 -- a row satisfies the conjuncts that speak of its entries alone
-abbrev pub passes : Catalogue → Query → RankRow → Bool
+abbrev pub passes : CatalogDef → Query → RankRow → Bool
 passes catalogue query row = satisfies catalogue (block_in query row.ids.block) row.ids.mask row.ids.rows
 
 -- of some rows, of which this many were drawn: the next one that passes, and how many are drawn then
@@ -39,7 +39,7 @@ abbrev pub entry_conjuncts : Block → ℕ → ℕ
 entry_conjuncts block entry = conjuncts_within (mask_of entry) block.conjuncts
 
 -- a scan of an entry of a block that looks at the conjuncts of this mask, and whose view is all rows of the entry's table
-pub record ScansEntry (catalogue : Catalogue) (query : Query) (block entry rows conjuncts : ℕ) : Type 0 where
+pub record ScansEntry (catalogue : CatalogDef) (query : Query) (block entry rows conjuncts : ℕ) : Type 0 where
   pub formed : IsQuery catalogue query
   pub is_entry : IsEntryNumber (block_in query block) entry
   pub all : rows ≡ size_of catalogue (block_in query block) entry

@@ -3,7 +3,7 @@ use Rattle.std.specs.Prelude.{ℕ, ◌≡◌, ◌≤◌, ◌<◌, ◌+◌, ◌-�
 use Rattle.rs_expr.specs.InOrder.{Inquiry}
 use Rattle.rs_expr.specs.Scoring.{Answering}
 use Rattle.rs_rank.specs.declared.row.RankRow.{RankRow}
-use Rattle.rs_catalog.specs.Catalogue.{Catalogue}
+use Rattle.rs_catalog.specs.Catalog.{CatalogDef}
 use Rattle.rs_query.specs.Answers.{worth_of}
 use Rattle.rs_query.specs.Meaning.{is_inside}
 use Rattle.rs_query.specs.Questions.{asking, question_of}
@@ -19,7 +19,7 @@ use Rattle.rs_exec.specs.declared.rank.RankNode.{RankNode}
 
 -- a row can be taken: its block has the operator's term, it has the rows of the term's entries, and with the term's worth on it it
 -- can be fed
-pub record CanTake (catalogue : Catalogue) (answer : Answering) (query : Query) (row : RankRow) (head : RankNode) : Type 0 where
+pub record CanTake (catalogue : CatalogDef) (answer : Answering) (query : Query) (row : RankRow) (head : RankNode) : Type 0 where
   pub block : IsBlock catalogue (block_in query row.ids.block)
   pub least : 1 ≤ head.term
   pub term : Term
@@ -34,7 +34,7 @@ abbrev pub with_row : RankRow → ℕ → RankNode → RankNode
 with_row row worth head = record head { core = fed row worth head.core; calls = head.calls + 1 }
 
 -- the one question for the row, and the operator after it
-abbrev pub feeding : Answering → Catalogue → Query → RankRow → Term → RankNode → Inquiry RankNode ExecFault
+abbrev pub feeding : Answering → CatalogDef → Query → RankRow → Term → RankNode → Inquiry RankNode ExecFault
 feeding answer catalogue query row term head =
     asking exec_faults answer catalogue (question_of row.ids.block (block_in query row.ids.block) row.ids.rows term ∷ [])
     (with_row row (worth_of answer catalogue (block_in query row.ids.block) row.ids.rows term) head)

@@ -1,6 +1,6 @@
 -- The nodes of a plan at its start: nothing is drawn, held or asked.
 use Rattle.std.specs.Prelude.{ℕ, ◌≡◌, ◌-◌, slice_index}
-use Rattle.rs_catalog.specs.Catalogue.{Catalogue}
+use Rattle.rs_catalog.specs.Catalog.{CatalogDef}
 use Rattle.rs_filter.specs.Conditions.{conditions_of}
 use Rattle.rs_filter.specs.Distinct.{new_distinct}
 use Rattle.rs_mu.specs.Mu.{new_mu}
@@ -54,7 +54,7 @@ new_index_node block number entry term index weight rows = record {
 }
 
 -- the nodes of this tree, of a block of this number, before any ask
-abbrev pub IsStart : Catalogue → Block → ℕ → PlanTree → Node → Type 0
+abbrev pub IsStart : CatalogDef → Block → ℕ → PlanTree → Node → Type 0
 IsStart catalogue block number (SeqScan entry) (node.SeqScan head) =
     head ≡ new_table_node block number entry (size_of catalogue block entry)
 IsStart catalogue block number (RankScan entry term index) (node.RankScan head) =
@@ -85,7 +85,7 @@ IsStart catalogue block number (Distinct child) (node.Distinct' head p below) =
 IsStart catalogue block number tree nodes = ⊥
 
 -- the nodes of this tree, of a plan of a set query of these blocks, before any ask
-abbrev pub IsSetStart : Catalogue → SetOp → Block → Block → PlanTree → Node → Type 0
+abbrev pub IsSetStart : CatalogDef → SetOp → Block → Block → PlanTree → Node → Type 0
 IsSetStart catalogue op left_block right_block (Rank term child) (node.Rank' head p below) =
     (head ≡ record { core = new_mu (weights_of left_block) (terms child) term; term = term; args = tt; tally = no_tally; calls = 0 })
     × IsSetStart catalogue op left_block right_block child below
@@ -95,7 +95,7 @@ IsSetStart catalogue op left_block right_block (SetOperator left right) (node.Se
 IsSetStart catalogue op left_block right_block tree nodes = ⊥
 
 -- those of a plan of a query
-abbrev pub IsQueryStart : Catalogue → Query → PlanTree → Node → Type 0
+abbrev pub IsQueryStart : CatalogDef → Query → PlanTree → Node → Type 0
 IsQueryStart catalogue (One block limit) tree nodes = IsStart catalogue block 1 tree nodes
 IsQueryStart catalogue (Set op left right limit) tree nodes = IsSetStart catalogue op left right tree nodes
 

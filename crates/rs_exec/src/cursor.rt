@@ -2,7 +2,7 @@ ghost use Rattle.std.specs.Prelude.{◌≡◌, ◌↔◌, ◌≤◌, ℕ, IfOk, 
 ghost use Rattle.std.specs.List.{AllByRecursion};
 ghost use Rattle.rs_expr.specs.InOrder.{Inquires};
 ghost use Rattle.rs_expr.specs.Scoring.{Answering};
-ghost use Rattle.rs_catalog.specs.Catalogue.{Catalogue};
+ghost use Rattle.rs_catalog.specs.Catalog.{CatalogDef};
 ghost use Rattle.rs_plan.specs.Counts.{counts_of_plan};
 ghost use Rattle.rs_plan.specs.Lists.{World};
 ghost use Rattle.rs_query.specs.Blocks.{block_in};
@@ -14,7 +14,7 @@ ghost use Rattle.rs_query.specs.Tables.{sizes_of};
 ghost use Rattle.rs_query.specs.WellFormed.{IsBlock, IsQuery};
 ghost use Rattle.rs_exec.specs.Asking.{world_of};
 ghost use Rattle.rs_exec.specs.Cursors.{CanGo, IsNew, IsOver, StandsFor, asks_after, asks_of, call_of, is_limit, is_over, next_of, plan_of};
-ghost use Rattle.rs_exec.specs.Indexes.{HoldIndexes};
+ghost use Rattle.rs_exec.specs.Indexes.{PlanIndexesHold};
 ghost use Rattle.rs_exec.specs.Outputs.{CanPutOut, values_for};
 
 use crate::context::QueryContext;
@@ -64,7 +64,7 @@ impl Cursor {
         requires query { IsQuery catalog.now query }
         requires plan { IsPlan catalog.now query (tree_of plan.now) }
         ensures new { IfOk result (IsNew query (tree_of plan.now)) }
-        ensures stands { (answer : Answering) → HoldIndexes answer catalog.now (tree_of plan.now) → IfOk result (StandsFor catalog.now answer) }
+        ensures stands { (answer : Answering) → PlanIndexesHold answer catalog.now (tree_of plan.now) → IfOk result (StandsFor catalog.now answer) }
     {
         limits_hold(catalog, &query);
         match Node::of_plan(alloc, catalog, &query, plan) {
@@ -119,7 +119,7 @@ impl Cursor {
     /// first one at 0. It takes no memory.
     pub fn counts(&self, node: u8) -> Option<Counts>
         ensures past { (w : World) (n : ℕ) → (result ≡ None) ↔ (length (counts_of_plan w (plan_of self.now) n) ≤ node) }
-        ensures counts { (catalogue : Catalogue) (answer : Answering) → StandsFor catalogue answer self.now
+        ensures counts { (catalogue : CatalogDef) (answer : Answering) → StandsFor catalogue answer self.now
             → result ≡ slice_get (counts_of_plan (world_of catalogue answer self.now.query) (plan_of self.now) (asks_of self.now)) node }
     {
         self.root.counts_at(node)
@@ -158,7 +158,7 @@ impl Cursor {
 
     /// Whether LIMIT rows were given, or an ask found the end.
     fn is_over(&self) -> bool
-        ensures { (catalogue : Catalogue) (answer : Answering) → StandsFor catalogue answer self.now
+        ensures { (catalogue : CatalogDef) (answer : Answering) → StandsFor catalogue answer self.now
             → result ≡ is_over (world_of catalogue answer self.now.query) (plan_of self.now) (asks_of self.now) }
     {
         let tally = self.root.tally();

@@ -10,7 +10,7 @@ ghost use Rattle.rs_rank.specs.Stable.{stable};
 ghost use Rattle.rs_rank.specs.Weights.{IsWeights};
 ghost use Rattle.rs_rank.specs.declared.scored_row.ScoredRow.{ScoredRow};
 ghost use Rattle.rs_table.specs.Relation.{Relation};
-ghost use Rattle.rs_catalog.specs.Catalogue.{Catalogue, with_index, with_predicate, with_table};
+ghost use Rattle.rs_catalog.specs.Catalog.{CatalogDef, with_index, with_predicate, with_table};
 ghost use Rattle.rs_catalog.specs.declared.index.IndexDef.{IndexDef};
 ghost use Rattle.rs_query.specs.Answers.{answer_of, cut, limit_of, rows_of};
 ghost use Rattle.rs_query.specs.Tables.{sizes_of};
@@ -50,21 +50,21 @@ pub fn rows_give_the_parts_in_turn()
 
 /// What joins the catalogue changes nothing for a cursor that stands.
 pub fn cursors_stand_in_larger_catalogues()
-    ensures tables { (catalogue : Catalogue) (answer : Answering) (cursor : CursorState) (name : List ℕ) (table : Relation)
+    ensures tables { (catalogue : CatalogDef) (answer : Answering) (cursor : CursorState) (name : List ℕ) (table : Relation)
         → StandsFor catalogue answer cursor → StandsFor (with_table name table catalogue) answer cursor }
-    ensures predicates { (catalogue : Catalogue) (answer : Answering) (cursor : CursorState) (predicate : PredicateDef)
+    ensures predicates { (catalogue : CatalogDef) (answer : Answering) (cursor : CursorState) (predicate : PredicateDef)
         → StandsFor catalogue answer cursor → StandsFor (with_predicate predicate catalogue) answer cursor }
-    ensures indexes { (catalogue : Catalogue) (answer : Answering) (cursor : CursorState) (def : IndexDef) (ranking : List ScoredRow)
+    ensures indexes { (catalogue : CatalogDef) (answer : Answering) (cursor : CursorState) (def : IndexDef) (ranking : List ScoredRow)
         → StandsFor catalogue answer cursor → StandsFor (with_index def ranking catalogue) answer cursor }
 {}
 
 /// What joins the catalogue changes nothing of what the asks of a plan give, and of the calls that they make, where the catalogue has
 /// the tables of the query's FROM entries and the predicates of its terms.
 pub fn plans_ask_the_same_in_larger_catalogues()
-    ensures tables { (catalogue : Catalogue) (answer : Answering) (query : Query) (tree : PlanTree) (name : List ℕ) (table : Relation)
+    ensures tables { (catalogue : CatalogDef) (answer : Answering) (query : Query) (tree : PlanTree) (name : List ℕ) (table : Relation)
         → Covers catalogue query → SameAsks (world_of (with_table name table catalogue) answer query) (world_of catalogue answer query) tree }
-    ensures predicates { (catalogue : Catalogue) (answer : Answering) (query : Query) (tree : PlanTree) (predicate : PredicateDef)
+    ensures predicates { (catalogue : CatalogDef) (answer : Answering) (query : Query) (tree : PlanTree) (predicate : PredicateDef)
         → Covers catalogue query → SameAsks (world_of (with_predicate predicate catalogue) answer query) (world_of catalogue answer query) tree }
-    ensures indexes { (catalogue : Catalogue) (answer : Answering) (query : Query) (tree : PlanTree) (def : IndexDef) (ranking : List ScoredRow)
+    ensures indexes { (catalogue : CatalogDef) (answer : Answering) (query : Query) (tree : PlanTree) (def : IndexDef) (ranking : List ScoredRow)
         → Covers catalogue query → SameAsks (world_of (with_index def ranking catalogue) answer query) (world_of catalogue answer query) tree }
 {}

@@ -5,7 +5,7 @@ use Rattle.std.specs.List.{list_all}
 use Rattle.std.proofs.lemmas.Bool.{eqb-true, eq-eqb, true≢false}
 use Rattle.std.proofs.lemmas.Nat.Bits.{bit_at-lt, bit_at_and, bit_at_or, same_from_bits}
 use Rattle.rs_rank.proofs.MaskFacts.{bit_or-first, bit_or-others}
-use Rattle.rs_catalog.specs.Catalogue.{Catalogue}
+use Rattle.rs_catalog.specs.Catalog.{CatalogDef}
 use Rattle.rs_query.specs.declared.block.Block.{Block}
 use Rattle.rs_query.specs.Conjuncts.{ConjunctDef}
 use Rattle.rs_query.specs.Meaning.{AreInside, all_hold, is_inside, conjuncts_within}
@@ -113,7 +113,7 @@ module _ (left right : ℕ) where
   conjuncts_across-others c rest = ap (λ n. n / 2) (conjuncts_across-cons c rest) ∙ other-bits (is_across left right c) (conjuncts_across left right rest)
 
   -- all conjuncts in the mask hold where each that speaks of both sides does
-  pub all_hold-across : (catalogue : Catalogue) (block : Block) (rows : List ℕ) (conjuncts : List ConjunctDef)
+  pub all_hold-across : (catalogue : CatalogDef) (block : Block) (rows : List ℕ) (conjuncts : List ConjunctDef)
       → all_hold catalogue block (conjuncts_across left right conjuncts) rows conjuncts ≡ list_all (holds_across catalogue block left right rows) conjuncts
   all_hold-across catalogue block rows [] = refl
   all_hold-across catalogue block rows (c ∷ rest) =

@@ -15,7 +15,7 @@ use Rattle.rs_rank.specs.Masks.{AreDisjoint, has_number}
 use Rattle.rs_expr.specs.Formulas.{Argument, Condition, Numbers, Texts}
 use Rattle.rs_expr.specs.Meaning.{argument_number, argument_text, holds}
 use Rattle.rs_expr.specs.declared.expr.TextSide.TheVariants as side
-use Rattle.rs_catalog.specs.Catalogue.{Catalogue}
+use Rattle.rs_catalog.specs.Catalog.{CatalogDef}
 use Rattle.rs_query.specs.declared.block.Block.{Block}
 use Rattle.rs_query.specs.Choices.{IsChoice}
 use Rattle.rs_query.specs.Conjuncts.{ConjunctDef}
@@ -59,7 +59,7 @@ parted f g (x ∷ xs) us vs e =
     let both = parted f g xs us vs others in
     (ap₂ (λ (y : Value) (ys : List Value). y ∷ ys) head both.0, both.1)
 
-module _ (catalogue : Catalogue) (block : Block) (left right : ℕ) (lefts rights : List ℕ) (apart : AreDisjoint left right)
+module _ (catalogue : CatalogDef) (block : Block) (left right : ℕ) (lefts rights : List ℕ) (apart : AreDisjoint left right)
     (l : IsChoice left (sizes_of catalogue block) lefts) (r : IsChoice right (sizes_of catalogue block) rights) where
   -- what a conjunct compares of two columns that it equates
   abbrev on_left : ConjunctDef → (ℕ × ℕ) × (ℕ × ℕ) → Value
@@ -132,7 +132,7 @@ module _ (catalogue : Catalogue) (block : Block) (left right : ℕ) (lefts right
       ap (λ b. b && list_all (holds_across catalogue block left right (merge_rows lefts rights)) rest) first ∙ others
 
 -- rows of two sides with equal join values match, where the conjuncts that speak of both sides are equalities
-pub equal-values-join : (catalogue : Catalogue) (block : Block) (left right : ℕ) (l r : RankRow) → IsBlock catalogue block → AreDisjoint left right
+pub equal-values-join : (catalogue : CatalogDef) (block : Block) (left right : ℕ) (l r : RankRow) → IsBlock catalogue block → AreDisjoint left right
     → is_equi left right block.conjuncts ≡ true → is_side catalogue block left l ≡ true → is_side catalogue block right r ≡ true
     → left_values catalogue block left right l.ids.rows ≡ right_values catalogue block left right r.ids.rows → joins catalogue block left right l r ≡ true
 equal-values-join catalogue block left right l r is apart equi left_side right_side same =

@@ -16,7 +16,7 @@ use Rattle.rs_expr.specs.Formulas.{Argument, Condition, Numbers, Texts}
 use Rattle.rs_expr.specs.Meaning.{argument_number, argument_text}
 use Rattle.rs_expr.specs.Uses.{condition_uses}
 use Rattle.rs_expr.specs.declared.expr.TextSide.TheVariants as side
-use Rattle.rs_catalog.specs.Catalogue.{Catalogue}
+use Rattle.rs_catalog.specs.Catalog.{CatalogDef}
 use Rattle.rs_query.specs.declared.block.Block.{Block}
 use Rattle.rs_query.specs.Conjuncts.{ConjunctDef}
 use Rattle.rs_query.specs.Meaning.{column_value}
@@ -30,7 +30,7 @@ use Rattle.rs_filter.specs.declared.conditions.JoinConditions.{JoinConditions}
 use Rattle.rs_filter.proofs.SideFacts.{and-first, and-second}
 
 -- the join values of one conjunct, of the columns of one side
-abbrev pub values_of : Catalogue → Block → ℕ → ℕ → List ℕ → ((ℕ × ℕ) × (ℕ × ℕ) → ℕ × ℕ) → ConjunctDef → List Value
+abbrev pub values_of : CatalogDef → Block → ℕ → ℕ → List ℕ → ((ℕ × ℕ) × (ℕ × ℕ) → ℕ × ℕ) → ConjunctDef → List Value
 values_of catalogue block left right rows own c =
     map (λ (pair : (ℕ × ℕ) × (ℕ × ℕ)). compared c.condition (column_value catalogue block rows (own pair))) (equated_across left right c)
 
@@ -80,7 +80,7 @@ text-self : (v : Value) → fits kind.Text v ≡ true → value.Text (argument_t
 text-self (value.Int n) is = absurd (true≢false (sym is))
 text-self (value.Text t) is = refl
 
-module _ (catalogue : Catalogue) (block : Block) where
+module _ (catalogue : CatalogDef) (block : Block) where
   -- a value has the kind of its column
   abbrev pub HasKindOf : ℕ × ℕ → Value → Type 0
   HasKindOf column v = (k : Kind) → column_kind catalogue block column ≡ Some k → fits k v ≡ true

@@ -6,7 +6,7 @@ use Rattle.rs_order.specs.Climbing.{In}
 use Rattle.rs_rank.specs.declared.row.RankRow.{RankRow}
 use Rattle.rs_rank.specs.Ids.{merge_rows}
 use Rattle.rs_rank.specs.Masks.{AreDisjoint}
-use Rattle.rs_catalog.specs.Catalogue.{Catalogue}
+use Rattle.rs_catalog.specs.Catalog.{CatalogDef}
 use Rattle.rs_query.specs.declared.block.Block.{Block}
 use Rattle.rs_query.specs.Choices.{IsChoice}
 use Rattle.rs_query.specs.Combinations.{combinations, holds_inside, satisfies}
@@ -59,7 +59,7 @@ parted true in_right false both left right p q l r = absurd (true≢false (sym (
 parted false true false both left right p q l r = absurd (true≢false (sym (q refl)))
 parted false false false both left right p q l r = refl
 
-module _ (catalogue : Catalogue) (block : Block) (sizes : List ℕ) (left right : ℕ) (lefts rights : List ℕ)
+module _ (catalogue : CatalogDef) (block : Block) (sizes : List ℕ) (left right : ℕ) (lefts rights : List ℕ)
     (is_block : IsBlock catalogue block) (apart : AreDisjoint left right) (l : IsChoice left sizes lefts) (r : IsChoice right sizes rights) where
   one-conjunct : (c : ConjunctDef) → IsConjunct catalogue block c
       → holds_inside catalogue block (bit_or left right) (merge_rows lefts rights) c
@@ -99,7 +99,7 @@ of-three true true false e f g = g
 of-three true false c e f g = f
 of-three false b c e f g = e
 
-module _ (catalogue : Catalogue) (block : Block) (sizes : List ℕ) (l r : RankRow)
+module _ (catalogue : CatalogDef) (block : Block) (sizes : List ℕ) (l r : RankRow)
     (is_block : IsBlock catalogue block) (view : IsView sizes (sizes_of catalogue block)) (apart : AreDisjoint l.ids.mask r.ids.mask)
     (left : IsChoice l.ids.mask sizes l.ids.rows) (right : IsChoice r.ids.mask sizes r.ids.rows) where
   -- a row that has a row for each of its entries is one of its side

@@ -15,7 +15,7 @@ use Rattle.rs_rank.specs.Masks.{AreDisjoint, has_number}
 use Rattle.rs_expr.specs.Formulas.{Argument, Condition, Numbers, Texts}
 use Rattle.rs_expr.specs.Meaning.{argument_number, argument_text, holds}
 use Rattle.rs_expr.specs.declared.expr.TextSide.TheVariants as side
-use Rattle.rs_catalog.specs.Catalogue.{Catalogue}
+use Rattle.rs_catalog.specs.Catalog.{CatalogDef}
 use Rattle.rs_query.specs.declared.block.Block.{Block}
 use Rattle.rs_query.specs.Choices.{IsChoice}
 use Rattle.rs_query.specs.Conjuncts.{ConjunctDef}
@@ -51,7 +51,7 @@ compared-same (Texts Eq (side.Arg k) (side.Arg l)) values i j u v is truth at_u 
     ∙ ap argument_text (ap (slice_get values) second ∙ at_v))
 compared-same condition values i j u v is truth at_u at_v = absurd (cc)
 
-module _ (catalogue : Catalogue) (block : Block) (left right : ℕ) (lefts rights : List ℕ) (apart : AreDisjoint left right)
+module _ (catalogue : CatalogDef) (block : Block) (left right : ℕ) (lefts rights : List ℕ) (apart : AreDisjoint left right)
     (l : IsChoice left (sizes_of catalogue block) lefts) (r : IsChoice right (sizes_of catalogue block) rights) where
   abbrev pub merged : List ℕ
   merged = merge_rows lefts rights
@@ -131,7 +131,7 @@ module _ (catalogue : Catalogue) (block : Block) (left right : ℕ) (lefts right
       (all-conjuncts rest is.1 (and-second (holds_across catalogue block left right merged c) (list_all (holds_across catalogue block left right merged) rest) truth))
 
 -- rows that match have equal join values
-pub equal-values : (catalogue : Catalogue) (block : Block) (left right : ℕ) (l r : RankRow) → IsBlock catalogue block → AreDisjoint left right
+pub equal-values : (catalogue : CatalogDef) (block : Block) (left right : ℕ) (l r : RankRow) → IsBlock catalogue block → AreDisjoint left right
     → joins catalogue block left right l r ≡ true → left_values catalogue block left right l.ids.rows ≡ right_values catalogue block left right r.ids.rows
 equal-values catalogue block left right l r is apart match =
     let first = and-first (is_side catalogue block left l) (is_side catalogue block right r && satisfies_across catalogue block left right (merge_rows l.ids.rows r.ids.rows)) match in

@@ -8,7 +8,7 @@ use Rattle.std.proofs.Math.Nat.{div-one}
 use Rattle.rs_rank.specs.declared.row.RankRow.{RankRow}
 use Rattle.rs_rank.specs.Ids.{merge_rows}
 use Rattle.rs_rank.proofs.MaskFacts.{half-before}
-use Rattle.rs_catalog.specs.Catalogue.{Catalogue}
+use Rattle.rs_catalog.specs.Catalog.{CatalogDef}
 use Rattle.rs_query.specs.declared.block.Block.{Block}
 use Rattle.rs_query.specs.Choices.{IsChoice, IsRowNumber}
 use Rattle.rs_query.specs.Tables.{HasRows, size_of, sizes_of}
@@ -22,7 +22,7 @@ no-choice : (a b : Bool) → ((a && false) && b) ≡ false
 no-choice true b = refl
 no-choice false b = refl
 
-module _ (catalogue : Catalogue) (block : Block) (left right : ℕ) (l r : RankRow) where
+module _ (catalogue : CatalogDef) (block : Block) (left right : ℕ) (l r : RankRow) where
   -- a row that isn't one of its side matches none
   pub no-left-mask : (l.ids.mask ≡ left → ⊥) → false ≡ joins catalogue block left right l r
   no-left-mask other =

@@ -7,7 +7,7 @@ use Rattle.rs_value.specs.declared.value.Value.{Value}
 use Rattle.rs_value.specs.declared.value.Value.TheVariants as value
 use Rattle.rs_expr.specs.Formulas.{Argument, Numbers, Texts}
 use Rattle.rs_expr.specs.declared.expr.TextSide.TheVariants as side
-use Rattle.rs_catalog.specs.Catalogue.{Catalogue}
+use Rattle.rs_catalog.specs.Catalog.{CatalogDef}
 use Rattle.rs_query.specs.Conjuncts.{ConjunctDef}
 use Rattle.rs_query.specs.declared.block.Block.{Block}
 use Rattle.rs_filter.specs.JoinValues.{equated_across, is_equi, left_values, right_values}
@@ -16,7 +16,7 @@ use Rattle.rs_filter.specs.JoinValues.{equated_across, is_equi, left_values, rig
 abbrev int : ℕ → Value
 int n = value.Int (pos n)
 
-abbrev catalogue : Catalogue
+abbrev catalogue : CatalogDef
 catalogue = record {
   tables = record {
     name = codes "t";

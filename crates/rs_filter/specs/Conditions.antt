@@ -1,7 +1,7 @@
 -- What a join of two sides of a block looks at.
 use Rattle.std.specs.Prelude.{ℕ, ◌≡◌, List}
 use Rattle.std.specs.List.{flat_map}
-use Rattle.rs_catalog.specs.Catalogue.{Catalogue}
+use Rattle.rs_catalog.specs.Catalog.{CatalogDef}
 use Rattle.rs_query.specs.Conjuncts.{ConjunctDef}
 use Rattle.rs_query.specs.Tables.{sizes_of}
 use Rattle.rs_query.specs.declared.block.Block.{Block}
@@ -14,7 +14,7 @@ abbrev pub equated_columns : ℕ → ℕ → List ConjunctDef → List ((ℕ × 
 equated_columns left right conjuncts = flat_map (equated_across left right) conjuncts
 
 -- what a join of sides with the entries of these masks looks at
-abbrev pub conditions_of : Catalogue → Block → ℕ → ℕ → JoinConditions
+abbrev pub conditions_of : CatalogDef → Block → ℕ → ℕ → JoinConditions
 conditions_of catalogue block left right = record {
   left = left;
   right = right;
@@ -25,5 +25,5 @@ conditions_of catalogue block left right = record {
 }
 
 -- what a join looks at is what is to be looked at of a block
-abbrev pub AreConditions : Catalogue → Block → JoinConditions → Type 0
+abbrev pub AreConditions : CatalogDef → Block → JoinConditions → Type 0
 AreConditions catalogue block conditions = conditions ≡ conditions_of catalogue block conditions.left conditions.right

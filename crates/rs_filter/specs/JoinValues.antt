@@ -7,7 +7,7 @@ use Rattle.rs_value.specs.declared.value.Value.TheVariants as value
 use Rattle.rs_rank.specs.Masks.{has_number}
 use Rattle.rs_expr.specs.Formulas.{Condition, Texts}
 use Rattle.rs_expr.specs.Meaning.{argument_number, argument_text}
-use Rattle.rs_catalog.specs.Catalogue.{Catalogue}
+use Rattle.rs_catalog.specs.Catalog.{CatalogDef}
 use Rattle.rs_query.specs.Conjuncts.{ConjunctDef}
 use Rattle.rs_query.specs.Meaning.{column_value}
 use Rattle.rs_query.specs.declared.block.Block.{Block}
@@ -36,12 +36,12 @@ is_equi left right conjuncts =
     list_all (λ (conjunct : ConjunctDef). not (is_across left right conjunct) || (length (equated_across left right conjunct) == 1)) conjuncts
 
 -- the join values of a left row and of a right one, in the order of the conjuncts
-abbrev pub left_values : Catalogue → Block → ℕ → ℕ → List ℕ → List Value
+abbrev pub left_values : CatalogDef → Block → ℕ → ℕ → List ℕ → List Value
 left_values catalogue block left right rows =
     flat_map (λ (conjunct : ConjunctDef).
     map (λ (pair : (ℕ × ℕ) × (ℕ × ℕ)). compared conjunct.condition (column_value catalogue block rows pair.0)) (equated_across left right conjunct)) block.conjuncts
 
-abbrev pub right_values : Catalogue → Block → ℕ → ℕ → List ℕ → List Value
+abbrev pub right_values : CatalogDef → Block → ℕ → ℕ → List ℕ → List Value
 right_values catalogue block left right rows =
     flat_map (λ (conjunct : ConjunctDef).
     map (λ (pair : (ℕ × ℕ) × (ℕ × ℕ)). compared conjunct.condition (column_value catalogue block rows pair.1)) (equated_across left right conjunct)) block.conjuncts

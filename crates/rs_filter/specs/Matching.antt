@@ -3,7 +3,7 @@ use Rattle.std.specs.Prelude.{ℕ, ◌≤◌, ◌-◌, ◌/◌, ◌%◌, ◌==�
 use Rattle.std.specs.List.{list_all}
 use Rattle.rs_rank.specs.declared.row.RankRow.{RankRow}
 use Rattle.rs_rank.specs.Ids.{merge_rows}
-use Rattle.rs_catalog.specs.Catalogue.{Catalogue}
+use Rattle.rs_catalog.specs.Catalog.{CatalogDef}
 use Rattle.rs_query.specs.declared.block.Block.{Block}
 use Rattle.rs_query.specs.Conjuncts.{ConjunctDef}
 use Rattle.rs_query.specs.Meaning.{conjunct_holds, is_inside, conjuncts_within}
@@ -22,7 +22,7 @@ is_choice mask (size ∷ sizes) [] = false
 is_choice mask (size ∷ sizes) (row ∷ rows) = is_row_number (mask % 2 == 0) size row && is_choice (mask / 2) sizes rows
 
 -- whether a row has the entries in a mask, each with a row of its table
-abbrev pub is_side : Catalogue → Block → ℕ → RankRow → Bool
+abbrev pub is_side : CatalogDef → Block → ℕ → RankRow → Bool
 is_side catalogue block mask row = (row.ids.mask == mask) && is_choice mask (sizes_of catalogue block) row.ids.rows
 
 -- whether a conjunct speaks of both sides: all its entries are in the two masks together, and in neither alone
@@ -31,27 +31,27 @@ is_across left right conjunct =
     is_inside conjunct.entries (bit_or left right) && (not (is_inside conjunct.entries left) && not (is_inside conjunct.entries right))
 
 -- whether a conjunct holds, where it speaks of both sides
-abbrev pub holds_across : Catalogue → Block → ℕ → ℕ → List ℕ → ConjunctDef → Bool
+abbrev pub holds_across : CatalogDef → Block → ℕ → ℕ → List ℕ → ConjunctDef → Bool
 holds_across catalogue block left right rows conjunct = if is_across left right conjunct then conjunct_holds catalogue block rows conjunct else true
 
 -- whether every conjunct holds that speaks of both sides
-abbrev pub satisfies_across : Catalogue → Block → ℕ → ℕ → List ℕ → Bool
+abbrev pub satisfies_across : CatalogDef → Block → ℕ → ℕ → List ℕ → Bool
 satisfies_across catalogue block left right rows = list_all (holds_across catalogue block left right rows) block.conjuncts
 
 -- whether two rows match: each is one of its side, and every conjunct that speaks of both sides holds of them together
-abbrev pub joins : Catalogue → Block → ℕ → ℕ → RankRow → RankRow → Bool
+abbrev pub joins : CatalogDef → Block → ℕ → ℕ → RankRow → RankRow → Bool
 joins catalogue block left right l r =
     is_side catalogue block left l && (is_side catalogue block right r && satisfies_across catalogue block left right (merge_rows l.ids.rows r.ids.rows))
 
 -- what matches the rows of two sides: of which block, the masks of the sides, and how many calls were made
 pub record Matching : Type 0 where
-  pub catalogue : Catalogue
+  pub catalogue : CatalogDef
   pub block : Block
   pub left : ℕ
   pub right : ℕ
   pub calls : ℕ
 
-abbrev pub new_matching : Catalogue → Block → ℕ → ℕ → Matching
+abbrev pub new_matching : CatalogDef → Block → ℕ → ℕ → Matching
 new_matching catalogue block left right = record { catalogue = catalogue; block = block; left = left; right = right; calls = 0 }
 
 -- the mask of the conjuncts that speak of both sides: those of both together, without those of one side

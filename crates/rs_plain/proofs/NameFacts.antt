@@ -11,7 +11,7 @@ use Rattle.rs_order.proofs.ItemFacts.{In-left, In-right}
 use Rattle.rs_rank.specs.declared.answer.Answer.{Answer}
 use Rattle.rs_expr.specs.InOrder.{InquiryEnds, InquiryFails, Inquires, Request, InquiryStops}
 use Rattle.rs_expr.specs.Scoring.{Answering, ScorerState}
-use Rattle.rs_catalog.specs.Catalogue.{Catalogue}
+use Rattle.rs_catalog.specs.Catalog.{CatalogDef}
 use Rattle.rs_query.specs.Combinations.{combinations}
 use Rattle.rs_query.specs.Tables.{all_entries}
 use Rattle.rs_query.specs.Views.{View}
@@ -32,7 +32,7 @@ each-flat_map : {X Y : Type 0} (P : Y → Type 0) (f : X → List Y) (xs : List 
 each-flat_map P f [] h = tt
 each-flat_map P f (x ∷ xs) h = each-append P (f x) (flat_map f xs) (h x) (each-flat_map P f xs h)
 
-module _ (catalogue : Catalogue) (query : Query) where
+module _ (catalogue : CatalogDef) (query : Query) where
   abbrev CallsIt : Term → Type 0
   CallsIt term = IsCalled catalogue query term.predicate
 
@@ -87,19 +87,19 @@ module _ (catalogue : Catalogue) (query : Query) where
       subst (NamesCalled catalogue query) (sym is) tt
 
 -- each question of a query
-query-called : (catalogue : Catalogue) (query : Query) (view : View) → IsQuery catalogue query → AllByRecursion (AsksIt catalogue query) (questions_of catalogue query view)
+query-called : (catalogue : CatalogDef) (query : Query) (view : View) → IsQuery catalogue query → AllByRecursion (AsksIt catalogue query) (questions_of catalogue query view)
 query-called catalogue (One block limit) view formed = questions-called catalogue (One block limit) 1 block view.first formed.0 (λ term i. i)
 query-called catalogue (Set op left right limit) view formed =
     each-append (AsksIt catalogue (Set op left right limit)) (block_questions catalogue 1 left view.first) (block_questions catalogue 2 right view.second)
     (questions-called catalogue (Set op left right limit) 1 left view.first formed.0.left_block (λ term i. In-left term left.terms right.terms i))
     (questions-called catalogue (Set op left right limit) 2 right view.second formed.0.right_block (λ term i. In-right term left.terms right.terms i))
 
-pub named-err : {A : Type 0} (catalogue : Catalogue) (query : Query) (view : View) (value : A) (result : Result (Vec Answer Global) PlainFault) (fault : PlainFault) (old new : ScorerState)
+pub named-err : {A : Type 0} (catalogue : CatalogDef) (query : Query) (view : View) (value : A) (result : Result (Vec Answer Global) PlainFault) (fault : PlainFault) (old new : ScorerState)
     → IsQuery catalogue query → Inquires Memory (asking plain_faults old.answer catalogue (questions_of catalogue query view) value) (Err fault) old new
     → result ≡ Err fault → IfErr result (NamesCalled catalogue query)
 named-err catalogue query view value result fault old new formed inquired is =
     subst (λ r. IfErr r (NamesCalled catalogue query)) (sym is)
     (comes-named catalogue query old.answer (questions_of catalogue query view) value fault old new (query-called catalogue query view formed) inquired.comes)
 
-pub named-memory : (catalogue : Catalogue) (query : Query) (result : Result (Vec Answer Global) PlainFault) → result ≡ Err Memory → IfErr result (NamesCalled catalogue query)
+pub named-memory : (catalogue : CatalogDef) (query : Query) (result : Result (Vec Answer Global) PlainFault) → result ≡ Err Memory → IfErr result (NamesCalled catalogue query)
 named-memory catalogue query result is = subst (λ r. IfErr r (NamesCalled catalogue query)) (sym is) tt

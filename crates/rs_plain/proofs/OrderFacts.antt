@@ -15,7 +15,7 @@ use Rattle.rs_rank.specs.Keys.{ids_cmp, key_cmp}
 use Rattle.rs_rank.specs.Stable.{stable}
 use Rattle.rs_rank.proofs.SortedFacts.{ids_cmp-total, stable-by_score}
 use Rattle.rs_expr.specs.Scoring.{Answering}
-use Rattle.rs_catalog.specs.Catalogue.{Catalogue}
+use Rattle.rs_catalog.specs.Catalog.{CatalogDef}
 use Rattle.rs_query.specs.Answers.{answer_of, cut, limit_of, rows_of}
 use Rattle.rs_query.specs.Views.{View}
 use Rattle.rs_query.specs.declared.query.Query.{Query}
@@ -62,7 +62,7 @@ Climbs-stable rows h =
     keyed (stable (λ (r : Answer). r.score) rows) (subst (λ ordered. Climbs answer_cmp (λ (x : Answer). x) ordered) (sym (by_score ∙ by_ids))
     (Climbs-sorted answer_cmp answer_cmp-total (λ (x : Answer). x) rows (distinct rows h)))
 
-pub Climbs-answer : (answer : Answering) (catalogue : Catalogue) (query : Query) (view : View) → Climbs key_cmp key_of_answer (answer_of answer catalogue query view)
+pub Climbs-answer : (answer : Answering) (catalogue : CatalogDef) (query : Query) (view : View) → Climbs key_cmp key_of_answer (answer_of answer catalogue query view)
 Climbs-answer answer catalogue query view =
     Climbs-cut (limit_of query) (stable (λ (r : Answer). r.score) (rows_of answer catalogue query view))
     (Climbs-stable (rows_of answer catalogue query view) (Rise-query answer catalogue query view))

@@ -11,7 +11,7 @@ use Rattle.std.proofs.Math.Nat.{mul-le-mul}
 use Rattle.rs_order.proofs.EachFacts.{each-get_or}
 use Rattle.rs_rank.specs.declared.answer.Answer.{Answer}
 use Rattle.rs_expr.specs.Scoring.{Answering}
-use Rattle.rs_catalog.specs.Catalogue.{Catalogue}
+use Rattle.rs_catalog.specs.Catalog.{CatalogDef}
 use Rattle.rs_query.specs.Answers.{score_of, worth_of}
 use Rattle.rs_query.specs.declared.block.Block.{Block}
 use Rattle.rs_query.specs.declared.term.Term.{Term}
@@ -74,7 +74,7 @@ sum-assoc : (a b c : ℕ) → a + b + c ≡ a + (b + c)
 sum-assoc a b c = omega arith
 
 -- the worth of one more term goes into the score
-pub score-more : (answer : Answering) (catalogue : Catalogue) (block : Block) (rows : List ℕ) (terms : List Term) (i : ℕ) (term : Term) (score weight worth total : ℕ)
+pub score-more : (answer : Answering) (catalogue : CatalogDef) (block : Block) (rows : List ℕ) (terms : List Term) (i : ℕ) (term : Term) (score weight worth total : ℕ)
     → i < length terms → term ≡ get_or terms i term → weight ≡ term.weight → worth ≡ worth_of answer catalogue block rows term
     → score + score_of answer catalogue block rows (drop i terms) ≡ total → score + weight * worth + score_of answer catalogue block rows (drop (i + 1) terms) ≡ total
 score-more answer catalogue block rows terms i term score weight worth total within is is_weight is_worth sum =
@@ -85,7 +85,7 @@ score-more answer catalogue block rows terms i term score weight worth total wit
     ∙ sum
 
 -- the worths of all terms are in the score
-pub score-all : (answer : Answering) (catalogue : Catalogue) (block : Block) (rows : List ℕ) (terms : List Term) (i score total : ℕ)
+pub score-all : (answer : Answering) (catalogue : CatalogDef) (block : Block) (rows : List ℕ) (terms : List Term) (i score total : ℕ)
     → length terms ≤ i → score + score_of answer catalogue block rows (drop i terms) ≡ total → score ≡ total
 score-all answer catalogue block rows terms i score total all sum =
     sym (let none : score + 0 ≡ score = omega arith in none) ∙ ap (λ ts. score + score_of answer catalogue block rows ts) (sym (drop_all i terms all)) ∙ sum

@@ -14,7 +14,7 @@ use Rattle.rs_expr.specs.Meaning.{value_of}
 use Rattle.rs_expr.specs.Predicates.{PredicateDef}
 use Rattle.rs_expr.specs.Scoring.{Answering}
 use Rattle.rs_expr.specs.declared.scorer.Call.{Call}
-use Rattle.rs_catalog.specs.Catalogue.{Catalogue, NamedTable}
+use Rattle.rs_catalog.specs.Catalog.{CatalogDef, NamedTable}
 use Rattle.rs_catalog.specs.declared.index.BoundArg.TheVariants as arg
 use Rattle.rs_value.specs.declared.set_op.SetOp.{SetOp}
 use Rattle.rs_value.specs.declared.set_op.SetOp.TheVariants.{UnionAll, Union, Intersect, Except}
@@ -47,7 +47,7 @@ abbrev answer : Answering
 answer p args = value_of p.formula args
 
 -- the tables h (name TEXT, price INT, city INT), t (x INT, y INT), u (v INT) and w (v INT), and the predicates near, p and half
-abbrev catalogue : Catalogue
+abbrev catalogue : CatalogDef
 catalogue = record {
   tables = table (codes "h") ((codes "name", kind.Text) ∷ number (codes "price") ∷ number (codes "city") ∷ [])
       ((words (codes "a") ∷ int 40 ∷ int 1 ∷ []) ∷ (words (codes "b") ∷ int 90 ∷ int 1 ∷ []) ∷ (words (codes "c") ∷ int 40 ∷ int 2 ∷ []) ∷ [])

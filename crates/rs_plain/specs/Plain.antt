@@ -4,7 +4,7 @@ use Rattle.std.specs.List.{flat_map}
 use Rattle.rs_rank.specs.declared.answer.Answer.{Answer}
 use Rattle.rs_expr.specs.InOrder.{Inquiry}
 use Rattle.rs_expr.specs.Scoring.{Answering}
-use Rattle.rs_catalog.specs.Catalogue.{Catalogue}
+use Rattle.rs_catalog.specs.Catalog.{CatalogDef}
 use Rattle.rs_query.specs.Answers.{answer_of}
 use Rattle.rs_query.specs.Asking.{faults_by}
 use Rattle.rs_query.specs.Combinations.{combinations}
@@ -24,12 +24,12 @@ abbrev pub row_questions : ℕ → Block → List ℕ → List Question
 row_questions number block rows = map (question_of number block rows) block.terms
 
 -- the questions of a block whose entries have this many rows: every combination in lexicographic order, and for each the terms
-abbrev pub block_questions : Catalogue → ℕ → Block → List ℕ → List Question
+abbrev pub block_questions : CatalogDef → ℕ → Block → List ℕ → List Question
 block_questions catalogue number block sizes =
     flat_map (row_questions number block) (combinations catalogue block sizes (all_entries block))
 
 -- the questions of a query, block after block
-abbrev pub questions_of : Catalogue → Query → View → List Question
+abbrev pub questions_of : CatalogDef → Query → View → List Question
 questions_of catalogue (One block limit) view = block_questions catalogue 1 block view.first
 questions_of catalogue (Set op left right limit) view = block_questions catalogue 1 left view.first ++ block_questions catalogue 2 right view.second
 
@@ -44,6 +44,6 @@ abbrev pub plain_faults : Faults PlainFault
 plain_faults = faults_by plain_fault
 
 -- all questions of a query are asked in order, up to the first bad number; where there is none, it has its answer
-abbrev pub evaluation_of : Answering → Catalogue → Query → View → Inquiry (List Answer) PlainFault
+abbrev pub evaluation_of : Answering → CatalogDef → Query → View → Inquiry (List Answer) PlainFault
 evaluation_of answer catalogue query view =
     asking plain_faults answer catalogue (questions_of catalogue query view) (answer_of answer catalogue query view)

@@ -6,7 +6,7 @@ use Rattle.std.proofs.lemmas.Bool.{leb-true, le-leb}
 use Rattle.std.proofs.lemmas.Bool.Decides.{Decides-and, Decides-eqb, Decides-like, Decides-or}
 use Rattle.std.proofs.lemmas.Nat.Bits.{bit_at_above}
 use Rattle.std.proofs.lemmas.Option.{none-some, same_Some, slice_get_within}
-use Rattle.rs_catalog.specs.Catalogue.{Catalogue}
+use Rattle.rs_catalog.specs.Catalog.{CatalogDef}
 use Rattle.rs_catalog.specs.Indexes.{index_of}
 use Rattle.rs_rank.specs.Masks.{has_number, mask_of}
 use Rattle.rs_query.specs.Conjuncts.{ConjunctDef}
@@ -56,7 +56,7 @@ found-decided None index = (λ e. absurd (true≢false (sym e)), λ e. absurd (n
 there : {A : Type 0} (list : List A) (number most : ℕ) (item : A) → length list ≤ most → 1 ≤ number → slice_get list (number - 1) ≡ Some item → number ≤ most
 there list number most item h some e = let within = slice_get_within list (number - 1) item e in omega arith
 
-rank_scan-decided : (catalogue : Catalogue) (block : Block) (entry number index : ℕ) → 1 ≤ entry → 1 ≤ number
+rank_scan-decided : (catalogue : CatalogDef) (block : Block) (entry number index : ℕ) → 1 ≤ entry → 1 ≤ number
     → Decides (is_rank_scan catalogue block entry number index) (IsRankScan catalogue block entry number index)
 rank_scan-decided catalogue block entry number index some_entry some_number =
     go (slice_get block.terms (number - 1)) (slice_get block.from (entry - 1)) refl refl
@@ -177,7 +177,7 @@ distinct-decided block child =
     (Decides-and block.distinct ((entries child == all_entries block) && has_no_distinct child) (itself block.distinct)
     (Decides-and (entries child == all_entries block) (has_no_distinct child) (Decides-eqb (entries child) (all_entries block)) (whole-decided child)))
 
-part-decided : (catalogue : Catalogue) (block : Block) (tree : PlanTree) → HasNumbers tree → Decides (is_part catalogue block tree) (IsPart catalogue block tree)
+part-decided : (catalogue : CatalogDef) (block : Block) (tree : PlanTree) → HasNumbers tree → Decides (is_part catalogue block tree) (IsPart catalogue block tree)
 part-decided catalogue block (SeqScan entry) n =
     (λ e. record { some = n.some; most = leb-true entry (length block.from) e }, λ is. le-leb entry (length block.from) is.most)
 part-decided catalogue block (RankScan entry term index) n = rank_scan-decided catalogue block entry term index n.0.some n.1.some
@@ -205,7 +205,7 @@ part-decided catalogue block (Distinct child) n =
     Decides-and (is_part catalogue block child) (is_distinct block child) (part-decided catalogue block child n) (distinct-decided block child)
 part-decided catalogue block (SetOperator left right) n = never
 
-complete-decided : (catalogue : Catalogue) (block : Block) (tree : PlanTree) → HasNumbers tree → Decides (is_complete catalogue block tree) (IsComplete catalogue block tree)
+complete-decided : (catalogue : CatalogDef) (block : Block) (tree : PlanTree) → HasNumbers tree → Decides (is_complete catalogue block tree) (IsComplete catalogue block tree)
 complete-decided catalogue block tree n =
     Decides-like (is_complete catalogue block tree)
     (λ all. record { part = all.0; all = all.1.0; drops = all.1.1 })
@@ -215,7 +215,7 @@ complete-decided catalogue block tree n =
     (Decides-and (entries tree == all_entries block) (not block.distinct || not (has_no_distinct tree))
     (Decides-eqb (entries tree) (all_entries block)) (demanded block.distinct (has_no_distinct tree) (whole-decided tree))))
 
-set_plan-decided : (catalogue : Catalogue) (left right : Block) (tree : PlanTree) → HasNumbers tree
+set_plan-decided : (catalogue : CatalogDef) (left right : Block) (tree : PlanTree) → HasNumbers tree
     → Decides (is_set_plan catalogue left right tree) (IsSetPlan catalogue left right tree)
 set_plan-decided catalogue left right (SeqScan entry) n = never
 set_plan-decided catalogue left right (RankScan entry term index) n = never
@@ -233,7 +233,7 @@ set_plan-decided catalogue left right (SetOperator l r) n =
     (complete-decided catalogue left l n.0)
     (Decides-and (is_complete catalogue right r) (terms l == terms r) (complete-decided catalogue right r n.1) (Decides-eqb (terms l) (terms r))))
 
-pub plan-decided : (catalogue : Catalogue) (query : Query) (tree : PlanTree) → HasNumbers tree → Decides (is_plan catalogue query tree) (IsPlan catalogue query tree)
+pub plan-decided : (catalogue : CatalogDef) (query : Query) (tree : PlanTree) → HasNumbers tree → Decides (is_plan catalogue query tree) (IsPlan catalogue query tree)
 plan-decided catalogue (One block limit) tree n =
     Decides-and (is_complete catalogue block tree) (terms tree == all_terms block)
     (complete-decided catalogue block tree n) (Decides-eqb (terms tree) (all_terms block))
@@ -248,7 +248,7 @@ term-number block number term most is = record { some = is.some; within = there 
 entry-number : (block : Block) (entry : ℕ) → length block.from ≤ 6 → IsEntryNumber block entry → IsUpTo 6 entry
 entry-number block entry most is = let below = is.most in record { some = is.some; within = omega arith }
 
-pub part-numbers : (catalogue : Catalogue) (block : Block) (tree : PlanTree) → length block.from ≤ 6 → length block.terms ≤ 8 → IsPart catalogue block tree → HasNumbers tree
+pub part-numbers : (catalogue : CatalogDef) (block : Block) (tree : PlanTree) → length block.from ≤ 6 → length block.terms ≤ 8 → IsPart catalogue block tree → HasNumbers tree
 part-numbers catalogue block (SeqScan entry) from terms is = entry-number block entry from is
 part-numbers catalogue block (RankScan entry term index) from terms is =
     (entry-number block entry from is.is_entry, term-number block term is.term terms is.is_term)
@@ -261,7 +261,7 @@ part-numbers catalogue block (NestedJoin left right) from terms is =
 part-numbers catalogue block (Distinct child) from terms is = part-numbers catalogue block child from terms is.0
 part-numbers catalogue block (SetOperator left right) from terms is = absurd is
 
-set_plan-numbers : (catalogue : Catalogue) (left right : Block) (tree : PlanTree)
+set_plan-numbers : (catalogue : CatalogDef) (left right : Block) (tree : PlanTree)
     → length left.from ≤ 6 → length left.terms ≤ 8 → length right.from ≤ 6 → length right.terms ≤ 8
     → IsSetPlan catalogue left right tree → HasNumbers tree
 set_plan-numbers catalogue left right (Rank term child) lf lt rf rt is =
@@ -274,7 +274,7 @@ set_plan-numbers catalogue left right (HashJoin l r) lf lt rf rt is = absurd is
 set_plan-numbers catalogue left right (NestedJoin l r) lf lt rf rt is = absurd is
 set_plan-numbers catalogue left right (Distinct child) lf lt rf rt is = absurd is
 
-pub plan-numbers : (catalogue : Catalogue) (query : Query) (tree : PlanTree) → IsQuery catalogue query → IsPlan catalogue query tree → HasNumbers tree
+pub plan-numbers : (catalogue : CatalogDef) (query : Query) (tree : PlanTree) → IsQuery catalogue query → IsPlan catalogue query tree → HasNumbers tree
 plan-numbers catalogue (One block limit) tree q is = part-numbers catalogue block tree q.0.most_entries q.0.most_terms is.0.part
 plan-numbers catalogue (Set op left right limit) tree q is =
     set_plan-numbers catalogue left right tree q.0.left_block.most_entries q.0.left_block.most_terms q.0.right_block.most_entries q.0.right_block.most_terms is.0

@@ -6,7 +6,7 @@ use Rattle.std.specs.Cmp.{nat_cmp_is}
 use Rattle.std.specs.Ordering.{is_eq, nat_cmp, ordering_then}
 use Rattle.std.specs.declared.cmp.Ordering.{Ordering}
 use Rattle.std.specs.declared.cmp.Ordering.TheVariants.{Less, Equal, Greater}
-use Rattle.rs_catalog.specs.Catalogue.{Catalogue}
+use Rattle.rs_catalog.specs.Catalog.{CatalogDef}
 use Rattle.rs_catalog.specs.Indexes.{index_of}
 use Rattle.rs_query.specs.declared.block.Block.{Block}
 use Rattle.rs_query.specs.declared.query.Query.{Query}
@@ -38,7 +38,7 @@ joins-tied l r m s e =
     sides-tied l r m s sides.1
 
 -- the index of a rank scan is the first one for its term, so its code needn't name it
-scan-index : (catalogue : Catalogue) (block : Block) (e t i f u j : ℕ) → IsRankScan catalogue block e t i → IsRankScan catalogue block f u j → e ≡ f → t ≡ u → i ≡ j
+scan-index : (catalogue : CatalogDef) (block : Block) (e t i f u j : ℕ) → IsRankScan catalogue block e t i → IsRankScan catalogue block f u j → e ≡ f → t ≡ u → i ≡ j
 scan-index catalogue block e t i f u j first second same_entry same_number =
     let other : IsRankScan catalogue block e t j = subst₂ (λ x y. IsRankScan catalogue block x y j) (sym same_entry) (sym same_number) second in
     let same_term : first.term ≡ other.term = same_Some first.term other.term (sym first.is_term.there ∙ other.is_term.there) in
@@ -48,7 +48,7 @@ scan-index catalogue block e t i f u j first second same_entry same_number =
     subst₂ (λ (x : Term) (y : ℕ × List ℕ). index_of y.0 x.predicate x.args e catalogue ≡ Some i) same_term same_from first.first in
     same_Some i j (sym found ∙ other.first)
 
-part-unique : (catalogue : Catalogue) (block : Block) (a b : PlanTree) → IsPart catalogue block a → IsPart catalogue block b → code_cmp (code a) (code b) ≡ Equal → a ≡ b
+part-unique : (catalogue : CatalogDef) (block : Block) (a b : PlanTree) → IsPart catalogue block a → IsPart catalogue block b → code_cmp (code a) (code b) ≡ Equal → a ≡ b
 part-unique catalogue block (SeqScan e) (SeqScan f) is_a is_b tie = ap SeqScan (exact_unsigned e f (then-tied (nat_cmp e f) Equal tie).0)
 part-unique catalogue block (SeqScan e) other is_a is_b tie = absurd (true≢false (sym (ap is_eq tie)))
 part-unique catalogue block (RankScan e t i) (RankScan f u j) is_a is_b tie =
@@ -80,7 +80,7 @@ part-unique catalogue block (Distinct a) (Distinct b) is_a is_b tie = ap Distinc
 part-unique catalogue block (Distinct a) other is_a is_b tie = absurd (true≢false (sym (ap is_eq tie)))
 part-unique catalogue block (SetOperator l r) b is_a is_b tie = absurd is_a
 
-set_plan-unique : (catalogue : Catalogue) (left right : Block) (a b : PlanTree) → IsSetPlan catalogue left right a → IsSetPlan catalogue left right b
+set_plan-unique : (catalogue : CatalogDef) (left right : Block) (a b : PlanTree) → IsSetPlan catalogue left right a → IsSetPlan catalogue left right b
     → code_cmp (code a) (code b) ≡ Equal → a ≡ b
 set_plan-unique catalogue left right (Rank t a) (Rank u b) is_a is_b tie =
     let ties = then-tied (nat_cmp t u) (code_cmp (code a) (code b)) tie in
@@ -101,10 +101,10 @@ set_plan-unique catalogue left right (NestedJoin l r) other is_a is_b tie = absu
 set_plan-unique catalogue left right (Distinct a) other is_a is_b tie = absurd is_a
 
 -- plans whose codes the order doesn't tell apart are the same, and so are plans of one code
-pub plan-tied : (catalogue : Catalogue) (query : Query) (a b : PlanTree) → IsPlan catalogue query a → IsPlan catalogue query b
+pub plan-tied : (catalogue : CatalogDef) (query : Query) (a b : PlanTree) → IsPlan catalogue query a → IsPlan catalogue query b
     → code_cmp (code a) (code b) ≡ Equal → a ≡ b
 plan-tied catalogue (One block limit) a b is_a is_b tie = part-unique catalogue block a b is_a.0.part is_b.0.part tie
 plan-tied catalogue (Set op left right limit) a b is_a is_b tie = set_plan-unique catalogue left right a b is_a.0 is_b.0 tie
 
-pub plan-unique : (catalogue : Catalogue) (query : Query) (a b : PlanTree) → IsPlan catalogue query a → IsPlan catalogue query b → code a ≡ code b → a ≡ b
+pub plan-unique : (catalogue : CatalogDef) (query : Query) (a b : PlanTree) → IsPlan catalogue query a → IsPlan catalogue query b → code a ≡ code b → a ≡ b
 plan-unique catalogue query a b is_a is_b same = plan-tied catalogue query a b is_a is_b (ap (code_cmp (code a)) (sym same) ∙ code_cmp-itself (code a))

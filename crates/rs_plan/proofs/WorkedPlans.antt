@@ -6,7 +6,7 @@ use Rattle.rs_value.specs.declared.kind.Kind.TheVariants as kind
 use Rattle.rs_value.specs.declared.rel.Rel.TheVariants.{Eq}
 use Rattle.rs_expr.specs.Formulas.{Argument, Numbers}
 use Rattle.rs_expr.specs.Predicates.{PredicateDef}
-use Rattle.rs_catalog.specs.Catalogue.{Catalogue, RankIndex}
+use Rattle.rs_catalog.specs.Catalog.{CatalogDef, RankIndex}
 use Rattle.rs_catalog.specs.declared.index.BoundArg.TheVariants as arg
 use Rattle.rs_value.specs.declared.set_op.SetOp.TheVariants.{Union}
 use Rattle.rs_query.specs.declared.block.Block.{Block}
@@ -27,7 +27,7 @@ index number column = record {
 }
 
 -- a table t of two columns, the predicates p and q, and indexes of q(y), of p(x) and of p(x) once more
-abbrev catalogue : Catalogue
+abbrev catalogue : CatalogDef
 catalogue = record {
   tables = record { name = codes "t"; table = record { schema = (codes "x", kind.Int) ∷ (codes "y", kind.Int) ∷ []; rows = [] } } ∷ [];
   predicates = predicate (codes "p") ∷ predicate (codes "q") ∷ [];

@@ -9,7 +9,7 @@ use Rattle.rs_expr.specs.Formulas.{Argument}
 use Rattle.rs_expr.specs.Meaning.{value_of}
 use Rattle.rs_expr.specs.Predicates.{PredicateDef}
 use Rattle.rs_expr.specs.declared.scorer.Call.{Call}
-use Rattle.rs_catalog.specs.Catalogue.{Catalogue}
+use Rattle.rs_catalog.specs.Catalog.{CatalogDef}
 use Rattle.rs_catalog.specs.declared.index.BoundArg.TheVariants as arg
 use Rattle.rs_query.specs.declared.query.Query.TheVariants.{One}
 use Rattle.rs_query.specs.declared.term.Term.{Term}
@@ -24,7 +24,7 @@ abbrev predicate : List ℕ → PredicateDef
 predicate name = record { name = name; params = kind.Int ∷ []; max = 10; cost = 1; formula = Argument 0 }
 
 -- a table t of two columns with these rows; the predicates p and q are their argument, and at most 10
-abbrev catalogue : List (List Value) → Catalogue
+abbrev catalogue : List (List Value) → CatalogDef
 catalogue rows = record {
   tables = record { name = codes "t"; table = record { schema = (codes "x", kind.Int) ∷ (codes "y", kind.Int) ∷ []; rows = rows } } ∷ [];
   predicates = predicate (codes "p") ∷ predicate (codes "q") ∷ [];

@@ -8,7 +8,7 @@ use Rattle.rs_order.specs.Schedule.{Left, Right, SideAsk}
 use Rattle.rs_rank.specs.declared.row.RankRow.{RankRow}
 use Rattle.rs_expr.specs.Formulas.{Argument, Quotient}
 use Rattle.rs_expr.specs.Meaning.{value_of}
-use Rattle.rs_catalog.specs.Catalogue.{NamedTable}
+use Rattle.rs_catalog.specs.Catalog.{NamedTable}
 use Rattle.rs_catalog.specs.declared.index.BoundArg.TheVariants as arg
 use Rattle.rs_value.specs.declared.set_op.SetOp.{SetOp}
 use Rattle.rs_value.specs.declared.set_op.SetOp.TheVariants.{Except, Intersect, Union}

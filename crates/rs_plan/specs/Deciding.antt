@@ -2,7 +2,7 @@
 -- the relations of `Plans` say, of trees whose numbers are those of entries and terms.
 use Rattle.std.specs.Prelude.{ℕ, ◌-◌, ◌==◌, ◌&&◌, ◌||◌, Bool, true, false, not, nat_le, bit_and, length, List, Option, Some, None, slice_get}
 use Rattle.std.specs.List.{list_any}
-use Rattle.rs_catalog.specs.Catalogue.{Catalogue}
+use Rattle.rs_catalog.specs.Catalog.{CatalogDef}
 use Rattle.rs_catalog.specs.Indexes.{index_of}
 use Rattle.rs_rank.specs.Masks.{has_number, mask_of}
 use Rattle.rs_query.specs.Conjuncts.{ConjunctDef}
@@ -21,14 +21,14 @@ is_found (Some found) index = found == index
 is_found None index = false
 
 -- a term is there that speaks of the entry alone, and the entry's table has this index as the first one for it
-abbrev pub is_scan_of : Catalogue → ℕ → ℕ → Option Term → Option (ℕ × List ℕ) → Bool
+abbrev pub is_scan_of : CatalogDef → ℕ → ℕ → Option Term → Option (ℕ × List ℕ) → Bool
 is_scan_of catalogue entry index (Some term) (Some from) =
     (term.entries == mask_of entry) && is_found (index_of from.0 term.predicate term.args entry catalogue) index
 is_scan_of catalogue entry index (Some term) None = false
 is_scan_of catalogue entry index None from = false
 
 -- the same for the term of a number in a block
-abbrev pub is_rank_scan : Catalogue → Block → ℕ → ℕ → ℕ → Bool
+abbrev pub is_rank_scan : CatalogDef → Block → ℕ → ℕ → ℕ → Bool
 is_rank_scan catalogue block entry number index =
     is_scan_of catalogue entry index (slice_get block.terms (number - 1)) (slice_get block.from (entry - 1))
 
@@ -70,7 +70,7 @@ abbrev pub is_distinct : Block → PlanTree → Bool
 is_distinct block child = block.distinct && ((entries child == all_entries block) && has_no_distinct child)
 
 -- a tree is a part of a plan of a block
-abbrev pub is_part : Catalogue → Block → PlanTree → Bool
+abbrev pub is_part : CatalogDef → Block → PlanTree → Bool
 is_part catalogue block (SeqScan entry) = nat_le entry (length block.from)
 is_part catalogue block (RankScan entry term index) = is_rank_scan catalogue block entry term index
 is_part catalogue block (Rank term child) = is_part catalogue block child && is_rank block term (entries child) (terms child)
@@ -81,12 +81,12 @@ is_part catalogue block (Distinct child) = is_part catalogue block child && is_d
 is_part catalogue block (SetOperator left right) = false
 
 -- a plan of a block: of all its entries, and with duplicates dropped where the block says so
-abbrev pub is_complete : Catalogue → Block → PlanTree → Bool
+abbrev pub is_complete : CatalogDef → Block → PlanTree → Bool
 is_complete catalogue block tree =
     is_part catalogue block tree && ((entries tree == all_entries block) && (not block.distinct || not (has_no_distinct tree)))
 
 -- the set operator of two plans, one of each block, and above it operators for the terms that they leave out
-abbrev pub is_set_plan : Catalogue → Block → Block → PlanTree → Bool
+abbrev pub is_set_plan : CatalogDef → Block → Block → PlanTree → Bool
 is_set_plan catalogue left right (SeqScan entry) = false
 is_set_plan catalogue left right (RankScan entry term index) = false
 is_set_plan catalogue left right (Rank term child) = is_set_plan catalogue left right child && is_rank left term (entries child) (terms child)
@@ -96,6 +96,6 @@ is_set_plan catalogue left right (Distinct child) = false
 is_set_plan catalogue left right (SetOperator l r) = is_complete catalogue left l && (is_complete catalogue right r && (terms l == terms r))
 
 -- a plan of a query: all its terms are evaluated
-abbrev pub is_plan : Catalogue → Query → PlanTree → Bool
+abbrev pub is_plan : CatalogDef → Query → PlanTree → Bool
 is_plan catalogue (One block limit) tree = is_complete catalogue block tree && (terms tree == all_terms block)
 is_plan catalogue (Set op left right limit) tree = is_set_plan catalogue left right tree && (terms tree == all_terms left)

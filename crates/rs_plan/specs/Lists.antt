@@ -1,6 +1,6 @@
 -- The list of a node of a plan: the rows that it gives, one after another, until it is asked no more.
 use Rattle.std.specs.Prelude.{ℕ, ◌==◌, List, bit_or, map, if◌then◌else◌}
-use Rattle.rs_catalog.specs.Catalogue.{Catalogue}
+use Rattle.rs_catalog.specs.Catalog.{CatalogDef}
 use Rattle.rs_order.specs.Sorting.{sorted}
 use Rattle.rs_rank.specs.Keys.{key_cmp}
 use Rattle.rs_rank.specs.Masks.{mask_of}
@@ -22,7 +22,7 @@ use Rattle.rs_plan.specs.Trees.{Distinct, HashJoin, NestedJoin, Rank, RankScan, 
 
 -- what the rows of a query are made of: the catalogue, what the scorer answers, the query, and how many rows of its tables it sees
 pub record World : Type 0 where
-  pub catalogue : Catalogue
+  pub catalogue : CatalogDef
   pub answer : Answering
   pub query : Query
   pub view : View

@@ -1,6 +1,6 @@
 -- Which trees are plans of a query.
 use Rattle.std.specs.Prelude.{ℕ, ◌≡◌, ◌≤◌, ◌-◌, ◌⊎◌, true, false, List, length, Some, slice_get}
-use Rattle.rs_catalog.specs.Catalogue.{Catalogue}
+use Rattle.rs_catalog.specs.Catalog.{CatalogDef}
 use Rattle.rs_catalog.specs.Indexes.{index_of}
 use Rattle.rs_rank.specs.Masks.{AreDisjoint, has_number, mask_of}
 use Rattle.rs_query.specs.Answers.{all_terms}
@@ -24,7 +24,7 @@ pub record IsTermOf (block : Block) (number : ℕ) (term : Term) : Type 0 where
   pub there : slice_get block.terms (number - 1) ≡ Some term
 
 -- the entry's table has a rank index for the term, this one the first, and the term speaks of no other entry
-pub record IsRankScan (catalogue : Catalogue) (block : Block) (entry number index : ℕ) : Type 0 where
+pub record IsRankScan (catalogue : CatalogDef) (block : Block) (entry number index : ℕ) : Type 0 where
   pub is_entry : IsEntryNumber block entry
   pub term : Term
   pub is_term : IsTermOf block number term
@@ -78,7 +78,7 @@ pub record IsDistinct (block : Block) (child : PlanTree) : Type 0 where
   pub first : HasNoDistinct child
 
 -- a tree is a part of a plan of a block
-abbrev pub IsPart : Catalogue → Block → PlanTree → Type 0
+abbrev pub IsPart : CatalogDef → Block → PlanTree → Type 0
 IsPart catalogue block (SeqScan entry) = IsEntryNumber block entry
 IsPart catalogue block (RankScan entry term index) = IsRankScan catalogue block entry term index
 IsPart catalogue block (Rank term child) = IsPart catalogue block child × IsRank block term child
@@ -89,18 +89,18 @@ IsPart catalogue block (Distinct child) = IsPart catalogue block child × IsDist
 IsPart catalogue block (SetOperator left right) = ⊥
 
 -- a plan of a block: of all its entries, and with duplicates dropped where the block says so
-pub record IsComplete (catalogue : Catalogue) (block : Block) (tree : PlanTree) : Type 0 where
+pub record IsComplete (catalogue : CatalogDef) (block : Block) (tree : PlanTree) : Type 0 where
   pub part : IsPart catalogue block tree
   pub all : entries tree ≡ all_entries block
   pub drops : block.distinct ≡ true → ¬ HasNoDistinct tree
 
 -- the set operator of two plans, one of each block, that evaluate the same terms; and above it operators for the others
-abbrev pub IsSetPlan : Catalogue → Block → Block → PlanTree → Type 0
+abbrev pub IsSetPlan : CatalogDef → Block → Block → PlanTree → Type 0
 IsSetPlan catalogue left right (SetOperator l r) = IsComplete catalogue left l × IsComplete catalogue right r × (terms l ≡ terms r)
 IsSetPlan catalogue left right (Rank term child) = IsSetPlan catalogue left right child × IsRank left term child
 IsSetPlan catalogue left right _ = ⊥
 
 -- a plan of a query: all its terms are evaluated
-abbrev pub IsPlan : Catalogue → Query → PlanTree → Type 0
+abbrev pub IsPlan : CatalogDef → Query → PlanTree → Type 0
 IsPlan catalogue (One block limit) tree = IsComplete catalogue block tree × (terms tree ≡ all_terms block)
 IsPlan catalogue (Set op left right limit) tree = IsSetPlan catalogue left right tree × (terms tree ≡ all_terms left)

@@ -3,7 +3,7 @@
 ghost use Rattle.std.specs.Prelude.{◌≡◌};
 ghost use Rattle.std.specs.Cmp.{IsTotalOrder};
 ghost use Rattle.std.specs.declared.cmp.Ordering.TheVariants.{Equal};
-ghost use Rattle.rs_catalog.specs.Catalogue.{Catalogue};
+ghost use Rattle.rs_catalog.specs.Catalog.{CatalogDef};
 ghost use Rattle.rs_query.specs.declared.query.Query.{Query};
 ghost use Rattle.rs_query.specs.WellFormed.{IsQuery};
 ghost use Rattle.rs_plan.specs.Numbers.{HasNumbers};
@@ -12,9 +12,9 @@ ghost use Rattle.rs_plan.specs.Trees.{PlanTree, code, code_cmp};
 
 /// Different plans of a query have different codes, and no comparison of codes takes them for equal.
 pub fn different_plans_have_different_codes()
-    ensures codes { (catalogue : Catalogue) (query : Query) (a b : PlanTree) → IsPlan catalogue query a → IsPlan catalogue query b
+    ensures codes { (catalogue : CatalogDef) (query : Query) (a b : PlanTree) → IsPlan catalogue query a → IsPlan catalogue query b
         → code a ≡ code b → a ≡ b }
-    ensures order { (catalogue : Catalogue) (query : Query) (a b : PlanTree) → IsPlan catalogue query a → IsPlan catalogue query b
+    ensures order { (catalogue : CatalogDef) (query : Query) (a b : PlanTree) → IsPlan catalogue query a → IsPlan catalogue query b
         → code_cmp (code a) (code b) ≡ Equal → a ≡ b }
 {}
 
@@ -26,6 +26,6 @@ pub fn code_order_is_total()
 
 /// The numbers that stand in a plan of a query are those of entries and terms.
 pub fn plans_have_numbers()
-    ensures { (catalogue : Catalogue) (query : Query) (tree : PlanTree) → IsQuery catalogue query → IsPlan catalogue query tree
+    ensures { (catalogue : CatalogDef) (query : Query) (tree : PlanTree) → IsQuery catalogue query → IsPlan catalogue query tree
         → HasNumbers tree }
 {}

@@ -6,13 +6,13 @@ use Rattle.std.proofs.lemmas.List.{take_all}
 use Rattle.rs_value.specs.Value.{all_fit, fits}
 use Rattle.rs_value.specs.declared.kind.Kind.{Kind}
 use Rattle.rs_value.specs.declared.value.Value.{Value}
-use Rattle.rs_catalog.specs.Catalogue.{Catalogue}
+use Rattle.rs_catalog.specs.Catalog.{CatalogDef}
 use Rattle.rs_catalog.specs.declared.index.BoundArg.{BoundArg}
 use Rattle.rs_query.proofs.ListFacts.{take-slice_get}
 use Rattle.rs_query.specs.declared.block.Block.{Block}
 use Rattle.rs_query.specs.WellFormed.{AreArgs, IsArg}
 
-module _ (catalogue : Catalogue) (block : Block) where
+module _ (catalogue : CatalogDef) (block : Block) where
   -- there are as many arguments as kinds
   length-AreArgs : (kinds : List Kind) (args : List BoundArg) → AreArgs catalogue block kinds args → length kinds ≡ length args
   length-AreArgs [] [] are = refl

@@ -12,7 +12,7 @@ use Rattle.rs_expr.specs.declared.scorer.ScorerFault.{ScorerFault}
 use Rattle.rs_expr.specs.declared.scorer.ScorerFault.TheVariants as call_fault
 use Rattle.rs_expr.proofs.InOrderFacts.{Inquires-failed, Inquires-one, Inquires-stopped, Inquires-uncalled, one}
 use Rattle.rs_expr.proofs.ScoringFacts.{Scored}
-use Rattle.rs_catalog.specs.Catalogue.{Catalogue}
+use Rattle.rs_catalog.specs.Catalog.{CatalogDef}
 use Rattle.rs_query.specs.Answers.{clamped, predicate_at}
 use Rattle.rs_query.specs.Meaning.{argument_values}
 use Rattle.rs_query.specs.declared.block.Block.{Block}
@@ -26,11 +26,11 @@ clamped-score max (pos n) score = omega (arith, leb-true n max score)
 clamped-score max (negsuc n) score = cc
 
 -- the predicate of a number is the one that the catalogue has there
-pub predicate_at-is : (catalogue : Catalogue) (number : ℕ) (predicate : PredicateDef) → slice_get catalogue.predicates number ≡ Some predicate → predicate_at catalogue number ≡ predicate
+pub predicate_at-is : (catalogue : CatalogDef) (number : ℕ) (predicate : PredicateDef) → slice_get catalogue.predicates number ≡ Some predicate → predicate_at catalogue number ≡ predicate
 predicate_at-is catalogue number predicate has = rw has refl
 
 module _ {F : Type 0} (faults : Faults F) (memory : F) where
-  module _ (catalogue : Catalogue) (block : Block) (ids : Ids) (term : Term) where
+  module _ (catalogue : CatalogDef) (block : Block) (ids : Ids) (term : Term) where
     abbrev question : Question
     question = question_of ids.block block ids.rows term
 

@@ -14,7 +14,7 @@ use Rattle.rs_table.specs.Relation.{Relation, cell_at}
 use Rattle.rs_expr.proofs.UsesFacts.{condition_uses_more}
 use Rattle.rs_expr.specs.Formulas.{Condition}
 use Rattle.rs_expr.specs.Uses.{condition_uses, has_argument, is_kind}
-use Rattle.rs_catalog.specs.Catalogue.{Catalogue, NamedTable}
+use Rattle.rs_catalog.specs.Catalog.{CatalogDef, NamedTable}
 use Rattle.rs_query.proofs.ListFacts.{take-slice_get}
 use Rattle.rs_query.specs.declared.block.Block.{Block}
 use Rattle.rs_query.specs.Meaning.{column_value}
@@ -26,7 +26,7 @@ mapped : {A B : Type 0} (f : A → B) (o : Option A) (b : B) → option_map f o 
 mapped f (Some a) b e = (a, refl, cc)
 mapped f None b e = cc
 
-module _ (catalogue : Catalogue) (block : Block) where
+module _ (catalogue : CatalogDef) (block : Block) where
   -- the table of an entry
   pub entry_table-entry : (entry : ℕ) (from : ℕ × List ℕ) (table : Relation) → slice_get block.from (entry - 1) ≡ Some from
       → option_map (λ (t : NamedTable). t.table) (slice_get catalogue.tables from.0) ≡ Some table → entry_table catalogue block entry ≡ Some table

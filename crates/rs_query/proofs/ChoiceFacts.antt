@@ -10,7 +10,7 @@ use Rattle.std.proofs.lemmas.Bool.{cases_lt}
 use Rattle.std.proofs.lemmas.Cmp.{nat_cmp_total, tied_itself}
 use Rattle.rs_order.specs.Climbing.{Climbs, In, Precedes}
 use Rattle.rs_order.proofs.ClimbingFacts.{AllByRecursion-In}
-use Rattle.rs_catalog.specs.Catalogue.{Catalogue}
+use Rattle.rs_catalog.specs.Catalog.{CatalogDef}
 use Rattle.rs_query.specs.declared.block.Block.{Block}
 use Rattle.rs_query.specs.Choices.{IsChoice, IsRowNumber}
 use Rattle.rs_query.specs.Combinations.{choices, combinations, numbers_to, satisfies}
@@ -117,7 +117,7 @@ Climbs-choices mask [] = (tt, tt)
 Climbs-choices mask (size ∷ sizes) =
     Climbs-rows (numbers_of (eqb (mask % 2) 0) size) (choices (mask / 2) sizes) (Climbs-numbers_of (eqb (mask % 2) 0) size) (Climbs-choices (mask / 2) sizes)
 
-module _ (catalogue : Catalogue) (block : Block) (sizes : List ℕ) (mask : ℕ) where
+module _ (catalogue : CatalogDef) (block : Block) (sizes : List ℕ) (mask : ℕ) where
   -- combinations are the choices that satisfy the conditions
   pub In-combinations : (rows : List ℕ) → IsChoice mask sizes rows → satisfies catalogue block mask rows ≡ true → In rows (combinations catalogue block sizes mask)
   In-combinations rows is holds = In-filter (satisfies catalogue block mask) rows (choices mask sizes) (In-choices mask sizes rows is) holds

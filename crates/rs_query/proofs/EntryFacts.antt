@@ -10,7 +10,7 @@ use Rattle.std.proofs.lemmas.Nat.Bits.{bit_at-lt, bit_at-pow_same, bit_at_and, b
 use Rattle.std.proofs.Math.Nat.{mod-eq_of_lt}
 use Rattle.rs_value.specs.declared.kind.Kind.{Kind}
 use Rattle.rs_rank.specs.Masks.{has_number, mask_of}
-use Rattle.rs_catalog.specs.Catalogue.{Catalogue}
+use Rattle.rs_catalog.specs.Catalog.{CatalogDef}
 use Rattle.rs_catalog.specs.declared.index.BoundArg.{BoundArg}
 use Rattle.rs_catalog.specs.declared.index.BoundArg.TheVariants as arg
 use Rattle.rs_order.proofs.EachFacts.{each-weaker}
@@ -69,7 +69,7 @@ has_number-inside number mask e =
     eq-eqb (bit_at mask (number - 1)) 1 (omega arith)
 
 -- the entry of a column inside a mask has a row, where each in the mask has one
-pub row-inside : (catalogue : Catalogue) (block : Block) (mask : ℕ) (rows : List ℕ) (column : ℕ × ℕ) → HasRows catalogue block mask rows → IsColumn catalogue block column
+pub row-inside : (catalogue : CatalogDef) (block : Block) (mask : ℕ) (rows : List ℕ) (column : ℕ × ℕ) → HasRows catalogue block mask rows → IsColumn catalogue block column
     → is_inside (mask_of column.0) mask ≡ true → HasRow catalogue block rows column.0
 row-inside catalogue block mask rows column has is inside = has column.0 is.0 is.1 (has_number-inside column.0 mask inside)
 
@@ -108,7 +108,7 @@ arg-inside (arg.Column entry column ∷ args) (suc i) a mask inside at =
 arg-inside (arg.Int n ∷ args) (suc i) a mask inside at = arg-inside args i a mask inside at
 arg-inside (arg.Text t ∷ args) (suc i) a mask inside at = arg-inside args i a mask inside at
 
-module _ (catalogue : Catalogue) (block : Block) where
+module _ (catalogue : CatalogDef) (block : Block) where
   -- the entries of columns of a block are inside all its entries
   pub entries_mask-inside : (columns : List (ℕ × ℕ)) → AllByRecursion (IsColumn catalogue block) columns → is_inside (entries_mask columns) (all_entries block) ≡ true
   entries_mask-inside [] all = refl

@@ -22,7 +22,7 @@ use Rattle.rs_expr.specs.Formulas.{Argument, Condition, Numbers, Texts}
 use Rattle.rs_expr.specs.Meaning.{argument_number, argument_text, holds}
 use Rattle.rs_expr.specs.Uses.{condition_uses}
 use Rattle.rs_expr.specs.declared.expr.TextSide.TheVariants as side
-use Rattle.rs_catalog.specs.Catalogue.{Catalogue}
+use Rattle.rs_catalog.specs.Catalog.{CatalogDef}
 use Rattle.rs_query.specs.declared.block.Block.{Block}
 use Rattle.rs_query.specs.Conjuncts.{ConjunctDef}
 use Rattle.rs_query.specs.Meaning.{column_value, conjunct_holds}
@@ -58,7 +58,7 @@ equality-back condition columns a b e = go (equated condition) refl where
       record { left = places.0; right = places.1; is_equated = some; left_there = parts.0; right_there = parts.1 }
 
 -- the value of a column that stands among some columns stands at the same place among their values
-pub value-at : (catalogue : Catalogue) (block : Block) (rows : List ℕ) (columns : List (ℕ × ℕ)) (i : ℕ) (column : ℕ × ℕ) → slice_get columns i ≡ Some column
+pub value-at : (catalogue : CatalogDef) (block : Block) (rows : List ℕ) (columns : List (ℕ × ℕ)) (i : ℕ) (column : ℕ × ℕ) → slice_get columns i ≡ Some column
     → slice_get (map (column_value catalogue block rows) columns) i ≡ Some (column_value catalogue block rows column)
 value-at catalogue block rows columns i column there =
     slice_get-map (column_value catalogue block rows) columns i ∙ ap (option_map (column_value catalogue block rows)) there
@@ -112,7 +112,7 @@ equated-holds has (Texts Eq (side.Arg k) (side.Arg l)) args i j u v is at_u at_v
     (ap (slice_get args) first ∙ at_u) (ap (slice_get args) second ∙ at_v)
 equated-holds has condition args i j u v is at_u at_v uses fit_u fit_v = absurd (cc)
 
-module _ (catalogue : Catalogue) (block : Block) where
+module _ (catalogue : CatalogDef) (block : Block) where
   -- the columns that a conjunct equates, among its columns
   pub conjunct-equated : (c : ConjunctDef) → IsConjunct catalogue block c → (a b : ℕ × ℕ) → c.equality ≡ Some (a, b) → IsEquated c.condition c.columns a b
   conjunct-equated c is a b e = equality-back c.condition c.columns a b (sym is.equality ∙ e)

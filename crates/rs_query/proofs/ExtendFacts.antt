@@ -10,7 +10,7 @@ use Rattle.std.proofs.lemmas.Nat.Bits.{bit_at-suc, bit_at_lowest, bit_at_ones, b
 use Rattle.std.proofs.lemmas.Option.{unwrap_or-slice_get}
 use Rattle.rs_order.specs.Climbing.{In}
 use Rattle.rs_order.proofs.ClimbingFacts.{AllByRecursion-from_In}
-use Rattle.rs_catalog.specs.Catalogue.{Catalogue}
+use Rattle.rs_catalog.specs.Catalog.{CatalogDef}
 use Rattle.rs_query.specs.declared.block.Block.{Block}
 use Rattle.rs_query.specs.Choices.{AgreeOn, IsChoice, IsRowNumber}
 use Rattle.rs_query.specs.Combinations.{all_combinations, choices, holds_inside, numbers_to, satisfies}
@@ -66,7 +66,7 @@ IsChoice-length mask (size ∷ sizes) [] is = absurd is
 IsChoice-length mask (size ∷ sizes) (row ∷ rows) is = ap suc (IsChoice-length (mask / 2) sizes rows is.1)
 
 -- the number of rows of one of six entries
-get_or-sizes_of : (catalogue : Catalogue) (block : Block) (i : ℕ) → i < 6 → get_or (sizes_of catalogue block) i 0 ≡ size_of catalogue block (suc i)
+get_or-sizes_of : (catalogue : CatalogDef) (block : Block) (i : ℕ) → i < 6 → get_or (sizes_of catalogue block) i 0 ≡ size_of catalogue block (suc i)
 get_or-sizes_of catalogue block zero within = refl
 get_or-sizes_of catalogue block (suc zero) within = refl
 get_or-sizes_of catalogue block (suc (suc zero)) within = refl
@@ -76,7 +76,7 @@ get_or-sizes_of catalogue block (suc (suc (suc (suc (suc zero))))) within = refl
 get_or-sizes_of catalogue block (suc (suc (suc (suc (suc (suc i)))))) within = absurd (omega arith)
 
 -- a choice has rows
-pub HasRows-choice : (catalogue : Catalogue) (block : Block) (mask : ℕ) (rows : List ℕ) → length block.from ≤ 6 → IsChoice mask (sizes_of catalogue block) rows → HasRows catalogue block mask rows
+pub HasRows-choice : (catalogue : CatalogDef) (block : Block) (mask : ℕ) (rows : List ℕ) → length block.from ≤ 6 → IsChoice mask (sizes_of catalogue block) rows → HasRows catalogue block mask rows
 HasRows-choice catalogue block mask rows most is entry some last has =
     let at : row_number rows entry ≡ get_or rows (entry - 1) 0 = unwrap_or-slice_get rows (entry - 1) 0 in
     let number : suc (entry - 1) ≡ entry = omega arith in
@@ -86,7 +86,7 @@ HasRows-choice catalogue block mask rows most is entry some last has =
     (subst (λ n. 1 ≤ n) (sym at) both.0, subst (λ n. n ≤ size_of catalogue block entry) (sym at) (subst (λ n. get_or rows (entry - 1) 0 ≤ n) size both.1))
 
 -- and so does each combination
-pub HasRows-combinations : (catalogue : Catalogue) (block : Block) → length block.from ≤ 6 → AllByRecursion (HasRows catalogue block (all_entries block)) (all_combinations catalogue block)
+pub HasRows-combinations : (catalogue : CatalogDef) (block : Block) → length block.from ≤ 6 → AllByRecursion (HasRows catalogue block (all_entries block)) (all_combinations catalogue block)
 HasRows-combinations catalogue block most =
     AllByRecursion-from_In (HasRows catalogue block (all_entries block)) (all_combinations catalogue block)
     (λ rows h. HasRows-choice catalogue block (all_entries block) rows most (In-combinations-back catalogue block (sizes_of catalogue block) (all_entries block) rows h).0)
@@ -127,7 +127,7 @@ and_both true b e = (refl, e)
 and_both false b e = cc
 
 -- where the conjuncts within some entries fail of some rows, those within more of them fail of what begins with these rows
-module _ (catalogue : Catalogue) (block : Block) (mask whole : ℕ) (xs ys : List ℕ) (agree : AgreeOn mask xs ys) (more : (e : ℕ) → is_inside e mask ≡ true → is_inside e whole ≡ true) where
+module _ (catalogue : CatalogDef) (block : Block) (mask whole : ℕ) (xs ys : List ℕ) (agree : AgreeOn mask xs ys) (more : (e : ℕ) → is_inside e mask ≡ true → is_inside e whole ≡ true) where
   holds_inside-fewer : (conjunct : ConjunctDef) → IsConjunct catalogue block conjunct → holds_inside catalogue block whole ys conjunct ≡ true → holds_inside catalogue block mask xs conjunct ≡ true
   holds_inside-fewer conjunct is holds =
       (elim (is_inside conjunct.entries mask) as (λ b. is_inside conjunct.entries mask ≡ b → cond b (conjunct_holds catalogue block xs conjunct) true ≡ true) [
@@ -183,10 +183,10 @@ extensions-whole (suc n) (row ∷ rows) (size ∷ sizes) most is =
     ∙ ap (map (λ rest. row ∷ rest)) (extensions-whole n rows sizes (omega arith) (subst (λ m. IsChoice m sizes rows) (prefix-others n) is.1))
 
 -- the combinations that begin with a row more
-abbrev pub with_row : Catalogue → Block → ℕ → List ℕ → ℕ → List (List ℕ)
+abbrev pub with_row : CatalogDef → Block → ℕ → List ℕ → ℕ → List (List ℕ)
 with_row catalogue block n rows row = combinations_from catalogue block (n + 1) (set rows n row)
 
-module _ (catalogue : Catalogue) (block : Block) (is : IsBlock catalogue block) where
+module _ (catalogue : CatalogDef) (block : Block) (is : IsBlock catalogue block) where
   -- where a condition fails there is no combination
   pub combinations_from-none : (n : ℕ) (rows : List ℕ) → IsPartialCombination catalogue block n rows → satisfies catalogue block (2 ^ n - 1) rows ≡ false → combinations_from catalogue block n rows ≡ []
   unfolding combinations_from
@@ -245,11 +245,11 @@ module _ (catalogue : Catalogue) (block : Block) (is : IsBlock catalogue block) 
   pub HasRows-prefix : (n : ℕ) (rows : List ℕ) → IsPartialCombination catalogue block n rows → HasRows catalogue block (2 ^ n - 1) rows
   HasRows-prefix n rows prefix = HasRows-choice catalogue block (2 ^ n - 1) rows is.most_entries prefix.choice
 
-pub combinations_from-all : (catalogue : Catalogue) (block : Block) (rows : List ℕ) → combinations_from catalogue block 0 rows ≡ all_combinations catalogue block
+pub combinations_from-all : (catalogue : CatalogDef) (block : Block) (rows : List ℕ) → combinations_from catalogue block 0 rows ≡ all_combinations catalogue block
 unfolding combinations_from extensions
 combinations_from-all catalogue block rows = refl
 
 -- and all begin with none
-pub combinations_from-found : (catalogue : Catalogue) (block : Block) (rows : List ℕ) (start found : List (List ℕ)) → start ≡ [] → found ≡ start ++ combinations_from catalogue block 0 rows → found ≡ all_combinations catalogue block
+pub combinations_from-found : (catalogue : CatalogDef) (block : Block) (rows : List ℕ) (start found : List (List ℕ)) → start ≡ [] → found ≡ start ++ combinations_from catalogue block 0 rows → found ≡ all_combinations catalogue block
 combinations_from-found catalogue block rows start found empty e =
     e ∙ ap (λ lists. lists ++ combinations_from catalogue block 0 rows) empty ∙ combinations_from-all catalogue block rows

@@ -4,7 +4,7 @@ use Rattle.std.specs.Prelude.{slice_get}
 use Rattle.std.proofs.lemmas.List.{drop_more}
 use Rattle.std.proofs.Math.Nat.{div-one}
 use Rattle.rs_rank.proofs.MaskFacts.{half-before, half-behind}
-use Rattle.rs_catalog.specs.Catalogue.{Catalogue}
+use Rattle.rs_catalog.specs.Catalog.{CatalogDef}
 use Rattle.rs_query.specs.declared.block.Block.{Block}
 use Rattle.rs_query.specs.Conjuncts.{ConjunctDef}
 use Rattle.rs_query.specs.Meaning.{AreInside, all_hold, conjunct_holds, is_inside}
@@ -19,7 +19,7 @@ AreInside-at conjuncts mask (first ∷ all) zero conjunct inside at bit =
 AreInside-at conjuncts mask (first ∷ all) (suc i) conjunct inside at bit =
     AreInside-at (conjuncts / 2) mask all i conjunct inside.1 at (rw (half-before conjuncts i) at bit)
 
-module _ (catalogue : Catalogue) (block : Block) (rows : List ℕ) where
+module _ (catalogue : CatalogDef) (block : Block) (rows : List ℕ) where
   -- the conjuncts from a place on
   abbrev pub hold_from : ℕ → List ConjunctDef → ℕ → Bool
   hold_from conjuncts all i = all_hold catalogue block (conjuncts / 2 ^ i) rows (drop i all)

@@ -9,7 +9,7 @@ use Rattle.rs_value.specs.declared.value.Value.TheVariants as value
 use Rattle.rs_table.specs.Relation.{Relation}
 use Rattle.rs_expr.specs.Scores.{is_score, as_score}
 use Rattle.rs_expr.specs.Scoring.{Answering}
-use Rattle.rs_catalog.specs.Catalogue.{Catalogue}
+use Rattle.rs_catalog.specs.Catalog.{CatalogDef}
 use Rattle.rs_catalog.specs.Indexes.{arg_value, args_in, predicate_for, same_arg, same_args}
 use Rattle.rs_catalog.specs.declared.index.BoundArg.{BoundArg}
 use Rattle.rs_catalog.specs.declared.index.BoundArg.TheVariants as arg
@@ -23,7 +23,7 @@ use Rattle.rs_query.proofs.AskFacts.{clamped-score}
 use Rattle.rs_query.proofs.CellFacts.{IsOf-table}
 
 -- arguments of a term that are those of an index have the same values for the rows that have this row at the entry
-module _ (catalogue : Catalogue) (block : Block) (entry : ℕ) (rows : List ℕ) (table : Relation) (values : List Value)
+module _ (catalogue : CatalogDef) (block : Block) (entry : ℕ) (rows : List ℕ) (table : Relation) (values : List Value)
     (there : entry_table catalogue block entry ≡ Some table) (here : slice_get table.rows (row_number rows entry - 1) ≡ Some values) where
   argument-same : (a b : BoundArg) → same_arg entry a b ≡ true → argument_value catalogue block rows a ≡ arg_value values b
   argument-same (arg.Column e c) (arg.Column f d) same =
@@ -50,7 +50,7 @@ module _ (catalogue : Catalogue) (block : Block) (entry : ℕ) (rows : List ℕ)
       let parts = and_parts (same_arg entry a b) (same_args entry args others) same in
       ap₂ (λ (v : Value) (vs : List Value). v ∷ vs) (argument-same a b parts.0) (arguments-same args others parts.1)
 
-module _ (answer : Answering) (catalogue : Catalogue) (block : Block) (entry : ℕ) (term : Term) (def : IndexDef) (predicate_is : def.predicate ≡ term.predicate)
+module _ (answer : Answering) (catalogue : CatalogDef) (block : Block) (entry : ℕ) (term : Term) (def : IndexDef) (predicate_is : def.predicate ≡ term.predicate)
     (args_are : same_args entry term.args def.args ≡ true) where
   -- a number that the index got for a row, where it is a score, is what the term is worth for it
   pub index-worth : (rows : List ℕ) (table : Relation) (values : List Value) → entry_table catalogue block entry ≡ Some table → slice_get table.rows (row_number rows entry - 1) ≡ Some values

@@ -12,7 +12,7 @@ use Rattle.rs_value.specs.declared.value.Value.TheVariants as value
 use Rattle.rs_table.specs.Relation.{Relation, cell_at}
 use Rattle.rs_rank.specs.Masks.{has_number, mask_of}
 use Rattle.rs_expr.specs.Meaning.{holds}
-use Rattle.rs_catalog.specs.Catalogue.{Catalogue}
+use Rattle.rs_catalog.specs.Catalog.{CatalogDef}
 use Rattle.rs_catalog.specs.declared.index.BoundArg.{BoundArg}
 use Rattle.rs_catalog.specs.declared.index.BoundArg.TheVariants as arg
 use Rattle.rs_query.specs.declared.block.Block.{Block}
@@ -58,7 +58,7 @@ inside-has entries mask entry inside has =
 pub columns-have : (columns : List (ℕ × ℕ)) (mask : ℕ) → is_inside (entries_mask columns) mask ≡ true → (column : ℕ × ℕ) → In column columns → has_number mask column.0 ≡ true
 columns-have columns mask inside column h = inside-has (entries_mask columns) mask column.0 inside (entries_mask-has column columns h)
 
-module _ (catalogue : Catalogue) (block : Block) (mask : ℕ) (xs ys : List ℕ) (agree : AgreeOn mask xs ys) where
+module _ (catalogue : CatalogDef) (block : Block) (mask : ℕ) (xs ys : List ℕ) (agree : AgreeOn mask xs ys) where
   -- the value of a column
   pub column_value-local : (column : ℕ × ℕ) → 1 ≤ column.0 → has_number mask column.0 ≡ true → column_value catalogue block xs column ≡ column_value catalogue block ys column
   column_value-local column some has =

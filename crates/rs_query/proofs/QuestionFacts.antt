@@ -6,11 +6,11 @@ use Rattle.rs_expr.specs.InOrder.{Inquires, Request, calls_of}
 use Rattle.rs_expr.specs.Scoring.{Answering, KeepsScorer, Made, ScorerState}
 use Rattle.rs_expr.proofs.InOrderFacts.{Begins, InquiryEnds-ok, Inquires-begun, Inquires-behind, behind}
 use Rattle.rs_expr.proofs.ScoringFacts.{KeepsScorer-refl, KeepsScorer-then, Made-append, Made-none}
-use Rattle.rs_catalog.specs.Catalogue.{Catalogue}
+use Rattle.rs_catalog.specs.Catalog.{CatalogDef}
 use Rattle.rs_query.specs.Questions.{Faults, Question, asking, bad_score, call_for, first_of, is_bad, outcome_for, request_for, through_first}
 use Rattle.rs_query.proofs.ThroughFacts.{Leads-with, first-behind, first-found, through-all, through-behind}
 
-module _ (answer : Answering) (catalogue : Catalogue) where
+module _ (answer : Answering) (catalogue : CatalogDef) where
   -- these questions were asked, and no answer was bad
   pub record AllAsked (questions : List Question) (old new : ScorerState) : Type 0 where
     pub good : first_of (is_bad answer catalogue) questions ≡ None
@@ -34,7 +34,7 @@ module _ (answer : Answering) (catalogue : Catalogue) where
     pub is_value : given ≡ value
 
 module _ {F : Type 0} (faults : Faults F) (memory : F) where
-  module _ (answer : Answering) (catalogue : Catalogue) where
+  module _ (answer : Answering) (catalogue : CatalogDef) where
     abbrev no_score : Question → Bool
     no_score = is_bad answer catalogue
 
@@ -148,7 +148,7 @@ module _ {F : Type 0} (faults : Faults F) (memory : F) where
         (Begins-behind done next rest all value whole is asked.good)
         (Inquires-behind memory (map request done) (asking faults answer catalogue next value) (Err fault) old middle new (Made-requests done old middle asked.made) asked.keeps inquired)
 
-  module _ (catalogue : Catalogue) {A B : Type 0} where
+  module _ (catalogue : CatalogDef) {A B : Type 0} where
     -- the same by the scorer's answers, which stay
     pub Failed-behind : (done next rest all : List Question) (value : Answering → A) (whole : B) (fault : F) (result : Result B F)
         (old middle new : ScorerState) → all ≡ done ++ (next ++ rest) → result ≡ Err fault → AllAsked old.answer catalogue done old middle
@@ -159,7 +159,7 @@ module _ {F : Type 0} (faults : Faults F) (memory : F) where
         (Inquires-fault old.answer catalogue done next rest all (value old.answer) whole fault old middle new is asked
         (subst (λ a. Inquires memory (asking faults a catalogue next (value a)) (Err fault) middle new) asked.keeps.answer inquired))
 
-  module _ (catalogue : Catalogue) {A : Type 0} where
+  module _ (catalogue : CatalogDef) {A : Type 0} where
     -- an inquiry behind others that gave a value
     pub Gave-behind : (done next : List Question) (value : Answering → A) (given : A) (old middle new : ScorerState) → AllAsked old.answer catalogue done old middle
         → Inquires memory (asking faults middle.answer catalogue next (value middle.answer)) (Ok given) middle new

@@ -16,7 +16,7 @@ use Rattle.rs_rank.specs.declared.weights.Weights.{Weights}
 use Rattle.rs_rank.proofs.SortedFacts.{stable-by_key}
 use Rattle.rs_rank.proofs.StableFacts.{stable-map}
 use Rattle.rs_expr.specs.Scoring.{Answering}
-use Rattle.rs_catalog.specs.Catalogue.{Catalogue}
+use Rattle.rs_catalog.specs.Catalog.{CatalogDef}
 use Rattle.rs_query.specs.Answers.{padded, score_of, weights_of, worth_of}
 use Rattle.rs_query.specs.WellFormed.{AreSameTerms}
 use Rattle.rs_query.specs.declared.block.Block.{Block}
@@ -24,7 +24,7 @@ use Rattle.rs_query.specs.declared.term.Term.{Term}
 use Rattle.rs_query.proofs.ExtendFacts.{prefix-one, prefix-others}
 
 -- the worths of the first terms, all of them in the mask
-pub score-evaluated : (answer : Answering) (catalogue : Catalogue) (block : Block) (rows : List ℕ) (size : ℕ) (terms : List Term) → length terms ≤ size
+pub score-evaluated : (answer : Answering) (catalogue : CatalogDef) (block : Block) (rows : List ℕ) (size : ℕ) (terms : List Term) → length terms ≤ size
     → sum_inside (2 ^ length terms - 1) (padded size (map (λ (t : Term). t.weight) terms)) (map (worth_of answer catalogue block rows) terms)
     ≡ score_of answer catalogue block rows terms
 score-evaluated answer catalogue block rows zero [] few = refl

@@ -7,7 +7,7 @@ use Rattle.rs_expr.specs.Scoring.{Answering, Made, ScorerState}
 use Rattle.rs_expr.proofs.InOrderFacts.{one}
 use Rattle.rs_rank.specs.declared.ids.Ids.{Ids}
 use Rattle.rs_rank.specs.Ids.{ids_inside}
-use Rattle.rs_catalog.specs.Catalogue.{Catalogue}
+use Rattle.rs_catalog.specs.Catalog.{CatalogDef}
 use Rattle.rs_query.specs.Asking.{ask_faults, asking_worth, faults_by, told_by, worth_for}
 use Rattle.rs_query.specs.Questions.{Question, got_for, max_for, question_of, request_for}
 use Rattle.rs_query.specs.declared.ask.AskFault.{AskFault}
@@ -72,7 +72,7 @@ module _ {A B F G : Type 0} (tell : Result A F → Result B G) (memory : F) (oth
   }
 
 -- a question told in the words of a caller's own faults
-module _ {F : Type 0} (told : AskFault → F) (catalogue : Catalogue) (block : Block) (ids : Ids) (term : Term) where
+module _ {F : Type 0} (told : AskFault → F) (catalogue : CatalogDef) (block : Block) (ids : Ids) (term : Term) where
   abbrev question : Question
   question = question_of ids.block block ids.rows term
 

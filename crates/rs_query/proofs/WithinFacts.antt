@@ -5,7 +5,7 @@ use Rattle.std.proofs.lemmas.Grind.{pow_more}
 use Rattle.std.proofs.lemmas.List.{drop_all, drop_more}
 use Rattle.std.proofs.lemmas.Nat.{one_shl}
 use Rattle.std.proofs.Math.Nat.{add-mul, mul_assoc, mul_comm, pow-le-pow_right, pow-suc}
-use Rattle.rs_catalog.specs.Catalogue.{Catalogue}
+use Rattle.rs_catalog.specs.Catalog.{CatalogDef}
 use Rattle.rs_query.specs.declared.block.Block.{Block}
 use Rattle.rs_query.specs.Combinations.{holds_inside, satisfies}
 use Rattle.rs_query.specs.Conjuncts.{ConjunctDef}
@@ -20,7 +20,7 @@ other_bits : (b : Bool) (n : ℕ) → (cond b 1 0 + 2 * n) / 2 ≡ n
 other_bits true n = omega arith
 other_bits false n = omega arith
 
-module _ (catalogue : Catalogue) (block : Block) (mask : ℕ) (rows : List ℕ) where
+module _ (catalogue : CatalogDef) (block : Block) (mask : ℕ) (rows : List ℕ) where
   all_within : (conjuncts : List ConjunctDef) → all_hold catalogue block (conjuncts_within mask conjuncts) rows conjuncts ≡ list_all (holds_inside catalogue block mask rows) conjuncts
   all_within [] = refl
   all_within (conjunct ∷ rest) =

@@ -7,7 +7,7 @@ use Rattle.rs_rank.specs.declared.weights.Weights.{Weights}
 use Rattle.rs_expr.specs.Formulas.{Constant}
 use Rattle.rs_expr.specs.Predicates.{PredicateDef}
 use Rattle.rs_expr.specs.Scoring.{Answering}
-use Rattle.rs_catalog.specs.Catalogue.{Catalogue}
+use Rattle.rs_catalog.specs.Catalog.{CatalogDef}
 use Rattle.rs_outputs.specs.Seen.{same_values}
 use Rattle.rs_value.specs.declared.set_op.SetOp.{SetOp}
 use Rattle.rs_value.specs.declared.set_op.SetOp.TheVariants.{UnionAll, Union, Intersect, Except}
@@ -21,7 +21,7 @@ use Rattle.rs_query.specs.Tables.{all_entries}
 use Rattle.rs_query.specs.Views.{View}
 
 -- the predicate of this number
-abbrev pub predicate_at : Catalogue → ℕ → PredicateDef
+abbrev pub predicate_at : CatalogDef → ℕ → PredicateDef
 predicate_at catalogue number =
     unwrap_or (slice_get catalogue.predicates number) (record { name = []; params = []; max = 0; cost = 0; formula = Constant (pos 0) })
 
@@ -31,20 +31,20 @@ clamped max (pos n) = min n max
 clamped max (negsuc n) = 0
 
 -- what the scorer answers to a term for these rows
-abbrev pub scorer_answer : Answering → Catalogue → Block → List ℕ → Term → ℤ
+abbrev pub scorer_answer : Answering → CatalogDef → Block → List ℕ → Term → ℤ
 scorer_answer answer catalogue block rows term = answer (predicate_at catalogue term.predicate) (argument_values catalogue block rows term)
 
 -- the worth of a term: that number, put into 0..MAX of its predicate
-abbrev pub worth_of : Answering → Catalogue → Block → List ℕ → Term → ℕ
+abbrev pub worth_of : Answering → CatalogDef → Block → List ℕ → Term → ℕ
 worth_of answer catalogue block rows term = clamped (predicate_at catalogue term.predicate).max (scorer_answer answer catalogue block rows term)
 
 -- the score: the sum of weight times worth over the terms
-abbrev pub score_of : Answering → Catalogue → Block → List ℕ → List Term → ℕ
+abbrev pub score_of : Answering → CatalogDef → Block → List ℕ → List Term → ℕ
 score_of answer catalogue block rows [] = 0
 score_of answer catalogue block rows (term ∷ terms) = term.weight * worth_of answer catalogue block rows term + score_of answer catalogue block rows terms
 
 -- a combination of all entries of a block of this number as a row of the answer
-abbrev pub answer_row : Answering → Catalogue → Block → ℕ → List ℕ → Answer
+abbrev pub answer_row : Answering → CatalogDef → Block → ℕ → List ℕ → Answer
 answer_row answer catalogue block number rows = record {
   ids = record { block = number; mask = all_entries block; rows = rows };
   score = score_of answer catalogue block rows block.terms;
@@ -71,7 +71,7 @@ distinct_if false rows = rows
 
 -- the rows of a block whose entries have this many rows: all its combinations, and with DISTINCT the first one of each list of
 -- output values
-abbrev pub base_of : Answering → Catalogue → ℕ → Block → List ℕ → List Answer
+abbrev pub base_of : Answering → CatalogDef → ℕ → Block → List ℕ → List Answer
 base_of answer catalogue number block sizes =
     distinct_if block.distinct (map (answer_row answer catalogue block number) (combinations catalogue block sizes (all_entries block)))
 
@@ -92,17 +92,17 @@ limit_of (One block limit) = limit
 limit_of (Set op left right limit) = limit
 
 -- the rows of a query that sees this many rows of its tables, before they are put into order
-abbrev pub rows_of : Answering → Catalogue → Query → View → List Answer
+abbrev pub rows_of : Answering → CatalogDef → Query → View → List Answer
 rows_of answer catalogue (One block limit) view = base_of answer catalogue 1 block view.first
 rows_of answer catalogue (Set op left right limit) view =
     set_base op (base_of answer catalogue 1 left view.first) (base_of answer catalogue 2 right view.second)
 
 -- the answer of a query
-abbrev pub answer_of : Answering → Catalogue → Query → View → List Answer
+abbrev pub answer_of : Answering → CatalogDef → Query → View → List Answer
 answer_of answer catalogue query view = cut (limit_of query) (stable (λ (row : Answer). row.score) (rows_of answer catalogue query view))
 
 -- the worths of the terms of a block for these rows
-abbrev pub worths_of : Answering → Catalogue → Block → List ℕ → List ℕ
+abbrev pub worths_of : Answering → CatalogDef → Block → List ℕ → List ℕ
 worths_of answer catalogue block rows = map (worth_of answer catalogue block rows) block.terms
 
 -- numbers, with 0 behind them up to a length

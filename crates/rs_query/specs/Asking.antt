@@ -5,7 +5,7 @@ use Rattle.rs_rank.specs.declared.ids.Ids.{Ids}
 use Rattle.rs_expr.specs.InOrder.{Inquiry}
 use Rattle.rs_expr.specs.Scores.{score_within}
 use Rattle.rs_expr.specs.Scoring.{Answering}
-use Rattle.rs_catalog.specs.Catalogue.{Catalogue}
+use Rattle.rs_catalog.specs.Catalog.{CatalogDef}
 use Rattle.rs_query.specs.Answers.{worth_of}
 use Rattle.rs_query.specs.Questions.{Faults, asking, question_of}
 use Rattle.rs_query.specs.declared.ask.AskFault.{AskFault}
@@ -19,7 +19,7 @@ module _ {F : Type 0} (faults : Faults F) where
   worth_for term ids max got = ok_or (score_within max got) (faults.bad term.predicate (ids_inside ids.block term.entries ids.rows) got max)
 
   -- the question of a term for these rows, and what the term is worth on them
-  abbrev pub asking_worth : Answering → Catalogue → Block → Ids → Term → Inquiry ℕ F
+  abbrev pub asking_worth : Answering → CatalogDef → Block → Ids → Term → Inquiry ℕ F
   asking_worth answer catalogue block ids term =
       asking faults answer catalogue (question_of ids.block block ids.rows term ∷ []) (worth_of answer catalogue block ids.rows term)
 

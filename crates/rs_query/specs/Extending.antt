@@ -1,7 +1,7 @@
 -- How combinations are found: a row for one entry after another.
 use Rattle.std.specs.Prelude.{ℕ, zero, suc, ◌≤◌, ◌-◌, ◌/◌, ◌^◌, List, [], ◌∷◌, length, map}
 use Rattle.std.specs.List.{filter}
-use Rattle.rs_catalog.specs.Catalogue.{Catalogue}
+use Rattle.rs_catalog.specs.Catalog.{CatalogDef}
 use Rattle.rs_query.specs.declared.block.Block.{Block}
 use Rattle.rs_query.specs.Choices.{IsChoice}
 use Rattle.rs_query.specs.Combinations.{choices, satisfies}
@@ -15,11 +15,11 @@ extensions (suc n) mask (row ∷ rows) [] = []
 extensions (suc n) mask (row ∷ rows) (size ∷ sizes) = map (λ rest. row ∷ rest) (extensions n (mask / 2) rows sizes)
 
 -- the combinations of all entries that begin with them
-unfoldable pub combinations_from : Catalogue → Block → ℕ → List ℕ → List (List ℕ)
+unfoldable pub combinations_from : CatalogDef → Block → ℕ → List ℕ → List (List ℕ)
 combinations_from catalogue block chosen rows =
     filter (satisfies catalogue block (all_entries block)) (extensions chosen (all_entries block) rows (sizes_of catalogue block))
 
 -- rows are chosen for this many of the first entries
-pub record IsPartialCombination (catalogue : Catalogue) (block : Block) (chosen : ℕ) (rows : List ℕ) : Type 0 where
+pub record IsPartialCombination (catalogue : CatalogDef) (block : Block) (chosen : ℕ) (rows : List ℕ) : Type 0 where
   pub most : chosen ≤ length block.from
   pub choice : IsChoice (2 ^ chosen - 1) (sizes_of catalogue block) rows

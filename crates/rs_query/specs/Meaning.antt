@@ -3,7 +3,7 @@ use Rattle.std.specs.Prelude.{ℕ, ◌≡◌, pos, ◌+◌, ◌*◌, ◌/◌, �
 use Rattle.rs_value.specs.declared.value.Value.{Value}
 use Rattle.rs_value.specs.declared.value.Value.TheVariants as value
 use Rattle.rs_table.specs.Relation.{Relation, cell_at}
-use Rattle.rs_catalog.specs.Catalogue.{Catalogue}
+use Rattle.rs_catalog.specs.Catalog.{CatalogDef}
 use Rattle.rs_catalog.specs.declared.index.BoundArg.{BoundArg}
 use Rattle.rs_catalog.specs.declared.index.BoundArg.TheVariants as arg
 use Rattle.rs_expr.specs.Meaning.{holds}
@@ -17,16 +17,16 @@ abbrev pub is_inside : ℕ → ℕ → Bool
 is_inside entries mask = bit_and entries mask == entries
 
 -- the value of a column for these rows
-abbrev pub column_value : Catalogue → Block → List ℕ → ℕ × ℕ → Value
+abbrev pub column_value : CatalogDef → Block → List ℕ → ℕ × ℕ → Value
 column_value catalogue block rows column =
     unwrap_or (option_and_then (λ (table : Relation). cell_at table (row_number rows column.0) column.1) (entry_table catalogue block column.0)) (value.Int (pos 0))
 
 -- whether a conjunct holds of these rows
-abbrev pub conjunct_holds : Catalogue → Block → List ℕ → ConjunctDef → Bool
+abbrev pub conjunct_holds : CatalogDef → Block → List ℕ → ConjunctDef → Bool
 conjunct_holds catalogue block rows conjunct = holds conjunct.condition (map (column_value catalogue block rows) conjunct.columns)
 
 -- whether all conjuncts in a mask hold; the first conjunct has the lowest bit
-abbrev pub all_hold : Catalogue → Block → ℕ → List ℕ → List ConjunctDef → Bool
+abbrev pub all_hold : CatalogDef → Block → ℕ → List ℕ → List ConjunctDef → Bool
 all_hold catalogue block mask rows [] = true
 all_hold catalogue block mask rows (conjunct ∷ rest) =
     (if mask % 2 == 1 then conjunct_holds catalogue block rows conjunct else true) && all_hold catalogue block (mask / 2) rows rest
@@ -42,15 +42,15 @@ AreInside conjuncts mask [] = Unit {0}
 AreInside conjuncts mask (conjunct ∷ rest) = (conjuncts % 2 ≡ 1 → is_inside conjunct.entries mask ≡ true) × AreInside (conjuncts / 2) mask rest
 
 -- the value of an argument for these rows
-abbrev pub argument_value : Catalogue → Block → List ℕ → BoundArg → Value
+abbrev pub argument_value : CatalogDef → Block → List ℕ → BoundArg → Value
 argument_value catalogue block rows (arg.Column entry column) = column_value catalogue block rows (entry, column)
 argument_value catalogue block rows (arg.Int n) = value.Int n
 argument_value catalogue block rows (arg.Text t) = value.Text t
 
 -- the arguments of a term
-abbrev pub argument_values : Catalogue → Block → List ℕ → Term → List Value
+abbrev pub argument_values : CatalogDef → Block → List ℕ → Term → List Value
 argument_values catalogue block rows term = map (argument_value catalogue block rows) term.args
 
 -- the values of the output columns
-abbrev pub outputs_of : Catalogue → Block → List ℕ → List Value
+abbrev pub outputs_of : CatalogDef → Block → List ℕ → List Value
 outputs_of catalogue block rows = map (column_value catalogue block rows) block.items

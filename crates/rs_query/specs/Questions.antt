@@ -6,7 +6,7 @@ use Rattle.rs_expr.specs.InOrder.{Inquiry, Request}
 use Rattle.rs_expr.specs.Scores.{is_score}
 use Rattle.rs_expr.specs.Scoring.{Answering, call_of}
 use Rattle.rs_expr.specs.declared.scorer.Call.{Call}
-use Rattle.rs_catalog.specs.Catalogue.{Catalogue}
+use Rattle.rs_catalog.specs.Catalog.{CatalogDef}
 use Rattle.rs_query.specs.Answers.{scorer_answer, predicate_at}
 use Rattle.rs_query.specs.Meaning.{argument_values}
 use Rattle.rs_query.specs.declared.block.Block.{Block}
@@ -24,18 +24,18 @@ abbrev pub question_of : ℕ → Block → List ℕ → Term → Question
 question_of number block rows term = record { number = number; block = block; rows = rows; term = term }
 
 -- a question as a call
-abbrev pub call_for : Catalogue → Question → Call
+abbrev pub call_for : CatalogDef → Question → Call
 call_for catalogue q = call_of (predicate_at catalogue q.term.predicate) (argument_values catalogue q.block q.rows q.term)
 
 -- the number that the scorer answers to a question, and the greatest score that it may be
-abbrev pub got_for : Answering → Catalogue → Question → ℤ
+abbrev pub got_for : Answering → CatalogDef → Question → ℤ
 got_for answer catalogue q = scorer_answer answer catalogue q.block q.rows q.term
 
-abbrev pub max_for : Catalogue → Question → ℕ
+abbrev pub max_for : CatalogDef → Question → ℕ
 max_for catalogue q = (predicate_at catalogue q.term.predicate).max
 
 -- the number is no score
-abbrev pub is_bad : Answering → Catalogue → Question → Bool
+abbrev pub is_bad : Answering → CatalogDef → Question → Bool
 is_bad answer catalogue q = not (is_score (max_for catalogue q) (got_for answer catalogue q))
 
 -- the ids of the rows of its term's entries
@@ -60,19 +60,19 @@ pub record Faults (F : Type 0) : Type 0 where
 
 module _ {F : Type 0} (faults : Faults F) where
   -- a question as a request
-  abbrev pub request_for : Catalogue → Question → Request F
+  abbrev pub request_for : CatalogDef → Question → Request F
   request_for catalogue q = record { call = call_for catalogue q; failed = faults.failed q.term.predicate }
 
-  abbrev pub bad_score : Answering → Catalogue → Question → F
+  abbrev pub bad_score : Answering → CatalogDef → Question → F
   bad_score answer catalogue q = faults.bad q.term.predicate (ids_for q) (got_for answer catalogue q) (max_for catalogue q)
 
   -- what is given where this question has the first bad number, or where there is none
-  abbrev pub outcome_for : {A : Type 0} → Answering → Catalogue → Option Question → A → Result A F
+  abbrev pub outcome_for : {A : Type 0} → Answering → CatalogDef → Option Question → A → Result A F
   outcome_for answer catalogue None value = Ok value
   outcome_for answer catalogue (Some q) value = Err (bad_score answer catalogue q)
 
   -- questions are asked in order, up to the first bad number; where there is none, this value is given
-  abbrev pub asking : {A : Type 0} → Answering → Catalogue → List Question → A → Inquiry A F
+  abbrev pub asking : {A : Type 0} → Answering → CatalogDef → List Question → A → Inquiry A F
   asking answer catalogue questions value = record {
     requests = map (request_for catalogue) (through_first (is_bad answer catalogue) questions);
     outcome = outcome_for answer catalogue (first_of (is_bad answer catalogue) questions) value;

@@ -12,7 +12,7 @@ use Rattle.rs_expr.specs.Uses.{condition_uses, is_kind}
 use Rattle.rs_expr.specs.Widths.{is_narrow}
 use Rattle.rs_expr.specs.declared.expr.TextSide.TheVariants as side
 use Rattle.rs_expr.specs.Predicates.{PredicateDef}
-use Rattle.rs_catalog.specs.Catalogue.{Catalogue}
+use Rattle.rs_catalog.specs.Catalog.{CatalogDef}
 use Rattle.rs_catalog.specs.declared.index.BoundArg.{BoundArg}
 use Rattle.rs_catalog.specs.declared.index.BoundArg.TheVariants as arg
 use Rattle.rs_query.specs.declared.block.Block.{Block}
@@ -23,11 +23,11 @@ use Rattle.rs_query.specs.Conjuncts.{ConjunctDef}
 use Rattle.rs_query.specs.Tables.{column_of}
 
 -- the kind of a column, where the block has it
-abbrev pub column_kind : Catalogue → Block → ℕ × ℕ → Option Kind
+abbrev pub column_kind : CatalogDef → Block → ℕ × ℕ → Option Kind
 column_kind catalogue block column = option_map (λ (c : Column). c.1) (column_of catalogue block column)
 
 -- a column of an entry of the block
-abbrev pub IsColumn : Catalogue → Block → ℕ × ℕ → Type 0
+abbrev pub IsColumn : CatalogDef → Block → ℕ × ℕ → Type 0
 IsColumn catalogue block column = (1 ≤ column.0) × (column.0 ≤ length block.from) × ((kind : Kind) × (column_kind catalogue block column ≡ Some kind))
 
 -- the mask of the entries of some columns
@@ -36,7 +36,7 @@ entries_mask [] = 0
 entries_mask (column ∷ columns) = bit_or (mask_of column.0) (entries_mask columns)
 
 -- the column of this number, counted from 0, has this kind
-abbrev pub has_kind : Catalogue → Block → List (ℕ × ℕ) → Kind → ℕ → Bool
+abbrev pub has_kind : CatalogDef → Block → List (ℕ × ℕ) → Kind → ℕ → Bool
 has_kind catalogue block columns kind i = is_kind kind (has (slice_get columns i)) where
   has : Option (ℕ × ℕ) → Option Kind
   has (Some column) = column_kind catalogue block column
@@ -74,7 +74,7 @@ equality_of condition columns = of (equated condition) where
   of None = None
 
 -- what holds of each conjunct of a block
-pub record IsConjunct (catalogue : Catalogue) (block : Block) (conjunct : ConjunctDef) : Type 0 where
+pub record IsConjunct (catalogue : CatalogDef) (block : Block) (conjunct : ConjunctDef) : Type 0 where
   pub columns : AllByRecursion (IsColumn catalogue block) conjunct.columns
   pub distinct : AreDistinct conjunct.columns
   pub entries : conjunct.entries ≡ entries_mask conjunct.columns
@@ -90,7 +90,7 @@ argument_columns (arg.Int n ∷ args) = argument_columns args
 argument_columns (arg.Text t ∷ args) = argument_columns args
 
 -- an argument is one for a parameter of this kind: a column of the block of that kind, or a number in range, or a text
-abbrev pub IsArg : Catalogue → Block → Kind → BoundArg → Type 0
+abbrev pub IsArg : CatalogDef → Block → Kind → BoundArg → Type 0
 IsArg catalogue block kind (arg.Column entry column) = IsColumn catalogue block (entry, column) × (column_kind catalogue block (entry, column) ≡ Some kind)
 IsArg catalogue block kind.Int (arg.Int n) = nat_abs n ≤ greatest_int
 IsArg catalogue block kind.Text (arg.Int n) = ⊥
@@ -98,14 +98,14 @@ IsArg catalogue block kind.Text (arg.Text t) = Unit {0}
 IsArg catalogue block kind.Int (arg.Text t) = ⊥
 
 -- as many arguments as parameters, each one for its parameter
-abbrev pub AreArgs : Catalogue → Block → List Kind → List BoundArg → Type 0
+abbrev pub AreArgs : CatalogDef → Block → List Kind → List BoundArg → Type 0
 AreArgs catalogue block [] [] = Unit {0}
 AreArgs catalogue block [] (a ∷ args) = ⊥
 AreArgs catalogue block (kind ∷ kinds) [] = ⊥
 AreArgs catalogue block (kind ∷ kinds) (a ∷ args) = IsArg catalogue block kind a × AreArgs catalogue block kinds args
 
 -- what holds of each term of a block
-pub record IsTerm (catalogue : Catalogue) (block : Block) (term : Term) : Type 0 where
+pub record IsTerm (catalogue : CatalogDef) (block : Block) (term : Term) : Type 0 where
   pub predicate : PredicateDef
   pub has_predicate : slice_get catalogue.predicates term.predicate ≡ Some predicate
   pub args : AreArgs catalogue block predicate.params term.args
@@ -116,11 +116,11 @@ pub record IsTerm (catalogue : Catalogue) (block : Block) (term : Term) : Type 0
   pub max : term.max ≡ predicate.max
 
 -- a FROM entry is a table of the catalogue
-abbrev pub IsFromEntry : Catalogue → ℕ × List ℕ → Type 0
+abbrev pub IsFromEntry : CatalogDef → ℕ × List ℕ → Type 0
 IsFromEntry catalogue from = from.0 < length catalogue.tables
 
 -- what holds of each block
-pub record IsBlock (catalogue : Catalogue) (block : Block) : Type 0 where
+pub record IsBlock (catalogue : CatalogDef) (block : Block) : Type 0 where
   pub some_entries : 1 ≤ length block.from
   pub most_entries : length block.from ≤ 6
   pub entries : AllByRecursion (IsFromEntry catalogue) block.from
@@ -168,13 +168,13 @@ abbrev pub IsLimit : Option ℕ → Type 0
 IsLimit limit = IfSome limit (λ (n : ℕ). n ≤ 1000000)
 
 -- what holds of two blocks of a set query: their output columns agree in number and kind, and their terms agree
-pub record AreSetSides (catalogue : Catalogue) (left right : Block) : Type 0 where
+pub record AreSetSides (catalogue : CatalogDef) (left right : Block) : Type 0 where
   pub left_block : IsBlock catalogue left
   pub right_block : IsBlock catalogue right
   pub kinds : map (column_kind catalogue left) left.items ≡ map (column_kind catalogue right) right.items
   pub terms : AreSameTerms left right left.terms right.terms
 
 -- what holds of each query
-abbrev pub IsQuery : Catalogue → Query → Type 0
+abbrev pub IsQuery : CatalogDef → Query → Type 0
 IsQuery catalogue (One block limit) = IsBlock catalogue block × (block.distinct ≡ true → AllByRecursion (HasOutputs block) block.terms) × IsLimit limit
 IsQuery catalogue (Set op left right limit) = AreSetSides catalogue left right × IsLimit limit

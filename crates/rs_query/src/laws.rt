@@ -15,7 +15,7 @@ ghost use Rattle.rs_rank.specs.Weights.{evaluated};
 ghost use Rattle.rs_rank.specs.declared.row.RankRow.{RankRow};
 ghost use Rattle.rs_rank.specs.declared.scored_row.ScoredRow.{ScoredRow};
 ghost use Rattle.rs_rank.specs.declared.weights.Weights.{Weights};
-ghost use Rattle.rs_catalog.specs.Catalogue.{Catalogue};
+ghost use Rattle.rs_catalog.specs.Catalog.{CatalogDef};
 ghost use Rattle.rs_expr.specs.Scoring.{Answering};
 ghost use Rattle.rs_query.specs.Answers.{all_terms, scorer_answer, score_of, weights_of, worth_of, worths_of};
 ghost use Rattle.rs_query.specs.Choices.{AgreeOn, IsChoice};
@@ -29,14 +29,14 @@ ghost use Rattle.rs_query.specs.declared.term.Term.{Term as BoundTerm};
 /// The combinations of the entries in a mask are the choices of a row for each of them for which all conjuncts hold that
 /// speak of these entries alone.
 pub fn combinations_are_choices_that_satisfy()
-    ensures { (catalogue : Catalogue) (block : Bound) (sizes : List ℕ) (mask : ℕ) (rows : List ℕ)
+    ensures { (catalogue : CatalogDef) (block : Bound) (sizes : List ℕ) (mask : ℕ) (rows : List ℕ)
         → In rows (combinations catalogue block sizes mask)
         ↔ (IsChoice mask sizes rows × (satisfies catalogue block mask rows ≡ true)) }
 {}
 
 /// Combinations rise strictly in lexicographic order. With the law above this determines the list of them.
 pub fn combinations_climb()
-    ensures { (catalogue : Catalogue) (block : Bound) (sizes : List ℕ) (mask : ℕ)
+    ensures { (catalogue : CatalogDef) (block : Bound) (sizes : List ℕ) (mask : ℕ)
         → Climbs (slice_cmp nat_cmp) (λ rows. rows) (combinations catalogue block sizes mask) }
 {}
 
@@ -44,22 +44,22 @@ pub fn combinations_climb()
 /// whether a conjunct holds, the arguments of a term, and with them the number and the worth that a scorer gives it, and
 /// the values of output columns.
 pub fn parts_are_local()
-    ensures conjunct { (catalogue : Catalogue) (block : Bound) (mask : ℕ) (xs ys : List ℕ) (conjunct : ConjunctDef)
+    ensures conjunct { (catalogue : CatalogDef) (block : Bound) (mask : ℕ) (xs ys : List ℕ) (conjunct : ConjunctDef)
         → IsBlock catalogue block → AgreeOn mask xs ys → In conjunct block.conjuncts → is_inside conjunct.entries mask ≡ true
         → conjunct_holds catalogue block xs conjunct ≡ conjunct_holds catalogue block ys conjunct }
-    ensures args { (catalogue : Catalogue) (block : Bound) (mask : ℕ) (xs ys : List ℕ) (term : BoundTerm)
+    ensures args { (catalogue : CatalogDef) (block : Bound) (mask : ℕ) (xs ys : List ℕ) (term : BoundTerm)
         → IsBlock catalogue block → AgreeOn mask xs ys → In term block.terms → is_inside term.entries mask ≡ true
         → argument_values catalogue block xs term ≡ argument_values catalogue block ys term }
-    ensures number { (answer : Answering) (catalogue : Catalogue) (block : Bound) (mask : ℕ) (xs ys : List ℕ) (term : BoundTerm)
+    ensures number { (answer : Answering) (catalogue : CatalogDef) (block : Bound) (mask : ℕ) (xs ys : List ℕ) (term : BoundTerm)
         → IsBlock catalogue block → AgreeOn mask xs ys → In term block.terms → is_inside term.entries mask ≡ true
         → scorer_answer answer catalogue block xs term ≡ scorer_answer answer catalogue block ys term }
-    ensures worth { (answer : Answering) (catalogue : Catalogue) (block : Bound) (mask : ℕ) (xs ys : List ℕ) (term : BoundTerm)
+    ensures worth { (answer : Answering) (catalogue : CatalogDef) (block : Bound) (mask : ℕ) (xs ys : List ℕ) (term : BoundTerm)
         → IsBlock catalogue block → AgreeOn mask xs ys → In term block.terms → is_inside term.entries mask ≡ true
         → worth_of answer catalogue block xs term ≡ worth_of answer catalogue block ys term }
-    ensures output { (catalogue : Catalogue) (block : Bound) (mask : ℕ) (xs ys : List ℕ) (column : ℕ × ℕ)
+    ensures output { (catalogue : CatalogDef) (block : Bound) (mask : ℕ) (xs ys : List ℕ) (column : ℕ × ℕ)
         → IsBlock catalogue block → AgreeOn mask xs ys → In column block.items → has_number mask column.0 ≡ true
         → column_value catalogue block xs column ≡ column_value catalogue block ys column }
-    ensures outputs { (catalogue : Catalogue) (block : Bound) (mask : ℕ) (xs ys : List ℕ)
+    ensures outputs { (catalogue : CatalogDef) (block : Bound) (mask : ℕ) (xs ys : List ℕ)
         → IsBlock catalogue block → AgreeOn mask xs ys → is_inside (entries_mask block.items) mask ≡ true
         → outputs_of catalogue block xs ≡ outputs_of catalogue block ys }
 {}
@@ -67,10 +67,10 @@ pub fn parts_are_local()
 /// The score of a combination is what all terms of its block give to it, of the worths of the terms. Both blocks of a set
 /// query have the same weights.
 pub fn scores_are_evaluated()
-    ensures score { (answer : Answering) (catalogue : Catalogue) (block : Bound) (rows : List ℕ) → length block.terms ≤ 8
+    ensures score { (answer : Answering) (catalogue : CatalogDef) (block : Bound) (rows : List ℕ) → length block.terms ≤ 8
         → evaluated (weights_of block) (all_terms block) (worths_of answer catalogue block rows)
         ≡ score_of answer catalogue block rows block.terms }
-    ensures sides { (catalogue : Catalogue) (left right : Bound) → AreSetSides catalogue left right
+    ensures sides { (catalogue : CatalogDef) (left right : Bound) → AreSetSides catalogue left right
         → weights_of left ≡ weights_of right }
 {}
 

@@ -7,7 +7,7 @@ ghost use Rattle.rs_rank.specs.declared.scored_row.ScoredRow.{ScoredRow};
 ghost use Rattle.rs_expr.specs.Predicates.{PredicateDef};
 ghost use Rattle.rs_expr.specs.Scoring.{Answering};
 ghost use Rattle.rs_table.specs.Relation.{Relation};
-ghost use Rattle.rs_catalog.specs.Catalogue.{with_index, with_predicate, with_table};
+ghost use Rattle.rs_catalog.specs.Catalog.{with_index, with_predicate, with_table};
 ghost use Rattle.rs_catalog.specs.declared.index.IndexDef.{IndexDef};
 ghost use Rattle.rs_statement.specs.declared.evaluating.Evaluating.TheVariants.{Plainly, Planned};
 ghost use Rattle.rs_statement.specs.Steps.{Run};

@@ -1,7 +1,7 @@
 ghost use Rattle.std.specs.Prelude.{IfOk};
 ghost use Rattle.rs_syntax.specs.Syntax.{command_of, commands_of};
 ghost use Rattle.rs_syntax.specs.Written.{AreWritten, IsWritten};
-ghost use Rattle.rs_catalog.specs.Held.{AreHeld};
+ghost use Rattle.rs_catalog.specs.Held.{IndexesHold};
 ghost use Rattle.rs_statement.specs.Parts.Steps.{Runs, Stepped};
 ghost use Rattle.rs_events.specs.Events.{finds_in};
 ghost use Rattle.rs_statement.specs.Statements.{Does};
@@ -70,14 +70,14 @@ fn run_statement<F: Files, S: Scorer, O: Sink>(
     out: &mut O,
 ) -> Result<(), Fault>
     requires written { IsWritten (command_of statement.now) }
-    requires held { AreHeld (S.state scorer.old).answer catalog.old }
+    requires held { IndexesHold (S.state scorer.old).answer catalog.old }
     requires asked { CanAllBeAsked (S.state scorer.old).answer catalog.old (held_in session.old) }
     ensures does { (beside : Environment) → Stepped
         (DoesInSession (finds_in (F.state files.old).told) (S.state scorer.old).answer evaluating
         (state_of catalog.old (held_in session.old)) (command_of statement.now)) (state_of catalog.new (held_in session.new)) result
         (record beside { files = F.state files.old; scorer = S.state scorer.old; out = O.state out.old })
         (record beside { files = F.state files.new; scorer = S.state scorer.new; out = O.state out.new }) }
-    ensures held { IfOk result (λ _. AreHeld (S.state scorer.old).answer catalog.new) }
+    ensures held { IfOk result (λ _. IndexesHold (S.state scorer.old).answer catalog.new) }
     ensures asked { IfOk result (λ _. CanAllBeAsked (S.state scorer.old).answer catalog.new (held_in session.new)) }
 {
     match statement {
@@ -107,7 +107,7 @@ fn run_without_cursor<F: Files, S: Scorer, O: Sink>(
 ) -> Result<(), Fault>
     requires form { IsOfNoCursor (command_of statement.now) }
     requires written { IsWritten (command_of statement.now) }
-    requires held { AreHeld (S.state scorer.old).answer catalog.old }
+    requires held { IndexesHold (S.state scorer.old).answer catalog.old }
     ensures { (beside : Environment) → Stepped
         (Does (finds_in (F.state files.old).told) (S.state scorer.old).answer evaluating catalog.old (command_of statement.now)) catalog.new result
         (record beside { files = F.state files.old; scorer = S.state scorer.old; out = O.state out.old })

@@ -8,7 +8,7 @@ use Rattle.rs_expr.specs.Scores.{is_score}
 use Rattle.rs_expr.specs.Scoring.{KeepsScorer, Made, ScorerState}
 use Rattle.rs_expr.proofs.InOrderFacts.{InquiryEnds-ok, Inquires-begun, Inquires-behind, behind, one}
 use Rattle.rs_expr.proofs.ScoringFacts.{KeepsScorer-refl, KeepsScorer-then, Made-append, Made-none}
-use Rattle.rs_catalog.specs.Catalogue.{Catalogue}
+use Rattle.rs_catalog.specs.Catalog.{CatalogDef}
 use Rattle.rs_query.specs.Answers.{clamped, worth_of}
 use Rattle.rs_query.specs.Asking.{ask_faults, asking_worth, worth_for}
 use Rattle.rs_query.specs.Questions.{Question, call_for, got_for, max_for, question_of, request_for}
@@ -22,7 +22,7 @@ use Rattle.rs_sample.specs.Sampling.{asking_all, sample_faults, sampled_worth}
 use Rattle.rs_sample.specs.declared.fault.SampleFault.{SampleFault}
 use Rattle.rs_sample.specs.declared.fault.SampleFault.TheVariants.{Memory, Probe}
 
-module _ (catalogue : Catalogue) where
+module _ (catalogue : CatalogDef) where
   -- these questions were asked
   pub record Asked (questions : List Question) (old new : ScorerState) : Type 0 where
     pub made : Made (map (call_for catalogue) questions) old new

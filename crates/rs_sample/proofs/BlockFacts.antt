@@ -3,14 +3,14 @@ use Rattle.std.proofs.Common.{ℕ, ◌≡◌, ◌∙◌, List, [], refl, sym, ap
 use Rattle.std.specs.Prelude.{Result, Ok, Err}
 use Rattle.rs_expr.specs.InOrder.{Inquires}
 use Rattle.rs_expr.specs.Scoring.{ScorerState}
-use Rattle.rs_catalog.specs.Catalogue.{Catalogue}
+use Rattle.rs_catalog.specs.Catalog.{CatalogDef}
 use Rattle.rs_query.specs.declared.block.Block.{Block}
 use Rattle.rs_sample.specs.Sampling.{asking_all, block_questions, done}
 use Rattle.rs_sample.specs.declared.fault.SampleFault.{SampleFault}
 use Rattle.rs_sample.specs.declared.fault.SampleFault.TheVariants.{Memory}
 use Rattle.rs_sample.proofs.AskingFacts.{Asked-none, Asked-ok, Inquires-all, Inquires-faulted, Inquires-within}
 
-module _ (catalogue : Catalogue) (number : ℕ) (block : Block) (drawn samples : List (List ℕ)) (are : drawn ≡ samples) {A : Type 0} (value : A) (old new : ScorerState) where
+module _ (catalogue : CatalogDef) (number : ℕ) (block : Block) (drawn samples : List (List ℕ)) (are : drawn ≡ samples) {A : Type 0} (value : A) (old new : ScorerState) where
   questions-are : block_questions number block drawn ≡ block_questions number block samples
   questions-are = ap (block_questions number block) are
 

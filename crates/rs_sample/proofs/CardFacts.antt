@@ -8,7 +8,7 @@ use Rattle.rs_rank.specs.Masks.{mask_of}
 use Rattle.rs_rank.specs.Weights.{rest, sum_inside}
 use Rattle.rs_rank.proofs.MaskFacts.{even-power, half-power}
 use Rattle.rs_expr.specs.Scoring.{Answering}
-use Rattle.rs_catalog.specs.Catalogue.{Catalogue}
+use Rattle.rs_catalog.specs.Catalog.{CatalogDef}
 use Rattle.rs_query.specs.Answers.{padded, weights_of, worth_of}
 use Rattle.rs_query.specs.declared.block.Block.{Block}
 use Rattle.rs_query.specs.declared.term.Term.{Term}
@@ -61,7 +61,7 @@ ReadsAt-of (t ∷ terms) (suc i) read at =
     let behind = ReadsAt-of terms i read at in
     record { term = behind.term; is_term = behind.is_term; is_read = behind.is_read }
 
-module _ (answer : Answering) (catalogue : Catalogue) (block : Block) where
+module _ (answer : Answering) (catalogue : CatalogDef) (block : Block) where
   -- what the worths of a term give, and what the bounds of its choices give
   index-reaches : (cutoff i : ℕ) (term : Term) → length block.terms ≤ 8 → slice_get block.terms i ≡ Some term → (rows : List ℕ)
       → nat_le cutoff (term.weight * worth_of answer catalogue block rows term + rest (weights_of block) (2 ^ i)) ≡ reaches answer catalogue block cutoff (2 ^ i) rows

@@ -9,7 +9,7 @@ use Rattle.std.proofs.Math.Seq.{drop-cons}
 use Rattle.rs_rank.proofs.MaskFacts.{half-behind}
 use Rattle.rs_rank.specs.Weights.{rest, sum_inside}
 use Rattle.rs_expr.specs.Scoring.{Answering}
-use Rattle.rs_catalog.specs.Catalogue.{Catalogue}
+use Rattle.rs_catalog.specs.Catalog.{CatalogDef}
 use Rattle.rs_query.specs.Answers.{weights_of, worth_of}
 use Rattle.rs_query.specs.Meaning.{is_inside}
 use Rattle.rs_query.specs.declared.block.Block.{Block}
@@ -82,7 +82,7 @@ sum-all terms place sum weights values end so_far = elim end [
   | inr all ↦ (let none = ap (λ vs. sum_inside (terms / 2 ^ place) (drop place weights) vs) (drop_all place values all) ∙ sum-none (terms / 2 ^ place) (drop place weights) in omega arith)
 ]
 
-module _ (answer : Answering) (catalogue : Catalogue) (block : Block) where
+module _ (answer : Answering) (catalogue : CatalogDef) (block : Block) where
   -- the sum over terms that read the entries in a mask alone
   known-sum : (terms mask : ℕ) (rows weights : List ℕ) (ts : List Term) → AreRead terms mask (map (λ (t : Term). t.entries) ts)
       → sum_inside terms weights (map (known_worth answer catalogue block mask rows) ts) ≡ sum_inside terms weights (map (worth_of answer catalogue block rows) ts)
@@ -124,7 +124,7 @@ pub count-few : {X : Type 0} (p : X → Bool) (xs : List X) (i : ℕ) → length
 count-few p xs i = (let first = filter-few p (take i xs) in let second = take-few xs i in omega arith)
 
 -- where all terms are inside, all worths are known
-pub known-all : (answer : Answering) (catalogue : Catalogue) (block : Block) (mask : ℕ) (rows : List ℕ) (terms : List Term) → AllByRecursion (λ (t : Term). is_inside t.entries mask ≡ true) terms
+pub known-all : (answer : Answering) (catalogue : CatalogDef) (block : Block) (mask : ℕ) (rows : List ℕ) (terms : List Term) → AllByRecursion (λ (t : Term). is_inside t.entries mask ≡ true) terms
     → map (known_worth answer catalogue block mask rows) terms ≡ map (worth_of answer catalogue block rows) terms
 known-all answer catalogue block mask rows [] all = refl
 known-all answer catalogue block mask rows (t ∷ terms) all =

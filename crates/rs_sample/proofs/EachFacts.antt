@@ -5,7 +5,7 @@ use Rattle.std.specs.List.{flat_map}
 use Rattle.std.proofs.lemmas.List.{take_all}
 use Rattle.rs_expr.specs.InOrder.{Inquires}
 use Rattle.rs_expr.specs.Scoring.{Answering, ScorerState}
-use Rattle.rs_catalog.specs.Catalogue.{Catalogue}
+use Rattle.rs_catalog.specs.Catalog.{CatalogDef}
 use Rattle.rs_query.specs.Questions.{Question}
 use Rattle.rs_sample.specs.Sampling.{asking_all}
 use Rattle.rs_sample.specs.declared.fault.SampleFault.{SampleFault}
@@ -13,7 +13,7 @@ use Rattle.rs_sample.specs.declared.fault.SampleFault.TheVariants.{Memory}
 use Rattle.rs_sample.proofs.AskingFacts.{Asked, Asked-more, Asked-none, Asked-ok, Inquires-all, Inquires-faulted, Inquires-within, value-ok}
 use Rattle.rs_sample.proofs.ListFacts.{flat_map-around, flat_map-with, map-with}
 
-module _ (catalogue : Catalogue) {X A : Type 0} (asks : X → List Question) (value : Answering → X → A) where
+module _ (catalogue : CatalogDef) {X A : Type 0} (asks : X → List Question) (value : Answering → X → A) where
   -- the questions of these items were asked, and these are their values
   pub record EachAsked (xs : List X) (values : List A) (old new : ScorerState) : Type 0 where
     pub asked : Asked catalogue (flat_map asks xs) old new

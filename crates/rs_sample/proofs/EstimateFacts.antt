@@ -4,7 +4,7 @@ use Rattle.std.specs.Prelude.{IfOk, Option, Result, Ok, Err, slice_get}
 use Rattle.std.specs.declared.alloc.Global.{Global}
 use Rattle.std.specs.declared.vec.Vec.{Vec}
 use Rattle.rs_expr.specs.Scoring.{Answering}
-use Rattle.rs_catalog.specs.Catalogue.{Catalogue}
+use Rattle.rs_catalog.specs.Catalog.{CatalogDef}
 use Rattle.rs_query.specs.declared.block.Block.{Block}
 use Rattle.rs_query.specs.declared.term.Term.{Term}
 use Rattle.rs_sample.specs.Estimates.{cutoff_of}
@@ -17,7 +17,7 @@ use Rattle.rs_sample.proofs.CardFacts.{AreCards-made}
 use Rattle.rs_sample.proofs.IndexFacts.{index_number}
 
 -- the cards of what was made, where anything was
-pub AreCards-estimated : (answer : Answering) (catalogue : Catalogue) (block : Block) (sizes : List ℕ) (samples worths : List (List ℕ)) (limit : Option ℕ) (cutoff : ℕ)
+pub AreCards-estimated : (answer : Answering) (catalogue : CatalogDef) (block : Block) (sizes : List ℕ) (samples worths : List (List ℕ)) (limit : Option ℕ) (cutoff : ℕ)
     (numbers : Vec (List ℕ) Global) {E : Type 0} (result : Result Estimates E) → length block.terms ≤ 8 → cutoff ≡ cutoff_of answer catalogue block sizes samples limit
     → worths ≡ worths_by_term answer catalogue block samples
     → ((mask terms : ℕ) → mask < 2 ^ length block.from → terms < 2 ^ length block.terms

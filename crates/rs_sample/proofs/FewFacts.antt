@@ -6,7 +6,7 @@ use Rattle.std.proofs.lemmas.Bool.{eqb-true}
 use Rattle.std.proofs.lemmas.Nat.{and_le_r, mul-le}
 use Rattle.std.proofs.Math.Nat.{pow-suc, pow-zero}
 use Rattle.rs_order.proofs.EachFacts.{each-weaker}
-use Rattle.rs_catalog.specs.Catalogue.{Catalogue}
+use Rattle.rs_catalog.specs.Catalog.{CatalogDef}
 use Rattle.rs_query.specs.Meaning.{is_inside}
 use Rattle.rs_query.specs.Tables.{all_entries}
 use Rattle.rs_query.specs.WellFormed.{IsBlock}
@@ -127,7 +127,7 @@ inside-less n entries is =
     let some = power-least 2 n (omega arith) in
     omega arith
 
-pub terms-less : (catalogue : Catalogue) (block : Block) → IsBlock catalogue block → AllByRecursion (λ (t : Term). t.entries < 2 ^ length block.from) block.terms
+pub terms-less : (catalogue : CatalogDef) (block : Block) → IsBlock catalogue block → AllByRecursion (λ (t : Term). t.entries < 2 ^ length block.from) block.terms
 terms-less catalogue block formed =
     each-weaker (λ (t : Term). is_inside t.entries (all_entries block) ≡ true) (λ (t : Term). t.entries < 2 ^ length block.from)
     (λ t is. inside-less (length block.from) t.entries is) block.terms (terms-inside catalogue block formed)

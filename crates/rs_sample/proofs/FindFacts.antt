@@ -7,7 +7,7 @@ use Rattle.rs_order.specs.Climbing.{In}
 use Rattle.rs_rank.specs.Ids.{rows_inside}
 use Rattle.rs_rank.proofs.MaskFacts.{half-before}
 use Rattle.rs_expr.specs.Scoring.{Answering}
-use Rattle.rs_catalog.specs.Catalogue.{Catalogue}
+use Rattle.rs_catalog.specs.Catalog.{CatalogDef}
 use Rattle.rs_query.specs.Answers.{clamped, predicate_at, worth_of}
 use Rattle.rs_query.specs.Choices.{AgreeOn}
 use Rattle.rs_query.specs.Meaning.{is_inside}
@@ -34,7 +34,7 @@ cut-row entries (suc i) (row ∷ rows) bit = cut-row (entries / 2) i rows (ap (�
 cut-agrees : (entries : ℕ) (rows : List ℕ) → AgreeOn entries rows (rows_inside entries rows)
 cut-agrees entries rows entry some has = cut-row entries (entry - 1) rows (eqb-true (entries / 2 ^ (entry - 1) % 2) 1 has)
 
-module _ (answer : Answering) (catalogue : Catalogue) (block : Block) where
+module _ (answer : Answering) (catalogue : CatalogDef) (block : Block) where
   -- a worth is that of the rows of the term's entries
   worth-cut : (rows : List ℕ) (term : Term) → IsTerm catalogue block term
       → worth_of answer catalogue block (rows_inside term.entries rows) term ≡ worth_of answer catalogue block rows term

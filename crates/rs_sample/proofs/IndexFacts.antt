@@ -6,7 +6,7 @@ use Rattle.std.specs.Prelude.{slice_get}
 use Rattle.std.proofs.lemmas.List.{length-map}
 use Rattle.rs_rank.specs.Weights.{rest}
 use Rattle.rs_expr.specs.Scoring.{Answering}
-use Rattle.rs_catalog.specs.Catalogue.{Catalogue}
+use Rattle.rs_catalog.specs.Catalog.{CatalogDef}
 use Rattle.rs_query.specs.Answers.{weights_of, worth_of}
 use Rattle.rs_query.specs.declared.block.Block.{Block}
 use Rattle.rs_query.specs.declared.term.Term.{Term}
@@ -57,7 +57,7 @@ index-limits (t ∷ terms) [] count limits n = absurd (omega arith)
 index-limits (t ∷ terms) (number ∷ numbers) count limits zero = limits zero t refl
 index-limits (t ∷ terms) (number ∷ numbers) count limits (suc n) = index-limits terms numbers (omega arith) (λ place u at. limits (suc place) u at) n
 
-pub worths-lengths : (answer : Answering) (catalogue : Catalogue) (block : Block) (samples worths : List (List ℕ)) → worths ≡ worths_by_term answer catalogue block samples
+pub worths-lengths : (answer : Answering) (catalogue : CatalogDef) (block : Block) (samples worths : List (List ℕ)) → worths ≡ worths_by_term answer catalogue block samples
     → map length worths ≡ map (λ (t : Term). length (sampled_choices t.entries samples)) block.terms
 worths-lengths answer catalogue block samples worths are = ap (map length) are ∙ go block.terms where
   go : (terms : List Term) → map length (map (λ (t : Term). map (λ rows. worth_of answer catalogue block rows t) (sampled_choices t.entries samples)) terms)

@@ -11,7 +11,7 @@ use Rattle.rs_order.proofs.ItemFacts.{In-flat_map, In-flat_map-back, In-map, In-
 use Rattle.rs_rank.specs.Ids.{rows_inside}
 use Rattle.rs_rank.proofs.MaskFacts.{bit_and-first, bit_and-others}
 use Rattle.rs_query.specs.Choices.{IsChoice, IsRowNumber}
-use Rattle.rs_catalog.specs.Catalogue.{Catalogue}
+use Rattle.rs_catalog.specs.Catalog.{CatalogDef}
 use Rattle.rs_query.specs.declared.block.Block.{Block}
 use Rattle.rs_query.specs.Meaning.{is_inside}
 use Rattle.rs_query.specs.Tables.{HasRows, sizes_of}
@@ -82,7 +82,7 @@ pub inside-itself : (mask : ℕ) → is_inside mask mask ≡ true
 inside-itself mask = eq-eqb (bit_and mask mask) mask (and_self mask)
 
 -- each choice among the samples of a block has rows of its tables
-pub HasRows-sampled : (catalogue : Catalogue) (block : Block) (samples : List (List ℕ)) (mask : ℕ) → length block.from ≤ 6 → AreBlockSamples (length block.from) (sizes_of catalogue block) samples
+pub HasRows-sampled : (catalogue : CatalogDef) (block : Block) (samples : List (List ℕ)) (mask : ℕ) → length block.from ≤ 6 → AreBlockSamples (length block.from) (sizes_of catalogue block) samples
     → AllByRecursion (HasRows catalogue block mask) (sampled_choices mask samples)
 HasRows-sampled catalogue block samples mask few are =
     AllByRecursion-from_In (HasRows catalogue block mask) (sampled_choices mask samples) (λ rows h.

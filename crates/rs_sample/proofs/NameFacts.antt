@@ -6,7 +6,7 @@ use Rattle.std.proofs.lemmas.Option.{slice_get_within}
 use Rattle.rs_order.proofs.EachFacts.{each-append, each-behind, each-map, each-weaker}
 use Rattle.rs_expr.specs.InOrder.{InquiryEnds, InquiryFails, Inquires, InquiryStops, Request}
 use Rattle.rs_expr.specs.Scoring.{ScorerState}
-use Rattle.rs_catalog.specs.Catalogue.{Catalogue}
+use Rattle.rs_catalog.specs.Catalog.{CatalogDef}
 use Rattle.rs_query.specs.Questions.{Question, question_of, request_for}
 use Rattle.rs_query.specs.Views.{View}
 use Rattle.rs_query.specs.WellFormed.{IsBlock, IsQuery, IsTerm}
@@ -31,7 +31,7 @@ each-any : {X : Type 0} (P : Type 0) (xs : List X) → P → AllByRecursion (λ 
 each-any P [] p = tt
 each-any P (x ∷ xs) p = (p, each-any P xs p)
 
-module _ (catalogue : Catalogue) where
+module _ (catalogue : CatalogDef) where
   -- a question that calls a predicate of the catalogue
   abbrev Calls : Question → Type 0
   Calls question = question.term.predicate < length catalogue.predicates
@@ -68,7 +68,7 @@ module _ (catalogue : Catalogue) where
       subst (NamesPredicate catalogue) (sym is) tt
 
 -- the fault of a query's sample
-pub names-asks : {A : Type 0} (catalogue : Catalogue) (query : Query) (view : View) (seed : ℕ) (result : Result A SampleFault) (old new : ScorerState) → IsQuery catalogue query
+pub names-asks : {A : Type 0} (catalogue : CatalogDef) (query : Query) (view : View) (seed : ℕ) (result : Result A SampleFault) (old new : ScorerState) → IsQuery catalogue query
     → Inquires Memory (asking_all catalogue (questions_of query view seed) done) (done_of result) old new → IfErr result (NamesPredicate catalogue)
 names-asks catalogue query view seed (Ok value) old new formed inquired = tt
 names-asks catalogue query view seed (Err fault) old new formed inquired =

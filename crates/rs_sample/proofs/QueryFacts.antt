@@ -6,7 +6,7 @@ use Rattle.rand_pcg.specs.Lcg.{Lcg}
 use Rattle.rand_pcg.specs.Pcg.{pcg32}
 use Rattle.rs_expr.specs.InOrder.{Inquires}
 use Rattle.rs_expr.specs.Scoring.{ScorerState}
-use Rattle.rs_catalog.specs.Catalogue.{Catalogue}
+use Rattle.rs_catalog.specs.Catalog.{CatalogDef}
 use Rattle.rs_query.specs.Questions.{Question}
 use Rattle.rs_query.specs.Tables.{sizes_of}
 use Rattle.rs_query.specs.declared.block.Block.{Block}
@@ -17,7 +17,7 @@ use Rattle.rs_sample.specs.declared.fault.SampleFault.{SampleFault}
 use Rattle.rs_sample.specs.declared.fault.SampleFault.TheVariants.{Memory}
 use Rattle.rs_sample.proofs.AskingFacts.{Asked-more, Asked-none, Asked-ok, Inquires-all, Inquires-faulted, Inquires-within}
 
-module _ (catalogue : Catalogue) (first second all : List Question) (split : all ≡ first ++ second) where
+module _ (catalogue : CatalogDef) (first second all : List Question) (split : all ≡ first ++ second) where
   -- a question of the first block ended all
   pub first-faulted : (fault : SampleFault) (result : Result (Unit {0}) SampleFault) (old middle : ScorerState) → result ≡ Err fault
       → Inquires Memory (asking_all catalogue first done) (Err fault) old middle → Inquires Memory (asking_all catalogue all done) result old middle
@@ -54,10 +54,10 @@ module _ (catalogue : Catalogue) (first second all : List Question) (split : all
       (Asked-more catalogue first second old middle new (Asked-ok catalogue first done done old middle before) (Asked-ok catalogue second done done middle new after))
 
 -- the rows of both
-abbrev pub both_rows : Catalogue → Block → Block → ℕ
+abbrev pub both_rows : CatalogDef → Block → Block → ℕ
 both_rows catalogue left right = sum (sizes_of catalogue left) + sum (sizes_of catalogue right)
 
-module _ (catalogue : Catalogue) (left right : Block) (old new : Lcg)
+module _ (catalogue : CatalogDef) (left right : Block) (old new : Lcg)
     (drawn : Draws (sum (sizes_of catalogue left)) (block_samples left (sizes_of catalogue left)) (block_samples left (sizes_of catalogue left) (first_words pcg32 (both_rows catalogue left right) old)).0 old new
     (both_rows catalogue left right)) where
   -- the words that are left are enough for the second block

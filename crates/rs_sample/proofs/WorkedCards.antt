@@ -10,7 +10,7 @@ use Rattle.rs_expr.specs.Meaning.{value_of}
 use Rattle.rs_expr.specs.Predicates.{PredicateDef}
 use Rattle.rs_expr.specs.Scoring.{Answering}
 use Rattle.rs_expr.specs.declared.scorer.Call.{Call}
-use Rattle.rs_catalog.specs.Catalogue.{Catalogue}
+use Rattle.rs_catalog.specs.Catalog.{CatalogDef}
 use Rattle.rs_catalog.specs.declared.index.BoundArg.TheVariants as arg
 use Rattle.rs_query.specs.declared.block.Block.{Block}
 use Rattle.rs_query.specs.declared.term.Term.{Term}
@@ -27,7 +27,7 @@ predicate name = record { name = name; params = kind.Int ∷ []; max = 10; cost 
 abbrev answer : Answering
 answer p args = value_of p.formula args
 
-abbrev catalogue_of : ℕ → Catalogue
+abbrev catalogue_of : ℕ → CatalogDef
 catalogue_of y = record {
   tables = record {
     name = codes "t";
@@ -59,7 +59,7 @@ sizes = 4 ∷ 0 ∷ 0 ∷ 0 ∷ 0 ∷ 0 ∷ []
 abbrev samples : List (List ℕ)
 samples = (1 ∷ 2 ∷ 3 ∷ 4 ∷ []) ∷ [] ∷ [] ∷ [] ∷ [] ∷ [] ∷ []
 
-abbrev catalogue : Catalogue
+abbrev catalogue : CatalogDef
 catalogue = catalogue_of 9
 
 -- the scores are 13, 17, 6 and 12

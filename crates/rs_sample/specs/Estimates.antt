@@ -6,7 +6,7 @@ use Rattle.rs_rank.specs.Masks.{mask_of}
 use Rattle.rs_rank.specs.Stable.{stable}
 use Rattle.rs_rank.specs.Weights.{bound}
 use Rattle.rs_expr.specs.Scoring.{Answering}
-use Rattle.rs_catalog.specs.Catalogue.{Catalogue}
+use Rattle.rs_catalog.specs.Catalog.{CatalogDef}
 use Rattle.rs_query.specs.Answers.{score_of, weights_of, worths_of}
 use Rattle.rs_query.specs.Combinations.{satisfies}
 use Rattle.rs_query.specs.Tables.{all_entries}
@@ -29,10 +29,10 @@ cutoff_place block sizes samples limit =
     max 1 (div_ceil (planned_rows limit * product_inside (all_entries block) (map length samples)) (product_inside (all_entries block) sizes))
 
 -- the choices among the samples of the entries in a mask for which every conjunct holds that speaks of these entries alone
-abbrev pub sampled_combinations : Catalogue → Block → List (List ℕ) → ℕ → List (List ℕ)
+abbrev pub sampled_combinations : CatalogDef → Block → List (List ℕ) → ℕ → List (List ℕ)
 sampled_combinations catalogue block samples mask = filter (satisfies catalogue block mask) (sampled_choices mask samples)
 
-module _ (answer : Answering) (catalogue : Catalogue) (block : Block) where
+module _ (answer : Answering) (catalogue : CatalogDef) (block : Block) where
   -- the scores of the sampled combinations of all entries
   abbrev pub sampled_scores : List (List ℕ) → List ℕ
   sampled_scores samples = map (λ rows. score_of answer catalogue block rows block.terms) (sampled_combinations catalogue block samples (all_entries block))

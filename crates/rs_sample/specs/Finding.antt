@@ -3,7 +3,7 @@ use Rattle.std.specs.Prelude.{ℕ, suc, ◌+◌, ◌*◌, ◌/◌, ◌%◌, ◌=
 use Rattle.std.specs.List.{filter}
 use Rattle.rs_rank.specs.Weights.{bound}
 use Rattle.rs_expr.specs.Scoring.{Answering}
-use Rattle.rs_catalog.specs.Catalogue.{Catalogue}
+use Rattle.rs_catalog.specs.Catalog.{CatalogDef}
 use Rattle.rs_query.specs.Answers.{weights_of, worth_of}
 use Rattle.rs_query.specs.Meaning.{is_inside}
 use Rattle.rs_query.specs.declared.block.Block.{Block}
@@ -30,7 +30,7 @@ choice_place mask (size ∷ sizes) [] = 0
 choice_place mask (size ∷ sizes) (place ∷ places) =
     (if mask % 2 == 0 then 0 else place * product_inside (mask / 2) sizes) + choice_place (mask / 2) sizes places
 
-module _ (answer : Answering) (catalogue : Catalogue) (block : Block) where
+module _ (answer : Answering) (catalogue : CatalogDef) (block : Block) where
   -- the worth of a term for rows of the entries in a mask, where it reads these alone, or else 0
   abbrev pub known_worth : ℕ → List ℕ → Term → ℕ
   known_worth mask rows term = if is_inside term.entries mask then worth_of answer catalogue block rows term else 0

@@ -5,7 +5,7 @@ use Rattle.std.specs.declared.alloc.Global.{Global}
 use Rattle.std.specs.declared.vec.Vec.{Vec}
 use Rattle.rs_expr.specs.InOrder.{Inquiry}
 use Rattle.rs_expr.specs.Scoring.{Answering}
-use Rattle.rs_catalog.specs.Catalogue.{Catalogue}
+use Rattle.rs_catalog.specs.Catalog.{CatalogDef}
 use Rattle.rs_query.specs.Answers.{clamped, worth_of}
 use Rattle.rs_query.specs.Questions.{Faults, Question, question_of, request_for}
 use Rattle.rs_query.specs.Views.{View}
@@ -54,12 +54,12 @@ sampled_worth (Err (asked.Probe predicate)) = Err (Probe predicate)
 sampled_worth (Err asked.Memory) = Err Memory
 
 -- the predicate that a fault names is one of the catalogue
-abbrev pub NamesPredicate : Catalogue → SampleFault → Type 0
+abbrev pub NamesPredicate : CatalogDef → SampleFault → Type 0
 NamesPredicate catalogue (Probe predicate) = predicate < length catalogue.predicates
 NamesPredicate catalogue Memory = Unit {0}
 
 -- all these questions are asked in order, whatever their numbers are, and then there is this value
-abbrev pub asking_all : {A : Type 0} → Catalogue → List Question → A → Inquiry A SampleFault
+abbrev pub asking_all : {A : Type 0} → CatalogDef → List Question → A → Inquiry A SampleFault
 asking_all catalogue questions value = record { requests = map (request_for sample_faults catalogue) questions; outcome = Ok value }
 
 -- no value
@@ -77,11 +77,11 @@ as_list (Ok items) = Ok items.items
 as_list (Err fault) = Err fault
 
 -- what each term is worth on each choice among the samples of its entries
-abbrev pub worths_by_term : Answering → Catalogue → Block → List (List ℕ) → List (List ℕ)
+abbrev pub worths_by_term : Answering → CatalogDef → Block → List (List ℕ) → List (List ℕ)
 worths_by_term answer catalogue block samples =
     map (λ (t : Term). map (λ rows. worth_of answer catalogue block rows t) (sampled_choices t.entries samples)) block.terms
 
-module _ (answer : Answering) (catalogue : Catalogue) where
+module _ (answer : Answering) (catalogue : CatalogDef) where
   -- the cards of a block whose entries have this many rows, by its samples
   abbrev pub sampled_cards : Block → List ℕ → List (List ℕ) → Option ℕ → BlockCards
   sampled_cards block sizes samples limit =

@@ -3,7 +3,7 @@
 ghost use Rattle.std.specs.Prelude.{ℕ, ◌≡◌, ◌<◌, ◌≤◌, ◌^◌, IfOk, filter, get_or, length, map};
 ghost use Rattle.std.specs.List.{AllByRecursion};
 ghost use Rattle.rs_expr.specs.Scoring.{Answering};
-ghost use Rattle.rs_catalog.specs.Catalogue.{Catalogue};
+ghost use Rattle.rs_catalog.specs.Catalog.{CatalogDef};
 ghost use Rattle.rs_order.specs.Climbing.{In};
 ghost use Rattle.rs_query.specs.Tables.{sizes_of};
 ghost use Rattle.rs_query.specs.WellFormed.{IsBlock};
@@ -77,7 +77,7 @@ fn count_each(
     requires worths { length worths.now ≡ length block.now.terms }
     ensures length { IfOk result (λ counts. length counts.items ≡ 2 ^ length block.now.terms) }
     ensures limit { IfOk result (λ counts. AllByRecursion (λ count. count ≤ length choices.now) counts.items) }
-    ensures value { (answer : Answering) (catalogue : Catalogue) → IsBlock catalogue block.now
+    ensures value { (answer : Answering) (catalogue : CatalogDef) → IsBlock catalogue block.now
         → worths.now ≡ worths_by_term answer catalogue block.now samples.now
         → AllByRecursion (λ rows. In rows (sampled_choices mask samples.now)) choices.now
         → IfOk result (λ counts. (terms : ℕ) → terms < 2 ^ length block.now.terms → get_or counts.items terms 0

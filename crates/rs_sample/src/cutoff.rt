@@ -4,7 +4,7 @@ ghost use Rattle.std.specs.Prelude.{ℕ, ◌≡◌, ◌≤◌, ◌*◌, ◌-◌,
 ghost use Rattle.std.specs.Int.{div_ceil};
 ghost use Rattle.std.specs.List.{AllByRecursion};
 ghost use Rattle.rs_expr.specs.Scoring.{Answering};
-ghost use Rattle.rs_catalog.specs.Catalogue.{Catalogue};
+ghost use Rattle.rs_catalog.specs.Catalog.{CatalogDef};
 ghost use Rattle.rs_query.specs.Answers.{all_terms, score_of, weights_of};
 ghost use Rattle.rs_query.specs.Tables.{all_entries};
 ghost use Rattle.rs_query.specs.WellFormed.{IsBlock, IsLimit};
@@ -61,7 +61,7 @@ pub(crate) fn cutoff(
     requires entries { (1 ≤ length block.now.from) × (length block.now.from ≤ 6) }
     requires few_terms { length block.now.terms ≤ 8 }
     requires limits { AllByRecursion (λ t. t.weight ≤ 1000000) block.now.terms }
-    ensures { (answer : Answering) (catalogue : Catalogue) → IsBlock catalogue block.now
+    ensures { (answer : Answering) (catalogue : CatalogDef) → IsBlock catalogue block.now
         → worths.now ≡ worths_by_term answer catalogue block.now samples.now
         → AllByRecursion (λ rows. In rows (sampled_choices (all_entries block.now) samples.now)) combinations.now
         → IfOk result (λ cutoff. cutoff ≡ nth_greatest place (map (λ rows. score_of answer catalogue block.now rows block.now.terms) combinations.now)) }

@@ -4,7 +4,7 @@ ghost use Rattle.std.specs.Prelude.{ℕ, ◌≡◌, ◌≤◌, List, get_or, len
 ghost use Rattle.std.specs.List.{AllByRecursion};
 ghost use Rattle.rs_order.specs.Climbing.{In};
 ghost use Rattle.rs_expr.specs.Scoring.{Answering};
-ghost use Rattle.rs_catalog.specs.Catalogue.{Catalogue};
+ghost use Rattle.rs_catalog.specs.Catalog.{CatalogDef};
 ghost use Rattle.rs_query.specs.Answers.{padded};
 ghost use Rattle.rs_query.specs.Meaning.{is_inside};
 ghost use Rattle.rs_query.specs.WellFormed.{IsBlock};
@@ -30,7 +30,7 @@ pub(crate) fn worths_for(
     requires few { AllByRecursion (λ sample. length sample ≤ 256) samples.now }
     requires sampled { sampled.now ≡ map length samples.now }
     requires worths { length worths.now ≡ length block.now.terms }
-    ensures { (answer : Answering) (catalogue : Catalogue) → IsBlock catalogue block.now
+    ensures { (answer : Answering) (catalogue : CatalogDef) → IsBlock catalogue block.now
         → worths.now ≡ worths_by_term answer catalogue block.now samples.now
         → In rows.now (sampled_choices mask samples.now)
         → result ≡ padded 8 (map (known_worth answer catalogue block.now mask rows.now) block.now.terms) }

@@ -4,7 +4,7 @@ use Rattle.std.specs.List.{filter}
 use Rattle.rs_rank.specs.declared.row.RankRow.{RankRow}
 use Rattle.rs_rank.specs.declared.scored_row.ScoredRow.{ScoredRow}
 use Rattle.rs_rank.specs.Masks.{mask_of}
-use Rattle.rs_catalog.specs.Catalogue.{Catalogue}
+use Rattle.rs_catalog.specs.Catalog.{CatalogDef}
 use Rattle.rs_catalog.specs.Indexes.{ranking_at, rows_for}
 use Rattle.rs_catalog.specs.declared.index.IndexDef.{IndexDef}
 
@@ -56,7 +56,7 @@ pub record IndexScan : Type 0 where
 abbrev pub rows_of_table : TableScan → List RankRow
 rows_of_table scan = table_rows scan.block scan.entry scan.rows
 
-abbrev pub rows_of_index : Catalogue → IndexScan → List RankRow
+abbrev pub rows_of_index : CatalogDef → IndexScan → List RankRow
 rows_of_index catalogue scan = index_rows scan.block scan.entry scan.weight scan.rows (ranking_at catalogue scan.index)
 
 -- nothing is drawn
@@ -77,6 +77,6 @@ pub record IsScan (entry rows drawn : ℕ) : Type 0 where
   pub within : drawn ≤ rows
 
 -- the view is all rows of the table that the index is of
-abbrev pub IsOfAllRows : Catalogue → IndexScan → Type 0
+abbrev pub IsOfAllRows : CatalogDef → IndexScan → Type 0
 IsOfAllRows catalogue scan =
     (def : IndexDef) → option_map (λ i. i.def) (slice_get catalogue.indexes scan.index) ≡ Some def → scan.rows ≡ length (rows_for catalogue def)

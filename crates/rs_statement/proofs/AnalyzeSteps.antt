@@ -3,7 +3,7 @@ use Rattle.std.proofs.Common.{ℕ, suc, ◌≡◌, ◌∙◌, ◌<◌, ◌≤◌
 use Rattle.std.specs.Prelude.{Some, Result, Ok, Err, if◌then◌else◌}
 use Rattle.rs_expr.specs.InOrder.{Inquiry, calls_of}
 use Rattle.rs_expr.specs.Scoring.{Answering}
-use Rattle.rs_catalog.specs.Catalogue.{Catalogue}
+use Rattle.rs_catalog.specs.Catalog.{CatalogDef}
 use Rattle.rs_query.specs.declared.query.Query.{Query}
 use Rattle.rs_plan.specs.Counts.{counts_of_plan}
 use Rattle.rs_plan.specs.Lists as plan
@@ -73,7 +73,7 @@ Stepped-late of left old new made =
       leaves = tt;
     }
 
-module _ (catalogue : Catalogue) (answer : Answering) where
+module _ (catalogue : CatalogDef) (answer : Answering) where
   abbrev all_of : CursorState → ℕ
   all_of cursor = asks_in_all (world_of catalogue answer cursor.query) (plan_of cursor)
 
@@ -108,7 +108,7 @@ module _ (catalogue : Catalogue) (answer : Answering) where
     left-none asked = left-at (asks_after w tree (asks_of cursor)) asked.at ∙ left-over w tree (asks_after w tree (asks_of cursor)) (asked.ended refl)
 
     -- where there was no row, all that was left was done
-    pub Silent-ended : AskedOnce catalogue answer cursor false next → (whole : Step Catalogue) (old new : Environment) → SoFar whole (silent (left_of catalogue answer next)) old new
+    pub Silent-ended : AskedOnce catalogue answer cursor false next → (whole : Step CatalogDef) (old new : Environment) → SoFar whole (silent (left_of catalogue answer next)) old new
         → Stepped (λ step. step ≡ whole) catalogue (Ok tt) old new
     Silent-ended asked whole old new so_far =
         SoFar-ends whole old new new (silent (left_of catalogue answer next)) catalogue (Ok tt) so_far
@@ -151,7 +151,7 @@ module _ (catalogue : Catalogue) (answer : Answering) where
         go false more most = max-last (asks_of cursor) (all_of cursor) (all_of start) (max (asks_of start) (all_of start)) (more-all w tree (asks_of cursor) more) most same-all so.all
 
 -- the text of a new cursor that is asked for all
-pub text-started : (catalogue : Catalogue) (answer : Answering) (query : Query) (tree : PlanTree) (started : CursorState) (cards : List BlockCards) → IsNew query tree started
+pub text-started : (catalogue : CatalogDef) (answer : Answering) (query : Query) (tree : PlanTree) (started : CursorState) (cards : List BlockCards) → IsNew query tree started
     → text_of catalogue started.query cards (plan_of started) (Some (counts_of_plan (world_of catalogue answer started.query) (plan_of started) (most_asks catalogue answer started)))
     ≡ text_of catalogue query cards tree (Some (counts_of_plan (world_of catalogue answer query) tree (asks_in_all (world_of catalogue answer query) tree)))
 text-started catalogue answer query tree started cards new =
@@ -160,18 +160,18 @@ text-started catalogue answer query tree started cards new =
     ∙ ap (λ n. text_of catalogue query cards tree (Some (counts_of_plan (world_of catalogue answer query) tree n))) (max-none (asks_in_all (world_of catalogue answer query) tree))
 
 -- the text that EXPLAIN ANALYZE puts, and what it does behind the sample of a query
-abbrev pub analyzed_lines : Answering → Catalogue → ℕ → Query → Step Catalogue
+abbrev pub analyzed_lines : Answering → CatalogDef → ℕ → Query → Step CatalogDef
 analyzed_lines answer catalogue seed query =
     let w = world_of catalogue answer query in
     let tree = plan_for answer catalogue seed query in
     lines_step (text_of catalogue query (cards_for answer catalogue seed query) tree (Some (counts_of_plan w tree (asks_in_all w tree))) ∷ []) catalogue
 
-abbrev pub analyzing : Answering → Catalogue → ℕ → Query → Step Catalogue
+abbrev pub analyzing : Answering → CatalogDef → ℕ → Query → Step CatalogDef
 analyzing answer catalogue seed query =
     then_step (silent (planned_step (world_of catalogue answer query) (plan_for answer catalogue seed query))) (analyzed_lines answer catalogue seed query)
 
 -- asks of one plan, over the same answers
-pub same-asks : (catalogue : Catalogue) (query : Query) (answer own : Answering) (plan made : PlanTree) (result : Result (Unit {0}) Fault) (old new : Environment) → own ≡ answer → made ≡ plan
+pub same-asks : (catalogue : CatalogDef) (query : Query) (answer own : Answering) (plan made : PlanTree) (result : Result (Unit {0}) Fault) (old new : Environment) → own ≡ answer → made ≡ plan
     → Stepped (λ step. step ≡ silent (planned_step (world_of catalogue own query) made)) catalogue result old new
     → Stepped (λ step. step ≡ silent (planned_step (world_of catalogue answer query) plan)) catalogue result old new
 same-asks catalogue query answer own plan made result old new is same stepped =

@@ -4,7 +4,7 @@ use Rattle.std.specs.Prelude.{Some, slice_get}
 use Rattle.std.proofs.lemmas.List.{length-append}
 use Rattle.std.proofs.lemmas.Option.{slice_get_within}
 use Rattle.rs_expr.specs.Scoring.{Answering}
-use Rattle.rs_catalog.specs.Catalogue.{Catalogue}
+use Rattle.rs_catalog.specs.Catalog.{CatalogDef}
 use Rattle.rs_query.specs.declared.query.Query.{Query}
 use Rattle.rs_plan.specs.Counts.{asked_of, counts, counts_of_plan}
 use Rattle.rs_plan.specs.declared.counts.Counts.{Counts}
@@ -34,7 +34,7 @@ length-counts w number (SetOperator left right) n =
     ∙ ap₂ (λ a b. a + b) (length-counts w 1 left (asked_of w number (SetOperator left right) n Left)) (length-counts w 2 right (asked_of w number (SetOperator left right) n Right)))
 
 -- no plan has more nodes than a byte can count
-pub few-counts : (catalogue : Catalogue) (answer : Answering) (cursor : CursorState) (node : ℕ) (own : Counts) → StandsFor catalogue answer cursor
+pub few-counts : (catalogue : CatalogDef) (answer : Answering) (cursor : CursorState) (node : ℕ) (own : Counts) → StandsFor catalogue answer cursor
     → slice_get (counts_of_plan (world_of catalogue answer cursor.query) (plan_of cursor) (asks_of cursor)) node ≡ Some own → node < 255
 few-counts catalogue answer cursor node own stands is =
     let w = world_of catalogue answer cursor.query in
@@ -44,7 +44,7 @@ few-counts catalogue answer cursor node own stands is =
     omega arith
 
 -- the counts of a cursor of this query and plan that was asked this many times
-pub counts-at : (catalogue : Catalogue) (answer : Answering) (query : Query) (tree : PlanTree) (n : ℕ) (cursor : CursorState) → IsAt query tree n cursor
+pub counts-at : (catalogue : CatalogDef) (answer : Answering) (query : Query) (tree : PlanTree) (n : ℕ) (cursor : CursorState) → IsAt query tree n cursor
     → counts_of_plan (world_of catalogue answer cursor.query) (plan_of cursor) (asks_of cursor) ≡ counts_of_plan (world_of catalogue answer query) tree n
 counts-at catalogue answer query tree n cursor at =
     let w = world_of catalogue answer query in

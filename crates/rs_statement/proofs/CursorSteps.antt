@@ -7,7 +7,7 @@ use Rattle.rs_lines.specs.Row.{line_of}
 use Rattle.rs_expr.specs.InOrder.{Inquires, Inquiry}
 use Rattle.rs_expr.specs.Scoring.{Answering, ScorerState}
 use Rattle.rs_expr.proofs.InOrderFacts.{InquiryEnds-ok}
-use Rattle.rs_catalog.specs.Catalogue.{Catalogue}
+use Rattle.rs_catalog.specs.Catalog.{CatalogDef}
 use Rattle.rs_plan.specs.Calls.{questions_of_ask}
 use Rattle.rs_plan.specs.Counts.{gave_of}
 use Rattle.rs_plan.specs.Lists as plan
@@ -30,7 +30,7 @@ use Rattle.rs_events.proofs.InquirySteps.{TellFailedCalls, Stepped-asked}
 use Rattle.rs_statement.proofs.PlanSteps.{asks_after-more, gave-all, given-row, left-ended, left-next, over-ended}
 use Rattle.rs_statement.proofs.QuerySteps.{Probes-questions}
 
-module _ (catalogue : Catalogue) (answer : Answering) (cursor : CursorState) where
+module _ (catalogue : CatalogDef) (answer : Answering) (cursor : CursorState) where
   abbrev w : plan.World
   w = world_of catalogue answer cursor.query
 

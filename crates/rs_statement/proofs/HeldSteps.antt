@@ -10,7 +10,7 @@ use Rattle.rs_table.specs.Column.{Column}
 use Rattle.rs_table.specs.Reading.{table_of}
 use Rattle.rs_table.specs.Relation.{Relation}
 use Rattle.rs_expr.specs.Predicates.{PredicateDef}
-use Rattle.rs_catalog.specs.Catalogue.{Catalogue, room_for, with_index, with_predicate, with_table}
+use Rattle.rs_catalog.specs.Catalog.{CatalogDef, room_for, with_index, with_predicate, with_table}
 use Rattle.rs_catalog.specs.Indexes.{IsIndex, making, predicate_for}
 use Rattle.rs_catalog.specs.declared.index.IndexDef.{IndexDef}
 use Rattle.rs_catalog.specs.declared.index.IndexFault.{IndexFault}
@@ -36,7 +36,7 @@ use Rattle.rs_plan.specs.Lists.{list_of_plan}
 use Rattle.rs_plan.specs.Trees.{PlanTree}
 use Rattle.rs_exec.specs.Asking.{world_of}
 use Rattle.rs_exec.specs.Cursors.{CursorState, StandsFor}
-use Rattle.rs_catalog.specs.Held.{AreHeld}
+use Rattle.rs_catalog.specs.Held.{IndexesHold}
 use Rattle.rs_catalog.proofs.HeldFacts.{held-with_index, held-with_predicate, held-with_table}
 use Rattle.rs_statement.specs.declared.evaluating.Evaluating.{Evaluating}
 use Rattle.rs_statement.specs.declared.evaluating.Evaluating.TheVariants.{Planned, Plainly}
@@ -58,13 +58,13 @@ pub Ok-then : {A B E : Type 0} (first : Result A E) (next : A → Result B E) (b
 Ok-then (Ok a) next b e = (a, refl, e)
 Ok-then (Err fault) next b e = absurd cc
 
-module _ (answer : Answering) (catalogue : Catalogue) (P : Catalogue → Type 0) (here : P catalogue)
+module _ (answer : Answering) (catalogue : CatalogDef) (P : CatalogDef → Type 0) (here : P catalogue)
     (tables : (name : List ℕ) (table : Relation) → P (with_table name table catalogue))
     (predicates : (predicate : PredicateDef) → P (with_predicate predicate catalogue))
     (indexes : (def : IndexDef) (ranking : List ScoredRow) → IsIndex catalogue def → (making answer catalogue def).outcome ≡ Ok ranking → P (with_index def ranking catalogue)) where
   -- what a statement leaves
-  abbrev Leaves : Result Catalogue Fault → Type 0
-  Leaves outcome = (next : Catalogue) → outcome ≡ Ok next → P next
+  abbrev Leaves : Result CatalogDef Fault → Type 0
+  Leaves outcome = (next : CatalogDef) → outcome ≡ Ok next → P next
 
   leaves-same : Leaves (Ok catalogue)
   leaves-same next e = let same : catalogue ≡ next = cc in subst P same here
@@ -79,9 +79,9 @@ module _ (answer : Answering) (catalogue : Catalogue) (P : Catalogue → Type 0)
       let same : with_table name.text made.0 catalogue ≡ next = (let last = made.2 in cc) in
       subst P same (tables name.text made.0)
 
-  leaves-table : (finds : Finds) (name : Name) (file : List ℕ) (bound : Result (List Column) Fault) (step : Step Catalogue) → DoesTable finds catalogue name file bound step → Leaves step.outcome
-  leaves-table finds name file (Err fault) step does = subst (λ (s : Step Catalogue). Leaves s.outcome) (sym does) (leaves-none fault)
-  leaves-table finds name file (Ok columns) step does = subst (λ (s : Step Catalogue). Leaves s.outcome) (sym does.2) (leaves-table_step name file columns does.0)
+  leaves-table : (finds : Finds) (name : Name) (file : List ℕ) (bound : Result (List Column) Fault) (step : Step CatalogDef) → DoesTable finds catalogue name file bound step → Leaves step.outcome
+  leaves-table finds name file (Err fault) step does = subst (λ (s : Step CatalogDef). Leaves s.outcome) (sym does) (leaves-none fault)
+  leaves-table finds name file (Ok columns) step does = subst (λ (s : Step CatalogDef). Leaves s.outcome) (sym does.2) (leaves-table_step name file columns does.0)
 
   leaves-predicate : (name : Name) (command : Command) → Leaves (predicate_outcome catalogue name command)
   leaves-predicate name command next e =
@@ -110,9 +110,9 @@ module _ (answer : Answering) (catalogue : Catalogue) (P : Catalogue → Type 0)
           well (Ok entries) ranking e = let same : entries ≡ ranking = cc in ap Ok same
           well (Err why) ranking e = absurd cc
 
-  leaves-then : (first next : Step Catalogue) → Leaves next.outcome → Leaves (then_step first next).outcome
+  leaves-then : (first next : Step CatalogDef) → Leaves next.outcome → Leaves (then_step first next).outcome
   leaves-then first next later = go first.outcome where
-    go : (outcome : Result Catalogue Fault) → Leaves (then_step (record first { outcome = outcome }) next).outcome
+    go : (outcome : Result CatalogDef Fault) → Leaves (then_step (record first { outcome = outcome }) next).outcome
     go (Ok state) = later
     go (Err fault) = leaves-none fault
 
@@ -160,30 +160,30 @@ module _ (answer : Answering) (catalogue : Catalogue) (P : Catalogue → Type 0)
     go (Ok bound) = leaves-analyzed seed bound
     go (Err fault) = leaves-none fault
 
-  pub kept-step : (finds : Finds) (evaluating : Evaluating) (command : Command) (step : Step Catalogue) (next : Catalogue) → IsWritten command
+  pub kept-step : (finds : Finds) (evaluating : Evaluating) (command : Command) (step : Step CatalogDef) (next : CatalogDef) → IsWritten command
       → Does finds answer evaluating catalogue command step → step.outcome ≡ Ok next → P next
   kept-step finds evaluating (CreateTable name columns file) step next written does =
       leaves-table finds name file (with_room catalogue what.Table name (columns_of columns)) step does next
   kept-step finds evaluating (CreatePredicate name params max cost formula) step next written does =
-      subst (λ (s : Step Catalogue). Leaves s.outcome) (sym does) (leaves-predicate name (CreatePredicate name params max cost formula)) next
+      subst (λ (s : Step CatalogDef). Leaves s.outcome) (sym does) (leaves-predicate name (CreatePredicate name params max cost formula)) next
   kept-step finds evaluating (CreateRankIndex name table predicate args at) step next written does =
-      subst (λ (s : Step Catalogue). Leaves s.outcome) (sym does) (leaves-index name (CreateRankIndex name table predicate args at) written) next
-  kept-step finds evaluating (Ask query) step next written does = subst (λ (s : Step Catalogue). Leaves s.outcome) (sym does) (leaves-select evaluating query) next
+      subst (λ (s : Step CatalogDef). Leaves s.outcome) (sym does) (leaves-index name (CreateRankIndex name table predicate args at) written) next
+  kept-step finds evaluating (Ask query) step next written does = subst (λ (s : Step CatalogDef). Leaves s.outcome) (sym does) (leaves-select evaluating query) next
   kept-step finds evaluating (Declare name query) step next written does = absurd does
   kept-step finds evaluating (Fetch count name) step next written does = absurd does
   kept-step finds evaluating (Close name) step next written does = absurd does
-  kept-step finds evaluating (Explain query) step next written does = subst (λ (s : Step Catalogue). Leaves s.outcome) (sym does) (leaves-explain evaluating query) next
-  kept-step finds evaluating (ExplainAnalyze query) step next written does = subst (λ (s : Step Catalogue). Leaves s.outcome) (sym does) (leaves-analyze evaluating query) next
+  kept-step finds evaluating (Explain query) step next written does = subst (λ (s : Step CatalogDef). Leaves s.outcome) (sym does) (leaves-explain evaluating query) next
+  kept-step finds evaluating (ExplainAnalyze query) step next written does = subst (λ (s : Step CatalogDef). Leaves s.outcome) (sym does) (leaves-analyze evaluating query) next
 
 -- the rank indexes hold the scorer's answers
-pub held-step : (answer : Answering) (catalogue : Catalogue) (finds : Finds) (evaluating : Evaluating) (command : Command) (step : Step Catalogue) (next : Catalogue)
-    → AreHeld answer catalogue → IsWritten command → Does finds answer evaluating catalogue command step → step.outcome ≡ Ok next → AreHeld answer next
+pub held-step : (answer : Answering) (catalogue : CatalogDef) (finds : Finds) (evaluating : Evaluating) (command : Command) (step : Step CatalogDef) (next : CatalogDef)
+    → IndexesHold answer catalogue → IsWritten command → Does finds answer evaluating catalogue command step → step.outcome ≡ Ok next → IndexesHold answer next
 held-step answer catalogue finds evaluating command step next held =
-    kept-step answer catalogue (AreHeld answer) held (λ name table. held-with_table catalogue answer name table held) (λ predicate. held-with_predicate catalogue answer predicate held)
+    kept-step answer catalogue (IndexesHold answer) held (λ name table. held-with_table catalogue answer name table held) (λ predicate. held-with_predicate catalogue answer predicate held)
     (λ def ranking fits made. held-with_index catalogue answer def ranking fits made held) finds evaluating command step next
 
 -- where cursors go on to stand, so do all that are open
-asked-larger : (answer : Answering) (small large : Catalogue) → ((cursor : CursorState) → StandsFor small answer cursor → StandsFor large answer cursor) → (entries : List (List ℕ × Held))
+asked-larger : (answer : Answering) (small large : CatalogDef) → ((cursor : CursorState) → StandsFor small answer cursor → StandsFor large answer cursor) → (entries : List (List ℕ × Held))
     → CanAllBeAsked answer small entries → CanAllBeAsked answer large entries
 asked-larger answer small large stands [] all = tt
 asked-larger answer small large stands ((name, kept) ∷ entries) all = (one kept all.0, asked-larger answer small large stands entries all.1) where
@@ -192,12 +192,12 @@ asked-larger answer small large stands ((name, kept) ∷ entries) all = (one kep
   one (held.Ready rows given) is = is
 
 -- a cursor that stands for a catalogue stands for what it becomes
-pub record StandOn (answer : Answering) (catalogue : Catalogue) : Type 0 where
+pub record StandOn (answer : Answering) (catalogue : CatalogDef) : Type 0 where
   pub tables : (cursor : CursorState) (name : List ℕ) (table : Relation) → StandsFor catalogue answer cursor → StandsFor (with_table name table catalogue) answer cursor
   pub predicates : (cursor : CursorState) (predicate : PredicateDef) → StandsFor catalogue answer cursor → StandsFor (with_predicate predicate catalogue) answer cursor
   pub indexes : (cursor : CursorState) (def : IndexDef) (ranking : List ScoredRow) → StandsFor catalogue answer cursor → StandsFor (with_index def ranking catalogue) answer cursor
 
-pub asked-step : (answer : Answering) (catalogue : Catalogue) (finds : Finds) (evaluating : Evaluating) (command : Command) (step : Step Catalogue) (next : Catalogue)
+pub asked-step : (answer : Answering) (catalogue : CatalogDef) (finds : Finds) (evaluating : Evaluating) (command : Command) (step : Step CatalogDef) (next : CatalogDef)
     (entries : List (List ℕ × Held)) → StandOn answer catalogue → CanAllBeAsked answer catalogue entries → IsWritten command
     → Does finds answer evaluating catalogue command step → step.outcome ≡ Ok next → CanAllBeAsked answer next entries
 asked-step answer catalogue finds evaluating command step next entries on all =

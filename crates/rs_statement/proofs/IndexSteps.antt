@@ -6,7 +6,7 @@ use Rattle.rs_value.specs.declared.value.Value.{Value}
 use Rattle.rs_expr.specs.InOrder.{Inquires}
 use Rattle.rs_expr.specs.Predicates.{PredicateDef}
 use Rattle.rs_expr.specs.Scoring.{Answering, ScorerState}
-use Rattle.rs_catalog.specs.Catalogue.{Catalogue}
+use Rattle.rs_catalog.specs.Catalog.{CatalogDef}
 use Rattle.rs_catalog.specs.Indexes.{making, predicate_for, row_request}
 use Rattle.rs_catalog.specs.Making.{MakesIndex, without_ranking, catalogue_after}
 use Rattle.rs_catalog.specs.declared.index.BoundArg.{BoundArg}
@@ -39,7 +39,7 @@ Probes-index : (predicate : PredicateDef) (args : List BoundArg) (rows : List (L
 Probes-index predicate args [] = tt
 Probes-index predicate args (row ∷ rest) = (refl, Probes-index predicate args rest)
 
-module _ (answer : Answering) (catalogue new : Catalogue) (def : IndexDef) (environment : Environment) (scorer : ScorerState) where
+module _ (answer : Answering) (catalogue new : CatalogDef) (def : IndexDef) (environment : Environment) (scorer : ScorerState) where
   -- the index was made
   pub Index-made : MakesIndex (making answer catalogue def) def catalogue new (Ok tt) environment.scorer scorer
       → Stepped (λ step. step ≡ index_step answer catalogue def) new (Ok tt) environment (record environment { scorer = scorer })
@@ -68,6 +68,6 @@ module _ (answer : Answering) (catalogue new : Catalogue) (def : IndexDef) (envi
   }
 
 -- the name of the predicate of an index
-pub name-for : (catalogue : Catalogue) (def : IndexDef) (predicate : PredicateDef) (name : List ℕ) → slice_get catalogue.predicates def.predicate ≡ Some predicate → name ≡ predicate.name
+pub name-for : (catalogue : CatalogDef) (def : IndexDef) (predicate : PredicateDef) (name : List ℕ) → slice_get catalogue.predicates def.predicate ≡ Some predicate → name ≡ predicate.name
     → name ≡ (predicate_for catalogue def).name
 name-for catalogue def predicate name e n = n ∙ (rw e refl)

@@ -4,7 +4,7 @@ use Rattle.std.specs.Prelude.{Option, Result, Ok, Err, is_ok}
 use Rattle.rs_rank.specs.declared.answer.Answer.{Answer}
 use Rattle.rs_expr.specs.InOrder.{Inquiry}
 use Rattle.rs_expr.specs.Scoring.{Answering}
-use Rattle.rs_catalog.specs.Catalogue.{Catalogue}
+use Rattle.rs_catalog.specs.Catalog.{CatalogDef}
 use Rattle.rs_query.specs.Answers.{limit_of}
 use Rattle.rs_query.specs.declared.query.Query.{Query}
 use Rattle.rs_plan.specs.Lists.{World}
@@ -32,13 +32,13 @@ alike-then {S} {T} a b x y first next = go a.outcome b.outcome first.well where
   go (Err fault) (Err other) e = record { events = first.events; well = refl }
 
 -- an ask that comes to the same, over two catalogues
-alike-asked : (catalogue other : Catalogue) (rank : ℕ) (given : Inquiry (Option Answer) ExecFault) → Alike (asked_step catalogue rank given) (asked_step other rank given)
+alike-asked : (catalogue other : CatalogDef) (rank : ℕ) (given : Inquiry (Option Answer) ExecFault) → Alike (asked_step catalogue rank given) (asked_step other rank given)
 alike-asked catalogue other rank given = record { events = refl; well = go given.outcome } where
   go : (outcome : Result (Option Answer) ExecFault) → is_ok (ask_outcome catalogue outcome) ≡ is_ok (ask_outcome other outcome)
   go (Ok row) = refl
   go (Err fault) = refl
 
-module _ (larger catalogue : Catalogue) (answer : Answering) (query : Query) (tree : PlanTree) (same : SameAsks (world_of larger answer query) (world_of catalogue answer query) tree) where
+module _ (larger catalogue : CatalogDef) (answer : Answering) (query : Query) (tree : PlanTree) (same : SameAsks (world_of larger answer query) (world_of catalogue answer query) tree) where
   abbrev large : World
   large = world_of larger answer query
 
@@ -71,6 +71,6 @@ alike-fetched answer state next name asked wanted (ByPlan query tree) same =
 alike-fetched answer state next name asked wanted (Ready rows) same = refl
 
 -- of a cursor over a plan the catalogue covers its query
-pub IsCursorOf-plan : (catalogue : Catalogue) (cursor : OpenCursor) (query : Query) (tree : PlanTree) → IsCursorOf catalogue cursor → cursor.source ≡ ByPlan query tree
+pub IsCursorOf-plan : (catalogue : CatalogDef) (cursor : OpenCursor) (query : Query) (tree : PlanTree) → IsCursorOf catalogue cursor → cursor.source ≡ ByPlan query tree
     → IsCursorOf catalogue (record cursor { source = ByPlan query tree })
 IsCursorOf-plan catalogue cursor query tree is e = subst (λ source. IsCursorOf catalogue (record cursor { source = source })) e is

@@ -3,7 +3,7 @@
 use Rattle.std.proofs.Common.{◌≡◌, ◌∙◌, ◌-◌, ◌<◌, suc, length, sym, ap, subst, arith}
 use Rattle.std.specs.Prelude.{Result, Ok, Err}
 use Rattle.rs_expr.specs.Scoring.{Answering}
-use Rattle.rs_catalog.specs.Catalogue.{Catalogue}
+use Rattle.rs_catalog.specs.Catalog.{CatalogDef}
 use Rattle.rs_plan.specs.Lists.{list_of_plan}
 use Rattle.rs_plan.specs.Trees.{PlanTree}
 use Rattle.rs_query.specs.declared.query.Query.{Query}
@@ -21,15 +21,15 @@ use Rattle.rs_statement.proofs.PlanSteps.{left-start}
 use Rattle.rs_events.proofs.SoFar.{SoFar, SoFar-ends, SoFar-more, Stepped-broken}
 
 -- a map of steps that goes through a step and the one behind it
-abbrev pub GoesThrough : (Step Catalogue → Step Catalogue) → Type 0
-GoesThrough f = (first rest : Step Catalogue) → f (then_step first rest) ≡ then_step (f first) (f rest)
+abbrev pub GoesThrough : (Step CatalogDef → Step CatalogDef) → Type 0
+GoesThrough f = (first rest : Step CatalogDef) → f (then_step first rest) ≡ then_step (f first) (f rest)
 
 -- steps as they are
-abbrev pub as_they_are : Step Catalogue → Step Catalogue
+abbrev pub as_they_are : Step CatalogDef → Step CatalogDef
 as_they_are step = step
 
-module _ (f : Step Catalogue → Step Catalogue) (through : GoesThrough f) where
-  module _ (catalogue : Catalogue) (answer : Answering) (whole : Step Catalogue) (cursor : CursorState) (old middle new : Environment)
+module _ (f : Step CatalogDef → Step CatalogDef) (through : GoesThrough f) where
+  module _ (catalogue : CatalogDef) (answer : Answering) (whole : Step CatalogDef) (cursor : CursorState) (old middle new : Environment)
       (so_far : SoFar whole (f (left_of catalogue answer cursor)) old middle) (at : middle.scorer.answer ≡ answer) where
     -- the next call, over the answers that the scorer had at first
     here : (result : Result (Unit {0}) Fault) → Stepped (λ step. step ≡ f (call_step catalogue middle.scorer.answer cursor)) catalogue result middle new
@@ -68,7 +68,7 @@ module _ (f : Step Catalogue → Step Catalogue) (through : GoesThrough f) where
         (here (Ok tt) stepped))
 
   -- of a new cursor all asks of its plan are left, whose calls were made over the answers that the scorer had at first
-  pub Left-new : (catalogue : Catalogue) (answer : Answering) (query : Query) (tree : PlanTree) (cursor : CursorState) (result : Result (Unit {0}) Fault) (old new : Environment)
+  pub Left-new : (catalogue : CatalogDef) (answer : Answering) (query : Query) (tree : PlanTree) (cursor : CursorState) (result : Result (Unit {0}) Fault) (old new : Environment)
       → IsAt query tree 0 cursor → old.scorer.answer ≡ answer → Stepped (λ step. step ≡ f (left_of catalogue old.scorer.answer cursor)) catalogue result old new
       → Stepped (λ step. step ≡ f (planned_step (world_of catalogue answer query) tree)) catalogue result old new
   Left-new catalogue answer query tree cursor result old new at same stepped =
@@ -78,7 +78,7 @@ module _ (f : Step Catalogue → Step Catalogue) (through : GoesThrough f) where
       ∙ ap (λ own. asks_left w own (asks_of cursor)) at.plan_is ∙ ap (asks_left w tree) at.asks_are ∙ left-start w tree) stepped
 
 -- behind each call that gave a row fewer asks are left
-pub fewer-asks : (catalogue : Catalogue) (answer : Answering) (cursor next : CursorState) → IsAt cursor.query (plan_of cursor) (suc (asks_of cursor)) next → StandsFor catalogue answer next
+pub fewer-asks : (catalogue : CatalogDef) (answer : Answering) (cursor next : CursorState) → IsAt cursor.query (plan_of cursor) (suc (asks_of cursor)) next → StandsFor catalogue answer next
     → suc (length (list_of_plan (world_of catalogue answer next.query) (plan_of next))) - asks_of next
     < suc (length (list_of_plan (world_of catalogue answer cursor.query) (plan_of cursor))) - asks_of cursor
 fewer-asks catalogue answer cursor next at stands =

@@ -9,7 +9,7 @@ use Rattle.rs_rank.specs.declared.answer.Answer.{Answer}
 use Rattle.rs_rank.specs.declared.row.RankRow.{RankRow}
 use Rattle.rs_expr.specs.InOrder.{InquiryEnds, InquiryFails, InquiryStops, Inquires, Inquiry, Request}
 use Rattle.rs_expr.specs.Scoring.{Answering, ScorerState}
-use Rattle.rs_catalog.specs.Catalogue.{Catalogue}
+use Rattle.rs_catalog.specs.Catalog.{CatalogDef}
 use Rattle.rs_query.specs.Questions.{Question, asking, first_of, is_bad, outcome_for, request_for, through_first}
 use Rattle.rs_query.specs.WellFormed.{IsBlock, IsQuery, IsTerm}
 use Rattle.rs_query.specs.declared.query.Query.{Query}
@@ -28,7 +28,7 @@ use Rattle.rs_exec.specs.declared.fault.ExecFault.TheVariants.{BadScore, Broken,
 use Rattle.rs_statement.specs.Parts.Asks.{NamesPredicate}
 
 -- each block of a query is one of the catalogue
-block-query : (catalogue : Catalogue) (query : Query) (number : ℕ) → IsQuery catalogue query → IsBlock catalogue (block_in query number)
+block-query : (catalogue : CatalogDef) (query : Query) (number : ℕ) → IsQuery catalogue query → IsBlock catalogue (block_in query number)
 block-query catalogue (One block limit) number formed = formed.0
 block-query catalogue (Set op left right limit) number formed =
     elim (number == 1) as (λ b. IsBlock catalogue (if b then left else right)) [ true ↦ formed.0.left_block | false ↦ formed.0.right_block ]
@@ -123,7 +123,7 @@ module _ (w : World) (formed : IsQuery w.catalogue w.query) where
     go (inr stops) = let same : why ≡ Memory = (let e = stops.gives in cc) in subst (NamesPredicate w.catalogue) (sym same) tt
 
 -- and so does the fault of a cursor's call
-names-none : (catalogue : Catalogue) (outcome : Result (Option Answer) ExecFault) (why : ExecFault) (old new : ScorerState)
+names-none : (catalogue : CatalogDef) (outcome : Result (Option Answer) ExecFault) (why : ExecFault) (old new : ScorerState)
     → ((fault : ExecFault) → outcome ≡ Err fault → NamesPredicate catalogue fault) → Inquires Memory (no_question outcome) (Err why) old new → NamesPredicate catalogue why
 names-none catalogue outcome why old new named inquires = go inquires.comes where
   go : (InquiryEnds (no_question outcome) (Err why) old new ⊎ InquiryFails (no_question outcome) (Err why) old new) ⊎ InquiryStops Memory (no_question outcome) (Err why) old new
@@ -135,7 +135,7 @@ names-none catalogue outcome why old new named inquires = go inquires.comes wher
     none (request ∷ done) e = cc
   go (inr stops) = let same : why ≡ Memory = (let e = stops.gives in cc) in subst (NamesPredicate catalogue) (sym same) tt
 
-pub names-call : (catalogue : Catalogue) (answer : Answering) (cursor : CursorState) (why : ExecFault) (old new : ScorerState) → StandsFor catalogue answer cursor
+pub names-call : (catalogue : CatalogDef) (answer : Answering) (cursor : CursorState) (why : ExecFault) (old new : ScorerState) → StandsFor catalogue answer cursor
     → Inquires Memory (call_of catalogue answer cursor) (Err why) old new → NamesPredicate catalogue why
 names-call catalogue answer cursor why old new stands inquires = go cursor.failed (is_over w tree n) inquires where
   w : World

@@ -6,7 +6,7 @@ use Rattle.rs_syntax.specs.Syntax.{Command, CreateTable, CreatePredicate, Create
 use Rattle.rs_syntax.specs.Syntax as syntax
 use Rattle.rs_syntax.specs.declared.name.Name.{Name}
 use Rattle.rs_table.specs.Column.{Column}
-use Rattle.rs_catalog.specs.Catalogue.{Catalogue}
+use Rattle.rs_catalog.specs.Catalog.{CatalogDef}
 use Rattle.rs_catalog.specs.declared.room.What.TheVariants as what
 use Rattle.rs_bind.specs.Names.{columns_of}
 use Rattle.rs_statement.specs.declared.fault.Fault.{Fault}
@@ -19,12 +19,12 @@ use Rattle.rs_statement.specs.Statements.{Does, DoesTable, table_step, with_room
 use Rattle.rs_statement.specs.Session.{DoesInSession, State, StatementsRun, beside_cursors, nothing}
 
 -- a statement does one thing at most
-DoesTable-one : (finds : Finds) → OneFile finds → (catalogue : Catalogue) (name : Name) (file : List ℕ) (columns : Result (List Column) Fault) (a b : Step Catalogue)
+DoesTable-one : (finds : Finds) → OneFile finds → (catalogue : CatalogDef) (name : Name) (file : List ℕ) (columns : Result (List Column) Fault) (a b : Step CatalogDef)
     → DoesTable finds catalogue name file columns a → DoesTable finds catalogue name file columns b → a ≡ b
 DoesTable-one finds one catalogue name file (Err fault) a b p q = p ∙ sym q
 DoesTable-one finds one catalogue name file (Ok columns) a b p q = p.2 ∙ ap (table_step catalogue name file columns) (one file p.0 q.0 p.1 q.1) ∙ sym q.2
 
-pub Does-one : (finds : Finds) → OneFile finds → (answer : Answering) (evaluating : Evaluating) (catalogue : Catalogue) (command : Command) (a b : Step Catalogue)
+pub Does-one : (finds : Finds) → OneFile finds → (answer : Answering) (evaluating : Evaluating) (catalogue : CatalogDef) (command : Command) (a b : Step CatalogDef)
     → Does finds answer evaluating catalogue command a → Does finds answer evaluating catalogue command b → a ≡ b
 Does-one finds one answer evaluating catalogue (CreateTable name columns file) a b p q =
     DoesTable-one finds one catalogue name file (with_room catalogue what.Table name (columns_of columns)) a b p q
@@ -40,7 +40,7 @@ Does-one finds one answer evaluating catalogue (ExplainAnalyze query) a b p q = 
 pub DoesInSession-one : (finds : Finds) → OneFile finds → (answer : Answering) (evaluating : Evaluating) (state : State) (command : Command) (a b : Step State)
     → DoesInSession finds answer evaluating state command a → DoesInSession finds answer evaluating state command b → a ≡ b
 DoesInSession-one finds one answer evaluating state command a b p q = go command p q where
-  same : (command : Command) (own other : Step Catalogue) → Does finds answer evaluating state.catalogue command own → Does finds answer evaluating state.catalogue command other
+  same : (command : Command) (own other : Step CatalogDef) → Does finds answer evaluating state.catalogue command own → Does finds answer evaluating state.catalogue command other
       → a ≡ beside_cursors state.cursors own → b ≡ beside_cursors state.cursors other → a ≡ b
   same command own other x y is also = is ∙ ap (beside_cursors state.cursors) (Does-one finds one answer evaluating state.catalogue command own other x y) ∙ sym also
 

@@ -15,7 +15,7 @@ use Rattle.rs_expr.specs.Scores.{is_score}
 use Rattle.rs_syntax.specs.Syntax.{Command, CreateTable, CreatePredicate, CreateRankIndex, Explain, ExplainAnalyze}
 use Rattle.rs_syntax.specs.Syntax as syntax
 use Rattle.rs_syntax.specs.declared.name.Name.{Name}
-use Rattle.rs_catalog.specs.Catalogue.{Catalogue, room_for, with_index, with_predicate, with_table}
+use Rattle.rs_catalog.specs.Catalog.{CatalogDef, room_for, with_index, with_predicate, with_table}
 use Rattle.rs_catalog.specs.Indexes as indexes
 use Rattle.rs_catalog.specs.declared.index.IndexDef.{IndexDef}
 use Rattle.rs_catalog.specs.declared.index.IndexFault.{IndexFault}
@@ -111,7 +111,7 @@ unfolding Own IsOwn
 Own-room name (Ok room) = tt
 Own-room name (Err why) = tt
 
-Own-with_room : {A : Type 0} (catalogue : Catalogue) (what : What) (name : Name) (bound : Result A BindFault) → Own (with_room catalogue what name bound)
+Own-with_room : {A : Type 0} (catalogue : CatalogDef) (what : What) (name : Name) (bound : Result A BindFault) → Own (with_room catalogue what name bound)
 unfolding Own
 Own-with_room catalogue what name bound =
     Own-then (or_bind_fault bound) (λ a. or_room_fault name (room_for what name.text catalogue) >>= (λ room. Ok a)) (Own-bind bound)
@@ -145,7 +145,7 @@ Own-ranking predicate (Err (index.BadScore row got max)) own = tt
 Own-ranking predicate (Err index.Probe) own = own
 Own-ranking predicate (Err index.Memory) own = tt
 
-Own-index_step : (answer : Answering) (catalogue : Catalogue) (def : IndexDef) → Own (index_step answer catalogue def).outcome
+Own-index_step : (answer : Answering) (catalogue : CatalogDef) (def : IndexDef) → Own (index_step answer catalogue def).outcome
 unfolding Own
 Own-index_step answer catalogue def =
     Own-then (or_index_fault (indexes.predicate_for catalogue def).name (indexes.making answer catalogue def).outcome) (λ ranking. Ok (with_index def ranking catalogue))
@@ -160,13 +160,13 @@ OwnAnswer (Err (plain.BadScore predicate ids got max)) = Unit {0}
 OwnAnswer (Err (plain.Probe predicate)) = ⊥
 OwnAnswer (Err plain.Memory) = ⊥
 
-OwnAnswer-evaluation : (answer : Answering) (catalogue : Catalogue) (query : Query) (view : View) → OwnAnswer (evaluation_of answer catalogue query view).outcome
+OwnAnswer-evaluation : (answer : Answering) (catalogue : CatalogDef) (query : Query) (view : View) → OwnAnswer (evaluation_of answer catalogue query view).outcome
 OwnAnswer-evaluation answer catalogue query view = go (first_of (is_bad answer catalogue) (questions_of catalogue query view)) refl where
   go : (bad : Option Question) → first_of (is_bad answer catalogue) (questions_of catalogue query view) ≡ bad → OwnAnswer (evaluation_of answer catalogue query view).outcome
   go None e = rw e tt
   go (Some question) e = rw e tt
 
-Own-query : (catalogue : Catalogue) (outcome : Result (List Answer) PlainFault) → OwnAnswer outcome → Own (query_outcome catalogue outcome)
+Own-query : (catalogue : CatalogDef) (outcome : Result (List Answer) PlainFault) → OwnAnswer outcome → Own (query_outcome catalogue outcome)
 unfolding Own IsOwn
 Own-query catalogue (Ok rows) own = tt
 Own-query catalogue (Err (plain.BadScore predicate ids got max)) own = tt
@@ -187,7 +187,7 @@ OwnGiven-ask w tree n = go (first_of (is_bad w.answer w.catalogue) (questions_of
   go None e = rw e tt
   go (Some question) e = rw e tt
 
-Own-ask : (catalogue : Catalogue) (outcome : Result (Option Answer) ExecFault) → OwnGiven outcome → Own (ask_outcome catalogue outcome)
+Own-ask : (catalogue : CatalogDef) (outcome : Result (Option Answer) ExecFault) → OwnGiven outcome → Own (ask_outcome catalogue outcome)
 unfolding Own IsOwn
 Own-ask catalogue (Ok given) own = tt
 Own-ask catalogue (Err (exec.BadScore predicate ids got max)) own = tt
@@ -209,7 +209,7 @@ Own-asks w tree n (suc count) =
     Own-then_step (ask_step w tree n) (asks_from w tree (suc n) count)
     (Own-ask w.catalogue (next_answer w tree n).outcome (OwnGiven-ask w tree n)) (Own-asks w tree (suc n) count)
 
-Own-query_step : (evaluating : Evaluating) (answer : Answering) (catalogue : Catalogue) (query : Query) → Own (query_step evaluating answer catalogue query).outcome
+Own-query_step : (evaluating : Evaluating) (answer : Answering) (catalogue : CatalogDef) (query : Query) → Own (query_step evaluating answer catalogue query).outcome
 Own-query_step Plainly answer catalogue query =
     Own-query catalogue (evaluation_of answer catalogue query (all_rows catalogue query)).outcome (OwnAnswer-evaluation answer catalogue query (all_rows catalogue query))
 Own-query_step (Planned seed) answer catalogue query =
@@ -217,7 +217,7 @@ Own-query_step (Planned seed) answer catalogue query =
     let tree = plan_for answer catalogue seed query in
     Own-asks w tree 0 (ask_count (limit_of query) (length (list_of_plan w tree)))
 
-Own-explain : (catalogue : Catalogue) (query : syntax.Query) → Own (explain_outcome catalogue query)
+Own-explain : (catalogue : CatalogDef) (query : syntax.Query) → Own (explain_outcome catalogue query)
 unfolding Own
 Own-explain catalogue query = Own-then (or_bind_fault (bound_query catalogue query)) (λ bound. Ok catalogue) (Own-bind (bound_query catalogue query)) (λ bound. tt)
 
@@ -227,43 +227,43 @@ unfolding Own
 Own-refused does (Ok a) own goes = goes a
 Own-refused does (Err fault) own goes = own
 
-Own-explain_step : (evaluating : Evaluating) (answer : Answering) (catalogue : Catalogue) (query : syntax.Query) → Own (explain_step evaluating answer catalogue query).outcome
+Own-explain_step : (evaluating : Evaluating) (answer : Answering) (catalogue : CatalogDef) (query : syntax.Query) → Own (explain_step evaluating answer catalogue query).outcome
 unfolding Own IsOwn
 Own-explain_step Plainly answer catalogue query = Own-explain catalogue query
 Own-explain_step (Planned seed) answer catalogue query = Own-refused (explained_step answer catalogue seed) _ (Own-bind (bound_query catalogue query)) (λ query. tt)
 
-Own-analyzed : (answer : Answering) (catalogue : Catalogue) (seed : ℕ) (query : Query) → Own (analyzed_step answer catalogue seed query).outcome
+Own-analyzed : (answer : Answering) (catalogue : CatalogDef) (seed : ℕ) (query : Query) → Own (analyzed_step answer catalogue seed query).outcome
 unfolding Own
 Own-analyzed answer catalogue seed query =
     let w = world_of catalogue answer query in
     let tree = plan_for answer catalogue seed query in
     Own-then_step (silent (planned_step w tree)) (analyzed_lines answer catalogue seed query) (Own-asks w tree 0 (asks_in_all w tree)) tt
 
-Own-analyze_step : (evaluating : Evaluating) (answer : Answering) (catalogue : Catalogue) (query : syntax.Query) → Own (analyze_step evaluating answer catalogue query).outcome
+Own-analyze_step : (evaluating : Evaluating) (answer : Answering) (catalogue : CatalogDef) (query : syntax.Query) → Own (analyze_step evaluating answer catalogue query).outcome
 unfolding Own IsOwn
 Own-analyze_step Plainly answer catalogue query = Own-explain catalogue query
 Own-analyze_step (Planned seed) answer catalogue query =
     Own-refused (analyzed_step answer catalogue seed) _ (Own-bind (bound_query catalogue query)) (Own-analyzed answer catalogue seed)
 
-Own-select : (evaluating : Evaluating) (answer : Answering) (catalogue : Catalogue) (query : syntax.Query) → Own (select_step evaluating answer catalogue query).outcome
+Own-select : (evaluating : Evaluating) (answer : Answering) (catalogue : CatalogDef) (query : syntax.Query) → Own (select_step evaluating answer catalogue query).outcome
 unfolding Own IsOwn
 Own-select evaluating answer catalogue query =
     Own-refused (query_step evaluating answer catalogue) _ (Own-bind (bound_query catalogue query)) (Own-query_step evaluating answer catalogue)
 
-Own-table_step : (catalogue : Catalogue) (name : Name) (file : List ℕ) (columns : List Column) (there : Option (List ℕ)) → Own (table_step catalogue name file columns there).outcome
+Own-table_step : (catalogue : CatalogDef) (name : Name) (file : List ℕ) (columns : List Column) (there : Option (List ℕ)) → Own (table_step catalogue name file columns there).outcome
 unfolding Own
 Own-table_step catalogue name file columns there =
     Own-then (content_of table_limit file there) (λ bytes. or_table_fault file (table_of columns bytes) >>= (λ table. Ok (with_table name.text table catalogue)))
     (Own-content table_limit file there)
     (λ bytes. Own-then (or_table_fault file (table_of columns bytes)) (λ table. Ok (with_table name.text table catalogue)) (Own-table file (table_of columns bytes)) (λ table. tt))
 
-Own-does_table : (finds : Finds) (catalogue : Catalogue) (name : Name) (file : List ℕ) (columns : Result (List Column) Fault) (step : Step Catalogue) → Own columns
+Own-does_table : (finds : Finds) (catalogue : CatalogDef) (name : Name) (file : List ℕ) (columns : Result (List Column) Fault) (step : Step CatalogDef) → Own columns
     → DoesTable finds catalogue name file columns step → Own step.outcome
 unfolding Own
 Own-does_table finds catalogue name file (Err fault) step own does = subst (λ s. Own s.outcome) (sym does) own
 Own-does_table finds catalogue name file (Ok columns) step own does = subst (λ s. Own s.outcome) (sym does.2) (Own-table_step catalogue name file columns does.0)
 
-Own-step : (finds : Finds) (answer : Answering) (evaluating : Evaluating) (catalogue : Catalogue) (command : Command) (step : Step Catalogue) → Does finds answer evaluating catalogue command step → Own step.outcome
+Own-step : (finds : Finds) (answer : Answering) (evaluating : Evaluating) (catalogue : CatalogDef) (command : Command) (step : Step CatalogDef) → Does finds answer evaluating catalogue command step → Own step.outcome
 unfolding Own IsOwn
 Own-step finds answer evaluating catalogue (CreateTable name columns file) step does =
     Own-does_table finds catalogue name file (with_room catalogue what.Table name (columns_of columns)) step (Own-with_room catalogue what.Table name (columns_of columns)) does
@@ -327,7 +327,7 @@ Own-fetch answer state count name =
           (Own-asks w tree asked (next_asks w tree asked wanted)) tt
       fetches own asked wanted (Ready rows) = tt
 
-Own-beside : (cursors : List OpenCursor) (step : Step Catalogue) → Own step.outcome → Own (beside_cursors cursors step).outcome
+Own-beside : (cursors : List OpenCursor) (step : Step CatalogDef) → Own step.outcome → Own (beside_cursors cursors step).outcome
 unfolding Own
 Own-beside cursors step own = Own-then step.outcome (λ catalogue. Ok (record { catalogue = catalogue; cursors = cursors })) own (λ catalogue. tt)
 
@@ -335,7 +335,7 @@ Own-in_session : (finds : Finds) (answer : Answering) (evaluating : Evaluating) 
     → DoesInSession finds answer evaluating state command step → Own step.outcome
 unfolding Own
 Own-in_session finds answer evaluating state command step = go command where
-  own : (command : Command) → (made : Step Catalogue) × Does finds answer evaluating state.catalogue command made × (step ≡ beside_cursors state.cursors made) → Own step.outcome
+  own : (command : Command) → (made : Step CatalogDef) × Does finds answer evaluating state.catalogue command made × (step ≡ beside_cursors state.cursors made) → Own step.outcome
   own command does =
       subst (λ (s : Step State). Own s.outcome) (sym does.2) (Own-beside state.cursors does.0 (Own-step finds answer evaluating state.catalogue command does.0 does.1))
 

@@ -5,7 +5,7 @@ use Rattle.std.proofs.lemmas.Bool.Decides.{nat_tests}
 use Rattle.std.proofs.lemmas.Bool.{lt-ltb}
 use Rattle.std.proofs.lemmas.Option.{slice_get_within}
 use Rattle.rs_rank.specs.declared.answer.Answer.{Answer}
-use Rattle.rs_catalog.specs.Catalogue.{Catalogue}
+use Rattle.rs_catalog.specs.Catalog.{CatalogDef}
 use Rattle.rs_query.specs.Answers.{limit_of}
 use Rattle.rs_expr.specs.Scoring.{Answering}
 use Rattle.rs_query.specs.Questions.{Faults, Question, first_of, is_bad, outcome_for}
@@ -56,7 +56,7 @@ then-still {S} step state ends = go step.outcome ends where
   go (Err fault) e = absurd cc
 
 -- what questions give that ended well
-pub outcome-value : {A F : Type 0} (faults : Faults F) (answer : Answering) (catalogue : Catalogue) (value given : A) (bad : Option Question)
+pub outcome-value : {A F : Type 0} (faults : Faults F) (answer : Answering) (catalogue : CatalogDef) (value given : A) (bad : Option Question)
     → outcome_for faults answer catalogue bad value ≡ Ok given → value ≡ given
 outcome-value faults answer catalogue value given None e = cc
 outcome-value faults answer catalogue value given (Some q) e = absurd cc

@@ -5,7 +5,7 @@ use Rattle.rs_value.specs.Answer.{Gives}
 use Rattle.rs_expr.specs.Predicates.{PredicateDef}
 use Rattle.rs_syntax.specs.Syntax as syntax
 use Rattle.rs_value.specs.Results.{◌>>=◌}
-use Rattle.rs_catalog.specs.Catalogue.{Catalogue}
+use Rattle.rs_catalog.specs.Catalog.{CatalogDef}
 use Rattle.rs_bind.specs.Queries.{bound_query}
 use Rattle.rs_typing.specs.declared.fault.BindFault.{BindFault}
 use Rattle.rs_typing.specs.declared.fault.BindFault.TheVariants as bind
@@ -20,7 +20,7 @@ use Rattle.rs_events.proofs.InquirySteps.{TellFailedCalls}
 use Rattle.rs_statement.proofs.StepFacts.{bound-ok}
 
 -- each question's call is of the predicate that is told where it fails
-pub Probes-questions : {F : Type 0} (faults : Faults F) (tells : F → Fault) (catalogue : Catalogue) → ((number : ℕ) → tells (faults.failed number) ≡ Probe (predicate_at catalogue number).name)
+pub Probes-questions : {F : Type 0} (faults : Faults F) (tells : F → Fault) (catalogue : CatalogDef) → ((number : ℕ) → tells (faults.failed number) ≡ Probe (predicate_at catalogue number).name)
     → (questions : List Question) → TellFailedCalls statement_faults tells (map (request_for faults catalogue) questions)
 Probes-questions faults tells catalogue told [] = tt
 Probes-questions faults tells catalogue told (question ∷ rest) = (told question.term.predicate, Probes-questions faults tells catalogue told rest)
@@ -35,5 +35,5 @@ Gives-unbound bound why fault (inl e) told = inl (ap Err told ∙ ap or_bind_fau
 Gives-unbound bound why fault (inr e) told = inr (ap Err (told ∙ ap bind_fault (let same : why ≡ bind.Memory = cc in same)))
 
 -- EXPLAIN leaves the catalogue as it is, or the query isn't bound
-pub explained : (catalogue : Catalogue) (query : syntax.Query) (bound : Query) → Gives bind.Memory (bound_query catalogue query) (Ok bound) → explain_outcome catalogue query ≡ Ok catalogue
+pub explained : (catalogue : CatalogDef) (query : syntax.Query) (bound : Query) → Gives bind.Memory (bound_query catalogue query) (Ok bound) → explain_outcome catalogue query ≡ Ok catalogue
 explained catalogue query bound gives = ap (λ r. r >>= (λ bound. Ok catalogue)) (bound-ok (or_bind_fault (bound_query catalogue query)) bound (Gives-bound _ bound gives))

@@ -14,7 +14,7 @@ use Rattle.rs_rank.specs.declared.scored_row.ScoredRow.{ScoredRow}
 use Rattle.rs_table.specs.Relation.{Relation}
 use Rattle.rs_expr.specs.Predicates.{PredicateDef}
 use Rattle.rs_expr.specs.Scoring.{Answering}
-use Rattle.rs_catalog.specs.Catalogue.{Catalogue, has_name, with_index, with_predicate, with_table}
+use Rattle.rs_catalog.specs.Catalog.{CatalogDef, has_name, with_index, with_predicate, with_table}
 use Rattle.rs_catalog.specs.declared.index.IndexDef.{IndexDef}
 use Rattle.rs_catalog.specs.declared.room.RoomFault.TheVariants as room
 use Rattle.rs_query.specs.Answers.{cut, limit_of}
@@ -117,7 +117,7 @@ AreOthers name cursors = AllByRecursion (λ (c : OpenCursor). bytes_eq c.name na
 
 module _ (answer : Answering) where
   -- two cursors of one name over the same rows, by a plan of a query that the catalogue covers
-  pub record Agree (catalogue : Catalogue) (plain planned : OpenCursor) : Type 0 where
+  pub record Agree (catalogue : CatalogDef) (plain planned : OpenCursor) : Type 0 where
     pub name : plain.name ≡ planned.name
     pub query : Query
     pub tree : PlanTree
@@ -129,7 +129,7 @@ module _ (answer : Answering) where
     pub given : plain.asked ≡ min planned.asked (length rows)
 
   -- two lists of cursors that agree one by one, no two of one name
-  abbrev pub AgreeAll : Catalogue → List OpenCursor → List OpenCursor → Type 0
+  abbrev pub AgreeAll : CatalogDef → List OpenCursor → List OpenCursor → Type 0
   AgreeAll catalogue [] [] = Unit {0}
   AgreeAll catalogue [] (q ∷ qs) = ⊥
   AgreeAll catalogue (p ∷ ps) [] = ⊥
@@ -189,7 +189,7 @@ others-free name cursors opens = others-unnamed name cursors (go (has_name name 
   go true opens = absurd cc
   go false opens = refl
 
-module _ (answer : Answering) (catalogue : Catalogue) where
+module _ (answer : Answering) (catalogue : CatalogDef) where
   -- the test of a name comes out alike at two cursors that agree
   same-test : (name : List ℕ) (p q : OpenCursor) → Agree answer catalogue p q → bytes_eq p.name name ≡ bytes_eq q.name name
   same-test name p q agree = ap (λ n. bytes_eq n name) agree.name
@@ -306,7 +306,7 @@ module _ (answer : Answering) (catalogue : Catalogue) where
       ∙ ap (λ n. rank_lines (suc q.asked) (take n (drop q.asked all))) (sym is)
 
 -- a query that is well formed without its conditions is covered
-pub covers-unfiltered : (catalogue : Catalogue) (query : Query) → IsQuery catalogue (unfiltered query) → Covers catalogue query
+pub covers-unfiltered : (catalogue : CatalogDef) (query : Query) → IsQuery catalogue (unfiltered query) → Covers catalogue query
 covers-unfiltered catalogue query formed = go query (covers catalogue (unfiltered query) formed) where
   go : (query : Query) → Covers catalogue (unfiltered query) → Covers catalogue query
   go (One block limit) covered = record { entries = covered.entries; terms = covered.terms }
@@ -314,16 +314,16 @@ covers-unfiltered catalogue query formed = go query (covers catalogue (unfiltere
 
 -- what joins the catalogue changes nothing of the asks of a plan whose query it covers
 pub record AskTheSame : Type 0 where
-  pub tables : (catalogue : Catalogue) (answer : Answering) (query : Query) (tree : PlanTree) (name : List ℕ) (table : Relation) → Covers catalogue query
+  pub tables : (catalogue : CatalogDef) (answer : Answering) (query : Query) (tree : PlanTree) (name : List ℕ) (table : Relation) → Covers catalogue query
       → SameAsks (world_of (with_table name table catalogue) answer query) (world_of catalogue answer query) tree
-  pub predicates : (catalogue : Catalogue) (answer : Answering) (query : Query) (tree : PlanTree) (predicate : PredicateDef) → Covers catalogue query
+  pub predicates : (catalogue : CatalogDef) (answer : Answering) (query : Query) (tree : PlanTree) (predicate : PredicateDef) → Covers catalogue query
       → SameAsks (world_of (with_predicate predicate catalogue) answer query) (world_of catalogue answer query) tree
-  pub indexes : (catalogue : Catalogue) (answer : Answering) (query : Query) (tree : PlanTree) (def : IndexDef) (ranking : List ScoredRow) → Covers catalogue query
+  pub indexes : (catalogue : CatalogDef) (answer : Answering) (query : Query) (tree : PlanTree) (def : IndexDef) (ranking : List ScoredRow) → Covers catalogue query
       → SameAsks (world_of (with_index def ranking catalogue) answer query) (world_of catalogue answer query) tree
 
-module _ (answer : Answering) (catalogue : Catalogue) where
+module _ (answer : Answering) (catalogue : CatalogDef) where
   -- so cursors that agree over a catalogue do over a larger one
-  module _ (large : Catalogue) (covered : (query : Query) → Covers catalogue query → Covers large query)
+  module _ (large : CatalogDef) (covered : (query : Query) → Covers catalogue query → Covers large query)
       (same : (query : Query) (tree : PlanTree) → Covers catalogue query → SameAsks (world_of large answer query) (world_of catalogue answer query) tree) where
     agree-larger : (p q : OpenCursor) → Agree answer catalogue p q → Agree answer large p q
     agree-larger p q agree = record {

@@ -10,7 +10,7 @@ use Rattle.rs_expr.specs.InOrder.{Inquiry, calls_of}
 use Rattle.rs_expr.specs.Scoring.{Answering}
 use Rattle.rs_value.specs.Results.{◌>>=◌}
 use Rattle.rs_lex.specs.declared.token.Span.{Span}
-use Rattle.rs_catalog.specs.Catalogue.{Catalogue, empty}
+use Rattle.rs_catalog.specs.Catalog.{CatalogDef, empty}
 use Rattle.rs_syntax.specs.Syntax.{Command, CreateTable, CreatePredicate, CreateRankIndex, Ask, Declare, Fetch, Close, Explain, ExplainAnalyze}
 use Rattle.rs_syntax.specs.Syntax as syntax
 use Rattle.rs_syntax.specs.declared.name.Name.{Name}
@@ -89,7 +89,7 @@ module _ (w : plan.World) (tree : PlanTree) where
   rows = answers_of w tree
 
   -- an ask that went well gave the row at its place, and left the catalogue
-  puts-ask : (n : ℕ) (state : Catalogue) → (ask_step w tree n).outcome ≡ Ok state → puts (ask_step w tree n).events ≡ given_lines (suc n) (Ok (slice_get rows n))
+  puts-ask : (n : ℕ) (state : CatalogDef) → (ask_step w tree n).outcome ≡ Ok state → puts (ask_step w tree n).events ≡ given_lines (suc n) (Ok (slice_get rows n))
   puts-ask n state ends = puts-inquiry (next_answer w tree n) (given_lines (suc n) (next_answer w tree n).outcome) ∙ go (next_answer w tree n).outcome refl ends where
     go : (outcome : Result (Option Answer) ExecFault) → (next_answer w tree n).outcome ≡ outcome → ask_outcome w.catalogue outcome ≡ Ok state
         → given_lines (suc n) (next_answer w tree n).outcome ≡ given_lines (suc n) (Ok (slice_get rows n))
@@ -97,13 +97,13 @@ module _ (w : plan.World) (tree : PlanTree) where
     go (Err fault) is e = absurd cc
 
   -- asks that went well put the lines of their rows
-  puts-asks : (n count : ℕ) (next : Catalogue) → (asks_from w tree n count).outcome ≡ Ok next
+  puts-asks : (n count : ℕ) (next : CatalogDef) → (asks_from w tree n count).outcome ≡ Ok next
       → (puts (asks_from w tree n count).events ≡ rank_lines (suc n) (take count (drop n rows))) × (next ≡ w.catalogue)
   puts-asks n zero next ends = (refl, let same : next ≡ w.catalogue = cc in same)
   puts-asks n (suc count) next ends = go (puts-asks (suc n) count next) (ask_step w tree n).outcome refl ends where
     go : ((asks_from w tree (suc n) count).outcome ≡ Ok next
         → (puts (asks_from w tree (suc n) count).events ≡ rank_lines (suc (suc n)) (take count (drop (suc n) rows))) × (next ≡ w.catalogue))
-        → (outcome : Result Catalogue Fault) → (ask_step w tree n).outcome ≡ outcome
+        → (outcome : Result CatalogDef Fault) → (ask_step w tree n).outcome ≡ outcome
         → (then_step (record (ask_step w tree n) { outcome = outcome }) (asks_from w tree (suc n) count)).outcome ≡ Ok next
         → (puts (then_step (record (ask_step w tree n) { outcome = outcome }) (asks_from w tree (suc n) count)).events ≡ rank_lines (suc n) (take (suc count) (drop n rows))) × (next ≡ w.catalogue)
     go later (Ok state) is e =
@@ -118,7 +118,7 @@ module _ (w : plan.World) (tree : PlanTree) where
     go later (Err fault) is e = absurd cc
 
   -- so a plan that was asked to its end puts its rows up to LIMIT
-  puts-planned : (next : Catalogue) → (planned_step w tree).outcome ≡ Ok next → (puts (planned_step w tree).events ≡ rank_lines 1 (cut (limit_of w.query) rows)) × (next ≡ w.catalogue)
+  puts-planned : (next : CatalogDef) → (planned_step w tree).outcome ≡ Ok next → (puts (planned_step w tree).events ≡ rank_lines 1 (cut (limit_of w.query) rows)) × (next ≡ w.catalogue)
   puts-planned next ends =
       let all = puts-asks 0 (ask_count (limit_of w.query) (length (list_of_plan w tree))) next ends in (
         all.0 ∙ ap (λ size. rank_lines 1 (take (ask_count (limit_of w.query) size) rows)) (sym (length-map (list_of_plan w tree) (answer_for w)))
@@ -138,7 +138,7 @@ module _ (w : plan.World) (tree : PlanTree) where
   first-asks n zero = record { rest = []; split = refl }
   first-asks n (suc count) = go (first-asks (suc n) count) (ask_step w tree n).outcome refl where
     go : ComeFirst (puts (asks_from w tree (suc n) count).events) (rank_lines (suc (suc n)) (take count (drop (suc n) rows)))
-        → (outcome : Result Catalogue Fault) → (ask_step w tree n).outcome ≡ outcome
+        → (outcome : Result CatalogDef Fault) → (ask_step w tree n).outcome ≡ outcome
         → ComeFirst (puts (then_step (record (ask_step w tree n) { outcome = outcome }) (asks_from w tree (suc n) count)).events) (rank_lines (suc n) (take (suc count) (drop n rows)))
     go later (Ok state) is = record {
       rest = later.rest;
@@ -165,19 +165,19 @@ GiveAnswers = (w : plan.World) (tree : PlanTree) → HasFewTerms w.query → IsP
     → cut (limit_of w.query) (answers_of w tree) ≡ answer_of w.answer w.catalogue w.query w.view
 
 -- what changes the state alone puts nothing
-puts-then_still : (events : List Event) (outcome : Result Catalogue Fault) (state : State)
+puts-then_still : (events : List Event) (outcome : Result CatalogDef Fault) (state : State)
     → puts (then_step (record { events = events; outcome = outcome }) (still (Ok state))).events ≡ puts events
 puts-then_still events (Ok next) state = ap puts (append-nil events)
 puts-then_still events (Err fault) state = refl
 
 -- a sample puts nothing
-puts-behind : {S : Type 0} (seed : ℕ) (catalogue : Catalogue) (query : Query) (rest : Step S) → puts (then_step (sample_step catalogue seed query) rest).events ≡ puts rest.events
+puts-behind : {S : Type 0} (seed : ℕ) (catalogue : CatalogDef) (query : Query) (rest : Step S) → puts (then_step (sample_step catalogue seed query) rest).events ≡ puts rest.events
 puts-behind seed catalogue query rest =
     puts-append (sample_step catalogue seed query).events rest.events ∙ ap (λ lines. lines ++ puts rest.events) (puts-inquiry (sampling catalogue seed query) [])
 
 module _ (give : GiveAnswers) (answer : Answering) where
   -- what a query puts by its plan comes first among the lines of its answer, whatever ends it
-  pub first-query : (seed : ℕ) (catalogue : Catalogue) (query : syntax.Query) (bound : Query) → IsWrittenQuery query → bound_query catalogue query ≡ Ok bound
+  pub first-query : (seed : ℕ) (catalogue : CatalogDef) (query : syntax.Query) (bound : Query) → IsWrittenQuery query → bound_query catalogue query ≡ Ok bound
       → ComeFirst (puts (query_step (Planned seed) answer catalogue bound).events) (rank_lines 1 (answer_of answer catalogue bound (all_rows catalogue bound)))
   first-query seed catalogue query bound written is =
       let formed = unfiltered-formed catalogue query bound written is in
@@ -221,19 +221,19 @@ first-of_part events done rest lines split all = record {
 }
 
 -- what two steps have in common that went well
-record Alike (a b : Step Catalogue) (left right : Catalogue) : Type 0 where
+record Alike (a b : Step CatalogDef) (left right : CatalogDef) : Type 0 where
   lines : puts a.events ≡ puts b.events
   states : left ≡ right
 
-alike-same : (a b : Step Catalogue) (left right : Catalogue) → a ≡ b → a.outcome ≡ Ok left → b.outcome ≡ Ok right → Alike a b left right
+alike-same : (a b : Step CatalogDef) (left right : CatalogDef) → a ≡ b → a.outcome ≡ Ok left → b.outcome ≡ Ok right → Alike a b left right
 alike-same a b left right same la lb = record {
-  lines = ap (λ (s : Step Catalogue). puts s.events) same;
-  states = (let outcome = ap (λ (s : Step Catalogue). s.outcome) same in let e : left ≡ right = cc in e);
+  lines = ap (λ (s : Step CatalogDef). puts s.events) same;
+  states = (let outcome = ap (λ (s : Step CatalogDef). s.outcome) same in let e : left ≡ right = cc in e);
 }
 
 module _ (give : GiveAnswers) (same : AskTheSame) (finds : Finds) (one : OneFile finds) (answer : Answering) (seed : ℕ) where
   -- a query that was answered plainly
-  puts-plainly : (catalogue : Catalogue) (query : Query) (next : Catalogue) → (evaluation_step catalogue (evaluation_of answer catalogue query (all_rows catalogue query))).outcome ≡ Ok next
+  puts-plainly : (catalogue : CatalogDef) (query : Query) (next : CatalogDef) → (evaluation_step catalogue (evaluation_of answer catalogue query (all_rows catalogue query))).outcome ≡ Ok next
       → (puts (evaluation_step catalogue (evaluation_of answer catalogue query (all_rows catalogue query))).events ≡ rank_lines 1 (answer_of answer catalogue query (all_rows catalogue query)))
       × (next ≡ catalogue)
   puts-plainly catalogue query next ends =
@@ -250,7 +250,7 @@ module _ (give : GiveAnswers) (same : AskTheSame) (finds : Finds) (one : OneFile
         go (Err fault) is e = absurd cc
 
   -- a bound query
-  alike-bound : (catalogue : Catalogue) (query : syntax.Query) (bound : Query) (left right : Catalogue) → IsWrittenQuery query → bound_query catalogue query ≡ Ok bound
+  alike-bound : (catalogue : CatalogDef) (query : syntax.Query) (bound : Query) (left right : CatalogDef) → IsWrittenQuery query → bound_query catalogue query ≡ Ok bound
       → (query_step Plainly answer catalogue bound).outcome ≡ Ok left → (query_step (Planned seed) answer catalogue bound).outcome ≡ Ok right
       → Alike (query_step Plainly answer catalogue bound) (query_step (Planned seed) answer catalogue bound) left right
   alike-bound catalogue query bound left right written is la lb =
@@ -265,7 +265,7 @@ module _ (give : GiveAnswers) (same : AskTheSame) (finds : Finds) (one : OneFile
         states = plainly.1 ∙ sym planned.1;
       }
 
-  alike-select : (catalogue : Catalogue) (query : syntax.Query) (left right : Catalogue) → IsWrittenQuery query
+  alike-select : (catalogue : CatalogDef) (query : syntax.Query) (left right : CatalogDef) → IsWrittenQuery query
       → (select_step Plainly answer catalogue query).outcome ≡ Ok left → (select_step (Planned seed) answer catalogue query).outcome ≡ Ok right
       → Alike (select_step Plainly answer catalogue query) (select_step (Planned seed) answer catalogue query) left right
   alike-select catalogue query left right written la lb = go (bound_query catalogue query) refl la lb where
@@ -276,7 +276,7 @@ module _ (give : GiveAnswers) (same : AskTheSame) (finds : Finds) (one : OneFile
     go (Ok bound) is la lb = alike-bound catalogue query bound left right written is la lb
     go (Err why) is la lb = absurd cc
 
-  alike-step : (catalogue : Catalogue) (command : Command) (a b : Step Catalogue) (left right : Catalogue) → IsWritten command → IsNoExplain command
+  alike-step : (catalogue : CatalogDef) (command : Command) (a b : Step CatalogDef) (left right : CatalogDef) → IsWritten command → IsNoExplain command
       → Does finds answer Plainly catalogue command a → Does finds answer (Planned seed) catalogue command b → a.outcome ≡ Ok left → b.outcome ≡ Ok right
       → Alike a b left right
   alike-step catalogue (CreateTable name columns file) a b left right written of da db la lb =
@@ -285,7 +285,7 @@ module _ (give : GiveAnswers) (same : AskTheSame) (finds : Finds) (one : OneFile
   alike-step catalogue (CreateRankIndex name table predicate args at) a b left right written of da db la lb = alike-same a b left right (da ∙ sym db) la lb
   alike-step catalogue (Ask query) a b left right written of da db la lb =
       subst (λ a. Alike a b left right) (sym da) (subst (λ b. Alike (select_step Plainly answer catalogue query) b left right) (sym db)
-      (alike-select catalogue query left right written (sym (ap (λ (s : Step Catalogue). s.outcome) da) ∙ la) (sym (ap (λ (s : Step Catalogue). s.outcome) db) ∙ lb)))
+      (alike-select catalogue query left right written (sym (ap (λ (s : Step CatalogDef). s.outcome) da) ∙ la) (sym (ap (λ (s : Step CatalogDef). s.outcome) db) ∙ lb)))
   alike-step catalogue (Declare name query) a b left right written of da db la lb = absurd da
   alike-step catalogue (Fetch count name) a b left right written of da db la lb = absurd da
   alike-step catalogue (Close name) a b left right written of da db la lb = absurd da
@@ -295,14 +295,14 @@ module _ (give : GiveAnswers) (same : AskTheSame) (finds : Finds) (one : OneFile
   -- what two steps of a session have in common that went well: what they put, and what they leave, but for cursors that agree
   record AlikeStates (a b : Step State) (left right : State) : Type 0 where
     lines : puts a.events ≡ puts b.events
-    next : Catalogue
+    next : CatalogDef
     ps : List OpenCursor
     qs : List OpenCursor
     left_is : left ≡ record { catalogue = next; cursors = ps }
     right_is : right ≡ record { catalogue = next; cursors = qs }
     agree : AgreeAll answer next ps qs
 
-  module _ (catalogue : Catalogue) (ps qs : List OpenCursor) (all : AgreeAll answer catalogue ps qs) (left right : State) where
+  module _ (catalogue : CatalogDef) (ps qs : List OpenCursor) (all : AgreeAll answer catalogue ps qs) (left right : State) where
     abbrev plain_state : State
     plain_state = record { catalogue = catalogue; cursors = ps }
 
@@ -310,12 +310,12 @@ module _ (give : GiveAnswers) (same : AskTheSame) (finds : Finds) (one : OneFile
     planned_state = record { catalogue = catalogue; cursors = qs }
 
     -- a statement that concerns no cursor
-    beside-alike : (command : Command) (a b : Step State) → IsWritten command → IsNoExplain command → (x y : Step Catalogue)
+    beside-alike : (command : Command) (a b : Step State) → IsWritten command → IsNoExplain command → (x y : Step CatalogDef)
         → Does finds answer Plainly catalogue command x → Does finds answer (Planned seed) catalogue command y
         → a ≡ beside_cursors ps x → b ≡ beside_cursors qs y → a.outcome ≡ Ok left → b.outcome ≡ Ok right → AlikeStates a b left right
     beside-alike command a b written of x y dx dy is also la lb =
-        let plainly_with : Catalogue → State = λ catalogue. record { catalogue = catalogue; cursors = ps } in
-        let planned_with : Catalogue → State = λ catalogue. record { catalogue = catalogue; cursors = qs } in
+        let plainly_with : CatalogDef → State = λ catalogue. record { catalogue = catalogue; cursors = ps } in
+        let planned_with : CatalogDef → State = λ catalogue. record { catalogue = catalogue; cursors = qs } in
         let first = Ok-then x.outcome (λ catalogue. Ok (plainly_with catalogue)) left (sym (ap (λ (s : Step State). s.outcome) is) ∙ la) in
         let second = Ok-then y.outcome (λ catalogue. Ok (planned_with catalogue)) right (sym (ap (λ (s : Step State). s.outcome) also) ∙ lb) in
         let alike = alike-step catalogue command x y first.0 second.0 written of dx dy first.1 second.1 in
@@ -395,7 +395,7 @@ module _ (give : GiveAnswers) (same : AskTheSame) (finds : Finds) (one : OneFile
       asks-are : asks ≡ min wanted (ask_count (limit_of pair.query) (length (answers_of w pair.tree)) - q.asked)
       asks-are = ap (λ size. min wanted (ask_count (limit_of pair.query) size - q.asked)) (sym (length-map (list_of_plan w pair.tree) (answer_for w)))
 
-      asked-alike : with_asks p.name (next_rows pair.rows p.asked wanted) plain_state ≡ left → (outcome : Result Catalogue Fault) → (asks_from w pair.tree q.asked asks).outcome ≡ outcome
+      asked-alike : with_asks p.name (next_rows pair.rows p.asked wanted) plain_state ≡ left → (outcome : Result CatalogDef Fault) → (asks_from w pair.tree q.asked asks).outcome ≡ outcome
           → (then_step (record (asks_from w pair.tree q.asked asks) { outcome = outcome }) (still (Ok (with_asks q.name asks planned_state)))).outcome ≡ Ok right
           → AlikeStates (fetched_from answer plain_state p.name p.asked wanted (Ready pair.rows))
           (then_step (record (asks_from w pair.tree q.asked asks) { outcome = outcome }) (still (Ok (with_asks q.name asks planned_state)))) left right
@@ -489,7 +489,7 @@ module _ (give : GiveAnswers) (same : AskTheSame) (finds : Finds) (one : OneFile
     go (Ok left) is on = record { left = left; leaves = is; more = on.0; is_more = on.1; is = on.2; well = sym (ap (λ (r : Run). r.fault) on.2) ∙ well }
     go (Err fault) is on = absurd (let ended = ap (λ (r : Run). r.fault) on in cc)
 
-  alike-runs : (catalogue : Catalogue) (ps qs : List OpenCursor) (commands : List Command) (a b : Run) → AgreeAll answer catalogue ps qs → AreWritten commands → AllByRecursion IsNoExplain commands
+  alike-runs : (catalogue : CatalogDef) (ps qs : List OpenCursor) (commands : List Command) (a b : Run) → AgreeAll answer catalogue ps qs → AreWritten commands → AllByRecursion IsNoExplain commands
       → RunOf (DoesInSession finds answer Plainly) (record { catalogue = catalogue; cursors = ps }) commands a
       → RunOf (DoesInSession finds answer (Planned seed)) (record { catalogue = catalogue; cursors = qs }) commands b → a.fault ≡ None → b.fault ≡ None → puts a.events ≡ puts b.events
   alike-runs catalogue ps qs [] a b all written of ra rb wa wb = ap (λ (r : Run). puts r.events) (ra ∙ sym rb)

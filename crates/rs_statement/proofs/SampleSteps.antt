@@ -7,7 +7,7 @@ use Rattle.rs_value.specs.Answer.{Gives}
 use Rattle.rs_order.proofs.EachFacts.{each-append, each-behind}
 use Rattle.rs_expr.specs.InOrder.{InquiryEnds, InquiryFails, InquiryStops, Inquires, Request}
 use Rattle.rs_expr.specs.Scoring.{ScorerState}
-use Rattle.rs_catalog.specs.Catalogue.{Catalogue}
+use Rattle.rs_catalog.specs.Catalog.{CatalogDef}
 use Rattle.rs_query.specs.Questions.{Question, question_of, request_for}
 use Rattle.rs_query.specs.Views.{all_rows}
 use Rattle.rs_query.specs.WellFormed.{IsQuery, IsTerm}
@@ -42,8 +42,8 @@ Stepped-then first rest left state result old middle new before after =
     (SoFar-more (then_step first rest) old old middle first rest left (SoFar-start (then_step first rest) old) before) after
 
 -- a bound query whose sample is taken, before anything else is done with it
-module _ (catalogue : Catalogue) (seed : ℕ) (rest : Query → Step Catalogue) (bound : Result Query Fault) (query : Query) (gives : Gives fault.Memory bound (Ok query)) (old new : Environment) where
-  abbrev whole : Step Catalogue
+module _ (catalogue : CatalogDef) (seed : ℕ) (rest : Query → Step CatalogDef) (bound : Result Query Fault) (query : Query) (gives : Gives fault.Memory bound (Ok query)) (old new : Environment) where
+  abbrev whole : Step CatalogDef
   whole = refused_or (λ q. then_step (sample_step catalogue seed q) (rest q)) bound
 
   -- its sample broke off
@@ -60,11 +60,11 @@ module _ (catalogue : Catalogue) (seed : ℕ) (rest : Query → Step Catalogue) 
       (Stepped-then (sample_step catalogue seed query) (rest query) catalogue catalogue result old middle new sampled behind)
 
 -- each call of a sample is of the predicate that is told where it fails
-pub probes-sample : (catalogue : Catalogue) (seed : ℕ) (query : Query) → TellFailedCalls statement_faults (sample_fault catalogue) (sampling catalogue seed query).requests
+pub probes-sample : (catalogue : CatalogDef) (seed : ℕ) (query : Query) → TellFailedCalls statement_faults (sample_fault catalogue) (sampling catalogue seed query).requests
 probes-sample catalogue seed query =
     Probes-questions sample_faults (sample_fault catalogue) catalogue (λ number. refl) (questions_of query (all_rows catalogue query) seed)
 
-module _ (catalogue : Catalogue) where
+module _ (catalogue : CatalogDef) where
   -- the term of a question calls a predicate of the catalogue
   abbrev IsNamed : Question → Type 0
   IsNamed q = q.term.predicate < length catalogue.predicates

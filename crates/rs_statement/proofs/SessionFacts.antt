@@ -10,10 +10,10 @@ use Rattle.std.proofs.lemmas.Cmp.{nat_list_eq_equiv}
 use Rattle.std.proofs.lemmas.List.{length-map}
 use Rattle.std.proofs.lemmas.Map.Keys.{IsDistinct-head, IsDistinct-tail}
 use Rattle.std.proofs.lemmas.Map.Made.{is_some-lookup}
-use Rattle.rs_catalog.specs.Catalogue.{has_name, room_in}
+use Rattle.rs_catalog.specs.Catalog.{has_name, room_in}
 use Rattle.rs_catalog.specs.declared.room.RoomFault.TheVariants as room
 use Rattle.rs_expr.specs.Scoring.{Answering}
-use Rattle.rs_catalog.specs.Catalogue.{Catalogue}
+use Rattle.rs_catalog.specs.Catalog.{CatalogDef}
 use Rattle.rs_statement.specs.declared.fault.Fault.{Fault}
 use Rattle.rs_statement.specs.declared.fault.Fault.TheVariants.{Session}
 use Rattle.rs_statement.specs.declared.fault.SessionFault.TheVariants.{NameTaken, Unknown, Full}
@@ -108,7 +108,7 @@ pub cursors-append : (entries : Entries) (name : List ℕ) (held : Held) → cur
 cursors-append [] name held = refl
 cursors-append (entry ∷ entries) name held = ap (λ rest. open_cursor entry ∷ rest) (cursors-append entries name held)
 
-module _ (answer : Answering) (catalogue : Catalogue) where
+module _ (answer : Answering) (catalogue : CatalogDef) where
   pub asked-append : (entries : Entries) (name : List ℕ) (held : Held) → CanAllBeAsked answer catalogue entries → CanBeAsked answer catalogue held
       → CanAllBeAsked answer catalogue (entries ++ (name, held) ∷ [])
   asked-append [] name held all one = (one, tt)

@@ -8,7 +8,7 @@ use Rattle.rs_value.specs.Answer.{Gives}
 use Rattle.rs_value.specs.Results.{◌>>=◌}
 use Rattle.rs_lex.specs.declared.token.Span.{Span}
 use Rattle.rs_expr.specs.Scoring.{Answering}
-use Rattle.rs_catalog.specs.Catalogue.{Catalogue}
+use Rattle.rs_catalog.specs.Catalog.{CatalogDef}
 use Rattle.rs_syntax.specs.Syntax as syntax
 use Rattle.rs_syntax.specs.Syntax.{Command, CreateTable, CreatePredicate, CreateRankIndex, Ask, Declare, Fetch, Close, Explain, ExplainAnalyze, command_of, query_of}
 use Rattle.rs_syntax.specs.declared.name.Name.{Name}
@@ -87,7 +87,7 @@ module _ (finds : Finds) (answer : Answering) (evaluating : Evaluating) (state :
   does-close name e = subst (λ s. DoesInSession finds answer evaluating state (command_of s) (still (close_outcome state name))) (sym e) refl
 
 -- the others leave the cursors
-does-beside : (finds : Finds) (answer : Answering) (evaluating : Evaluating) (state : State) (command : Command) (own : Step Catalogue) → IsOfNoCursor command
+does-beside : (finds : Finds) (answer : Answering) (evaluating : Evaluating) (state : State) (command : Command) (own : Step CatalogDef) → IsOfNoCursor command
     → Does finds answer evaluating state.catalogue command own → DoesInSession finds answer evaluating state command (beside_cursors state.cursors own)
 does-beside finds answer evaluating state (CreateTable name columns file) own of does = (own, does, refl)
 does-beside finds answer evaluating state (CreatePredicate name params max cost formula) own of does = (own, does, refl)
@@ -99,13 +99,13 @@ does-beside finds answer evaluating state (Close name) own of does = absurd of
 does-beside finds answer evaluating state (Explain query) own of does = (own, does, refl)
 does-beside finds answer evaluating state (ExplainAnalyze query) own of does = (own, does, refl)
 
-run_of-beside : (cursors : List OpenCursor) (step : Step Catalogue) → run_of (beside_cursors cursors step) ≡ run_of step
+run_of-beside : (cursors : List OpenCursor) (step : Step CatalogDef) → run_of (beside_cursors cursors step) ≡ run_of step
 run_of-beside cursors step = go step.outcome where
-  go : (outcome : Result Catalogue Fault) → run_of (beside_cursors cursors (record step { outcome = outcome })) ≡ run_of (record step { outcome = outcome })
+  go : (outcome : Result CatalogDef Fault) → run_of (beside_cursors cursors (record step { outcome = outcome })) ≡ run_of (record step { outcome = outcome })
   go (Ok catalogue) = refl
   go (Err fault) = refl
 
-pub Stepped-beside : (finds : Finds) (answer : Answering) (evaluating : Evaluating) (state : State) (command : Command) (left : Catalogue) (result : Result (Unit {0}) Fault) (old new : Environment)
+pub Stepped-beside : (finds : Finds) (answer : Answering) (evaluating : Evaluating) (state : State) (command : Command) (left : CatalogDef) (result : Result (Unit {0}) Fault) (old new : Environment)
     → IsOfNoCursor command → Stepped (Does finds answer evaluating state.catalogue command) left result old new
     → Stepped (DoesInSession finds answer evaluating state command) (record { catalogue = left; cursors = state.cursors }) result old new
 Stepped-beside finds answer evaluating state command left result old new of made = record {
@@ -116,7 +116,7 @@ Stepped-beside finds answer evaluating state command left result old new of made
 } where
   go : (result : Result (Unit {0}) Fault) → IfOk result (λ done. made.step.outcome ≡ Ok left)
       → IfOk result (λ done. (beside_cursors state.cursors made.step).outcome ≡ Ok (record { catalogue = left; cursors = state.cursors }))
-  go (Ok done) leaves = ap (λ outcome. outcome >>= (λ (catalogue : Catalogue). Ok (record { catalogue = catalogue; cursors = state.cursors }))) leaves
+  go (Ok done) leaves = ap (λ outcome. outcome >>= (λ (catalogue : CatalogDef). Ok (record { catalogue = catalogue; cursors = state.cursors }))) leaves
   go (Err fault) leaves = tt
 
 -- the same step, and what it leaves where it ends well
@@ -157,7 +157,7 @@ pub fetched-cursors : (name : List ℕ) (asks : ℕ) (entries written : List (Li
 fetched-cursors name asks entries written before after (Ok done) distinct found set source count = ap cursors_of set ∙ cursors-set name asks entries before after distinct found source count
 fetched-cursors name asks entries written before after (Err fault) distinct found set source count = tt
 
-module _ (answer : Answering) (catalogue : Catalogue) (entries written : List (List ℕ × Held)) (name : List ℕ) (wanted : ℕ) (result : Result (Unit {0}) Fault) (old new : Environment) where
+module _ (answer : Answering) (catalogue : CatalogDef) (entries written : List (List ℕ × Held)) (name : List ℕ) (wanted : ℕ) (result : Result (Unit {0}) Fault) (old new : Environment) where
   abbrev from : State
   from = state_of catalogue entries
 
@@ -180,7 +180,7 @@ module _ (answer : Answering) (catalogue : Catalogue) (entries written : List (L
       (asked-left asks same) (Stepped-lines _ (with_asks name asks from) result old new (subst (λ step. Ran (run_of step) result old new) made.does made.ran))
 
 -- CLOSE of a name
-module _ (catalogue : Catalogue) (entries : List (List ℕ × Held)) (name : Name) where
+module _ (catalogue : CatalogDef) (entries : List (List ℕ × Held)) (name : Name) where
   closed-by : (found : Result OpenCursor Fault) → cursor_named name.text (cursors_of entries) ≡ found
       → close_outcome (state_of catalogue entries) name ≡ (found >>= (λ cursor. Ok (without_cursor name.text (state_of catalogue entries))))
   closed-by found e = ap (λ r. r >>= (λ (cursor : OpenCursor). Ok (without_cursor name.text (state_of catalogue entries)))) e
@@ -197,7 +197,7 @@ module _ (catalogue : Catalogue) (entries : List (List ℕ × Held)) (name : Nam
   closed-unknown told none (inr is) = inl is
 
 -- a cursor that was opened is the last one
-module _ (catalogue : Catalogue) (entries after : List (List ℕ × Held)) (name : List ℕ) where
+module _ (catalogue : CatalogDef) (entries after : List (List ℕ × Held)) (name : List ℕ) where
   opened-last : (kept : Held) (cursor : OpenCursor) → after ≡ entries ++ (name, kept) ∷ [] → open_cursor (name, kept) ≡ cursor
       → state_of catalogue after ≡ record { catalogue = catalogue; cursors = cursors_of entries ++ cursor ∷ [] }
   opened-last kept cursor is same = λ i. record {

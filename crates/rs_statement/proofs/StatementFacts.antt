@@ -4,7 +4,7 @@ use Rattle.std.specs.Prelude.{Option, Result, Ok, Err, length, option_map, slice
 use Rattle.rs_outside.specs.Files.{FilesTold}
 use Rattle.rs_table.specs.Column.{Column}
 use Rattle.rs_expr.specs.Scoring.{Answering}
-use Rattle.rs_catalog.specs.Catalogue.{Catalogue}
+use Rattle.rs_catalog.specs.Catalog.{CatalogDef}
 use Rattle.rs_syntax.specs.Syntax.{Command, CreateTable, CreatePredicate, CreateRankIndex, Ask, Declare, Fetch, Close, Explain, ExplainAnalyze, command_of, commands_of}
 use Rattle.rs_syntax.specs.declared.name.Name.{Name}
 use Rattle.rs_syntax.specs.declared.statement.Statement.{Statement}
@@ -31,12 +31,12 @@ finds-after before after names e name there found = go before (subst (λ told. f
   go (Some told) f = f
 
 -- what a statement does where files hold as much
-DoesTable-finds : (a b : Finds) → ((name : List ℕ) (there : Option (List ℕ)) → a name there → b name there) → (catalogue : Catalogue) (name : Name) (file : List ℕ) (bound : Result (List Column) Fault) (step : Step Catalogue)
+DoesTable-finds : (a b : Finds) → ((name : List ℕ) (there : Option (List ℕ)) → a name there → b name there) → (catalogue : CatalogDef) (name : Name) (file : List ℕ) (bound : Result (List Column) Fault) (step : Step CatalogDef)
     → DoesTable a catalogue name file bound step → DoesTable b catalogue name file bound step
 DoesTable-finds a b more catalogue name file (Err fault) step does = does
 DoesTable-finds a b more catalogue name file (Ok columns) step does = (does.0, more file does.0 does.1, does.2)
 
-pub Does-finds : (a b : Finds) → ((name : List ℕ) (there : Option (List ℕ)) → a name there → b name there) → (answer : Answering) (evaluating : Evaluating) (catalogue : Catalogue) (command : Command) (step : Step Catalogue)
+pub Does-finds : (a b : Finds) → ((name : List ℕ) (there : Option (List ℕ)) → a name there → b name there) → (answer : Answering) (evaluating : Evaluating) (catalogue : CatalogDef) (command : Command) (step : Step CatalogDef)
     → Does a answer evaluating catalogue command step → Does b answer evaluating catalogue command step
 Does-finds a b more answer evaluating catalogue (CreateTable name columns file) step does = DoesTable-finds a b more catalogue name file _ step does
 Does-finds a b more answer evaluating catalogue (CreatePredicate name params max cost formula) step does = does
@@ -51,8 +51,8 @@ Does-finds a b more answer evaluating catalogue (ExplainAnalyze query) step does
 pub DoesInSession-finds : (a b : Finds) → ((name : List ℕ) (there : Option (List ℕ)) → a name there → b name there) → (answer : Answering) (evaluating : Evaluating) (state : State) (command : Command) (step : Step State)
     → DoesInSession a answer evaluating state command step → DoesInSession b answer evaluating state command step
 DoesInSession-finds a b more answer evaluating state command step = go command where
-  own : (command : Command) → (made : Step Catalogue) × Does a answer evaluating state.catalogue command made × (step ≡ beside_cursors state.cursors made)
-      → (made : Step Catalogue) × Does b answer evaluating state.catalogue command made × (step ≡ beside_cursors state.cursors made)
+  own : (command : Command) → (made : Step CatalogDef) × Does a answer evaluating state.catalogue command made × (step ≡ beside_cursors state.cursors made)
+      → (made : Step CatalogDef) × Does b answer evaluating state.catalogue command made × (step ≡ beside_cursors state.cursors made)
   own command does = (does.0, Does-finds a b more answer evaluating state.catalogue command does.0 does.1, does.2)
 
   go : (command : Command) → DoesInSession a answer evaluating state command step → DoesInSession b answer evaluating state command step

@@ -9,7 +9,7 @@ use Rattle.rs_value.specs.Results.{◌>>=◌}
 use Rattle.rs_table.specs.Reading.{table_of}
 use Rattle.rs_table.specs.Relation.{Relation}
 use Rattle.rs_expr.specs.Scoring.{Answering}
-use Rattle.rs_catalog.specs.Catalogue.{Catalogue, with_table}
+use Rattle.rs_catalog.specs.Catalog.{CatalogDef, with_table}
 use Rattle.rs_syntax.specs.declared.name.Name.{Name}
 use Rattle.rs_statement.specs.declared.fault.Fault.{Fault}
 use Rattle.rs_statement.specs.declared.fault.Fault.TheVariants.{Memory}
@@ -56,7 +56,7 @@ pub Stepped-bound : {A S : Type 0} (does : A → Step S) (bound : Result A Fault
 Stepped-bound does bound a left result old new gives made = subst (λ r. Stepped (λ step. step ≡ refused_or does r) left result old new) (sym (bound-ok bound a gives)) made
 
 -- the table of a file by these columns, and the outcome of its step
-outcome_of : Catalogue → Name → List ℕ → List Column → Option (List ℕ) → Result Catalogue Fault
+outcome_of : CatalogDef → Name → List ℕ → List Column → Option (List ℕ) → Result CatalogDef Fault
 outcome_of catalogue name file columns there = (table_step catalogue name file columns there).outcome
 
 read_of : List ℕ → List Column → Option (List ℕ) → Result Relation Fault
@@ -70,39 +70,39 @@ bind-ok : {A B C : Type 0} (m : Result A Fault) (k : A → Result B Fault) (h : 
 bind-ok (Ok a) k h b e = rw e refl
 bind-ok (Err f) k h b e = absurd cc
 
-outcome-err : (catalogue : Catalogue) (name : Name) (file : List ℕ) (columns : List Column) (there : Option (List ℕ)) (fault : Fault) → Err fault ≡ read_of file columns there
+outcome-err : (catalogue : CatalogDef) (name : Name) (file : List ℕ) (columns : List Column) (there : Option (List ℕ)) (fault : Fault) → Err fault ≡ read_of file columns there
     → outcome_of catalogue name file columns there ≡ Err fault
 unfolding read_of outcome_of
 outcome-err catalogue name file columns there fault e = bind-err (content_of table_limit file there) _ _ fault (sym e)
 
-outcome-ok : (catalogue : Catalogue) (name : Name) (file : List ℕ) (columns : List Column) (there : Option (List ℕ)) (table : Relation) → Ok table ≡ read_of file columns there
+outcome-ok : (catalogue : CatalogDef) (name : Name) (file : List ℕ) (columns : List Column) (there : Option (List ℕ)) (table : Relation) → Ok table ≡ read_of file columns there
     → outcome_of catalogue name file columns there ≡ Ok (with_table name.text table catalogue)
 unfolding read_of outcome_of
 outcome-ok catalogue name file columns there table e = bind-ok (content_of table_limit file there) _ _ table (sym e)
 
 -- some step does what a statement of a table does, whatever it binds
-pub record SomeTable (told : Option FilesTold) (catalogue : Catalogue) (name : Name) (file : List ℕ) (bound : Result (List Column) Fault) : Type 0 where
-  pub step : Step Catalogue
+pub record SomeTable (told : Option FilesTold) (catalogue : CatalogDef) (name : Name) (file : List ℕ) (bound : Result (List Column) Fault) : Type 0 where
+  pub step : Step CatalogDef
   pub does : DoesTable (finds_in told) catalogue name file bound step
 
 pub found-some : (told : Option FilesTold) (file : List ℕ) → (there : Option (List ℕ)) × finds_in told file there
 found-some (Some told) file = (file_named file told.folder, refl)
 found-some None file = (None, tt)
 
-pub some-table : (told : Option FilesTold) (catalogue : Catalogue) (name : Name) (file : List ℕ) (bound : Result (List Column) Fault) → SomeTable told catalogue name file bound
+pub some-table : (told : Option FilesTold) (catalogue : CatalogDef) (name : Name) (file : List ℕ) (bound : Result (List Column) Fault) → SomeTable told catalogue name file bound
 some-table told catalogue name file (Err fault) = record { step = still (Err fault); does = refl }
 some-table told catalogue name file (Ok columns) =
     let found = found-some told file in record { step = table_step catalogue name file columns found.0; does = (found.0, found.1, refl) }
 
-does-table : (finds : Finds) (catalogue : Catalogue) (name : Name) (file : List ℕ) (bound : Result (List Column) Fault) (columns : List Column) (there : Option (List ℕ))
+does-table : (finds : Finds) (catalogue : CatalogDef) (name : Name) (file : List ℕ) (bound : Result (List Column) Fault) (columns : List Column) (there : Option (List ℕ))
     → bound ≡ Ok columns → finds file there → DoesTable finds catalogue name file bound (table_step catalogue name file columns there)
 does-table finds catalogue name file bound columns there e found = subst (λ r. DoesTable finds catalogue name file r (table_step catalogue name file columns there)) (sym e) (there, found, refl)
 
 -- the run of a table's step
-begins-table : (catalogue : Catalogue) (name : Name) (file : List ℕ) (columns : List Column) (there : Option (List ℕ)) → (run_of (table_step catalogue name file columns there)).events ≡ Fetch file ∷ []
+begins-table : (catalogue : CatalogDef) (name : Name) (file : List ℕ) (columns : List Column) (there : Option (List ℕ)) → (run_of (table_step catalogue name file columns there)).events ≡ Fetch file ∷ []
 begins-table catalogue name file columns there = events-run_of (Fetch file ∷ []) (table_step catalogue name file columns there).outcome
 
-module _ (catalogue : Catalogue) (name : Name) (file : List ℕ) (bound : Result (List Column) Fault) (environment : Environment) where
+module _ (catalogue : CatalogDef) (name : Name) (file : List ℕ) (bound : Result (List Column) Fault) (environment : Environment) where
   -- the statement was refused before its file was fetched, or there was no memory
   pub Table-refused : (fault : Fault) → Gives Memory bound (Err fault) → Stepped (DoesTable (finds_in environment.files.told) catalogue name file bound) catalogue (Err fault) environment environment
   Table-refused fault (inl e) = Stepped-still (DoesTable (finds_in environment.files.told) catalogue name file bound) (Err fault) catalogue (Err fault) environment
@@ -125,7 +125,7 @@ module _ (catalogue : Catalogue) (name : Name) (file : List ℕ) (bound : Result
   }
 
   -- the table was read, and there was no memory for it
-  pub Table-no_memory : (columns : List Column) (table : Relation) (left : Catalogue) (files : Outside FilesTold) → Gives Memory bound (Ok columns)
+  pub Table-no_memory : (columns : List Column) (table : Relation) (left : CatalogDef) (files : Outside FilesTold) → Gives Memory bound (Ok columns)
       → FetchesFile file (Ok table) (IsReadTable file columns) environment.files files
       → Stepped (DoesTable (finds_in environment.files.told) catalogue name file bound) left (Err Memory) environment (record environment { files = files })
   Table-no_memory columns table left files gives f = record {
@@ -137,7 +137,7 @@ module _ (catalogue : Catalogue) (name : Name) (file : List ℕ) (bound : Result
   }
 
   -- it joined
-  pub Table-joins : (columns : List Column) (table : Relation) (left : Catalogue) (files : Outside FilesTold) → Gives Memory bound (Ok columns)
+  pub Table-joins : (columns : List Column) (table : Relation) (left : CatalogDef) (files : Outside FilesTold) → Gives Memory bound (Ok columns)
       → FetchesFile file (Ok table) (IsReadTable file columns) environment.files files → left ≡ with_table name.text table catalogue
       → Stepped (DoesTable (finds_in environment.files.told) catalogue name file bound) left (Ok tt) environment (record environment { files = files })
   unfolding read_of outcome_of
@@ -169,37 +169,37 @@ of_a_kind (statement.Explain select) a b c d e f of = absurd (e select refl)
 of_a_kind (statement.ExplainAnalyze select) a b c d e f of = absurd (f select refl)
 
 -- what a query does, and what the two forms of EXPLAIN do
-pub Does-query : (finds : Finds) (answer : Answering) (evaluating : Evaluating) (catalogue : Catalogue) (s : Statement) (select : Select) → s ≡ statement.Query select
+pub Does-query : (finds : Finds) (answer : Answering) (evaluating : Evaluating) (catalogue : CatalogDef) (s : Statement) (select : Select) → s ≡ statement.Query select
     → Does finds answer evaluating catalogue (command_of s) (select_step evaluating answer catalogue (query_of select))
 Does-query finds answer evaluating catalogue s select e =
     subst (λ s. Does finds answer evaluating catalogue (command_of s) (select_step evaluating answer catalogue (query_of select))) (sym e) refl
 
-pub Does-explain : (finds : Finds) (answer : Answering) (evaluating : Evaluating) (catalogue : Catalogue) (s : Statement) (select : Select) → s ≡ statement.Explain select
+pub Does-explain : (finds : Finds) (answer : Answering) (evaluating : Evaluating) (catalogue : CatalogDef) (s : Statement) (select : Select) → s ≡ statement.Explain select
     → Does finds answer evaluating catalogue (command_of s) (explain_step evaluating answer catalogue (query_of select))
 Does-explain finds answer evaluating catalogue s select e =
     subst (λ s. Does finds answer evaluating catalogue (command_of s) (explain_step evaluating answer catalogue (query_of select))) (sym e) refl
 
-pub Does-analyze : (finds : Finds) (answer : Answering) (evaluating : Evaluating) (catalogue : Catalogue) (s : Statement) (select : Select) → s ≡ statement.ExplainAnalyze select
+pub Does-analyze : (finds : Finds) (answer : Answering) (evaluating : Evaluating) (catalogue : CatalogDef) (s : Statement) (select : Select) → s ≡ statement.ExplainAnalyze select
     → Does finds answer evaluating catalogue (command_of s) (analyze_step evaluating answer catalogue (query_of select))
 Does-analyze finds answer evaluating catalogue s select e =
     subst (λ s. Does finds answer evaluating catalogue (command_of s) (analyze_step evaluating answer catalogue (query_of select))) (sym e) refl
 
 -- what a statement does that makes a predicate
-pub Does-predicate : (finds : Finds) (answer : Answering) (evaluating : Evaluating) (catalogue : Catalogue) (s : Statement) (name : Name) (params : List (Name × Kind)) (max : ℤ × Span) (cost : Option (ℤ × Span)) (formula : Node)
+pub Does-predicate : (finds : Finds) (answer : Answering) (evaluating : Evaluating) (catalogue : CatalogDef) (s : Statement) (name : Name) (params : List (Name × Kind)) (max : ℤ × Span) (cost : Option (ℤ × Span)) (formula : Node)
     → s ≡ statement.CreatePredicate name params max cost formula → Does finds answer evaluating catalogue (command_of s) (still (predicate_outcome catalogue name (command_of s)))
 Does-predicate finds answer evaluating catalogue s name params max cost formula e =
     subst (λ s. Does finds answer evaluating catalogue (command_of s) (still (predicate_outcome catalogue name (command_of s)))) (sym e) refl
 
 -- what one does that makes a rank index
-pub Does-index : (finds : Finds) (answer : Answering) (evaluating : Evaluating) (catalogue : Catalogue) (s : Statement) (name table predicate : Name) (args : List Arg) (at : Span)
+pub Does-index : (finds : Finds) (answer : Answering) (evaluating : Evaluating) (catalogue : CatalogDef) (s : Statement) (name table predicate : Name) (args : List Arg) (at : Span)
     → s ≡ statement.CreateRankIndex name table predicate args at
     → Does finds answer evaluating catalogue (command_of s) (refused_or (index_step answer catalogue) (with_room catalogue what.Index name (index_def_of catalogue (command_of s))))
 Does-index finds answer evaluating catalogue s name table predicate args at e =
     subst (λ s. Does finds answer evaluating catalogue (command_of s) (refused_or (index_step answer catalogue) (with_room catalogue what.Index name (index_def_of catalogue (command_of s))))) (sym e) refl
 
 -- and one that makes a table, of columns that were handed on as a slice
-pub Does-table : (finds : Finds) (answer : Answering) (evaluating : Evaluating) (catalogue : Catalogue) (s : Statement) (name : Name) (columns slice : List (Name × Kind)) (file : List ℕ)
-    → s ≡ statement.CreateTable name columns file → slice ≡ columns → (step : Step Catalogue) → DoesTable finds catalogue name file (with_room catalogue what.Table name (columns_of slice)) step
+pub Does-table : (finds : Finds) (answer : Answering) (evaluating : Evaluating) (catalogue : CatalogDef) (s : Statement) (name : Name) (columns slice : List (Name × Kind)) (file : List ℕ)
+    → s ≡ statement.CreateTable name columns file → slice ≡ columns → (step : Step CatalogDef) → DoesTable finds catalogue name file (with_room catalogue what.Table name (columns_of slice)) step
     → Does finds answer evaluating catalogue (command_of s) step
 Does-table finds answer evaluating catalogue s name columns slice file e same step does =
     subst (λ s. Does finds answer evaluating catalogue (command_of s) step) (sym e) (subst (λ columns. DoesTable finds catalogue name file (with_room catalogue what.Table name (columns_of columns)) step) same does)

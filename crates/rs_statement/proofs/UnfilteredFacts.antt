@@ -5,7 +5,7 @@ use Rattle.rs_value.specs.Results.{◌>>=◌}
 use Rattle.rs_value.specs.declared.set_op.SetOp.{SetOp}
 use Rattle.rs_syntax.specs.Syntax as syntax
 use Rattle.rs_syntax.specs.Written.{IsWrittenQuery}
-use Rattle.rs_catalog.specs.Catalogue.{Catalogue}
+use Rattle.rs_catalog.specs.Catalog.{CatalogDef}
 use Rattle.rs_query.specs.Conjuncts.{ConjunctDef}
 use Rattle.rs_query.specs.WellFormed.{AreSameTerms, IsQuery}
 use Rattle.rs_query.specs.declared.block.Block.{Block}
@@ -63,7 +63,7 @@ well-alike k made t is = ap (λ x. well (k x)) (same_Ok made t is)
 abbrev bare_unranked : Unranked → Unranked
 bare_unranked block = record block { conjuncts = [] }
 
-module _ (catalogue : Catalogue) where
+module _ (catalogue : CatalogDef) where
   unranked-alike : (written : syntax.Block) (block : Unranked) → unranked_of catalogue written ≡ Ok block → unranked_of catalogue (without_where written) ≡ Ok (bare_unranked block)
   unranked-alike written block is =
       let of_items = λ (from : List (ℕ × List ℕ)) (conjuncts : List ConjunctDef) (items : List Found).

@@ -2,7 +2,7 @@
 use Rattle.std.proofs.Common.{ℕ, suc, ◌≡◌, ◌∙◌, ◌+◌, Bool, true, false, refl, sym, ap, subst, arith}
 use Rattle.std.specs.Prelude.{None, Result, Ok, Err, if◌then◌else◌}
 use Rattle.rs_expr.specs.Scoring.{Answering}
-use Rattle.rs_catalog.specs.Catalogue.{Catalogue}
+use Rattle.rs_catalog.specs.Catalog.{CatalogDef}
 use Rattle.rs_plan.specs.Lists as plan
 use Rattle.rs_plan.specs.Trees.{PlanTree}
 use Rattle.rs_exec.specs.Asking.{world_of}
@@ -22,7 +22,7 @@ use Rattle.rs_events.proofs.SteppedFacts.{Stepped-still}
 
 module _ (w : plan.World) (tree : PlanTree) where
   -- the asks that come next where this many are wanted
-  abbrev wanted : ℕ → ℕ → Step Catalogue
+  abbrev wanted : ℕ → ℕ → Step CatalogDef
   wanted n count = asks_from w tree n (next_asks w tree n count)
 
   -- a plan that is asked no more is asked no more
@@ -51,7 +51,7 @@ module _ (w : plan.World) (tree : PlanTree) where
     go true over = ap (λ asks. n + asks) (none-over n (suc count) over ∙ sym (none-over n count over))
     go false more = ap (λ asks. n + asks) (some-more n count more) ∙ (let same : n + suc (next_asks w tree (suc n) count) ≡ suc n + next_asks w tree (suc n) count = omega arith in same)
 
-module _ (catalogue : Catalogue) (answer : Answering) where
+module _ (catalogue : CatalogDef) (answer : Answering) where
   -- what is wanted of a cursor, by its query, its plan and how often it was asked
   wanted-at : (cursor next : CursorState) (n count : ℕ) → IsAt cursor.query (plan_of cursor) n next
       → wanted_step catalogue answer next count ≡ wanted (world_of catalogue answer cursor.query) (plan_of cursor) n count
@@ -101,7 +101,7 @@ module _ (catalogue : Catalogue) (answer : Answering) where
     asks_are = (let all : asks_of cursor ≡ asks_of cursor + 0 = omega arith in all) ∙ ap (λ asks. asks_of cursor + asks) (sym none) ∙ fetching.asks;
   }
 
-  module _ (whole : Step Catalogue) (old middle : Environment) where
+  module _ (whole : Step CatalogDef) (old middle : Environment) where
     pub Wanted-done : (cursor : CursorState) (left : ℕ) → next_of_cursor catalogue answer cursor left ≡ 0 → SoFar whole (wanted_step catalogue answer cursor left) old middle
         → Stepped (λ step. step ≡ whole) catalogue (Ok tt) old middle
     Wanted-done cursor left none so_far =
@@ -114,7 +114,7 @@ module _ (catalogue : Catalogue) (answer : Answering) where
       abbrev w : plan.World
       w = world_of catalogue answer cursor.query
 
-      abbrev behind : Step Catalogue
+      abbrev behind : Step CatalogDef
       behind = wanted w (plan_of cursor) (asks_after w (plan_of cursor) (asks_of cursor)) left
 
       -- what is wanted is the next call, and what is wanted behind it

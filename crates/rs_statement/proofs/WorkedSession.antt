@@ -16,7 +16,7 @@ use Rattle.rs_expr.specs.Meaning.{value_of}
 use Rattle.rs_expr.specs.Predicates.{PredicateDef}
 use Rattle.rs_expr.specs.Scoring.{Answering}
 use Rattle.rs_expr.specs.declared.scorer.Call.{Call}
-use Rattle.rs_catalog.specs.Catalogue.{Catalogue}
+use Rattle.rs_catalog.specs.Catalog.{CatalogDef}
 use Rattle.rs_catalog.specs.declared.index.BoundArg.TheVariants as arg
 use Rattle.rs_syntax.specs.declared.name.Name.{Name}
 use Rattle.rs_query.specs.declared.query.Query.{Query}
@@ -50,7 +50,7 @@ abbrev entry : ℕ → ℕ → ScoredRow
 entry score number = record { score = score; row = number }
 
 -- the table t of the worked rows, the predicates p and q, and the index px
-abbrev catalogue : Catalogue
+abbrev catalogue : CatalogDef
 catalogue = record {
   tables = record {
     name = codes "t";

@@ -21,7 +21,7 @@ use Rattle.rs_syntax.specs.declared.name.Arg.TheVariants as arg
 use Rattle.rs_syntax.specs.declared.select.Items.TheVariants as items
 use Rattle.rs_catalog.specs.declared.room.RoomFault.TheVariants as room
 use Rattle.rs_typing.specs.declared.fault.Why.TheVariants as why
-use Rattle.rs_catalog.specs.Catalogue.{Catalogue, empty}
+use Rattle.rs_catalog.specs.Catalog.{CatalogDef, empty}
 use Rattle.rs_bind.specs.Indexes.{index_def_of}
 use Rattle.rs_bind.specs.Queries.{bound_query}
 use Rattle.rs_typing.proofs.ResultFacts.{same_Ok}
@@ -124,16 +124,16 @@ unfolding create_table create_predicate select finds answer call csv_on_literals
 explains_in_silence = (_, (_, (Some (codes "v\n3\n40\n5\n"), refl, refl), refl), (_, (_, (_, refl, refl), (_, (_, (_, refl, refl), (_, (_, (_, refl, refl), (_, refl, refl)), refl)), refl)), refl))
 
 -- the catalogue that is left, where one is
-abbrev left_by : Result Catalogue Fault → Catalogue
+abbrev left_by : Result CatalogDef Fault → CatalogDef
 left_by (Ok catalogue) = catalogue
 left_by (Err why) = empty
 
 -- that of the table and the predicate, where the table's file has these bytes; and with the index
-made_of : List ℕ → Catalogue
+made_of : List ℕ → CatalogDef
 made_of bytes = left_by (predicate_outcome (left_by (table_step empty (name_at (codes "t") 13) (codes "f") ((codes "v", kind.Int) ∷ []) (Some bytes)).outcome)
     (name_at (codes "p") 50) create_predicate)
 
-indexed_of : List ℕ → Catalogue
+indexed_of : List ℕ → CatalogDef
 indexed_of bytes = left_by (refused_or (index_step answer (made_of bytes)) (or_bind_fault (index_def_of (made_of bytes) create_index))).outcome
 
 -- a table no larger than its sample is sampled whole; no number ends a sample

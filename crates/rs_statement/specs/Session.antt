@@ -9,7 +9,7 @@ use Rattle.rs_syntax.specs.declared.name.Name.{Name}
 use Rattle.rs_syntax.specs.Syntax.{Command, Close, Declare, Fetch}
 use Rattle.rs_syntax.specs.Syntax as syntax
 use Rattle.rs_expr.specs.Scoring.{Answering}
-use Rattle.rs_catalog.specs.Catalogue.{Catalogue, empty, room_in}
+use Rattle.rs_catalog.specs.Catalog.{CatalogDef, empty, room_in}
 use Rattle.rs_catalog.specs.declared.room.RoomFault.{RoomFault}
 use Rattle.rs_catalog.specs.declared.room.RoomFault.TheVariants as room
 use Rattle.rs_bind.specs.Queries.{bound_query, count_of}
@@ -47,7 +47,7 @@ pub record OpenCursor : Type 0 where
 
 -- what a script has made so far, and which cursors are open, in the order of their DECLARE
 pub record State : Type 0 where
-  pub catalogue : Catalogue
+  pub catalogue : CatalogDef
   pub cursors : List OpenCursor
 
 -- a script starts with nothing
@@ -135,7 +135,7 @@ fetched_from answer state name asked wanted (Ready rows) =
 
 -- this catalogue has the tables and the predicates of a cursor's query, or the rows of the cursor stand ready. That its tree is a plan of the query isn't asked
 -- for: what joins the catalogue changes nothing of the asks of any tree
-abbrev pub IsCursorOf : Catalogue → OpenCursor → Type 0
+abbrev pub IsCursorOf : CatalogDef → OpenCursor → Type 0
 IsCursorOf catalogue cursor = of cursor.source where
   of : Source → Type 0
   of (ByPlan query tree) = Covers catalogue query
@@ -160,7 +160,7 @@ abbrev pub close_outcome : State → Name → Result State Fault
 close_outcome state name = cursor_named name.text state.cursors >>= λ cursor. Ok (without_cursor name.text state)
 
 -- what a statement does that is of no cursor: the open cursors stay as they are
-abbrev pub beside_cursors : List OpenCursor → Step Catalogue → Step State
+abbrev pub beside_cursors : List OpenCursor → Step CatalogDef → Step State
 beside_cursors cursors step =
     record { events = step.events; outcome = step.outcome >>= λ catalogue. Ok (record { catalogue = catalogue; cursors = cursors }) }
 
@@ -170,7 +170,7 @@ DoesInSession finds answer evaluating state (Declare name query) step = step ≡
 DoesInSession finds answer evaluating state (Fetch count name) step = step ≡ fetch_step answer state count name
 DoesInSession finds answer evaluating state (Close name) step = step ≡ still (close_outcome state name)
 DoesInSession finds answer evaluating state command step =
-    (own : Step Catalogue) × Does finds answer evaluating state.catalogue command own × (step ≡ beside_cursors state.cursors own)
+    (own : Step CatalogDef) × Does finds answer evaluating state.catalogue command own × (step ≡ beside_cursors state.cursors own)
 
 -- the run of the statements of a script, from nothing on
 abbrev pub StatementsRun : Finds → Answering → Evaluating → List Command → Run → Type 0

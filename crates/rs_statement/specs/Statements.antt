@@ -10,7 +10,7 @@ use Rattle.rs_value.specs.Results.{◌>>=◌}
 use Rattle.rs_table.specs.Reading.{table_of}
 use Rattle.rs_expr.specs.InOrder.{Inquiry}
 use Rattle.rs_expr.specs.Scoring.{Answering}
-use Rattle.rs_catalog.specs.Catalogue.{Catalogue, room_for, with_index, with_predicate, with_table}
+use Rattle.rs_catalog.specs.Catalog.{CatalogDef, room_for, with_index, with_predicate, with_table}
 use Rattle.rs_catalog.specs.Indexes.{making, predicate_for}
 use Rattle.rs_catalog.specs.declared.index.IndexDef.{IndexDef}
 use Rattle.rs_catalog.specs.declared.index.IndexFault.{IndexFault}
@@ -61,14 +61,14 @@ or_room_fault name (Ok room) = Ok room
 or_room_fault name (Err why) = Err (Script (Room why name.at.start))
 
 -- what a statement binds, where the catalogue has room for its name
-abbrev pub with_room : {A : Type 0} → Catalogue → What → Name → Result A BindFault → Result A Fault
+abbrev pub with_room : {A : Type 0} → CatalogDef → What → Name → Result A BindFault → Result A Fault
 with_room catalogue what name bound = do
   a ← or_bind_fault bound
   room ← or_room_fault name (room_for what name.text catalogue)
   Ok a
 
 -- the table of the file joins
-abbrev pub table_step : Catalogue → Name → List ℕ → List Column → Option (List ℕ) → Step Catalogue
+abbrev pub table_step : CatalogDef → Name → List ℕ → List Column → Option (List ℕ) → Step CatalogDef
 table_step catalogue name file columns there = record {
   events = Fetch file ∷ [];
   outcome = (do
@@ -78,16 +78,16 @@ table_step catalogue name file columns there = record {
 }
 
 -- the index joins, with its rows by score; a bad score of a row ends the run
-abbrev pub index_outcome : Catalogue → IndexDef → Result (List ScoredRow) IndexFault → Result Catalogue Fault
+abbrev pub index_outcome : CatalogDef → IndexDef → Result (List ScoredRow) IndexFault → Result CatalogDef Fault
 index_outcome catalogue def ranking = or_index_fault (predicate_for catalogue def).name ranking >>= λ ranking. Ok (with_index def ranking catalogue)
 
-abbrev pub index_step : Answering → Catalogue → IndexDef → Step Catalogue
+abbrev pub index_step : Answering → CatalogDef → IndexDef → Step CatalogDef
 index_step answer catalogue def =
     let made = making answer catalogue def in
     record { events = calls_in made; outcome = index_outcome catalogue def made.outcome }
 
 -- the predicate joins
-abbrev pub predicate_outcome : Catalogue → Name → Command → Result Catalogue Fault
+abbrev pub predicate_outcome : CatalogDef → Name → Command → Result CatalogDef Fault
 predicate_outcome catalogue name command =
     with_room catalogue what.Predicate name (predicate_of command) >>= λ predicate. Ok (with_predicate predicate catalogue)
 
@@ -97,29 +97,29 @@ answer_lines (Ok rows) = rank_lines 1 rows
 answer_lines (Err fault) = []
 
 -- the fault of a run whose query has no answer
-abbrev pub query_fault : Catalogue → PlainFault → Fault
+abbrev pub query_fault : CatalogDef → PlainFault → Fault
 query_fault catalogue (plain.BadScore predicate ids got max) = BadScore (predicate_at catalogue predicate).name ids.rows got max
 query_fault catalogue (plain.Probe predicate) = Probe (predicate_at catalogue predicate).name
 query_fault catalogue plain.Memory = Memory
 
 -- a query leaves the catalogue as it is
-abbrev pub query_outcome : Catalogue → Result (List Answer) PlainFault → Result Catalogue Fault
+abbrev pub query_outcome : CatalogDef → Result (List Answer) PlainFault → Result CatalogDef Fault
 query_outcome catalogue (Ok rows) = Ok catalogue
 query_outcome catalogue (Err fault) = Err (query_fault catalogue fault)
 
 -- a query: all its calls, and then its rows, each as one line
-abbrev pub evaluation_step : Catalogue → Inquiry (List Answer) PlainFault → Step Catalogue
+abbrev pub evaluation_step : CatalogDef → Inquiry (List Answer) PlainFault → Step CatalogDef
 evaluation_step catalogue evaluated = inquiry_step answer_lines (query_outcome catalogue) evaluated
 
 -- a query is evaluated plainly, which scores every combination of rows, or by its plan, which its sample decides. Each query takes its sample by the same
 -- seed, so the queries before it change nothing
-abbrev pub query_step : Evaluating → Answering → Catalogue → Query → Step Catalogue
+abbrev pub query_step : Evaluating → Answering → CatalogDef → Query → Step CatalogDef
 query_step Plainly answer catalogue query = evaluation_step catalogue (evaluation_of answer catalogue query (all_rows catalogue query))
 query_step (Planned seed) answer catalogue query =
     then_step (sample_step catalogue seed query) (planned_step (world_of catalogue answer query) (plan_for answer catalogue seed query))
 
 -- the query has to be bound, and nothing is told of it
-abbrev pub explain_outcome : Catalogue → syntax.Query → Result Catalogue Fault
+abbrev pub explain_outcome : CatalogDef → syntax.Query → Result CatalogDef Fault
 explain_outcome catalogue query = or_bind_fault (bound_query catalogue query) >>= λ bound. Ok catalogue
 
 -- a statement that is refused, or one that goes on with what it binds
@@ -127,25 +127,25 @@ abbrev pub refused_or : {A S : Type 0} → (A → Step S) → Result A Fault →
 refused_or does (Ok a) = does a
 refused_or does (Err fault) = still (Err fault)
 
-abbrev pub select_step : Evaluating → Answering → Catalogue → syntax.Query → Step Catalogue
+abbrev pub select_step : Evaluating → Answering → CatalogDef → syntax.Query → Step CatalogDef
 select_step evaluating answer catalogue query =
     refused_or (query_step evaluating answer catalogue) (or_bind_fault (bound_query catalogue query))
 
 -- EXPLAIN of a query that is bound: its sample is taken, and then the text of its plan is put, in one put
-abbrev pub explained_step : Answering → Catalogue → ℕ → Query → Step Catalogue
+abbrev pub explained_step : Answering → CatalogDef → ℕ → Query → Step CatalogDef
 explained_step answer catalogue seed query =
     then_step (sample_step catalogue seed query)
     (lines_step (text_of catalogue query (cards_for answer catalogue seed query) (plan_for answer catalogue seed query) None ∷ []) catalogue)
 
 -- EXPLAIN: plainly, no plan is told of
-abbrev pub explain_step : Evaluating → Answering → Catalogue → syntax.Query → Step Catalogue
+abbrev pub explain_step : Evaluating → Answering → CatalogDef → syntax.Query → Step CatalogDef
 explain_step Plainly answer catalogue query = still (explain_outcome catalogue query)
 explain_step (Planned seed) answer catalogue query =
     refused_or (explained_step answer catalogue seed) (or_bind_fault (bound_query catalogue query))
 
 -- EXPLAIN ANALYZE of a query that is bound: its sample is taken, its plan is asked as the query's would be, but no row is put, and then the text of the
 -- plan is put, with what each node has done by then
-abbrev pub analyzed_step : Answering → Catalogue → ℕ → Query → Step Catalogue
+abbrev pub analyzed_step : Answering → CatalogDef → ℕ → Query → Step CatalogDef
 analyzed_step answer catalogue seed query =
     let w = world_of catalogue answer query in
     let tree = plan_for answer catalogue seed query in
@@ -154,19 +154,19 @@ analyzed_step answer catalogue seed query =
     (lines_step (text_of catalogue query (cards_for answer catalogue seed query) tree (Some (counts_of_plan w tree (asks_in_all w tree))) ∷ []) catalogue))
 
 -- EXPLAIN ANALYZE: plainly, no plan is told of
-abbrev pub analyze_step : Evaluating → Answering → Catalogue → syntax.Query → Step Catalogue
+abbrev pub analyze_step : Evaluating → Answering → CatalogDef → syntax.Query → Step CatalogDef
 analyze_step Plainly answer catalogue query = still (explain_outcome catalogue query)
 analyze_step (Planned seed) answer catalogue query =
     refused_or (analyzed_step answer catalogue seed) (or_bind_fault (bound_query catalogue query))
 
 -- the fetch of a table's file, where the statement isn't refused before it
-abbrev pub DoesTable : Finds → Catalogue → Name → List ℕ → Result (List Column) Fault → Step Catalogue → Type 0
+abbrev pub DoesTable : Finds → CatalogDef → Name → List ℕ → Result (List Column) Fault → Step CatalogDef → Type 0
 DoesTable finds catalogue name file (Err fault) step = step ≡ still (Err fault)
 DoesTable finds catalogue name file (Ok columns) step = (there : Option (List ℕ)) × finds file there × (step ≡ table_step catalogue name file columns there)
 
 -- what a statement does that is of no cursor: first its names and types count, then whether there is room for its name, and then what it
 -- does. Those that are of a cursor are none of these
-abbrev pub Does : Finds → Answering → Evaluating → Catalogue → Command → Step Catalogue → Type 0
+abbrev pub Does : Finds → Answering → Evaluating → CatalogDef → Command → Step CatalogDef → Type 0
 Does finds answer evaluating catalogue (CreateTable name columns file) step =
     DoesTable finds catalogue name file (with_room catalogue what.Table name (columns_of columns)) step
 Does finds answer evaluating catalogue (CreatePredicate name params max cost formula) step =

@@ -4,7 +4,7 @@ ghost use Rattle.std.specs.Prelude.{◌≡◌, IfOk, Some};
 ghost use Rattle.rs_syntax.specs.Syntax.{query_of};
 ghost use Rattle.rs_syntax.specs.Written.{IsWrittenQuery};
 ghost use Rattle.rs_expr.specs.Scoring.{Answering};
-ghost use Rattle.rs_catalog.specs.Catalogue.{Catalogue};
+ghost use Rattle.rs_catalog.specs.Catalog.{CatalogDef};
 ghost use Rattle.rs_query.specs.WellFormed.{IsQuery};
 ghost use Rattle.rs_bind.specs.Queries.{bound_query};
 ghost use Rattle.rs_plan.specs.Counts.{counts_of_plan};
@@ -15,7 +15,7 @@ ghost use Rattle.rs_enum.specs.QueryCards.{AreCards};
 ghost use Rattle.rs_enum.specs.Texts.{text_of};
 ghost use Rattle.rs_exec.specs.Asking.{world_of};
 ghost use Rattle.rs_exec.specs.Cursors.{StandsFor, asks_of, plan_of};
-ghost use Rattle.rs_catalog.specs.Held.{AreHeld};
+ghost use Rattle.rs_catalog.specs.Held.{IndexesHold};
 ghost use Rattle.rs_statement.specs.Parts.Asks.{AskedForAll, AskedOnce, StandsSomewhere, call_step, left_of, most_asks, without_value};
 ghost use Rattle.rs_statement.specs.Parts.Steps.{Stepped};
 ghost use Rattle.rs_statement.specs.Planned.{asks_in_all, planned_step};
@@ -51,7 +51,7 @@ pub fn analyze_planned<S: Scorer, O: Sink>(
     out: &mut O,
 ) -> Result<(), Fault>
     requires written { IsWrittenQuery (query_of select.now) }
-    requires held { AreHeld (S.state scorer.old).answer catalog.now }
+    requires held { IndexesHold (S.state scorer.old).answer catalog.now }
     ensures { (beside : Environment) → Stepped
         (λ step. step ≡ refused_or (analyzed_step (S.state scorer.old).answer catalog.now seed) (or_bind_fault (bound_query catalog.now (query_of select.now))))
         catalog.now result
@@ -93,7 +93,7 @@ fn asked_text<S: Scorer>(
     requires query { IsQuery catalog.now query }
     requires cards { AreCards query (cards_of cards.now) }
     requires plan { IsPlan catalog.now query (tree_of plan.now) }
-    requires held { AreHeld (S.state scorer.old).answer catalog.now }
+    requires held { IndexesHold (S.state scorer.old).answer catalog.now }
     ensures asks { (beside : Environment) → Stepped (λ step. step ≡ silent (planned_step (world_of catalog.now (S.state scorer.old).answer query) (tree_of plan.now)))
         catalog.now (without_value result) (record beside { scorer = S.state scorer.old }) (record beside { scorer = S.state scorer.new }) }
     ensures text { IfOk result (λ text. text.items ≡ text_of catalog.now query (cards_of cards.now) (tree_of plan.now)
@@ -161,7 +161,7 @@ fn ask_next<S: Scorer>(
 /// What each node of the plan of a cursor has done, a node before its children and the left one before the right one.
 fn all_counts(alloc: Global, cursor: &Cursor) -> Result<Vec<Counts>, Memory>
     requires { StandsSomewhere cursor.now }
-    ensures { (catalogue : Catalogue) (answer : Answering) → StandsFor catalogue answer cursor.now
+    ensures { (catalogue : CatalogDef) (answer : Answering) → StandsFor catalogue answer cursor.now
         → IfOk result (λ told. told.items ≡ counts_of_plan (world_of catalogue answer cursor.now.query) (plan_of cursor.now) (asks_of cursor.now)) }
 {
     let mut told = Vec::new(alloc);

@@ -7,7 +7,7 @@ ghost use Rattle.rs_bind.specs.Indexes.{index_def_of};
 ghost use Rattle.rs_bind.specs.Names.{columns_of};
 ghost use Rattle.rs_bind.specs.Predicates.{predicate_of};
 ghost use Rattle.rs_syntax.specs.Written.{IsWritten};
-ghost use Rattle.rs_catalog.specs.Catalogue.{room_for};
+ghost use Rattle.rs_catalog.specs.Catalog.{room_for};
 ghost use Rattle.rs_catalog.specs.Indexes.{IsIndex};
 ghost use Rattle.rs_catalog.specs.declared.room.What.TheVariants as what;
 ghost use Rattle.rs_statement.specs.Parts.Steps.{FetchesFile, IsIndexNamed, IsPredicateNamed, IsReadTable, Leaves, Stepped};

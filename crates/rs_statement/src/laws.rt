@@ -2,7 +2,7 @@
 
 ghost use Rattle.std.specs.Prelude.{◌≡◌, ◌++◌, ℕ, List, Ok};
 ghost use Rattle.rs_bind.specs.Queries.{bound_query};
-ghost use Rattle.rs_catalog.specs.Catalogue.{Catalogue};
+ghost use Rattle.rs_catalog.specs.Catalog.{CatalogDef};
 ghost use Rattle.rs_events.specs.Events.{Event, puts};
 ghost use Rattle.rs_expr.specs.Scoring.{Answering};
 ghost use Rattle.rs_query.specs.Answers.{answer_of};
@@ -22,7 +22,7 @@ use rs_exec::plans_give_the_answer;
 /// the next rows of its cursor's query. This holds of each first part of the events, so also where a fault of the definition
 /// ends them, or a call or a put that fails.
 pub fn queries_put_the_first_lines_of_their_answers()
-    ensures queries { (answer : Answering) (seed : ℕ) (catalogue : Catalogue) (query : syntax.Query) (bound : Query) (done rest : List Event)
+    ensures queries { (answer : Answering) (seed : ℕ) (catalogue : CatalogDef) (query : syntax.Query) (bound : Query) (done rest : List Event)
         → IsWrittenQuery query → bound_query catalogue query ≡ Ok bound
         → (query_step (Planned seed) answer catalogue bound).events ≡ done ++ rest
         → ComeFirst (puts done) (rank_lines 1 (answer_of answer catalogue bound (all_rows catalogue bound))) }

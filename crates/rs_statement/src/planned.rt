@@ -4,12 +4,12 @@ ghost use Rattle.std.specs.Prelude.{ℕ, ◌≡◌, ◌≤◌, ◌⊎◌, Err, I
 ghost use Rattle.rs_syntax.specs.Syntax.{query_of};
 ghost use Rattle.rs_syntax.specs.Written.{IsWrittenQuery};
 ghost use Rattle.rs_expr.specs.Scoring.{Answering};
-ghost use Rattle.rs_catalog.specs.Catalogue.{Catalogue};
+ghost use Rattle.rs_catalog.specs.Catalog.{CatalogDef};
 ghost use Rattle.rs_bind.specs.Queries.{bound_query};
 ghost use Rattle.rs_plan.specs.Counts.{gave_of};
 ghost use Rattle.rs_exec.specs.Asking.{world_of};
 ghost use Rattle.rs_exec.specs.Cursors.{IsOver, StandsFor, asks_after, asks_of, plan_of};
-ghost use Rattle.rs_catalog.specs.Held.{AreHeld};
+ghost use Rattle.rs_catalog.specs.Held.{IndexesHold};
 ghost use Rattle.rs_statement.specs.Parts.Asks.{IsAt, NamesPredicate, StandsSomewhere, call_step, left_of, without_value};
 ghost use Rattle.rs_statement.specs.Parts.Steps.{Stepped};
 ghost use Rattle.rs_statement.specs.Planned.{ask_fault};
@@ -42,7 +42,7 @@ pub fn run_planned<S: Scorer, O: Sink>(
     out: &mut O,
 ) -> Result<(), Fault>
     requires written { IsWrittenQuery (query_of select.now) }
-    requires held { AreHeld (S.state scorer.old).answer catalog.now }
+    requires held { IndexesHold (S.state scorer.old).answer catalog.now }
     ensures { (beside : Environment) → Stepped
         (λ step. step ≡ refused_or (query_step (Planned seed) (S.state scorer.old).answer catalog.now) (or_bind_fault (bound_query catalog.now (query_of select.now))))
         catalog.now result
@@ -105,7 +105,7 @@ pub fn put_next<S: Scorer, O: Sink>(
 /// The rank of the row that a cursor gave last: how many it gave.
 fn rank_of(cursor: &Cursor) -> u128
     requires { StandsSomewhere cursor.now }
-    ensures { (catalogue : Catalogue) (answer : Answering) → StandsFor catalogue answer cursor.now
+    ensures { (catalogue : CatalogDef) (answer : Answering) → StandsFor catalogue answer cursor.now
         → result ≡ gave_of (world_of catalogue answer cursor.now.query) 1 (plan_of cursor.now) (asks_of cursor.now) }
 {
     match cursor.counts(0) {

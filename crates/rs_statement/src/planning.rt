@@ -9,7 +9,7 @@ ghost use Rattle.rs_sample.specs.Kept.{cards_of};
 ghost use Rattle.rs_enum.specs.Least.{least_plan};
 ghost use Rattle.rs_enum.specs.QueryCards.{AreCards};
 ghost use Rattle.rs_exec.specs.Cursors.{StandsFor};
-ghost use Rattle.rs_catalog.specs.Held.{AreHeld};
+ghost use Rattle.rs_catalog.specs.Held.{IndexesHold};
 ghost use Rattle.rs_statement.specs.Parts.Asks.{IsAt, NamesSampled, without_value};
 ghost use Rattle.rs_statement.specs.Parts.Steps.{Stepped};
 ghost use Rattle.rs_statement.specs.Planned.{cards_for, plan_for};
@@ -89,7 +89,7 @@ pub fn start_planned<S: Scorer>(
     scorer: &mut S,
 ) -> Result<Cursor, Fault>
     requires formed { IsQuery catalog.now query }
-    requires held { AreHeld (S.state scorer.old).answer catalog.now }
+    requires held { IndexesHold (S.state scorer.old).answer catalog.now }
     ensures calls { (beside : Environment) → Stepped (λ step. step ≡ sample_step catalog.now seed query) catalog.now (without_value result)
         (record beside { scorer = S.state scorer.old }) (record beside { scorer = S.state scorer.new }) }
     ensures starts { IfOk result (IsAt query (plan_for (S.state scorer.old).answer catalog.now seed query) 0) }

@@ -3,7 +3,7 @@
 ghost use Rattle.std.specs.Prelude.{◌≡◌};
 ghost use Rattle.rs_syntax.specs.Syntax.{query_of};
 ghost use Rattle.rs_syntax.specs.Written.{IsWrittenQuery};
-ghost use Rattle.rs_catalog.specs.Held.{AreHeld};
+ghost use Rattle.rs_catalog.specs.Held.{IndexesHold};
 ghost use Rattle.rs_statement.specs.Parts.Steps.{Stepped};
 ghost use Rattle.rs_statement.specs.Statements.{analyze_step, explain_step, select_step};
 ghost use Rattle.rs_events.specs.Environment.{Environment};
@@ -30,7 +30,7 @@ pub fn run_select<S: Scorer, O: Sink>(
     out: &mut O,
 ) -> Result<(), Fault>
     requires written { IsWrittenQuery (query_of select.now) }
-    requires held { AreHeld (S.state scorer.old).answer catalog.now }
+    requires held { IndexesHold (S.state scorer.old).answer catalog.now }
     ensures { (beside : Environment) → Stepped
         (λ step. step ≡ select_step evaluating (S.state scorer.old).answer catalog.now (query_of select.now)) catalog.now result
         (record beside { scorer = S.state scorer.old; out = O.state out.old }) (record beside { scorer = S.state scorer.new; out = O.state out.new }) }
@@ -71,7 +71,7 @@ pub fn run_analyze<S: Scorer, O: Sink>(
     out: &mut O,
 ) -> Result<(), Fault>
     requires written { IsWrittenQuery (query_of select.now) }
-    requires held { AreHeld (S.state scorer.old).answer catalog.now }
+    requires held { IndexesHold (S.state scorer.old).answer catalog.now }
     ensures { (beside : Environment) → Stepped
         (λ step. step ≡ analyze_step evaluating (S.state scorer.old).answer catalog.now (query_of select.now)) catalog.now result
         (record beside { scorer = S.state scorer.old; out = O.state out.old }) (record beside { scorer = S.state scorer.new; out = O.state out.new }) }

@@ -6,9 +6,9 @@ ghost use Rattle.rs_value.specs.Answer.{Gives};
 ghost use Rattle.rs_syntax.specs.Syntax.{query_of};
 ghost use Rattle.rs_syntax.specs.Written.{IsWrittenQuery};
 ghost use Rattle.rs_expr.specs.Scoring.{Answering};
-ghost use Rattle.rs_catalog.specs.Catalogue.{Catalogue, has_name};
+ghost use Rattle.rs_catalog.specs.Catalog.{CatalogDef, has_name};
 ghost use Rattle.rs_exec.specs.Cursors.{StandsFor};
-ghost use Rattle.rs_catalog.specs.Held.{AreHeld};
+ghost use Rattle.rs_catalog.specs.Held.{IndexesHold};
 ghost use Rattle.rs_query.specs.WellFormed.{IsQuery};
 ghost use Rattle.rs_statement.specs.declared.evaluating.Evaluating.TheVariants.{Plainly, Planned};
 ghost use Rattle.rs_statement.specs.Lines.{rank_lines};
@@ -86,7 +86,7 @@ pub fn declare<S: Scorer>(
     scorer: &mut S,
 ) -> Result<(), Fault>
     requires written { IsWrittenQuery (query_of select.now) }
-    requires held { AreHeld (S.state scorer.old).answer catalog.now }
+    requires held { IndexesHold (S.state scorer.old).answer catalog.now }
     requires asked { CanAllBeAsked (S.state scorer.old).answer catalog.now (held_in session.old) }
     ensures opens { (beside : Environment) → Stepped
         (λ step. step ≡ declare_step evaluating (S.state scorer.old).answer (state_of catalog.now (held_in session.old)) name.now (query_of select.now))
@@ -142,7 +142,7 @@ fn declare_planned<S: Scorer>(
     scorer: &mut S,
 ) -> Result<(), Fault>
     requires written { IsWrittenQuery (query_of select.now) }
-    requires held { AreHeld (S.state scorer.old).answer catalog.now }
+    requires held { IndexesHold (S.state scorer.old).answer catalog.now }
     requires asked { CanAllBeAsked (S.state scorer.old).answer catalog.now (held_in session.old) }
     ensures opens { (beside : Environment) → Stepped
         (λ step. step ≡ refused_or (opened_step (Planned seed) (S.state scorer.old).answer name.now.text (state_of catalog.now (held_in session.old)))
@@ -325,8 +325,8 @@ fn fetch_ready<O: Sink>(
 
 /// CLOSE: the name of a cursor is free again.
 pub fn close(name: &Name, session: &mut Session) -> Result<(), Fault>
-    ensures closes { (catalogue : Catalogue) → Leaves (close_outcome (state_of catalogue (held_in session.old)) name.now) (state_of catalogue (held_in session.new)) result }
-    ensures asked { (answer : Answering) (catalogue : Catalogue) → CanAllBeAsked answer catalogue (held_in session.old)
+    ensures closes { (catalogue : CatalogDef) → Leaves (close_outcome (state_of catalogue (held_in session.old)) name.now) (state_of catalogue (held_in session.new)) result }
+    ensures asked { (answer : Answering) (catalogue : CatalogDef) → CanAllBeAsked answer catalogue (held_in session.old)
         → CanAllBeAsked answer catalogue (held_in session.new) }
 {
     match session.cursors.shift_remove(&name.text) {

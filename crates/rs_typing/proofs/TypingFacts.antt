@@ -15,7 +15,7 @@ use Rattle.rs_typing.specs.declared.fault.BindFault.TheVariants.{At, Memory}
 use Rattle.rs_typing.specs.declared.fault.Why.TheVariants.{TooWide}
 use Rattle.rs_typing.specs.declared.typed.Typed.{Typed as TypedParts}
 use Rattle.rs_typing.specs.Typing.{Scope, Typed, Number, Words, Truth, divisor_of, has_width, narrow, pair_of, parts_of, quotient, quotient_by, rule, span_of, type_of}
-use Rattle.rs_typing.specs.Views.{result_map, typed_of}
+use Rattle.rs_typing.specs.Models.{result_map, typed_of}
 use Rattle.rs_typing.proofs.RuleFacts.{type_of-parts, types_of}
 
 -- what parts are, where they are known

@@ -27,7 +27,7 @@ use Rattle.rs_typing.specs.declared.fault.Why.TheVariants.{NoColumn, TooWide}
 use Rattle.rs_typing.specs.Missing.{or_fault}
 use Rattle.rs_typing.specs.Parameters.{parameter_in, parameter_of, placed, placed_from}
 use Rattle.rs_typing.specs.Typing.{Scope, Typed, Number, Words, Truth, argument, divisor_of, narrow, as_number, one, quotient, quotient_by, rule, span_of, span_of_column, three, two, type_of}
-use Rattle.rs_typing.specs.Views.{result_map}
+use Rattle.rs_typing.specs.Models.{result_map}
 
 both : (a b : Bool) → a ≡ true → b ≡ true → (a && b) ≡ true
 both true b h k = k

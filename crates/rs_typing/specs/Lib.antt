@@ -3,4 +3,4 @@ pub mod Rules
 pub mod Missing
 pub mod Parameters
 pub mod References
-pub mod Views
+pub mod Models

@@ -7,7 +7,7 @@ ghost use Rattle.rs_value.specs.Answer.{Gives};
 ghost use Rattle.rs_syntax.specs.Syntax.{Abs, And, Arith, Case, Compare, Expression, Greatest, Least, Neg, Not, Or, expression_of};
 ghost use Rattle.rs_expr.specs.Formulas.{condition_of, formula_of};
 ghost use Rattle.rs_typing.specs.Typing.{Scope, Typed as Meaning, argument, divisor_of, narrow, negated_divisor, parts_of, as_number, as_numbers, rule, span_of, as_truth, as_truths, as_text};
-ghost use Rattle.rs_typing.specs.Views.{result_map, typed_of};
+ghost use Rattle.rs_typing.specs.Models.{result_map, typed_of};
 
 use crate::fault::{BindFault, Why};
 use crate::scope::span_of_column;

@@ -4,7 +4,7 @@ ghost use Rattle.rs_value.specs.Results.{◌>>=◌ as ◌and_then◌};
 ghost use Rattle.rs_syntax.specs.Syntax.{Case, expression_of};
 ghost use Rattle.rs_expr.specs.declared.expr.TextSide.TheVariants as side;
 ghost use Rattle.rs_typing.specs.Typing.{Words, argument, has_width, pair_of, parts_of, type_of};
-ghost use Rattle.rs_typing.specs.Views.{result_map, typed_of};
+ghost use Rattle.rs_typing.specs.Models.{result_map, typed_of};
 
 use crate::fault::BindFault;
 use crate::rules::{argument, case, rule_of_one, rule_of_two};

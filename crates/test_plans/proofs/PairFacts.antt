@@ -7,7 +7,7 @@ use Rattle.rs_value.specs.declared.kind.Kind.TheVariants as kind
 use Rattle.rs_value.specs.declared.rel.Rel.TheVariants.{Eq}
 use Rattle.rs_expr.specs.Formulas.{Argument, Numbers}
 use Rattle.rs_expr.specs.Uses.{is_kind}
-use Rattle.rs_catalog.specs.Catalogue.{Catalogue}
+use Rattle.rs_catalog.specs.Catalog.{CatalogDef}
 use Rattle.rs_catalog.specs.declared.index.BoundArg.TheVariants as arg
 use Rattle.rs_query.specs.declared.block.Block.{Block}
 use Rattle.rs_query.specs.WellFormed.{IsBlock, IsColumn, IsConjunct, IsFromEntry, IsTerm, column_kind}
@@ -18,7 +18,7 @@ a_number (Some kind.Int) is = refl
 a_number (Some kind.Text) is = absurd (false≢true is)
 a_number None is = absurd (false≢true is)
 
-is_conjunct : (catalogue : Catalogue) (block : Block) → IsColumn catalogue block (1, 0) → IsColumn catalogue block (2, 0)
+is_conjunct : (catalogue : CatalogDef) (block : Block) → IsColumn catalogue block (1, 0) → IsColumn catalogue block (2, 0)
     → is_kind kind.Int (column_kind catalogue block (1, 0)) ≡ true → is_kind kind.Int (column_kind catalogue block (2, 0)) ≡ true
     → IsConjunct catalogue block (record { condition = Numbers Eq (Argument 0) (Argument 1); columns = (1, 0) ∷ (2, 0) ∷ []; entries = 3; equality = Some ((1, 0), (2, 0)) })
 is_conjunct catalogue block left right left_number right_number = record {
@@ -30,7 +30,7 @@ is_conjunct catalogue block left right left_number right_number = record {
   equality = refl;
 }
 
-is_term : (catalogue : Catalogue) (block : Block) → HasPredicate catalogue → IsColumn catalogue block (1, 0) → column_kind catalogue block (1, 0) ≡ Some kind.Int
+is_term : (catalogue : CatalogDef) (block : Block) → HasPredicate catalogue → IsColumn catalogue block (1, 0) → column_kind catalogue block (1, 0) ≡ Some kind.Int
     → IsTerm catalogue block (record { weight = 1; predicate = 0; args = arg.Column 1 0 ∷ []; max = 10; entries = 1 })
 is_term catalogue block has column number = record {
   predicate = record { name = has.name; params = kind.Int ∷ []; max = 10; cost = 1; formula = Argument 0 };
@@ -43,7 +43,7 @@ is_term catalogue block has column number = record {
   max = refl;
 }
 
-pub IsBlock-pair : (catalogue : Catalogue) (block : Block) → length catalogue.tables ≡ 1 → HasPredicate catalogue → IsPair block
+pub IsBlock-pair : (catalogue : CatalogDef) (block : Block) → length catalogue.tables ≡ 1 → HasPredicate catalogue → IsPair block
     → is_kind kind.Int (column_kind catalogue block (1, 0)) ≡ true → is_kind kind.Int (column_kind catalogue block (2, 0)) ≡ true → IsBlock catalogue block
 IsBlock-pair catalogue block one has pair left_number right_number =
     let left_kind : column_kind catalogue block (1, 0) ≡ Some kind.Int = a_number (column_kind catalogue block (1, 0)) left_number in

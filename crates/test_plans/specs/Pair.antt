@@ -3,12 +3,12 @@ use Rattle.std.specs.Prelude.{ℕ, ◌≡◌, List, [], ◌∷◌, Some}
 use Rattle.rs_value.specs.declared.kind.Kind.TheVariants as kind
 use Rattle.rs_value.specs.declared.rel.Rel.TheVariants.{Eq}
 use Rattle.rs_expr.specs.Formulas.{Argument, Numbers}
-use Rattle.rs_catalog.specs.Catalogue.{Catalogue}
+use Rattle.rs_catalog.specs.Catalog.{CatalogDef}
 use Rattle.rs_catalog.specs.declared.index.BoundArg.TheVariants as arg
 use Rattle.rs_query.specs.declared.block.Block.{Block}
 
 -- its one predicate is of a number, which is its score
-pub record HasPredicate (catalogue : Catalogue) : Type 0 where
+pub record HasPredicate (catalogue : CatalogDef) : Type 0 where
   pub name : List ℕ
   pub predicates : catalogue.predicates ≡ record {
     name = name;

@@ -6,7 +6,7 @@ ghost use Rattle.rs_value.specs.declared.kind.Kind.TheVariants as kind;
 ghost use Rattle.rs_value.specs.declared.rel.Rel.TheVariants.{Eq};
 ghost use Rattle.rs_expr.specs.Formulas.{Argument, Numbers};
 ghost use Rattle.rs_expr.specs.Uses.{is_kind};
-ghost use Rattle.rs_catalog.specs.Catalogue.{empty, room_for};
+ghost use Rattle.rs_catalog.specs.Catalog.{empty, room_for};
 ghost use Rattle.rs_catalog.specs.declared.index.BoundArg.TheVariants as arg;
 ghost use Rattle.rs_query.specs.WellFormed.{IsBlock, IsFromEntry, IsQuery, column_kind};
 ghost use Rattle.test_plans.specs.Pair.{ArePair, HasPredicate, IsPair};

@@ -6,7 +6,7 @@ use Rattle.rs_value.specs.declared.kind.Kind.TheVariants as kind
 use Rattle.rs_value.specs.declared.rel.Rel.TheVariants.{Eq}
 use Rattle.rs_expr.specs.Formulas.{Argument, Numbers}
 use Rattle.rs_expr.specs.Uses.{is_kind}
-use Rattle.rs_catalog.specs.Catalogue.{Catalogue}
+use Rattle.rs_catalog.specs.Catalog.{CatalogDef}
 use Rattle.rs_catalog.specs.declared.index.BoundArg.TheVariants as arg
 use Rattle.test_units.proofs.KindFacts.{a_number}
 use Rattle.rs_query.specs.declared.block.Block.{Block}
@@ -14,7 +14,7 @@ use Rattle.test_units.specs.Joined.{IsJoin}
 use Rattle.test_units.specs.Tables.{HasPredicate}
 use Rattle.rs_query.specs.WellFormed.{IsBlock, IsColumn, IsConjunct, IsFromEntry, IsTerm, column_kind}
 
-is_conjunct : (catalogue : Catalogue) (block : Block) → IsColumn catalogue block (1, 0) → IsColumn catalogue block (2, 0)
+is_conjunct : (catalogue : CatalogDef) (block : Block) → IsColumn catalogue block (1, 0) → IsColumn catalogue block (2, 0)
     → is_kind kind.Int (column_kind catalogue block (1, 0)) ≡ true → is_kind kind.Int (column_kind catalogue block (2, 0)) ≡ true
     → IsConjunct catalogue block (record { condition = Numbers Eq (Argument 0) (Argument 1); columns = (1, 0) ∷ (2, 0) ∷ []; entries = 3; equality = Some ((1, 0), (2, 0)) })
 is_conjunct catalogue block left right left_number right_number = record {
@@ -26,7 +26,7 @@ is_conjunct catalogue block left right left_number right_number = record {
   equality = refl;
 }
 
-is_term : (catalogue : Catalogue) (block : Block) → HasPredicate (kind.Int ∷ kind.Int ∷ []) 100 catalogue → IsColumn catalogue block (2, 0) → column_kind catalogue block (2, 0) ≡ Some kind.Int
+is_term : (catalogue : CatalogDef) (block : Block) → HasPredicate (kind.Int ∷ kind.Int ∷ []) 100 catalogue → IsColumn catalogue block (2, 0) → column_kind catalogue block (2, 0) ≡ Some kind.Int
     → IsTerm catalogue block (record { weight = 3; predicate = 0; args = arg.Column 2 0 ∷ arg.Int (pos 7) ∷ []; max = 100; entries = 2 })
 is_term catalogue block has column number = record {
   predicate = record { name = has.name; params = kind.Int ∷ kind.Int ∷ []; max = 100; cost = 1; formula = Argument 0 };
@@ -39,7 +39,7 @@ is_term catalogue block has column number = record {
   max = refl;
 }
 
-pub IsBlock-join : (catalogue : Catalogue) (block : Block) → length catalogue.tables ≡ 2 → HasPredicate (kind.Int ∷ kind.Int ∷ []) 100 catalogue → IsJoin block
+pub IsBlock-join : (catalogue : CatalogDef) (block : Block) → length catalogue.tables ≡ 2 → HasPredicate (kind.Int ∷ kind.Int ∷ []) 100 catalogue → IsJoin block
     → is_kind kind.Int (column_kind catalogue block (1, 0)) ≡ true → is_kind kind.Int (column_kind catalogue block (2, 0)) ≡ true → IsBlock catalogue block
 IsBlock-join catalogue block two has join left_number right_number =
     let left_kind : column_kind catalogue block (1, 0) ≡ Some kind.Int = a_number (column_kind catalogue block (1, 0)) left_number in

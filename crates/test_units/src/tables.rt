@@ -5,7 +5,7 @@ ghost use Rattle.std.specs.List.{AllByRecursion};
 ghost use Rattle.rs_value.specs.declared.kind.Kind.TheVariants as kind;
 ghost use Rattle.rs_expr.specs.Formulas.{Argument};
 ghost use Rattle.rs_expr.specs.Uses.{is_kind};
-ghost use Rattle.rs_catalog.specs.Catalogue.{empty, room_for};
+ghost use Rattle.rs_catalog.specs.Catalog.{empty, room_for};
 ghost use Rattle.rs_query.specs.WellFormed.{IsFromEntry, column_kind};
 ghost use Rattle.test_units.specs.Tables.{HasPredicate};
 

@@ -3,7 +3,7 @@ use Rattle.std.specs.Prelude.{ℕ, suc, ◌+◌, ◌≤◌, List, drop, length, 
 use Rattle.std.specs.List.{AllByRecursion}
 use Rattle.rs_syntax.specs.Syntax.{Close, Command, Declare, Fetch}
 use Rattle.rs_expr.specs.Scoring.{Answering}
-use Rattle.rs_catalog.specs.Catalogue.{Catalogue}
+use Rattle.rs_catalog.specs.Catalog.{CatalogDef}
 use Rattle.rs_exec.specs.Asking.{world_of}
 use Rattle.rs_exec.specs.Cursors.{CursorState, StandsFor, asks_of, plan_of}
 use Rattle.rs_statement.specs.declared.session.Held.{Held}
@@ -37,33 +37,33 @@ abbrev pub cursors_of : List (List ℕ × Held) → List OpenCursor
 cursors_of entries = map open_cursor entries
 
 -- the catalogue and the open cursors
-abbrev pub state_of : Catalogue → List (List ℕ × Held) → State
+abbrev pub state_of : CatalogDef → List (List ℕ × Held) → State
 state_of catalogue entries = record { catalogue = catalogue; cursors = cursors_of entries }
 
 -- a cursor can be asked: it stands for the catalogue and the scorer; and of rows that stand ready no more were given than there are
-abbrev pub CanBeAsked : Answering → Catalogue → Held → Type 0
+abbrev pub CanBeAsked : Answering → CatalogDef → Held → Type 0
 CanBeAsked answer catalogue (held.Asked cursor) = StandsFor catalogue answer cursor
 CanBeAsked answer catalogue (held.Ready rows given) = given ≤ length rows.items
 
 -- each open cursor can be asked. This holds between any two statements: what joins the catalogue changes nothing for a cursor that stands, and a FETCH leaves
 -- all other cursors as they are
-abbrev pub CanAllBeAsked : Answering → Catalogue → List (List ℕ × Held) → Type 0
+abbrev pub CanAllBeAsked : Answering → CatalogDef → List (List ℕ × Held) → Type 0
 CanAllBeAsked answer catalogue cursors = AllByRecursion (λ (entry : List ℕ × Held). CanBeAsked answer catalogue entry.1) cursors
 
 -- the asks of a cursor that come next where this many are wanted, and how many they are
-abbrev pub next_of_cursor : Catalogue → Answering → CursorState → ℕ → ℕ
+abbrev pub next_of_cursor : CatalogDef → Answering → CursorState → ℕ → ℕ
 next_of_cursor catalogue answer cursor wanted = next_asks (world_of catalogue answer cursor.query) (plan_of cursor) (asks_of cursor) wanted
 
-abbrev pub wanted_step : Catalogue → Answering → CursorState → ℕ → Step Catalogue
+abbrev pub wanted_step : CatalogDef → Answering → CursorState → ℕ → Step CatalogDef
 wanted_step catalogue answer cursor wanted =
     asks_from (world_of catalogue answer cursor.query) (plan_of cursor) (asks_of cursor) (next_of_cursor catalogue answer cursor wanted)
 
 -- the same of every cursor: of rows that stand ready, this many are put
-abbrev pub next_of : Catalogue → Answering → Held → ℕ → ℕ
+abbrev pub next_of : CatalogDef → Answering → Held → ℕ → ℕ
 next_of catalogue answer (held.Asked cursor) wanted = next_of_cursor catalogue answer cursor wanted
 next_of catalogue answer (held.Ready rows given) wanted = next_rows rows.items given wanted
 
-abbrev pub rows_step : Catalogue → Answering → Held → ℕ → Step Catalogue
+abbrev pub rows_step : CatalogDef → Answering → Held → ℕ → Step CatalogDef
 rows_step catalogue answer (held.Asked cursor) wanted = wanted_step catalogue answer cursor wanted
 rows_step catalogue answer (held.Ready rows given) wanted =
     lines_step (rank_lines (suc given) (take (next_rows rows.items given wanted) (drop given rows.items))) catalogue

@@ -9,7 +9,7 @@ use Rattle.rs_syntax.specs.declared.node.Node.{Node, the_lemmas}
 use Rattle.rs_query.specs.Conjuncts.{ConjunctDef}
 use Rattle.rs_typing.specs.declared.fault.BindFault.{BindFault}
 use Rattle.rs_typing.specs.declared.fault.BindFault.TheVariants.{Memory}
-use Rattle.rs_typing.specs.Views.{result_map}
+use Rattle.rs_typing.specs.Models.{result_map}
 use Rattle.rs_bind.specs.Conditions.{parts_of_and}
 use Rattle.rs_bind.specs.Sources.{sources_of}
 use Rattle.rs_bind.proofs.FilterFacts.{both-given, left-refused, part-given, with_parts}

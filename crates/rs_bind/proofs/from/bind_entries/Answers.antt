@@ -2,7 +2,7 @@ use Rattle.std.proofs.Common.{ℕ, List, ◌≡◌, ◌+◌, ◌<◌, ◌≤◌,
 use Rattle.std.specs.List.{AllByRecursion, list_any}
 use Rattle.std.specs.Str.{bytes_eq}
 use Rattle.std.proofs.lemmas.List.{length_push}
-use Rattle.rs_catalog.specs.Catalogue.{number_named}
+use Rattle.rs_catalog.specs.Catalog.{number_named}
 use Rattle.rs_catalog.specs.declared.room.What.TheVariants as what
 use Rattle.rs_typing.specs.declared.fault.BindFault.TheVariants.{At}
 use Rattle.rs_typing.specs.declared.fault.Why.TheVariants.{NoTable}

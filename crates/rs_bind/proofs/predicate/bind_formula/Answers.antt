@@ -1,6 +1,6 @@
 -- A formula uses what the parameters give.
 use Rattle.rs_syntax.specs.Syntax.{expression_of}
-use Rattle.rs_typing.specs.Views.{typed_of}
+use Rattle.rs_typing.specs.Models.{typed_of}
 use Rattle.rs_typing.proofs.UsesFacts.{IfOk-uses}
 use Rattle.rs_bind.proofs.predicate.bind_formula.Goals as goal
 

@@ -2,7 +2,7 @@
 use Rattle.std.proofs.Common.{◌≡◌, ◌∙◌, ℕ, ◌*◌, ◌<◌, ◌≤◌, ◌^◌, List, refl, sym, ap, subst, arith, length}
 use Rattle.std.specs.Prelude.{Option, Some, None}
 use Rattle.rs_rank.specs.Masks.{mask_of}
-use Rattle.rs_catalog.specs.Catalogue.{Catalogue}
+use Rattle.rs_catalog.specs.Catalog.{CatalogDef}
 use Rattle.rs_query.specs.Tables.{size_of}
 use Rattle.rs_query.specs.WellFormed.{IsBlock}
 use Rattle.rs_query.specs.declared.block.Block.{Block}
@@ -20,7 +20,7 @@ use Rattle.rs_enum.proofs.CostFacts.{block-formed}
 use Rattle.rs_enum.proofs.FindFacts.{no-entry, no-index, no-term, rank_scan-first, seq-first}
 use Rattle.rs_enum.proofs.find.scan.Goals as goal
 
-first-scan : (catalogue : Catalogue) (query : Query) (cards : List BlockCards) → IsBlock catalogue (block_in query 1) → (places : List (Option Kept))
+first-scan : (catalogue : CatalogDef) (query : Query) (cards : List BlockCards) → IsBlock catalogue (block_in query 1) → (places : List (Option Kept))
     → AreKept catalogue query cards places → (first second : ℕ) → second < 2 ^ length (block_in query 1).terms
     → (entry term : ℕ) → 1 ≤ entry → 1 ≤ term → mask_of entry ≡ first → mask_of term ≡ second → (second ≡ 0 → ⊥)
     → (found : Option Candidate) → IsTheScan catalogue query cards entry term found → IsTheFirst catalogue query cards places first second (3 * 256) found

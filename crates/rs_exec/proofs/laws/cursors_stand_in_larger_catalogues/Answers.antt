@@ -1,5 +1,5 @@
 use Rattle.std.proofs.Common.{subst}
-use Rattle.rs_catalog.specs.Catalogue.{Catalogue}
+use Rattle.rs_catalog.specs.Catalog.{CatalogDef}
 use Rattle.rs_exec.specs.Cursors.{StandsFor}
 use Rattle.rs_catalog.proofs.JoinedFacts.{joined-index, joined-predicate, joined-table, only_index, only_predicate, only_table}
 use Rattle.rs_exec.proofs.LargerNodes.{cursor-larger}
@@ -7,15 +7,15 @@ use Rattle.rs_exec.proofs.laws.cursors_stand_in_larger_catalogues.Goals as goal
 
 pub returns-clause-tables : goal.returns-clause-tables
 returns-clause-tables c = λ catalogue answer cursor name table stands.
-    subst (λ (larger : Catalogue). StandsFor larger answer cursor) (joined-table catalogue name table)
+    subst (λ (larger : CatalogDef). StandsFor larger answer cursor) (joined-table catalogue name table)
     (cursor-larger catalogue (only_table name table) answer cursor stands)
 
 pub returns-clause-predicates : goal.returns-clause-predicates
 returns-clause-predicates c = λ catalogue answer cursor predicate stands.
-    subst (λ (larger : Catalogue). StandsFor larger answer cursor) (joined-predicate catalogue predicate)
+    subst (λ (larger : CatalogDef). StandsFor larger answer cursor) (joined-predicate catalogue predicate)
     (cursor-larger catalogue (only_predicate predicate) answer cursor stands)
 
 pub returns-clause-indexes : goal.returns-clause-indexes
 returns-clause-indexes c = λ catalogue answer cursor def ranking stands.
-    subst (λ (larger : Catalogue). StandsFor larger answer cursor) (joined-index catalogue def ranking)
+    subst (λ (larger : CatalogDef). StandsFor larger answer cursor) (joined-index catalogue def ranking)
     (cursor-larger catalogue (only_index def ranking) answer cursor stands)

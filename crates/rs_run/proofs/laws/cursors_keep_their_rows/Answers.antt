@@ -1,4 +1,4 @@
-use Rattle.rs_catalog.specs.Catalogue.{with_index, with_predicate, with_table}
+use Rattle.rs_catalog.specs.Catalog.{with_index, with_predicate, with_table}
 use Rattle.rs_statement.proofs.LargerRows.{IsCursorOf-plan, alike-fetched}
 use Rattle.rs_run.proofs.laws.cursors_keep_their_rows.Goals as goal
 

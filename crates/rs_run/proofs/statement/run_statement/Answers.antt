@@ -1,5 +1,5 @@
 use Rattle.rs_syntax.specs.Syntax.{command_of, query_of}
-use Rattle.rs_catalog.specs.Held.{AreHeld}
+use Rattle.rs_catalog.specs.Held.{IndexesHold}
 use Rattle.rs_statement.specs.Parts.Session.{CanAllBeAsked, held_in, state_of}
 use Rattle.rs_events.specs.Events.{finds_in}
 use Rattle.rs_statement.specs.Session.{DoesInSession, close_outcome, declare_step, fetch_step}
@@ -84,7 +84,7 @@ returns-in_default g c =
           (record beside { files = g.F.Files.state c.args.files.now; scorer = g.S.Scorer.state c.args.scorer.now; out = g.O.Sink.state c.args.out.now })
           (record beside { files = g.F.Files.state c.run_without_cursor.new.files; scorer = g.S.Scorer.state c.run_without_cursor.new.scorer; out = g.O.Sink.state c.run_without_cursor.new.out })
           (of_no_cursor c.args.statement.now c.in_default.not-Declare c.in_default.not-Fetch c.in_default.not-Close) (c.run_without_cursor.ensures beside);
-      held = if-stepped (Does finds answer c.args.evaluating catalogue command) next c.run_without_cursor.result at then (AreHeld answer next) (c.run_without_cursor.ensures at)
+      held = if-stepped (Does finds answer c.args.evaluating catalogue command) next c.run_without_cursor.result at then (IndexesHold answer next) (c.run_without_cursor.ensures at)
           (λ step does leaves. held-step answer catalogue finds c.args.evaluating command step next c.requires.held c.requires.written does leaves);
       asked = if-stepped (Does finds answer c.args.evaluating catalogue command) next c.run_without_cursor.result at then (CanAllBeAsked answer next entries) (c.run_without_cursor.ensures at)
           (λ step does leaves. asked-step answer catalogue finds c.args.evaluating command step next entries (record {

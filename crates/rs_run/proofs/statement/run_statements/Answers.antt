@@ -1,7 +1,7 @@
 use Rattle.std.proofs.Common.{◌≡◌, refl, sym, subst, suc, ◌+◌, drop, arith}
 use Rattle.std.specs.Prelude.{Err, Ok}
 use Rattle.rs_syntax.specs.Syntax.{command_of, commands_of}
-use Rattle.rs_catalog.specs.Held.{AreHeld}
+use Rattle.rs_catalog.specs.Held.{IndexesHold}
 use Rattle.rs_events.specs.Events.{finds_in}
 use Rattle.rs_statement.specs.Parts.Session.{CanAllBeAsked, cursors_of, held_in, state_of}
 use Rattle.rs_statement.specs.Session.{DoesInSession, nothing}
@@ -22,7 +22,7 @@ loop-statement-init g c =
           starts
           (Between-start (DoesInSession (finds_in (g.F.Files.state c.args.files.now).told) answer c.args.evaluating) nothing (commands_of c.args.statements.now) (record beside { files = g.F.Files.state c.args.files.now; scorer = g.S.Scorer.state c.args.scorer.now; out = g.O.Sink.state c.args.out.now }));
       statements_same = refl;
-      held = subst (AreHeld answer) (sym c.new-catalog.ensures) tt;
+      held = subst (IndexesHold answer) (sym c.new-catalog.ensures) tt;
       asked = subst (CanAllBeAsked answer c.new-catalog.result) (sym c.new-session.ensures) tt;
     }
 
@@ -30,7 +30,7 @@ pub run_statement-requires : goal.run_statement-requires
 run_statement-requires g c =
     let at = environment (g.F.Files.state c.loop-statement.files) (g.S.Scorer.state c.loop-statement.scorer) (g.O.Sink.state c.loop-statement.out) (g.O.Sink.state c.loop-statement.out) in record {
       written = written-at c.args.statements.now c.loop-statement.statement-index c.statement-item.result c.loop-statement-test.true c.statement-item.is c.requires.written;
-      held = subst (λ answer. AreHeld answer c.loop-statement.catalog) (sym (c.loop-statement.invariant.between at).has.keeps.scorer.answer) c.loop-statement.invariant.held;
+      held = subst (λ answer. IndexesHold answer c.loop-statement.catalog) (sym (c.loop-statement.invariant.between at).has.keeps.scorer.answer) c.loop-statement.invariant.held;
       asked = subst (λ answer. CanAllBeAsked answer c.loop-statement.catalog (held_in c.loop-statement.session)) (sym (c.loop-statement.invariant.between at).has.keeps.scorer.answer) c.loop-statement.invariant.asked;
     }
 
@@ -61,7 +61,7 @@ loop-statement-preserved g c = record {
       (c.loop-statement.invariant.between beside).has (c.in-Ok.ensures.does beside));
   statements_same = refl;
   held = (let at = environment (g.F.Files.state c.loop-statement.files) (g.S.Scorer.state c.loop-statement.scorer) (g.O.Sink.state c.loop-statement.out) (g.O.Sink.state c.loop-statement.out) in
-      subst (λ answer. AreHeld answer c.run_statement.new.catalog) (c.loop-statement.invariant.between at).has.keeps.scorer.answer c.in-Ok.ensures.held);
+      subst (λ answer. IndexesHold answer c.run_statement.new.catalog) (c.loop-statement.invariant.between at).has.keeps.scorer.answer c.in-Ok.ensures.held);
   asked = (let at = environment (g.F.Files.state c.loop-statement.files) (g.S.Scorer.state c.loop-statement.scorer) (g.O.Sink.state c.loop-statement.out) (g.O.Sink.state c.loop-statement.out) in
       subst (λ answer. CanAllBeAsked answer c.run_statement.new.catalog (held_in c.run_statement.new.session)) (c.loop-statement.invariant.between at).has.keeps.scorer.answer
       c.in-Ok.ensures.asked);

@@ -1,6 +1,6 @@
 use Rattle.std.proofs.Common.{◌≡◌}
 use Rattle.rs_syntax.specs.Syntax.{commands_of}
-use Rattle.rs_catalog.specs.Held.{AreHeld}
+use Rattle.rs_catalog.specs.Held.{IndexesHold}
 use Rattle.rs_events.specs.Events.{finds_in}
 use Rattle.rs_statement.specs.Parts.Session.{CanAllBeAsked, held_in, state_of}
 use Rattle.rs_statement.specs.Session.{DoesInSession, nothing}
@@ -15,7 +15,7 @@ pub record Goes (g : goal.Over) (l : goal.Live-loop-statement g) : Type 0 where
       (record beside { files = g.F.Files.state l.fn.files; scorer = g.S.Scorer.state l.fn.scorer; out = g.O.Sink.state l.fn.out })
       (record beside { files = g.F.Files.state l.files; scorer = g.S.Scorer.state l.scorer; out = g.O.Sink.state l.out })
   pub statements_same : l.statements ≡ l.fn.statements
-  pub held : AreHeld (g.S.Scorer.state l.fn.scorer).answer l.catalog
+  pub held : IndexesHold (g.S.Scorer.state l.fn.scorer).answer l.catalog
   pub asked : CanAllBeAsked (g.S.Scorer.state l.fn.scorer).answer l.catalog (held_in l.session)
 
 abbrev pub invariant-loop-statement : goal.invariant-loop-statement

@@ -2,7 +2,7 @@ use Rattle.std.proofs.Common.{◌≡◌, map, take}
 use Rattle.std.specs.List.{AllByRecursion}
 use Rattle.rs_order.specs.Climbing.{In}
 use Rattle.rs_expr.specs.Scoring.{Answering}
-use Rattle.rs_catalog.specs.Catalogue.{Catalogue}
+use Rattle.rs_catalog.specs.Catalog.{CatalogDef}
 use Rattle.rs_query.specs.Answers.{score_of}
 use Rattle.rs_query.specs.Tables.{all_entries}
 use Rattle.rs_query.specs.WellFormed.{IsBlock}
@@ -13,6 +13,6 @@ use Rattle.rs_sample.proofs.cutoff.cutoff.Given as goal
 -- the first combinations have their scores
 abbrev pub invariant-loop-rows : goal.invariant-loop-rows
 invariant-loop-rows l =
-    (answer : Answering) (catalogue : Catalogue) → IsBlock catalogue l.block → l.worths ≡ worths_by_term answer catalogue l.block l.samples
+    (answer : Answering) (catalogue : CatalogDef) → IsBlock catalogue l.block → l.worths ≡ worths_by_term answer catalogue l.block l.samples
     → AllByRecursion (λ rows. In rows (sampled_choices (all_entries l.block) l.samples)) l.combinations
     → l.scores.items ≡ map (λ rows. score_of answer catalogue l.block rows l.block.terms) (take l.rows-index l.combinations)

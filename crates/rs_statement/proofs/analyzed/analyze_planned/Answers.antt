@@ -10,7 +10,7 @@ use Rattle.rs_plan.specs.declared.counts.Counts.{Counts}
 use Rattle.rs_sample.specs.Kept.{cards_of}
 use Rattle.rs_enum.specs.Texts.{text_of}
 use Rattle.rs_exec.specs.Asking.{world_of}
-use Rattle.rs_catalog.specs.Held.{AreHeld}
+use Rattle.rs_catalog.specs.Held.{IndexesHold}
 use Rattle.rs_statement.specs.declared.fault.Fault.TheVariants.{Memory}
 use Rattle.rs_statement.specs.Parts.Steps.{Ran}
 use Rattle.rs_events.specs.Run.{lines_run}
@@ -66,7 +66,7 @@ asked_text-told-requires g c =
       query = c.in_ok-query.ensures.formed;
       cards = c.in-Ok.ensures.own;
       plan = c.in-Ok-choose_plan.ensures.plan;
-      held = subst (λ answer. AreHeld answer c.args.catalog.now) (sym (c.in-Ok.ensures.calls at).ran.keeps.scorer.answer) c.requires.held;
+      held = subst (λ answer. IndexesHold answer c.args.catalog.now) (sym (c.in-Ok.ensures.calls at).ran.keeps.scorer.answer) c.requires.held;
     }
 
 -- what was asked and told, over the answers that the scorer had at first and by the plan of the query

@@ -1,6 +1,6 @@
 use Rattle.std.proofs.Common.{◌∙◌, ap}
 use Rattle.rs_value.proofs.ResultFacts.{given-err}
-use Rattle.rs_catalog.specs.Catalogue.{with_table}
+use Rattle.rs_catalog.specs.Catalog.{with_table}
 use Rattle.rs_statement.specs.declared.fault.Fault.TheVariants.{Memory}
 use Rattle.rs_statement.proofs.StepFacts.{Table-joins, Table-no_memory, Table-refused, Table-unread}
 use Rattle.rs_statement.proofs.create.create_table.Goals as goal

@@ -2,7 +2,7 @@ use Rattle.std.proofs.Common.{◌≡◌, ◌∙◌, [], ◌∷◌, ap, refl, sub
 use Rattle.std.specs.Prelude.{Err, None}
 use Rattle.rs_value.proofs.ResultFacts.{given-err}
 use Rattle.rs_syntax.specs.Syntax.{query_of}
-use Rattle.rs_catalog.specs.Catalogue.{Catalogue}
+use Rattle.rs_catalog.specs.Catalog.{CatalogDef}
 use Rattle.rs_query.specs.declared.query.Query.{Query}
 use Rattle.rs_bind.specs.Queries.{bound_query}
 use Rattle.rs_plan.specs.Shapes.{tree_of}
@@ -49,7 +49,7 @@ returns-in-Err-choose_plan g c = λ beside.
     let catalogue = c.args.catalog.now in
     let query = c.in_ok-query.query in
     let middle = record beside { scorer = g.S.Scorer.state c.take_sample.new.scorer; out = g.O.Sink.state c.args.out.now } in
-    let rest : Query → Step Catalogue = λ query. lines_step (text_of catalogue query (cards_for answer catalogue c.args.seed query) (plan_for answer catalogue c.args.seed query) None ∷ []) catalogue in
+    let rest : Query → Step CatalogDef = λ query. lines_step (text_of catalogue query (cards_for answer catalogue c.args.seed query) (plan_for answer catalogue c.args.seed query) None ∷ []) catalogue in
     Sampled-then catalogue c.args.seed rest (or_bind_fault (bound_query catalogue (query_of c.args.select.now))) query (Gives-bound _ _ c.in_ok-query.ensures.gives)
     (record beside { scorer = g.S.Scorer.state c.args.scorer.now; out = g.O.Sink.state c.args.out.now }) middle (Err Memory) middle
     (c.in-Ok.ensures.calls (record beside { out = g.O.Sink.state c.args.out.now }))
@@ -64,7 +64,7 @@ returns-in_err-text g c = λ beside.
     let catalogue = c.args.catalog.now in
     let query = c.in_ok-query.query in
     let middle = record beside { scorer = g.S.Scorer.state c.take_sample.new.scorer; out = g.O.Sink.state c.args.out.now } in
-    let rest : Query → Step Catalogue = λ query. lines_step (text_of catalogue query (cards_for answer catalogue c.args.seed query) (plan_for answer catalogue c.args.seed query) None ∷ []) catalogue in
+    let rest : Query → Step CatalogDef = λ query. lines_step (text_of catalogue query (cards_for answer catalogue c.args.seed query) (plan_for answer catalogue c.args.seed query) None ∷ []) catalogue in
     rw (given-err c.from_residual-in_err-text.result Memory c.from_residual-in_err-text.ensures) (
     Sampled-then catalogue c.args.seed rest (or_bind_fault (bound_query catalogue (query_of c.args.select.now))) query (Gives-bound _ _ c.in_ok-query.ensures.gives)
     (record beside { scorer = g.S.Scorer.state c.args.scorer.now; out = g.O.Sink.state c.args.out.now }) middle (Err Memory) middle

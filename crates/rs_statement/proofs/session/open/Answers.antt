@@ -1,7 +1,7 @@
 use Rattle.std.proofs.Common.{◌++◌, ◌∷◌, [], sym, subst}
 use Rattle.std.specs.Prelude.{◌≡◌, false, OnOk}
 use Rattle.indexmap.specs.IndexMap.{keys}
-use Rattle.rs_catalog.specs.Catalogue.{has_name}
+use Rattle.rs_catalog.specs.Catalog.{has_name}
 use Rattle.rs_statement.proofs.session.open.Goals as goal
 
 pub insert-requires : goal.insert-requires

@@ -1,7 +1,7 @@
 use Rattle.std.proofs.Common.{◌≡◌, ◌∙◌, sym, ap, true, inl, inr}
 use Rattle.std.specs.Prelude.{Err, false}
 use Rattle.std.specs.Map.{keys_of}
-use Rattle.rs_catalog.specs.Catalogue.{has_name}
+use Rattle.rs_catalog.specs.Catalog.{has_name}
 use Rattle.rs_statement.proofs.SessionFacts.{has_name-keys, room-full, room-some, room-taken}
 use Rattle.rs_statement.proofs.session.room.Goals as goal
 

@@ -4,7 +4,7 @@ use Rattle.rs_syntax.specs.Syntax.{Arith, expression_of}
 use Rattle.rs_syntax.specs.declared.node.Op.{Op}
 use Rattle.rs_typing.specs.declared.fault.BindFault.TheVariants.{Memory}
 use Rattle.rs_typing.specs.Typing.{rule}
-use Rattle.rs_typing.specs.Views.{result_map, typed_of}
+use Rattle.rs_typing.specs.Models.{result_map, typed_of}
 use Rattle.rs_typing.proofs.rules.arithmetic.Goals as goal
 
 -- what is asked of each operator holds of division

@@ -1,7 +1,7 @@
 -- The parts of a node are what their own calls gave, and the node is what its rule gives of them.
 use Rattle.std.proofs.Common.{[], ◌∷◌, refl}
 use Rattle.rs_syntax.specs.Syntax.{Case, expression_of}
-use Rattle.rs_typing.specs.Views.{result_map, typed_of}
+use Rattle.rs_typing.specs.Models.{result_map, typed_of}
 use Rattle.rs_typing.proofs.TypingFacts.{Gives-one, Gives-three, Gives-two, IfOk-has_width}
 use Rattle.rs_typing.proofs.typing.+typing.Goals as goal
 

@@ -2,7 +2,7 @@
 use Rattle.std.proofs.Common.{◌≡◌, ℕ, List, length, ap, ◌∙◌, sym, subst, refl}
 use Rattle.std.specs.Prelude.{OnOk, Ok, ◌++◌, ◌∷◌, []}
 use Rattle.std.specs.Map.{keys_of}
-use Rattle.rs_catalog.specs.Catalogue.{room_in, room_for, with_index}
+use Rattle.rs_catalog.specs.Catalog.{room_in, room_for, with_index}
 use Rattle.rs_catalog.specs.Indexes.{IsRanking, making, rows_for, predicate_for}
 use Rattle.rs_catalog.specs.Inside.{IsRanked, catalogue_of}
 use Rattle.rs_catalog.specs.declared.index.IndexFault.TheVariants.{Memory}

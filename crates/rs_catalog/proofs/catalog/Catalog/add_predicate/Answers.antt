@@ -2,7 +2,7 @@
 use Rattle.std.proofs.Common.{◌≡◌, ap, ◌∙◌, subst}
 use Rattle.std.specs.Prelude.{OnOk, ◌++◌, ◌∷◌, []}
 use Rattle.std.specs.Map.{keys_of}
-use Rattle.rs_catalog.specs.Catalogue.{room_in, room_for}
+use Rattle.rs_catalog.specs.Catalog.{room_in, room_for}
 use Rattle.rs_catalog.specs.declared.room.What.TheVariants.{Predicate}
 use Rattle.rs_catalog.proofs.GrowthFacts.{IsInside-predicate_put}
 use Rattle.rs_catalog.proofs.NameFacts.{free_from_room}

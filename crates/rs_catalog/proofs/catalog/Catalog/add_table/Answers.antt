@@ -1,7 +1,7 @@
 -- A name for which there is room is new, and one more table may be inside.
 use Rattle.std.proofs.Common.{ap, ◌∙◌, sym}
 use Rattle.std.specs.Map.{keys_of}
-use Rattle.rs_catalog.specs.Catalogue.{room_in, room_for}
+use Rattle.rs_catalog.specs.Catalog.{room_in, room_for}
 use Rattle.rs_catalog.specs.declared.room.What.TheVariants.{Table}
 use Rattle.rs_catalog.proofs.GrowthFacts.{IsInside-table_put}
 use Rattle.rs_catalog.proofs.InsideFacts.{names_of_tables}

@@ -1,6 +1,6 @@
 -- The names of the tables are the keys.
 use Rattle.std.proofs.Common.{sym, ap, ◌∙◌}
-use Rattle.rs_catalog.specs.Catalogue.{place_of_name, number_named}
+use Rattle.rs_catalog.specs.Catalog.{place_of_name, number_named}
 use Rattle.rs_catalog.specs.declared.room.What.TheVariants.{Table}
 use Rattle.rs_catalog.proofs.InsideFacts.{names_of_tables}
 use Rattle.rs_catalog.proofs.catalog.Catalog.find.Goals as goal

@@ -1,6 +1,6 @@
 -- The names of the tables are the keys.
 use Rattle.std.proofs.Common.{sym, ap, ◌∙◌}
-use Rattle.rs_catalog.specs.Catalogue.{room_in, room_for}
+use Rattle.rs_catalog.specs.Catalog.{room_in, room_for}
 use Rattle.rs_catalog.specs.declared.room.What.TheVariants.{Table}
 use Rattle.rs_catalog.proofs.InsideFacts.{names_of_tables}
 use Rattle.rs_catalog.proofs.catalog.Catalog.room.Goals as goal

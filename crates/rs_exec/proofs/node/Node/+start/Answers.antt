@@ -1,5 +1,5 @@
 use Rattle.std.proofs.Common.{◌≡◌, ◌∙◌, ℕ, false, sym, ap, subst}
-use Rattle.rs_catalog.specs.Catalogue.{Catalogue}
+use Rattle.rs_catalog.specs.Catalog.{CatalogDef}
 use Rattle.rs_mu.specs.Mu.{IsNewTerm}
 use Rattle.rs_query.specs.WellFormed.{IsBlock}
 use Rattle.rs_query.specs.declared.block.Block.{Block}
@@ -18,11 +18,11 @@ use Rattle.rs_exec.proofs.PartMaskFacts.{can-join}
 use Rattle.rs_exec.proofs.node.Node.+start.Goals as goal
 
 -- what is a part of a plan of a block has the numbers of entries and terms
-numbers : (catalogue : Catalogue) (block : Block) (tree : PlanTree) → IsBlock catalogue block → IsPart catalogue block tree → HasNumbers tree
+numbers : (catalogue : CatalogDef) (block : Block) (tree : PlanTree) → IsBlock catalogue block → IsPart catalogue block tree → HasNumbers tree
 numbers catalogue block tree is part = part-numbers catalogue block tree is.most_entries is.most_terms part
 
 -- the term of a rank operator isn't evaluated below
-new-term : (catalogue : Catalogue) (block : Block) (term : ℕ) (child : PlanTree) → IsBlock catalogue block → IsPart catalogue block (Rank term child)
+new-term : (catalogue : CatalogDef) (block : Block) (term : ℕ) (child : PlanTree) → IsBlock catalogue block → IsPart catalogue block (Rank term child)
     → (below : ℕ) → below ≡ terms child → IsNewTerm below term
 new-term catalogue block term child is part below same = record {
   least = part.1.is_term.some;

@@ -20,16 +20,16 @@ pub record RankIndex : Type 0 where
   pub def : IndexDef
   pub ranking : List ScoredRow
 
-pub record Catalogue : Type 0 where
+pub record CatalogDef : Type 0 where
   pub tables : List NamedTable
   pub predicates : List PredicateDef
   pub indexes : List RankIndex
 
-abbrev pub empty : Catalogue
+abbrev pub empty : CatalogDef
 empty = record { tables = []; predicates = []; indexes = [] }
 
 -- the names of one list
-abbrev pub names_of : What → Catalogue → List (List ℕ)
+abbrev pub names_of : What → CatalogDef → List (List ℕ)
 names_of Table catalogue = map (λ t. t.name) catalogue.tables
 names_of Predicate catalogue = map (λ p. p.name) catalogue.predicates
 names_of Index catalogue = map (λ i. i.def.name) catalogue.indexes
@@ -45,7 +45,7 @@ abbrev pub place_of_name : List ℕ → List (List ℕ) → Option ℕ
 place_of_name name names = position (λ other. bytes_eq other name) names
 
 -- the number of what has this name
-abbrev pub number_named : What → List ℕ → Catalogue → Option ℕ
+abbrev pub number_named : What → List ℕ → CatalogDef → Option ℕ
 number_named what name catalogue = place_of_name name (names_of what catalogue)
 
 -- whether a list of names has this one
@@ -60,14 +60,14 @@ room_in name most names =
     else Ok tt
 
 -- whether one more of this name may join a list of the catalogue, or why not
-abbrev pub room_for : What → List ℕ → Catalogue → Result (Unit {0}) RoomFault
+abbrev pub room_for : What → List ℕ → CatalogDef → Result (Unit {0}) RoomFault
 room_for what name catalogue = room_in name (most_of what) (names_of what catalogue)
 
-abbrev pub with_table : List ℕ → Relation → Catalogue → Catalogue
+abbrev pub with_table : List ℕ → Relation → CatalogDef → CatalogDef
 with_table name table catalogue = record catalogue { tables = catalogue.tables ++ record { name = name; table = table } ∷ [] }
 
-abbrev pub with_predicate : PredicateDef → Catalogue → Catalogue
+abbrev pub with_predicate : PredicateDef → CatalogDef → CatalogDef
 with_predicate predicate catalogue = record catalogue { predicates = catalogue.predicates ++ predicate ∷ [] }
 
-abbrev pub with_index : IndexDef → List ScoredRow → Catalogue → Catalogue
+abbrev pub with_index : IndexDef → List ScoredRow → CatalogDef → CatalogDef
 with_index def ranking catalogue = record catalogue { indexes = catalogue.indexes ++ record { def = def; ranking = ranking } ∷ [] }
