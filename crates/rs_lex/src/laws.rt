@@ -1,7 +1,7 @@
 //! What the definitions say: laws that hold of every script. The functions compute nothing; each is called for its
 //! contract.
 
-ghost use Rattle.std.specs.Prelude.{◌≡◌, ◌<◌, ◌≤◌, ◌+◌, ◌∷◌, ℕ, All, List, drop, length, take};
+ghost use Rattle.std.specs.Prelude.{◌≡◌, ◌<◌, ◌≤◌, ◌+◌, ◌∷◌, ◌⊎◌, ℕ, All, List, drop, length, take};
 ghost use Rattle.rs_lex.specs.Bytes.{quote};
 ghost use Rattle.rs_lex.specs.Faults.{BeginsNoToken, BeginsOther, HasLetterBehind, IsFault, IsOpen, IsWide};
 ghost use Rattle.rs_lex.specs.Spelling.{RefusesBytes, Spells, most_tokens, token_at};
@@ -42,6 +42,12 @@ pub fn gaps_are_passed()
         → Spells (at + n) (drop n bytes) tokens → Spells at bytes tokens }
     ensures refused { (count at n : ℕ) (bytes : List ℕ) (fault : LexFault) → IsGap n bytes
         → RefusesBytes count (at + n) (drop n bytes) fault → RefusesBytes count at bytes fault }
+{}
+
+/// Each script spells tokens, no more than there may be, or it is refused.
+pub fn each_script_is_lexed_or_refused()
+    ensures { (script : List ℕ) → ((tokens : List Token) × (length tokens ≤ most_tokens) × Spells 0 script tokens)
+        ⊎ ((fault : LexFault) × RefusesBytes 0 0 script fault) }
 {}
 
 /// The bytes of a script spell one list of tokens at most.
