@@ -15,6 +15,8 @@ mod statement;
 pub use fault::SyntaxFault;
 pub use name::{Arg, ColRef, Name};
 pub use node::{Node, Op};
-pub use script::{one_list_of_statements, one_refusal, parse};
+pub use script::{
+    each_list_of_tokens_parses_or_is_refused, one_list_of_statements, one_refusal, parse,
+};
 pub use select::{BlockSyn, Items, Select, TermSyn};
 pub use statement::Statement;

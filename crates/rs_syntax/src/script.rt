@@ -112,3 +112,9 @@ pub fn one_refusal()
     ensures one { (text : List ℕ) (tokens : List Token) (a b : SyntaxFault) → Refuses text tokens a → Refuses text tokens b → a ≡ b }
     ensures sound { (text : List ℕ) (tokens : List Token) (a : SyntaxFault) → IsSound text tokens → Refuses text tokens a → ⊥ }
 {}
+
+/// Tokens parse to statements, and nothing is wrong with them, or they are refused.
+pub fn each_list_of_tokens_parses_or_is_refused()
+    ensures { (text : List ℕ) (tokens : List Token) → ((commands : List Command) × Parses text tokens commands × IsSound text tokens)
+        ⊎ ((fault : SyntaxFault) × Refuses text tokens fault) }
+{}
