@@ -54,6 +54,14 @@ by_front size next count at bytes le few (Bad n) is = refused count at bytes (Ba
 by_front size next count at bytes le few Open is = refused count at bytes (OpenText at) few (rw is tt) (λ room. open_text count at bytes room is)
 by_front size next count at bytes le few Wide is = refused count at bytes (NumberTooWide at) few (rw is tt) (λ room. too_wide count at bytes room is)
 
-pub each_is_lexed : (size : ℕ) → AreLexed size
+each_is_lexed : (size : ℕ) → AreLexed size
 each_is_lexed zero = λ count at bytes le few. inl ([], omega arith, nothing at bytes (front_of-end bytes (omega arith)))
 each_is_lexed (suc size) = λ count at bytes le few. by_front size (each_is_lexed size) count at bytes le few (front_of bytes) refl
+
+-- a whole script
+pub script-is_lexed : (script : List ℕ) → ((tokens : List Token) × (length tokens ≤ most_tokens) × Spells 0 script tokens) ⊎ ((fault : LexFault) × RefusesBytes 0 0 script fault)
+script-is_lexed script =
+    elim (each_is_lexed (length script) 0 0 script (omega arith) (omega arith)) [
+      | inl found ↦ inl (found.0, omega (arith, found.1), found.2)
+      | inr none ↦ inr none
+    ]

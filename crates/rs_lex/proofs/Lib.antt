@@ -1,6 +1,6 @@
 pub mod FrontFacts
 pub mod SpellingFacts
-mod EachFacts
+pub mod EachFacts
 pub mod WorkedFront
 mod WorkedSpelling
 pub mod TokenFacts

@@ -1,6 +1,6 @@
 -- A run over files of its own, beside the files outside.
-use Rattle.std.proofs.Common.{ℕ, ◌≡◌, ◌∙◌, ◌++◌, List, [], ◌∷◌, true, refl, sym, ap, subst, inl, inr}
-use Rattle.std.specs.Prelude.{Result, option_map, ◌⊎◌}
+use Rattle.std.proofs.Common.{ℕ, ◌≡◌, ◌∙◌, ◌++◌, List, [], ◌∷◌, true, refl, sym, ap, subst}
+use Rattle.std.specs.Prelude.{Result, Err, option_map}
 use Rattle.rs_value.specs.Outside.{Outside}
 use Rattle.rs_value.proofs.OutsideFacts.{Keeps-refl}
 use Rattle.rs_outside.specs.Files.{FilesTold}
@@ -9,15 +9,17 @@ use Rattle.rs_expr.specs.Scoring.{Answering, Made}
 use Rattle.rs_gen.specs.Files.{generated, script_name}
 use Rattle.rs_statement.specs.declared.evaluating.Evaluating.TheVariants.{Planned}
 use Rattle.rs_statement.specs.declared.fault.Fault.{Fault}
+use Rattle.rs_statement.specs.declared.fault.Fault.TheVariants.{Memory}
 use Rattle.rs_run.specs.Generated.{finds_generated, unfetched, without_fetches}
 use Rattle.rs_events.specs.Halts.{CallFailed, Done, Ended, FetchFailed, Halt, HaltsAt, NoMemory, PutFailed, fetched_more, halt_events}
 use Rattle.rs_statement.specs.Parts.Steps.{Ran, Runs}
-use Rattle.rs_events.specs.Events.{Event, Fetch, Put, Score, calls, fetches, finds_in, puts}
+use Rattle.rs_events.specs.Events.{Event, Fetch, Finds, Put, Score, calls, fetches, finds_in, puts}
 use Rattle.rs_statement.specs.Steps.{Run}
-use Rattle.rs_run.specs.Running.{IsCut, IsRunOf, IsScriptRun}
+use Rattle.rs_run.specs.Running.{IsRunOf, IsScriptRun}
 use Rattle.rs_run.specs.Words.{RunGenerated, RunScript}
 use Rattle.rs_events.specs.Environment.{Environment}
-use Rattle.rs_events.proofs.RanFacts.{names-none}
+use Rattle.rs_events.proofs.RanFacts.{Ran-first, names-none}
+use Rattle.rs_run.proofs.EachFacts.{each_generated}
 
 -- events without their fetches: nothing is fetched, and the calls and puts are those that were there
 fetches-without : (events : List Event) → fetches (without_fetches events) ≡ []
@@ -92,19 +94,22 @@ module _ (outside : Outside FilesTold) (old new : Environment) where
 
   -- the script of this name, which was run over the generated files
   pub Runs-generated : (answer : Answering) (number rows : ℕ) (name : List ℕ) (result : Result (Unit {0}) Fault) → name ≡ script_name → old.files ≡ files_state (generated number rows)
-      → Runs (λ run. IsRunOf (finds_in old.files.told) answer (RunScript name (Planned number)) run ⊎ IsCut (RunScript name (Planned number)) run) result old new
-      → Runs (λ run. IsRunOf (finds_in outside.told) answer (RunGenerated number rows) run ⊎ IsCut (RunGenerated number rows) run) result
+      → Runs (IsRunOf (finds_in old.files.told) answer (RunScript name (Planned number))) result old new
+      → Runs (IsRunOf (finds_in outside.told) answer (RunGenerated number rows)) result
       (beside outside old) (beside outside new)
   Runs-generated answer number rows name result named same ran = record {
     run = unfetched ran.run;
-    is = elim ran.is [
-      | inl is ↦ inl (
-        ran.run,
-        subst (λ (name : List ℕ). IsScriptRun (finds_generated number rows) answer name (Planned number) ran.run) named
-            (subst (λ (files : Outside FilesTold). IsScriptRun (finds_in files.told) answer name (Planned number) ran.run) same is),
-        refl,
-      )
-      | inr cut ↦ inr (ap unfetched cut)
-    ];
+    is = (
+      ran.run,
+      subst (λ (name : List ℕ). IsScriptRun (finds_generated number rows) answer name (Planned number) ran.run) named
+          (subst (λ (files : Outside FilesTold). IsScriptRun (finds_in files.told) answer name (Planned number) ran.run) same ran.is),
+      refl,
+    );
     ran = Ran-beside (ap (λ (files : Outside FilesTold). files.steady) same) ran.run result ran.ran;
   }
+
+-- there was no memory for the script or its files: nothing was done
+pub Runs-generated_none : (finds : Finds) (answer : Answering) (number rows : ℕ) (environment : Environment) → Runs (IsRunOf finds answer (RunGenerated number rows)) (Err Memory) environment environment
+Runs-generated_none finds answer number rows environment =
+    let each = each_generated finds answer number rows in
+    record { run = each.0; is = each.1; ran = Ran-first each.0 environment }

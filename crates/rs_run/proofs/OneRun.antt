@@ -84,6 +84,6 @@ IsRunOf-one finds one answer (RunGenerated number rows) run other p q =
 
 pub IsRun-one : (finds : Finds) → OneFile finds → (answer : Answering) (words : List (List ℕ)) (run other : WordsRun) → IsRun finds answer words run → IsRun finds answer words other → run ≡ other
 IsRun-one finds one answer words run other = go (form_of words) where
-  go : (form : Option Form) → OfForm (IsRunOf finds answer) form run → OfForm (IsRunOf finds answer) form other → run ≡ other
+  go : (form : Option Form) → OfForm finds answer form run → OfForm finds answer form other → run ≡ other
   go None p q = p ∙ sym q
   go (Some form) p q = p.2 ∙ ap (with_fault Statement) (IsRunOf-one finds one answer form p.0 q.0 p.1 q.1) ∙ sym q.2

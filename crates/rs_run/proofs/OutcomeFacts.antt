@@ -15,7 +15,7 @@ use Rattle.rs_run.specs.declared.status.Status.{Status}
 use Rattle.rs_run.specs.declared.status.Status.TheVariants as status
 use Rattle.rs_run.specs.Faults.{WordsRun, run_faults, status_of}
 use Rattle.rs_run.specs.Outcome.{HasCause, Outcome, Reports, RunEnds, RunsTo}
-use Rattle.rs_run.specs.Running.{IsCut, IsRunOf, IsRunOrCut, OfForm}
+use Rattle.rs_run.specs.Running.{IsRun, OfForm}
 use Rattle.rs_run.specs.Words.{Form, form_of}
 use Rattle.rs_statement.proofs.OwnFaults.{IsOwn}
 use Rattle.rs_run.proofs.OwnRuns.{OwnFault, own_fault}
@@ -157,7 +157,7 @@ module _ (run : WordsRun) (s : Status) (old new : Environment) (o : Reported run
   }
 
 -- what follows of the outcome of a run of these words
-module _ (words : List (List ℕ)) (run : WordsRun) (s : Status) (old new : Environment) (is_run : IsRunOrCut (finds_in old.files.told) old.scorer.answer words run)
+module _ (words : List (List ℕ)) (run : WordsRun) (s : Status) (old new : Environment) (is_run : IsRun (finds_in old.files.told) old.scorer.answer words run)
     (o : Reported run s old new) where
   own : OwnFault words run.fault
   own = own_fault (finds_in old.files.told) old.scorer.answer words run is_run
@@ -177,7 +177,7 @@ module _ (words : List (List ℕ)) (run : WordsRun) (s : Status) (old new : Envi
   outcome-usage : form_of words ≡ None → (s ≡ status.Usage) ⊎ (s ≡ status.Memory)
   outcome-usage none = of_halt o.halt o.is_fault o.did.halts where
     run_is : run ≡ fails Usage
-    run_is = subst (λ form. OfForm (λ form own. IsRunOf (finds_in old.files.told) old.scorer.answer form own ⊎ IsCut form own) form run) none is_run
+    run_is = subst (λ form. OfForm (finds_in old.files.told) old.scorer.answer form run) none is_run
 
     no_rest : (done rest : List Event) → [] ≡ done ++ rest → rest ≡ []
     no_rest [] rest e = sym e
@@ -227,7 +227,7 @@ pub record Tells (words : List (List ℕ)) (s : Status) (old new : Environment) 
   pub probe : s ≡ status.Probe → Faulted old.scorer.outside new.scorer.outside
   pub keeps : KeepsEnvironment old new
 
-tells : (words : List (List ℕ)) (run : WordsRun) (s : Status) (old new : Environment) → IsRunOrCut (finds_in old.files.told) old.scorer.answer words run
+tells : (words : List (List ℕ)) (run : WordsRun) (s : Status) (old new : Environment) → IsRun (finds_in old.files.told) old.scorer.answer words run
     → Reported run s old new → KeepsEnvironment old new → Tells words s old new
 tells words run s old new is o keeps = record {
   run = (run, is, outcome-of run s old new o);
@@ -239,7 +239,7 @@ tells words run s old new is o keeps = record {
 }
 
 -- of a call that answers without a fault, and of one that answers a fault that is reported
-pub tells-ok : (words : List (List ℕ)) (old new : Environment) → new.err ≡ old.err → Runs run_faults (IsRunOrCut (finds_in old.files.told) old.scorer.answer words) (Ok tt) old new
+pub tells-ok : (words : List (List ℕ)) (old new : Environment) → new.err ≡ old.err → Runs run_faults (IsRun (finds_in old.files.told) old.scorer.answer words) (Ok tt) old new
     → Tells words status.Done old new
 tells-ok words old new same ran =
     tells words ran.run status.Done old new ran.is
@@ -269,7 +269,7 @@ Did-err events halt old new err did = record {
   halts (CallFailed call) rest h = h
 
 pub tells-fault : (words : List (List ℕ)) (fault : RunFault) (s : Status) (old new : Environment) (err : Outside (List (List ℕ))) → Reports (Some fault) s old.err err → Keeps old.err err
-    → Runs run_faults (IsRunOrCut (finds_in old.files.told) old.scorer.answer words) (Err fault) old new → Tells words s old (record new { err = err })
+    → Runs run_faults (IsRun (finds_in old.files.told) old.scorer.answer words) (Err fault) old new → Tells words s old (record new { err = err })
 tells-fault words fault s old new err reports keeps ran =
     tells words ran.run s old (record new { err = err }) ran.is
     (record {

@@ -20,7 +20,7 @@ use Rattle.rs_events.specs.Events.{Finds}
 use Rattle.rs_statement.specs.Steps.{Run}
 use Rattle.rs_events.specs.Run.{fetch_then}
 use Rattle.rs_run.specs.Generated.{finds_generated}
-use Rattle.rs_run.specs.Running.{IsRunOf, IsRunOrCut, IsCut, OfForm}
+use Rattle.rs_run.specs.Running.{IsRun, IsRunOf, OfForm}
 use Rattle.rs_statement.specs.Faults.{or_index_fault}
 use Rattle.rs_statement.specs.Lines.{rank_lines}
 use Rattle.rs_statement.specs.declared.evaluating.Evaluating.{Evaluating}
@@ -79,20 +79,17 @@ unfolding Own OwnEnd
 OwnEnd-lines name (Ok lines) own = tt
 OwnEnd-lines name (Err fault) own = own
 
-OwnEnd-form : (finds : Finds) (answer : Answering) (form : Form) (run : Run) → IsRunOf finds answer form run ⊎ IsCut form run → OwnEnd run.fault
+OwnEnd-form : (finds : Finds) (answer : Answering) (form : Form) (run : Run) → IsRunOf finds answer form run → OwnEnd run.fault
 unfolding OwnEnd IsOwn
-OwnEnd-form finds answer (Top top) run (inl is) = subst (λ (r : Run). OwnEnd r.fault) (sym is.2) (OwnEnd-lines top.file (top_lines top is.0) (Own-top top is.0))
-OwnEnd-form finds answer (Top top) run (inr cut) = absurd cut
-OwnEnd-form finds answer (RunScript name evaluating) run (inl is) = Own-script finds answer evaluating name run is
-OwnEnd-form finds answer (RunScript name evaluating) run (inr cut) = subst (λ (r : Run). OwnEnd r.fault) (sym cut) tt
-OwnEnd-form finds answer (RunGenerated number rows) run (inl is) =
+OwnEnd-form finds answer (Top top) run is = subst (λ (r : Run). OwnEnd r.fault) (sym is.2) (OwnEnd-lines top.file (top_lines top is.0) (Own-top top is.0))
+OwnEnd-form finds answer (RunScript name evaluating) run is = Own-script finds answer evaluating name run is
+OwnEnd-form finds answer (RunGenerated number rows) run is =
     subst (λ (r : Run). OwnEnd r.fault) (sym is.2) (Own-script (finds_generated number rows) answer (Planned number) script_name is.0 is.1)
-OwnEnd-form finds answer (RunGenerated number rows) run (inr cut) = subst (λ (r : Run). OwnEnd r.fault) (sym cut) tt
 
-pub own_fault : (finds : Finds) (answer : Answering) (words : List (List ℕ)) (run : WordsRun) → IsRunOrCut finds answer words run → OwnFault words run.fault
+pub own_fault : (finds : Finds) (answer : Answering) (words : List (List ℕ)) (run : WordsRun) → IsRun finds answer words run → OwnFault words run.fault
 unfolding OwnFault
 own_fault finds answer words run = go (form_of words) refl where
-  go : (form : Option Form) → form_of words ≡ form → OfForm (λ form own. IsRunOf finds answer form own ⊎ IsCut form own) form run → OwnFault words run.fault
+  go : (form : Option Form) → form_of words ≡ form → OfForm finds answer form run → OwnFault words run.fault
   go None is_form is = subst (λ (r : WordsRun). OwnFault words r.fault) (sym is) is_form
   go (Some form) is_form is =
       subst (λ (r : WordsRun). OwnFault words r.fault) (sym is.2) (OwnFault-end words is.0.fault (OwnEnd-form finds answer form is.0 is.1))

@@ -16,7 +16,7 @@ use Rattle.rs_events.specs.Events.{Event, Fetch, Finds, Put, finds_in}
 use Rattle.rs_events.specs.Run.{fails, fetch_then, lines_run, with_fault}
 use Rattle.rs_events.specs.HaltFaults.{TellAs}
 use Rattle.rs_events.specs.Running as running
-use Rattle.rs_run.specs.Running.{IsCut, IsRunOf, IsRunOrCut, OfForm}
+use Rattle.rs_run.specs.Running.{IsRun, IsRunOf, OfForm}
 use Rattle.rs_events.specs.Environment.{Environment}
 use Rattle.rs_statement.specs.Steps.{Run, statement_faults}
 use Rattle.rs_run.specs.declared.fault.RunFault.TheVariants.{Statement, Usage}
@@ -82,18 +82,18 @@ statement-faults = record { memory = refl; write = refl; failed_call = λ call. 
 
 -- a run of words whose form is known
 module _ (finds : Finds) (answer : Answering) (words : List (List ℕ)) (form : Form) (old new : Environment) (is_form : form_of words ≡ Some form) where
-  is-run : (own : Run) → IsRunOf finds answer form own ⊎ IsCut form own → IsRunOrCut finds answer words (with_fault Statement own)
-  is-run own is = subst (λ form. OfForm (λ form own. IsRunOf finds answer form own ⊎ IsCut form own) form (with_fault Statement own)) (sym is_form) (own, is, refl)
+  is-run : (own : Run) → IsRunOf finds answer form own → IsRun finds answer words (with_fault Statement own)
+  is-run own is = subst (λ form. OfForm finds answer form (with_fault Statement own)) (sym is_form) (own, is, refl)
 
-  pub Runs-form_ok : Runs (λ own. IsRunOf finds answer form own ⊎ IsCut form own) (Ok tt) old new → running.Runs run_faults (IsRunOrCut finds answer words) (Ok tt) old new
+  pub Runs-form_ok : Runs (IsRunOf finds answer form) (Ok tt) old new → running.Runs run_faults (IsRun finds answer words) (Ok tt) old new
   Runs-form_ok ran = record {
     run = with_fault Statement ran.run;
     is = is-run ran.run ran.is;
     ran = Ran-told_ok Statement statement_faults run_faults statement-faults ran.run old new ran.ran;
   }
 
-  pub Runs-form_err : (fault : Fault) → Runs (λ own. IsRunOf finds answer form own ⊎ IsCut form own) (Err fault) old new
-      → running.Runs run_faults (IsRunOrCut finds answer words) (Err (Statement fault)) old new
+  pub Runs-form_err : (fault : Fault) → Runs (IsRunOf finds answer form) (Err fault) old new
+      → running.Runs run_faults (IsRun finds answer words) (Err (Statement fault)) old new
   Runs-form_err fault ran = record {
     run = with_fault Statement ran.run;
     is = is-run ran.run ran.is;
@@ -102,14 +102,9 @@ module _ (finds : Finds) (answer : Answering) (words : List (List ℕ)) (form : 
 
 -- words of no form
 pub Runs-usage : (finds : Finds) (answer : Answering) (words : List (List ℕ)) (environment : Environment) → form_of words ≡ None
-    → running.Runs run_faults (IsRunOrCut finds answer words) (Err Usage) environment environment
+    → running.Runs run_faults (IsRun finds answer words) (Err Usage) environment environment
 Runs-usage finds answer words environment is_form = record {
   run = fails Usage;
-  is = subst (λ form. OfForm (λ form own. IsRunOf finds answer form own ⊎ IsCut form own) form (fails Usage)) (sym is_form) refl;
+  is = subst (λ form. OfForm finds answer form (fails Usage)) (sym is_form) refl;
   ran = Ran-all (fails Usage) (Err Usage) environment environment (HasDone-none environment) (inl refl);
 }
-
--- what is so of all runs of a form is so of the run that it has
-pub Runs-whole : (finds : Finds) (answer : Answering) (form : Form) (result : Result (Unit {0}) Fault) (old new : Environment) → Runs (IsRunOf finds answer form) result old new
-    → Runs (λ own. IsRunOf finds answer form own ⊎ IsCut form own) result old new
-Runs-whole finds answer form result old new ran = record { run = ran.run; is = inl ran.is; ran = ran.ran }

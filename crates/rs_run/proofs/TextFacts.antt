@@ -17,21 +17,22 @@ use Rattle.rs_statement.specs.declared.fault.Fault.{Fault}
 use Rattle.rs_statement.specs.declared.fault.Fault.TheVariants.{Memory}
 use Rattle.rs_statement.specs.Faults.{lex_fault, parse_fault}
 use Rattle.rs_events.specs.Fetching.{FetchFails, Fetched, NotFetched}
-use Rattle.rs_statement.specs.Parts.Steps.{FetchesFile, Runs}
+use Rattle.rs_statement.specs.Parts.Steps.{FetchesFile, Ran, Runs}
 use Rattle.rs_run.specs.Parts.Read.{IsSource}
 use Rattle.rs_run.specs.Plain.{HasTokens, TextRuns, read, runs, unlexed, unparsed, unread}
 use Rattle.rs_events.specs.Events.{Event, Fetch, Finds, finds_in}
 use Rattle.rs_statement.specs.Steps.{Run, statement_faults}
-use Rattle.rs_events.specs.Run.{behind, fails, fetch_then}
-use Rattle.rs_run.specs.Running.{IsCut, IsRunOf}
+use Rattle.rs_events.specs.Run.{behind, fails}
+use Rattle.rs_run.specs.Running.{IsRunOf}
 use Rattle.rs_events.specs.Sequence.{RunOf, RunsOn}
 use Rattle.rs_statement.specs.declared.evaluating.Evaluating.{Evaluating}
 use Rattle.rs_statement.specs.Session.{DoesInSession, State, StatementsRun, nothing}
 use Rattle.rs_run.specs.Words.{RunScript}
 use Rattle.rs_events.specs.Environment.{Environment}
 use Rattle.rs_events.proofs.FetchFacts.{Ran-unfetched, fetched-ok}
-use Rattle.rs_events.proofs.RanFacts.{HasDone-none, Ran-all, Ran-behind}
+use Rattle.rs_events.proofs.RanFacts.{HasDone-none, Ran-all, Ran-behind, Ran-first}
 use Rattle.rs_statement.proofs.StatementFacts.{DoesInSession-finds, finds-after}
+use Rattle.rs_run.proofs.EachFacts.{each_script, finds_in-has}
 
 -- the lexer refuses the text
 unlexed-runs : (statements : List Command → Run → Type 0) (script : List ℕ) (why : LexFault) → (why ≡ lex.Memory) ⊎ spelling.RefusesBytes 0 0 script why
@@ -51,41 +52,42 @@ unparsed-runs statements script tokens (syntax.TooDeep at) lexed refused = elim 
 unparsed-runs statements script tokens (syntax.TooManyStatements at) lexed refused = elim refused [ inl e ↦ absurd cc | inr r ↦ inl (unparsed tokens _ lexed r) ]
 unparsed-runs statements script tokens (syntax.NotInProfile at) lexed refused = elim refused [ inl e ↦ absurd cc | inr r ↦ inl (unparsed tokens _ lexed r) ]
 
--- a run of a text
-abbrev pub IsText : (List Command → Run → Type 0) → List ℕ → Run → Type 0
-IsText statements script run = TextRuns statements script run ⊎ (run ≡ fails Memory)
-
-Text-fails : (statements : List Command → Run → Type 0) (script : List ℕ) (fault : Fault) (environment : Environment) → TextRuns statements script (fails fault) ⊎ (fault ≡ Memory)
-    → Runs (IsText statements script) (Err fault) environment environment
-Text-fails statements script fault environment is = record {
+Text-fails : (statements : List Command → Run → Type 0) (script : List ℕ) → ((run : Run) × TextRuns statements script run) → (fault : Fault) (environment : Environment)
+    → TextRuns statements script (fails fault) ⊎ (fault ≡ Memory) → Runs (TextRuns statements script) (Err fault) environment environment
+Text-fails statements script each fault environment (inl is) = record {
   run = fails fault;
-  is = elim is [ inl r ↦ inl r | inr e ↦ inr (ap fails e) ];
+  is = is;
   ran = Ran-all (fails fault) (Err fault) environment environment (HasDone-none environment) (inl refl);
 }
+Text-fails statements script each fault environment (inr memory) = record {
+  run = each.0;
+  is = each.1;
+  ran = subst (λ fault. Ran each.0 (Err fault) environment environment) (sym memory) (Ran-first each.0 environment);
+}
 
-pub Text-unlexed : (statements : List Command → Run → Type 0) (script : List ℕ) (why : LexFault) (result : Result (Unit {0}) Fault) (environment : Environment)
-    → IsErr result × IsErrAnd result (λ fault. fault ≡ lex_fault why) → (why ≡ lex.Memory) ⊎ spelling.RefusesBytes 0 0 script why
-    → Runs (IsText statements script) result environment environment
-Text-unlexed statements script why (Ok done) environment err refused = absurd err.1
-Text-unlexed statements script why (Err fault) environment err refused =
-    subst (λ fault. Runs (IsText statements script) (Err fault) environment environment) (sym err.1)
-    (Text-fails statements script (lex_fault why) environment (unlexed-runs statements script why refused))
+pub Text-unlexed : (statements : List Command → Run → Type 0) (script : List ℕ) → ((run : Run) × TextRuns statements script run) → (why : LexFault) (result : Result (Unit {0}) Fault)
+    (environment : Environment) → IsErr result × IsErrAnd result (λ fault. fault ≡ lex_fault why) → (why ≡ lex.Memory) ⊎ spelling.RefusesBytes 0 0 script why
+    → Runs (TextRuns statements script) result environment environment
+Text-unlexed statements script each why (Ok done) environment err refused = absurd err.1
+Text-unlexed statements script each why (Err fault) environment err refused =
+    subst (λ fault. Runs (TextRuns statements script) (Err fault) environment environment) (sym err.1)
+    (Text-fails statements script each (lex_fault why) environment (unlexed-runs statements script why refused))
 
-pub Text-unparsed : (statements : List Command → Run → Type 0) (script : List ℕ) (tokens : List Token) (why : SyntaxFault) (result : Result (Unit {0}) Fault) (environment : Environment)
-    → IsErr result × IsErrAnd result (λ fault. fault ≡ parse_fault why) → HasTokens script tokens → (why ≡ syntax.Memory) ⊎ Refuses script tokens why
-    → Runs (IsText statements script) result environment environment
-Text-unparsed statements script tokens why (Ok done) environment err lexed refused = absurd err.1
-Text-unparsed statements script tokens why (Err fault) environment err lexed refused =
-    subst (λ fault. Runs (IsText statements script) (Err fault) environment environment) (sym err.1)
-    (Text-fails statements script (parse_fault why) environment (unparsed-runs statements script tokens why lexed refused))
+pub Text-unparsed : (statements : List Command → Run → Type 0) (script : List ℕ) → ((run : Run) × TextRuns statements script run) → (tokens : List Token) (why : SyntaxFault)
+    (result : Result (Unit {0}) Fault) (environment : Environment) → IsErr result × IsErrAnd result (λ fault. fault ≡ parse_fault why) → HasTokens script tokens
+    → (why ≡ syntax.Memory) ⊎ Refuses script tokens why → Runs (TextRuns statements script) result environment environment
+Text-unparsed statements script each tokens why (Ok done) environment err lexed refused = absurd err.1
+Text-unparsed statements script each tokens why (Err fault) environment err lexed refused =
+    subst (λ fault. Runs (TextRuns statements script) (Err fault) environment environment) (sym err.1)
+    (Text-fails statements script each (parse_fault why) environment (unparsed-runs statements script tokens why lexed refused))
 
 -- the tokens parse, and the statements were run
 pub Text-runs : (statements : List Command → Run → Type 0) (script : List ℕ) (tokens : List Token) (commands : List Command) (result : Result (Unit {0}) Fault) (old new : Environment)
     → HasTokens script tokens → Parses script tokens commands → IsSound script tokens → Runs (statements commands) result old new
-    → Runs (IsText statements script) result old new
+    → Runs (TextRuns statements script) result old new
 Text-runs statements script tokens commands result old new lexed parsed sound ran = record {
   run = ran.run;
-  is = inl (runs commands ran.run (record { tokens = tokens; lexed = lexed; parsed = parsed; sound = sound }) ran.is);
+  is = runs commands ran.run (record { tokens = tokens; lexed = lexed; parsed = parsed; sound = sound }) ran.is;
   ran = ran.ran;
 }
 
@@ -118,44 +120,41 @@ TextRuns-turn a b turn script run (runs commands _ made is) = runs commands run 
 module _ (answer : Answering) (evaluating : Evaluating) (name : List ℕ) (environment : Environment) (files : Outside FilesTold) where
   -- there was no script
   pub Script-unread : (fault : Fault) → FetchesFile {A = List ℕ} name (Err fault) (IsSource name) environment.files files
-      → Runs (λ run. IsRunOf (finds_in environment.files.told) answer (RunScript name evaluating) run ⊎ IsCut (RunScript name evaluating) run) (Err fault) environment (record environment { files = files })
+      → Runs (IsRunOf (finds_in environment.files.told) answer (RunScript name evaluating)) (Err fault) environment (record environment { files = files })
   Script-unread fault f = go f.does where
-    cut : (NotFetched {A = List ℕ} Memory (Err fault) environment.files files ⊎ FetchFails {A = List ℕ} Memory (statement_faults.IsFailedFetch name) name (Err fault) environment.files files)
-        ⊎ Fetched {A = List ℕ} Memory name (λ r. r ≡ Err Memory) (Err fault) environment.files files
-        → Runs (λ run. IsRunOf (finds_in environment.files.told) answer (RunScript name evaluating) run ⊎ IsCut (RunScript name evaluating) run) (Err fault) environment (record environment { files = files })
-    cut does = record {
-      run = fetch_then name (Err Memory);
-      is = inr refl;
-      ran = Ran-unfetched environment files name fault (λ there r. ◌≡◌ {A = Result (List ℕ) Fault} r (Err Memory)) (fetch_then name (Err Memory)) []
-          (record { there = f.there; is_told = f.is_told; does = does; keeps = f.keeps }) refl
-          (λ e. ap (λ fault. fetch_then name (Err fault)) (let same : Memory ≡ fault = cc in same));
-    }
+    -- the fetch failed, or there was no memory for the text
+    broken : (NotFetched {A = List ℕ} Memory (Err fault) environment.files files ⊎ FetchFails {A = List ℕ} Memory (statement_faults.IsFailedFetch name) name (Err fault) environment.files files)
+        ⊎ Fetched {A = List ℕ} Memory name (λ r. ⊥) (Err fault) environment.files files
+        → Runs (IsRunOf (finds_in environment.files.told) answer (RunScript name evaluating)) (Err fault) environment (record environment { files = files })
+    broken does =
+        let each = each_script (finds_in environment.files.told) (finds_in-has environment.files.told) answer evaluating name f.there f.is_told in record {
+          run = each.0;
+          is = each.2;
+          ran = Ran-unfetched environment files name fault (λ there r. ⊥) each.0 each.1 (record { there = f.there; is_told = f.is_told; does = does; keeps = f.keeps }) each.3 (λ no. absurd no);
+        }
 
     go : (NotFetched {A = List ℕ} Memory (Err fault) environment.files files ⊎ FetchFails {A = List ℕ} Memory (statement_faults.IsFailedFetch name) name (Err fault) environment.files files) ⊎ Fetched Memory name (IsSource name f.there) (Err fault) environment.files files
-        → Runs (λ run. IsRunOf (finds_in environment.files.told) answer (RunScript name evaluating) run ⊎ IsCut (RunScript name evaluating) run) (Err fault) environment (record environment { files = files })
-    go (inl broken) = cut (inl broken)
+        → Runs (IsRunOf (finds_in environment.files.told) answer (RunScript name evaluating)) (Err fault) environment (record environment { files = files })
+    go (inl none) = broken (inl none)
     go (inr fetched) = elim fetched.answers [
       | inl e ↦ record {
         run = behind (Fetch name ∷ []) (fails fault);
-        is = inl (unread f.there fault f.is_told (sym e));
+        is = unread f.there fault f.is_told (sym e);
         ran = Ran-unfetched environment files name fault (IsSource name) (behind (Fetch name ∷ []) (fails fault)) [] f refl (λ e. refl);
       }
-      | inr e ↦ cut (inr (record { fetched = fetched.fetched; answers = inr e }))
+      | inr e ↦ broken (inr (record { fetched = fetched.fetched; answers = inr e }))
     ]
 
   -- the script was read, and its text was run
   pub Script-read : (script : List ℕ) (result : Result (Unit {0}) Fault) (new : Environment) → FetchesFile name (Ok script) (IsSource name) environment.files files
-      → Runs (IsText (StatementsRun (finds_in files.told) answer evaluating) script) result (record environment { files = files }) new
-      → Runs (λ run. IsRunOf (finds_in environment.files.told) answer (RunScript name evaluating) run ⊎ IsCut (RunScript name evaluating) run) result environment new
+      → Runs (TextRuns (StatementsRun (finds_in files.told) answer evaluating) script) result (record environment { files = files }) new
+      → Runs (IsRunOf (finds_in environment.files.told) answer (RunScript name evaluating)) result environment new
   Script-read script result new f text =
       let source = fetched-ok environment files name script (IsSource name) f in record {
         run = behind (Fetch name ∷ []) text.run;
-        is = elim text.is [
-          | inl is ↦ inl (read f.there script text.run f.is_told (sym source.given)
-              (TextRuns-turn (StatementsRun (finds_in files.told) answer evaluating) (StatementsRun (finds_in environment.files.told) answer evaluating)
-              (λ commands run. RunOf-finds (finds_in files.told) (finds_in environment.files.told) (finds-after environment.files.told files.told (name ∷ []) source.has.all.fetched) answer evaluating nothing commands run)
-              script text.run is))
-          | inr e ↦ inr (ap (behind (Fetch name ∷ [])) e)
-        ];
+        is = read f.there script text.run f.is_told (sym source.given)
+            (TextRuns-turn (StatementsRun (finds_in files.told) answer evaluating) (StatementsRun (finds_in environment.files.told) answer evaluating)
+            (λ commands run. RunOf-finds (finds_in files.told) (finds_in environment.files.told) (finds-after environment.files.told files.told (name ∷ []) source.has.all.fetched) answer evaluating nothing commands run)
+            script text.run text.is);
         ran = Ran-behind (Fetch name ∷ []) text.run result environment (record environment { files = files }) new source.has text.ran;
       }

@@ -10,7 +10,7 @@ use Rattle.rs_run.specs.declared.fault.RunFault.{RunFault}
 use Rattle.rs_run.specs.declared.status.Status.{Status}
 use Rattle.rs_run.specs.declared.status.Status.TheVariants as statuses
 use Rattle.rs_run.specs.Faults.{WordsRun, run_fault_line, run_faults, status_of}
-use Rattle.rs_run.specs.Running.{IsRunOrCut}
+use Rattle.rs_run.specs.Running.{IsRun}
 
 -- one line was put; where the sink failed, a part of it
 pub record PutsLine (line : List ℕ) (old new : Outside (List (List ℕ))) : Type 0 where
@@ -53,7 +53,6 @@ pub record Outcome (run : WordsRun) (status : Status) (old new : Environment) : 
   pub well : status ≡ statuses.Done → (run.fault ≡ None) × Done run.events old new
   pub complete : NoneFailed old new → RunEnds run status old new ⊎ (status ≡ statuses.Memory)
 
--- the run of these words, over what the files tell at first and what the scorer answers, had this outcome; where there was no memory to tell what a script
--- does, its run up to there
+-- the run of these words, over what the files tell at first and what the scorer answers, had this outcome
 abbrev pub RunsTo : List (List ℕ) → Status → Environment → Environment → Type 0
-RunsTo words status old new = (run : WordsRun) × IsRunOrCut (finds_in old.files.told) old.scorer.answer words run × Outcome run status old new
+RunsTo words status old new = (run : WordsRun) × IsRun (finds_in old.files.told) old.scorer.answer words run × Outcome run status old new

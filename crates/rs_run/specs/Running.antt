@@ -1,12 +1,11 @@
 -- The run of the words of a command line.
-use Rattle.std.specs.Prelude.{ℕ, ◌≡◌, ◌⊎◌, List, Option, Some, None, Ok, Err}
+use Rattle.std.specs.Prelude.{ℕ, ◌≡◌, List, Option, Some, None, Ok}
 use Rattle.std.specs.List.{AllByRecursion}
 use Rattle.rs_gen.specs.Files.{script_name}
 use Rattle.rs_run.specs.Generated.{finds_generated, unfetched}
 use Rattle.rs_statement.specs.declared.evaluating.Evaluating.{Evaluating}
 use Rattle.rs_statement.specs.declared.evaluating.Evaluating.TheVariants.{Planned}
 use Rattle.rs_syntax.specs.Syntax.{Command}
-use Rattle.rs_statement.specs.declared.fault.Fault.TheVariants.{Memory}
 use Rattle.rs_run.specs.Faults.{WordsRun}
 use Rattle.rs_run.specs.declared.fault.RunFault.TheVariants.{Statement, Usage}
 use Rattle.rs_run.specs.Words.{Form, RunGenerated, RunScript, Top, form_of}
@@ -34,24 +33,14 @@ IsRunOf finds answer (Top top) run = (there : Option (List ℕ)) × finds top.fi
 IsRunOf finds answer (RunScript name evaluating) run = IsScriptRun finds answer name evaluating run
 IsRunOf finds answer (RunGenerated number rows) run = IsGeneratedRun answer number rows run
 
--- what is done of a script where there is no memory to tell what it does: its file is fetched, and nothing more; of one that is generated, nothing
-abbrev pub IsCut : Form → Run → Type 0
-IsCut (Top top) run = ⊥
-IsCut (RunScript name evaluating) run = run ≡ fetch_then name (Err Memory)
-IsCut (RunGenerated number rows) run = run ≡ fails Memory
-
--- a run of words whose form has this run; where they are of no form, it ends at once
-abbrev pub OfForm : (Form → Run → Type 0) → Option Form → WordsRun → Type 0
-OfForm is None run = run ≡ fails Usage
-OfForm is (Some form) run = (own : Run) × is form own × (run ≡ with_fault Statement own)
+-- the run of words of this form; where they are of none, it ends at once
+abbrev pub OfForm : Finds → Answering → Option Form → WordsRun → Type 0
+OfForm finds answer None run = run ≡ fails Usage
+OfForm finds answer (Some form) run = (own : Run) × IsRunOf finds answer form own × (run ≡ with_fault Statement own)
 
 -- the run of these words
 abbrev pub IsRun : Finds → Answering → List (List ℕ) → WordsRun → Type 0
-IsRun finds answer words run = OfForm (IsRunOf finds answer) (form_of words) run
-
--- the run of these words; or, where there was no memory to tell what a script does, what is done of it
-abbrev pub IsRunOrCut : Finds → Answering → List (List ℕ) → WordsRun → Type 0
-IsRunOrCut finds answer words run = OfForm (λ form own. IsRunOf finds answer form own ⊎ IsCut form own) (form_of words) run
+IsRun finds answer words run = OfForm finds answer (form_of words) run
 
 -- the script under a name has no statement that is EXPLAIN or EXPLAIN ANALYZE
 abbrev pub HasNoExplain : Finds → List ℕ → Type 0

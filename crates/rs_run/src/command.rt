@@ -7,7 +7,7 @@ ghost use Rattle.rs_statement.specs.Parts.Steps.{Runs};
 ghost use Rattle.rs_run.specs.Faults.{run_faults};
 ghost use Rattle.rs_run.specs.Outcome.{RunsTo};
 ghost use Rattle.rs_run.specs.Parts.Command.{form_of_command};
-ghost use Rattle.rs_run.specs.Running.{IsCut, IsRunOf, IsRunOrCut};
+ghost use Rattle.rs_run.specs.Running.{IsRun, IsRunOf};
 ghost use Rattle.rs_run.specs.Words.{RunGenerated, form_of};
 
 use crate::fault::RunFault;
@@ -71,7 +71,7 @@ fn answer<F: Files, S: Scorer, O: Sink>(
     scorer: &mut S,
     out: &mut O,
 ) -> Result<(), RunFault>
-    ensures does { (beside : Environment) → running.Runs run_faults (IsRunOrCut (finds_in (F.state files.old).told) (S.state scorer.old).answer words.now) result
+    ensures does { (beside : Environment) → running.Runs run_faults (IsRun (finds_in (F.state files.old).told) (S.state scorer.old).answer words.now) result
         (record beside { files = F.state files.old; scorer = S.state scorer.old; out = O.state out.old })
         (record beside { files = F.state files.new; scorer = S.state scorer.new; out = O.state out.new }) }
     ensures unfetched { (number rows : ℕ) → form_of words.now ≡ Some (RunGenerated number rows) → F.state files.new ≡ F.state files.old }
@@ -91,7 +91,7 @@ fn obey<F: Files, S: Scorer, O: Sink>(
     out: &mut O,
 ) -> Result<(), Fault>
     ensures does { (beside : Environment) → Runs
-        (λ own. IsRunOf (finds_in (F.state files.old).told) (S.state scorer.old).answer (form_of_command command.entry) own ⊎ IsCut (form_of_command command.entry) own) result
+        (IsRunOf (finds_in (F.state files.old).told) (S.state scorer.old).answer (form_of_command command.entry)) result
         (record beside { files = F.state files.old; scorer = S.state scorer.old; out = O.state out.old })
         (record beside { files = F.state files.new; scorer = S.state scorer.new; out = O.state out.new }) }
     ensures unfetched { (number rows : ℕ) → form_of_command command.entry ≡ RunGenerated number rows → F.state files.new ≡ F.state files.old }

@@ -29,6 +29,13 @@ pub fn one_run()
         → IsRun (finds_in (Some told)) answer words run → IsRun (finds_in (Some told)) answer words other → run ≡ other }
 {}
 
+/// All words have a run, whatever the files hold and the scorer answers: each script is lexed or refused, its tokens parse or are
+/// refused, and each statement does something.
+pub fn words_have_a_run()
+    ensures files { (there : List ℕ → Option (List ℕ)) (answer : Answering) (words : List (List ℕ)) → (run : WordsRun) × IsRun (found_in there) answer words run }
+    ensures told { (told : Option FilesTold) (answer : Answering) (words : List (List ℕ)) → (run : WordsRun) × IsRun (finds_in told) answer words run }
+{}
+
 /// A script without EXPLAIN that ends without a fault under `plain` and under `run`, whatever the seed, puts the same rows in the same
 /// order under both, over the same files and the same answers of a scorer: those of its queries, and those of its cursors, among CREATE
 /// statements and queries as they may stand.

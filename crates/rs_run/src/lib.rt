@@ -17,6 +17,6 @@ mod words;
 
 pub use command::run;
 pub use fault::RunFault;
-pub use laws::{cursors_keep_their_rows, one_run, plain_and_run_agree};
+pub use laws::{cursors_keep_their_rows, one_run, plain_and_run_agree, words_have_a_run};
 pub use rs_statement::{Fault, ScriptFault, SessionFault};
 pub use status::Status;

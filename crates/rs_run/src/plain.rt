@@ -1,13 +1,11 @@
-ghost use Rattle.std.specs.Prelude.{◌≡◌, ◌≤◌, ◌⊎◌, IfOk, length};
+ghost use Rattle.std.specs.Prelude.{◌≤◌, IfOk, length};
 ghost use Rattle.rs_value.specs.Answer.{Gives};
 ghost use Rattle.rs_value.specs.Text.{text_of};
-ghost use Rattle.rs_statement.specs.declared.fault.Fault.TheVariants.{Memory};
 ghost use Rattle.rs_statement.specs.Parts.Steps.{FetchesFile, Runs};
 ghost use Rattle.rs_run.specs.Parts.Read.{IsSource};
 ghost use Rattle.rs_run.specs.Plain.{TextRuns, or_text_fault, without_mark};
-ghost use Rattle.rs_events.specs.Run.{fails};
 ghost use Rattle.rs_events.specs.Events.{finds_in};
-ghost use Rattle.rs_run.specs.Running.{IsCut, IsRunOf};
+ghost use Rattle.rs_run.specs.Running.{IsRunOf};
 ghost use Rattle.rs_statement.specs.Session.{StatementsRun};
 ghost use Rattle.rs_run.specs.Words.{RunScript};
 ghost use Rattle.rs_events.specs.Environment.{Environment};
@@ -34,7 +32,7 @@ pub fn run_script<F: Files, S: Scorer, O: Sink>(
     out: &mut O,
 ) -> Result<(), Fault>
     ensures { (beside : Environment) → Runs
-        (λ run. IsRunOf (finds_in (F.state files.old).told) (S.state scorer.old).answer (RunScript name.now evaluating) run ⊎ IsCut (RunScript name.now evaluating) run) result
+        (IsRunOf (finds_in (F.state files.old).told) (S.state scorer.old).answer (RunScript name.now evaluating)) result
         (record beside { files = F.state files.old; scorer = S.state scorer.old; out = O.state out.old })
         (record beside { files = F.state files.new; scorer = S.state scorer.new; out = O.state out.new }) }
 {
@@ -85,7 +83,7 @@ fn run_text<F: Files, S: Scorer, O: Sink>(
 ) -> Result<(), Fault>
     requires { length script.now ≤ 1048576 }
     ensures { (beside : Environment) → Runs
-        (λ run. TextRuns (StatementsRun (finds_in (F.state files.old).told) (S.state scorer.old).answer evaluating) script.now run ⊎ (run ≡ fails Memory)) result
+        (TextRuns (StatementsRun (finds_in (F.state files.old).told) (S.state scorer.old).answer evaluating) script.now) result
         (record beside { files = F.state files.old; scorer = S.state scorer.old; out = O.state out.old })
         (record beside { files = F.state files.new; scorer = S.state scorer.new; out = O.state out.new }) }
 {

@@ -11,7 +11,7 @@ pub mod Scripting
 pub mod Cutting
 pub mod Numbers
 pub mod ScriptFacts
-mod EachFacts
+pub mod EachFacts
 pub mod SpanFacts
 pub mod WrittenFacts
 mod WorkedScripts

@@ -3,17 +3,12 @@ use Rattle.rs_events.specs.Environment.{Environment}
 use Rattle.rs_events.specs.Events.{finds_in}
 use Rattle.rs_statement.specs.Parts.Steps.{Runs}
 use Rattle.rs_run.specs.Parts.Command.{form_of_command, words_of}
-use Rattle.rs_run.specs.Running.{IsCut, IsRunOf}
 use Rattle.rs_run.specs.Words.{RunGenerated, RunScript, Top}
-use Rattle.rs_run.proofs.RunFacts.{Runs-whole}
 use Rattle.rs_run.proofs.command.obey.Goals as goal
 
 pub returns-in-Top : goal.returns-in-Top
 returns-in-Top g c = rw c.in-Top.is (record {
-  does = λ beside. Runs-whole (finds_in (g.F.Files.state c.args.files.now).told) (g.S.Scorer.state c.args.scorer.now).answer (Top (words_of c.in-Top.words)) c.top.result
-      (record beside { files = g.F.Files.state c.args.files.now; scorer = g.S.Scorer.state c.args.scorer.now; out = g.O.Sink.state c.args.out.now })
-      (record beside { files = g.F.Files.state c.top.new.files; scorer = g.S.Scorer.state c.args.scorer.now; out = g.O.Sink.state c.top.new.out })
-      (c.top.ensures (record beside { files = g.F.Files.state c.args.files.now; scorer = g.S.Scorer.state c.args.scorer.now; out = g.O.Sink.state c.args.out.now }));
+  does = λ beside. c.top.ensures (record beside { files = g.F.Files.state c.args.files.now; scorer = g.S.Scorer.state c.args.scorer.now; out = g.O.Sink.state c.args.out.now });
   unfetched = λ number rows generated. absurd cc;
 })
 

@@ -4,15 +4,18 @@ use Rattle.rs_syntax.specs.Written.{AreWritten}
 use Rattle.rs_statement.specs.Parts.Steps.{Runs}
 use Rattle.rs_events.specs.Events.{finds_in}
 use Rattle.rs_statement.specs.Session.{StatementsRun}
+use Rattle.rs_run.proofs.EachFacts.{each_text, finds_in-has}
 use Rattle.rs_run.proofs.TextFacts.{HasTokens-slice, Text-runs, Text-unlexed, Text-unparsed}
 use Rattle.rs_run.proofs.plain.run_text.Goals as goal
 
 pub returns-in_err-tokens : goal.returns-in_err-tokens
-returns-in_err-tokens g c = λ beside. Text-unlexed (StatementsRun (finds_in (g.F.Files.state c.args.files.now).told) (g.S.Scorer.state c.args.scorer.now).answer c.args.evaluating) c.args.script.now c.in_err-tokens.field-0.0 c.from_residual.result
+returns-in_err-tokens g c = λ beside. Text-unlexed (StatementsRun (finds_in (g.F.Files.state c.args.files.now).told) (g.S.Scorer.state c.args.scorer.now).answer c.args.evaluating) c.args.script.now
+    (each_text (finds_in (g.F.Files.state c.args.files.now).told) (finds_in-has (g.F.Files.state c.args.files.now).told) (g.S.Scorer.state c.args.scorer.now).answer c.args.evaluating c.args.script.now) c.in_err-tokens.field-0.0 c.from_residual.result
     (record beside { files = g.F.Files.state c.args.files.now; scorer = g.S.Scorer.state c.args.scorer.now; out = g.O.Sink.state c.args.out.now }) c.from_residual.ensures c.in_err-tokens.ensures.refused
 
 pub returns-in_err-statements : goal.returns-in_err-statements
-returns-in_err-statements g c = λ beside. Text-unparsed (StatementsRun (finds_in (g.F.Files.state c.args.files.now).told) (g.S.Scorer.state c.args.scorer.now).answer c.args.evaluating) c.args.script.now c.deref.result.now c.in_err-statements.field-0.0
+returns-in_err-statements g c = λ beside. Text-unparsed (StatementsRun (finds_in (g.F.Files.state c.args.files.now).told) (g.S.Scorer.state c.args.scorer.now).answer c.args.evaluating) c.args.script.now
+    (each_text (finds_in (g.F.Files.state c.args.files.now).told) (finds_in-has (g.F.Files.state c.args.files.now).told) (g.S.Scorer.state c.args.scorer.now).answer c.args.evaluating c.args.script.now) c.deref.result.now c.in_err-statements.field-0.0
     c.from_residual-in_err-statements.result (record beside { files = g.F.Files.state c.args.files.now; scorer = g.S.Scorer.state c.args.scorer.now; out = g.O.Sink.state c.args.out.now }) c.from_residual-in_err-statements.ensures
     (HasTokens-slice _ _ _ c.in_ok-tokens.ensures.spells c.in_ok-tokens.ensures.few c.deref.ensures.value) c.in_err-statements.ensures.refused
 

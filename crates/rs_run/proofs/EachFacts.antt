@@ -1,0 +1,133 @@
+-- All words have a run, whatever the files hold and the scorer answers.
+use Rattle.std.proofs.Common.{ℕ, ◌≡◌, ◌∷◌, List, [], refl, inl, inr, ◌⊎◌}
+use Rattle.std.specs.Prelude.{None, Option, Some, Result, Ok, Err, length, ◌≤◌}
+use Rattle.rs_outside.specs.Files.{FilesTold, file_named}
+use Rattle.rs_gen.specs.Files.{generated_folder, script_name}
+use Rattle.rs_table.specs.Relation.{Column}
+use Rattle.rs_lex.specs.Spelling.{RefusesBytes, Spells, most_tokens}
+use Rattle.rs_lex.specs.declared.fault.LexFault.{LexFault}
+use Rattle.rs_lex.specs.declared.token.Token.{Token}
+use Rattle.rs_lex.proofs.EachFacts.{script-is_lexed}
+use Rattle.rs_syntax.specs.Scripts.{IsSound, Parses, Refuses}
+use Rattle.rs_syntax.specs.Syntax.{Ask, Close, Command, CreatePredicate, CreateRankIndex, CreateTable, Declare, Explain, ExplainAnalyze}
+use Rattle.rs_syntax.specs.Syntax as syntax
+use Rattle.rs_syntax.specs.declared.fault.SyntaxFault.{SyntaxFault}
+use Rattle.rs_syntax.specs.declared.name.Name.{Name}
+use Rattle.rs_syntax.proofs.EachFacts.{IsParsed, each_is_parsed}
+use Rattle.rs_expr.specs.Scoring.{Answering}
+use Rattle.rs_catalog.specs.Catalog.{CatalogDef}
+use Rattle.rs_catalog.specs.declared.room.What.TheVariants as what
+use Rattle.rs_bind.specs.Indexes.{index_def_of}
+use Rattle.rs_bind.specs.Names.{columns_of}
+use Rattle.rs_events.specs.Events.{Event, Fetch, Finds, finds_in, found_in}
+use Rattle.rs_events.specs.Run.{behind, fails, fetch_then, with_fault}
+use Rattle.rs_events.specs.Sequence.{RunOf, RunsOn, still}
+use Rattle.rs_statement.specs.Session.{DoesInSession, State, StatementsRun, beside_cursors, close_outcome, declare_step, fetch_step, nothing}
+use Rattle.rs_statement.specs.Statements.{Does, DoesTable, analyze_step, explain_step, index_step, predicate_outcome, refused_or, select_step, table_step, with_room}
+use Rattle.rs_statement.specs.Steps.{Run, Step}
+use Rattle.rs_statement.specs.declared.evaluating.Evaluating.{Evaluating}
+use Rattle.rs_statement.specs.declared.evaluating.Evaluating.TheVariants.{Planned}
+use Rattle.rs_statement.specs.declared.fault.Fault.{Fault}
+use Rattle.rs_statement.specs.declared.fault.Fault.TheVariants.{Script}
+use Rattle.rs_statement.specs.declared.script_fault.ScriptFault.TheVariants.{Lex, Parse}
+use Rattle.rs_run.specs.Faults.{WordsRun}
+use Rattle.rs_run.specs.Generated.{finds_generated, unfetched}
+use Rattle.rs_run.specs.Plain.{HasTokens, ScriptRuns, TextRuns, read, runs, source_of, unlexed, unparsed, unread}
+use Rattle.rs_run.specs.Running.{IsRun, IsRunOf, OfForm}
+use Rattle.rs_run.specs.Top.{top_lines}
+use Rattle.rs_run.specs.Words.{Form, RunGenerated, RunScript, Top, form_of}
+use Rattle.rs_run.specs.declared.fault.RunFault.TheVariants.{Statement, Usage}
+
+-- a fetch finds something under each name, a file or none
+abbrev pub HasFiles : Finds → Type 0
+HasFiles finds = (name : List ℕ) → (there : Option (List ℕ)) × finds name there
+
+pub finds_in-has : (told : Option FilesTold) → HasFiles (finds_in told)
+finds_in-has None = λ name. (None, tt)
+finds_in-has (Some told) = λ name. (file_named name told.folder, refl)
+
+pub found_in-has : (there : List ℕ → Option (List ℕ)) → HasFiles (found_in there)
+found_in-has there = λ name. (there name, refl)
+
+module _ (finds : Finds) (has : HasFiles finds) (answer : Answering) (evaluating : Evaluating) where
+  -- each statement does something
+  table : (catalogue : CatalogDef) (name : Name) (file : List ℕ) (columns : Result (List Column) Fault) → (step : Step CatalogDef) × DoesTable finds catalogue name file columns step
+  table catalogue name file (Err fault) = (still (Err fault), refl)
+  table catalogue name file (Ok columns) = let there = has file in (table_step catalogue name file columns there.0, (there.0, there.1, refl))
+
+  statement : (state : State) (command : Command) → (step : Step State) × DoesInSession finds answer evaluating state command step
+  statement state (CreateTable name columns file) =
+      let own = table state.catalogue name file (with_room state.catalogue what.Table name (columns_of columns)) in
+      (beside_cursors state.cursors own.0, (own.0, own.1, refl))
+  statement state (CreatePredicate name params max cost formula) =
+      let own = still (predicate_outcome state.catalogue name (CreatePredicate name params max cost formula)) in
+      (beside_cursors state.cursors own, (own, refl, refl))
+  statement state (CreateRankIndex name table predicate args at) =
+      let own = refused_or (index_step answer state.catalogue) (with_room state.catalogue what.Index name (index_def_of state.catalogue (CreateRankIndex name table predicate args at))) in
+      (beside_cursors state.cursors own, (own, refl, refl))
+  statement state (Ask query) = let own = select_step evaluating answer state.catalogue query in (beside_cursors state.cursors own, (own, refl, refl))
+  statement state (Explain query) = let own = explain_step evaluating answer state.catalogue query in (beside_cursors state.cursors own, (own, refl, refl))
+  statement state (ExplainAnalyze query) = let own = analyze_step evaluating answer state.catalogue query in (beside_cursors state.cursors own, (own, refl, refl))
+  statement state (Declare name query) = (declare_step evaluating answer state name query, refl)
+  statement state (syntax.Fetch count name) = (fetch_step answer state count name, refl)
+  statement state (Close name) = (still (close_outcome state name), refl)
+
+  goes_on : (rest : State → Run → Type 0) (events : List Event) (outcome : Result State Fault) → ((next : State) → (run : Run) × rest next run)
+      → (run : Run) × RunsOn rest events outcome run
+  goes_on rest events (Err fault) each = (record { events = events; fault = Some fault }, refl)
+  goes_on rest events (Ok next) each = let more = each next in (behind events more.0, (more.0, more.1, refl))
+
+  statements : (commands : List Command) (state : State) → (run : Run) × RunOf (DoesInSession finds answer evaluating) state commands run
+  statements [] state = (record { events = []; fault = None }, refl)
+  statements (command ∷ rest) state =
+      let step = statement state command in
+      let on = goes_on (λ next more. RunOf (DoesInSession finds answer evaluating) next rest more) step.0.events step.0.outcome (λ next. statements rest next) in
+      (on.0, (step.0, step.1, on.1))
+
+  -- each text of a script has a run
+  pub each_text : (script : List ℕ) → (run : Run) × TextRuns (StatementsRun finds answer evaluating) script run
+  each_text script = lexed (script-is_lexed script)
+    where
+      parsed : (tokens : List Token) → HasTokens script tokens → IsParsed script tokens → (run : Run) × TextRuns (StatementsRun finds answer evaluating) script run
+      parsed tokens spelled (inl made) =
+          let run = statements made.0 nothing in
+          (run.0, runs made.0 run.0 (record { tokens = tokens; lexed = spelled; parsed = made.1; sound = made.2 }) run.1)
+      parsed tokens spelled (inr none) = (fails (Script (Parse none.0)), unparsed tokens none.0 spelled none.1)
+
+      lexed : ((tokens : List Token) × (length tokens ≤ most_tokens) × Spells 0 script tokens) ⊎ ((fault : LexFault) × RefusesBytes 0 0 script fault)
+          → (run : Run) × TextRuns (StatementsRun finds answer evaluating) script run
+      lexed (inl made) = parsed made.0 (record { spells = made.2; few = made.1 }) (each_is_parsed script made.0)
+      lexed (inr none) = (fails (Script (Lex none.0)), unlexed none.0 none.1)
+
+  -- each script has one, which begins with its fetch
+  pub each_script : (name : List ℕ) (there : Option (List ℕ)) → finds name there
+      → (run : Run) × (more : List Event) × ScriptRuns finds (StatementsRun finds answer evaluating) name run × (run.events ≡ Fetch name ∷ more)
+  each_script name there found = go (source_of name there) refl
+    where
+      go : (source : Result (List ℕ) Fault) → source_of name there ≡ source
+          → (run : Run) × (more : List Event) × ScriptRuns finds (StatementsRun finds answer evaluating) name run × (run.events ≡ Fetch name ∷ more)
+      go (Err fault) e = (behind (Fetch name ∷ []) (fails fault), [], unread there fault found e, refl)
+      go (Ok script) e = let text = each_text script in (behind (Fetch name ∷ []) text.0, text.0.events, read there script text.0 found e text.1, refl)
+
+-- and so have the generated scripts
+pub each_generated : (finds : Finds) (answer : Answering) (number rows : ℕ) → (run : Run) × IsRunOf finds answer (RunGenerated number rows) run
+each_generated finds answer number rows =
+    let there : List ℕ → Option (List ℕ) = λ name. file_named name (generated_folder number rows) in
+    let whole = each_script (finds_generated number rows) (found_in-has there) answer (Planned number) script_name (there script_name) refl in
+    (unfetched whole.0, (whole.0, whole.2, refl))
+
+-- words
+each_form : (finds : Finds) → HasFiles finds → (answer : Answering) (form : Form) → (run : Run) × IsRunOf finds answer form run
+each_form finds has answer (Top top) = let there = has top.file in (fetch_then top.file (top_lines top there.0), (there.0, there.1, refl))
+each_form finds has answer (RunScript name evaluating) =
+    let there = has name in
+    let run = each_script finds has answer evaluating name there.0 there.1 in
+    (run.0, run.2)
+each_form finds has answer (RunGenerated number rows) = each_generated finds answer number rows
+
+pub words-have_run : (finds : Finds) → HasFiles finds → (answer : Answering) (words : List (List ℕ)) → (run : WordsRun) × IsRun finds answer words run
+words-have_run finds has answer words = go (form_of words)
+  where
+    go : (form : Option Form) → (run : WordsRun) × OfForm finds answer form run
+    go None = (fails Usage, refl)
+    go (Some form) = let own = each_form finds has answer form in (with_fault Statement own.0, (own.0, own.1, refl))
