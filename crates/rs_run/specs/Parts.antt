@@ -1,3 +1,3 @@
 -- Definitions that serve the contracts of private functions alone.
-pub mod Command
+pub mod CommandLine
 pub mod Read

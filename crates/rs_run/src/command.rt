@@ -6,7 +6,7 @@ ghost use Rattle.rs_events.specs.Running as running;
 ghost use Rattle.rs_statement.specs.Parts.Steps.{Runs};
 ghost use Rattle.rs_run.specs.Faults.{run_faults};
 ghost use Rattle.rs_run.specs.Outcome.{RunsTo};
-ghost use Rattle.rs_run.specs.Parts.Command.{form_of_command};
+ghost use Rattle.rs_run.specs.Parts.CommandLine.{form_of_command_line};
 ghost use Rattle.rs_run.specs.Running.{IsRun, IsRunOf};
 ghost use Rattle.rs_run.specs.Words.{RunGenerated, form_of};
 
@@ -16,7 +16,7 @@ use crate::plain::run_script;
 use crate::report::report;
 use crate::status::Status;
 use crate::top::top;
-use crate::words::{Command, command_of};
+use crate::words::{CommandLine, command_line_of};
 use rs_expr::Scorer;
 use rs_outside::{Files, Sink};
 use rs_statement::Fault;
@@ -76,7 +76,7 @@ fn answer<F: Files, S: Scorer, O: Sink>(
         (record beside { files = F.state files.new; scorer = S.state scorer.new; out = O.state out.new }) }
     ensures unfetched { (number rows : ℕ) → form_of words.now ≡ Some (RunGenerated number rows) → F.state files.new ≡ F.state files.old }
 {
-    match command_of(words) {
+    match command_line_of(words) {
         Some(command) => Ok(obey(alloc, command, files, scorer, out)?),
         None => Err(RunFault::Usage),
     }
@@ -85,19 +85,19 @@ fn answer<F: Files, S: Scorer, O: Sink>(
 /// Does what a command asks for, up to the first fault.
 fn obey<F: Files, S: Scorer, O: Sink>(
     alloc: Global,
-    command: Command<'_>,
+    command: CommandLine<'_>,
     files: &mut F,
     scorer: &mut S,
     out: &mut O,
 ) -> Result<(), Fault>
     ensures does { (beside : Environment) → Runs
-        (IsRunOf (finds_in (F.state files.old).told) (S.state scorer.old).answer (form_of_command command.entry)) result
+        (IsRunOf (finds_in (F.state files.old).told) (S.state scorer.old).answer (form_of_command_line command.entry)) result
         (record beside { files = F.state files.old; scorer = S.state scorer.old; out = O.state out.old })
         (record beside { files = F.state files.new; scorer = S.state scorer.new; out = O.state out.new }) }
-    ensures unfetched { (number rows : ℕ) → form_of_command command.entry ≡ RunGenerated number rows → F.state files.new ≡ F.state files.old }
+    ensures unfetched { (number rows : ℕ) → form_of_command_line command.entry ≡ RunGenerated number rows → F.state files.new ≡ F.state files.old }
 {
     match command {
-        Command::Top(words) => top(
+        CommandLine::Top(words) => top(
             alloc,
             words.file,
             words.column,
@@ -106,9 +106,9 @@ fn obey<F: Files, S: Scorer, O: Sink>(
             files,
             out,
         ),
-        Command::RunScript(script, evaluating) => {
+        CommandLine::RunScript(script, evaluating) => {
             run_script(alloc, evaluating, script, files, scorer, out)
         }
-        Command::RunGenerated(number, rows) => run_generated(alloc, number, rows, scorer, out),
+        CommandLine::RunGenerated(number, rows) => run_generated(alloc, number, rows, scorer, out),
     }
 }

@@ -1,6 +1,6 @@
 ghost use Rattle.std.specs.Prelude.{◌≡◌, option_map};
 ghost use Rattle.rs_run.specs.Words.{form_of, gen_form, number_word, plain_form, run_form, top_form};
-ghost use Rattle.rs_run.specs.Parts.Command.{form_of_command};
+ghost use Rattle.rs_run.specs.Parts.CommandLine.{form_of_command_line};
 
 use rs_statement::Evaluating;
 use rs_value::{Text, decimal_of};
@@ -28,7 +28,7 @@ pub struct TopCommand<'a> {
 
 /// What the words of a command line ask for.
 #[derive(Clone, Copy)]
-pub enum Command<'a> {
+pub enum CommandLine<'a> {
     Top(TopCommand<'a>),
     /// The statements of the script of this name, with its queries evaluated so.
     RunScript(&'a Text, Evaluating),
@@ -37,8 +37,8 @@ pub enum Command<'a> {
 }
 
 /// What the words of a command line ask for, without the program's name, where they are of a form. The forms are tried in order.
-pub fn command_of(words: &[Text]) -> Option<Command<'_>>
-    ensures { option_map form_of_command result ≡ form_of words.now }
+pub fn command_line_of(words: &[Text]) -> Option<CommandLine<'_>>
+    ensures { option_map form_of_command_line result ≡ form_of words.now }
 {
     if let Some(command) = top_command(words) {
         return Some(command);
@@ -53,8 +53,8 @@ pub fn command_of(words: &[Text]) -> Option<Command<'_>>
 }
 
 /// The command of the words `top FILE COLUMN MAX K`.
-fn top_command(words: &[Text]) -> Option<Command<'_>>
-    ensures { option_map form_of_command result ≡ top_form words.now }
+fn top_command(words: &[Text]) -> Option<CommandLine<'_>>
+    ensures { option_map form_of_command_line result ≡ top_form words.now }
 {
     let [word, file, column, max, count] = words else {
         return None;
@@ -64,7 +64,7 @@ fn top_command(words: &[Text]) -> Option<Command<'_>>
     }
     let max = number_word(max, 1, MOST_SCORE)?;
     let count = number_word(count, 0, MOST_PRINTED)?;
-    Some(Command::Top(TopCommand {
+    Some(CommandLine::Top(TopCommand {
         file,
         column,
         max: max as u32,
@@ -73,8 +73,8 @@ fn top_command(words: &[Text]) -> Option<Command<'_>>
 }
 
 /// The command of the words `plain SCRIPT`.
-fn plain_command(words: &[Text]) -> Option<Command<'_>>
-    ensures { option_map form_of_command result ≡ plain_form words.now }
+fn plain_command(words: &[Text]) -> Option<CommandLine<'_>>
+    ensures { option_map form_of_command_line result ≡ plain_form words.now }
 {
     let [word, script] = words else {
         return None;
@@ -82,12 +82,12 @@ fn plain_command(words: &[Text]) -> Option<Command<'_>>
     if word.as_str() != "plain" {
         return None;
     }
-    Some(Command::RunScript(script, Evaluating::Plainly))
+    Some(CommandLine::RunScript(script, Evaluating::Plainly))
 }
 
 /// The command of the words `run SCRIPT SEED`.
-fn run_command(words: &[Text]) -> Option<Command<'_>>
-    ensures { option_map form_of_command result ≡ run_form words.now }
+fn run_command(words: &[Text]) -> Option<CommandLine<'_>>
+    ensures { option_map form_of_command_line result ≡ run_form words.now }
 {
     let [word, script, seed] = words else {
         return None;
@@ -96,12 +96,12 @@ fn run_command(words: &[Text]) -> Option<Command<'_>>
         return None;
     }
     let seed = number_word(seed, 0, u64::MAX)?;
-    Some(Command::RunScript(script, Evaluating::Planned(seed)))
+    Some(CommandLine::RunScript(script, Evaluating::Planned(seed)))
 }
 
 /// The command of the words `gen NUMBER ROWS`.
-fn gen_command(words: &[Text]) -> Option<Command<'_>>
-    ensures { option_map form_of_command result ≡ gen_form words.now }
+fn gen_command(words: &[Text]) -> Option<CommandLine<'_>>
+    ensures { option_map form_of_command_line result ≡ gen_form words.now }
 {
     let [word, number, rows] = words else {
         return None;
@@ -111,7 +111,7 @@ fn gen_command(words: &[Text]) -> Option<Command<'_>>
     }
     let number = number_word(number, 0, MOST_NUMBER)?;
     let rows = number_word(rows, 1, MOST_ROWS)?;
-    Some(Command::RunGenerated(number as u32, rows as u32))
+    Some(CommandLine::RunGenerated(number as u32, rows as u32))
 }
 
 /// A number of the command line: 1 to 20 decimal digits, that write a number from `least` to `most`.
