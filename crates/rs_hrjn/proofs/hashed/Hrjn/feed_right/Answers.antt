@@ -4,13 +4,14 @@ use Rattle.std.proofs.Common.{◌≡◌, ◌<◌, ◌++◌, ◌∷◌, [], List,
 use Rattle.std.proofs.lemmas.List.{map-append}
 use Rattle.std.specs.List.{AllByRecursion}
 use Rattle.std.specs.Result.{OnOk, is_ok}
+use Rattle.rs_order.specs.Schedule.{Right}
 use Rattle.rs_rank.specs.declared.row.RankRow.{RankRow}
 use Rattle.rs_rank.specs.Rows.{CanMergeRows, merge_row}
 use Rattle.rs_ripple.specs.Joined.{CanFeedRight, Fits, IsJoined, fed_right, right_key}
 use Rattle.rs_ripple.specs.Pairs.{pairs_against}
 use Rattle.rs_ripple.specs.Ripple.{Ripple, right_drawn}
 use Rattle.rs_ripple.specs.Stands.{CanFindEach, found_each}
-use Rattle.rs_ripple.proofs.FeedRightFacts.{right-fed, right-found, right-joined, right-merges, right-pairs}
+use Rattle.rs_ripple.proofs.FeedFacts.{feed-fed, feed-found, feed-joined, feed-pairs, right-merges}
 use Rattle.rs_hrjn.specs.Drawn.{DrawnRow, rows_of}
 use Rattle.rs_hrjn.specs.Hashed.{HaveTheirValues, MatchTheirValues, hash_right, joined_of, rows_at}
 use Rattle.rs_hrjn.proofs.AlikeFacts.{matching-at, pairs_against-alike}
@@ -49,7 +50,7 @@ find_left-requires-clause-pairs g c =
     ∙ pairs_against-alike truth c.args.row c.args.join.items c.self.inside.lefts values in
     subst (λ pairs. CanFindEach pairs c.right_drawn.new.self) (sym all)
     (subst (CanFindEach (pairs_against truth merge_row (rows_of c.self.inside.lefts) c.args.row)) (sym drawn)
-    (right-pairs c.self.inside.core (rows_of c.self.inside.lefts) (rows_of c.self.inside.rights) (c.self.invariant can.draw.alive) c.args.row can truth fits))
+    (feed-pairs c.self.inside.core (rows_of c.self.inside.lefts) (rows_of c.self.inside.rights) (c.self.invariant can.draw.alive) c.args.row Right can truth fits))
 
 -- what is left where both calls answered `Ok`: the core has been told the pairs with all left rows
 told : (g : _) (c : goal.Else-is_err g) → c.find_left.new.core
@@ -74,15 +75,15 @@ fed g c =
     let truth = g.M.Matcher.truth c.args.matcher.now in
     let can = subst (λ h. CanFeedRight c.args.row (joined_of h)) (sym c.self.view_is) c.requires.row in
     let fits = subst (λ h. Fits truth (joined_of h)) (sym c.self.view_is) c.requires.fits in
-    right-fed c.self.inside.core (rows_of c.self.inside.lefts) (rows_of c.self.inside.rights) (c.self.invariant can.draw.alive) c.args.row can truth fits
-    c.find_left.new.core (rows_of c.push.new.self) (told g c)
-    (ap rows_of (pushed g c) ∙ map-append (λ (drawn : DrawnRow). drawn.row) c.self.inside.rights (record { row = c.args.row; values = c.args.join.items } ∷ []))
+    feed-fed c.self.inside.core (rows_of c.self.inside.lefts) (rows_of c.self.inside.rights) (c.self.invariant can.draw.alive) c.args.row Right can truth fits
+    (joined_of (record { ripple = c.find_left.new.core; lefts = c.self.inside.lefts; rights = c.push.new.self })) (told g c)
+    refl (ap rows_of (pushed g c) ∙ map-append (λ (drawn : DrawnRow). drawn.row) c.self.inside.rights (record { row = c.args.row; values = c.args.join.items } ∷ []))
 
 pub invariant_of-self-else-is_err : goal.invariant_of-self-else-is_err
 invariant_of-self-else-is_err g c = λ alive.
     let can = subst (λ h. CanFeedRight c.args.row (joined_of h)) (sym c.self.view_is) c.requires.row in
     subst IsJoined (sym (fed g c))
-    (right-joined c.self.inside.core (rows_of c.self.inside.lefts) (rows_of c.self.inside.rights) (c.self.invariant can.draw.alive) c.args.row can (g.M.Matcher.truth c.args.matcher.now))
+    (feed-joined c.self.inside.core (rows_of c.self.inside.lefts) (rows_of c.self.inside.rights) (c.self.invariant can.draw.alive) c.args.row Right can (g.M.Matcher.truth c.args.matcher.now))
 
 pub returns-clause-ok : goal.returns-clause-ok
 returns-clause-ok g c =
@@ -90,7 +91,7 @@ returns-clause-ok g c =
     let can = subst (λ h. CanFeedRight c.args.row (joined_of h)) (sym c.self.view_is) c.requires.row in
     let fits = subst (λ h. Fits truth (joined_of h)) (sym c.self.view_is) c.requires.fits in
     ap₂ (λ (ripple : Ripple) (rows : List DrawnRow). record { ripple = ripple; lefts = c.self.inside.lefts; rights = rows })
-    (told g c ∙ right-found c.self.inside.core (rows_of c.self.inside.lefts) (rows_of c.self.inside.rights) (c.self.invariant can.draw.alive) c.args.row can truth fits) (pushed g c)
+    (told g c ∙ feed-found c.self.inside.core (rows_of c.self.inside.lefts) (rows_of c.self.inside.rights) (c.self.invariant can.draw.alive) c.args.row Right can truth fits) (pushed g c)
     ∙ ap (hash_right truth c.args.row c.args.join.items) c.self.view_is
 
 pub returns-clause-fits : goal.returns-clause-fits
