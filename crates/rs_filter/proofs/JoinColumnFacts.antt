@@ -24,9 +24,11 @@ use Rattle.rs_query.specs.WellFormed.{IsBlock, IsColumn, IsConjunct, column_kind
 use Rattle.rs_query.proofs.CellFacts.{kind-at}
 use Rattle.rs_query.proofs.EquatedFacts.{conjunct-equated}
 use Rattle.rs_filter.specs.Conditions.{AreConditions, equated_columns}
-use Rattle.rs_filter.specs.JoinValues.{compared, equated_across, in_sides}
+use Rattle.rs_filter.specs.JoinValues.{compared, equated_across, in_sides, own_column, own_mask, side_values}
 use Rattle.rs_filter.specs.Matching.{is_across}
 use Rattle.rs_filter.specs.declared.conditions.JoinConditions.{JoinConditions}
+use Rattle.rs_filter.specs.declared.join_values.Side.{Side}
+use Rattle.rs_filter.specs.declared.join_values.Side.TheVariants.{Left, Right}
 use Rattle.rs_filter.proofs.SideFacts.{and-first, and-second}
 
 -- the join values of one conjunct, of the columns of one side
@@ -213,3 +215,17 @@ module _ (catalogue : CatalogDef) (block : Block) where
   conditions-columns conditions is are =
       subst (AllByRecursion (AreColumns conditions.left conditions.right)) (sym (ap (λ (k : JoinConditions). k.columns) are))
       (each-equated conditions.left conditions.right block.conjuncts is.conjuncts)
+
+  -- a side has its columns, which are what a comparison looks at
+  pub column-own : (side : Side) (conditions : JoinConditions) (pair : (ℕ × ℕ) × (ℕ × ℕ)) → AreColumns conditions.left conditions.right pair
+      → IsColumn catalogue block (own_column side pair) × (has_number (own_mask side conditions) (own_column side pair).0 ≡ true)
+  column-own Left conditions pair are = (are.left_column, are.on_left)
+  column-own Right conditions pair are = (are.right_column, are.on_right)
+
+  pub values-own : (side : Side) (left right : ℕ) (rows : List ℕ) → AllByRecursion (IsConjunct catalogue block) block.conjuncts
+      → AllByRecursion (λ (pair : (ℕ × ℕ) × (ℕ × ℕ)). HasKindOf (own_column side pair) (column_value catalogue block rows (own_column side pair))) (equated_columns left right block.conjuncts)
+      → map (λ (pair : (ℕ × ℕ) × (ℕ × ℕ)). column_value catalogue block rows (own_column side pair)) (equated_columns left right block.conjuncts) ≡ side_values side catalogue block left right rows
+  values-own Left left right rows each kinds =
+      values-read left right rows (own_column Left) (λ conjunct is pair e. (across-columns left right conjunct is pair e).left_column.self) block.conjuncts each kinds
+  values-own Right left right rows each kinds =
+      values-read left right rows (own_column Right) (λ conjunct is pair e. (across-columns left right conjunct is pair e).right_column.self) block.conjuncts each kinds

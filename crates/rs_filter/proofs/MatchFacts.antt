@@ -1,17 +1,12 @@
 -- What the tests of a match say, one after another.
-use Rattle.std.proofs.Common.{◌≡◌, ℕ, zero, suc, ◌-◌, ◌/◌, ◌%◌, ◌<◌, ◌≤◌, ◌&&◌, Bool, true, false, eqb, List, [], ◌∷◌, length, get_or, refl, sym, ◌∙◌, ap, subst, arith}
-use Rattle.std.specs.Int.{bit_at}
-use Rattle.std.proofs.lemmas.Bool.{eq-eqb, eqb-true}
+use Rattle.std.proofs.Common.{◌≡◌, ℕ, ◌&&◌, Bool, true, false, eqb, refl, sym, ◌∙◌, ap, arith}
+use Rattle.std.proofs.lemmas.Bool.{eq-eqb}
 use Rattle.std.proofs.lemmas.Bool.Decides.{nat_tests}
-use Rattle.std.proofs.lemmas.Option.{unwrap_or-slice_get}
-use Rattle.std.proofs.Math.Nat.{div-one}
 use Rattle.rs_rank.specs.declared.row.RankRow.{RankRow}
 use Rattle.rs_rank.specs.Ids.{merge_rows}
-use Rattle.rs_rank.proofs.MaskFacts.{half-before}
 use Rattle.rs_catalog.specs.Catalog.{CatalogDef}
 use Rattle.rs_query.specs.declared.block.Block.{Block}
-use Rattle.rs_query.specs.Choices.{IsChoice, IsRowNumber}
-use Rattle.rs_query.specs.Tables.{HasRows, size_of, sizes_of}
+use Rattle.rs_query.specs.Tables.{sizes_of}
 use Rattle.rs_filter.specs.Matching.{is_choice, is_side, joins, satisfies_across}
 
 no-second : (a : Bool) → (a && false) ≡ false

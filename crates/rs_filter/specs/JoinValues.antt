@@ -11,6 +11,9 @@ use Rattle.rs_catalog.specs.Catalog.{CatalogDef}
 use Rattle.rs_query.specs.Conjuncts.{ConjunctDef}
 use Rattle.rs_query.specs.Meaning.{column_value}
 use Rattle.rs_query.specs.declared.block.Block.{Block}
+use Rattle.rs_filter.specs.declared.conditions.JoinConditions.{JoinConditions}
+use Rattle.rs_filter.specs.declared.join_values.Side.{Side}
+use Rattle.rs_filter.specs.declared.join_values.Side.TheVariants.{Left, Right}
 use Rattle.rs_filter.specs.Matching.{is_across}
 
 -- what a comparison looks at of a value: the text of one of texts, the number of one of numbers. A value of the kind of its column
@@ -45,3 +48,16 @@ abbrev pub right_values : CatalogDef → Block → ℕ → ℕ → List ℕ → 
 right_values catalogue block left right rows =
     flat_map (λ (conjunct : ConjunctDef).
     map (λ (pair : (ℕ × ℕ) × (ℕ × ℕ)). compared conjunct.condition (column_value catalogue block rows pair.1)) (equated_across left right conjunct)) block.conjuncts
+
+-- the same by the side: the column that it has of two, the mask of its entries, and the join values of its rows
+abbrev pub own_column : Side → (ℕ × ℕ) × (ℕ × ℕ) → ℕ × ℕ
+own_column Left pair = pair.0
+own_column Right pair = pair.1
+
+abbrev pub own_mask : Side → JoinConditions → ℕ
+own_mask Left conditions = conditions.left
+own_mask Right conditions = conditions.right
+
+abbrev pub side_values : Side → CatalogDef → Block → ℕ → ℕ → List ℕ → List Value
+side_values Left = left_values
+side_values Right = right_values

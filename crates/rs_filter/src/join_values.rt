@@ -5,7 +5,7 @@ ghost use Rattle.std.specs.Option.{option_to_list};
 ghost use Rattle.rs_query.specs.Tables.{HasRows};
 ghost use Rattle.rs_query.specs.WellFormed.{IsBlock, IsConjunct};
 ghost use Rattle.rs_filter.specs.Conditions.{AreConditions};
-ghost use Rattle.rs_filter.specs.JoinValues.{equated_across, in_sides, is_equi, left_values, right_values};
+ghost use Rattle.rs_filter.specs.JoinValues.{equated_across, in_sides, is_equi, left_values, own_column, own_mask, right_values, side_values};
 ghost use Rattle.rs_filter.specs.Matching.{is_across};
 
 use crate::conditions::JoinConditions;
@@ -14,6 +14,13 @@ use rs_query::{Block, Conjunct, is_inside};
 use rs_rank::{Ids, has_number, union};
 use rs_value::{Memory, Value};
 use std::alloc::Global;
+
+/// A side of a join.
+#[derive(Clone, Copy)]
+enum Side {
+    Left,
+    Right,
+}
 
 /// The join values of a row of the left side of a join by these conditions, in the order of the conjuncts.
 pub fn left_values(
@@ -28,12 +35,7 @@ pub fn left_values(
     requires rows { HasRows catalog.now block.now conditions.now.left ids.now.rows }
     ensures { IfOk result (λ values. values.items ≡ left_values catalog.now block.now conditions.now.left conditions.now.right ids.now.rows) }
 {
-    let columns = conditions.columns.items();
-    let mut values = Vec::with_capacity(alloc, columns.len())?;
-    for pair in columns {
-        block.push_cell(catalog, pair.0, &ids.rows, &mut values)?;
-    }
-    Ok(values)
+    side_values(alloc, catalog, block, conditions, Side::Left, ids)
 }
 
 /// The join values of a row of the right side of a join by these conditions, in the order of the conjuncts.
@@ -49,12 +51,40 @@ pub fn right_values(
     requires rows { HasRows catalog.now block.now conditions.now.right ids.now.rows }
     ensures { IfOk result (λ values. values.items ≡ right_values catalog.now block.now conditions.now.left conditions.now.right ids.now.rows) }
 {
+    side_values(alloc, catalog, block, conditions, Side::Right, ids)
+}
+
+/// Those of a row of either side.
+fn side_values(
+    alloc: Global,
+    catalog: &Catalog,
+    block: &Block,
+    conditions: &JoinConditions,
+    side: Side,
+    ids: &Ids,
+) -> Result<Vec<Value>, Memory>
+    requires block { IsBlock catalog.now block.now }
+    requires conditions { AreConditions catalog.now block.now conditions.now }
+    requires rows { HasRows catalog.now block.now (own_mask side conditions.now) ids.now.rows }
+    ensures { IfOk result (λ values. values.items ≡ side_values side catalog.now block.now conditions.now.left conditions.now.right ids.now.rows) }
+{
     let columns = conditions.columns.items();
     let mut values = Vec::with_capacity(alloc, columns.len())?;
     for pair in columns {
-        block.push_cell(catalog, pair.1, &ids.rows, &mut values)?;
+        let column = own_column(side, pair);
+        block.push_cell(catalog, column, &ids.rows, &mut values)?;
     }
     Ok(values)
+}
+
+/// The column that a side has of two that are equated.
+fn own_column(side: Side, pair: &((u8, u8), (u8, u8))) -> (u8, u8)
+    ensures { result ≡ own_column side pair.now }
+{
+    match side {
+        Side::Left => pair.0,
+        Side::Right => pair.1,
+    }
 }
 
 /// Whether each conjunct that speaks of both sides equates a column of the one with a column of the other. Then rows of the two

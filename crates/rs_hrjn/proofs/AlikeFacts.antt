@@ -1,9 +1,7 @@
 -- The rows at the places of some join values are those that have them, and to try these is to try all.
-use Rattle.std.proofs.Common.{◌≡◌, ℕ, zero, suc, Bool, true, false, cond, List, [], ◌∷◌, get_or, drop, length, map, refl, sym, ◌∙◌, ap, subst}
+use Rattle.std.proofs.Common.{◌≡◌, ℕ, zero, suc, Bool, true, false, cond, List, [], ◌∷◌, get_or, drop, length, refl, sym, ◌∙◌, ap, ap₂, subst}
 use Rattle.std.specs.List.{AllByRecursion, filter}
 use Rattle.rs_rank.specs.declared.row.RankRow.{RankRow}
-use Rattle.rs_rank.specs.Rows.{merge_row}
-use Rattle.rs_ripple.specs.Pairs.{pairs_against, pairs_with}
 use Rattle.rs_value.specs.declared.value.Value.{Value}
 use Rattle.rs_hrjn.specs.Drawn.{DrawnRow, alike, are_equal, places_alike, rows_of}
 use Rattle.rs_hrjn.specs.Hashed.{HaveTheirValues, MatchTheirValues, rows_at}
@@ -51,18 +49,12 @@ filter-alike matches values (drawn ∷ rows) same =
     step false e true f equal rest = ap (λ m. cond m (drawn.row ∷ filter matches (rows_of (alike values rows))) (filter matches (rows_of (alike values rows)))) e ∙ rest
     step false e false f equal rest = rest
 
--- so the pairs with them are the pairs with all
-pub pairs_with-alike : (matches : RankRow → RankRow → Bool) (row : RankRow) (values : List Value) (rights : List DrawnRow) → HaveTheirValues (matches row) values rights →
-    pairs_with matches merge_row (rows_at row (places_alike values 0 rights) (rows_of rights)) row ≡ pairs_with matches merge_row (rows_of rights) row
-pairs_with-alike matches row values rights same =
-    ap (λ rows. pairs_with matches merge_row rows row) (rows-at row values 0 rights (rows_of rights) refl)
-    ∙ ap (map (merge_row row)) (filter-alike (matches row) values rights same)
-
-pub pairs_against-alike : (matches : RankRow → RankRow → Bool) (row : RankRow) (values : List Value) (lefts : List DrawnRow) → HaveTheirValues (λ left. matches left row) values lefts →
-    pairs_against matches merge_row (rows_at row (places_alike values 0 lefts) (rows_of lefts)) row ≡ pairs_against matches merge_row (rows_of lefts) row
-pairs_against-alike matches row values lefts same =
-    ap (λ rows. pairs_against matches merge_row rows row) (rows-at row values 0 lefts (rows_of lefts) refl)
-    ∙ ap (map (λ left. merge_row left row)) (filter-alike (λ left. matches left row) values lefts same)
+-- so of the rows at their places those pass that pass of all
+pub filter-at : (matches : RankRow → Bool) (other : RankRow) (values : List Value) (drawn : List DrawnRow) {places : List ℕ} {rows : List RankRow} → HaveTheirValues matches values drawn →
+    places ≡ places_alike values 0 drawn → rows ≡ rows_of drawn → filter matches (rows_at other places rows) ≡ filter matches (rows_of drawn)
+filter-at matches other values drawn same at are =
+    ap₂ (λ places rows. filter matches (rows_at other places rows)) at are
+    ∙ ap (filter matches) (rows-at other values 0 drawn (rows_of drawn) refl) ∙ filter-alike matches values drawn same
 
 -- where equal join values are enough, each row that has them matches
 matching : (matches : RankRow → Bool) (values : List Value) (rows : List DrawnRow) → MatchTheirValues matches values rows → AllByRecursion (λ row. matches row ≡ true) (rows_of (alike values rows))

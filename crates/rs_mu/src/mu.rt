@@ -96,7 +96,7 @@ impl MuCore {
         ensures err { OnErr result (self.new ≡ record self.old { spent = true }) }
     {
         let last = key_with(&row, self.below);
-        let scored = self.scored(&row, worth);
+        let scored = self.add_share(&row, worth);
         let key = key_with(&scored, self.above);
         match self.held.push(key, ()) {
             Ok(()) => {
@@ -111,7 +111,7 @@ impl MuCore {
     }
 
     /// The row with the term's share of the score.
-    fn scored(&self, row: &RankRow, worth: u32) -> RankRow
+    fn add_share(&self, row: &RankRow, worth: u32) -> RankRow
         requires sum { HasSum self.now.weights self.now.terms row.now }
         requires limit { worth ≤ slice_index self.now.weights.max (self.now.term - 1) }
         ensures value { result ≡ scored self.now row.now worth }

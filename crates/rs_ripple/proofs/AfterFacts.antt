@@ -1,5 +1,5 @@
 -- A join that keeps its rows, where it stands: it is a function of the lists of its sides, and asks no side again after its end.
-use Rattle.std.proofs.Common.{◌≡◌, ◌∙◌, ℕ, ◌≤◌, Bool, true, false, cond, List, length, Option, Some, None, sym, ap, subst, inl, inr, arith}
+use Rattle.std.proofs.Common.{◌≡◌, ◌∙◌, ℕ, ◌≤◌, Bool, true, false, cond, List, length, Option, Some, None, refl, sym, ap, subst, inl, inr, arith}
 use Rattle.std.proofs.lemmas.Bool.{cases_lt, lt-ltb}
 use Rattle.std.proofs.lemmas.List.{length-map}
 use Rattle.rs_order.specs.Schedule.{Left, Right, SideAsk, asked}
@@ -35,6 +35,16 @@ right-over ripple over need = go ripple.left.drawn ripple.right.drawn need where
   go (Some left) (Some right) e =
       not_right (left_threshold ripple left right) ripple.held
       (subst (λ b. ask_between (left_threshold ripple left right) (cond b None (Some (pair_key ripple left.first right.last))) ripple.held ≡ NeedRight) over e)
+
+is_false : (b : Bool) → (b ≡ true → ⊥) → b ≡ false
+is_false true never = absurd (never refl)
+is_false false never = refl
+
+pub left-going : (ripple : Ripple) → ask_of ripple ≡ NeedLeft → ripple.left.ended ≡ false
+left-going ripple need = is_false ripple.left.ended (λ over. left-over ripple over need)
+
+pub right-going : (ripple : Ripple) → ask_of ripple ≡ NeedRight → ripple.right.ended ≡ false
+right-going ripple need = is_false ripple.right.ended (λ over. right-over ripple over need)
 
 module _ (j : Join) (lefts rights : List RankRow) (made : List SideAsk) (count : ℕ) (joined : Joined) (s : JoinStands j lefts rights made count joined) where
   -- so a side that is asked had no end yet

@@ -1,15 +1,14 @@
 -- A list whose keys rise that grows by items of other keys, where its first items stay: what is behind them is put in.
 use Rattle.std.proofs.Common.{◌≡◌, ℕ, zero, suc, List, [], ◌∷◌, ◌++◌, take, drop, map, Some, refl, sym, ◌∙◌, ap, subst, ◌⊎◌, inl, inr}
 use Rattle.std.specs.Cmp.{IsTotalOrder, tied_itself}
-use Rattle.std.specs.List.{slice_get}
 use Rattle.std.specs.declared.cmp.Ordering.{Ordering}
 use Rattle.std.specs.declared.cmp.Ordering.TheVariants.{Less}
 use Rattle.rs_order.specs.Asks.{bar_after}
 use Rattle.rs_order.specs.Climbing.{Climbs, Differs, HasDistinctKeys, In, IsBeyond, Precedes}
 use Rattle.rs_order.specs.Sorting.{put, put_each, sorted}
-use Rattle.rs_order.proofs.ClimbingFacts.{AllByRecursion-In, Climbs-same, cmp-not_itself}
+use Rattle.rs_order.proofs.ClimbingFacts.{Climbs-same, cmp-not_itself}
 use Rattle.rs_order.proofs.ItemFacts.{In-append, In-left, In-right}
-use Rattle.rs_order.proofs.PartFacts.{Climbs-parts, In-drop, In-parts, In-slice_get, In-take, IsBeyond-shared, put-map}
+use Rattle.rs_order.proofs.PartFacts.{Climbs-parts, In-drop, In-parts, In-take, IsBeyond-shared, put-map}
 use Rattle.rs_order.proofs.SortingFacts.{Climbs-sorted, In-sorted, In-sorted-back}
 use Rattle.rs_ripple.proofs.PairFacts.{HasDistinctKeys-Climbs, HasDistinctKeys-append}
 

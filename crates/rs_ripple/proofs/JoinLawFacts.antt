@@ -1,6 +1,5 @@
 -- A join that keeps its rows stands where its core does: what it holds are the pairs behind the one taken last.
 use Rattle.std.proofs.Common.{◌≡◌, ℕ, zero, suc, ◌≤◌, Bool, true, false, cond, ltb, List, [], ◌∷◌, ◌++◌, length, map, take, drop, Option, Some, None, refl, sym, ◌∙◌, ap, ap₂, subst, inl, inr, arith}
-use Rattle.std.proofs.lemmas.List.{take_all}
 use Rattle.std.specs.List.{AllByRecursion, filter, slice_get}
 use Rattle.std.specs.Option.{option_map}
 use Rattle.std.specs.Ordering.{is_lt}
@@ -10,7 +9,6 @@ use Rattle.rs_order.specs.Climbing.{Climbs, In, Precedes}
 use Rattle.rs_order.specs.Schedule.{Left, Right, SideAsk, asked}
 use Rattle.rs_order.proofs.ClimbingFacts.{AllByRecursion-In, cmp-not_itself, cmp-not_both}
 use Rattle.rs_order.proofs.PartFacts.{In-slice_get, bar_after-slice_get, is_lt-Less, slice_get-shared, take-snoc}
-use Rattle.rs_order.proofs.ScheduleFacts.{asked-left, asked-right}
 use Rattle.rs_rank.specs.declared.ask.JoinAsk.TheVariants.{NeedLeft, NeedRight, Ready}
 use Rattle.rs_rank.specs.declared.key.Key.{Key}
 use Rattle.rs_rank.specs.declared.row.RankRow.{RankRow}
@@ -18,14 +16,15 @@ use Rattle.rs_rank.specs.Ids.{AreOtherIds}
 use Rattle.rs_rank.specs.Keys.{key_cmp}
 use Rattle.rs_rank.specs.Rows.{HasSum, HaveOtherIds, merge_row}
 use Rattle.rs_rank.proofs.OrderFacts.{key_cmp-total}
+use Rattle.rs_ripple.specs.declared.side.Drawn.{Drawn}
 use Rattle.rs_ripple.specs.After.{joined_after}
 use Rattle.rs_ripple.specs.Joined.{CanFeedLeft, CanFeedRight, Fits, JoinStands, Joined, end_left, end_right, fed_left, fed_right, is_behind, left_key, rest_for, right_key}
-use Rattle.rs_ripple.specs.Ripple.{CanDrawLeft, CanDrawRight, CanEnd, Ripple, ask_of, drawn_with, taken_for}
-use Rattle.rs_ripple.specs.Stands.{AreSidesOf, IsRowOf, Join, answer_key, answers, drawn_of, side_key, side_keys, state_after, taken_after}
-use Rattle.rs_ripple.proofs.LawFacts.{left-asked, left-can, left-ended-stands, left-key, right-asked, right-can, right-ended-stands, right-key, settled-left, settled-now, settled-right, slice_get_none, still_open, taken-is, taken-stands}
+use Rattle.rs_ripple.specs.Ripple.{CanDrawLeft, CanDrawRight, CanEnd, Ripple, ask_of, taken_for}
+use Rattle.rs_ripple.specs.Stands.{AreSidesOf, IsRowOf, Join, answer_key, answers, drawn_of, side_keys, state_after, taken_after}
+use Rattle.rs_ripple.proofs.LawFacts.{IsNext, asked-stands, ends, goes, left-can, left-ended-stands, next-left, next-right, right-can, right-ended-stands, settled, settled-now, slice_get_none, taken-is, taken-stands}
 use Rattle.rs_ripple.proofs.PairFacts.{Grid-take, ordered-climbs}
 use Rattle.rs_ripple.proofs.SideFacts.{sides-grid}
-use Rattle.rs_ripple.proofs.StepFacts.{kept-same, pair_of}
+use Rattle.rs_ripple.proofs.StepFacts.{kept, pair_of}
 
 -- all pass a test that each passes
 filter-all : {X : Type 0} (test : X → Bool) (xs : List X) → ((x : X) → In x xs → test x ≡ true) → filter test xs ≡ xs
@@ -97,6 +96,24 @@ module _ (j : Join) (lefts rights : List RankRow) (made : List SideAsk) (count :
       subst (Fits j.matches) (sym is-now)
       (ap (map (pair_of j)) (sym (behind-drop j lefts rights count (answers j (take i lefts) (take k rights)) (part-climbs j lefts rights s.core.input i k) (settled-now j lefts rights made count joined.ripple s.core) s.core.within)))
 
+  -- one ask more of either side: the core stands, and the rows are those that were drawn
+  told-stands : {left right : Option Drawn} {left_over right_over : Bool} (ask : SideAsk) (m n : ℕ) → IsNext j lefts rights made count ask m n → (fed : Joined) (ls rs : List RankRow) → ls ≡ take m lefts → rs ≡ take n rights →
+      left ≡ drawn_of (take m (side_keys j j.left lefts)) → left_over ≡ ltb (length (side_keys j j.left lefts)) m → right ≡ drawn_of (take n (side_keys j j.right rights)) → right_over ≡ ltb (length (side_keys j j.right rights)) n →
+      fed ≡ record {
+        ripple = kept j left left_over right right_over (taken_after j lefts rights count) (map (pair_of j) (filter (λ z. is_behind (taken_after j lefts rights count) (answer_key j z)) (answers j ls rs)));
+        lefts = ls;
+        rights = rs;
+      } → JoinStands j lefts rights (made ++ ask ∷ []) count fed
+  told-stands ask m n next fed ls rs e f l lo r ro is = record {
+    core = asked-stands j lefts rights made count joined.ripple s.core ask m n next fed.ripple l lo r ro
+        (ap (map (pair_of j))
+        (ap₂ (λ xs ys. filter (λ z. is_behind (taken_after j lefts rights count) (answer_key j z)) (answers j xs ys)) e f
+        ∙ behind-drop j lefts rights count (answers j (take m lefts) (take n rights)) (part-climbs j lefts rights s.core.input m n) (settled j lefts rights made count joined.ripple s.core ask m n next) s.core.within))
+        (ap (λ (x : Joined). x.ripple) is);
+    left_rows = ap (λ (x : Joined). x.lefts) is ∙ e ∙ ap (λ x. take x lefts) (sym next.left);
+    right_rows = ap (λ (x : Joined). x.rights) is ∙ f ∙ ap (λ x. take x rights) (sym next.right);
+  }
+
   -- a left row
   pub left-can-feed : ask_of joined.ripple ≡ NeedLeft → (row : RankRow) → slice_get lefts i ≡ Some row → CanFeedLeft row joined
   left-can-feed need row next =
@@ -109,24 +126,9 @@ module _ (j : Join) (lefts rights : List RankRow) (made : List SideAsk) (count :
 
   pub left-fed-stands : ask_of joined.ripple ≡ NeedLeft → (row : RankRow) → slice_get lefts i ≡ Some row → JoinStands j lefts rights (made ++ record { side = Left; number = suc i } ∷ []) count (fed_left j.matches row joined)
   left-fed-stands need row next =
-      let counts = asked-left made (suc i) in
-      record {
-        core = left-asked j lefts rights made count joined.ripple s.core need (fed_left j.matches row joined).ripple
-            (ap (λ (x : Joined). (fed_left j.matches row x).ripple) is-now
-            ∙ kept-same j
-            (Some (drawn_with (drawn_of (take i (side_keys j j.left lefts))) (side_key j j.left row))) (drawn_of (take (suc i) (side_keys j j.left lefts)))
-            (ltb (length (side_keys j j.left lefts)) i) (ltb (length (side_keys j j.left lefts)) (suc i))
-            (drawn_of (take k (side_keys j j.right rights))) (drawn_of (take k (side_keys j j.right rights)))
-            (ltb (length (side_keys j j.right rights)) k) (ltb (length (side_keys j j.right rights)) k)
-            (taken_after j lefts rights count) (taken_after j lefts rights count)
-            (map (pair_of j) (filter (λ z. is_behind (taken_after j lefts rights count) (answer_key j z)) (answers j (take i lefts ++ row ∷ []) (take k rights)))) (map (pair_of j) (drop count (answers j (take (suc i) lefts) (take k rights))))
-            (left-key j lefts rights made count joined.ripple s.core row next) (still_open j (side_key j j.left) lefts i row next) refl refl refl
-            (ap (map (pair_of j))
-            (ap (λ rows. filter (λ z. is_behind (taken_after j lefts rights count) (answer_key j z)) (answers j rows (take k rights))) (sym (take-snoc i lefts row next))
-            ∙ behind-drop j lefts rights count (answers j (take (suc i) lefts) (take k rights)) (part-climbs j lefts rights s.core.input (suc i) k) (settled-left j lefts rights made count joined.ripple s.core need) s.core.within)));
-        left_rows = ap (λ rows. rows ++ row ∷ []) s.left_rows ∙ sym (take-snoc i lefts row next) ∙ ap (λ n. take n lefts) (sym counts.0);
-        right_rows = s.right_rows ∙ ap (λ n. take n rights) (sym counts.1);
-      }
+      let more = goes j j.left lefts i row next in
+      told-stands (record { side = Left; number = suc i }) (suc i) k (next-left j lefts rights made count joined.ripple s.core need) (fed_left j.matches row joined)
+      (take i lefts ++ row ∷ []) (take k rights) (sym (take-snoc i lefts row next)) refl more.drawn more.over refl refl (ap (fed_left j.matches row) is-now)
 
   -- a right row
   pub right-can-feed : ask_of joined.ripple ≡ NeedRight → (row : RankRow) → slice_get rights k ≡ Some row → CanFeedRight row joined
@@ -140,49 +142,30 @@ module _ (j : Join) (lefts rights : List RankRow) (made : List SideAsk) (count :
 
   pub right-fed-stands : ask_of joined.ripple ≡ NeedRight → (row : RankRow) → slice_get rights k ≡ Some row → JoinStands j lefts rights (made ++ record { side = Right; number = suc k } ∷ []) count (fed_right j.matches row joined)
   right-fed-stands need row next =
-      let counts = asked-right made (suc k) in
-      record {
-        core = right-asked j lefts rights made count joined.ripple s.core need (fed_right j.matches row joined).ripple
-            (ap (λ (x : Joined). (fed_right j.matches row x).ripple) is-now
-            ∙ kept-same j
-            (drawn_of (take i (side_keys j j.left lefts))) (drawn_of (take i (side_keys j j.left lefts)))
-            (ltb (length (side_keys j j.left lefts)) i) (ltb (length (side_keys j j.left lefts)) i)
-            (Some (drawn_with (drawn_of (take k (side_keys j j.right rights))) (side_key j j.right row))) (drawn_of (take (suc k) (side_keys j j.right rights)))
-            (ltb (length (side_keys j j.right rights)) k) (ltb (length (side_keys j j.right rights)) (suc k))
-            (taken_after j lefts rights count) (taken_after j lefts rights count)
-            (map (pair_of j) (filter (λ z. is_behind (taken_after j lefts rights count) (answer_key j z)) (answers j (take i lefts) (take k rights ++ row ∷ [])))) (map (pair_of j) (drop count (answers j (take i lefts) (take (suc k) rights))))
-            refl refl (right-key j lefts rights made count joined.ripple s.core row next) (still_open j (side_key j j.right) rights k row next) refl
-            (ap (map (pair_of j))
-            (ap (λ rows. filter (λ z. is_behind (taken_after j lefts rights count) (answer_key j z)) (answers j (take i lefts) rows)) (sym (take-snoc k rights row next))
-            ∙ behind-drop j lefts rights count (answers j (take i lefts) (take (suc k) rights)) (part-climbs j lefts rights s.core.input i (suc k)) (settled-right j lefts rights made count joined.ripple s.core need) s.core.within)));
-        left_rows = s.left_rows ∙ ap (λ n. take n lefts) (sym counts.0);
-        right_rows = ap (λ rows. rows ++ row ∷ []) s.right_rows ∙ sym (take-snoc k rights row next) ∙ ap (λ n. take n rights) (sym counts.1);
-      }
+      let more = goes j j.right rights k row next in
+      told-stands (record { side = Right; number = suc k }) i (suc k) (next-right j lefts rights made count joined.ripple s.core need) (fed_right j.matches row joined)
+      (take i lefts) (take k rights ++ row ∷ []) refl (sym (take-snoc k rights row next)) refl refl more.drawn more.over (ap (fed_right j.matches row) is-now)
 
   -- the end of a side
   pub left-end-stands : ask_of joined.ripple ≡ NeedLeft → slice_get lefts i ≡ None → CanEnd NeedLeft joined.ripple × JoinStands j lefts rights (made ++ record { side = Left; number = suc i } ∷ []) count (end_left joined)
   left-end-stands need over =
-      let counts = asked-left made (suc i) in
-      let past = slice_get_none lefts i over in
-      let further : length lefts ≤ suc i = omega arith in (
+      let next = next-left j lefts rights made count joined.ripple s.core need in (
         record { alive = ap (λ (r : Ripple). r.spent) s.core.state; need = need },
         record {
           core = left-ended-stands j lefts rights made count joined.ripple s.core need over;
-          left_rows = s.left_rows ∙ take_all i lefts past ∙ sym (take_all (suc i) lefts further) ∙ ap (λ n. take n lefts) (sym counts.0);
-          right_rows = s.right_rows ∙ ap (λ n. take n rights) (sym counts.1);
+          left_rows = s.left_rows ∙ (ends j j.left lefts i over).same ∙ ap (λ n. take n lefts) (sym next.left);
+          right_rows = s.right_rows ∙ ap (λ n. take n rights) (sym next.right);
         },
       )
 
   pub right-end-stands : ask_of joined.ripple ≡ NeedRight → slice_get rights k ≡ None → CanEnd NeedRight joined.ripple × JoinStands j lefts rights (made ++ record { side = Right; number = suc k } ∷ []) count (end_right joined)
   right-end-stands need over =
-      let counts = asked-right made (suc k) in
-      let past = slice_get_none rights k over in
-      let further : length rights ≤ suc k = omega arith in (
+      let next = next-right j lefts rights made count joined.ripple s.core need in (
         record { alive = ap (λ (r : Ripple). r.spent) s.core.state; need = need },
         record {
           core = right-ended-stands j lefts rights made count joined.ripple s.core need over;
-          left_rows = s.left_rows ∙ ap (λ n. take n lefts) (sym counts.0);
-          right_rows = s.right_rows ∙ take_all k rights past ∙ sym (take_all (suc k) rights further) ∙ ap (λ n. take n rights) (sym counts.1);
+          left_rows = s.left_rows ∙ ap (λ n. take n lefts) (sym next.left);
+          right_rows = s.right_rows ∙ (ends j j.right rights k over).same ∙ ap (λ n. take n rights) (sym next.right);
         },
       )
 

@@ -1,7 +1,7 @@
 pub mod AfterFacts
 pub mod BarFacts
-pub mod FeedLeftFacts
-pub mod FeedRightFacts
+pub mod FedFacts
+pub mod FeedFacts
 pub mod GrowFacts
 pub mod HeldFacts
 pub mod JoinLawFacts

@@ -12,12 +12,12 @@ use Rattle.rs_rank.specs.declared.row.RankRow.{RankRow}
 use Rattle.rs_rank.specs.Ids.{AreOtherIds, IsZeroOutside, merge_ids, merge_rows}
 use Rattle.rs_rank.specs.Keys.{key_cmp}
 use Rattle.rs_rank.specs.Merging.{CanMerge}
-use Rattle.rs_rank.specs.Rows.{HasSum, HaveOtherIds, merge_row}
+use Rattle.rs_rank.specs.Rows.{CanMergeRows, HasSum, HaveOtherIds, merge_row}
 use Rattle.rs_rank.specs.Weights.{rest}
 use Rattle.rs_rank.proofs.IdsFacts.{merge_number}
 use Rattle.rs_rank.proofs.MaskFacts.{bit_and-first, bit_and-others}
 use Rattle.rs_rank.proofs.OrderFacts.{IsBefore-merge_key, IsTied-parts, key_cmp-total}
-use Rattle.rs_rank.proofs.WeightFacts.{IsBound-sum, sum_inside-union}
+use Rattle.rs_rank.proofs.WeightFacts.{IsBound-sum, most_evaluated-limit, sum_inside-union}
 use Rattle.rs_ripple.specs.Stands.{AreSidesOf, IsRowOf, Join, answer_key, merged_key, side_key}
 use Rattle.rs_ripple.proofs.PairFacts.{Grid, IsPair}
 
@@ -101,6 +101,14 @@ module _ (j : Join) (lefts rights : List RankRow) (input : AreSidesOf j lefts ri
         left_bound = IsBound-sum j.weights j.left.terms x.sum left.sum;
         right_bound = IsBound-sum j.weights j.right.terms y.sum right.sum;
       }
+
+  pub can_merge-rows : (x y : RankRow) → In x lefts → In y rights → CanMergeRows x y
+  can_merge-rows x y h k =
+      let left = (left_row x h).sum in
+      let right = (right_row y k).sum in
+      let left_limit = most_evaluated-limit j.weights j.left.terms input.sides.limits in
+      let right_limit = most_evaluated-limit j.weights j.right.terms input.sides.limits in
+      record { sides = (can_merge x y h k).sides; left_sum = omega arith; right_sum = omega arith }
 
   -- a pair of their rows has the entries of both sides, and a sum that the terms of both can give
   pub pair-entries : (z : RankRow) → IsPair j.matches merge_row lefts rights z → z.ids.mask ≡ bit_or j.left.mask j.right.mask

@@ -34,7 +34,7 @@ pub(crate) fn rule_of_one(alloc: Global, node: &Node, part: Typed) -> Result<Typ
     ensures { (scope : Scope) → Gives BindFault.Memory (rule scope (expression_of node.now) (typed_of part ∷ [])) (result_map typed_of result) }
 {
     match node {
-        Node::Neg(_, at) => negated(alloc, part, *at),
+        Node::Neg(_, at) => negate(alloc, part, *at),
         Node::Abs(_, at) => magnitude(alloc, part, *at),
         Node::Not(_, at) => negation(alloc, part, *at),
         _ => unreachable!(),
@@ -63,7 +63,7 @@ pub(crate) fn rule_of_two(
     }
 }
 
-fn negated(alloc: Global, part: Typed, at: Span) -> Result<Typed, BindFault>
+fn negate(alloc: Global, part: Typed, at: Span) -> Result<Typed, BindFault>
     ensures { (scope : Scope) (x : Expression) → Gives BindFault.Memory (rule scope (Neg x at) (typed_of part ∷ [])) (result_map typed_of result) }
 {
     let part = number(part, at)?;

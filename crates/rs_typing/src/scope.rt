@@ -39,7 +39,7 @@ impl Scope for Parameters<'_> {
         if column.alias.is_some() {
             return Err(BindFault::At(Why::NoColumn, span_of_column(column)));
         }
-        match placed(self.columns, &column.column.text) {
+        match find_column(self.columns, &column.column.text) {
             Some(found) => Ok(found),
             None => Err(BindFault::At(Why::NoColumn, span_of_column(column))),
         }
@@ -47,7 +47,7 @@ impl Scope for Parameters<'_> {
 }
 
 /// The place of the first column of this name, and its kind.
-fn placed(columns: &[(Text, Kind)], name: &Text) -> Option<(u16, Kind)>
+fn find_column(columns: &[(Text, Kind)], name: &Text) -> Option<(u16, Kind)>
     requires { length columns.now ≤ 8 }
     ensures { result ≡ placed name.now columns.now }
 {

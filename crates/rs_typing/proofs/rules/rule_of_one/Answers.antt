@@ -2,7 +2,7 @@ use Rattle.rs_syntax.specs.Syntax.{expression_of}
 use Rattle.rs_typing.proofs.rules.rule_of_one.Goals as goal
 
 pub returns-in-Neg : goal.returns-in-Neg
-returns-in-Neg c = λ scope. rw c.in-Neg.is (c.negated.ensures scope (expression_of c.in-Neg.field-0.value))
+returns-in-Neg c = λ scope. rw c.in-Neg.is (c.negate.ensures scope (expression_of c.in-Neg.field-0.value))
 
 pub returns-in-Abs : goal.returns-in-Abs
 returns-in-Abs c = λ scope. rw c.in-Abs.is (c.magnitude.ensures scope (expression_of c.in-Abs.field-0.value))

@@ -5,7 +5,7 @@ use Rattle.rs_rank.specs.Weights.{most_evaluated, score_limit}
 use Rattle.rs_mu.specs.Mu.{Mu}
 use Rattle.rs_rank.proofs.WeightFacts.{most_evaluated-limit}
 use Rattle.rs_mu.proofs.MuFacts.{sum_with-term}
-use Rattle.rs_mu.proofs.mu.MuCore.scored.Goals as goal
+use Rattle.rs_mu.proofs.mu.MuCore.add_share.Goals as goal
 
 -- the new sum, of what the operator keeps
 total : (c : goal.After-share) → c.args.row.now.sum + c.share.result ≤ most_evaluated c.self.inside.weights (bit_or c.self.inside.terms (mask_of c.self.inside.term))
