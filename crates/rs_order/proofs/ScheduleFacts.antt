@@ -12,7 +12,7 @@ use Rattle.rs_order.proofs.ItemFacts.{filter-less}
 use Rattle.rs_order.specs.Asks.{asks_for, comes_before_bar, those_before}
 use Rattle.rs_order.specs.Climbing.{Climbs}
 use Rattle.rs_order.specs.Merging.{merged, woven}
-use Rattle.rs_order.specs.Schedule.{JoinSide, Left, Right, SideAsk, Turn, asked, asked_before, is_of_side, numbers_from, ask_numbers, schedule, turns_from, turns_of}
+use Rattle.rs_order.specs.Schedule.{JoinSide, Left, Right, SideAsk, Turn, asked, asked_before, asks_from, is_of_side, numbers_from, ask_numbers, schedule, turns_from, turns_of}
 
 -- what is made of a list item by item, where the items of the second list add nothing
 module _ {X K A : Type 0} (cmp : K → K → Ordering) (key : X → K) (make : List X → A) (add : X → A → A) (step : (x : X) (xs : List X) → make (x ∷ xs) ≡ add x (make xs)) where
@@ -163,6 +163,13 @@ length-numbers n (suc count) = ap suc (length-numbers (suc n) count)
 pub asked-numbers : (side : JoinSide) (asks : List SideAsk) (n count : ℕ) → ask_numbers side asks ≡ numbers_from n count → asked side asks ≡ count
 asked-numbers side asks n count e =
     sym (length-map (filter (is_of_side side) asks) (λ (ask : SideAsk). ask.number)) ∙ ap (λ (numbers : List ℕ). length numbers) e ∙ length-numbers n count
+
+-- this many asks of one side are so many of it
+pub asked-from : (side : JoinSide) (n count : ℕ) → asked side (asks_from side n count) ≡ count
+asked-from Left n zero = refl
+asked-from Left n (suc count) = ap suc (asked-from Left (suc n) count)
+asked-from Right n zero = refl
+asked-from Right n (suc count) = ap suc (asked-from Right (suc n) count)
 
 -- one ask more, of which this tells whether it is of the side
 asked-one : (side : JoinSide) (made : List SideAsk) (ask : SideAsk) → asked side (made ++ ask ∷ []) ≡ asked side made + cond (is_of_side side ask) 1 0

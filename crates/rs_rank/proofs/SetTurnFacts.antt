@@ -10,16 +10,12 @@ use Rattle.rs_order.specs.Asks.{asks_for}
 use Rattle.rs_order.specs.Schedule.{JoinSide, Left, Right, SideAsk, asked, asks_from, is_of_side}
 use Rattle.rs_order.proofs.ItemFacts.{filter-less}
 use Rattle.rs_order.proofs.ReorderFacts.{asks_for-most}
-use Rattle.rs_order.proofs.ScheduleFacts.{asked_left-most, asked_right-most}
+use Rattle.rs_order.proofs.ScheduleFacts.{asked-from, asked_left-most, asked_right-most}
 use Rattle.rs_rank.specs.Keys.{key_cmp}
 use Rattle.rs_rank.specs.SetTurns.{one_by_one, set_schedule, wanted_for}
 use Rattle.rs_rank.specs.declared.key.Key.{Key}
 
--- this many asks of the right side
-pub right-from : (n count : ℕ) → asked Right (asks_from Right n count) ≡ count
-right-from n zero = refl
-right-from n (suc count) = ap suc (right-from (suc n) count)
-
+-- asks of the right side are none of the left one
 left-from : (n count : ℕ) → asked Left (asks_from Right n count) ≡ 0
 left-from n zero = refl
 left-from n (suc count) = left-from (suc n) count
@@ -46,7 +42,7 @@ right-count-most rights [] n asks (suc count) few = omega arith
 right-count-most rights (left ∷ lefts) n asks (suc count) few =
     let behind = one_by_one rights lefts (suc n) (max asks (wanted_for rights left)) count in
     let two = in-two Right (asks_from Right (suc asks) (wanted_for rights left - asks)) behind in
-    let some = right-from (suc asks) (wanted_for rights left - asks) in
+    let some = asked-from Right (suc asks) (wanted_for rights left - asks) in
     let kept = filter-less (λ (right : Key). nat_le left.bound right.bound) rights in
     let rest = right-count-most rights lefts (suc n) (max asks (wanted_for rights left)) count (omega arith) in
     omega arith
