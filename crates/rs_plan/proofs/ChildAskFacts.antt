@@ -1,5 +1,5 @@
 -- A node asks each of its children at most once more than the child's list has rows.
-use Rattle.std.proofs.Common.{ℕ, zero, suc, ◌≡◌, ◌≤◌, List, length, Option, arith}
+use Rattle.std.proofs.Common.{ℕ, zero, suc, ◌≤◌, List, length, Option, arith}
 use Rattle.std.proofs.lemmas.List.{length-map}
 use Rattle.rs_order.specs.Asks.{asks_for}
 use Rattle.rs_order.specs.Schedule.{JoinSide, Left, Right, asked}
