@@ -17,6 +17,15 @@ module _ {A : Type 0} (is : A → Bool) where
   drawn_for (x ∷ xs) zero = 0
   drawn_for (x ∷ xs) (suc n) = suc (cond (is x) (drawn_for xs n) (drawn_for xs (suc n)))
 
+  -- no more are drawn than there are
+  pub drawn_for-most : (xs : List A) (n : ℕ) → drawn_for xs n ≤ length xs
+  drawn_for-most [] n = omega arith
+  drawn_for-most (x ∷ xs) zero = omega arith
+  drawn_for-most (x ∷ xs) (suc n) =
+      let less = drawn_for-most xs n in
+      let more = drawn_for-most xs (suc n) in
+      elim (is x) as (λ b. suc (cond b (drawn_for xs n) (drawn_for xs (suc n))) ≤ suc (length xs)) [ true ↦ omega arith | false ↦ omega arith ]
+
   -- for no row nothing is drawn
   drawn_for-none : (xs : List A) → drawn_for xs 0 ≡ 0
   drawn_for-none [] = refl

@@ -1,10 +1,10 @@
 -- A list has no more rows than the tables of its entries can make.
 use Rattle.std.proofs.Common.{◌≡◌, ℕ, zero, suc, ◌*◌, ◌/◌, ◌%◌, ◌^◌, ◌≤◌, Bool, true, false, cond, eqb, List, [], ◌∷◌, length, map, bit_or, refl, sym, ap, subst, arith}
 use Rattle.std.specs.Prelude.{not}
-use Rattle.std.specs.List.{AllByRecursion, filter, flat_map}
+use Rattle.std.specs.List.{AllByRecursion, flat_map}
 use Rattle.std.proofs.lemmas.List.{length-append, length-map}
-use Rattle.std.proofs.lemmas.List.Sums.{count_by-le-length, length-filter}
 use Rattle.std.proofs.lemmas.Nat.{mul-le}
+pub use Rattle.rs_order.proofs.ItemFacts.{filter-less}
 use Rattle.rs_rank.specs.Masks.{mask_of}
 use Rattle.rs_rank.specs.declared.answer.Answer.{Answer}
 use Rattle.rs_rank.specs.declared.ids.Ids.{Ids}
@@ -16,9 +16,6 @@ use Rattle.rs_plan.specs.Lists.{World, numbered_block, list_of, sizes_in, source
 use Rattle.rs_plan.specs.Plans.{IsPart}
 use Rattle.rs_plan.specs.Trees.{Distinct, HashJoin, NestedJoin, Rank, RankScan, SeqScan, SetOperator, PlanTree, entries}
 use Rattle.rs_exec.proofs.ListFacts.{list-length}
-
-pub filter-less : {A : Type 0} (p : A → Bool) (xs : List A) → length (filter p xs) ≤ length xs
-filter-less p xs = subst (λ n. n ≤ length xs) (sym (length-filter p xs)) (count_by-le-length p xs)
 
 pub length-firsts : (rows : List Answer) → length (firsts rows) ≤ length rows
 length-firsts [] = omega arith

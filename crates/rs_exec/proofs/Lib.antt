@@ -22,6 +22,7 @@ mod IndexListFacts
 mod JoinListFacts
 mod JoinStepFacts
 mod JoinCycleFacts
+mod LimitFacts
 mod ListFacts
 mod MakingFacts
 mod NextFacts

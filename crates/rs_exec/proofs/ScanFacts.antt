@@ -1,19 +1,21 @@
 -- What a scan draws is what its list says: the rows of a table or of an index that satisfy the conjuncts of the entry.
 use Rattle.std.proofs.Common.{◌≡◌, ◌∙◌, ℕ, zero, suc, ◌+◌, ◌-◌, ◌≤◌, List, [], ◌∷◌, slice_get, refl, sym, ap, arith}
+use Rattle.std.proofs.lemmas.List.{length-map}
 use Rattle.std.specs.List.{filter}
 use Rattle.std.specs.Prelude.{option_map, slice_index, unwrap_or}
 use Rattle.rs_rank.specs.declared.row.RankRow.{RankRow}
 use Rattle.rs_catalog.specs.Indexes.{ranking_at}
 use Rattle.rs_query.specs.Tables.{sizes_of}
 use Rattle.rs_query.specs.WellFormed.{IsQuery}
-use Rattle.rs_scan.specs.Scans.{index_rows, table_rows}
+use Rattle.rs_scan.proofs.ScanFacts.{length-rows_from}
+use Rattle.rs_scan.specs.Scans.{index_rows, scored, table_rows}
 use Rattle.rs_plan.specs.Counts.{drawn_of, entries_at, place_in_index, place_in_table, size_at}
 use Rattle.rs_plan.specs.Lists.{World, numbered_block, list_of, sizes_in, weights_in}
 use Rattle.rs_plan.specs.Plans.{IsPart}
 use Rattle.rs_plan.specs.Trees.{RankScan, SeqScan}
 use Rattle.rs_exec.specs.Drawing.{drawn_then, next_drawn, passes}
 use Rattle.rs_catalog.specs.Held.{Holds}
-use Rattle.rs_exec.proofs.DrawFacts.{drawn_for, drawn_for-index, drawn_for-table, first_of-drawn, place-row_of, through_first-drawn}
+use Rattle.rs_exec.proofs.DrawFacts.{drawn_for, drawn_for-index, drawn_for-most, drawn_for-table, first_of-drawn, place-row_of, through_first-drawn}
 use Rattle.rs_exec.proofs.IndexListFacts.{index-count, index-differ, index-list}
 use Rattle.rs_exec.proofs.StepFacts.{block-formed}
 use Rattle.rs_exec.proofs.TableFacts.{table-list}
@@ -50,6 +52,14 @@ module _ (w : World) (number entry : ℕ) (some : 1 ≤ entry) (few : entry ≤ 
       ap (drawn_then (passes w.catalogue w.query) raw) (drawn-table a)
       ∙ through_first-drawn (passes w.catalogue w.query) raw a
       ∙ sym (drawn-table (suc a))
+
+  -- it draws no more rows than the table has
+  pub table-drawn-most : (a : ℕ) → drawn_of w number (SeqScan entry) a ≤ size_at w number entry
+  table-drawn-most a =
+      let drawn = drawn-table a in
+      let most = drawn_for-most (passes w.catalogue w.query) raw a in
+      let count = length-rows_from number entry 1 (size_at w number entry) in
+      omega arith
 
 -- a scan of an index
 module _ (w : World) (number entry term index : ℕ) (formed : IsQuery w.catalogue w.query) (part : IsPart w.catalogue (numbered_block w number) (RankScan entry term index))
@@ -89,3 +99,12 @@ module _ (w : World) (number entry term index : ℕ) (formed : IsQuery w.catalog
       ap (drawn_then (passes w.catalogue w.query) entries) (drawn-index a)
       ∙ through_first-drawn (passes w.catalogue w.query) entries a
       ∙ sym (drawn-index (suc a))
+
+  -- it draws no more rows than its table has
+  pub index-drawn-most : (a : ℕ) → drawn_of w number (RankScan entry term index) a ≤ size_at w number entry
+  index-drawn-most a =
+      let drawn = drawn-index a in
+      let most = drawn_for-most (passes w.catalogue w.query) entries a in
+      let mapped = length-map (entries_at w number entry index) (scored number entry (slice_index (weights_in w).weight (term - 1))) in
+      let count = index-count w number entry term index formed part holds sizes in
+      omega arith

@@ -1,17 +1,17 @@
 -- How often a set operator asks each of its sides.
-use Rattle.std.proofs.Common.{◌≡◌, ◌∙◌, ℕ, zero, suc, ◌+◌, ◌-◌, ◌≤◌, max, List, [], ◌∷◌, ◌++◌, length, take, refl, sym, ap, arith}
-use Rattle.std.proofs.lemmas.List.{length-append, length-map}
-use Rattle.std.proofs.lemmas.List.Elements.{filter-append}
+use Rattle.std.proofs.Common.{◌≡◌, ◌∙◌, ℕ, zero, suc, ◌+◌, ◌-◌, max, List, [], ◌∷◌, length, take, refl, sym, ap, arith}
+use Rattle.std.proofs.lemmas.List.{length-map}
 use Rattle.std.specs.List.{filter}
 use Rattle.std.specs.Prelude.{Option}
 use Rattle.rs_order.specs.Asks.{asks_for}
 use Rattle.rs_order.specs.Climbing.{Climbs}
 use Rattle.rs_order.specs.Schedule.{JoinSide, Left, Right, SideAsk, ask_numbers, asks_from, is_of_side, numbers_from, schedule}
 use Rattle.rs_order.proofs.ReorderFacts.{asks_for-most}
-use Rattle.rs_order.proofs.ScheduleFacts.{left_scheduled, right_scheduled}
+use Rattle.rs_order.proofs.ScheduleFacts.{asked-from, left_scheduled, right_scheduled}
 use Rattle.rs_rank.specs.Keys.{key_cmp}
 use Rattle.rs_rank.specs.declared.key.Key.{Key}
 use Rattle.rs_rank.proofs.OrderFacts.{key_cmp-total}
+use Rattle.rs_rank.proofs.SetTurnFacts.{in-two, left-count}
 use Rattle.rs_rank.specs.SetTurns.{one_by_one, set_schedule, wanted_for}
 use Rattle.rs_expr.specs.Scoring.{Answering}
 use Rattle.rs_catalog.specs.Catalog.{CatalogDef}
@@ -38,30 +38,7 @@ numbers-of side asks n count is =
       go n zero = refl
       go n (suc count) = ap suc (go (suc n) count)
 
--- this many asks of the right side
-right-from : (n count : ℕ) → length (filter (is_of_side Right) (asks_from Right n count)) ≡ count
-right-from n zero = refl
-right-from n (suc count) = ap suc (right-from (suc n) count)
-
-left-from : (n count : ℕ) → length (filter (is_of_side Left) (asks_from Right n count)) ≡ 0
-left-from n zero = refl
-left-from n (suc count) = left-from (suc n) count
-
-in-two : (side : JoinSide) (xs ys : List SideAsk) → length (filter (is_of_side side) (xs ++ ys)) ≡ length (filter (is_of_side side) xs) + length (filter (is_of_side side) ys)
-in-two side xs ys =
-    ap (λ (asks : List SideAsk). length asks) (filter-append (is_of_side side) xs ys) ∙ length-append (filter (is_of_side side) xs) (filter (is_of_side side) ys)
-
--- INTERSECT and EXCEPT ask the left side this many times, and the right one as often as a left row wants
-left-count : (rights lefts : List Key) (n asks count : ℕ) → count ≤ suc (length lefts) → length (filter (is_of_side Left) (one_by_one rights lefts n asks count)) ≡ count
-left-count rights lefts n asks zero few = refl
-left-count rights [] n asks (suc count) few = omega arith
-left-count rights (left ∷ lefts) n asks (suc count) few =
-    let behind = one_by_one rights lefts (suc n) (max asks (wanted_for rights left)) count in
-    let two = in-two Left (asks_from Right (suc asks) (wanted_for rights left - asks)) behind in
-    let none = left-from (suc asks) (wanted_for rights left - asks) in
-    let rest = left-count rights lefts (suc n) (max asks (wanted_for rights left)) count (omega arith) in
-    omega arith
-
+-- INTERSECT and EXCEPT ask the right side as often as a left row wants
 right-count : (rights lefts : List Key) (n asks count : ℕ)
     → asks + length (filter (is_of_side Right) (one_by_one rights lefts n asks count)) ≡ max asks (most_wanted rights (take count lefts))
 right-count rights [] n asks zero = omega arith
@@ -70,7 +47,7 @@ right-count rights [] n asks (suc count) = omega arith
 right-count rights (left ∷ lefts) n asks (suc count) =
     let behind = one_by_one rights lefts (suc n) (max asks (wanted_for rights left)) count in
     let two = in-two Right (asks_from Right (suc asks) (wanted_for rights left - asks)) behind in
-    let some = right-from (suc asks) (wanted_for rights left - asks) in
+    let some = asked-from Right (suc asks) (wanted_for rights left - asks) in
     let rest = right-count rights lefts (suc n) (max asks (wanted_for rights left)) count in
     omega arith
 

@@ -1,9 +1,9 @@
-ghost use Rattle.std.specs.Prelude.{◌≡◌, ◌↔◌, ◌≤◌, ℕ, IfOk, None, Ok, is_err, length, slice_get};
+ghost use Rattle.std.specs.Prelude.{◌≡◌, ◌↔◌, ◌≤◌, ℕ, IfOk, IfSome, None, Ok, is_err, length, slice_get};
 ghost use Rattle.std.specs.List.{AllByRecursion};
 ghost use Rattle.rs_expr.specs.InOrder.{Inquires};
 ghost use Rattle.rs_expr.specs.Scoring.{Answering};
 ghost use Rattle.rs_catalog.specs.Catalog.{CatalogDef};
-ghost use Rattle.rs_plan.specs.Counts.{counts_of_plan};
+ghost use Rattle.rs_plan.specs.Counts.{AreWithinLimits, counts_of_plan};
 ghost use Rattle.rs_plan.specs.Lists.{World};
 ghost use Rattle.rs_query.specs.Blocks.{block_in};
 ghost use Rattle.rs_plan.specs.Plans.{IsPlan};
@@ -121,6 +121,7 @@ impl Cursor {
         ensures past { (w : World) (n : ℕ) → (result ≡ None) ↔ (length (counts_of_plan w (plan_of self.now) n) ≤ node) }
         ensures counts { (catalogue : CatalogDef) (answer : Answering) → StandsFor catalogue answer self.now
             → result ≡ slice_get (counts_of_plan (world_of catalogue answer self.now.query) (plan_of self.now) (asks_of self.now)) node }
+        ensures limits { (catalogue : CatalogDef) (answer : Answering) → StandsFor catalogue answer self.now → IfSome result AreWithinLimits }
     {
         self.root.counts_at(node)
     }

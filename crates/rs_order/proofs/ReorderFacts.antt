@@ -15,6 +15,7 @@ use Rattle.rs_order.specs.Climbing.{Climbs, HasDistinctKeys, In, IsBeyond, Prece
 use Rattle.rs_order.specs.Sorting.{put, sorted}
 use Rattle.rs_order.proofs.AsksFacts.{asks_for-more, get_or-asked, get_or-before, bar_after-later}
 use Rattle.rs_order.proofs.ClimbingFacts.{AllByRecursion-In, Climbs-shared}
+use Rattle.rs_order.proofs.ItemFacts.{filter-less}
 use Rattle.rs_order.proofs.SortingFacts.{Climbs-sorted, In-sorted, In-sorted-back}
 use Rattle.rs_order.proofs.PartFacts.{Climbs-begin, Climbs-behind, Climbs-not_behind, HasDistinctKeys-take, In-at, In-drop, In-parts, In-take, IsBeyond-drop, IsBeyond-shared, cmp-Less-behind, cmp-behind-Less, drop-put, slice_get-shared, sorted-snoc, take-snoc, bar_after-slice_get}
 
@@ -39,25 +40,16 @@ is_gt-turned cmp o a b = ap is_gt (o.antisymm a b) ∙ turned (cmp b a)
     turned Equal = refl
     turned Greater = refl
 
--- all items come before no bar, and no more than all before any
+-- all items come before no bar
 length-those_before-None : {X K : Type 0} (cmp : K → K → Ordering) (key : X → K) (xs : List X) → length (those_before cmp key None xs) ≡ length xs
 length-those_before-None cmp key [] = refl
 length-those_before-None cmp key (x ∷ xs) = ap suc (length-those_before-None cmp key xs)
-
-length-those_before : {X K : Type 0} (cmp : K → K → Ordering) (key : X → K) (bar : Option K) (xs : List X) → length (those_before cmp key bar xs) ≤ length xs
-length-those_before cmp key bar [] = omega arith
-length-those_before cmp key bar (x ∷ xs) =
-    let rest = length-those_before cmp key bar xs in
-    elim (comes_before_bar cmp bar (key x)) as (λ b. length (cond b (x ∷ those_before cmp key bar xs) (those_before cmp key bar xs)) ≤ suc (length xs)) [
-      | true ↦ omega arith
-      | false ↦ omega arith
-    ]
 
 pub asks_for-None : {X K : Type 0} (cmp : K → K → Ordering) (key : X → K) (xs : List X) → asks_for cmp key xs None ≡ suc (length xs)
 asks_for-None cmp key xs = ap suc (length-those_before-None cmp key xs)
 
 pub asks_for-most : {X K : Type 0} (cmp : K → K → Ordering) (key : X → K) (xs : List X) (bar : Option K) → asks_for cmp key xs bar ≤ suc (length xs)
-asks_for-most cmp key xs bar = let most = length-those_before cmp key bar xs in omega arith
+asks_for-most cmp key xs bar = let most = filter-less (λ x. comes_before_bar cmp bar (key x)) xs in omega arith
 
 pub asks_upto-most : {X K : Type 0} (cmp : K → K → Ordering) (old new : X → K) (xs : List X) (n : ℕ) → asks_upto cmp old new xs n ≤ suc (length xs)
 asks_upto-most cmp old new xs zero = omega arith

@@ -1,5 +1,5 @@
 -- The asks of two sides, side by side.
-use Rattle.std.proofs.Common.{◌≡◌, ℕ, zero, suc, ◌+◌, Bool, true, false, cond, List, [], ◌∷◌, ◌++◌, length, map, Option, refl, sym, ◌∙◌, ap, inl, inr, arith}
+use Rattle.std.proofs.Common.{◌≡◌, ℕ, zero, suc, ◌+◌, ◌≤◌, Bool, true, false, cond, List, [], ◌∷◌, ◌++◌, length, map, Option, refl, sym, ◌∙◌, ap, inl, inr, arith}
 use Rattle.std.proofs.lemmas.Bool.{cases_lt, true≢false}
 use Rattle.std.proofs.lemmas.List.{length-append, length-map}
 use Rattle.std.proofs.lemmas.List.Elements.{filter-append}
@@ -8,10 +8,11 @@ use Rattle.std.specs.List.{AllByRecursion, filter}
 use Rattle.std.specs.Ordering.{is_gt}
 use Rattle.std.specs.declared.cmp.Ordering.{Ordering}
 use Rattle.rs_order.proofs.AsksFacts.{get_or-asked}
+use Rattle.rs_order.proofs.ItemFacts.{filter-less}
 use Rattle.rs_order.specs.Asks.{asks_for, comes_before_bar, those_before}
 use Rattle.rs_order.specs.Climbing.{Climbs}
 use Rattle.rs_order.specs.Merging.{merged, woven}
-use Rattle.rs_order.specs.Schedule.{JoinSide, Left, Right, SideAsk, Turn, asked, asked_before, is_of_side, numbers_from, ask_numbers, schedule, turns_from}
+use Rattle.rs_order.specs.Schedule.{JoinSide, Left, Right, SideAsk, Turn, asked, asked_before, asks_from, is_of_side, numbers_from, ask_numbers, schedule, turns_from, turns_of}
 
 -- what is made of a list item by item, where the items of the second list add nothing
 module _ {X K A : Type 0} (cmp : K → K → Ordering) (key : X → K) (make : List X → A) (add : X → A → A) (step : (x : X) (xs : List X) → make (x ∷ xs) ≡ add x (make xs)) where
@@ -95,23 +96,64 @@ module _ {K : Type 0} (cmp : K → K → Ordering) (bar : Option K) where
             | inr none ↦ omega arith
           ]
 
+-- of the turns of both sides those of one side are its own
+module _ {K : Type 0} (cmp : K → K → Ordering) (bar : Option K) where
+  left_turns : (lefts rights : List K) → numbers_before cmp bar Left (turns_of cmp lefts rights) ≡ numbers_before cmp bar Left (turns_from Left 2 lefts)
+  left_turns lefts rights =
+      merged_left cmp (λ turn. turn.key) (numbers_before cmp bar Left) (add_number cmp bar Left) (numbers_before-step cmp bar Left)
+      (turns_from Left 2 lefts) (turns_from Right 2 rights)
+      (other_adds_nothing cmp bar Left Right 2 rights (λ number. refl))
+
+  right_turns : (lefts rights : List K) → numbers_before cmp bar Right (turns_of cmp lefts rights) ≡ numbers_before cmp bar Right (turns_from Right 2 rights)
+  right_turns lefts rights =
+      merged_right cmp (λ turn. turn.key) (numbers_before cmp bar Right) (add_number cmp bar Right) (numbers_before-step cmp bar Right)
+      (turns_from Left 2 lefts) (turns_from Right 2 rights)
+      (other_adds_nothing cmp bar Right Left 2 lefts (λ number. refl))
+
 -- the left side's asks
 pub left_scheduled : {K : Type 0} (cmp : K → K → Ordering) → IsTotalOrder cmp → (lefts rights : List K) (bar : Option K) → Climbs cmp (λ key. key) lefts → ask_numbers Left (schedule cmp lefts rights bar) ≡ numbers_from 1 (asks_for cmp (λ key. key) lefts bar)
 left_scheduled cmp o lefts rights bar climbs =
-    ap (λ numbers. 1 ∷ numbers)
-    (merged_left cmp (λ turn. turn.key) (numbers_before cmp bar Left) (add_number cmp bar Left) (numbers_before-step cmp bar Left)
-    (turns_from Left 2 lefts) (turns_from Right 2 rights)
-    (other_adds_nothing cmp bar Left Right 2 rights (λ number. refl))
-    ∙ own_numbers cmp bar o Left 2 lefts (λ number. refl) climbs)
+    ap (λ numbers. 1 ∷ numbers) (left_turns cmp bar lefts rights ∙ own_numbers cmp bar o Left 2 lefts (λ number. refl) climbs)
 
 -- the right side's asks
 pub right_scheduled : {K : Type 0} (cmp : K → K → Ordering) → IsTotalOrder cmp → (lefts rights : List K) (bar : Option K) → Climbs cmp (λ key. key) rights → ask_numbers Right (schedule cmp lefts rights bar) ≡ numbers_from 1 (asks_for cmp (λ key. key) rights bar)
 right_scheduled cmp o lefts rights bar climbs =
-    ap (λ numbers. 1 ∷ numbers)
-    (merged_right cmp (λ turn. turn.key) (numbers_before cmp bar Right) (add_number cmp bar Right) (numbers_before-step cmp bar Right)
-    (turns_from Left 2 lefts) (turns_from Right 2 rights)
-    (other_adds_nothing cmp bar Right Left 2 lefts (λ number. refl))
-    ∙ own_numbers cmp bar o Right 2 rights (λ number. refl) climbs)
+    ap (λ numbers. 1 ∷ numbers) (right_turns cmp bar lefts rights ∙ own_numbers cmp bar o Right 2 rights (λ number. refl) climbs)
+
+-- a side is asked at most once more than it has keys, whether they rise or not
+module _ {K : Type 0} (cmp : K → K → Ordering) (bar : Option K) where
+  length-turns : (side : JoinSide) (n : ℕ) (keys : List K) → length (turns_from side n keys) ≡ length keys
+  length-turns side n [] = refl
+  length-turns side n (key ∷ keys) = ap suc (length-turns side (suc n) keys)
+
+  -- no more numbers than turns
+  numbers_before-less : (side : JoinSide) (turns : List (Turn K)) → length (numbers_before cmp bar side turns) ≤ length turns
+  numbers_before-less side turns =
+      let before = filter (λ (turn : Turn K). comes_before_bar cmp bar turn.key) turns in
+      let kept = filter-less (λ (turn : Turn K). comes_before_bar cmp bar turn.key) turns in
+      let asks = length-map before (λ (turn : Turn K). turn.ask) in
+      let own = filter-less (is_of_side side) (asked_before cmp bar turns) in
+      let numbers = length-map (filter (is_of_side side) (asked_before cmp bar turns)) (λ (ask : SideAsk). ask.number) in
+      omega arith
+
+  asked-most : (side : JoinSide) (lefts rights keys : List K) (n : ℕ)
+      → ask_numbers side (schedule cmp lefts rights bar) ≡ 1 ∷ numbers_before cmp bar side (turns_from side n keys)
+      → asked side (schedule cmp lefts rights bar) ≤ suc (length keys)
+  asked-most side lefts rights keys n all =
+      let numbers = length-map (filter (is_of_side side) (schedule cmp lefts rights bar)) (λ (ask : SideAsk). ask.number) in
+      let same : length (ask_numbers side (schedule cmp lefts rights bar)) ≡ suc (length (numbers_before cmp bar side (turns_from side n keys))) =
+      ap (λ (ns : List ℕ). length ns) all in
+      let less = numbers_before-less side (turns_from side n keys) in
+      let turns = length-turns side n keys in
+      omega arith
+
+  pub asked_left-most : (lefts rights : List K) → asked Left (schedule cmp lefts rights bar) ≤ suc (length lefts)
+  asked_left-most lefts rights =
+      asked-most Left lefts rights lefts 2 (ap (λ (ns : List ℕ). 1 ∷ ns) (left_turns cmp bar lefts rights))
+
+  pub asked_right-most : (lefts rights : List K) → asked Right (schedule cmp lefts rights bar) ≤ suc (length rights)
+  asked_right-most lefts rights =
+      asked-most Right lefts rights rights 2 (ap (λ (ns : List ℕ). 1 ∷ ns) (right_turns cmp bar lefts rights))
 
 -- as many asks of a side as numbers
 length-numbers : (n count : ℕ) → length (numbers_from n count) ≡ count
@@ -121,6 +163,13 @@ length-numbers n (suc count) = ap suc (length-numbers (suc n) count)
 pub asked-numbers : (side : JoinSide) (asks : List SideAsk) (n count : ℕ) → ask_numbers side asks ≡ numbers_from n count → asked side asks ≡ count
 asked-numbers side asks n count e =
     sym (length-map (filter (is_of_side side) asks) (λ (ask : SideAsk). ask.number)) ∙ ap (λ (numbers : List ℕ). length numbers) e ∙ length-numbers n count
+
+-- this many asks of one side are so many of it
+pub asked-from : (side : JoinSide) (n count : ℕ) → asked side (asks_from side n count) ≡ count
+asked-from Left n zero = refl
+asked-from Left n (suc count) = ap suc (asked-from Left (suc n) count)
+asked-from Right n zero = refl
+asked-from Right n (suc count) = ap suc (asked-from Right (suc n) count)
 
 -- one ask more, of which this tells whether it is of the side
 asked-one : (side : JoinSide) (made : List SideAsk) (ask : SideAsk) → asked side (made ++ ask ∷ []) ≡ asked side made + cond (is_of_side side ask) 1 0

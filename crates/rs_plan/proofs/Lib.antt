@@ -1,3 +1,4 @@
+pub mod ChildAskFacts
 pub mod CodeFacts
 pub mod DecidingFacts
 pub mod LawFacts

@@ -1,5 +1,5 @@
 -- What each node of a plan has done after a number of asks.
-use Rattle.std.specs.Prelude.{ℕ, zero, suc, ◌-◌, ◌==◌, min, nat_le, List, [], ◌∷◌, ◌++◌, length, option_map, slice_get, unwrap_or}
+use Rattle.std.specs.Prelude.{ℕ, zero, suc, ◌+◌, ◌-◌, ◌^◌, ◌≤◌, ◌==◌, min, nat_le, List, [], ◌∷◌, ◌++◌, length, option_map, slice_get, unwrap_or}
 use Rattle.std.specs.List.{filter, position_or_len}
 use Rattle.rs_order.specs.Schedule.{JoinSide, Left, Right, is_of_side}
 use Rattle.rs_rank.specs.declared.row.RankRow.{RankRow}
@@ -79,3 +79,11 @@ counts w number (SetOperator left right) = λ a.
 -- the counts of a plan
 abbrev pub counts_of_plan : World → PlanTree → ℕ → List Counts
 counts_of_plan w tree a = counts w 1 tree a
+
+-- no node is asked more often than the longest list has rows, and once more for its end; and no scan draws more rows than a table
+-- may have
+pub record AreWithinLimits (counts : Counts) : Type 0 where
+  pub asked : counts.asked ≤ 2 ^ 103 + 1
+  pub gave : counts.gave ≤ 2 ^ 103
+  pub calls : counts.calls ≤ 2 ^ 103
+  pub drawn : counts.drawn ≤ 131072

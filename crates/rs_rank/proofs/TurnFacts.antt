@@ -1,12 +1,13 @@
 -- The asks of a join, side by side; and what the next ask of an operator of two sides tells.
-use Rattle.std.proofs.Common.{◌≡◌, ℕ, suc, ◌<◌, List, [], ◌∷◌, length, Option, Some, None, refl, sym, ◌∙◌, ap, subst, arith}
+use Rattle.std.proofs.Common.{◌≡◌, ℕ, suc, ◌<◌, ◌≤◌, List, [], ◌∷◌, length, Option, Some, None, refl, sym, ◌∙◌, ap, subst, arith}
+use Rattle.std.proofs.lemmas.List.{length-map}
 use Rattle.std.proofs.lemmas.Option.{slice_get_past}
 use Rattle.std.specs.List.{slice_get}
 use Rattle.std.specs.Cmp.{IsTotalOrder}
 use Rattle.std.specs.declared.cmp.Ordering.{Ordering}
 use Rattle.rs_order.specs.Climbing.{Climbs}
 use Rattle.rs_order.specs.Schedule.{Left, Right, SideAsk, asked, numbers_from, ask_numbers}
-use Rattle.rs_order.proofs.ScheduleFacts.{left_scheduled, right_scheduled}
+use Rattle.rs_order.proofs.ScheduleFacts.{asked_left-most, asked_right-most, left_scheduled, right_scheduled}
 use Rattle.rs_rank.specs.declared.ask.JoinAsk.{JoinAsk}
 use Rattle.rs_rank.specs.declared.ask.JoinAsk.TheVariants.{NeedLeft, NeedRight, Ready, End}
 use Rattle.rs_rank.specs.Turns.{IsNextAsk, join_schedule, left_asks, left_keys, right_asks, right_keys}
@@ -23,6 +24,30 @@ pub right_numbers : {K : Type 0} (cmp : K → K → Ordering) → IsTotalOrder c
 right_numbers cmp o merge [] rights bar climbs = refl
 right_numbers cmp o merge (left ∷ lefts) rights bar climbs =
     right_scheduled cmp o (left_keys merge (left ∷ lefts) rights) (right_keys merge (left ∷ lefts) rights) bar climbs
+
+-- no more merged keys than rows
+left_keys-less : {K : Type 0} (merge : K → K → K) (lefts rights : List K) → length (left_keys merge lefts rights) ≤ length lefts
+left_keys-less merge lefts [] = omega arith
+left_keys-less merge lefts (right ∷ rights) = let same = length-map lefts (λ left. merge left right) in omega arith
+
+right_keys-less : {K : Type 0} (merge : K → K → K) (lefts rights : List K) → length (right_keys merge lefts rights) ≤ length rights
+right_keys-less merge [] rights = omega arith
+right_keys-less merge (left ∷ lefts) rights = let same = length-map rights (merge left) in omega arith
+
+-- a side is asked at most once more than it has rows
+pub join_left-most : {K : Type 0} (cmp : K → K → Ordering) (merge : K → K → K) (lefts rights : List K) (bar : Option K) → asked Left (join_schedule cmp merge lefts rights bar) ≤ suc (length lefts)
+join_left-most cmp merge [] rights bar = omega arith
+join_left-most cmp merge (left ∷ lefts) rights bar =
+    let most = asked_left-most cmp bar (left_keys merge (left ∷ lefts) rights) (right_keys merge (left ∷ lefts) rights) in
+    let less = left_keys-less merge (left ∷ lefts) rights in
+    omega arith
+
+pub join_right-most : {K : Type 0} (cmp : K → K → Ordering) (merge : K → K → K) (lefts rights : List K) (bar : Option K) → asked Right (join_schedule cmp merge lefts rights bar) ≤ suc (length rights)
+join_right-most cmp merge [] rights bar = omega arith
+join_right-most cmp merge (left ∷ lefts) rights bar =
+    let most = asked_right-most cmp bar (left_keys merge (left ∷ lefts) rights) (right_keys merge (left ∷ lefts) rights) in
+    let less = right_keys-less merge (left ∷ lefts) rights in
+    omega arith
 
 -- what an ask tells of the schedule for the next answer
 abbrev pub Tells : List SideAsk → List SideAsk → ℕ → ℕ → JoinAsk → Type 0

@@ -13,13 +13,15 @@ use Rattle.std.proofs.lemmas.Map.Made.{is_some-lookup}
 use Rattle.rs_catalog.specs.Catalog.{has_name, room_in}
 use Rattle.rs_catalog.specs.declared.room.RoomFault.TheVariants as room
 use Rattle.rs_expr.specs.Scoring.{Answering}
+use Rattle.rs_exec.proofs.CoversFacts.{covers}
 use Rattle.rs_catalog.specs.Catalog.{CatalogDef}
 use Rattle.rs_statement.specs.declared.fault.Fault.{Fault}
 use Rattle.rs_statement.specs.declared.fault.Fault.TheVariants.{Session}
 use Rattle.rs_statement.specs.declared.fault.SessionFault.TheVariants.{NameTaken, Unknown, Full}
 use Rattle.rs_statement.specs.declared.session.Held.{Held}
+use Rattle.rs_statement.specs.declared.session.Held.TheVariants as held
 use Rattle.rs_statement.specs.Parts.Session.{CanAllBeAsked, CanBeAsked, asked_of, cursors_of, open_cursor, source_of}
-use Rattle.rs_statement.specs.Session.{OpenCursor, asked_more, cursor_named, most_cursors, or_session_fault, room_for_cursor}
+use Rattle.rs_statement.specs.Session.{IsCursorOf, OpenCursor, asked_more, cursor_named, most_cursors, or_session_fault, room_for_cursor}
 
 abbrev Entries : Type 0
 Entries = List (List ℕ × Held)
@@ -113,6 +115,15 @@ module _ (answer : Answering) (catalogue : CatalogDef) where
       → CanAllBeAsked answer catalogue (entries ++ (name, held) ∷ [])
   asked-append [] name held all one = (one, tt)
   asked-append (entry ∷ entries) name held all one = (all.0, asked-append entries name held all.1 one)
+
+  -- a cursor that can be asked is one of the catalogue: its query is well formed there
+  cursor-covered : (name : List ℕ) (held : Held) → CanBeAsked answer catalogue held → IsCursorOf catalogue (open_cursor (name, held))
+  cursor-covered name (held.Asked cursor) stands = covers catalogue cursor.query stands.query
+  cursor-covered name (held.Ready rows given) within = tt
+
+  pub cursors-covered : (entries : Entries) → CanAllBeAsked answer catalogue entries → AllByRecursion (IsCursorOf catalogue) (cursors_of entries)
+  cursors-covered [] all = tt
+  cursors-covered (entry ∷ entries) all = (cursor-covered entry.0 entry.1 all.0, cursors-covered entries all.1)
 
   module _ (test : List ℕ → Bool) where
     -- the cursor that is found can be asked

@@ -1,6 +1,6 @@
 //! Queries by their plans: rows are asked for one after another.
 
-ghost use Rattle.std.specs.Prelude.{ℕ, ◌≡◌, ◌≤◌, ◌⊎◌, Err, IfErr, IfOk, Ok, false, length, suc, true};
+ghost use Rattle.std.specs.Prelude.{ℕ, ◌≡◌, ◌≤◌, ◌⊎◌, ◌^◌, Err, IfErr, IfOk, Ok, false, length, suc, true};
 ghost use Rattle.rs_syntax.specs.Syntax.{query_of};
 ghost use Rattle.rs_syntax.specs.Written.{IsWrittenQuery};
 ghost use Rattle.rs_expr.specs.Scoring.{Answering};
@@ -90,6 +90,7 @@ pub fn put_next<S: Scorer, O: Sink>(
     ensures stands { IfOk result (λ _. StandsFor catalog.now (S.state scorer.old).answer cursor.new) }
     ensures left { result ≡ Ok true → left_of catalog.now (S.state scorer.old).answer cursor.old
         ≡ then_step (call_step catalog.now (S.state scorer.old).answer cursor.old) (left_of catalog.now (S.state scorer.old).answer cursor.new) }
+    ensures rank { result ≡ Ok true → suc (asks_of cursor.old) ≤ 2 ^ 103 }
     ensures end { result ≡ Ok false → left_of catalog.now (S.state scorer.old).answer cursor.old ≡ call_step catalog.now (S.state scorer.old).answer cursor.old }
 {
     match cursor.next(catalog, scorer) {
@@ -105,8 +106,9 @@ pub fn put_next<S: Scorer, O: Sink>(
 /// The rank of the row that a cursor gave last: how many it gave.
 fn rank_of(cursor: &Cursor) -> u128
     requires { StandsSomewhere cursor.now }
-    ensures { (catalogue : CatalogDef) (answer : Answering) → StandsFor catalogue answer cursor.now
+    ensures rank { (catalogue : CatalogDef) (answer : Answering) → StandsFor catalogue answer cursor.now
         → result ≡ gave_of (world_of catalogue answer cursor.now.query) 1 (plan_of cursor.now) (asks_of cursor.now) }
+    ensures limit { result ≤ 2 ^ 103 }
 {
     match cursor.counts(0) {
         Some(counts) => counts.gave,

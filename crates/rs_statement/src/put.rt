@@ -1,4 +1,4 @@
-ghost use Rattle.std.specs.Prelude.{[], ◌∷◌, suc};
+ghost use Rattle.std.specs.Prelude.{[], ◌+◌, ◌∷◌, ◌^◌, ◌≤◌, suc};
 ghost use Rattle.rs_lines.specs.Row.{line_of};
 ghost use Rattle.rs_statement.specs.Lines.{rank_lines};
 ghost use Rattle.rs_statement.specs.Parts.Steps.{Ran};
@@ -29,13 +29,14 @@ pub fn put_rows<O: Sink>(
     Ok(())
 }
 
-/// Puts the line of a row that has this rank, which `lines` makes. It is kept from row to row.
+/// Puts the line of a row that has this rank, which `lines` makes. It is kept from row to row. Each rank that is printed is put here.
 pub fn put_row<O: Sink>(
     lines: &mut RowLines,
     rank: u128,
     row: &Answer,
     out: &mut O,
 ) -> Result<(), Fault>
+    requires limit { rank ≤ 2 ^ 103 + 1 }
     ensures { (beside : Environment) → Ran (lines_run (line_of rank row.now.score row.now.values ∷ [])) result
         (record beside { out = O.state out.old }) (record beside { out = O.state out.new }) }
 {

@@ -1,6 +1,7 @@
 //! The cursors of a script: DECLARE, FETCH and CLOSE.
 
 ghost use Rattle.std.specs.Prelude.{◌≡◌, ◌≤◌, ◌⊎◌, ◌+◌, ◌++◌, ◌∷◌, [], IfOk, OnErr, OnOk, drop, false, length, suc, take, true};
+ghost use Rattle.std.specs.List.{AllByRecursion};
 ghost use Rattle.indexmap.specs.IndexMap.{keys};
 ghost use Rattle.rs_value.specs.Answer.{Gives};
 ghost use Rattle.rs_syntax.specs.Syntax.{query_of};
@@ -15,7 +16,7 @@ ghost use Rattle.rs_statement.specs.Lines.{rank_lines};
 ghost use Rattle.rs_statement.specs.Parts.Session.{CanAllBeAsked, CanBeAsked, IsAskedMore, asked_of, cursors_of, held_in, next_of, next_of_cursor, rows_step, source_of, state_of, wanted_step};
 ghost use Rattle.rs_statement.specs.Parts.Steps.{Leaves, Ran, Stepped};
 ghost use Rattle.rs_events.specs.Run.{lines_run};
-ghost use Rattle.rs_statement.specs.Session.{close_outcome, declare_step, declared_query, fetch_step, fetched_from, next_rows, opened_step, room_for_cursor};
+ghost use Rattle.rs_statement.specs.Session.{IsCursorOf, close_outcome, declare_step, declared_query, fetch_step, fetched_from, next_rows, opened_step, room_for_cursor};
 ghost use Rattle.rs_statement.specs.Statements.{refused_or};
 ghost use Rattle.rs_events.specs.Environment.{Environment};
 
@@ -93,6 +94,7 @@ pub fn declare<S: Scorer>(
         (state_of catalog.now (held_in session.new)) result
         (record beside { scorer = S.state scorer.old }) (record beside { scorer = S.state scorer.new }) }
     ensures asked { IfOk result (λ _. CanAllBeAsked (S.state scorer.old).answer catalog.now (held_in session.new)) }
+    ensures cursors { IfOk result (λ _. AllByRecursion (IsCursorOf catalog.now) (cursors_of (held_in session.new))) }
 {
     match evaluating {
         Evaluating::Plainly => declare_ready(alloc, name, select, catalog, session, scorer),

@@ -1,4 +1,4 @@
-use Rattle.std.proofs.Common.{◌∙◌, [], suc, refl}
+use Rattle.std.proofs.Common.{◌∙◌, ◌^◌, ◌≤◌, [], suc, refl, subst}
 use Rattle.std.specs.Prelude.{None, Ok, Err}
 use Rattle.rs_value.proofs.ResultFacts.{given-err}
 use Rattle.rs_exec.specs.Asking.{world_of}
@@ -33,6 +33,7 @@ returns-in-Err g c = record {
   over = λ e. absurd cc;
   stands = tt;
   left = λ e. absurd cc;
+  rank = λ e. absurd cc;
   end = λ e. absurd cc;
 }
 
@@ -53,6 +54,7 @@ returns-in-Ok-None g c =
           (g.S.Scorer.state c.args.scorer.now) (g.S.Scorer.state c.next.new.scorer) asks at c.in-Ok-None.ensures.stands;
       stands = c.in-Ok-None.ensures.stands;
       left = λ e. absurd cc;
+      rank = λ e. absurd cc;
       end = λ e. ended-call c.args.catalog.now (g.S.Scorer.state c.args.scorer.now).answer c.args.cursor.now c.requires.stands
           (g.S.Scorer.state c.args.scorer.now) (g.S.Scorer.state c.next.new.scorer) asks;
     }
@@ -69,13 +71,14 @@ returns-in_err-put_row-in-Ok-Some g c =
       puts = λ beside. Stepped-row catalogue answer cursor c.in-Ok-Some.row c.rank_of.result (Err c.in_err-put_row-in-Ok-Some.field-0.0)
           (record beside { scorer = g.S.Scorer.state c.args.scorer.now; out = g.O.Sink.state c.args.out.now })
           (record beside { scorer = g.S.Scorer.state c.next.new.scorer; out = g.O.Sink.state c.put_row.new.out }) (g.S.Scorer.state c.next.new.scorer)
-          (c.rank_of.ensures catalogue answer c.in-Ok-Some.ensures.stands ∙ given.rank) asks
+          (c.rank_of.ensures.rank catalogue answer c.in-Ok-Some.ensures.stands ∙ given.rank) asks
           (c.in_err-put_row-in-Ok-Some.ensures (record beside { scorer = g.S.Scorer.state c.next.new.scorer }));
       more = λ e. absurd cc;
       count = tt;
       over = λ e. absurd cc;
       stands = tt;
       left = λ e. absurd cc;
+      rank = λ e. absurd cc;
       end = λ e. absurd cc;
     })
 
@@ -90,12 +93,13 @@ returns-in_ok-put_row-in-Ok-Some g c =
       puts = λ beside. Stepped-row catalogue answer cursor c.in-Ok-Some.row c.rank_of.result (Ok tt)
           (record beside { scorer = g.S.Scorer.state c.args.scorer.now; out = g.O.Sink.state c.args.out.now })
           (record beside { scorer = g.S.Scorer.state c.next.new.scorer; out = g.O.Sink.state c.put_row.new.out }) (g.S.Scorer.state c.next.new.scorer)
-          (c.rank_of.ensures catalogue answer c.in-Ok-Some.ensures.stands ∙ given.rank) asks
+          (c.rank_of.ensures.rank catalogue answer c.in-Ok-Some.ensures.stands ∙ given.rank) asks
           (c.in_ok-put_row-in-Ok-Some.ensures (record beside { scorer = g.S.Scorer.state c.next.new.scorer }));
       more = λ e. given.at;
       count = record { query_is = c.next.ensures.query; plan_is = c.in-Ok-Some.ensures.plan; asks_are = c.in-Ok-Some.ensures.count };
       over = λ e. absurd cc;
       stands = c.in-Ok-Some.ensures.stands;
       left = λ e. given.left;
+      rank = λ e. subst (λ n. n ≤ 2 ^ 103) (c.rank_of.ensures.rank catalogue answer c.in-Ok-Some.ensures.stands ∙ given.rank) c.rank_of.ensures.limit;
       end = λ e. absurd cc;
     }
