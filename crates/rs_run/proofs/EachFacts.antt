@@ -3,7 +3,7 @@ use Rattle.std.proofs.Common.{ℕ, ◌≡◌, ◌∷◌, List, [], refl, inl, in
 use Rattle.std.specs.Prelude.{None, Option, Some, Result, Ok, Err, length, ◌≤◌}
 use Rattle.rs_outside.specs.Files.{FilesTold, file_named}
 use Rattle.rs_gen.specs.Files.{generated_folder, script_name}
-use Rattle.rs_table.specs.Relation.{Column}
+use Rattle.rs_table.specs.Column.{Column}
 use Rattle.rs_lex.specs.Spelling.{RefusesBytes, Spells, most_tokens}
 use Rattle.rs_lex.specs.declared.fault.LexFault.{LexFault}
 use Rattle.rs_lex.specs.declared.token.Token.{Token}

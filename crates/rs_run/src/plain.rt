@@ -1,4 +1,4 @@
-ghost use Rattle.std.specs.Prelude.{◌≤◌, IfOk, length};
+ghost use Rattle.std.specs.Prelude.{◌≡◌, ◌≤◌, IfOk, length};
 ghost use Rattle.rs_value.specs.Answer.{Gives};
 ghost use Rattle.rs_value.specs.Text.{text_of};
 ghost use Rattle.rs_statement.specs.Parts.Steps.{FetchesFile, Runs};
