@@ -149,42 +149,31 @@ module _ {X Y Z K : Type 0} (cmp : K → K → Ordering) (matches : X → Y → 
   abbrev pub right_bar : X → List Y → ℕ → Option K
   right_bar x ys n = option_map (λ y. key (merge x y)) (slice_get ys n)
 
-  -- an item that isn't among the first m + 1 on the left lies behind the left bar
-  pub left-past : (m : ℕ) (xs : List X) (y : Y) (ys : List Y) (z : Z) → Grid cmp merge key xs (y ∷ ys) → IsPair matches merge (drop (suc m) xs) (y ∷ ys) z → IsPast cmp (left_bar xs y m) (key z)
-  left-past m xs y ys z g p =
-      elim (slice_get_cases xs m).1 [
-        | inl some ↦
-            let item : get_or xs m some.0 ≡ some.0 = get_or_from_slice_get xs m some.0 some.0 some.2 in
-            let here = In-drop (suc m) xs p.left p.in_left in
-            let before : cmp (key (merge some.0 y)) (key (merge p.left y)) ≡ Less =
-            subst (λ x. cmp (key (merge x y)) (key (merge p.left y)) ≡ Less) item
-            (Climbs-behind cmp (λ x. key (merge x y)) m xs some.0 p.left (g.left_climbs y (inl refl)) some.1 p.in_left) in
-            subst (λ o. IsPast cmp (option_map (λ x. key (merge x y)) o) (key z)) (sym some.2)
-            (subst (λ w. cmp (key (merge some.0 y)) (key w) ≡ Less) (sym p.made)
-            (elim p.in_right [
-              | inl same ↦ subst (λ v. cmp (key (merge some.0 y)) (key (merge p.left v)) ≡ Less) (sym same) before
-              | inr behind ↦ g.total.trans (key (merge some.0 y)) (key (merge p.left y)) (key (merge p.left p.right)) before
-                  (AllByRecursion-In (Precedes cmp (λ v. key (merge p.left v)) y) ys (g.right_climbs p.left here).0 p.right behind)
-            ]))
-        | inr none ↦ absurd (subst (In p.left) (drop_all (suc m) xs (let past = none.0 in omega arith)) p.in_left)
-      ]
+-- a pair of an item that isn't among the first m + 1 of its side lies behind the key of the last of these with the first item of
+-- the other side
+past : {X Y Z K : Type 0} (cmp : K → K → Ordering) (merge : X → Y → Z) (key : Z → K) (m : ℕ) (xs : List X) (y : Y) (ys : List Y) (x : X) (v : Y) → IsTotalOrder cmp → Climbs cmp (λ w. key (merge w y)) xs → Climbs cmp (λ u. key (merge x u)) (y ∷ ys) → In x (drop (suc m) xs) → In v (y ∷ ys) →
+    IsPast cmp (option_map (λ w. key (merge w y)) (slice_get xs m)) (key (merge x v))
+past cmp merge key m xs y ys x v total own other in_own in_other =
+    elim (slice_get_cases xs m).1 [
+      | inl some ↦
+          let item : get_or xs m some.0 ≡ some.0 = get_or_from_slice_get xs m some.0 some.0 some.2 in
+          let before : cmp (key (merge some.0 y)) (key (merge x y)) ≡ Less =
+          subst (λ w. cmp (key (merge w y)) (key (merge x y)) ≡ Less) item (Climbs-behind cmp (λ w. key (merge w y)) m xs some.0 x own some.1 in_own) in
+          subst (λ o. IsPast cmp (option_map (λ w. key (merge w y)) o) (key (merge x v))) (sym some.2)
+          (elim in_other [
+            | inl same ↦ subst (λ u. cmp (key (merge some.0 y)) (key (merge x u)) ≡ Less) (sym same) before
+            | inr behind ↦ total.trans (key (merge some.0 y)) (key (merge x y)) (key (merge x v)) before (AllByRecursion-In (Precedes cmp (λ u. key (merge x u)) y) ys other.0 v behind)
+          ])
+      | inr none ↦ absurd (subst (In x) (drop_all (suc m) xs (let beyond = none.0 in omega arith)) in_own)
+    ]
 
-  -- and so on the right
-  pub right-past : (n : ℕ) (x : X) (xs : List X) (ys : List Y) (z : Z) → Grid cmp merge key (x ∷ xs) ys → IsPair matches merge (x ∷ xs) (drop (suc n) ys) z → IsPast cmp (right_bar x ys n) (key z)
+module _ {X Y Z K : Type 0} (cmp : K → K → Ordering) (matches : X → Y → Bool) (merge : X → Y → Z) (key : Z → K) where
+  pub left-past : (m : ℕ) (xs : List X) (y : Y) (ys : List Y) (z : Z) → Grid cmp merge key xs (y ∷ ys) → IsPair matches merge (drop (suc m) xs) (y ∷ ys) z → IsPast cmp (left_bar cmp matches merge key xs y m) (key z)
+  left-past m xs y ys z g p =
+      subst (λ w. IsPast cmp (left_bar cmp matches merge key xs y m) (key w)) (sym p.made)
+      (past cmp merge key m xs y ys p.left p.right g.total (g.left_climbs y (inl refl)) (g.right_climbs p.left (In-drop (suc m) xs p.left p.in_left)) p.in_left p.in_right)
+
+  pub right-past : (n : ℕ) (x : X) (xs : List X) (ys : List Y) (z : Z) → Grid cmp merge key (x ∷ xs) ys → IsPair matches merge (x ∷ xs) (drop (suc n) ys) z → IsPast cmp (right_bar cmp matches merge key x ys n) (key z)
   right-past n x xs ys z g p =
-      elim (slice_get_cases ys n).1 [
-        | inl some ↦
-            let item : get_or ys n some.0 ≡ some.0 = get_or_from_slice_get ys n some.0 some.0 some.2 in
-            let here = In-drop (suc n) ys p.right p.in_right in
-            let before : cmp (key (merge x some.0)) (key (merge x p.right)) ≡ Less =
-            subst (λ y. cmp (key (merge x y)) (key (merge x p.right)) ≡ Less) item
-            (Climbs-behind cmp (λ y. key (merge x y)) n ys some.0 p.right (g.right_climbs x (inl refl)) some.1 p.in_right) in
-            subst (λ o. IsPast cmp (option_map (λ y. key (merge x y)) o) (key z)) (sym some.2)
-            (subst (λ w. cmp (key (merge x some.0)) (key w) ≡ Less) (sym p.made)
-            (elim p.in_left [
-              | inl same ↦ subst (λ v. cmp (key (merge x some.0)) (key (merge v p.right)) ≡ Less) (sym same) before
-              | inr behind ↦ g.total.trans (key (merge x some.0)) (key (merge x p.right)) (key (merge p.left p.right)) before
-                  (AllByRecursion-In (Precedes cmp (λ v. key (merge v p.right)) x) xs (g.left_climbs p.right here).0 p.left behind)
-            ]))
-        | inr none ↦ absurd (subst (In p.right) (drop_all (suc n) ys (let past = none.0 in omega arith)) p.in_right)
-      ]
+      subst (λ w. IsPast cmp (right_bar cmp matches merge key x ys n) (key w)) (sym p.made)
+      (past cmp (λ v u. merge u v) key n ys x xs p.right p.left g.total (g.right_climbs x (inl refl)) (g.left_climbs p.right (In-drop (suc n) ys p.right p.in_right)) p.in_right p.in_left)

@@ -9,15 +9,16 @@ use Rattle.std.specs.declared.cmp.Ordering.{Ordering}
 use Rattle.rs_order.specs.Climbing.{Climbs, In, Precedes}
 use Rattle.rs_order.proofs.ClimbingFacts.{AllByRecursion-In, AllByRecursion-from_In}
 use Rattle.rs_rank.specs.declared.row.RankRow.{RankRow}
+use Rattle.rs_rank.specs.declared.weights.Weights.{Weights}
 use Rattle.rs_rank.specs.Ids.{AreOtherIds, IsZeroOutside, merge_ids, merge_rows}
 use Rattle.rs_rank.specs.Keys.{key_cmp}
 use Rattle.rs_rank.specs.Merging.{CanMerge}
 use Rattle.rs_rank.specs.Rows.{CanMergeRows, HasSum, HaveOtherIds, merge_row}
-use Rattle.rs_rank.specs.Weights.{rest}
+use Rattle.rs_rank.specs.Weights.{IsWeights, rest, score_limit}
 use Rattle.rs_rank.proofs.IdsFacts.{merge_number}
 use Rattle.rs_rank.proofs.MaskFacts.{bit_and-first, bit_and-others}
 use Rattle.rs_rank.proofs.OrderFacts.{IsBefore-merge_key, IsTied-parts, key_cmp-total}
-use Rattle.rs_rank.proofs.WeightFacts.{IsBound-sum, most_evaluated-limit, sum_inside-union}
+use Rattle.rs_rank.proofs.WeightFacts.{IsBound-sum, bound-limit, most_evaluated-limit, sum_inside-union}
 use Rattle.rs_ripple.specs.Stands.{AreSidesOf, IsRowOf, Join, answer_key, merged_key, side_key}
 use Rattle.rs_ripple.proofs.PairFacts.{Grid, IsPair}
 
@@ -27,6 +28,12 @@ merged_key-rows j left right =
     let bound : (left.sum + rest j.weights j.left.terms - rest j.weights j.left.terms) + (right.sum + rest j.weights j.right.terms - rest j.weights j.right.terms) + rest j.weights (bit_or j.left.terms j.right.terms)
     ≡ left.sum + right.sum + rest j.weights (bit_or j.left.terms j.right.terms) = omega arith in
     ap (λ b. record { bound = b; ids = merge_ids left.ids right.ids }) bound
+
+-- a sum that some terms can give, with what the others can add
+pub sum-limit : (weights : Weights) (terms above : ℕ) (row : RankRow) → IsWeights weights → HasSum weights terms row → above ≡ rest weights terms → row.sum + above ≤ score_limit
+sum-limit weights terms above row limits sum e =
+    let limit = bound-limit weights terms _ limits (IsBound-sum weights terms row.sum sum) in
+    omega arith
 
 -- row numbers of a side, back from those merged
 merge_number-none : (left right : ℕ) → right ≡ 0 → merge_number left right ≡ left

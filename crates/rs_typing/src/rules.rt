@@ -6,7 +6,7 @@ ghost use Rattle.std.specs.Prelude.{◌≡◌, [], ◌∷◌, length};
 ghost use Rattle.rs_value.specs.Answer.{Gives};
 ghost use Rattle.rs_syntax.specs.Syntax.{Abs, And, Arith, Case, Compare, Expression, Greatest, Least, Neg, Not, Or, expression_of};
 ghost use Rattle.rs_expr.specs.Formulas.{condition_of, formula_of};
-ghost use Rattle.rs_typing.specs.Typing.{Scope, Typed as Meaning, argument, divisor_of, narrow, negated_divisor, parts_of, as_number, as_numbers, rule, span_of, as_truth, as_truths, as_text};
+ghost use Rattle.rs_typing.specs.Typing.{Scope, Typed as Meaning, argument, divisor_of, narrow, negated_divisor, pair_of, parts_of, as_number, as_numbers, rule, span_of, as_truth, as_truths, as_text};
 ghost use Rattle.rs_typing.specs.Models.{result_map, typed_of};
 
 use crate::fault::{BindFault, Why};
@@ -323,36 +323,7 @@ fn numbers(
     ensures { Gives BindFault.Memory (as_numbers at (typed_of left) (typed_of right))
         (result_map (λ made. (formula_of made.0.value, formula_of made.1.value)) result) }
 {
-    let left = match number(left, at) {
-        Ok(left) => left,
-        Err(fault) => {
-            drop(right);
-            return Err(fault);
-        }
-    };
-    let right = match number(right, at) {
-        Ok(right) => right,
-        Err(fault) => {
-            drop(left);
-            return Err(fault);
-        }
-    };
-    let left = match Box::new(alloc, left) {
-        Ok(left) => left,
-        Err(failed) => {
-            drop(failed);
-            drop(right);
-            return Err(BindFault::Memory);
-        }
-    };
-    match Box::new(alloc, right) {
-        Ok(right) => Ok((left, right)),
-        Err(failed) => {
-            drop(failed);
-            drop(left);
-            Err(BindFault::Memory)
-        }
-    }
+    box_both(alloc, number(left, at), number(right, at))
 }
 
 /// The conditions of two parts that have to be truth values.
@@ -365,14 +336,25 @@ fn truths(
     ensures { Gives BindFault.Memory (as_truths at (typed_of left) (typed_of right))
         (result_map (λ made. (condition_of made.0.value, condition_of made.1.value)) result) }
 {
-    let left = match truth(left, at) {
+    box_both(alloc, truth(left, at), truth(right, at))
+}
+
+/// Two parts, each in a box, or the fault of the first of them that has one.
+fn box_both<T: Drop>(
+    alloc: Global,
+    left: Result<T, BindFault>,
+    right: Result<T, BindFault>,
+) -> Result<(Box<T>, Box<T>), BindFault>
+    ensures { Gives BindFault.Memory (pair_of left right) (result_map (λ made. (made.0.value, made.1.value)) result) }
+{
+    let left = match left {
         Ok(left) => left,
         Err(fault) => {
             drop(right);
             return Err(fault);
         }
     };
-    let right = match truth(right, at) {
+    let right = match right {
         Ok(right) => right,
         Err(fault) => {
             drop(left);

@@ -1,9 +1,9 @@
 -- The sum is one that the terms of both sides can give, so with what the others can give it is at most the limit.
-use Rattle.std.proofs.Common.{◌+◌, ◌≤◌, bit_or, ap, rules, arith}
+use Rattle.std.proofs.Common.{◌+◌, ◌≤◌, bit_or, ap, rules}
 use Rattle.rs_rank.specs.Rows.{HasSum}
 use Rattle.rs_rank.specs.Weights.{score_limit}
-use Rattle.rs_rank.proofs.WeightFacts.{IsBound-sum, bound-limit}
 use Rattle.rs_ripple.specs.Ripple.{Ripple}
+use Rattle.rs_ripple.proofs.SideFacts.{sum-limit}
 use Rattle.rs_ripple.proofs.ripple.RippleCore.full_key.Goals as goal
 
 pub overflow_add-result : goal.overflow_add-result
@@ -13,8 +13,5 @@ overflow_add-result c =
     let weights = ap (λ (ripple : Ripple). ripple.weights) c.self.view_is in
     let all = ap (λ (ripple : Ripple). bit_or ripple.left.side.terms ripple.right.side.terms) c.self.view_is in
     let sum : HasSum kept.weights terms c.args.row.now = rw (weights, all) c.requires in
-    let is_bound = IsBound-sum kept.weights terms c.args.row.now.sum sum in
-    let limit = bound-limit kept.weights terms _ c.self.invariant.0.sides.limits is_bound in
-    let above = c.self.invariant.4 in
-    let total : c.args.row.now.sum + kept.above ≤ score_limit = omega arith in
+    let total : c.args.row.now.sum + kept.above ≤ score_limit = sum-limit kept.weights terms kept.above c.args.row.now c.self.invariant.0.sides.limits sum c.self.invariant.4 in
     search rules
