@@ -5,9 +5,9 @@ use Rattle.std.specs.Prelude.{option_map, unwrap_or, slice_get, OnOk, OnErr}
 use Rattle.std.specs.List.{AllByRecursion}
 use Rattle.std.specs.Map.{keys_of, values_of}
 use Rattle.rs_value.specs.declared.memory.Memory.{Memory}
-use Rattle.rs_table.specs.Relation.{Relation}
+use Rattle.rs_table.specs.Relation.{Relation, most_rows}
 use Rattle.rs_expr.specs.Predicates.{PredicateDef}
-use Rattle.rs_catalog.specs.Catalog.{CatalogDef, NamedTable, RankIndex, with_index}
+use Rattle.rs_catalog.specs.Catalog.{CatalogDef, NamedTable, RankIndex, greatest_max, with_index}
 use Rattle.rs_catalog.specs.Indexes.{IsRanking, predicate_for, rows_for}
 use Rattle.rs_catalog.specs.Inside.{IsInside, IsRanked, catalogue_of}
 use Rattle.rs_catalog.specs.declared.catalog.RankIndex.{RankIndex as StoredIndex}
@@ -54,8 +54,8 @@ one_more : {A : Type 0} (xs : List A) (last : A) (most : ℕ) → length xs ≤ 
 one_more xs last most few not_full = omega (arith, length-append xs (last ∷ []))
 
 module _ (tables : List (List ℕ × Relation)) (predicates : List (List ℕ × PredicateDef)) (indexes : List (List ℕ × StoredIndex)) (inside : IsInside tables predicates indexes) where
-  IsInside-table : (name : List ℕ) (table : Relation) → IsFree name 16 (keys_of tables) → IsInside (tables ++ (name, table) ∷ []) predicates indexes
-  IsInside-table name table free =
+  IsInside-table : (name : List ℕ) (table : Relation) → length table.rows ≤ most_rows → IsFree name 16 (keys_of tables) → IsInside (tables ++ (name, table) ∷ []) predicates indexes
+  IsInside-table name table few free =
       let old = catalogue_of tables predicates indexes in
       let new = catalogue_of (tables ++ (name, table) ∷ []) predicates indexes in
       let grows : Grows old new = record {
@@ -66,6 +66,8 @@ module _ (tables : List (List ℕ × Relation)) (predicates : List (List ℕ × 
         few_tables = one_more tables (name, table) 16 inside.few_tables (λ same. free.not_full (length-keys tables ∙ same));
         few_predicates = inside.few_predicates;
         few_indexes = inside.few_indexes;
+        few_rows = each-push (λ (t : List ℕ × Relation). length t.1.rows ≤ most_rows) tables (name, table) inside.few_rows few;
+        low_scores = inside.low_scores;
         tables_differ = NamesDiffer-put tables name table inside.tables_differ free.new_name;
         predicates_differ = inside.predicates_differ;
         indexes_differ = inside.indexes_differ;
@@ -76,12 +78,12 @@ module _ (tables : List (List ℕ × Relation)) (predicates : List (List ℕ × 
 
   -- a table was put last, or there was no memory for it
   pub IsInside-table_put : (name : List ℕ) (table : Relation) (new : List (List ℕ × Relation)) (result : Result (Unit {0}) Memory)
-      → OnOk result (new ≡ tables ++ (name, table) ∷ []) → OnErr result (new ≡ tables) → IsFree name 16 (keys_of tables) → IsInside new predicates indexes
-  IsInside-table_put name table new (Ok done) put kept free = subst (λ list. IsInside list predicates indexes) (sym put) (IsInside-table name table free)
-  IsInside-table_put name table new (Err memory) put kept free = subst (λ list. IsInside list predicates indexes) (sym kept) inside
+      → OnOk result (new ≡ tables ++ (name, table) ∷ []) → OnErr result (new ≡ tables) → length table.rows ≤ most_rows → IsFree name 16 (keys_of tables) → IsInside new predicates indexes
+  IsInside-table_put name table new (Ok done) put kept few free = subst (λ list. IsInside list predicates indexes) (sym put) (IsInside-table name table few free)
+  IsInside-table_put name table new (Err memory) put kept few free = subst (λ list. IsInside list predicates indexes) (sym kept) inside
 
-  IsInside-predicate : (predicate : PredicateDef) → IsFree predicate.name 64 (keys_of predicates) → IsInside tables (predicates ++ (predicate.name, predicate) ∷ []) indexes
-  IsInside-predicate predicate free =
+  IsInside-predicate : (predicate : PredicateDef) → predicate.max ≤ greatest_max → IsFree predicate.name 64 (keys_of predicates) → IsInside tables (predicates ++ (predicate.name, predicate) ∷ []) indexes
+  IsInside-predicate predicate low free =
       let old = catalogue_of tables predicates indexes in
       let more = predicates ++ (predicate.name, predicate) ∷ [] in
       let new = catalogue_of tables more indexes in
@@ -94,6 +96,8 @@ module _ (tables : List (List ℕ × Relation)) (predicates : List (List ℕ × 
         few_tables = inside.few_tables;
         few_predicates = one_more predicates (predicate.name, predicate) 64 inside.few_predicates (λ same. free.not_full (length-keys predicates ∙ same));
         few_indexes = inside.few_indexes;
+        few_rows = inside.few_rows;
+        low_scores = each-push (λ (p : List ℕ × PredicateDef). p.1.max ≤ greatest_max) predicates (predicate.name, predicate) inside.low_scores low;
         tables_differ = inside.tables_differ;
         predicates_differ = NamesDiffer-put predicates predicate.name predicate inside.predicates_differ free.new_name;
         indexes_differ = inside.indexes_differ;
@@ -105,9 +109,9 @@ module _ (tables : List (List ℕ × Relation)) (predicates : List (List ℕ × 
 
   -- a predicate was put last, or there was no memory for it
   pub IsInside-predicate_put : (predicate : PredicateDef) (new : List (List ℕ × PredicateDef)) (result : Result (Unit {0}) Memory)
-      → OnOk result (new ≡ predicates ++ (predicate.name, predicate) ∷ []) → OnErr result (new ≡ predicates) → IsFree predicate.name 64 (keys_of predicates) → IsInside tables new indexes
-  IsInside-predicate_put predicate new (Ok done) put kept free = subst (λ list. IsInside tables list indexes) (sym put) (IsInside-predicate predicate free)
-  IsInside-predicate_put predicate new (Err memory) put kept free = subst (λ list. IsInside tables list indexes) (sym kept) inside
+      → OnOk result (new ≡ predicates ++ (predicate.name, predicate) ∷ []) → OnErr result (new ≡ predicates) → predicate.max ≤ greatest_max → IsFree predicate.name 64 (keys_of predicates) → IsInside tables new indexes
+  IsInside-predicate_put predicate new (Ok done) put kept low free = subst (λ list. IsInside tables list indexes) (sym put) (IsInside-predicate predicate low free)
+  IsInside-predicate_put predicate new (Err memory) put kept low free = subst (λ list. IsInside tables list indexes) (sym kept) inside
 
   -- the catalogue with one more index
   pub with_index-put : (name : List ℕ) (stored : StoredIndex) → catalogue_of tables predicates (indexes ++ (name, stored) ∷ []) ≡ with_index stored.def stored.ranking.items (catalogue_of tables predicates indexes)
@@ -128,6 +132,8 @@ module _ (tables : List (List ℕ × Relation)) (predicates : List (List ℕ × 
         few_tables = inside.few_tables;
         few_predicates = inside.few_predicates;
         few_indexes = one_more indexes (stored.def.name, stored) 64 inside.few_indexes (λ same. free.not_full (length-keys indexes ∙ same));
+        few_rows = inside.few_rows;
+        low_scores = inside.low_scores;
         tables_differ = inside.tables_differ;
         predicates_differ = inside.predicates_differ;
         indexes_differ = NamesDiffer-put indexes stored.def.name stored inside.indexes_differ free.new_name;

@@ -40,6 +40,10 @@ most_of Table = 16
 most_of Predicate = 64
 most_of Index = 64
 
+-- the greatest maximum that a predicate may have
+abbrev pub greatest_max : ℕ
+greatest_max = 4294967295
+
 -- the number of a name in a list of names, counted from 0
 abbrev pub place_of_name : List ℕ → List (List ℕ) → Option ℕ
 place_of_name name names = position (λ other. bytes_eq other name) names

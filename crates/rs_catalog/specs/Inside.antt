@@ -2,9 +2,9 @@
 use Rattle.std.specs.Prelude.{ℕ, ◌≡◌, ◌≤◌, false, List, [], ◌∷◌, length, map}
 use Rattle.std.specs.List.{AllByRecursion}
 use Rattle.std.specs.Map.{keys_of, values_of}
-use Rattle.rs_table.specs.Relation.{Relation}
+use Rattle.rs_table.specs.Relation.{Relation, most_rows}
 use Rattle.rs_expr.specs.Predicates.{PredicateDef}
-use Rattle.rs_catalog.specs.Catalog.{CatalogDef, RankIndex, has_name, names_of}
+use Rattle.rs_catalog.specs.Catalog.{CatalogDef, RankIndex, greatest_max, has_name, names_of}
 use Rattle.rs_catalog.specs.Indexes.{IsIndex, IsRanking, rows_for, predicate_for}
 use Rattle.rs_catalog.specs.declared.catalog.RankIndex.{RankIndex as StoredIndex}
 use Rattle.rs_catalog.specs.declared.room.What.TheVariants.{Predicate, Index}
@@ -27,11 +27,14 @@ abbrev pub NamesDiffer : List (List ℕ) → Type 0
 NamesDiffer [] = Unit {0}
 NamesDiffer (name ∷ names) = (has_name name names ≡ false) × NamesDiffer names
 
--- no list is over its limit or has two of one name, each entry's key is its name, and each index is one of the catalogue
+-- no list is over its limit or has two of one name, no table has more rows and no predicate a greater score than its type may have,
+-- each entry's key is its name, and each index is one of the catalogue
 pub record IsInside (tables : List (List ℕ × Relation)) (predicates : List (List ℕ × PredicateDef)) (indexes : List (List ℕ × StoredIndex)) : Type 0 where
   pub few_tables : length tables ≤ 16
   pub few_predicates : length predicates ≤ 64
   pub few_indexes : length indexes ≤ 64
+  pub few_rows : AllByRecursion (λ (t : List ℕ × Relation). length t.1.rows ≤ most_rows) tables
+  pub low_scores : AllByRecursion (λ (p : List ℕ × PredicateDef). p.1.max ≤ greatest_max) predicates
   pub tables_differ : NamesDiffer (keys_of tables)
   pub predicates_differ : NamesDiffer (keys_of predicates)
   pub indexes_differ : NamesDiffer (keys_of indexes)

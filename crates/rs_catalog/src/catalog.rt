@@ -1,6 +1,8 @@
 ghost use Rattle.std.specs.Prelude.{◌≡◌, ℕ, ◌<◌, ◌≤◌, ◌-◌, ◌∷◌, [], ◌++◌, List, Ok, false, OnErr, OnOk, length, slice_get, Some, IfSome, option_map};
+ghost use Rattle.std.specs.List.{AllByRecursion};
 ghost use Rattle.indexmap.specs.IndexMap.{index_map_len, keys};
-ghost use Rattle.rs_catalog.specs.Catalog.{empty, has_name, most_of, names_of, place_of_name, number_named, room_for, room_in, with_predicate, with_table};
+ghost use Rattle.rs_table.specs.Relation.{most_rows};
+ghost use Rattle.rs_catalog.specs.Catalog.{empty, greatest_max, has_name, most_of, names_of, place_of_name, number_named, room_for, room_in, with_predicate, with_table};
 ghost use Rattle.rs_catalog.specs.Indexes.{IsIndexEntry, IsIndex, IsRanking, index_of, making, predicate_for, ranking_at, rows_for};
 ghost use Rattle.rs_catalog.specs.Making.{MakesIndex};
 ghost use Rattle.rs_catalog.specs.declared.room.What.{What as Lists};
@@ -98,6 +100,8 @@ impl Catalog {
         ensures ok { OnOk result (self.new ≡ with_table name table self.old) }
         ensures err { OnErr result (self.new ≡ self.old) }
     {
+        // The table's rows are few: that is known where its length is.
+        let _ = table.len();
         put_last(&mut self.tables, name, table)
     }
 
@@ -107,6 +111,7 @@ impl Catalog {
         ensures ok { OnOk result (self.new ≡ with_predicate predicate self.old) }
         ensures err { OnErr result (self.new ≡ self.old) }
     {
+        let _ = predicate.max();
         let name = predicate.name().copy()?;
         put_last(&mut self.predicates, name, predicate)
     }
@@ -132,6 +137,16 @@ impl Catalog {
             Ok(()) => Ok(()),
             Err(Memory) => Err(IndexFault::Memory),
         }
+    }
+
+    /// No table has more rows than a table may have, and no predicate a greater maximum. It computes nothing; it is called for
+    /// its contract.
+    pub fn limits_hold(&self)
+        ensures rows { AllByRecursion (λ t. length t.table.rows ≤ most_rows) self.now.tables }
+        ensures scores { AllByRecursion (λ p. p.max ≤ greatest_max) self.now.predicates }
+    {
+        // What always holds of a catalogue is known where a field of it is used.
+        let _ = &self.tables;
     }
 
     /// The table of this number.

@@ -1,17 +1,12 @@
 ghost use Rattle.std.specs.Prelude.{◌≡◌, ◌↔◌, ◌≤◌, ℕ, IfOk, IfSome, None, Ok, is_err, length, slice_get};
-ghost use Rattle.std.specs.List.{AllByRecursion};
 ghost use Rattle.rs_expr.specs.InOrder.{Inquires};
 ghost use Rattle.rs_expr.specs.Scoring.{Answering};
 ghost use Rattle.rs_catalog.specs.Catalog.{CatalogDef};
 ghost use Rattle.rs_plan.specs.Counts.{AreWithinLimits, counts_of_plan};
 ghost use Rattle.rs_plan.specs.Lists.{World};
-ghost use Rattle.rs_query.specs.Blocks.{block_in};
 ghost use Rattle.rs_plan.specs.Plans.{IsPlan};
 ghost use Rattle.rs_plan.specs.Shapes.{tree_of};
-ghost use Rattle.rs_query.specs.Answers.{weights_of};
-ghost use Rattle.rs_rank.specs.Weights.{IsWeights};
-ghost use Rattle.rs_query.specs.Tables.{sizes_of};
-ghost use Rattle.rs_query.specs.WellFormed.{IsBlock, IsQuery};
+ghost use Rattle.rs_query.specs.WellFormed.{IsQuery};
 ghost use Rattle.rs_exec.specs.Asking.{world_of};
 ghost use Rattle.rs_exec.specs.Cursors.{CanGo, IsNew, IsOver, StandsFor, asks_after, asks_of, call_of, is_limit, is_over, next_of, plan_of};
 ghost use Rattle.rs_exec.specs.Indexes.{PlanIndexesHold};
@@ -23,7 +18,7 @@ use crate::node::Node;
 use rs_catalog::Catalog;
 use rs_expr::Scorer;
 use rs_plan::{Counts, Plan};
-use rs_query::{Block, Query, limit_of, sizes_of};
+use rs_query::{Query, limit_of, limits_hold};
 use rs_rank::{Answer, RankRow};
 use rs_value::{List, Memory};
 use std::alloc::Global;
@@ -192,30 +187,4 @@ fn answer_for(context: &QueryContext<'_>, row: &RankRow) -> Result<Answer, Memor
         score: row.sum,
         values: List::of(values),
     })
-}
-
-/// No table of a query has more rows than a table may have, and weights and maxima are within their limits. The function changes
-/// nothing; it is called for its contract.
-fn limits_hold(catalog: &Catalog, query: &Query)
-    requires { IsQuery catalog.now query.now }
-    ensures rows { (number : ℕ) → AllByRecursion (λ size. size ≤ 131072) (sizes_of catalog.now (block_in query.now number)) }
-    ensures weights { IsWeights (weights_of (block_in query.now 1)) }
-{
-    match query {
-        Query::One(block, _) => block_limits_hold(catalog, block),
-        Query::Set(_, left, right, _) => {
-            block_limits_hold(catalog, left);
-            block_limits_hold(catalog, right);
-        }
-    }
-}
-
-/// The same of one block.
-fn block_limits_hold(catalog: &Catalog, block: &Block)
-    requires { IsBlock catalog.now block.now }
-    ensures rows { AllByRecursion (λ size. size ≤ 131072) (sizes_of catalog.now block.now) }
-    ensures weights { IsWeights (weights_of block.now) }
-{
-    let _ = block.weights();
-    let _ = sizes_of(catalog, block);
 }

@@ -7,6 +7,7 @@ pub mod EquatedFacts
 pub mod ExtendFacts
 pub mod HoldFacts
 pub mod IndexTermFacts
+pub mod LimitFacts
 pub mod ListFacts
 pub mod LocalFacts
 pub mod QuestionFacts

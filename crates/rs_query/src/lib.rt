@@ -12,6 +12,7 @@ mod conjunct;
 mod inside;
 mod kept;
 mod laws;
+mod limits;
 mod masks;
 mod query;
 mod sizes;
@@ -27,6 +28,7 @@ pub use laws::{
     combinations_are_choices_that_satisfy, combinations_climb, parts_are_local,
     rankings_are_ordered_by_key, scores_are_evaluated,
 };
+pub use limits::limits_hold;
 pub use masks::is_inside;
 pub use query::{Query, block_in, limit_of};
 pub use sizes::{size_of, sizes_of};

@@ -1,1 +1,0 @@
--- It is one of the two blocks.
