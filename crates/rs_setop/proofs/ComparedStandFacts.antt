@@ -30,8 +30,7 @@ use Rattle.rs_setop.specs.Stands.{ComparedAt, ComparedStands, asks_behind, is_ke
 use Rattle.rs_outputs.proofs.ValueFacts.{has_list-of, row-of_values}
 use Rattle.rs_setop.proofs.CompareFacts.{past-is}
 use Rattle.rs_outputs.proofs.ListFacts.{Climbs-rest, item-behind, none-rest, rest-none, rest-some, some-rest}
-use Rattle.rs_setop.proofs.UnionAllFacts.{bars-keep}
-use Rattle.rs_setop.proofs.WalkFacts.{due-none, due-some, head-known, head-unknown}
+use Rattle.rs_setop.proofs.WalkFacts.{bars-keep, due-none, due-some, head-known, head-unknown}
 use Rattle.rs_setop.proofs.ComparedFacts.{Shown, answer-gone, asks-behind, asks-one, asks_behind-done, asks_behind-more, at_most, climbing, compared_of, is_kept-other, gone, known-values, left-known, more, other-gone, right-over, right-row, schedule-is, seen-gone, shows}
 use Rattle.rs_setop.proofs.HeadFacts.{Tells}
 

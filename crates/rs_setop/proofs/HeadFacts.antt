@@ -54,7 +54,7 @@ Shows s lefts rights left right left_asks right_asks heads End = (left_asks ≡ 
 abbrev heads_of : Sides → Option OutputRow → Option OutputRow → Heads
 heads_of s o p = record { left = head_of s o; right = head_of s p }
 
-abbrev both : Head → Head → Heads
+abbrev pub both : Head → Head → Heads
 both left right = record { left = left; right = right }
 
 -- the next rows of both sides are known
