@@ -14,17 +14,17 @@ use Rattle.rs_outputs.specs.Rows.{OutputRow}
 use Rattle.rs_setop.specs.Sides.{AreSides, IsRowOf, Sides, head_of}
 use Rattle.rs_setop.specs.Stands.{ComparedStands, UnionStands}
 use Rattle.rs_setop.specs.Union.{Union, settled}
-use Rattle.rs_setop.proofs.NextFacts.{need_of, one_more, rows_of, with_head}
+use Rattle.rs_setop.proofs.NextFacts.{need_of, of_side, one_more, with_head}
 use Rattle.rs_setop.proofs.UnionFacts.{settled-stands, side-known}
 
 -- the rows of both sides have sums that the terms can give
-row-sum : (s : Sides) (lefts rights : List OutputRow) → AreSides s lefts rights → (side : JoinSide) (n : ℕ) (row : OutputRow) → slice_get (rows_of side lefts rights) n ≡ Some row → HasSum s.weights s.terms row.row
+row-sum : (s : Sides) (lefts rights : List OutputRow) → AreSides s lefts rights → (side : JoinSide) (n : ℕ) (row : OutputRow) → slice_get (of_side side lefts rights) n ≡ Some row → HasSum s.weights s.terms row.row
 row-sum s lefts rights input Left n row e = (AllByRecursion-In (IsRowOf s s.left_block) lefts input.left_rows row (In-slice_get n lefts row e)).sum
 row-sum s lefts rights input Right n row e = (AllByRecursion-In (IsRowOf s s.right_block) rights input.right_rows row (In-slice_get n rights row e)).sum
 
 module _ (s : Sides) (distinct : Bool) (lefts rights : List OutputRow) (made : List SideAsk) (count : ℕ) (u : Union) (st : UnionStands s distinct lefts rights made count u) (side : JoinSide) (need : ask_of u.heads ≡ need_of side) where
   abbrev next : Option OutputRow
-  next = slice_get (rows_of side lefts rights) (asked side made)
+  next = slice_get (of_side side lefts rights) (asked side made)
 
   abbrev with_next : Head → Union
   with_next head = record u { heads = with_head side head u.heads }
@@ -47,6 +47,6 @@ module _ (s : Sides) (distinct : Bool) (lefts rights : List OutputRow) (made : L
 
 -- the sums of the rows that INTERSECT and EXCEPT take
 pub compared-sum : (s : Sides) (shared : Bool) (lefts rights : List OutputRow) (made : List SideAsk) (count : ℕ) (c : Comparison) → ComparedStands s shared lefts rights made count c
-    → (side : JoinSide) (row : OutputRow) → slice_get (rows_of side lefts rights) (asked side made) ≡ Some row → HasSum c.weights c.terms row.row
+    → (side : JoinSide) (row : OutputRow) → slice_get (of_side side lefts rights) (asked side made) ≡ Some row → HasSum c.weights c.terms row.row
 compared-sum s shared lefts rights made count c st side row e =
     subst (λ (d : Comparison). HasSum d.weights d.terms row.row) (sym st.place.state) (row-sum s lefts rights st.place.input side (asked side made) row e)

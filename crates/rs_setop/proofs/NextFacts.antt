@@ -17,19 +17,18 @@ use Rattle.rs_setop.specs.Stands.{IsMerging, heads_after, rows_left}
 use Rattle.rs_setop.proofs.HeadFacts.{Shows, as_held, both, heads-show, right-due}
 use Rattle.rs_setop.proofs.WalkFacts.{head-known, head-unknown, left-asked, left-first, left-gone, right-asked, right-first, right-gone}
 
--- the rows of a side, its head, its asks
-abbrev pub rows_of : JoinSide → List OutputRow → List OutputRow → List OutputRow
-rows_of Left lefts rights = lefts
-rows_of Right lefts rights = rights
-
-abbrev pub with_head : JoinSide → Head → Heads → Heads
-with_head Left head heads = record heads { left = head }
-with_head Right head heads = record heads { right = head }
+-- what belongs to a side, of what belongs to the left one and to the right one
+abbrev pub of_side : {A : Type 0} → JoinSide → A → A → A
+of_side Left left right = left
+of_side Right left right = right
 
 abbrev pub need_of : JoinSide → JoinAsk
-need_of Left = NeedLeft
-need_of Right = NeedRight
+need_of side = of_side side NeedLeft NeedRight
 
+abbrev pub with_head : JoinSide → Head → Heads → Heads
+with_head side head heads = record { left = of_side side head heads.left; right = of_side side heads.right head }
+
+-- the asks that were made, and one more of a side
 abbrev pub one_more : JoinSide → List SideAsk → List SideAsk
 one_more side made = made ++ record { side = side; number = suc (asked side made) } ∷ []
 
@@ -62,7 +61,7 @@ module _ (s : Sides) (lefts rights : List OutputRow) (made : List SideAsk) (bar 
   merging-more Left need = left-asked s lefts rights made bar left right gone m (shows NeedLeft need)
   merging-more Right need = let due = shows NeedRight need in right-asked s lefts rights made bar left right gone m due.0 due.1
 
-  pub heads-more : (side : JoinSide) → ask_of heads ≡ need_of side → with_head side (head_of s (slice_get (rows_of side lefts rights) (asked side made))) heads ≡ heads_after s lefts rights (one_more side made) left right
+  pub heads-more : (side : JoinSide) → ask_of heads ≡ need_of side → with_head side (head_of s (slice_get (of_side side lefts rights) (asked side made))) heads ≡ heads_after s lefts rights (one_more side made) left right
   heads-more Left need =
       let due = shows NeedLeft need in
       let counts = asked-left made (suc (asked Left made)) in

@@ -36,7 +36,7 @@ use Rattle.rs_setop.specs.Sides.{AreSides, IsRowOf, Sides, answers, head_of, key
 use Rattle.rs_setop.specs.Stands.{UnionAt, UnionStands, given_of, heads_after, rows_left, taken_of, turns_left, union_op}
 use Rattle.rs_setop.specs.Union.{Union, first_was_taken, is_repeated, left_for, new_union, settled, taken_for, was_taken, with_taken}
 use Rattle.rs_setop.proofs.HeadFacts.{Shows, Tells, as_held}
-use Rattle.rs_setop.proofs.NextFacts.{IsFirst, first-row, heads-more, merging-more, need_of, one_more, rows_of, shows, with_head}
+use Rattle.rs_setop.proofs.NextFacts.{IsFirst, first-row, heads-more, merging-more, need_of, of_side, one_more, shows, with_head}
 use Rattle.rs_setop.proofs.WalkFacts.{all-asked, bars-keep, next-left, next-right, none-left, nothing-asked, rows_left-climbs, sides-apart}
 
 -- the rows of both sides differ in their keys
@@ -172,7 +172,7 @@ module _ (s : Sides) (distinct : Bool) (lefts rights : List OutputRow) (made : L
 
   -- the next row of a side is known, or that there is none
   pub side-known : (side : JoinSide) → ask_of u.heads ≡ need_of side
-      → UnionAt s distinct lefts rights (one_more side made) count (record u { heads = with_head side (head_of s (slice_get (rows_of side lefts rights) (asked side made))) u.heads })
+      → UnionAt s distinct lefts rights (one_more side made) count (record u { heads = with_head side (head_of s (slice_get (of_side side lefts rights) (asked side made))) u.heads })
   side-known side need =
       let due = asks (need_of side) need in
       record {
@@ -182,7 +182,7 @@ module _ (s : Sides) (distinct : Bool) (lefts rights : List OutputRow) (made : L
         gone = st.gone;
         taken = st.taken;
         state =
-            ap (λ (v : Union). record v { heads = with_head side (head_of s (slice_get (rows_of side lefts rights) (asked side made))) v.heads }) st.state
+            ap (λ (v : Union). record v { heads = with_head side (head_of s (slice_get (of_side side lefts rights) (asked side made))) v.heads }) st.state
             ∙ ap (λ h. union_of s distinct h st.taken) (heads-more s lefts rights made bar st.left st.right st.gone st.merging side due);
         answered = st.answered;
         merging = merging-more s lefts rights made bar st.left st.right st.gone st.merging side due;
