@@ -228,7 +228,7 @@ module _ (s : Sides) (lefts rights : List OutputRow) (made : List SideAsk) (bar 
     }
 
   -- the schedule: the asks made, those due, and those of the rows that are left
-  scheduled : schedule key_cmp (keys_of s lefts) (keys_of s rights) bar ≡ (made ++ (due Left left (asked Left made) ++ due Right right (asked Right made))) ++ asked_before key_cmp bar (turns_left s lefts rights left right)
+  pub scheduled : schedule key_cmp (keys_of s lefts) (keys_of s rights) bar ≡ (made ++ (due Left left (asked Left made) ++ due Right right (asked Right made))) ++ asked_before key_cmp bar (turns_left s lefts rights left right)
   scheduled =
       ap (λ asks. record { side = Left; number = 1 } ∷ record { side = Right; number = 1 } ∷ asks)
       (ap (asked_before key_cmp bar) m.turns
