@@ -1,5 +1,5 @@
 -- One ask of a set operator, in steps: where it stands between two asks of its sides, and what each step does.
-use Rattle.std.proofs.Common.{◌≡◌, ◌∙◌, ℕ, zero, suc, ◌-◌, ◌+◌, ◌<◌, ◌≤◌, false, List, [], ◌∷◌, ◌++◌, length, map, drop, min, refl, sym, ap, subst, inl, inr, arith, append-nil, append_assoc}
+use Rattle.std.proofs.Common.{◌≡◌, ◌∙◌, ℕ, zero, suc, ◌+◌, ◌<◌, false, List, [], ◌∷◌, ◌++◌, length, map, drop, min, refl, sym, ap, subst, inl, inr, arith, append-nil, append_assoc}
 use Rattle.std.proofs.lemmas.Grind.{flat_map-append}
 use Rattle.std.proofs.lemmas.List.{length-append, length-map}
 use Rattle.std.proofs.lemmas.List.Elements.{filter-append}
@@ -30,7 +30,6 @@ use Rattle.rs_setop.specs.Sides.{AreSides as AreSideRows, Sides, answers, keys_o
 use Rattle.rs_setop.proofs.HeadFacts.{Tells}
 use Rattle.rs_setop.proofs.NextFacts.{need_of, of_side, one_more}
 use Rattle.rs_value.specs.declared.set_op.SetOp.{SetOp}
-use Rattle.rs_value.specs.declared.set_op.SetOp.TheVariants as op
 use Rattle.rs_plan.specs.Asks.{bar_of, child_asks, keys_of}
 use Rattle.rs_plan.specs.Calls.{questions, questions_of_ask, side_part}
 use Rattle.rs_plan.specs.Counts.{asked_of, gave_of}
