@@ -1,6 +1,6 @@
 -- The list of an operator that drops duplicates: of the rows of its input, in the order of their keys, the first one of each list of
 -- output values.
-use Rattle.std.proofs.Common.{◌≡◌, ◌∙◌, ℕ, suc, ◌&&◌, Bool, true, false, not, cond, ◌++◌, List, [], ◌∷◌, map, refl, sym, ap, ap₂, subst, arith, append-nil}
+use Rattle.std.proofs.Common.{◌≡◌, ◌∙◌, ℕ, suc, Bool, true, false, not, cond, ◌++◌, List, [], ◌∷◌, map, refl, sym, ap, ap₂, subst, arith, append-nil}
 use Rattle.std.specs.List.{AllByRecursion, filter}
 use Rattle.rs_order.specs.Climbing.{Climbs, In, Precedes}
 use Rattle.rs_order.specs.Sorting.{sorted}
@@ -20,8 +20,6 @@ use Rattle.rs_query.specs.declared.query.Query.{Query}
 use Rattle.rs_query.specs.declared.query.Query.TheVariants.{One, Set}
 use Rattle.rs_query.proofs.RiseFacts.{each-firsts}
 use Rattle.rs_value.specs.declared.set_op.SetOp.TheVariants as op
-use Rattle.rs_value.specs.declared.value.Value.{Value}
-use Rattle.rs_value.specs.declared.value.Value.TheVariants.{Int, Text}
 use Rattle.rs_outputs.specs.Rows.{OutputRow, firsts as output_firsts}
 use Rattle.rs_outputs.specs.Seen.{same_values}
 use Rattle.rs_outputs.proofs.FirstFacts.{Climbs-firsts}

@@ -1,5 +1,4 @@
 -- The indexes of each plan hold a scorer's answers where those of the catalogue do.
-use Rattle.std.proofs.Common.{ℕ}
 use Rattle.rs_expr.specs.Scoring.{Answering}
 use Rattle.rs_catalog.specs.Catalog.{CatalogDef}
 use Rattle.rs_catalog.specs.Held.{IndexesHold, IndexHolds}

@@ -2,12 +2,13 @@
 use Rattle.std.proofs.Common.{ℕ, suc, ◌≡◌, ◌∙◌, ◌+◌, ◌-◌, ◌<◌, ◌^◌, false, min, Box, Global, length, refl, sym, ap, subst, arith}
 use Rattle.std.specs.Box.{with_value}
 use Rattle.std.specs.Prelude.{Option, Some, None, Result, Ok, Err, if◌then◌else◌, is_some}
-use Rattle.rs_order.specs.Schedule.{Left, Right}
+use Rattle.rs_order.specs.Schedule.{JoinSide, Left, Right}
 use Rattle.rs_expr.specs.InOrder.{Inquires}
 use Rattle.rs_expr.specs.Scoring.{ScorerState}
 use Rattle.rs_rank.specs.Rows.{HasSum}
-use Rattle.rs_rank.specs.declared.ask.JoinAsk.TheVariants.{End, NeedLeft, NeedRight, Ready}
+use Rattle.rs_rank.specs.declared.ask.JoinAsk.TheVariants.{End, Ready}
 use Rattle.rs_rank.specs.declared.row.RankRow.{RankRow}
+use Rattle.rs_setop.proofs.NextFacts.{need_of, of_side}
 use Rattle.rs_catalog.specs.Catalog.{CatalogDef}
 use Rattle.rs_query.specs.declared.query.Query.{Query}
 use Rattle.rs_plan.specs.Asks.{child_asks}
@@ -18,7 +19,6 @@ use Rattle.rs_exec.specs.Asked.{Asked, CanAsk, NodeAfter, SetAfter}
 use Rattle.rs_exec.specs.Asking.{next_row, world_of}
 use Rattle.rs_exec.specs.Nodes.{asked_in, number_in, tree_in}
 use Rattle.rs_exec.specs.Outputs.{CanPutOut, outputs_in, values_for}
-use Rattle.rs_exec.specs.SetCores as set
 use Rattle.rs_exec.specs.SetCores.{CoreStands, core_ask, is_spent, left_in, taken_from, terms_of_core, weights_of_core}
 use Rattle.rs_exec.specs.SetNodes.{SetStands, operator_of, sides_for}
 use Rattle.rs_exec.specs.Standing.{Stands}
@@ -31,7 +31,8 @@ use Rattle.rs_exec.specs.declared.set_core.SetCore.{SetCore}
 use Rattle.rs_exec.specs.declared.tally.Tally.{Tally}
 use Rattle.rs_exec.proofs.CycleFacts.{ask-failed, tally-more}
 use Rattle.rs_exec.proofs.JoinCycleFacts.{node-number}
-use Rattle.rs_exec.proofs.SetStepFacts.{SetAsked, SetBetween, set-alive, set-end, set-left_can, set-left_ended, set-left_fault, set-left_fed, set-left_less, set-left_puts, set-left_stopped, set-left_sum, set-ready, set-right_can, set-right_ended, set-right_fault, set-right_fed, set-right_less, set-right_puts, set-right_stopped, set-right_sum, set-start}
+use Rattle.rs_exec.proofs.SetStepFacts.{SetAsked, SetBetween, set-alive, set-can, set-end, set-ended, set-fault, set-fed, set-less, set-puts, set-ready, set-start, set-stopped, set-sum}
+use Rattle.rs_exec.proofs.SetCoreFacts.{side_ended, side_fed}
 
 -- a set operator and its sides, held apart, as a node
 module _ (w : World) (self : Node) (head after : SetNode) (left_box right_box : Box Node Global) (left_middle right_middle left right : Node)
@@ -95,6 +96,22 @@ set_turn-start catalogue query head on_left on_right old can stands left right t
           stands.core stands.left_asked stands.right_asked;
     }
 
+-- where a node of a side comes in the place of the one before: what holds of both sides, how often they were asked, and that fewer
+-- asks are left
+with_side : (P : JoinSide → Node → Type 0) (side : JoinSide) (next left right : Node) → P side next → P Left left → P Right right → P Left (of_side side next left) × P Right (of_side side right next)
+with_side P Left next left right new on_left on_right = (new, on_right)
+with_side P Right next left right new on_left on_right = (on_left, new)
+
+counts-then : (side : JoinSide) (left right next : Node) → asked_in next ≡ suc (of_side side (asked_in left) (asked_in right))
+    → (of_side side (suc (asked_in left)) (asked_in left) ≡ asked_in (of_side side next left)) × (of_side side (asked_in right) (suc (asked_in right)) ≡ asked_in (of_side side right next))
+counts-then Left left right next is = (sym is, refl)
+counts-then Right left right next is = (refl, sym is)
+
+nearer : (side : JoinSide) (left right next : Node) (most : JoinSide → ℕ) → of_side side (asked_in left) (asked_in right) < most side → asked_in next ≡ suc (of_side side (asked_in left) (asked_in right))
+    → (most Left - asked_in (of_side side next left)) + (most Right - asked_in (of_side side right next)) < (most Left - asked_in left) + (most Right - asked_in right)
+nearer Left left right next most less is = omega arith
+nearer Right left right next most less is = omega arith
+
 module _ {catalogue : CatalogDef} {query : Query} {left right : PlanTree} {a : ℕ} {old : ScorerState} {head : SetNode} {on_left on_right : Node} {now : ScorerState}
     (turn : SetTurn catalogue query left right a old head on_left on_right now) (can : CanAsk (world_of catalogue old.answer query) 1 (SetOperator left right) a) where
   abbrev whole : World
@@ -106,183 +123,129 @@ module _ {catalogue : CatalogDef} {query : Query} {left right : PlanTree} {a : �
   pub set_turn-small : head.tally.gave < 2 ^ 128 - 1
   set_turn-small = let more = can.more in let few = can.few in let gave = turn.gave_is in omega arith
 
-  -- the left side is asked once more
-  module _ (need : core_ask head.core ≡ NeedLeft) where
-    pub set_turn-left_can : CanAsk (world_of catalogue now.answer query) (number_in on_left) (tree_in on_left) (asked_in on_left)
-    set_turn-left_can =
-        subst (λ n. CanAsk (world_of catalogue now.answer query) n (tree_in on_left) (asked_in on_left)) (sym (node-number whole 1 on_left turn.left_stands))
-        (subst (λ t. CanAsk (world_of catalogue now.answer query) 1 t (asked_in on_left)) (sym turn.left_tree) (set-left_can catalogue query left right a old can (asked_in on_left) (asked_in on_right) head.core now turn.between need))
+  -- a side is asked once more: the node of this side, its tree and its number
+  number-of : (side : JoinSide) → number_in (of_side side on_left on_right) ≡ of_side side 1 2
+  number-of Left = node-number whole 1 on_left turn.left_stands
+  number-of Right = node-number whole 2 on_right turn.right_stands
 
-    pub set_turn-left_stands : Stands (world_of catalogue now.answer query) (number_in on_left) on_left
-    set_turn-left_stands =
-        subst (λ n. Stands (world_of catalogue now.answer query) n on_left) (sym (node-number whole 1 on_left turn.left_stands))
-        (subst (λ answer. Stands (world_of catalogue answer query) 1 on_left) (sym turn.between.all_asked.keeps.answer) turn.left_stands)
+  tree-of : (side : JoinSide) → tree_in (of_side side on_left on_right) ≡ of_side side left right
+  tree-of Left = turn.left_tree
+  tree-of Right = turn.right_tree
 
-    left-same : (result : Result (Option RankRow) ExecFault) (asked : ScorerState)
-        → Inquires Memory (next_row (world_of catalogue now.answer query) (number_in on_left) (tree_in on_left) (asked_in on_left)) result now asked
-        → Inquires Memory (next_row (world_of catalogue now.answer query) 1 left (asked_in on_left)) result now asked
-    left-same result asked below =
-        subst (λ n. Inquires Memory (next_row (world_of catalogue now.answer query) n left (asked_in on_left)) result now asked) (node-number whole 1 on_left turn.left_stands)
-        (subst (λ t. Inquires Memory (next_row (world_of catalogue now.answer query) (number_in on_left) t (asked_in on_left)) result now asked) turn.left_tree below)
+  asked-of : (side : JoinSide) → of_side side (asked_in on_left) (asked_in on_right) ≡ asked_in (of_side side on_left on_right)
+  asked-of Left = refl
+  asked-of Right = refl
 
-    -- a fault of it ends the ask
-    pub set_turn-left_failed : (After : Type 0) (fault : ExecFault) (result : Result (Option RankRow) ExecFault) (asked : ScorerState) → result ≡ Err fault
-        → Inquires Memory (next_row (world_of catalogue now.answer query) (number_in on_left) (tree_in on_left) (asked_in on_left)) (Err fault) now asked
-        → Asked (world_of catalogue old.answer query) 1 (SetOperator left right) a After result old asked
-    set_turn-left_failed After fault result asked is below =
-        ask-failed whole 1 (SetOperator left right) a After result fault old asked is
-        (set-left_fault catalogue query left right a old can (asked_in on_left) (asked_in on_right) head.core now turn.between need fault asked (left-same (Err fault) asked below))
+  stands-of : (side : JoinSide) → Stands whole (of_side side 1 2) (of_side side on_left on_right)
+  stands-of Left = turn.left_stands
+  stands-of Right = turn.right_stands
 
-    module _ (next : Node) (after : NodeAfter (world_of catalogue now.answer query) (number_in on_left) (tree_in on_left) (asked_in on_left) next) where
-      -- fewer asks are left
-      pub set_turn-left_nearer : (asked_of (world_of catalogue old.answer query) 1 (SetOperator left right) (suc a) Left - asked_in next)
-          + (asked_of (world_of catalogue old.answer query) 1 (SetOperator left right) (suc a) Right - asked_in on_right)
-          < (asked_of (world_of catalogue old.answer query) 1 (SetOperator left right) (suc a) Left - asked_in on_left)
-          + (asked_of (world_of catalogue old.answer query) 1 (SetOperator left right) (suc a) Right - asked_in on_right)
-      set_turn-left_nearer =
-          let less = set-left_less catalogue query left right a old can (asked_in on_left) (asked_in on_right) head.core now turn.between need in
-          let is = after.asked_is in
-          omega arith
+  module _ (side : JoinSide) (need : core_ask head.core ≡ need_of side) where
+    abbrev on : Node
+    on = of_side side on_left on_right
 
-      left-turn : (core : SetCore) (fed : SetNode) (new : ScorerState) → fed ≡ record head { core = core }
-          → SetBetween (world_of catalogue old.answer query) left right a (suc (asked_in on_left)) (asked_in on_right) core old new
-          → SetTurn catalogue query left right a old fed next on_right new
-      left-turn core fed new is between = record {
-        left_tree = after.tree_is ∙ turn.left_tree;
-        right_tree = turn.right_tree;
-        left_stands = subst (λ n. Stands whole n next) (after.number_is ∙ node-number whole 1 on_left turn.left_stands)
-            (subst (λ n. Stands whole n next) (sym after.number_is)
-            (subst (λ answer. Stands (world_of catalogue answer query) (number_in on_left) next) turn.between.all_asked.keeps.answer after.stands));
-        right_stands = turn.right_stands;
-        asked_is = ap (λ (n : SetNode). n.tally.asked) is ∙ turn.asked_is;
-        gave_is = ap (λ (n : SetNode). n.tally.gave) is ∙ turn.gave_is;
-        between = subst (λ (c : SetCore). SetBetween whole left right a (asked_in next) (asked_in on_right) c old new) (sym (ap (λ (n : SetNode). n.core) is))
-            (subst (λ asks. SetBetween whole left right a asks (asked_in on_right) core old new) (sym after.asked_is) between);
-      }
+    abbrev asks : ℕ
+    asks = of_side side (asked_in on_left) (asked_in on_right)
 
-    module _ (row : RankRow) (got : Option RankRow) (is_row : got ≡ Some row) (asked : ScorerState)
-        (answered : Inquires Memory (next_row (world_of catalogue now.answer query) (number_in on_left) (tree_in on_left) (asked_in on_left)) (Ok got) now asked) where
-      left-below : Inquires Memory (next_row (world_of catalogue now.answer query) 1 left (asked_in on_left)) (Ok (Some row)) now asked
-      left-below = left-same (Ok (Some row)) asked
-          (subst (λ (r : Option RankRow). Inquires Memory (next_row (world_of catalogue now.answer query) (number_in on_left) (tree_in on_left) (asked_in on_left)) (Ok r) now asked) is_row answered)
+    pub set_turn-can : CanAsk (world_of catalogue now.answer query) (number_in on) (tree_in on) (asked_in on)
+    set_turn-can =
+        subst (λ n. CanAsk (world_of catalogue now.answer query) n (tree_in on) (asked_in on)) (sym (number-of side))
+        (subst (λ t. CanAsk (world_of catalogue now.answer query) (of_side side 1 2) t (asked_in on)) (sym (tree-of side))
+        (subst (CanAsk (world_of catalogue now.answer query) (of_side side 1 2) (of_side side left right)) (asked-of side)
+        (set-can catalogue query left right a old can (asked_in on_left) (asked_in on_right) head.core now turn.between side need)))
 
-      pub set_turn-left_puts : CanPutOut catalogue query row
-      set_turn-left_puts = set-left_puts catalogue query left right a old can (asked_in on_left) (asked_in on_right) head.core now turn.between need row asked left-below
+    pub set_turn-stands : Stands (world_of catalogue now.answer query) (number_in on) on
+    set_turn-stands =
+        subst (λ n. Stands (world_of catalogue now.answer query) n on) (sym (number-of side))
+        (subst (λ answer. Stands (world_of catalogue answer query) (of_side side 1 2) on) (sym turn.between.all_asked.keeps.answer) (stands-of side))
 
-      pub set_turn-left_sum : HasSum (weights_of_core head.core) (terms_of_core head.core) row
-      set_turn-left_sum = set-left_sum catalogue query left right a old can (asked_in on_left) (asked_in on_right) head.core now turn.between need row asked left-below
-
-      -- the row is taken
-      pub set_turn-left_fed : (fed : SetNode) (next : Node) → fed ≡ record head { core = set.left_fed row (values_for catalogue query row) head.core }
-          → NodeAfter (world_of catalogue now.answer query) (number_in on_left) (tree_in on_left) (asked_in on_left) next
-          → SetTurn catalogue query left right a old fed next on_right asked
-      set_turn-left_fed fed next is after =
-          left-turn next after (set.left_fed row (values_for catalogue query row) head.core) fed asked is (set-left_fed catalogue query left right a old can (asked_in on_left) (asked_in on_right) head.core now turn.between need row asked left-below)
-
-      -- there was no memory for it
-      pub set_turn-left_stopped : (After : Type 0) (result : Result (Option RankRow) ExecFault) → result ≡ Err Memory
-          → Asked (world_of catalogue old.answer query) 1 (SetOperator left right) a After result old asked
-      set_turn-left_stopped After result is =
-          ask-failed whole 1 (SetOperator left right) a After result Memory old asked is (set-left_stopped catalogue query left right a old can (asked_in on_left) (asked_in on_right) head.core now turn.between need (Some row) asked left-below)
-
-    -- its end is told
-    pub set_turn-left_ended : (got : Option RankRow) → got ≡ None → (asked : ScorerState) (fed : SetNode) (next : Node) → fed ≡ record head { core = set.left_ended head.core }
-        → Inquires Memory (next_row (world_of catalogue now.answer query) (number_in on_left) (tree_in on_left) (asked_in on_left)) (Ok got) now asked
-        → NodeAfter (world_of catalogue now.answer query) (number_in on_left) (tree_in on_left) (asked_in on_left) next
-        → SetTurn catalogue query left right a old fed next on_right asked
-    set_turn-left_ended got none asked fed next is below after =
-        left-turn next after (set.left_ended head.core) fed asked is
-        (set-left_ended catalogue query left right a old can (asked_in on_left) (asked_in on_right) head.core now turn.between need asked
-        (left-same (Ok None) asked (subst (λ (r : Option RankRow). Inquires Memory (next_row (world_of catalogue now.answer query) (number_in on_left) (tree_in on_left) (asked_in on_left)) (Ok r) now asked) none below)))
-
-  -- the right side is asked once more
-  module _ (need : core_ask head.core ≡ NeedRight) where
-    pub set_turn-right_can : CanAsk (world_of catalogue now.answer query) (number_in on_right) (tree_in on_right) (asked_in on_right)
-    set_turn-right_can =
-        subst (λ n. CanAsk (world_of catalogue now.answer query) n (tree_in on_right) (asked_in on_right)) (sym (node-number whole 2 on_right turn.right_stands))
-        (subst (λ t. CanAsk (world_of catalogue now.answer query) 2 t (asked_in on_right)) (sym turn.right_tree) (set-right_can catalogue query left right a old can (asked_in on_left) (asked_in on_right) head.core now turn.between need))
-
-    pub set_turn-right_stands : Stands (world_of catalogue now.answer query) (number_in on_right) on_right
-    set_turn-right_stands =
-        subst (λ n. Stands (world_of catalogue now.answer query) n on_right) (sym (node-number whole 2 on_right turn.right_stands))
-        (subst (λ answer. Stands (world_of catalogue answer query) 2 on_right) (sym turn.between.all_asked.keeps.answer) turn.right_stands)
-
-    right-same : (result : Result (Option RankRow) ExecFault) (asked : ScorerState)
-        → Inquires Memory (next_row (world_of catalogue now.answer query) (number_in on_right) (tree_in on_right) (asked_in on_right)) result now asked
-        → Inquires Memory (next_row (world_of catalogue now.answer query) 2 right (asked_in on_right)) result now asked
-    right-same result asked below =
-        subst (λ n. Inquires Memory (next_row (world_of catalogue now.answer query) n right (asked_in on_right)) result now asked) (node-number whole 2 on_right turn.right_stands)
-        (subst (λ t. Inquires Memory (next_row (world_of catalogue now.answer query) (number_in on_right) t (asked_in on_right)) result now asked) turn.right_tree below)
+    same : (result : Result (Option RankRow) ExecFault) (asked : ScorerState)
+        → Inquires Memory (next_row (world_of catalogue now.answer query) (number_in on) (tree_in on) (asked_in on)) result now asked
+        → Inquires Memory (next_row (world_of catalogue now.answer query) (of_side side 1 2) (of_side side left right) asks) result now asked
+    same result asked below =
+        subst (λ n. Inquires Memory (next_row (world_of catalogue now.answer query) (of_side side 1 2) (of_side side left right) n) result now asked) (sym (asked-of side))
+        (subst (λ n. Inquires Memory (next_row (world_of catalogue now.answer query) n (of_side side left right) (asked_in on)) result now asked) (number-of side)
+        (subst (λ t. Inquires Memory (next_row (world_of catalogue now.answer query) (number_in on) t (asked_in on)) result now asked) (tree-of side) below))
 
     -- a fault of it ends the ask
-    pub set_turn-right_failed : (After : Type 0) (fault : ExecFault) (result : Result (Option RankRow) ExecFault) (asked : ScorerState) → result ≡ Err fault
-        → Inquires Memory (next_row (world_of catalogue now.answer query) (number_in on_right) (tree_in on_right) (asked_in on_right)) (Err fault) now asked
+    pub set_turn-failed : (After : Type 0) (fault : ExecFault) (result : Result (Option RankRow) ExecFault) (asked : ScorerState) → result ≡ Err fault
+        → Inquires Memory (next_row (world_of catalogue now.answer query) (number_in on) (tree_in on) (asked_in on)) (Err fault) now asked
         → Asked (world_of catalogue old.answer query) 1 (SetOperator left right) a After result old asked
-    set_turn-right_failed After fault result asked is below =
+    set_turn-failed After fault result asked is below =
         ask-failed whole 1 (SetOperator left right) a After result fault old asked is
-        (set-right_fault catalogue query left right a old can (asked_in on_left) (asked_in on_right) head.core now turn.between need fault asked (right-same (Err fault) asked below))
+        (set-fault catalogue query left right a old can (asked_in on_left) (asked_in on_right) head.core now turn.between side need fault asked (same (Err fault) asked below))
 
-    module _ (next : Node) (after : NodeAfter (world_of catalogue now.answer query) (number_in on_right) (tree_in on_right) (asked_in on_right) next) where
+    module _ (next : Node) (after : NodeAfter (world_of catalogue now.answer query) (number_in on) (tree_in on) (asked_in on) next) where
+      one-more : asked_in next ≡ suc asks
+      one-more = after.asked_is ∙ ap suc (sym (asked-of side))
+
       -- fewer asks are left
-      pub set_turn-right_nearer : (asked_of (world_of catalogue old.answer query) 1 (SetOperator left right) (suc a) Left - asked_in on_left)
-          + (asked_of (world_of catalogue old.answer query) 1 (SetOperator left right) (suc a) Right - asked_in next)
+      pub set_turn-nearer : (asked_of (world_of catalogue old.answer query) 1 (SetOperator left right) (suc a) Left - asked_in (of_side side next on_left))
+          + (asked_of (world_of catalogue old.answer query) 1 (SetOperator left right) (suc a) Right - asked_in (of_side side on_right next))
           < (asked_of (world_of catalogue old.answer query) 1 (SetOperator left right) (suc a) Left - asked_in on_left)
           + (asked_of (world_of catalogue old.answer query) 1 (SetOperator left right) (suc a) Right - asked_in on_right)
-      set_turn-right_nearer =
-          let less = set-right_less catalogue query left right a old can (asked_in on_left) (asked_in on_right) head.core now turn.between need in
-          let is = after.asked_is in
-          omega arith
+      set_turn-nearer =
+          nearer side on_left on_right next (asked_of whole 1 (SetOperator left right) (suc a)) (set-less catalogue query left right a old can (asked_in on_left) (asked_in on_right) head.core now turn.between side need) one-more
 
-      right-turn : (core : SetCore) (fed : SetNode) (new : ScorerState) → fed ≡ record head { core = core }
-          → SetBetween (world_of catalogue old.answer query) left right a (asked_in on_left) (suc (asked_in on_right)) core old new
-          → SetTurn catalogue query left right a old fed on_left next new
-      right-turn core fed new is between = record {
-        right_tree = after.tree_is ∙ turn.right_tree;
-        left_tree = turn.left_tree;
-        right_stands = subst (λ n. Stands whole n next) (after.number_is ∙ node-number whole 2 on_right turn.right_stands)
-            (subst (λ n. Stands whole n next) (sym after.number_is)
-            (subst (λ answer. Stands (world_of catalogue answer query) (number_in on_right) next) turn.between.all_asked.keeps.answer after.stands));
-        left_stands = turn.left_stands;
-        asked_is = ap (λ (n : SetNode). n.tally.asked) is ∙ turn.asked_is;
-        gave_is = ap (λ (n : SetNode). n.tally.gave) is ∙ turn.gave_is;
-        between = subst (λ (c : SetCore). SetBetween whole left right a (asked_in on_left) (asked_in next) c old new) (sym (ap (λ (n : SetNode). n.core) is))
-            (subst (λ asks. SetBetween whole left right a (asked_in on_left) asks core old new) (sym after.asked_is) between);
-      }
+      side-turn : (core : SetCore) (fed : SetNode) (new : ScorerState) → fed ≡ record head { core = core }
+          → SetBetween (world_of catalogue old.answer query) left right a (of_side side (suc (asked_in on_left)) (asked_in on_left)) (of_side side (asked_in on_right) (suc (asked_in on_right))) core old new
+          → SetTurn catalogue query left right a old fed (of_side side next on_left) (of_side side on_right next) new
+      side-turn core fed new is between =
+          let P : JoinSide → Node → Type 0 = λ v n. (tree_in n ≡ of_side v left right) × Stands whole (of_side v 1 2) n in
+          let moved : P side next = (
+            after.tree_is ∙ tree-of side,
+            subst (λ n. Stands whole n next) (after.number_is ∙ number-of side)
+                (subst (λ n. Stands whole n next) (sym after.number_is)
+                (subst (λ answer. Stands (world_of catalogue answer query) (number_in on) next) turn.between.all_asked.keeps.answer after.stands)),
+          ) in
+          let both = with_side P side next on_left on_right moved (turn.left_tree, turn.left_stands) (turn.right_tree, turn.right_stands) in
+          let counts = counts-then side on_left on_right next one-more in
+          record {
+            left_tree = both.0.0;
+            right_tree = both.1.0;
+            left_stands = both.0.1;
+            right_stands = both.1.1;
+            asked_is = ap (λ (n : SetNode). n.tally.asked) is ∙ turn.asked_is;
+            gave_is = ap (λ (n : SetNode). n.tally.gave) is ∙ turn.gave_is;
+            between = subst (λ (c : SetCore). SetBetween whole left right a (asked_in (of_side side next on_left)) (asked_in (of_side side on_right next)) c old new) (sym (ap (λ (n : SetNode). n.core) is))
+                (subst (λ n. SetBetween whole left right a n (asked_in (of_side side on_right next)) core old new) counts.0
+                (subst (λ n. SetBetween whole left right a (of_side side (suc (asked_in on_left)) (asked_in on_left)) n core old new) counts.1 between));
+          }
 
     module _ (row : RankRow) (got : Option RankRow) (is_row : got ≡ Some row) (asked : ScorerState)
-        (answered : Inquires Memory (next_row (world_of catalogue now.answer query) (number_in on_right) (tree_in on_right) (asked_in on_right)) (Ok got) now asked) where
-      right-below : Inquires Memory (next_row (world_of catalogue now.answer query) 2 right (asked_in on_right)) (Ok (Some row)) now asked
-      right-below = right-same (Ok (Some row)) asked
-          (subst (λ (r : Option RankRow). Inquires Memory (next_row (world_of catalogue now.answer query) (number_in on_right) (tree_in on_right) (asked_in on_right)) (Ok r) now asked) is_row answered)
+        (answered : Inquires Memory (next_row (world_of catalogue now.answer query) (number_in on) (tree_in on) (asked_in on)) (Ok got) now asked) where
+      below : Inquires Memory (next_row (world_of catalogue now.answer query) (of_side side 1 2) (of_side side left right) asks) (Ok (Some row)) now asked
+      below = same (Ok (Some row)) asked
+          (subst (λ (r : Option RankRow). Inquires Memory (next_row (world_of catalogue now.answer query) (number_in on) (tree_in on) (asked_in on)) (Ok r) now asked) is_row answered)
 
-      pub set_turn-right_puts : CanPutOut catalogue query row
-      set_turn-right_puts = set-right_puts catalogue query left right a old can (asked_in on_left) (asked_in on_right) head.core now turn.between need row asked right-below
+      pub set_turn-puts : CanPutOut catalogue query row
+      set_turn-puts = set-puts catalogue query left right a old can (asked_in on_left) (asked_in on_right) head.core now turn.between side need row asked below
 
-      pub set_turn-right_sum : HasSum (weights_of_core head.core) (terms_of_core head.core) row
-      set_turn-right_sum = set-right_sum catalogue query left right a old can (asked_in on_left) (asked_in on_right) head.core now turn.between need row asked right-below
+      pub set_turn-sum : HasSum (weights_of_core head.core) (terms_of_core head.core) row
+      set_turn-sum = set-sum catalogue query left right a old can (asked_in on_left) (asked_in on_right) head.core now turn.between side need row asked below
 
       -- the row is taken
-      pub set_turn-right_fed : (fed : SetNode) (next : Node) → fed ≡ record head { core = set.right_fed row (values_for catalogue query row) head.core }
-          → NodeAfter (world_of catalogue now.answer query) (number_in on_right) (tree_in on_right) (asked_in on_right) next
-          → SetTurn catalogue query left right a old fed on_left next asked
-      set_turn-right_fed fed next is after =
-          right-turn next after (set.right_fed row (values_for catalogue query row) head.core) fed asked is (set-right_fed catalogue query left right a old can (asked_in on_left) (asked_in on_right) head.core now turn.between need row asked right-below)
+      pub set_turn-fed : (fed : SetNode) (next : Node) → fed ≡ record head { core = side_fed side row (values_for catalogue query row) head.core }
+          → NodeAfter (world_of catalogue now.answer query) (number_in on) (tree_in on) (asked_in on) next
+          → SetTurn catalogue query left right a old fed (of_side side next on_left) (of_side side on_right next) asked
+      set_turn-fed fed next is after =
+          side-turn next after (side_fed side row (values_for catalogue query row) head.core) fed asked is (set-fed catalogue query left right a old can (asked_in on_left) (asked_in on_right) head.core now turn.between side need row asked below)
 
       -- there was no memory for it
-      pub set_turn-right_stopped : (After : Type 0) (result : Result (Option RankRow) ExecFault) → result ≡ Err Memory
+      pub set_turn-stopped : (After : Type 0) (result : Result (Option RankRow) ExecFault) → result ≡ Err Memory
           → Asked (world_of catalogue old.answer query) 1 (SetOperator left right) a After result old asked
-      set_turn-right_stopped After result is =
-          ask-failed whole 1 (SetOperator left right) a After result Memory old asked is (set-right_stopped catalogue query left right a old can (asked_in on_left) (asked_in on_right) head.core now turn.between need (Some row) asked right-below)
+      set_turn-stopped After result is =
+          ask-failed whole 1 (SetOperator left right) a After result Memory old asked is (set-stopped catalogue query left right a old can (asked_in on_left) (asked_in on_right) head.core now turn.between side need (Some row) asked below)
 
     -- its end is told
-    pub set_turn-right_ended : (got : Option RankRow) → got ≡ None → (asked : ScorerState) (fed : SetNode) (next : Node) → fed ≡ record head { core = set.right_ended head.core }
-        → Inquires Memory (next_row (world_of catalogue now.answer query) (number_in on_right) (tree_in on_right) (asked_in on_right)) (Ok got) now asked
-        → NodeAfter (world_of catalogue now.answer query) (number_in on_right) (tree_in on_right) (asked_in on_right) next
-        → SetTurn catalogue query left right a old fed on_left next asked
-    set_turn-right_ended got none asked fed next is below after =
-        right-turn next after (set.right_ended head.core) fed asked is
-        (set-right_ended catalogue query left right a old can (asked_in on_left) (asked_in on_right) head.core now turn.between need asked
-        (right-same (Ok None) asked (subst (λ (r : Option RankRow). Inquires Memory (next_row (world_of catalogue now.answer query) (number_in on_right) (tree_in on_right) (asked_in on_right)) (Ok r) now asked) none below)))
+    pub set_turn-ended : (got : Option RankRow) → got ≡ None → (asked : ScorerState) (fed : SetNode) (next : Node) → fed ≡ record head { core = side_ended side head.core }
+        → Inquires Memory (next_row (world_of catalogue now.answer query) (number_in on) (tree_in on) (asked_in on)) (Ok got) now asked
+        → NodeAfter (world_of catalogue now.answer query) (number_in on) (tree_in on) (asked_in on) next
+        → SetTurn catalogue query left right a old fed (of_side side next on_left) (of_side side on_right next) asked
+    set_turn-ended got none asked fed next is below after =
+        side-turn next after (side_ended side head.core) fed asked is
+        (set-ended catalogue query left right a old can (asked_in on_left) (asked_in on_right) head.core now turn.between side need asked
+        (same (Ok None) asked (subst (λ (r : Option RankRow). Inquires Memory (next_row (world_of catalogue now.answer query) (number_in on) (tree_in on) (asked_in on)) (Ok r) now asked) none below)))
 
   -- what is left once a row was given, or none was there
   after-is : (after : SetNode) (core : SetCore) (row : Option RankRow)

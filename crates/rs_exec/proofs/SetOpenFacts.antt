@@ -15,6 +15,7 @@ use Rattle.rs_rank.specs.Keys.{key_cmp}
 use Rattle.rs_rank.specs.declared.key.Key.{Key}
 use Rattle.rs_rank.specs.SetTurns.{one_by_one, set_schedule, wanted_for}
 use Rattle.rs_setop.specs.Sides.{Sides, answers, keys_of, row_key, schedule_of}
+use Rattle.rs_setop.proofs.NextFacts.{of_side}
 use Rattle.rs_value.specs.declared.set_op.SetOp.{SetOp}
 use Rattle.rs_value.specs.declared.set_op.SetOp.TheVariants as op
 use Rattle.rs_exec.proofs.FewFacts.{filter-less}
@@ -85,19 +86,16 @@ left-not_right : Left ≡ Right → ⊥
 left-not_right e = cc
 
 -- so a side that is asked once more wasn't asked for its end
-pub left-open : (s : Sides) (o : SetOp) (lefts rights : List OutputRow) (made : List SideAsk) (count : ℕ)
-    → slice_get (schedule_of s o lefts rights (suc count)) (length made) ≡ Some (record { side = Left; number = suc (asked Left made) }) → asked Left made ≤ length lefts
-left-open s o lefts rights made count at =
+pub side-open : (s : Sides) (o : SetOp) (lefts rights : List OutputRow) (made : List SideAsk) (count : ℕ) (side : JoinSide)
+    → slice_get (schedule_of s o lefts rights (suc count)) (length made) ≡ Some (record { side = side; number = suc (asked side made) }) → asked side made ≤ length (of_side side lefts rights)
+side-open s o lefts rights made count Left at =
     let size = length-map lefts (row_key s) in
     let within = each-slice_get (IsWithin Left (suc (length lefts))) (schedule_of s o lefts rights (suc count)) (length made) (record { side = Left; number = suc (asked Left made) })
     (set_schedule-within Left (suc (length lefts)) o (keys_of s lefts) (keys_of s rights) (bar_after (row_key s) (answers s o lefts rights) count)
     (λ same. omega arith) (λ same. absurd (left-not_right (sym same)))) at in
     let most = within refl in
     omega arith
-
-pub right-open : (s : Sides) (o : SetOp) (lefts rights : List OutputRow) (made : List SideAsk) (count : ℕ)
-    → slice_get (schedule_of s o lefts rights (suc count)) (length made) ≡ Some (record { side = Right; number = suc (asked Right made) }) → asked Right made ≤ length rights
-right-open s o lefts rights made count at =
+side-open s o lefts rights made count Right at =
     let size = length-map rights (row_key s) in
     let within = each-slice_get (IsWithin Right (suc (length rights))) (schedule_of s o lefts rights (suc count)) (length made) (record { side = Right; number = suc (asked Right made) })
     (set_schedule-within Right (suc (length rights)) o (keys_of s lefts) (keys_of s rights) (bar_after (row_key s) (answers s o lefts rights) count)

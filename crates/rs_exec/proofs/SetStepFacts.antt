@@ -1,5 +1,5 @@
 -- One ask of a set operator, in steps: where it stands between two asks of its sides, and what each step does.
-use Rattle.std.proofs.Common.{◌≡◌, ◌∙◌, ℕ, zero, suc, ◌-◌, ◌+◌, ◌<◌, ◌≤◌, false, List, [], ◌∷◌, ◌++◌, length, map, drop, min, refl, sym, ap, subst, inl, inr, arith, append-nil, append_assoc}
+use Rattle.std.proofs.Common.{◌≡◌, ◌∙◌, ℕ, zero, suc, ◌+◌, ◌<◌, false, List, [], ◌∷◌, ◌++◌, length, map, drop, min, refl, sym, ap, subst, inl, inr, arith, append-nil, append_assoc}
 use Rattle.std.proofs.lemmas.Grind.{flat_map-append}
 use Rattle.std.proofs.lemmas.List.{length-append, length-map}
 use Rattle.std.proofs.lemmas.List.Elements.{filter-append}
@@ -11,7 +11,7 @@ use Rattle.rs_order.specs.Schedule.{JoinSide, Left, Right, SideAsk, asked, is_of
 use Rattle.rs_order.proofs.ScheduleFacts.{asked-left, asked-right}
 use Rattle.rs_rank.specs.Rows.{HasSum}
 use Rattle.rs_rank.specs.Weights.{IsWeights}
-use Rattle.rs_rank.specs.declared.ask.JoinAsk.TheVariants.{End, NeedLeft, NeedRight, Ready}
+use Rattle.rs_rank.specs.declared.ask.JoinAsk.TheVariants.{End, Ready}
 use Rattle.rs_rank.specs.declared.key.Key.{Key}
 use Rattle.rs_rank.specs.declared.row.RankRow.{RankRow}
 use Rattle.rs_rank.specs.SetTurns.{set_schedule}
@@ -28,7 +28,8 @@ use Rattle.rs_query.specs.declared.query.Query.TheVariants.{One, Set}
 use Rattle.rs_query.proofs.QuestionFacts.{AllAsked, AllAsked-more, AllAsked-none, Ended-behind, Gave, Gave-ok, Inquires-fault, Stopped-within}
 use Rattle.rs_setop.specs.Sides.{AreSides as AreSideRows, Sides, answers, keys_of as row_keys, row_key, schedule_of}
 use Rattle.rs_setop.proofs.HeadFacts.{Tells}
-use Rattle.rs_value.specs.declared.set_op.SetOp.TheVariants as op
+use Rattle.rs_setop.proofs.NextFacts.{need_of, of_side, one_more}
+use Rattle.rs_value.specs.declared.set_op.SetOp.{SetOp}
 use Rattle.rs_plan.specs.Asks.{bar_of, child_asks, keys_of}
 use Rattle.rs_plan.specs.Calls.{questions, questions_of_ask, side_part}
 use Rattle.rs_plan.specs.Counts.{asked_of, gave_of}
@@ -41,7 +42,6 @@ use Rattle.rs_exec.specs.Asking.{exec_faults, next_row, world_of}
 use Rattle.rs_exec.specs.Indexes.{PlanIndexesHold}
 use Rattle.rs_exec.specs.Outputs.{CanPutOut, output_row, outputs_in, values_for}
 use Rattle.rs_exec.specs.Parts.{AreSides}
-use Rattle.rs_exec.specs.SetCores as set
 use Rattle.rs_exec.specs.SetCores.{CoreStands, core_ask, is_spent, left_in, taken_from, terms_of_core, weights_of_core}
 use Rattle.rs_exec.specs.SetNodes.{operator_of, sides_for}
 use Rattle.rs_exec.specs.declared.fault.ExecFault.{ExecFault}
@@ -49,9 +49,9 @@ use Rattle.rs_exec.specs.declared.fault.ExecFault.TheVariants.{Memory}
 use Rattle.rs_exec.specs.declared.set_core.SetCore.{SetCore}
 use Rattle.rs_exec.proofs.PlacesFacts.{can-put_out, list-few-of, part-of, row-placed}
 use Rattle.rs_exec.proofs.RankFacts.{bar_after-map, drop-front}
-use Rattle.rs_exec.proofs.SetCoreFacts.{core-alive, core-begun, core-left-end, core-left-row, core-right-end, core-right-row, core-taken, core-tells}
+use Rattle.rs_exec.proofs.SetCoreFacts.{core-alive, core-begun, core-end, core-row, core-taken, core-tells, side_ended, side_fed}
 use Rattle.rs_exec.proofs.SetListFacts.{set-list, set-sides}
-use Rattle.rs_exec.proofs.SetOpenFacts.{left-open, right-open}
+use Rattle.rs_exec.proofs.SetOpenFacts.{side-open}
 
 -- the keys of rows with their output values
 keys-same : (w : World) (mask : ℕ) (rows : List RankRow) → map (λ (row : OutputRow). key_under w mask row.row) (map (output_row w) rows) ≡ map (key_under w mask) rows
@@ -63,12 +63,9 @@ pub record SetFacts (w : World) (left right : PlanTree) : Type 0 where
   pub sides : AreSideRows (sides_for w left) (outputs_in w 1 left) (outputs_in w 2 right)
   pub list : outputs_in w 1 (SetOperator left right) ≡ answers (sides_for w left) (operator_of w.query) (outputs_in w 1 left) (outputs_in w 2 right)
   pub asks : (n : ℕ) → child_asks w 1 (SetOperator left right) n ≡ schedule_of (sides_for w left) (operator_of w.query) (outputs_in w 1 left) (outputs_in w 2 right) n
-  pub first : HasBlock w.query 1
-  pub second : HasBlock w.query 2
-  pub left_part : IsPart w.catalogue (block_in w.query 1) left
-  pub right_part : IsPart w.catalogue (block_in w.query 2) right
-  pub left_all : entries left ≡ all_entries (block_in w.query 1)
-  pub right_all : entries right ≡ all_entries (block_in w.query 2)
+  pub blocks : (side : JoinSide) → HasBlock w.query (of_side side 1 2)
+  pub parts : (side : JoinSide) → IsPart w.catalogue (block_in w.query (of_side side 1 2)) (of_side side left right)
+  pub all : (side : JoinSide) → entries (of_side side left right) ≡ all_entries (block_in w.query (of_side side 1 2))
 
 -- a query that sees this many rows
 abbrev pub seen : CatalogDef → Answering → View → Query → World
@@ -85,12 +82,9 @@ set-facts catalogue answer view (Set o l r limit) number left right formed weigh
       sides = set-sides catalogue answer view o l r limit left right formed weights parts.1 parts.2 parts.3;
       list = list;
       asks = asks list;
-      first = inl refl;
-      second = inr refl;
-      left_part = parts.1.part;
-      right_part = parts.2.part;
-      left_all = parts.1.all;
-      right_all = parts.2.all;
+      blocks = λ side. elim side as (λ v. HasBlock (Set o l r limit) (of_side v 1 2)) [ Left ↦ inl refl | Right ↦ inr refl ];
+      parts = λ side. elim side as (λ v. IsPart catalogue (block_in (Set o l r limit) (of_side v 1 2)) (of_side v left right)) [ Left ↦ parts.1.part | Right ↦ parts.2.part ];
+      all = λ side. elim side as (λ v. entries (of_side v left right) ≡ all_entries (block_in (Set o l r limit) (of_side v 1 2))) [ Left ↦ parts.1.all | Right ↦ parts.2.all ];
     }
   where
     asks : outputs_in (seen catalogue answer view (Set o l r limit)) 1 (SetOperator left right)
@@ -117,6 +111,16 @@ next-of {X} xs made behind x is at = subst (λ (ys : List X). ys ≡ made ++ x �
   go [] [] at = absurd (cc)
   go [] (y ∷ behind) at = let same : y ≡ x = cc in ap (λ z. z ∷ behind) same
   go (m ∷ made) behind at = ap (λ rest. m ∷ rest) (go made behind at)
+
+-- what a core tells that needs a row of a side; and such an ask is of that side
+told-of : (s : Sides) (o : SetOp) (lefts rights : List OutputRow) (made : List SideAsk) (count : ℕ) (side : JoinSide) → Tells s o lefts rights made count (need_of side)
+    → slice_get (schedule_of s o lefts rights (suc count)) (length made) ≡ Some (record { side = side; number = suc (asked side made) })
+told-of s o lefts rights made count Left told = told
+told-of s o lefts rights made count Right told = told
+
+one-of : (side : JoinSide) (n : ℕ) → length (filter (is_of_side side) (record { side = side; number = n } ∷ [])) ≡ 1
+one-of Left n = refl
+one-of Right n = refl
 
 -- during ask a + 1 of a set operator, which found no end before: this many asks of its sides were made, the core stands at as many
 -- answers as asks, and all questions of this ask up to here were asked, with no bad answer
@@ -222,247 +226,152 @@ module _ (catalogue : CatalogDef) (query : Query) (left right : PlanTree) (a : �
     abbrev behind : List SideAsk
     behind = drop (suc (length between.made)) (asks_to (suc a))
 
-    comes : (x : SideAsk) → slice_get (asks_to (suc a)) (length between.made) ≡ Some x → asks_to (suc a) ≡ between.made ++ x ∷ drop (suc (length between.made)) (asks_to (suc a))
-    comes x at = next-of (asks_to (suc a)) between.made (core-begun s (operator_of query) lefts rights between.made a core between.core_stands).behind x begun at
+    -- this many asks of a side were made, and the next one brings the questions of its next row
+    counted : (side : JoinSide) → of_side side left_asks right_asks ≡ asked side between.made
+    counted Left = between.left_asked
+    counted Right = between.right_asked
 
-    asked-more : (side : JoinSide) (x : SideAsk) → slice_get (asks_to (suc a)) (length between.made) ≡ Some x → length (filter (is_of_side side) (x ∷ [])) ≡ 1
-        → asked side between.made < asked_of (world_of catalogue old.answer query) 1 (SetOperator left right) (suc a) side
-    asked-more side x at one =
-        let count : asked side (asks_to (suc a)) ≡ asked side between.made + length (filter (is_of_side side) (x ∷ behind)) =
-        ap (asked side) (comes x at) ∙ ap (λ (asks : List SideAsk). length asks) (filter-append (is_of_side side) between.made (x ∷ behind))
-        ∙ length-append (filter (is_of_side side) between.made) (filter (is_of_side side) (x ∷ behind)) in
-        let split : length (filter (is_of_side side) (x ∷ behind)) ≡ length (filter (is_of_side side) (x ∷ [])) + length (filter (is_of_side side) behind) =
-        ap (λ (asks : List SideAsk). length asks) (filter-append (is_of_side side) (x ∷ []) behind)
-        ∙ length-append (filter (is_of_side side) (x ∷ [])) (filter (is_of_side side) behind) in
-        omega arith
+    brings : (side : JoinSide) → puts (record { side = side; number = suc (asked side between.made) }) ≡ questions_of_ask w (of_side side 1 2) (of_side side left right) (suc (of_side side left_asks right_asks))
+    brings Left = ap (λ n. questions_of_ask w 1 left (suc n)) (sym between.left_asked)
+    brings Right = ap (λ n. questions_of_ask w 2 right (suc n)) (sym between.right_asked)
 
-    -- a side that is asked once more
-    module _ (x : SideAsk) (number : ℕ) (side : PlanTree) (asks : ℕ)
-        (is : side_part (questions (world_of catalogue old.answer query) 1 left) (questions (world_of catalogue old.answer query) 2 right) x ≡ questions_of_ask (world_of catalogue old.answer query) number side (suc asks)) where
-      side-can : HasBlock query number → IsPart catalogue (block_in query number) side → PlanIndexesHold old.answer catalogue side
-          → asks ≤ length (list_of (world_of catalogue old.answer query) number side) → CanAsk (world_of catalogue now.answer query) number side asks
-      side-can has part indexes most =
-          subst (λ answer. CanAsk (world_of catalogue answer query) number side asks) (sym between.all_asked.keeps.answer)
+    counted-more : (side : JoinSide) → (of_side side (suc left_asks) left_asks ≡ asked Left (one_more side between.made)) × (of_side side right_asks (suc right_asks) ≡ asked Right (one_more side between.made))
+    counted-more Left = let counts = asked-left between.made (suc (asked Left between.made)) in (ap suc between.left_asked ∙ sym counts.0, between.right_asked ∙ sym counts.1)
+    counted-more Right = let counts = asked-right between.made (suc (asked Right between.made)) in (between.left_asked ∙ sym counts.0, ap suc between.right_asked ∙ sym counts.1)
+
+    outputs-of : (side : JoinSide) → of_side side lefts rights ≡ outputs_in w (of_side side 1 2) (of_side side left right)
+    outputs-of Left = refl
+    outputs-of Right = refl
+
+    holds : (side : JoinSide) → PlanIndexesHold old.answer catalogue (of_side side left right)
+    holds Left = can.indexes.0
+    holds Right = can.indexes.1
+
+    -- where the core needs a row of a side, that side can be asked once more
+    module _ (side : JoinSide) (need : core_ask core ≡ need_of side) where
+      abbrev number : ℕ
+      number = of_side side 1 2
+
+      abbrev part : PlanTree
+      part = of_side side left right
+
+      abbrev asks : ℕ
+      asks = of_side side left_asks right_asks
+
+      abbrev next : SideAsk
+      next = record { side = side; number = suc (asked side between.made) }
+
+      told : slice_get (schedule_of s (operator_of query) lefts rights (suc a)) (length between.made) ≡ Some next
+      told = told-of s (operator_of query) lefts rights between.made a side (subst (Tells s (operator_of query) lefts rights between.made a) need tells)
+
+      comes : asks_to (suc a) ≡ between.made ++ next ∷ behind
+      comes =
+          next-of (asks_to (suc a)) between.made (core-begun s (operator_of query) lefts rights between.made a core between.core_stands).behind next begun
+          (ap (λ (asks : List SideAsk). slice_get asks (length between.made)) (facts.asks (suc a)) ∙ told)
+
+      pub set-can : CanAsk (world_of catalogue now.answer query) number part asks
+      set-can =
+          let most = side-open s (operator_of query) lefts rights between.made a side told in
+          let same = counted side in
+          let size = ap (λ (rows : List OutputRow). length rows) (outputs-of side) ∙ length-map (list_of w number part) (output_row w) in
+          let whole = part-of catalogue query number part (facts.parts side) in
+          subst (λ answer. CanAsk (world_of catalogue answer query) number part asks) (sym between.all_asked.keeps.answer)
           (record {
             formed = can.formed;
-            number_is = has;
-            part = part-of catalogue query number side part;
-            indexes = indexes;
+            number_is = facts.blocks side;
+            part = whole;
+            indexes = holds side;
             weights = can.weights;
-            more = most;
+            more = omega arith;
             tables = can.tables;
-            few = list-few-of catalogue old.answer query number side has can.tables (part-of catalogue query number side part);
+            few = list-few-of catalogue old.answer query number part (facts.blocks side) can.tables whole;
           })
 
-      side-gave : (row : Option RankRow) (new : ScorerState) → Inquires Memory (next_row (world_of catalogue now.answer query) number side asks) (Ok row) now new
-          → Gave old.answer catalogue (questions_of_ask (world_of catalogue old.answer query) number side (suc asks)) (slice_get (list_of (world_of catalogue old.answer query) number side) asks) row now new
-      side-gave row new below =
-          Gave-ok exec_faults Memory old.answer catalogue {A = Option RankRow} (questions_of_ask w number side (suc asks)) (slice_get (list_of w number side) asks) row now new
-          (subst (λ answer. Inquires Memory (next_row (world_of catalogue answer query) number side asks) (Ok row) now new) between.all_asked.keeps.answer below)
+      pub set-less : asks < asked_of w 1 tree (suc a) side
+      set-less =
+          let count : asked side (asks_to (suc a)) ≡ asked side between.made + length (filter (is_of_side side) (next ∷ behind)) =
+          ap (asked side) comes ∙ ap (λ (asks : List SideAsk). length asks) (filter-append (is_of_side side) between.made (next ∷ behind))
+          ∙ length-append (filter (is_of_side side) between.made) (filter (is_of_side side) (next ∷ behind)) in
+          let split : length (filter (is_of_side side) (next ∷ behind)) ≡ length (filter (is_of_side side) (next ∷ [])) + length (filter (is_of_side side) behind) =
+          ap (λ (asks : List SideAsk). length asks) (filter-append (is_of_side side) (next ∷ []) behind)
+          ∙ length-append (filter (is_of_side side) (next ∷ [])) (filter (is_of_side side) behind) in
+          let one = one-of side (suc (asked side between.made)) in
+          let same = counted side in
+          omega arith
 
-      side-asked : (row : Option RankRow) (new : ScorerState) → Inquires Memory (next_row (world_of catalogue now.answer query) number side asks) (Ok row) now new
-          → AllAsked old.answer catalogue (flat_map puts (between.more ++ x ∷ [])) old new
-      side-asked row new below =
-          subst (λ (qs : List Question). AllAsked old.answer catalogue qs old new)
-          (sym (flat_map-append puts between.more (x ∷ []) ∙ ap (λ (qs : List Question). flat_map puts between.more ++ qs) (append-nil (puts x) ∙ is)))
-          (AllAsked-more old.answer catalogue (flat_map puts between.more) (questions_of_ask w number side (suc asks)) old now new between.all_asked (side-gave row new below).asked)
+      split : questions_of_ask w 1 tree (suc a) ≡ flat_map puts between.more ++ (questions_of_ask w number part (suc asks) ++ flat_map puts behind)
+      split =
+          set-questions between.more (next ∷ behind) (comes ∙ ap (λ (front : List SideAsk). front ++ (next ∷ behind)) between.made_is)
+          ∙ ap (λ (qs : List Question). flat_map puts between.more ++ (qs ++ flat_map puts behind)) (brings side)
 
-      module _ (at : slice_get (asks_to (suc a)) (length between.made) ≡ Some x) where
-        split : questions_of_ask (world_of catalogue old.answer query) 1 (SetOperator left right) (suc a)
-            ≡ flat_map puts between.more ++ (questions_of_ask (world_of catalogue old.answer query) number side (suc asks) ++ flat_map puts (drop (suc (length between.made)) (asks_to (suc a))))
-        split =
-            set-questions between.more (x ∷ behind) (comes x at ∙ ap (λ (front : List SideAsk). front ++ (x ∷ behind)) between.made_is)
-            ∙ ap (λ (qs : List Question). flat_map puts between.more ++ (qs ++ flat_map puts behind)) is
+      pub set-fault : (fault : ExecFault) (new : ScorerState) → Inquires Memory (next_row (world_of catalogue now.answer query) number part asks) (Err fault) now new
+          → Inquires Memory (next_row w 1 tree a) (Err fault) old new
+      set-fault fault new below =
+          Inquires-fault exec_faults Memory old.answer catalogue {A = Option RankRow} {B = Option RankRow} (flat_map puts between.more) (questions_of_ask w number part (suc asks)) (flat_map puts behind)
+          (questions_of_ask w 1 tree (suc a)) (slice_get (list_of w number part) asks) (slice_get (list_of w 1 tree) a) fault old now new split between.all_asked
+          (subst (λ answer. Inquires Memory (next_row (world_of catalogue answer query) number part asks) (Err fault) now new) between.all_asked.keeps.answer below)
 
-        side-fault : (fault : ExecFault) (new : ScorerState) → Inquires Memory (next_row (world_of catalogue now.answer query) number side asks) (Err fault) now new
-            → Inquires Memory (next_row (world_of catalogue old.answer query) 1 (SetOperator left right) a) (Err fault) old new
-        side-fault fault new below =
-            Inquires-fault exec_faults Memory old.answer catalogue {A = Option RankRow} {B = Option RankRow} (flat_map puts between.more) (questions_of_ask w number side (suc asks)) (flat_map puts behind)
-            (questions_of_ask w 1 tree (suc a)) (slice_get (list_of w number side) asks) (slice_get (list_of w 1 tree) a) fault old now new split between.all_asked
-            (subst (λ answer. Inquires Memory (next_row (world_of catalogue answer query) number side asks) (Err fault) now new) between.all_asked.keeps.answer below)
+      module _ (row : Option RankRow) (new : ScorerState) (below : Inquires Memory (next_row (world_of catalogue now.answer query) number part asks) (Ok row) now new) where
+        gave : Gave old.answer catalogue (questions_of_ask w number part (suc asks)) (slice_get (list_of w number part) asks) row now new
+        gave =
+            Gave-ok exec_faults Memory old.answer catalogue {A = Option RankRow} (questions_of_ask w number part (suc asks)) (slice_get (list_of w number part) asks) row now new
+            (subst (λ answer. Inquires Memory (next_row (world_of catalogue answer query) number part asks) (Ok row) now new) between.all_asked.keeps.answer below)
 
-        side-stopped : (row : Option RankRow) (new : ScorerState) → Inquires Memory (next_row (world_of catalogue now.answer query) number side asks) (Ok row) now new
-            → Inquires Memory (next_row (world_of catalogue old.answer query) 1 (SetOperator left right) a) (Err Memory) old new
-        side-stopped row new below =
-            Stopped-within exec_faults Memory catalogue {A = Option RankRow} (flat_map puts between.more ++ questions_of_ask w number side (suc asks)) (flat_map puts behind)
+        now-asked : AllAsked old.answer catalogue (flat_map puts between.more ++ questions_of_ask w number part (suc asks)) old new
+        now-asked = AllAsked-more old.answer catalogue (flat_map puts between.more) (questions_of_ask w number part (suc asks)) old now new between.all_asked gave.asked
+
+        pub set-stopped : Inquires Memory (next_row w 1 tree a) (Err Memory) old new
+        set-stopped =
+            Stopped-within exec_faults Memory catalogue {A = Option RankRow} (flat_map puts between.more ++ questions_of_ask w number part (suc asks)) (flat_map puts behind)
             (questions_of_ask w 1 tree (suc a)) (slice_get (list_of w 1 tree) a) (Err Memory) old new
-            (split ∙ sym (append_assoc (flat_map puts between.more) (questions_of_ask w number side (suc asks)) (flat_map puts behind))) refl
-            (AllAsked-more old.answer catalogue (flat_map puts between.more) (questions_of_ask w number side (suc asks)) old now new between.all_asked (side-gave row new below).asked)
+            (split ∙ sym (append_assoc (flat_map puts between.more) (questions_of_ask w number part (suc asks)) (flat_map puts behind))) refl now-asked
 
-    made-more : (x : SideAsk) → between.made ++ x ∷ [] ≡ asks_to a ++ (between.more ++ x ∷ [])
-    made-more x = ap (λ (front : List SideAsk). front ++ x ∷ []) between.made_is ∙ append_assoc (asks_to a) between.more (x ∷ [])
+        -- what it gave is its next row
+        there : slice_get (list_of w number part) asks ≡ row
+        there = sym gave.is_value
 
-    -- where the core needs a left row, the left side can be asked once more
-    module _ (need : core_ask core ≡ NeedLeft) where
-      abbrev next_left : SideAsk
-      next_left = record { side = Left; number = suc (asked Left between.made) }
+        output : slice_get (of_side side lefts rights) (asked side between.made) ≡ option_map (output_row w) row
+        output =
+            ap (λ (rows : List OutputRow). slice_get rows (asked side between.made)) (outputs-of side)
+            ∙ ap (slice_get (outputs_in w number part)) (sym (counted side)) ∙ slice_get-map (output_row w) (list_of w number part) asks ∙ ap (option_map (output_row w)) there
 
-      left-told : slice_get (schedule_of s (operator_of query) lefts rights (suc a)) (length between.made) ≡ Some (record { side = Left; number = suc (asked Left between.made) })
-      left-told = subst (Tells s (operator_of query) lefts rights between.made a) need tells
+        more : (after : SetCore) → CoreStands s (operator_of query) lefts rights (one_more side between.made) a after
+            → SetBetween w left right a (of_side side (suc left_asks) left_asks) (of_side side right_asks (suc right_asks)) after old new
+        more after stands = record {
+          more = between.more ++ next ∷ [];
+          made = one_more side between.made;
+          made_is = ap (λ (front : List SideAsk). front ++ next ∷ []) between.made_is ∙ append_assoc (asks_to a) between.more (next ∷ []);
+          core_stands = stands;
+          left_asked = (counted-more side).0;
+          right_asked = (counted-more side).1;
+          all_asked = subst (λ (qs : List Question). AllAsked old.answer catalogue qs old new)
+              (sym (flat_map-append puts between.more (next ∷ []) ∙ ap (λ (qs : List Question). flat_map puts between.more ++ qs) (append-nil (puts next) ∙ brings side))) now-asked;
+        }
 
-      left-at : slice_get (asks_to (suc a)) (length between.made) ≡ Some (record { side = Left; number = suc (asked Left between.made) })
-      left-at = ap (λ (asks : List SideAsk). slice_get asks (length between.made)) (facts.asks (suc a)) ∙ left-told
+      module _ (row : RankRow) (new : ScorerState) (below : Inquires Memory (next_row (world_of catalogue now.answer query) number part asks) (Ok (Some row)) now new) where
+        taken : HasSum (weights_of_core core) (terms_of_core core) row × CoreStands s (operator_of query) lefts rights (one_more side between.made) a (side_fed side row (values_for catalogue query row) core)
+        taken = core-row s (operator_of query) lefts rights between.made a core between.core_stands side need (output_row w row) (output (Some row) new below)
 
-      left-is : side_part (questions (world_of catalogue old.answer query) 1 left) (questions (world_of catalogue old.answer query) 2 right) (record { side = Left; number = suc (asked Left between.made) })
-          ≡ questions_of_ask (world_of catalogue old.answer query) 1 left (suc left_asks)
-      left-is = ap (λ n. questions_of_ask w 1 left (suc n)) (sym between.left_asked)
+        pub set-sum : HasSum (weights_of_core core) (terms_of_core core) row
+        set-sum = taken.0
 
-      pub set-left_can : CanAsk (world_of catalogue now.answer query) 1 left left_asks
-      set-left_can =
-          let most = left-open s (operator_of query) lefts rights between.made a left-told in
-          let same = between.left_asked in
-          let size = length-map (list_of w 1 left) (output_row w) in
-          side-can next_left 1 left left_asks left-is facts.first facts.left_part can.indexes.0 (omega arith)
-
-      pub set-left_less : left_asks < asked_of (world_of catalogue old.answer query) 1 (SetOperator left right) (suc a) Left
-      set-left_less = let less = asked-more Left next_left left-at refl in let same = between.left_asked in omega arith
-
-      pub set-left_fault : (fault : ExecFault) (new : ScorerState) → Inquires Memory (next_row (world_of catalogue now.answer query) 1 left left_asks) (Err fault) now new
-          → Inquires Memory (next_row (world_of catalogue old.answer query) 1 (SetOperator left right) a) (Err fault) old new
-      set-left_fault fault new below = side-fault next_left 1 left left_asks left-is left-at fault new below
-
-      pub set-left_stopped : (row : Option RankRow) (new : ScorerState) → Inquires Memory (next_row (world_of catalogue now.answer query) 1 left left_asks) (Ok row) now new
-          → Inquires Memory (next_row (world_of catalogue old.answer query) 1 (SetOperator left right) a) (Err Memory) old new
-      set-left_stopped row new below = side-stopped next_left 1 left left_asks left-is left-at row new below
-
-      -- what it gave is its next row
-      left-there : (row : Option RankRow) (new : ScorerState) → Inquires Memory (next_row (world_of catalogue now.answer query) 1 left left_asks) (Ok row) now new
-          → slice_get (list_of (world_of catalogue old.answer query) 1 left) left_asks ≡ row
-      left-there row new below = sym (side-gave next_left 1 left left_asks left-is row new below).is_value
-
-      left-output : (row : Option RankRow) (new : ScorerState) → Inquires Memory (next_row (world_of catalogue now.answer query) 1 left left_asks) (Ok row) now new
-          → slice_get (outputs_in (world_of catalogue old.answer query) 1 left) (asked Left between.made) ≡ option_map (output_row (world_of catalogue old.answer query)) row
-      left-output row new below =
-          ap (slice_get lefts) (sym between.left_asked) ∙ slice_get-map (output_row w) (list_of w 1 left) left_asks ∙ ap (option_map (output_row w)) (left-there row new below)
-
-      left-more : (row : Option RankRow) (new : ScorerState) → Inquires Memory (next_row (world_of catalogue now.answer query) 1 left left_asks) (Ok row) now new → (after : SetCore)
-          → CoreStands (sides_for (world_of catalogue old.answer query) left) (operator_of query) (outputs_in (world_of catalogue old.answer query) 1 left) (outputs_in (world_of catalogue old.answer query) 2 right)
-          (between.made ++ record { side = Left; number = suc (asked Left between.made) } ∷ []) a after
-          → SetBetween (world_of catalogue old.answer query) left right a (suc left_asks) right_asks after old new
-      left-more row new below after stands =
-          let counts = asked-left between.made (suc (asked Left between.made)) in
-          record {
-            more = between.more ++ next_left ∷ [];
-            made = between.made ++ next_left ∷ [];
-            made_is = made-more next_left;
-            core_stands = stands;
-            left_asked = ap suc between.left_asked ∙ sym counts.0;
-            right_asked = between.right_asked ∙ sym counts.1;
-            all_asked = side-asked next_left 1 left left_asks left-is row new below;
-          }
-
-      module _ (row : RankRow) (new : ScorerState) (below : Inquires Memory (next_row (world_of catalogue now.answer query) 1 left left_asks) (Ok (Some row)) now new) where
-        left-taken : HasSum (weights_of_core core) (terms_of_core core) row
-            × CoreStands (sides_for (world_of catalogue old.answer query) left) (operator_of query) (outputs_in (world_of catalogue old.answer query) 1 left) (outputs_in (world_of catalogue old.answer query) 2 right)
-            (between.made ++ record { side = Left; number = suc (asked Left between.made) } ∷ []) a (set.left_fed row (values_for catalogue query row) core)
-        left-taken = core-left-row s (operator_of query) lefts rights between.made a core between.core_stands need (output_row w row) (left-output (Some row) new below)
-
-        pub set-left_sum : HasSum (weights_of_core core) (terms_of_core core) row
-        set-left_sum = left-taken.0
-
-        pub set-left_puts : CanPutOut catalogue query row
-        set-left_puts =
-            let placed = row-placed catalogue old.answer query 1 left can.formed facts.first (part-of catalogue query 1 left facts.left_part) left_asks row (left-there (Some row) new below) in
+        pub set-puts : CanPutOut catalogue query row
+        set-puts =
+            let placed = row-placed catalogue old.answer query number part can.formed (facts.blocks side) (part-of catalogue query number part (facts.parts side)) asks row (there (Some row) new below) in
             let mask : row.ids.mask ≡ all_entries (block_in query row.ids.block) = elim placed.place [
-              | inl at ↦ at.1 ∙ facts.left_all ∙ ap (λ n. all_entries (block_in query n)) (sym at.0)
+              | inl at ↦ at.1 ∙ facts.all side ∙ ap (λ n. all_entries (block_in query n)) (sym at.0)
               | inr all ↦ all
             ] in
             can-put_out catalogue query row can.formed mask placed.rows
 
-        pub set-left_fed : SetBetween (world_of catalogue old.answer query) left right a (suc left_asks) right_asks (set.left_fed row (values_for catalogue query row) core) old new
-        set-left_fed = left-more (Some row) new below (set.left_fed row (values_for catalogue query row) core) left-taken.1
+        pub set-fed : SetBetween w left right a (of_side side (suc left_asks) left_asks) (of_side side right_asks (suc right_asks)) (side_fed side row (values_for catalogue query row) core) old new
+        set-fed = more (Some row) new below (side_fed side row (values_for catalogue query row) core) taken.1
 
       -- its end is told
-      pub set-left_ended : (new : ScorerState) → Inquires Memory (next_row (world_of catalogue now.answer query) 1 left left_asks) (Ok None) now new
-          → SetBetween (world_of catalogue old.answer query) left right a (suc left_asks) right_asks (set.left_ended core) old new
-      set-left_ended new below =
-          left-more None new below (set.left_ended core) (core-left-end s (operator_of query) lefts rights between.made a core between.core_stands need (left-output None new below))
-
-    -- where the core needs a right row, the right side can be asked once more
-    module _ (need : core_ask core ≡ NeedRight) where
-      abbrev next_right : SideAsk
-      next_right = record { side = Right; number = suc (asked Right between.made) }
-
-      right-told : slice_get (schedule_of s (operator_of query) lefts rights (suc a)) (length between.made) ≡ Some (record { side = Right; number = suc (asked Right between.made) })
-      right-told = subst (Tells s (operator_of query) lefts rights between.made a) need tells
-
-      right-at : slice_get (asks_to (suc a)) (length between.made) ≡ Some (record { side = Right; number = suc (asked Right between.made) })
-      right-at = ap (λ (asks : List SideAsk). slice_get asks (length between.made)) (facts.asks (suc a)) ∙ right-told
-
-      right-is : side_part (questions (world_of catalogue old.answer query) 1 left) (questions (world_of catalogue old.answer query) 2 right) (record { side = Right; number = suc (asked Right between.made) })
-          ≡ questions_of_ask (world_of catalogue old.answer query) 2 right (suc right_asks)
-      right-is = ap (λ n. questions_of_ask w 2 right (suc n)) (sym between.right_asked)
-
-      pub set-right_can : CanAsk (world_of catalogue now.answer query) 2 right right_asks
-      set-right_can =
-          let most = right-open s (operator_of query) lefts rights between.made a right-told in
-          let same = between.right_asked in
-          let size = length-map (list_of w 2 right) (output_row w) in
-          side-can next_right 2 right right_asks right-is facts.second facts.right_part can.indexes.1 (omega arith)
-
-      pub set-right_less : right_asks < asked_of (world_of catalogue old.answer query) 1 (SetOperator left right) (suc a) Right
-      set-right_less = let less = asked-more Right next_right right-at refl in let same = between.right_asked in omega arith
-
-      pub set-right_fault : (fault : ExecFault) (new : ScorerState) → Inquires Memory (next_row (world_of catalogue now.answer query) 2 right right_asks) (Err fault) now new
-          → Inquires Memory (next_row (world_of catalogue old.answer query) 1 (SetOperator left right) a) (Err fault) old new
-      set-right_fault fault new below = side-fault next_right 2 right right_asks right-is right-at fault new below
-
-      pub set-right_stopped : (row : Option RankRow) (new : ScorerState) → Inquires Memory (next_row (world_of catalogue now.answer query) 2 right right_asks) (Ok row) now new
-          → Inquires Memory (next_row (world_of catalogue old.answer query) 1 (SetOperator left right) a) (Err Memory) old new
-      set-right_stopped row new below = side-stopped next_right 2 right right_asks right-is right-at row new below
-
-      -- what it gave is its next row
-      right-there : (row : Option RankRow) (new : ScorerState) → Inquires Memory (next_row (world_of catalogue now.answer query) 2 right right_asks) (Ok row) now new
-          → slice_get (list_of (world_of catalogue old.answer query) 2 right) right_asks ≡ row
-      right-there row new below = sym (side-gave next_right 2 right right_asks right-is row new below).is_value
-
-      right-output : (row : Option RankRow) (new : ScorerState) → Inquires Memory (next_row (world_of catalogue now.answer query) 2 right right_asks) (Ok row) now new
-          → slice_get (outputs_in (world_of catalogue old.answer query) 2 right) (asked Right between.made) ≡ option_map (output_row (world_of catalogue old.answer query)) row
-      right-output row new below =
-          ap (slice_get rights) (sym between.right_asked) ∙ slice_get-map (output_row w) (list_of w 2 right) right_asks ∙ ap (option_map (output_row w)) (right-there row new below)
-
-      right-more : (row : Option RankRow) (new : ScorerState) → Inquires Memory (next_row (world_of catalogue now.answer query) 2 right right_asks) (Ok row) now new → (after : SetCore)
-          → CoreStands (sides_for (world_of catalogue old.answer query) left) (operator_of query) (outputs_in (world_of catalogue old.answer query) 1 left) (outputs_in (world_of catalogue old.answer query) 2 right)
-          (between.made ++ record { side = Right; number = suc (asked Right between.made) } ∷ []) a after
-          → SetBetween (world_of catalogue old.answer query) left right a left_asks (suc right_asks) after old new
-      right-more row new below after stands =
-          let counts = asked-right between.made (suc (asked Right between.made)) in
-          record {
-            more = between.more ++ next_right ∷ [];
-            made = between.made ++ next_right ∷ [];
-            made_is = made-more next_right;
-            core_stands = stands;
-            right_asked = ap suc between.right_asked ∙ sym counts.1;
-            left_asked = between.left_asked ∙ sym counts.0;
-            all_asked = side-asked next_right 2 right right_asks right-is row new below;
-          }
-
-      module _ (row : RankRow) (new : ScorerState) (below : Inquires Memory (next_row (world_of catalogue now.answer query) 2 right right_asks) (Ok (Some row)) now new) where
-        right-taken : HasSum (weights_of_core core) (terms_of_core core) row
-            × CoreStands (sides_for (world_of catalogue old.answer query) left) (operator_of query) (outputs_in (world_of catalogue old.answer query) 1 left) (outputs_in (world_of catalogue old.answer query) 2 right)
-            (between.made ++ record { side = Right; number = suc (asked Right between.made) } ∷ []) a (set.right_fed row (values_for catalogue query row) core)
-        right-taken = core-right-row s (operator_of query) lefts rights between.made a core between.core_stands need (output_row w row) (right-output (Some row) new below)
-
-        pub set-right_sum : HasSum (weights_of_core core) (terms_of_core core) row
-        set-right_sum = right-taken.0
-
-        pub set-right_puts : CanPutOut catalogue query row
-        set-right_puts =
-            let placed = row-placed catalogue old.answer query 2 right can.formed facts.second (part-of catalogue query 2 right facts.right_part) right_asks row (right-there (Some row) new below) in
-            let mask : row.ids.mask ≡ all_entries (block_in query row.ids.block) = elim placed.place [
-              | inl at ↦ at.1 ∙ facts.right_all ∙ ap (λ n. all_entries (block_in query n)) (sym at.0)
-              | inr all ↦ all
-            ] in
-            can-put_out catalogue query row can.formed mask placed.rows
-
-        pub set-right_fed : SetBetween (world_of catalogue old.answer query) left right a left_asks (suc right_asks) (set.right_fed row (values_for catalogue query row) core) old new
-        set-right_fed = right-more (Some row) new below (set.right_fed row (values_for catalogue query row) core) right-taken.1
-
-      -- its end is told
-      pub set-right_ended : (new : ScorerState) → Inquires Memory (next_row (world_of catalogue now.answer query) 2 right right_asks) (Ok None) now new
-          → SetBetween (world_of catalogue old.answer query) left right a left_asks (suc right_asks) (set.right_ended core) old new
-      set-right_ended new below =
-          right-more None new below (set.right_ended core) (core-right-end s (operator_of query) lefts rights between.made a core between.core_stands need (right-output None new below))
+      pub set-ended : (new : ScorerState) → Inquires Memory (next_row (world_of catalogue now.answer query) number part asks) (Ok None) now new
+          → SetBetween w left right a (of_side side (suc left_asks) left_asks) (of_side side right_asks (suc right_asks)) (side_ended side core) old new
+      set-ended new below =
+          more None new below (side_ended side core) (core-end s (operator_of query) lefts rights between.made a core between.core_stands side need (output None new below))
 
     -- where all asks were made, all questions of this ask were asked
     questions-all : between.made ≡ asks_to (suc a) → questions_of_ask (world_of catalogue old.answer query) 1 (SetOperator left right) (suc a) ≡ flat_map puts between.more

@@ -30,15 +30,13 @@ use Rattle.rs_outputs.proofs.ValueFacts.{row-of_values}
 use Rattle.rs_setop.proofs.ComparedFacts.{all-counted}
 use Rattle.rs_outputs.proofs.FirstFacts.{AreInTurn, Climbs-firsts, in_turn-append, sorted-firsts}
 use Rattle.rs_outputs.proofs.ListFacts.{Climbs-filter, distinct-append, distinct-filter, sorted-of}
-use Rattle.rs_setop.proofs.UnionAllFacts.{all-answers, both-merged, merged-both}
-use Rattle.rs_setop.proofs.UnionFacts.{all-firsts}
+use Rattle.rs_setop.proofs.UnionFacts.{all-answers, all-firsts, both-merged, merged-both, union-climbs}
 use Rattle.rs_setop.proofs.WalkFacts.{rows_left-climbs}
 
 -- the keys of the answers rise
 pub answers-climb : (s : Sides) (op : SetOp) (lefts rights : List OutputRow) → AreSides s lefts rights → Climbs key_cmp (row_key s) (answers s op lefts rights)
-answers-climb s op.UnionAll lefts rights input = subst (Climbs key_cmp (row_key s)) (sym (all-answers s lefts rights input)) (rows_left-climbs s lefts rights input 0 0)
-answers-climb s op.Union lefts rights input =
-    subst (Climbs key_cmp (row_key s)) (sym (all-firsts s lefts rights input)) (Climbs-firsts key_cmp (row_key s) (rows_left s lefts rights 0 0) (rows_left-climbs s lefts rights input 0 0))
+answers-climb s op.UnionAll lefts rights input = union-climbs s false lefts rights input
+answers-climb s op.Union lefts rights input = union-climbs s true lefts rights input
 answers-climb s op.Intersect lefts rights input =
     subst (Climbs key_cmp (row_key s)) (sym (all-counted s true lefts rights input))
     (Climbs-firsts key_cmp (row_key s) (filter (is_kept true rights) lefts) (Climbs-filter key_cmp (row_key s) (is_kept true rights) lefts input.left_rising))

@@ -5,7 +5,7 @@ pub mod ComparedFacts
 pub mod ComparedStandFacts
 pub mod HeadFacts
 pub mod LawFacts
-pub mod UnionAllFacts
+pub mod NextFacts
 pub mod UnionFacts
 pub mod WalkFacts
 pub mod Worked

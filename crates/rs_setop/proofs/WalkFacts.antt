@@ -5,10 +5,11 @@ use Rattle.std.proofs.lemmas.List.{append_assoc, map-append}
 use Rattle.std.proofs.lemmas.List.Elements.{filter-append}
 use Rattle.std.specs.List.{filter, slice_get}
 use Rattle.std.specs.Ordering.{is_lt, is_gt}
-use Rattle.rs_order.specs.Asks.{comes_before_bar}
+use Rattle.rs_order.specs.Asks.{bar_after, comes_before_bar}
 use Rattle.rs_order.specs.Climbing.{Climbs, Differs, In, Precedes}
 use Rattle.rs_order.specs.Merging.{merged}
 use Rattle.rs_order.specs.Schedule.{JoinSide, Left, Right, SideAsk, Turn, asked, asked_before, schedule, turns_from}
+use Rattle.rs_order.proofs.AsksFacts.{bar_after-later, comes_before_bar-further}
 use Rattle.rs_order.proofs.ClimbingFacts.{AllByRecursion-In}
 use Rattle.rs_order.proofs.EachFacts.{each-push, each-weaker}
 use Rattle.rs_order.proofs.ItemFacts.{In-map-back}
@@ -40,6 +41,12 @@ rows_left-climbs s lefts rights input left right =
     Climbs-merged key_cmp key_cmp-total (row_key s) (drop left lefts) (drop right rights)
     (Climbs-rest key_cmp (row_key s) left lefts input.left_rising) (Climbs-rest key_cmp (row_key s) right rights input.right_rising)
     (λ x y h k. sides-apart s lefts rights input x y (In-drop left lefts x h) (In-drop right rights y k))
+
+-- the keys of the answers rise, and so do the bars
+pub bars-keep : (s : Sides) (rows : List OutputRow) → Climbs key_cmp (row_key s) rows → (n : ℕ) (k : Key) → comes_before_bar key_cmp (bar_after (row_key s) rows n) k ≡ true → comes_before_bar key_cmp (bar_after (row_key s) rows (suc n)) k ≡ true
+bars-keep s rows climbs n k h =
+    comes_before_bar-further key_cmp key_cmp-total (bar_after (row_key s) rows n) (bar_after (row_key s) rows (suc n)) k
+    (bar_after-later key_cmp key_cmp-total (row_key s) rows n (suc n) climbs (omega arith)) h
 
 -- the first left row comes before all right ones, or the other way round
 abbrev pub IsLeftFirst : Sides → OutputRow → List OutputRow → Type 0
@@ -221,7 +228,7 @@ module _ (s : Sides) (lefts rights : List OutputRow) (made : List SideAsk) (bar 
     }
 
   -- the schedule: the asks made, those due, and those of the rows that are left
-  scheduled : schedule key_cmp (keys_of s lefts) (keys_of s rights) bar ≡ (made ++ (due Left left (asked Left made) ++ due Right right (asked Right made))) ++ asked_before key_cmp bar (turns_left s lefts rights left right)
+  pub scheduled : schedule key_cmp (keys_of s lefts) (keys_of s rights) bar ≡ (made ++ (due Left left (asked Left made) ++ due Right right (asked Right made))) ++ asked_before key_cmp bar (turns_left s lefts rights left right)
   scheduled =
       ap (λ asks. record { side = Left; number = 1 } ∷ record { side = Right; number = 1 } ∷ asks)
       (ap (asked_before key_cmp bar) m.turns

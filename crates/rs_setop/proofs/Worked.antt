@@ -13,7 +13,6 @@ use Rattle.rs_setop.specs.Heads.{ask_of}
 use Rattle.rs_outputs.specs.Rows.{OutputRow, values_of}
 use Rattle.rs_setop.specs.Sides.{Sides, answers, schedule_of}
 use Rattle.rs_setop.specs.Union as union
-use Rattle.rs_setop.specs.UnionAll as all
 
 abbrev one_term : Weights
 one_term = record { weight = 1 ∷ 0 ∷ 0 ∷ 0 ∷ 0 ∷ 0 ∷ 0 ∷ 0 ∷ []; max = 10 ∷ 0 ∷ 0 ∷ 0 ∷ 0 ∷ 0 ∷ 0 ∷ 0 ∷ [] }
@@ -85,7 +84,7 @@ abbrev rank : ℕ → ℕ → ℕ → RankRow
 rank block place half = record { ids = record { block = block; mask = 1; rows = place ∷ 0 ∷ 0 ∷ 0 ∷ 0 ∷ 0 ∷ [] }; sum = half }
 
 abbrev both_two : union.Union
-both_two = union.right_fed (rank 2 1 1) (number 2) (union.left_fed (rank 1 1 1) (number 2) (union.new_union one_term 1))
+both_two = union.right_fed (rank 2 1 1) (number 2) (union.left_fed (rank 1 1 1) (number 2) (union.new_union one_term 1 true))
 
 both_two_ready : ask_of both_two.heads ≡ Ready
 both_two_ready = refl
@@ -118,7 +117,7 @@ union_over : ask_of (union.right_ended left_over).heads ≡ End
 union_over = refl
 
 -- UNION ALL gives it
-all_gives_both : all.taken_for Ready (all.left_ended (all.left_for Ready (all.right_fed (rank 2 1 1) (number 2) (all.left_fed (rank 1 1 1) (number 2) (all.new_union_all one_term 1))))) ≡ Some (rank 2 1 1)
+all_gives_both : union.taken_for Ready (union.left_ended (union.left_for Ready (union.right_fed (rank 2 1 1) (number 2) (union.left_fed (rank 1 1 1) (number 2) (union.new_union one_term 1 false))))) ≡ Some (rank 2 1 1)
 all_gives_both = refl
 
 -- EXCEPT and INTERSECT: a left row of 2 isn't certain while the last right row has its bound

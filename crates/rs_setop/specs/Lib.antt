@@ -6,4 +6,3 @@ pub mod Sets
 pub mod Sides
 pub mod Stands
 pub mod Union
-pub mod UnionAll

@@ -19,7 +19,6 @@ use Rattle.rs_setop.specs.Reached.{Reach}
 use Rattle.rs_outputs.specs.Rows.{OutputRow, firsts, lists_of, occurs_in, unseen, values_of}
 use Rattle.rs_setop.specs.Sides.{AreSides, Sides, answers, head_after, keys_of, row_key}
 use Rattle.rs_setop.specs.Union.{Union, first_was_taken}
-use Rattle.rs_setop.specs.UnionAll.{UnionAll}
 
 -- the ask of a side that is due: its next row isn't known
 abbrev pub due : JoinSide → ℕ → ℕ → List SideAsk
@@ -51,33 +50,36 @@ heads_after s lefts rights made left right =
 abbrev pub rows_left : Sides → List OutputRow → List OutputRow → ℕ → ℕ → List OutputRow
 rows_left s lefts rights left right = merged key_cmp (row_key s) (drop left lefts) (drop right rights)
 
--- UNION ALL has this many rows of each side left, and knows their heads; all of them are answers still to come
-pub record UnionAllStands (s : Sides) (lefts rights : List OutputRow) (made : List SideAsk) (count : ℕ) (u : UnionAll) : Type 0 where
-  pub input : AreSides s lefts rights
-  pub left : ℕ
-  pub right : ℕ
-  pub gone : List (Turn Key)
-  pub state : u ≡ record { weights = s.weights; terms = s.terms; heads = heads_after s lefts rights made left right }
-  pub merging : IsMerging s lefts rights made (bar_after (row_key s) (answers s op.UnionAll lefts rights) count) left right gone
-  pub rest : drop count (answers s op.UnionAll lefts rights) ≡ rows_left s lefts rights left right
-  pub within : count ≤ length (answers s op.UnionAll lefts rights)
+-- UNION gives of the rows with the same output values the first, UNION ALL gives all
+abbrev pub union_op : Bool → SetOp
+union_op true = op.Union
+union_op false = op.UnionAll
 
--- the same of UNION: the answers still to come are the first ones of those rows, but for values that were taken
-pub record UnionAt (s : Sides) (lefts rights : List OutputRow) (made : List SideAsk) (count : ℕ) (u : Union) : Type 0 where
+-- the answers still to come of the rows that are left, where these values were taken; and the values that are taken of answers
+abbrev pub given_of : Bool → List (List Value) → List OutputRow → List OutputRow
+given_of true taken rows = unseen taken (firsts rows)
+given_of false taken rows = rows
+
+abbrev pub taken_of : Bool → List OutputRow → List (List Value)
+taken_of true rows = values_of rows
+taken_of false rows = []
+
+-- a union has this many rows of each side left, and knows their heads; these rows tell the answers still to come
+pub record UnionAt (s : Sides) (distinct : Bool) (lefts rights : List OutputRow) (made : List SideAsk) (count : ℕ) (u : Union) : Type 0 where
   pub input : AreSides s lefts rights
   pub left : ℕ
   pub right : ℕ
   pub gone : List (Turn Key)
   pub taken : List (List Value)
-  pub state : u ≡ record { weights = s.weights; terms = s.terms; heads = heads_after s lefts rights made left right; taken = taken; spent = false }
-  pub answered : taken ≡ values_of (take count (answers s op.Union lefts rights))
-  pub merging : IsMerging s lefts rights made (bar_after (row_key s) (answers s op.Union lefts rights) count) left right gone
-  pub rest : drop count (answers s op.Union lefts rights) ≡ unseen taken (firsts (rows_left s lefts rights left right))
-  pub within : count ≤ length (answers s op.Union lefts rights)
+  pub state : u ≡ record { weights = s.weights; terms = s.terms; distinct = distinct; heads = heads_after s lefts rights made left right; taken = taken; spent = false }
+  pub answered : taken ≡ taken_of distinct (take count (answers s (union_op distinct) lefts rights))
+  pub merging : IsMerging s lefts rights made (bar_after (row_key s) (answers s (union_op distinct) lefts rights) count) left right gone
+  pub rest : drop count (answers s (union_op distinct) lefts rights) ≡ given_of distinct taken (rows_left s lefts rights left right)
+  pub within : count ≤ length (answers s (union_op distinct) lefts rights)
 
--- and the row that comes first isn't one of those
-pub record UnionStands (s : Sides) (lefts rights : List OutputRow) (made : List SideAsk) (count : ℕ) (u : Union) : Type 0 where
-  pub place : UnionAt s lefts rights made count u
+-- and UNION holds no row to be dropped
+pub record UnionStands (s : Sides) (distinct : Bool) (lefts rights : List OutputRow) (made : List SideAsk) (count : ℕ) (u : Union) : Type 0 where
+  pub place : UnionAt s distinct lefts rights made count u
   pub new : first_was_taken u ≡ false
 
 -- the right side after this many asks. The ask behind the last row tells that no more comes

@@ -1,5 +1,6 @@
--- What UNION keeps, and what each call does to it. A row is dropped once it comes first, if its output values were taken.
-use Rattle.std.specs.Prelude.{ℕ, ◌+◌, Bool, false, List, [], Option, Some, None, if◌then◌else◌}
+-- What UNION ALL and UNION keep, and what each call does to it. UNION drops a row once it comes first, if its output values were
+-- taken.
+use Rattle.std.specs.Prelude.{ℕ, ◌+◌, ◌&&◌, Bool, false, List, [], Option, Some, None, if◌then◌else◌}
 use Rattle.rs_rank.specs.declared.ask.JoinAsk.{JoinAsk}
 use Rattle.rs_rank.specs.declared.ask.JoinAsk.TheVariants.{NeedLeft, NeedRight, Ready, End}
 use Rattle.rs_rank.specs.declared.row.RankRow.{RankRow}
@@ -12,18 +13,19 @@ use Rattle.rs_setop.specs.declared.held.HeldRow.{HeldRow}
 use Rattle.rs_setop.specs.Heads.{ask_of, first_of, no_heads, without_first}
 use Rattle.rs_setop.specs.Held.{count_of, head_of_row, row_of}
 
--- the terms that are evaluated on the rows of both sides; the next row of each; the output values of the rows that were
--- taken, in the order of taking; and whether memory ran out
+-- the terms that are evaluated on the rows of both sides; whether of the rows with the same output values only the first is given;
+-- the next row of each side; the output values of the rows that UNION gave, in the order of taking; and whether memory ran out
 pub record Union : Type 0 where
   pub weights : Weights
   pub terms : ℕ
+  pub distinct : Bool
   pub heads : Heads
   pub taken : List (List Value)
   pub spent : Bool
 
 -- no side was asked
-abbrev pub new_union : Weights → ℕ → Union
-new_union weights terms = record { weights = weights; terms = terms; heads = no_heads; taken = []; spent = false }
+abbrev pub new_union : Weights → ℕ → Bool → Union
+new_union weights terms distinct = record { weights = weights; terms = terms; distinct = distinct; heads = no_heads; taken = []; spent = false }
 
 -- whether these are the values of a row that was taken
 abbrev pub was_taken : Option HeldRow → List (List Value) → Bool
@@ -38,9 +40,9 @@ is_repeated NeedRight u = false
 is_repeated End u = false
 
 abbrev pub first_was_taken : Union → Bool
-first_was_taken u = is_repeated (ask_of u.heads) u
+first_was_taken u = u.distinct && is_repeated (ask_of u.heads) u
 
--- such a row is dropped; then nothing is known of the next row of its side
+-- UNION drops such a row; then nothing is known of the next row of its side
 abbrev pub settled : Union → Union
 settled u = if first_was_taken u then record u { heads = without_first u.heads } else u
 
@@ -72,11 +74,11 @@ with_taken (Some held) taken = with_list held.values taken
 
 -- what is left without it
 abbrev pub left_for : JoinAsk → Union → Union
-left_for Ready u = record u { heads = without_first u.heads; taken = with_taken (first_of u.heads) u.taken }
+left_for Ready u = record u { heads = without_first u.heads; taken = if u.distinct then with_taken (first_of u.heads) u.taken else u.taken }
 left_for NeedLeft u = u
 left_for NeedRight u = u
 left_for End u = u
 
--- how many rows are held
-abbrev pub held_count : Heads → ℕ
-held_count heads = count_of heads.left + count_of heads.right
+-- for how many rows there is to be room: for those that are held, where their values are to be kept
+abbrev pub room_for : Bool → Heads → ℕ
+room_for distinct heads = if distinct then count_of heads.left + count_of heads.right else 0

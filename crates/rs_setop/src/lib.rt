@@ -11,8 +11,6 @@ mod heads;
 mod held;
 mod reached;
 mod union;
-mod union_all;
-mod union_all_laws;
 mod union_laws;
 
 pub use answer_laws::{set_answers_rise, set_rows_can_be_sorted_first};
@@ -23,12 +21,7 @@ pub use compared_laws::{
 };
 pub use heads::Heads;
 pub use held::{Head, HeldRow};
-pub use union::UnionCore;
-pub use union_all::UnionAllCore;
-pub use union_all_laws::{
-    asks_of_union_all_are_exact, new_union_all_stands, union_all_gives_the_next_answer,
-    union_all_takes_ends, union_all_takes_rows,
-};
+pub use union::{AllRows, FirstRows, Merged, Repeats, UnionAllCore, UnionCore};
 pub use union_laws::{
     asks_of_union_are_exact, new_union_stands, union_gives_the_next_answer, union_takes_ends,
     union_takes_rows,

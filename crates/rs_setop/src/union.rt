@@ -1,4 +1,4 @@
-ghost use Rattle.std.specs.Prelude.{◌≡◌, false, true, OnOk, OnErr};
+ghost use Rattle.std.specs.Prelude.{◌≡◌, Bool, false, true, Ok, OnOk, OnErr};
 ghost use Rattle.rs_rank.specs.declared.ask.JoinAsk.TheVariants.{NeedLeft, NeedRight};
 ghost use Rattle.rs_rank.specs.Rows.{HasSum};
 ghost use Rattle.rs_rank.specs.Weights.{IsWeights};
@@ -6,55 +6,100 @@ ghost use Rattle.rs_setop.specs.Heads.{ask_of};
 ghost use Rattle.rs_setop.specs.Union.{first_was_taken, left_ended, left_fed, left_for, new_union, right_ended, right_fed, settled, taken_for};
 
 use crate::heads::Heads;
-use crate::held::Head;
+use crate::held::{Head, HeldRow};
 use rs_outputs::Outputs;
 use rs_rank::{JoinAsk, RankRow, Weights};
 use rs_value::{Memory, Value};
 use std::alloc::Global;
-use std::marker::Model;
+use std::marker::{Model, PhantomData};
 
-/// The core of UNION over two sides, whose rows come in the order of their keys, both by the same terms. It knows no
-/// sides: it says which one it needs, is fed, and gives of the rows with the same output values the first.
+/// Which rows a union gives: all, or of the rows with the same output values the first.
+pub trait Repeats {
+    ghost use Rattle.std.specs.Prelude.{◌≡◌, Bool};
+
+    ghost distinct: { Bool };
+
+    fn is_distinct() -> bool
+        ensures { result ≡ Self.distinct };
+}
+
+/// All rows.
+pub struct AllRows;
+
+impl Repeats for AllRows {
+    ghost use Rattle.std.specs.Prelude.{false};
+
+    ghost distinct = { false };
+
+    fn is_distinct() -> bool {
+        false
+    }
+}
+
+/// The first of the rows with the same output values.
+pub struct FirstRows;
+
+impl Repeats for FirstRows {
+    ghost use Rattle.std.specs.Prelude.{true};
+
+    ghost distinct = { true };
+
+    fn is_distinct() -> bool {
+        true
+    }
+}
+
+/// The core of UNION ALL.
+pub type UnionAllCore = Merged<AllRows>;
+
+/// The core of UNION.
+pub type UnionCore = Merged<FirstRows>;
+
+/// The core of UNION ALL or UNION over two sides, whose rows come in the order of their keys, both by the same terms. It knows
+/// no sides: it says which one it needs, is fed, and gives the rows of both, or of those with the same output values the first.
 ///
-/// A row is dropped only once its key comes first and the next row of each side is known. After a call that answered
-/// `Memory` the core is spent, and no further call is allowed.
+/// UNION drops a row only once its key comes first and the next row of each side is known. After a call that answered
+/// `Memory` its core is spent, and no further call is allowed. UNION ALL takes no memory, and is never spent.
 #[derive(Drop)]
-pub struct UnionCore {
+pub struct Merged<R: Repeats> {
     weights: Weights,
     terms: u8,
+    repeats: PhantomData<R>,
     heads: Heads,
-    // The output values of the rows that were taken. There is room for those of the held rows.
+    // The output values of the rows that UNION gave. There is room for those of the held rows.
     taken: Outputs,
     spent: bool,
 }
 
-impl Model for UnionCore {
-    ghost use Rattle.std.specs.Prelude.{◌≤◌};
+impl<R: Repeats> Model for Merged<R> {
+    ghost use Rattle.std.specs.Prelude.{◌≡◌, ◌≤◌, false};
     ghost use Rattle.rs_rank.specs.Weights.{IsWeights};
-    ghost use Rattle.rs_setop.specs.Union.{Union, held_count};
+    ghost use Rattle.rs_setop.specs.Union.{Union, room_for};
 
     ghost Value = { Union };
 
     ghost view = { λ u. record {
       weights = u.weights;
       terms = u.terms;
+      distinct = R.distinct;
       heads = u.heads;
       taken = u.taken.lists;
       spent = u.spent;
     } };
 
-    ghost invariant = { λ u. IsWeights u.weights × (held_count u.heads ≤ u.taken.room) };
+    ghost invariant = { λ u. IsWeights u.weights × (room_for R.distinct u.heads ≤ u.taken.room) × (R.distinct ≡ false → u.spent ≡ false) };
 }
 
-impl UnionCore {
+impl<R: Repeats> Merged<R> {
     /// The operator over sides on whose rows `terms` are evaluated. It takes no memory.
-    pub fn new(alloc: Global, weights: Weights, terms: u8) -> UnionCore
+    pub fn new(alloc: Global, weights: Weights, terms: u8) -> Merged<R>
         requires { IsWeights weights }
-        ensures { result ≡ new_union weights terms }
+        ensures { result ≡ new_union weights terms R.distinct }
     {
-        UnionCore {
+        Merged {
             weights,
             terms,
+            repeats: PhantomData,
             heads: Heads::new(),
             taken: Outputs::new(alloc),
             spent: false,
@@ -76,8 +121,9 @@ impl UnionCore {
         requires sum { HasSum self.old.weights self.old.terms row }
         ensures ok { OnOk result (self.new ≡ left_fed row values.items self.old) }
         ensures err { OnErr result (self.new ≡ record self.old { spent = true }) }
+        ensures all { R.distinct ≡ false → result ≡ Ok tt }
     {
-        if self.taken.make_room(2).is_err() {
+        if R::is_distinct() && self.taken.make_room(2).is_err() {
             self.spent = true;
             return Err(Memory);
         }
@@ -93,8 +139,9 @@ impl UnionCore {
         requires sum { HasSum self.old.weights self.old.terms row }
         ensures ok { OnOk result (self.new ≡ right_fed row values.items self.old) }
         ensures err { OnErr result (self.new ≡ record self.old { spent = true }) }
+        ensures all { R.distinct ≡ false → result ≡ Ok tt }
     {
-        if self.taken.make_room(2).is_err() {
+        if R::is_distinct() && self.taken.make_room(2).is_err() {
             self.spent = true;
             return Err(Memory);
         }
@@ -131,9 +178,11 @@ impl UnionCore {
     {
         match self.heads.ask() {
             JoinAsk::Ready => match self.heads.take_first() {
-                Some(held) => {
-                    self.taken.add_in_room(held.values.into_items());
-                    Some(held.row)
+                Some(HeldRow { row, values, .. }) => {
+                    if R::is_distinct() {
+                        self.taken.add_in_room(values.into_items());
+                    }
+                    Some(row)
                 }
                 None => None,
             },
@@ -143,7 +192,7 @@ impl UnionCore {
         }
     }
 
-    /// Drops the held row whose key comes first, where the next row of each side is known and its values were taken.
+    /// UNION drops the held row whose key comes first, where the next row of each side is known and its values were taken.
     fn drop_taken(&mut self)
         ensures { self.new ≡ settled self.old }
     {
@@ -156,7 +205,7 @@ impl UnionCore {
     fn first_was_taken(&self) -> bool
         ensures { result ≡ first_was_taken self.now }
     {
-        if self.heads.ask() != JoinAsk::Ready {
+        if !R::is_distinct() || self.heads.ask() != JoinAsk::Ready {
             return false;
         }
         match self.heads.first() {

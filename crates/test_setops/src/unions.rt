@@ -1,7 +1,7 @@
 //! What no clause says of UNION ALL and UNION: rows worked by hand, and that memory is granted.
 
-ghost use Rattle.std.specs.Prelude.{◌≡◌};
-ghost use Rattle.test_setops.specs.Cores.{new_union_all_core, new_union_core};
+ghost use Rattle.std.specs.Prelude.{◌≡◌, false, true};
+ghost use Rattle.test_setops.specs.Cores.{new_union_core};
 
 use crate::rows::{ONE_TERM, left, right, values};
 use rs_setop::{UnionAllCore, UnionCore};
@@ -11,7 +11,7 @@ use std::test::Fail;
 
 // Both rows have 2.
 fn assert_both_rows(rt: &impl Abort, alloc: Global, core: &mut UnionAllCore) -> Result<(), Fail>
-    requires { core.old ≡ new_union_all_core }
+    requires { core.old ≡ new_union_core false }
 {
     core.feed_left(left(1, 1), values(alloc, 2)?)?;
     core.feed_right(right(1, 1), values(alloc, 2)?)?;
@@ -27,7 +27,7 @@ fn union_all_gives_the_left_row_first(rt: HostRuntime) -> Result<(), Fail> {
 
 // The left row of 2 is taken first, and then the next left row is needed.
 fn assert_left_row(rt: &impl Abort, alloc: Global, core: &mut UnionCore) -> Result<(), Fail>
-    requires { core.old ≡ new_union_core }
+    requires { core.old ≡ new_union_core true }
 {
     core.feed_left(left(1, 1), values(alloc, 2)?)?;
     core.feed_right(right(1, 1), values(alloc, 2)?)?;

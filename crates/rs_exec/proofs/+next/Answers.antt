@@ -12,7 +12,8 @@ use Rattle.rs_exec.specs.declared.node.Node.TheVariants as node
 use Rattle.rs_exec.proofs.CycleFacts.{end-kept, given, height, index-entry, index-gave, index-view, input-can, input-failed, input-stands, next-nearer, rank-asked, row-can, row-failed, row-kept, still-stopped, table-entry, table-gave}
 use Rattle.rs_exec.proofs.DistinctCycleFacts.{distinct-asked, drops_turn-can, drops_turn-dropped, drops_turn-failed, drops_turn-given, drops_turn-over, drops_turn-puts, drops_turn-stands, drops_turn-start, drops_turn-stopped}
 use Rattle.rs_exec.proofs.JoinCycleFacts.{join-asked-node, turn-given, turn-left_can, turn-left_ended, turn-left_failed, turn-left_fed, turn-left_nearer, turn-left_stands, turn-left_stopped, turn-left_takes, turn-over, turn-right_can, turn-right_ended, turn-right_failed, turn-right_fed, turn-right_nearer, turn-right_stands, turn-right_stopped, turn-right_takes, turn-start}
-use Rattle.rs_exec.proofs.SetCycleFacts.{set-asked-node, set_turn-alive, set_turn-given, set_turn-left_can, set_turn-left_ended, set_turn-left_failed, set_turn-left_fed, set_turn-left_nearer, set_turn-left_puts, set_turn-left_stands, set_turn-left_stopped, set_turn-left_sum, set_turn-over, set_turn-right_can, set_turn-right_ended, set_turn-right_failed, set_turn-right_fed, set_turn-right_nearer, set_turn-right_puts, set_turn-right_stands, set_turn-right_stopped, set_turn-right_sum, set_turn-small, set_turn-start}
+use Rattle.rs_order.specs.Schedule.{Left, Right}
+use Rattle.rs_exec.proofs.SetCycleFacts.{set-asked-node, set_turn-alive, set_turn-can, set_turn-ended, set_turn-failed, set_turn-fed, set_turn-given, set_turn-nearer, set_turn-over, set_turn-puts, set_turn-small, set_turn-stands, set_turn-start, set_turn-stopped, set_turn-sum}
 use Rattle.rs_exec.proofs.StepFacts.{Between, between-start}
 use Rattle.rs_exec.proofs.+next.Goals as goal
 
@@ -314,34 +315,34 @@ set::next_combined-next-requires g t c κs within =
     let less = c.decreases in
     let same = ap height c.loop-left.invariant.left_tree in
     let need = sym c.in-NeedLeft.ensures in
-    (omega arith, (within, (set_turn-left_can c.loop-left.invariant c.requires.can need, set_turn-left_stands c.loop-left.invariant c.requires.can need)))
+    (omega arith, (within, (set_turn-can c.loop-left.invariant c.requires.can Left need, set_turn-stands c.loop-left.invariant c.requires.can Left need)))
 
 pub set::next_combined-returns-in_err-row-in-NeedLeft : goal.set::next_combined-returns-in_err-row-in-NeedLeft
 set::next_combined-returns-in_err-row-in-NeedLeft g t c =
-    set_turn-left_failed c.loop-left.invariant c.requires.can (sym c.in-NeedLeft.ensures) _ c.in_err-row-in-NeedLeft.field-0.0 c.from_residual.result (g.S.Scorer.state c.next.new.scorer)
+    set_turn-failed c.loop-left.invariant c.requires.can Left (sym c.in-NeedLeft.ensures) _ c.in_err-row-in-NeedLeft.field-0.0 c.from_residual.result (g.S.Scorer.state c.next.new.scorer)
     (given-err c.from_residual.result c.in_err-row-in-NeedLeft.field-0.0 c.from_residual.ensures) c.in_err-row-in-NeedLeft.ensures.inquires
 
 pub set::next_combined-feed_left-requires-clause-alive : goal.set::next_combined-feed_left-requires-clause-alive
 set::next_combined-feed_left-requires-clause-alive g t c = set_turn-alive c.loop-left.invariant c.requires.can
 
 pub set::next_combined-feed_left-requires-clause-row : goal.set::next_combined-feed_left-requires-clause-row
-set::next_combined-feed_left-requires-clause-row g t c = set_turn-left_puts c.loop-left.invariant c.requires.can (sym c.in-NeedLeft.ensures) c.in-Some.row c.in_ok-row-in-NeedLeft.field-0 c.in-Some.is (g.S.Scorer.state c.next.new.scorer) c.in_ok-row-in-NeedLeft.ensures.inquires
+set::next_combined-feed_left-requires-clause-row g t c = set_turn-puts c.loop-left.invariant c.requires.can Left (sym c.in-NeedLeft.ensures) c.in-Some.row c.in_ok-row-in-NeedLeft.field-0 c.in-Some.is (g.S.Scorer.state c.next.new.scorer) c.in_ok-row-in-NeedLeft.ensures.inquires
 
 pub set::next_combined-feed_left-requires-clause-sum : goal.set::next_combined-feed_left-requires-clause-sum
-set::next_combined-feed_left-requires-clause-sum g t c = set_turn-left_sum c.loop-left.invariant c.requires.can (sym c.in-NeedLeft.ensures) c.in-Some.row c.in_ok-row-in-NeedLeft.field-0 c.in-Some.is (g.S.Scorer.state c.next.new.scorer) c.in_ok-row-in-NeedLeft.ensures.inquires
+set::next_combined-feed_left-requires-clause-sum g t c = set_turn-sum c.loop-left.invariant c.requires.can Left (sym c.in-NeedLeft.ensures) c.in-Some.row c.in_ok-row-in-NeedLeft.field-0 c.in-Some.is (g.S.Scorer.state c.next.new.scorer) c.in_ok-row-in-NeedLeft.ensures.inquires
 
 pub set::next_combined-loop-left-smaller-in-Continue-branch-3 : goal.set::next_combined-loop-left-smaller-in-Continue-branch-3
 set::next_combined-loop-left-smaller-in-Continue-branch-3 g t c =
-    set_turn-left_nearer c.loop-left.invariant c.requires.can (sym c.in-NeedLeft.ensures) c.next.new.self (c.in_ok-row-in-NeedLeft.ensures.leaves refl)
+    set_turn-nearer c.loop-left.invariant c.requires.can Left (sym c.in-NeedLeft.ensures) c.next.new.self (c.in_ok-row-in-NeedLeft.ensures.leaves refl)
 
 pub set::next_combined-loop-left-preserved-in-Continue-branch-3 : goal.set::next_combined-loop-left-preserved-in-Continue-branch-3
 set::next_combined-loop-left-preserved-in-Continue-branch-3 g t c =
-    set_turn-left_fed c.loop-left.invariant c.requires.can (sym c.in-NeedLeft.ensures) c.in-Some.row c.in_ok-row-in-NeedLeft.field-0 c.in-Some.is (g.S.Scorer.state c.next.new.scorer) c.in_ok-row-in-NeedLeft.ensures.inquires
+    set_turn-fed c.loop-left.invariant c.requires.can Left (sym c.in-NeedLeft.ensures) c.in-Some.row c.in_ok-row-in-NeedLeft.field-0 c.in-Some.is (g.S.Scorer.state c.next.new.scorer) c.in_ok-row-in-NeedLeft.ensures.inquires
     c.feed_left.new.self c.next.new.self c.in_ok-feed_left-in-Some.ensures (c.in_ok-row-in-NeedLeft.ensures.leaves refl)
 
 pub set::next_combined-returns-in_err-feed_left-in-Some : goal.set::next_combined-returns-in_err-feed_left-in-Some
 set::next_combined-returns-in_err-feed_left-in-Some g t c =
-    set_turn-left_stopped c.loop-left.invariant c.requires.can (sym c.in-NeedLeft.ensures) c.in-Some.row c.in_ok-row-in-NeedLeft.field-0 c.in-Some.is (g.S.Scorer.state c.next.new.scorer) c.in_ok-row-in-NeedLeft.ensures.inquires
+    set_turn-stopped c.loop-left.invariant c.requires.can Left (sym c.in-NeedLeft.ensures) c.in-Some.row c.in_ok-row-in-NeedLeft.field-0 c.in-Some.is (g.S.Scorer.state c.next.new.scorer) c.in_ok-row-in-NeedLeft.ensures.inquires
     _ c.from_residual-in_err-feed_left-in-Some.result (given-err c.from_residual-in_err-feed_left-in-Some.result Memory c.from_residual-in_err-feed_left-in-Some.ensures)
 
 pub set::next_combined-end_left-requires-clause-alive : goal.set::next_combined-end_left-requires-clause-alive
@@ -349,11 +350,11 @@ set::next_combined-end_left-requires-clause-alive g t c = set_turn-alive c.loop-
 
 pub set::next_combined-loop-left-smaller-in-None : goal.set::next_combined-loop-left-smaller-in-None
 set::next_combined-loop-left-smaller-in-None g t c =
-    set_turn-left_nearer c.loop-left.invariant c.requires.can (sym c.in-NeedLeft.ensures) c.next.new.self (c.in_ok-row-in-NeedLeft.ensures.leaves refl)
+    set_turn-nearer c.loop-left.invariant c.requires.can Left (sym c.in-NeedLeft.ensures) c.next.new.self (c.in_ok-row-in-NeedLeft.ensures.leaves refl)
 
 pub set::next_combined-loop-left-preserved-in-None : goal.set::next_combined-loop-left-preserved-in-None
 set::next_combined-loop-left-preserved-in-None g t c =
-    set_turn-left_ended c.loop-left.invariant c.requires.can (sym c.in-NeedLeft.ensures) c.in_ok-row-in-NeedLeft.field-0 c.in-None.is
+    set_turn-ended c.loop-left.invariant c.requires.can Left (sym c.in-NeedLeft.ensures) c.in_ok-row-in-NeedLeft.field-0 c.in-None.is
     (g.S.Scorer.state c.next.new.scorer) c.end_left.new.self c.next.new.self c.end_left.ensures c.in_ok-row-in-NeedLeft.ensures.inquires (c.in_ok-row-in-NeedLeft.ensures.leaves refl)
 
 pub set::next_combined-next-requires-in-NeedRight : goal.set::next_combined-next-requires-in-NeedRight
@@ -361,34 +362,34 @@ set::next_combined-next-requires-in-NeedRight g t c κs within =
     let less = c.decreases in
     let same = ap height c.loop-left.invariant.right_tree in
     let need = sym c.in-NeedRight.ensures in
-    (omega arith, (within, (set_turn-right_can c.loop-left.invariant c.requires.can need, set_turn-right_stands c.loop-left.invariant c.requires.can need)))
+    (omega arith, (within, (set_turn-can c.loop-left.invariant c.requires.can Right need, set_turn-stands c.loop-left.invariant c.requires.can Right need)))
 
 pub set::next_combined-returns-in_err-row-in-NeedRight : goal.set::next_combined-returns-in_err-row-in-NeedRight
 set::next_combined-returns-in_err-row-in-NeedRight g t c =
-    set_turn-right_failed c.loop-left.invariant c.requires.can (sym c.in-NeedRight.ensures) _ c.in_err-row-in-NeedRight.field-0.0 c.from_residual-in_err-row-in-NeedRight.result (g.S.Scorer.state c.next-in-NeedRight.new.scorer)
+    set_turn-failed c.loop-left.invariant c.requires.can Right (sym c.in-NeedRight.ensures) _ c.in_err-row-in-NeedRight.field-0.0 c.from_residual-in_err-row-in-NeedRight.result (g.S.Scorer.state c.next-in-NeedRight.new.scorer)
     (given-err c.from_residual-in_err-row-in-NeedRight.result c.in_err-row-in-NeedRight.field-0.0 c.from_residual-in_err-row-in-NeedRight.ensures) c.in_err-row-in-NeedRight.ensures.inquires
 
 pub set::next_combined-feed_right-requires-clause-alive : goal.set::next_combined-feed_right-requires-clause-alive
 set::next_combined-feed_right-requires-clause-alive g t c = set_turn-alive c.loop-left.invariant c.requires.can
 
 pub set::next_combined-feed_right-requires-clause-row : goal.set::next_combined-feed_right-requires-clause-row
-set::next_combined-feed_right-requires-clause-row g t c = set_turn-right_puts c.loop-left.invariant c.requires.can (sym c.in-NeedRight.ensures) c.in-Some-2.row c.in_ok-row-in-NeedRight.field-0 c.in-Some-2.is (g.S.Scorer.state c.next-in-NeedRight.new.scorer) c.in_ok-row-in-NeedRight.ensures.inquires
+set::next_combined-feed_right-requires-clause-row g t c = set_turn-puts c.loop-left.invariant c.requires.can Right (sym c.in-NeedRight.ensures) c.in-Some-2.row c.in_ok-row-in-NeedRight.field-0 c.in-Some-2.is (g.S.Scorer.state c.next-in-NeedRight.new.scorer) c.in_ok-row-in-NeedRight.ensures.inquires
 
 pub set::next_combined-feed_right-requires-clause-sum : goal.set::next_combined-feed_right-requires-clause-sum
-set::next_combined-feed_right-requires-clause-sum g t c = set_turn-right_sum c.loop-left.invariant c.requires.can (sym c.in-NeedRight.ensures) c.in-Some-2.row c.in_ok-row-in-NeedRight.field-0 c.in-Some-2.is (g.S.Scorer.state c.next-in-NeedRight.new.scorer) c.in_ok-row-in-NeedRight.ensures.inquires
+set::next_combined-feed_right-requires-clause-sum g t c = set_turn-sum c.loop-left.invariant c.requires.can Right (sym c.in-NeedRight.ensures) c.in-Some-2.row c.in_ok-row-in-NeedRight.field-0 c.in-Some-2.is (g.S.Scorer.state c.next-in-NeedRight.new.scorer) c.in_ok-row-in-NeedRight.ensures.inquires
 
 pub set::next_combined-loop-left-smaller-in-Continue-branch-6 : goal.set::next_combined-loop-left-smaller-in-Continue-branch-6
 set::next_combined-loop-left-smaller-in-Continue-branch-6 g t c =
-    set_turn-right_nearer c.loop-left.invariant c.requires.can (sym c.in-NeedRight.ensures) c.next-in-NeedRight.new.self (c.in_ok-row-in-NeedRight.ensures.leaves refl)
+    set_turn-nearer c.loop-left.invariant c.requires.can Right (sym c.in-NeedRight.ensures) c.next-in-NeedRight.new.self (c.in_ok-row-in-NeedRight.ensures.leaves refl)
 
 pub set::next_combined-loop-left-preserved-in-Continue-branch-6 : goal.set::next_combined-loop-left-preserved-in-Continue-branch-6
 set::next_combined-loop-left-preserved-in-Continue-branch-6 g t c =
-    set_turn-right_fed c.loop-left.invariant c.requires.can (sym c.in-NeedRight.ensures) c.in-Some-2.row c.in_ok-row-in-NeedRight.field-0 c.in-Some-2.is (g.S.Scorer.state c.next-in-NeedRight.new.scorer) c.in_ok-row-in-NeedRight.ensures.inquires
+    set_turn-fed c.loop-left.invariant c.requires.can Right (sym c.in-NeedRight.ensures) c.in-Some-2.row c.in_ok-row-in-NeedRight.field-0 c.in-Some-2.is (g.S.Scorer.state c.next-in-NeedRight.new.scorer) c.in_ok-row-in-NeedRight.ensures.inquires
     c.feed_right.new.self c.next-in-NeedRight.new.self c.in_ok-feed_right-in-Some-2.ensures (c.in_ok-row-in-NeedRight.ensures.leaves refl)
 
 pub set::next_combined-returns-in_err-feed_right-in-Some-2 : goal.set::next_combined-returns-in_err-feed_right-in-Some-2
 set::next_combined-returns-in_err-feed_right-in-Some-2 g t c =
-    set_turn-right_stopped c.loop-left.invariant c.requires.can (sym c.in-NeedRight.ensures) c.in-Some-2.row c.in_ok-row-in-NeedRight.field-0 c.in-Some-2.is (g.S.Scorer.state c.next-in-NeedRight.new.scorer) c.in_ok-row-in-NeedRight.ensures.inquires
+    set_turn-stopped c.loop-left.invariant c.requires.can Right (sym c.in-NeedRight.ensures) c.in-Some-2.row c.in_ok-row-in-NeedRight.field-0 c.in-Some-2.is (g.S.Scorer.state c.next-in-NeedRight.new.scorer) c.in_ok-row-in-NeedRight.ensures.inquires
     _ c.from_residual-in_err-feed_right-in-Some-2.result (given-err c.from_residual-in_err-feed_right-in-Some-2.result Memory c.from_residual-in_err-feed_right-in-Some-2.ensures)
 
 pub set::next_combined-end_right-requires-clause-alive : goal.set::next_combined-end_right-requires-clause-alive
@@ -396,11 +397,11 @@ set::next_combined-end_right-requires-clause-alive g t c = set_turn-alive c.loop
 
 pub set::next_combined-loop-left-smaller : goal.set::next_combined-loop-left-smaller
 set::next_combined-loop-left-smaller g t c =
-    set_turn-right_nearer c.loop-left.invariant c.requires.can (sym c.in-NeedRight.ensures) c.next-in-NeedRight.new.self (c.in_ok-row-in-NeedRight.ensures.leaves refl)
+    set_turn-nearer c.loop-left.invariant c.requires.can Right (sym c.in-NeedRight.ensures) c.next-in-NeedRight.new.self (c.in_ok-row-in-NeedRight.ensures.leaves refl)
 
 pub set::next_combined-loop-left-preserved : goal.set::next_combined-loop-left-preserved
 set::next_combined-loop-left-preserved g t c =
-    set_turn-right_ended c.loop-left.invariant c.requires.can (sym c.in-NeedRight.ensures) c.in_ok-row-in-NeedRight.field-0 c.in-None-2.is
+    set_turn-ended c.loop-left.invariant c.requires.can Right (sym c.in-NeedRight.ensures) c.in_ok-row-in-NeedRight.field-0 c.in-None-2.is
     (g.S.Scorer.state c.next-in-NeedRight.new.scorer) c.end_right.new.self c.next-in-NeedRight.new.self c.end_right.ensures c.in_ok-row-in-NeedRight.ensures.inquires (c.in_ok-row-in-NeedRight.ensures.leaves refl)
 
 pub set::next_combined-give-requires-clause-alive : goal.set::next_combined-give-requires-clause-alive

@@ -1,6 +1,0 @@
--- Nothing is asked yet.
-use Rattle.rs_setop.proofs.UnionAllFacts.{new-stands}
-use Rattle.rs_setop.proofs.union_all_laws.new_union_all_stands.Goals as goal
-
-pub returns : goal.returns
-returns c = λ s lefts rights input. new-stands s lefts rights input

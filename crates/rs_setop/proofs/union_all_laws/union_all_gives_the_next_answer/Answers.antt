@@ -1,6 +1,0 @@
--- The row that comes first is the next answer.
-use Rattle.rs_setop.proofs.UnionAllFacts.{taken-stands}
-use Rattle.rs_setop.proofs.union_all_laws.union_all_gives_the_next_answer.Goals as goal
-
-pub returns : goal.returns
-returns c = λ s lefts rights made count u st ready. taken-stands s lefts rights made count u st ready
