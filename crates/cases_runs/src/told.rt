@@ -13,7 +13,7 @@ pub fn tell_run(alloc: Global, status: Status, outside: &Outside) -> Result<Stri
     tell_bytes("out", outside.out.bytes(), &mut told)?;
     tell_bytes("err", outside.err.bytes(), &mut told)?;
     tell_calls(outside.scorer.calls(), &mut told)?;
-    tell_names(outside.files.fetched(), &mut told)?;
+    tell_names(outside.files.fetched_names(), &mut told)?;
     Ok(told)
 }
 

@@ -51,7 +51,7 @@ impl Columns for OneEntry<'_> {
         if !self.has(&column.alias) {
             return Err(fault);
         }
-        match placed(self.schema, &column.column.text) {
+        match place_in(self.schema, &column.column.text) {
             Some((place, kind)) => Ok((BoundArg::Column(1, place), kind)),
             None => Err(fault),
         }
@@ -59,7 +59,7 @@ impl Columns for OneEntry<'_> {
 }
 
 /// The place of the first column of this name, counted from 0, and its kind.
-fn placed(schema: &Schema, name: &Text) -> Option<(u8, Kind)>
+fn place_in(schema: &Schema, name: &Text) -> Option<(u8, Kind)>
     ensures { result ≡ placed name.now schema.now }
 {
     let place = schema.place(name)?;

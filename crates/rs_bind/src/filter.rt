@@ -179,7 +179,7 @@ fn entries_of(columns: &[(u8, u8)]) -> u8
 fn equality_of(condition: &Cond, columns: &[(u8, u8)]) -> Option<((u8, u8), (u8, u8))>
     ensures { result ≡ equality_of (condition_of condition.now) columns.now }
 {
-    let (left, right) = equated(condition)?;
+    let (left, right) = equated_columns(condition)?;
     across(column_at(columns, left), column_at(columns, right))
 }
 
@@ -202,7 +202,7 @@ fn across(left: Option<(u8, u8)>, right: Option<(u8, u8)>) -> Option<((u8, u8), 
 }
 
 /// The two arguments of a condition that is an equation of two columns.
-fn equated(condition: &Cond) -> Option<(u16, u16)>
+fn equated_columns(condition: &Cond) -> Option<(u16, u16)>
     ensures { result ≡ equated (condition_of condition.now) }
 {
     match condition {

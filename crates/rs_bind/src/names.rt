@@ -12,7 +12,7 @@ use rs_value::{Kind, Text};
 use std::alloc::Global;
 
 /// Names with their kinds: at most `most`, no two of one name.
-pub fn named(
+pub fn distinct_columns(
     alloc: Global,
     columns: &[(Name, Kind)],
     most: usize,

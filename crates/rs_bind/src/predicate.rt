@@ -9,7 +9,7 @@ ghost use Rattle.rs_typing.specs.Models.{result_map};
 ghost use Rattle.rs_bind.specs.Predicates.{IsCreatePredicate, cost_of, predicate_of};
 ghost use Rattle.rs_syntax.specs.Written.{IsWritten};
 
-use crate::names::{named, number_in};
+use crate::names::{distinct_columns, number_in};
 use rs_expr::{Expr, Predicate};
 use rs_lex::Span;
 use rs_syntax::{Node, Statement};
@@ -39,7 +39,7 @@ pub fn bind_predicate(alloc: Global, statement: &Statement) -> Result<Predicate,
             cost,
             formula,
         } => {
-            let columns = named(alloc, params.items(), MOST_PARAMETERS)?;
+            let columns = distinct_columns(alloc, params.items(), MOST_PARAMETERS)?;
             let max = number_in(max, 1, u32::MAX)?;
             let cost = cost_of(cost)?;
             let formula = bind_formula(alloc, &columns, formula)?;

@@ -2,7 +2,7 @@ ghost use Rattle.std.specs.Prelude.{◌≤◌, length};
 ghost use Rattle.rs_value.specs.Answer.{Gives};
 ghost use Rattle.rs_bind.specs.Names.{columns_of};
 
-use crate::names::named;
+use crate::names::distinct_columns;
 use rs_syntax::Name;
 use rs_table::{MOST_COLUMNS, Schema};
 use rs_typing::BindFault;
@@ -15,7 +15,7 @@ pub fn bind_table(alloc: Global, columns: &[(Name, Kind)]) -> Result<Schema, Bin
     requires { 1 ≤ length columns.now }
     ensures { Gives BindFault.Memory (columns_of columns.now) result }
 {
-    match named(alloc, columns, MOST_COLUMNS) {
+    match distinct_columns(alloc, columns, MOST_COLUMNS) {
         Ok(columns) => Ok(Schema::make(columns)),
         Err(fault) => Err(fault),
     }

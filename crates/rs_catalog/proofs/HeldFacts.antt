@@ -1,6 +1,6 @@
 -- The indexes of a catalogue go on to hold a scorer's answers where it grows.
 use Rattle.std.proofs.Common.{◌≡◌, ◌∙◌, ℕ, List, [], ◌∷◌, ◌++◌, length-append, inl, inr, pos, sym, subst, arith}
-use Rattle.std.specs.Prelude.{◌⊎◌, Option, Result, Ok, Err, option_map, unwrap_or}
+use Rattle.std.specs.Prelude.{◌⊎◌, Result, Ok, Err, option_map, unwrap_or}
 use Rattle.std.specs.List.{AllByRecursion}
 use Rattle.std.proofs.lemmas.Option.{slice_get_within}
 use Rattle.rs_table.specs.Relation.{Relation}

@@ -1,5 +1,5 @@
 -- What the maps inside a catalogue say of it.
-use Rattle.std.proofs.Common.{◌≡◌, ℕ, ◌≤◌, List, [], length, Some, sym, ap, ◌∙◌, subst, arith}
+use Rattle.std.proofs.Common.{◌≡◌, ℕ, List, [], length, Some, sym, ap, ◌∙◌, subst}
 use Rattle.std.proofs.lemmas.Option.{slice_get-map}
 use Rattle.std.proofs.lemmas.Simd.{map-map}
 use Rattle.std.specs.Prelude.{position, option_map, unwrap_or, slice_get}
@@ -7,16 +7,14 @@ use Rattle.std.specs.Map.{keys_of, values_of}
 use Rattle.rs_rank.specs.declared.scored_row.ScoredRow.{ScoredRow}
 use Rattle.rs_table.specs.Relation.{Relation}
 use Rattle.rs_expr.specs.Predicates.{PredicateDef}
-use Rattle.rs_catalog.specs.Catalog.{CatalogDef, most_of, names_of}
+use Rattle.rs_catalog.specs.Catalog.{CatalogDef, names_of}
 use Rattle.rs_catalog.specs.Indexes.{IsIndexEntry, index_of, is_for, predicate_for, ranking_at, rows_for}
-use Rattle.rs_catalog.specs.Inside.{IsInside, IsRanked, NamesDiffer, catalogue_of}
+use Rattle.rs_catalog.specs.Inside.{IsInside, IsRanked, catalogue_of}
 use Rattle.rs_catalog.specs.declared.catalog.RankIndex.{RankIndex as StoredIndex}
 use Rattle.rs_catalog.specs.declared.index.BoundArg.{BoundArg}
 use Rattle.rs_catalog.specs.declared.index.IndexDef.{IndexDef}
-use Rattle.rs_catalog.specs.declared.room.What.{What}
-use Rattle.rs_catalog.specs.declared.room.What.TheVariants.{Table, Predicate, Index}
+use Rattle.rs_catalog.specs.declared.room.What.TheVariants.{Table}
 use Rattle.rs_order.proofs.EachFacts.{each-slice_get}
-use Rattle.rs_catalog.proofs.NameFacts.{length-keys}
 use Rattle.rs_catalog.proofs.PlaceFacts.{position-map}
 
 module _ (tables : List (List ℕ × Relation)) (predicates : List (List ℕ × PredicateDef)) (indexes : List (List ℕ × StoredIndex)) where

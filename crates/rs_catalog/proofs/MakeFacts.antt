@@ -9,7 +9,7 @@ use Rattle.rs_table.specs.Relation.{Relation}
 use Rattle.rs_expr.specs.Predicates.{PredicateDef}
 use Rattle.rs_expr.specs.Scoring.{Answering, KeepsScorer, Made, ScorerState}
 use Rattle.rs_expr.specs.InOrder.{Inquires, Inquiry, Request, calls_of}
-use Rattle.rs_expr.proofs.ScoringFacts.{KeepsScorer-refl, KeepsScorer-then, Made-none}
+use Rattle.rs_expr.proofs.ScoringFacts.{KeepsScorer-then}
 use Rattle.rs_expr.proofs.InOrderFacts.{Begins, InquiryEnds-ok, Inquires-begun, Inquires-behind, Inquires-unheld, Made-requests, behind, one}
 use Rattle.rs_rank.specs.declared.scored_row.ScoredRow.{ScoredRow}
 use Rattle.rs_catalog.specs.Catalog.{CatalogDef, with_index}
@@ -20,7 +20,7 @@ use Rattle.rs_catalog.specs.declared.index.IndexDef.{IndexDef}
 use Rattle.rs_catalog.specs.declared.index.IndexFault.{IndexFault}
 use Rattle.rs_catalog.specs.declared.index.IndexFault.TheVariants.{Memory}
 use Rattle.rs_catalog.proofs.GrowthFacts.{rows_for-table}
-use Rattle.rs_catalog.proofs.ScoreFacts.{Asked, Asked-scored, Rest, rest-all, rest-bad, rest-next, rest-none, score_for-err}
+use Rattle.rs_catalog.proofs.ScoreFacts.{Asked, Asked-scored, Rest, rest-all, rest-bad, rest-next, score_for-err}
 
 module _ (answer : List Value → ℤ) (request : List Value → Request IndexFault) (max : ℕ) (rows : List (List Value)) where
   -- the scores of all rows

@@ -1,7 +1,7 @@
 -- A choice makes one tree, that of each plan which it was made of.
 use Rattle.std.proofs.Common.{◌≡◌, ℕ, ◌≤◌, List, length, refl, sym, ◌∙◌, ap, subst, arith, bit_and, bit_xor}
-use Rattle.std.specs.Prelude.{Option, Some, None, IsSome, option_map}
-use Rattle.std.proofs.lemmas.Option.{none-some, same_Some}
+use Rattle.std.specs.Prelude.{Option, Some}
+use Rattle.std.proofs.lemmas.Option.{same_Some}
 use Rattle.rs_rank.specs.Masks.{mask_of}
 use Rattle.rs_catalog.specs.Catalog.{CatalogDef}
 use Rattle.rs_query.specs.WellFormed.{IsBlock}
@@ -19,11 +19,6 @@ use Rattle.rs_enum.specs.Within.{terms_within}
 use Rattle.rs_enum.proofs.BitFacts.{left-of-union, left-without, number-apart}
 use Rattle.rs_enum.proofs.CostFacts.{numbered}
 use Rattle.rs_enum.proofs.WithinFacts.{left-terms, right-terms}
-
--- where something is mapped, there is something
-pub some-mapped : {A B : Type 0} (f : A → B) (o : Option A) (y : B) → option_map f o ≡ Some y → IsSome o
-some-mapped f (Some x) y is = refl
-some-mapped f None y is = absurd (none-some y is)
 
 module _ (query : Query) (places : List (Option Kept)) (first second : ℕ) where
   same-left : (left : ℕ) (l r m s : PlanTree) → AreKeptSides query places first second left l r → AreKeptSides query places first second left m s → l ≡ m

@@ -4,7 +4,7 @@ use Rattle.std.specs.Cmp.{IsTotalOrder, nat_cmp_is}
 use Rattle.std.specs.Ordering.{is_gt, nat_cmp, on, ordering_then, then_cmp}
 use Rattle.std.specs.declared.cmp.Ordering.{Ordering}
 use Rattle.std.specs.declared.cmp.Ordering.TheVariants.{Less, Equal, Greater}
-use Rattle.std.proofs.lemmas.Cmp.{nat_cmp_total, on_total, ranked, then_total, tied_itself, upto}
+use Rattle.std.proofs.lemmas.Cmp.{nat_cmp_total, on_total, ranked, then_total, upto}
 use Rattle.std.proofs.Math.Nat.{pow-le-pow_right}
 use Rattle.rs_rank.specs.Masks.{mask_of}
 use Rattle.rs_catalog.specs.Catalog.{CatalogDef}
@@ -22,8 +22,7 @@ use Rattle.rs_enum.specs.Costs.{estimate_of}
 use Rattle.rs_enum.specs.QueryCards.{AreCards, IsBlockNumber, cards_at}
 use Rattle.rs_enum.specs.Tops.{IsExtent, IsTopped, IsWhole, NoLaterBy, most_whole, number_of, root_term, rows_most, whole_rows}
 use Rattle.rs_enum.proofs.BoundFacts.{calls-most, most-fits, most-set-fits, ones-rank}
-use Rattle.rs_enum.proofs.CostFacts.{all-small, block-formed, numbered, part-has-numbers, same-terms, set-below-left, set-rank-most, set-rows, terms-small}
-use Rattle.rs_enum.proofs.WithinFacts.{terms-below}
+use Rattle.rs_enum.proofs.CostFacts.{all-small, block-formed, numbered, part-has-numbers, same-terms, set-rank-most, set-rows, terms-small}
 use Rattle.rs_enum.proofs.OrderOfPlans.{code-total, estimate-part}
 
 -- the order of trees by any cost, and then by their codes
@@ -33,9 +32,6 @@ module _ (value : PlanTree → ℕ) where
 
   pub by_value-on : (a b c : PlanTree) → NoLaterBy value a b → NoLaterBy value b c → NoLaterBy value a c
   by_value-on a b c = upto value-total a b c
-
-  pub by_value-itself : (a : PlanTree) → NoLaterBy value a a
-  by_value-itself a = ap is_gt (tied_itself value-total a)
 
   pub by_value-less : (a b : PlanTree) → value a < value b → NoLaterBy value a b
   by_value-less a b less = ap (λ o. is_gt (ordering_then o (code_cmp (code a) (code b)))) (sym (nat_cmp_is (value a) (value b) Less less))
@@ -123,12 +119,6 @@ module _ (catalogue : CatalogDef) where
       estimate-part catalogue query cards (block_in query number) number tree (terms tree) is.part
       ∙ ap (λ m. (cards_at cards number).estimate m (terms tree)) is.all
   whole-estimate query cards extent.Both tree is = set-rows catalogue query cards tree is
-
-  -- the terms of a tree are terms of its block
-  pub whole-terms : (query : Query) → IsQuery catalogue query → (e : Extent) (tree : PlanTree) → IsWhole catalogue query e tree
-      → terms tree < 2 ^ length (block_in query (number_of e)).terms
-  whole-terms query q (extent.Block number) tree is = terms-below catalogue (block_in query number) tree is.part
-  whole-terms query q extent.Both tree is = set-below-left catalogue query tree is
 
   -- a query of a set operator, whose first block is well-formed
   pub few-terms : (query : Query) → IsQuery catalogue query → (e : Extent) → length (block_in query (number_of e)).terms ≤ 8
@@ -220,9 +210,3 @@ pub right-terms-below : (catalogue : CatalogDef) (query : Query) (cards : List B
     → length (block_in query 1).terms ≡ length (block_in query 2).terms
 right-terms-below catalogue (One block limit) cards q is = absurd is
 right-terms-below catalogue (Set op left right limit) cards q is = same-terms left right left.terms right.terms q.0.terms
-
-pub extent-block : (query : Query) (cards : List BlockCards) (e : Extent) (number : ℕ) → IsExtent query cards e → e ≡ extent.Block number → IsBlockNumber cards number
-extent-block query cards e number is same = subst (IsExtent query cards) same is
-
-pub extent-both : (query : Query) (cards : List BlockCards) (e : Extent) → IsExtent query cards e → e ≡ extent.Both → IsExtent query cards extent.Both
-extent-both query cards e is same = subst (IsExtent query cards) same is

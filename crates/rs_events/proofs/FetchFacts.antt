@@ -16,54 +16,6 @@ use Rattle.rs_events.proofs.RanFacts.{HasDone-files, Ran-all, Ran-no_memory, nam
 pub fault-at : {F A B : Type 0} (f g : F) → ◌≡◌ {A = Result A F} (Err f) (Err g) → ◌≡◌ {A = Result B F} (Err f) (Err g)
 fault-at f g e = ap Err (let same : f ≡ g = cc in same)
 
--- a fault of the fetch, or of what it gives, goes on, as a fault of another type perhaps
-module _ {F G A B : Type 0} (memory : F) (Tells : F → Type 0) (other_memory : G) (OtherTells : G → Type 0) (file : List ℕ) (fault : F) (other : G) where
-  pub FetchesFile-told : (gives : Option (List ℕ) → Result A F → Type 0) (more : Option (List ℕ) → Result B G → Type 0) (old new : Outside FilesTold)
-      → (fault ≡ memory → other ≡ other_memory) → (Tells fault → OtherTells other ⊎ (other ≡ other_memory))
-      → ((there : Option (List ℕ)) → gives there (Err fault) → more there (Err other) ⊎ (other ≡ other_memory))
-      → FetchesFile memory Tells file (Err fault) gives old new → FetchesFile other_memory OtherTells file (Err other) more old new
-  FetchesFile-told gives more old new memories tells turn f = record { there = f.there; is_told = f.is_told; does = go f.does; keeps = f.keeps } where
-    want : other ≡ other_memory → ◌≡◌ {A = Result B G} (Err other) (Err other_memory)
-    want e = ap Err e
-
-    go : (NotFetched {A = A} memory (Err fault) old new ⊎ FetchFails {A = A} memory Tells file (Err fault) old new) ⊎ Fetched memory file (gives f.there) (Err fault) old new
-        → (NotFetched {A = B} other_memory (Err other) old new ⊎ FetchFails {A = B} other_memory OtherTells file (Err other) old new)
-        ⊎ Fetched other_memory file (more f.there) (Err other) old new
-    go (inl (inl nothing)) = inl (inl (record { same = nothing.same; answers = want (memories (let e = nothing.answers in cc)) }))
-    go (inl (inr failed)) = inl (inr (record {
-      fetched = failed.fetched;
-      faulted = failed.faulted;
-      answers = elim failed.answers [
-        | inl told ↦ elim (tells (subst Tells (let same : told.0 ≡ fault = let e = told.2 in cc in same) told.1)) [ inl t ↦ inl (other, t, refl) | inr e ↦ inr (want e) ]
-        | inr e ↦ inr (want (memories cc))
-      ];
-    }))
-    go (inr fetched) = inr (record {
-      fetched = fetched.fetched;
-      answers = elim fetched.answers [
-        | inl g ↦ elim (turn f.there g) [ inl h ↦ inl h | inr e ↦ inr (want e) ]
-        | inr e ↦ inr (want (memories cc))
-      ];
-    })
-
--- the same fault goes on
-pub FetchesFile-err : {F A B : Type 0} {memory : F} {Tells : F → Type 0} (file : List ℕ) (fault : F) (gives : Option (List ℕ) → Result A F → Type 0)
-    (more : Option (List ℕ) → Result B F → Type 0) (old new : Outside FilesTold) → ((there : Option (List ℕ)) → gives there (Err fault) → more there (Err fault))
-    → FetchesFile memory Tells file (Err fault) gives old new → FetchesFile memory Tells file (Err fault) more old new
-FetchesFile-err {F} {A} {B} {memory} {Tells} file fault gives more old new turn f =
-    FetchesFile-told memory Tells memory Tells file fault fault gives more old new (λ e. e) (λ t. inl t) (λ there g. inl (turn there g)) f
-
--- what is made of what was fetched, or no memory for it
-pub FetchesFile-ok : {F A B : Type 0} {memory : F} {Tells : F → Type 0} (file : List ℕ) (a : A) (result : Result B F) (gives : Option (List ℕ) → Result A F → Type 0)
-    (more : Option (List ℕ) → Result B F → Type 0) (old new : Outside FilesTold) → ((there : Option (List ℕ)) → gives there (Ok a) → more there result ⊎ (result ≡ Err memory))
-    → FetchesFile memory Tells file (Ok a) gives old new → FetchesFile memory Tells file result more old new
-FetchesFile-ok {F} {A} {B} {memory} {Tells} file a result gives more old new turn f = record { there = f.there; is_told = f.is_told; does = go f.does; keeps = f.keeps } where
-  go : (NotFetched memory (Ok a) old new ⊎ FetchFails memory Tells file (Ok a) old new) ⊎ Fetched memory file (gives f.there) (Ok a) old new
-      → (NotFetched memory result old new ⊎ FetchFails memory Tells file result old new) ⊎ Fetched memory file (more f.there) result old new
-  go (inl (inl nothing)) = absurd (let e = nothing.answers in cc)
-  go (inl (inr failed)) = absurd (elim failed.answers [ inl told ↦ let e = told.2 in cc | inr e ↦ cc ])
-  go (inr fetched) = inr (record { fetched = fetched.fetched; answers = elim fetched.answers [ inl g ↦ turn f.there g | inr e ↦ absurd cc ] })
-
 -- a file that was fetched, and what it gives
 pub record IsFetched {F A : Type 0} (file : List ℕ) (a : A) (gives : Result A F → Type 0) (old new : Environment) : Type 0 where
   pub has : HasDone (Fetch file ∷ []) old new

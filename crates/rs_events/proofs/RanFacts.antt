@@ -282,12 +282,6 @@ Ran-lines {F} {faults} whole done rest line fault old middle new split has ran =
     (sym (ap (map Put) split ∙ map-both Put done (line ∷ [] ++ rest)))
     (Ran-behind (map Put done) (behind (Put line ∷ []) (lines_run rest)) (Err fault) old middle new has (Ran-longer (Put line ∷ []) (lines_run rest) fault middle new ran))
 
--- the lines that were put, where there was no memory for the next one
-pub Ran-lines_memory : {F : Type 0} {faults : HaltFaults F} (whole done rest : List (List ℕ)) (old new : Environment) → whole ≡ done ++ rest → HasDone (map Put done) old new
-    → Ran faults (lines_run whole) (Err faults.memory) old new
-Ran-lines_memory whole done rest old new split has =
-    Ran-no_memory (lines_run whole) (map Put done) (map Put rest) old new (ap (map Put) split ∙ map-both Put done rest) has
-
 -- one more line
 pub HasDone-line : {F : Type 0} {faults : HaltFaults F} (more done : List (List ℕ)) (line : List ℕ) (old middle new : Environment) → more ≡ done ++ line ∷ [] → HasDone (map Put done) old middle
     → Ran faults (lines_run (line ∷ [])) (Ok tt) middle new → HasDone (map Put more) old new

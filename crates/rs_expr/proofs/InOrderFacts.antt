@@ -3,7 +3,7 @@ use Rattle.std.proofs.Common.{◌≡◌, ◌∙◌, ◌++◌, List, [], ◌∷�
 use Rattle.std.specs.Prelude.{ℤ, Result, Ok, Err, IsOk}
 use Rattle.rs_value.proofs.OutsideFacts.{Faulted-from, Faulted-one}
 use Rattle.rs_expr.specs.Scoring.{KeepsScorer, Made, ScorerState}
-use Rattle.rs_expr.specs.InOrder.{InquiryEnds, Inquires, Inquiry, Request, and_then, calls_of}
+use Rattle.rs_expr.specs.InOrder.{InquiryEnds, Inquires, Inquiry, Request, calls_of}
 use Rattle.rs_expr.specs.declared.scorer.ScorerFault.TheVariants.{Failed, Memory}
 use Rattle.rs_expr.proofs.ScoringFacts.{KeepsScorer-one, KeepsScorer-refl, KeepsScorer-then, Made-append, Made-failed, Made-none, Made-ok, Made-stopped, Scored}
 

@@ -1,6 +1,6 @@
 -- Calls of a scorer, one after another.
-use Rattle.std.proofs.Common.{ℕ, ◌≡◌, ◌∙◌, ◌+◌, ◌-◌, ◌^◌, ◌≤◌, ◌++◌, List, [], ◌∷◌, length, refl, sym, ap, append_assoc, append-nil, arith}
-use Rattle.std.specs.Prelude.{ℤ, min, Option, Some, None, option_map, Result, Ok, Err}
+use Rattle.std.proofs.Common.{ℕ, ◌≡◌, ◌∙◌, ◌+◌, ◌-◌, ◌++◌, List, [], ◌∷◌, refl, sym, ap, append_assoc, append-nil}
+use Rattle.std.specs.Prelude.{ℤ, Option, Some, None, option_map, Result, Ok, Err}
 use Rattle.rs_value.specs.Faults.{raised}
 use Rattle.rs_value.specs.Outside.{Counts}
 use Rattle.rs_value.proofs.OutsideFacts.{Keeps-refl, Keeps-then}

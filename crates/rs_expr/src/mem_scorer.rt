@@ -57,7 +57,7 @@ fn copied_values(alloc: Global, values: &[Value]) -> Result<List<Value>, Memory>
 
 impl Call {
     /// The call of a predicate of this name with these arguments, which are copied.
-    fn copied(alloc: Global, predicate: &Text, args: &[Value]) -> Result<Call, Memory>
+    fn copy(alloc: Global, predicate: &Text, args: &[Value]) -> Result<Call, Memory>
         ensures { IfOk result (λ call. call ≡ record { predicate = predicate.now; args = args.now }) }
     {
         Ok(Call {
@@ -118,7 +118,7 @@ impl MemScorer {
         match place_of(&self.written, predicate, args) {
             Some(at) => self.written[at].score = score,
             None => {
-                let call = Call::copied(*self.written.allocator(), predicate, args)?;
+                let call = Call::copy(*self.written.allocator(), predicate, args)?;
                 self.written.push(WrittenScore { call, score })?;
             }
         }
@@ -157,7 +157,7 @@ impl MemScorer {
         }) }
         ensures err { OnErr result (self.new ≡ self.old) }
     {
-        let call = Call::copied(*self.calls.allocator(), predicate, args)?;
+        let call = Call::copy(*self.calls.allocator(), predicate, args)?;
         self.calls.push(call)?;
         self.count = self.count.saturating_add(1);
         Ok(())

@@ -6,7 +6,7 @@ use Rattle.std.proofs.lemmas.Bool.{eqb-true, and_parts, or_cases, leb-true, cond
 use Rattle.std.proofs.Math.Seq.{drop-drop, take-append_seam, drop-append-add, get_or-append_seam}
 use Rattle.std.proofs.lemmas.List.Elements.{All-nil, All-cons, All-same, All-take}
 use Rattle.std.proofs.lemmas.List.Sums.{take_while-cons}
-use Rattle.std.proofs.lemmas.List.{append-nil, take-append-drop, take-take, get_or-drop, length-take-le}
+use Rattle.std.proofs.lemmas.List.{append-nil, take-take, get_or-drop, length-take-le}
 use Rattle.std.proofs.lemmas.Str.Ascii.{IsAscii-from_all}
 use Rattle.std.proofs.lemmas.Str.{IsUtf8-nil, IsUtf8-take, IsUtf8-drop, IsUtf8-between, IsUtf8-append, IsUtf8-from_ascii, IsCharBoundary-before_ascii, IsCharBoundary-after_ascii}
 use Rattle.rs_value.specs.Number.{number_of, decimal_value, are_digits, greatest_int}

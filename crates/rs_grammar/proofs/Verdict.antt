@@ -1,11 +1,11 @@
 -- What the reader did on the tokens of a script, and what that says of the places at which they are no script.
-use Rattle.std.proofs.Common.{◌∙◌, ℕ, zero, suc, ◌≡◌, ◌+◌, ◌-◌, ◌<◌, ◌≤◌, ◌==◌, ◌⊎◌, inl, inr, Bool, true, false, ◌&&◌, List, [], ◌∷◌, ◌++◌, length, take, drop, refl, sym, ap, subst, arith, if◌then◌else◌, append_assoc, length-append}
+use Rattle.std.proofs.Common.{◌∙◌, ℕ, zero, suc, ◌≡◌, ◌+◌, ◌-◌, ◌<◌, ◌≤◌, ◌==◌, ◌⊎◌, inl, inr, Bool, true, false, ◌&&◌, List, [], ◌∷◌, ◌++◌, length, take, drop, refl, sym, ap, arith, if◌then◌else◌, append_assoc, length-append}
 use Rattle.std.proofs.Math.Seq.{take-length, take-append_seam, take-append-add, drop-append_seam}
-use Rattle.std.proofs.lemmas.List.{append_cancel_right, append-nil, take-append-le, take-append-drop, drop_all}
+use Rattle.std.proofs.lemmas.List.{append_cancel_right, append-nil, take-append-le, drop_all}
 use Rattle.std.proofs.lemmas.Bool.{eqb-true, cases_lt, cases_order}
 use Rattle.rs_grammar.specs.Grammar.{Part, Empty, Tree, Pair, Nothing, yield, Fits, Viable, script}
 use Rattle.rs_grammar.specs.Grammar as grammar
-use Rattle.rs_grammar.specs.Reading.{State, starts, left_behind, is_too_deep, Read, Fails, Cause, Expected, TooDeep}
+use Rattle.rs_grammar.specs.Reading.{State, starts, left_behind, is_too_deep, Read, Fails, Expected, TooDeep}
 use Rattle.rs_grammar.specs.Places.{most_deep, most_statements, is_semicolon, is_counted, tally_from, tally, statements_ended, is_foreign, IsScript, IsUnexpected, IsTooDeep, IsTooMany, IsWithinStatements, Problem, Unexpected, Foreigner, TooMany, ProblemStands, order_of, IsRefused}
 use Rattle.rs_grammar.specs.Places as places
 use Rattle.rs_grammar.specs.declared.lexeme.Lexeme.{Lexeme}

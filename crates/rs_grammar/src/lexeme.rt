@@ -33,7 +33,7 @@ fn kind_of(sort: Sort, bytes: &[u8]) -> TokenKind
 }
 
 /// The text of these bytes, which are UTF-8.
-fn copied(alloc: Global, bytes: &[u8]) -> Result<Text, Memory>
+fn copy(alloc: Global, bytes: &[u8]) -> Result<Text, Memory>
     requires { IsUtf8 bytes.now }
     ensures { IfOk result (λ text. text ≡ bytes.now) }
 {
@@ -55,7 +55,7 @@ fn between(bytes: &[u8]) -> &[u8]
 }
 
 /// The text of these bytes with each doubled mark made one.
-fn undoubled(alloc: Global, mark: u8, mut bytes: &[u8]) -> Result<Text, Memory>
+fn undouble(alloc: Global, mark: u8, mut bytes: &[u8]) -> Result<Text, Memory>
     requires { IsUtf8 (undoubled mark bytes.now) }
     ensures { IfOk result (λ text. text ≡ undoubled mark bytes.entry.now) }
 {
@@ -67,7 +67,7 @@ fn undoubled(alloc: Global, mark: u8, mut bytes: &[u8]) -> Result<Text, Memory>
             _ => rest,
         };
     }
-    copied(alloc, &made)
+    copy(alloc, &made)
 }
 
 /// What a name or a text says, of a token of this sort and kind.
@@ -77,10 +77,10 @@ fn text_of(alloc: Global, sort: Sort, kind: TokenKind, bytes: &[u8]) -> Result<T
     ensures { IfOk result (λ text. text ≡ token_text sort bytes.now) }
 {
     match sort {
-        Sort::Word if kind.is_name() => copied(alloc, bytes),
-        Sort::Quoted => undoubled(alloc, b'"', between(bytes)),
-        Sort::Literal => undoubled(alloc, b'\'', between(bytes)),
-        Sort::Word | Sort::Number | Sort::Symbol => copied(alloc, b""),
+        Sort::Word if kind.is_name() => copy(alloc, bytes),
+        Sort::Quoted => undouble(alloc, b'"', between(bytes)),
+        Sort::Literal => undouble(alloc, b'\'', between(bytes)),
+        Sort::Word | Sort::Number | Sort::Symbol => copy(alloc, b""),
     }
 }
 

@@ -6,7 +6,7 @@ use Rattle.std.proofs.lemmas.List.{drop-drop, take-append-drop, length-take-le, 
 use Rattle.std.proofs.lemmas.List.Elements.{All-contains}
 use Rattle.std.proofs.lemmas.List.Sums.{take_while-cons, AllPass-from_list_all}
 use Rattle.std.proofs.lemmas.Bool.{eqb-true, eqb-false, leb-true, lt-leb, ne_eqb, and_parts, or_left}
-use Rattle.rs_value.specs.Number.{number_of, are_digits, greatest_int}
+use Rattle.rs_value.specs.Number.{number_of, greatest_int}
 use Rattle.rs_lex.specs.Bytes.{is_letter, is_digit, is_word_byte, is_blank, begins, quote, apostrophe}
 use Rattle.rs_lex.specs.Front.{front_of, run_length, closed_length, number_front, literal_front, quoted_front, symbol_front, begins_comment, is_pair, is_symbol}
 use Rattle.rs_lex.specs.Spelling.{Spells, nothing, token_at, TokensInOrder}

@@ -1,6 +1,6 @@
 -- The first rows of a list that is drawn row by row: which of them some rows give, and how far the next one takes.
-use Rattle.std.proofs.Common.{◌≡◌, ℕ, zero, suc, ◌+◌, ◌<◌, ◌≤◌, ◌||◌, Bool, true, false, not, cond, List, [], ◌∷◌, ◌++◌, append-nil, length, take, drop, Option, Some, None, refl, sym, ◌∙◌, ap, ap₂, subst, inl, inr, arith}
-use Rattle.std.proofs.lemmas.List.{length-append, take-append-drop}
+use Rattle.std.proofs.Common.{◌≡◌, ℕ, zero, suc, ◌+◌, ◌<◌, ◌≤◌, ◌||◌, Bool, true, false, not, cond, List, [], ◌∷◌, ◌++◌, append-nil, length, take, drop, Option, Some, None, refl, sym, ◌∙◌, ap, subst, inl, inr, arith}
+use Rattle.std.proofs.lemmas.List.{take-append-drop}
 use Rattle.std.proofs.lemmas.List.Elements.{filter-append}
 use Rattle.std.specs.Cmp.{IsTotalOrder}
 use Rattle.std.specs.List.{AllByRecursion, filter, slice_get}
@@ -11,11 +11,10 @@ use Rattle.rs_order.specs.Asks.{asks_for, bar_after, comes_before_bar}
 use Rattle.rs_order.specs.Climbing.{Climbs, In, Precedes}
 use Rattle.rs_order.proofs.ClimbingFacts.{AllByRecursion-In, AllByRecursion-from_In}
 use Rattle.rs_order.proofs.PartFacts.{In-drop, In-slice_get, bar_after-slice_get, take-snoc}
-use Rattle.rs_value.specs.declared.value.Value.{Value}
 use Rattle.rs_outputs.specs.Rows.{OutputRow, firsts, others, unseen, values_of}
 use Rattle.rs_outputs.specs.Seen.{has_list, same_values, with_list}
 use Rattle.rs_outputs.proofs.FirstFacts.{In-firsts, In-unseen, unseen-new, unseen-seen}
-use Rattle.rs_outputs.proofs.ListFacts.{bar-rest, before-rest, filter-filter, item-behind, none-before, not_before, not_before-itself, rest-some}
+use Rattle.rs_outputs.proofs.ListFacts.{before-rest, filter-filter, item-behind, none-before, not_before, not_before-itself, rest-some}
 
 -- the first ones of two lists: those of the first list, and those of the second one with other values
 firsts-append : (xs ys : List OutputRow) → firsts (xs ++ ys) ≡ firsts xs ++ unseen (values_of xs) (firsts ys)

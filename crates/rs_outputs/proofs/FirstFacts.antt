@@ -1,9 +1,9 @@
 -- The first row of each list of output values: which rows these are, and what is left of them behind some.
-use Rattle.std.proofs.Common.{◌≡◌, ◌||◌, Bool, true, false, not, cond, List, [], ◌∷◌, ◌++◌, map, refl, sym, ◌∙◌, ap, subst, ◌⊎◌, inl, inr, append-nil}
+use Rattle.std.proofs.Common.{◌≡◌, ◌||◌, Bool, true, false, not, cond, List, [], ◌∷◌, ◌++◌, refl, sym, ◌∙◌, ap, subst, inl, inr}
 use Rattle.std.proofs.lemmas.Bool.{true≢false}
 use Rattle.std.proofs.lemmas.List.Folds.{list_any-append}
 use Rattle.std.specs.Cmp.{IsTotalOrder}
-use Rattle.std.specs.List.{AllByRecursion, filter, list_any}
+use Rattle.std.specs.List.{AllByRecursion}
 use Rattle.std.specs.declared.cmp.Ordering.{Ordering}
 use Rattle.rs_order.specs.Climbing.{Climbs, HasDistinctKeys, In, Precedes}
 use Rattle.rs_order.specs.Sorting.{sorted}
@@ -13,7 +13,7 @@ use Rattle.rs_order.proofs.ItemFacts.{In-filter, In-filter-back}
 use Rattle.rs_value.specs.declared.value.Value.{Value}
 use Rattle.rs_outputs.specs.Seen.{has_list, same_values, with_list}
 use Rattle.rs_outputs.proofs.SameFacts.{same_values-itself, same_values-same}
-use Rattle.rs_outputs.specs.Rows.{OutputRow, firsts, occurs_in, others, values_of, unseen}
+use Rattle.rs_outputs.specs.Rows.{OutputRow, firsts, others, unseen}
 use Rattle.rs_outputs.proofs.ListFacts.{Climbs-filter, distinct-filter, filter-filter, sorted-of}
 
 -- the first ones of rows are among them

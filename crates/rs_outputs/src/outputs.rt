@@ -61,7 +61,7 @@ impl Outputs {
         if self.has(values) {
             return Ok(false);
         }
-        let list = copied(*self.lists.allocator(), values)?;
+        let list = copy(*self.lists.allocator(), values)?;
         self.add(list)
     }
 
@@ -89,7 +89,7 @@ impl Outputs {
 }
 
 /// Equal values, in the same order.
-fn copied(alloc: Global, values: &[Value]) -> Result<Vec<Value>, Memory>
+fn copy(alloc: Global, values: &[Value]) -> Result<Vec<Value>, Memory>
     ensures { IfOk result (λ copies. copies.items ≡ values.now) }
 {
     let mut copies = Vec::new(alloc);

@@ -1,5 +1,5 @@
 -- Reading a file of the system.
-use Rattle.std.specs.Prelude.{ℕ, ◌≡◌, ◌+◌, ◌≤◌, List, ◌++◌, length, Option, IfSome, Result, Ok, Err}
+use Rattle.std.specs.Prelude.{ℕ, ◌≡◌, ◌+◌, ◌<◌, ◌≤◌, List, ◌++◌, length, Option, Some, None, IfSome, Result, Ok, Err}
 use Rattle.std.specs.declared.io.ErrorKind.{ErrorKind}
 use Rattle.std.specs.declared.io.ErrorKind.TheVariants.{NotFound, OutOfMemory}
 use Rattle.rs_outside.specs.declared.files.FetchFault.{FetchFault}
@@ -33,6 +33,17 @@ ReadToEnd left limit bytes (Err Memory) = length bytes ≤ limit
 -- the bytes that were read are appended
 abbrev pub AppendsRest : Option (List ℕ) → ℕ → List ℕ → Result (Unit {0}) FetchFault → List ℕ → Type 0
 AppendsRest left limit old result new = (bytes : List ℕ) × (new ≡ old ++ bytes) × ReadToEnd left limit bytes result
+
+-- the last read, and the answer that comes of it: where it gave the end all was read; where it gave bytes they passed the
+-- limit, or there was no memory for them; and where it failed its error is the fault
+abbrev pub ComesOf : Option (Result ℕ ErrorKind) → Result (Unit {0}) FetchFault → Type 0
+ComesOf None result = ⊥
+ComesOf (Some (Err kind)) result = result ≡ Err (read_fault kind)
+ComesOf (Some (Ok count)) (Ok done) = count ≡ 0
+ComesOf (Some (Ok count)) (Err TooLong) = 0 < count
+ComesOf (Some (Ok count)) (Err Memory) = 0 < count
+ComesOf (Some (Ok count)) (Err Missing) = ⊥
+ComesOf (Some (Ok count)) (Err Failed) = ⊥
 
 -- at most this many bytes are taken of those that are left
 abbrev pub ConsumesAtMost : ℕ → Option (List ℕ) → Option (List ℕ) → Type 0

@@ -1,12 +1,12 @@
-ghost use Rattle.std.specs.Prelude.{◌≡◌, ◌+◌, ℕ, List, Option, Some, IfErr, IfOk, IfSome};
-ghost use Rattle.std.specs.Io.{ReadsAtMost};
-ghost use Rattle.std.specs.Io.KnownBytes.{ReadConsumes};
+ghost use Rattle.std.specs.Prelude.{◌≡◌, ◌+◌, ℕ, List, Option, Result, Some, IfErr, IfOk, IfSome};
 ghost use Rattle.std.specs.IoError.{error_kind};
-ghost use Rattle.rs_outside.specs.DirFiles.{AppendsRest, ConsumesAtMost, disk_state, faults_after_fetch, open_fault, read_fault};
+ghost use Rattle.std.specs.declared.io.Error.{Error};
+ghost use Rattle.rs_outside.specs.DirFiles.{AppendsRest, ComesOf, ConsumesAtMost, disk_state, faults_after_fetch, open_fault, read_fault};
 ghost use Rattle.rs_value.specs.Outside.{Counts};
 ghost use Rattle.rs_outside.specs.Files.{Fetches};
 
 use crate::files::{FetchFault, Files};
+use crate::reading::Reading;
 use rs_value::Text;
 use std::io::{ErrorKind, Read};
 use std::marker::Model;
@@ -31,20 +31,6 @@ impl<R> Model for DirFiles<R> {
     ghost view = { λ d. d.faults };
 }
 
-/// One read, tried again where a signal interrupts it.
-fn read_some<F: Read>(file: &mut F, chunk: &mut [u8]) -> io::Result<usize>
-    ensures bound { ReadsAtMost result chunk.new }
-    ensures bytes { ReadConsumes (F.remaining file.old) (F.remaining file.new) result chunk.new }
-{
-    for _ in 0..u64::MAX {
-        match file.read(chunk) {
-            Err(error) if error.kind() == ErrorKind::Interrupted => {}
-            result => return result,
-        }
-    }
-    Err(io::Error::from(ErrorKind::TimedOut))
-}
-
 /// The fault that an error is when a file is opened.
 fn fault_at_open(error: &io::Error) -> FetchFault
     ensures { result ≡ open_fault (error_kind error.now) }
@@ -67,15 +53,20 @@ fn fault_at_read(error: &io::Error) -> FetchFault
 }
 
 /// Appends what is left of the reader. It reads at most one byte more than the limit.
-fn append_rest<F: Read>(file: &mut F, limit: usize, into: &mut Vec<u8>) -> Result<(), FetchFault>
-    ensures appends { AppendsRest (F.remaining file.old) limit into.old.items result into.new.items }
-    ensures consumes { ConsumesAtMost (limit + 1) (F.remaining file.old) (F.remaining file.new) }
+fn append_rest<F: Read>(
+    file: &mut Reading<F>,
+    limit: usize,
+    into: &mut Vec<u8>,
+) -> Result<(), FetchFault>
+    ensures appends { AppendsRest (F.remaining file.old.reader) limit into.old.items result into.new.items }
+    ensures consumes { ConsumesAtMost (limit + 1) (F.remaining file.old.reader) (F.remaining file.new.reader) }
+    ensures answers { ComesOf file.new.last result }
 {
     let mut chunk = [0u8; CHUNK];
     let mut room = limit;
     loop {
         let most = CHUNK.min(room.saturating_add(1));
-        let count = match read_some(file, &mut chunk[..most]) {
+        let count = match file.read_some(&mut chunk[..most]) {
             Ok(0) => return Ok(()),
             Ok(count) => count,
             Err(error) => return Err(fault_at_read(&error)),
@@ -95,11 +86,17 @@ fn append_rest<F: Read>(file: &mut F, limit: usize, into: &mut Vec<u8>) -> Resul
 ///
 /// # Errors
 /// `TooLong` beyond the limit; `Memory` where the system or this program has none; `Failed` for any other error of a read.
-pub fn fetch_rest<F: Read>(file: &mut F, limit: usize, into: &mut Vec<u8>) -> Result<(), FetchFault>
+pub fn fetch_rest<F: Read>(
+    file: &mut Reading<F>,
+    limit: usize,
+    into: &mut Vec<u8>,
+) -> Result<(), FetchFault>
     // The bytes that are left are the file's, where the reader tells them.
-    ensures fetches { (left : List ℕ) × IfSome (F.remaining file.old) (λ told. told ≡ left)
+    ensures fetches { (left : List ℕ) × IfSome (F.remaining file.old.reader) (λ told. told ≡ left)
         × Fetches (Some left) limit into.old.items result into.new.items }
-    ensures consumes { ConsumesAtMost (limit + 1) (F.remaining file.old) (F.remaining file.new) }
+    ensures consumes { ConsumesAtMost (limit + 1) (F.remaining file.old.reader) (F.remaining file.new.reader) }
+    // Ok comes of a read that gave the end, and a fault of bytes that were read or of a read that failed.
+    ensures answers { ComesOf file.new.last result }
 {
     let start = into.len();
     let Err(fault) = append_rest(file, limit, into) else {
@@ -125,7 +122,7 @@ pub fn fetch_opened<F: Read + Drop>(
         × Fetches (Some left) limit into.old.items result into.new.items) }
 {
     match opened {
-        Ok(mut file) => fetch_rest(&mut file, limit, into),
+        Ok(file) => fetch_rest(&mut Reading::new(file), limit, into),
         Err(error) => Err(fault_at_open(&error)),
     }
 }
@@ -145,6 +142,12 @@ impl<R: std::rt::Files> Files for DirFiles<R> {
     fn fetch(&mut self, name: &Text, limit: usize, into: &mut Vec<u8>) -> Result<(), FetchFault>
         ensures fetches { (there : Option (List ℕ)) × Fetches there limit into.old.items result into.new.items }
         ensures counts { Counts (result ≡ Err FetchFault.Failed) (disk_state self.old) (disk_state self.new) }
+
+        // A file was opened, or was not: the answer comes of that, and the bytes of what was opened.
+        ensures opened { (opened : Result R.File Error)
+            × IfErr opened (λ error. (result ≡ Err (open_fault (error_kind error))) × (into.new.items ≡ into.old.items))
+            × IfOk opened (λ file. (left : List ℕ) × IfSome (R.File.remaining file) (λ told. told ≡ left)
+            × Fetches (Some left) limit into.old.items result into.new.items) }
 
         // Exactly the fetches that failed are counted.
         ensures counted { self.new ≡ faults_after_fetch result self.old }

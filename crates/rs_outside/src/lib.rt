@@ -10,6 +10,7 @@ mod files;
 mod mem_files;
 mod mem_sink;
 mod out_sink;
+mod reading;
 mod sink;
 
 pub use dir_files::{DirFiles, fetch_opened, fetch_rest};
@@ -17,4 +18,5 @@ pub use files::{FetchFault, Files};
 pub use mem_files::MemFiles;
 pub use mem_sink::MemSink;
 pub use out_sink::OutSink;
+pub use reading::Reading;
 pub use sink::{Sink, SinkFault};

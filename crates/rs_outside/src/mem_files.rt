@@ -114,7 +114,7 @@ impl MemFiles {
     }
 
     /// The names that were fetched so far, those of fetches that failed too.
-    pub fn fetched(&self) -> &[Text]
+    pub fn fetched_names(&self) -> &[Text]
         ensures { result.now ≡ self.now.fetched }
     {
         &self.fetched

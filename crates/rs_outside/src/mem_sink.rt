@@ -47,7 +47,7 @@ impl Model for MemSink {
 }
 
 /// What a put takes of these bytes: all, or where it is to fail after this many, the first ones.
-fn taken(bytes: &[u8], failure: Option<usize>) -> &[u8]
+fn piece_of(bytes: &[u8], failure: Option<usize>) -> &[u8]
     ensures value { result.now ≡ taken_of bytes.now failure }
     ensures prefix { IsPrefix result.now bytes.now }
 {
@@ -123,7 +123,7 @@ impl Sink for MemSink {
         ensures after { self.new ≡ after_put bytes.now result self.old }
     {
         let failure = self.next_failure();
-        if self.take_piece(taken(bytes, failure)).is_err() {
+        if self.take_piece(piece_of(bytes, failure)).is_err() {
             return Err(SinkFault::Memory);
         }
         if failure.is_some() {

@@ -19,8 +19,8 @@ pub(crate) fn set_rows(
     ensures { IfOk result (λ rows. rows.items ≡ set_base op left.items right.items) }
 {
     match op {
-        SetOp::UnionAll => joined(left, right),
-        SetOp::Union => first_rows(alloc, joined(left, right)?),
+        SetOp::UnionAll => append_rows(left, right),
+        SetOp::Union => first_rows(alloc, append_rows(left, right)?),
         SetOp::Intersect => first_rows(alloc, shared_rows(alloc, left, &right)?),
         SetOp::Except => first_rows(alloc, other_rows(alloc, left, &right)?),
     }
@@ -41,7 +41,7 @@ pub(crate) fn first_rows(alloc: Global, rows: Vec<Answer>) -> Result<Vec<Answer>
 }
 
 /// The rows of both, the left ones first.
-fn joined(left: Vec<Answer>, right: Vec<Answer>) -> Result<Vec<Answer>, Memory>
+fn append_rows(left: Vec<Answer>, right: Vec<Answer>) -> Result<Vec<Answer>, Memory>
     ensures { IfOk result (λ rows. rows.items ≡ left.items ++ right.items) }
 {
     let mut rows = left;

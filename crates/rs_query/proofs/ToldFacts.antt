@@ -1,9 +1,9 @@
 -- One question, with its result told in other words.
 use Rattle.std.proofs.Common.{ℕ, ℤ, ◌≡◌, ◌∙◌, ◌++◌, List, [], ◌∷◌, refl, sym, ap, subst, inl, inr}
-use Rattle.std.specs.Prelude.{◌⊎◌, Option, Some, None, Result, Ok, Err, IsOk, ok_or}
-use Rattle.rs_expr.specs.InOrder.{InquiryEnds, InquiryFails, InquiryStops, Inquires, Request, calls_of}
+use Rattle.std.specs.Prelude.{Option, Some, None, Result, Ok, Err, IsOk, ok_or}
+use Rattle.rs_expr.specs.InOrder.{InquiryFails, InquiryStops, Inquires, Request, calls_of}
 use Rattle.rs_expr.specs.Scores.{score_within}
-use Rattle.rs_expr.specs.Scoring.{Answering, Made, ScorerState}
+use Rattle.rs_expr.specs.Scoring.{Made, ScorerState}
 use Rattle.rs_expr.proofs.InOrderFacts.{one}
 use Rattle.rs_rank.specs.declared.ids.Ids.{Ids}
 use Rattle.rs_rank.specs.Ids.{ids_inside}

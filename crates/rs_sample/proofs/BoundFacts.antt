@@ -1,13 +1,10 @@
 -- Bounds of all masks of terms, one term after another from the last one on.
-use Rattle.std.proofs.Common.{ℕ, zero, suc, ◌≡◌, ◌∙◌, ◌+◌, ◌-◌, ◌*◌, ◌/◌, ◌%◌, ◌^◌, ◌<◌, ◌≤◌, Bool, true, false, cond, eqb, List, [], ◌∷◌, length, drop, get_or, set, refl, sym, ap, ap₂, subst, inl, inr, arith}
-use Rattle.std.proofs.lemmas.Bool.{cases_lt}
-use Rattle.std.proofs.lemmas.List.{length-set}
+use Rattle.std.proofs.Common.{ℕ, zero, suc, ◌≡◌, ◌∙◌, ◌+◌, ◌-◌, ◌*◌, ◌/◌, ◌%◌, ◌<◌, ◌≤◌, Bool, true, false, cond, eqb, List, [], ◌∷◌, length, drop, get_or, refl, sym, ap, ap₂, arith}
 use Rattle.std.proofs.lemmas.Nat.{mul-le}
 use Rattle.std.proofs.Math.Seq.{drop-cons}
 use Rattle.rs_rank.specs.Weights.{sum_inside, sum_outside}
 use Rattle.rs_rank.specs.declared.weights.Weights.{Weights}
 use Rattle.rs_query.specs.Answers.{padded}
-use Rattle.rs_sample.proofs.SixFacts.{set-here, set-there}
 
 -- the bound by the terms from a place on, of which those in a mask are evaluated
 abbrev pub bound_from : Weights → List ℕ → ℕ → ℕ → ℕ

@@ -1,5 +1,5 @@
 -- Questions that are asked for one item of a list after another, each with a value.
-use Rattle.std.proofs.Common.{ℕ, ◌≡◌, ◌∙◌, ◌+◌, ◌<◌, ◌≤◌, ◌++◌, List, [], ◌∷◌, length, map, take, drop, get_or, refl, sym, ap, subst, append_assoc}
+use Rattle.std.proofs.Common.{ℕ, ◌≡◌, ◌∙◌, ◌+◌, ◌<◌, ◌≤◌, ◌++◌, List, [], ◌∷◌, length, map, take, drop, get_or, sym, ap, subst, append_assoc}
 use Rattle.std.specs.Prelude.{Result, Ok, Err}
 use Rattle.std.specs.List.{flat_map}
 use Rattle.std.proofs.lemmas.List.{take_all}
@@ -10,7 +10,7 @@ use Rattle.rs_query.specs.Questions.{Question}
 use Rattle.rs_sample.specs.Sampling.{asking_all}
 use Rattle.rs_sample.specs.declared.fault.SampleFault.{SampleFault}
 use Rattle.rs_sample.specs.declared.fault.SampleFault.TheVariants.{Memory}
-use Rattle.rs_sample.proofs.AskingFacts.{Asked, Asked-more, Asked-none, Asked-ok, Inquires-all, Inquires-faulted, Inquires-within, value-ok}
+use Rattle.rs_sample.proofs.AskingFacts.{Asked, Asked-more, Asked-ok, Inquires-all, Inquires-faulted, Inquires-within, value-ok}
 use Rattle.rs_sample.proofs.ListFacts.{flat_map-around, flat_map-with, map-with}
 
 module _ (catalogue : CatalogDef) {X A : Type 0} (asks : X → List Question) (value : Answering → X → A) where

@@ -1,14 +1,13 @@
 -- Which choices there are among samples.
 use Rattle.std.proofs.Common.{ℕ, ◌≡◌, ◌∙◌, ◌+◌, ◌*◌, ◌/◌, ◌%◌, ◌≤◌, Bool, true, false, cond, eqb, List, [], ◌∷◌, length, map, bit_and, refl, sym, ap, subst, inl, inr, arith}
 use Rattle.std.specs.List.{AllByRecursion, flat_map}
-use Rattle.std.proofs.lemmas.Bool.{eqb-true, eqb-false, eq-eqb}
+use Rattle.std.proofs.lemmas.Bool.{eqb-true, eq-eqb}
 use Rattle.std.proofs.lemmas.List.{length-append, length-map}
 use lib.Bits.{and_self}
 use Rattle.std.proofs.Math.Nat.{add-mul}
 use Rattle.rs_order.specs.Climbing.{In}
 use Rattle.rs_order.proofs.ClimbingFacts.{AllByRecursion-In, AllByRecursion-from_In}
-use Rattle.rs_order.proofs.ItemFacts.{In-flat_map, In-flat_map-back, In-map, In-map-back}
-use Rattle.rs_rank.specs.Ids.{rows_inside}
+use Rattle.rs_order.proofs.ItemFacts.{In-flat_map-back, In-map-back}
 use Rattle.rs_rank.proofs.MaskFacts.{bit_and-first, bit_and-others}
 use Rattle.rs_query.specs.Choices.{IsChoice, IsRowNumber}
 use Rattle.rs_catalog.specs.Catalog.{CatalogDef}

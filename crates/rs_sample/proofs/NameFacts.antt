@@ -3,7 +3,7 @@ use Rattle.std.proofs.Common.{ℕ, ◌≡◌, ◌+◌, ◌<◌, List, [], ◌∷
 use Rattle.std.specs.Prelude.{◌⊎◌, Result, Ok, Err, IfErr}
 use Rattle.std.specs.List.{AllByRecursion, flat_map}
 use Rattle.std.proofs.lemmas.Option.{slice_get_within}
-use Rattle.rs_order.proofs.EachFacts.{each-append, each-behind, each-map, each-weaker}
+use Rattle.rs_order.proofs.EachFacts.{each-append, each-behind, each-map}
 use Rattle.rs_expr.specs.InOrder.{InquiryEnds, InquiryFails, Inquires, InquiryStops, Request}
 use Rattle.rs_expr.specs.Scoring.{ScorerState}
 use Rattle.rs_catalog.specs.Catalog.{CatalogDef}
@@ -13,7 +13,6 @@ use Rattle.rs_query.specs.WellFormed.{IsBlock, IsQuery, IsTerm}
 use Rattle.rs_query.specs.declared.block.Block.{Block}
 use Rattle.rs_query.specs.declared.query.Query.{Query}
 use Rattle.rs_query.specs.declared.query.Query.TheVariants.{One, Set}
-use Rattle.rs_query.specs.declared.term.Term.{Term}
 use Rattle.rs_sample.specs.Choosing.{sampled_choices}
 use Rattle.rs_sample.specs.Sampling.{NamesPredicate, asking_all, block_questions, block_samples, done, done_of, questions_of, sample_faults, term_questions}
 use Rattle.rs_sample.specs.Words.{words_of}

@@ -119,14 +119,14 @@ fn sampled_worth(asked: Result<u32, AskFault>) -> Result<u32, SampleFault>
 {
     match asked {
         Ok(worth) => Ok(worth),
-        Err(AskFault::BadScore { got, max, .. }) => Ok(clamped(got, max)),
+        Err(AskFault::BadScore { got, max, .. }) => Ok(clamp(got, max)),
         Err(AskFault::Probe { predicate }) => Err(SampleFault::Probe { predicate }),
         Err(AskFault::Memory) => Err(SampleFault::Memory),
     }
 }
 
 /// A number put into 0..max.
-fn clamped(got: i128, max: u32) -> u32
+fn clamp(got: i128, max: u32) -> u32
     ensures { result ≡ clamped max got }
 {
     if got < 0 {

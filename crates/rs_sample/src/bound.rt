@@ -66,7 +66,7 @@ fn add_term(bounds: &mut [u64; 256], masks: usize, worth: u64, most: u64)
 }
 
 /// What the terms in a mask give to a score, of these worths.
-pub(crate) fn evaluated(weights: &Weights, worths: &[u32], terms: u8) -> u64
+pub(crate) fn evaluated_score(weights: &Weights, worths: &[u32], terms: u8) -> u64
     requires { IsWeights weights.now }
     ensures value { result ≡ evaluated weights.now terms worths.now }
     ensures limit { result ≤ score_limit }

@@ -16,7 +16,7 @@ ghost use Rattle.rs_sample.specs.Sampling.{worths_by_term};
 use crate::bound::count_reached;
 use crate::combinations::combinations;
 use crate::lookup::worths_for;
-use crate::quotient::expected;
+use crate::quotient::expected_count;
 use rs_catalog::Catalog;
 use rs_query::Block;
 use rs_value::{List, Memory};
@@ -52,7 +52,7 @@ pub(crate) fn estimates_for(
     let counts = count_each(alloc, block, samples, sampled, worths, cutoff, mask, &rows)?;
     let mut numbers = Vec::new(alloc);
     for count in &counts {
-        numbers.push(expected(mask, sizes, sampled, *count))?;
+        numbers.push(expected_count(mask, sizes, sampled, *count))?;
     }
     Ok(List::of(numbers))
 }

@@ -14,7 +14,7 @@ ghost use Rattle.rs_sample.specs.Quotients.{product_inside};
 ghost use Rattle.rs_sample.specs.Sampling.{worths_by_term};
 ghost use Rattle.rs_order.specs.Climbing.{In};
 
-use crate::bound::evaluated;
+use crate::bound::evaluated_score;
 use crate::lookup::worths_for;
 use crate::quotient::product_inside;
 use rs_query::Block;
@@ -71,7 +71,7 @@ pub(crate) fn cutoff(
     for rows in combinations {
         let worths = worths_for(block, samples, sampled, worths, block.all_entries(), rows);
         scores.push(Score {
-            score: evaluated(&weights, &worths, all_terms(block)),
+            score: evaluated_score(&weights, &worths, all_terms(block)),
         })?;
     }
     sort_stably(&mut scores)?;

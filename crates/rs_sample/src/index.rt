@@ -8,7 +8,7 @@ ghost use Rattle.rs_query.specs.Answers.{weights_of};
 ghost use Rattle.rs_query.specs.declared.term.Term.{Term as BoundTerm};
 ghost use Rattle.rs_sample.specs.Quotients.{most_expected, product_inside};
 
-use crate::quotient::expected;
+use crate::quotient::expected_count;
 use rs_query::Block;
 use rs_rank::Weights;
 use rs_value::{List, Memory};
@@ -43,7 +43,7 @@ pub(crate) fn index_estimates(
     for (place, term) in block.terms.items().iter().enumerate() {
         let rest = weights.rest(1 << place);
         let count = count_worths(term.weight, rest, worths[place].items(), cutoff);
-        numbers.push(expected(term.entries, sizes, sampled, count))?;
+        numbers.push(expected_count(term.entries, sizes, sampled, count))?;
     }
     Ok(numbers)
 }

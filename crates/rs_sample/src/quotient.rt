@@ -7,7 +7,7 @@ ghost use Rattle.rs_sample.specs.Quotients.{most_expected, product_inside};
 
 /// How many of the combinations of the entries in a mask are expected, where this many of those of the samples were counted:
 /// the count times the numbers of rows, divided by the sample sizes, rounded up.
-pub(crate) fn expected(mask: u8, sizes: &[u32; 6], sampled: &[u32; 6], count: u32) -> u128
+pub(crate) fn expected_count(mask: u8, sizes: &[u32; 6], sampled: &[u32; 6], count: u32) -> u128
     requires rows { AllByRecursion (λ size. size ≤ 131072) sizes.now }
     requires sampled { AllByRecursion (λ size. size ≤ 131072) sampled.now }
     requires few { count ≤ product_inside mask sampled.now }

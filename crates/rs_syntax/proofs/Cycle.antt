@@ -1,34 +1,29 @@
 -- What the functions that read expressions give back: rule by rule, what was read stands for the node that they make of it.
 use Rattle.std.proofs.Common.{ℕ, ◌≡◌, ◌∙◌, ◌<◌, ◌≤◌, true, false, List, [], ◌∷◌, ◌++◌, Result, Ok, Err, refl, sym, ap, arith, append_assoc, map}
-use Rattle.std.specs.Prelude.{ℤ}
 use Rattle.std.proofs.lemmas.List.{append-nil, map-append}
 use Rattle.rs_value.specs.declared.rel.Rel.{Rel}
-use Rattle.rs_grammar.specs.Grammar.{Part, One, Many, Use, Tree, Leaf, Nothing, Pair, This, That, More, Node, ◌⨟◌, word, name, optional, start_of, expr, neg, comp, sum, sign, base, plain, absolute, extreme, brackets, case, when}
-use Rattle.rs_grammar.specs.Kinds.{accepts, comparisons, counted_kinds}
+use Rattle.rs_grammar.specs.Grammar.{Part, One, Many, Use, Tree, Nothing, More, Node, ◌⨟◌, word, start_of, expr, neg, comp, sum, sign, base, case, when}
+use Rattle.rs_grammar.specs.Kinds.{comparisons, counted_kinds}
 use Rattle.rs_grammar.specs.Reading as reading
 use Rattle.rs_grammar.specs.Reading.{State, Read, opens}
 use Rattle.rs_grammar.specs.declared.kind.TokenKind.{TokenKind}
 use Rattle.rs_grammar.specs.declared.kind.TokenKind.TheVariants as kinds
 use Rattle.rs_grammar.specs.declared.kind.TokenKind.TheVariants.{Semicolon}
-use Rattle.rs_grammar.specs.declared.lexeme.Lexeme.{Lexeme}
 use Rattle.rs_grammar.proofs.Predict.{within, disjoint}
 use Rattle.rs_lex.specs.declared.token.Span.{Span}
 use Rattle.rs_syntax.specs.Cases.{Branch, whens_of, when_of, when_view, cases_in}
-use Rattle.rs_syntax.specs.Expressions.{rel_of, column_in, extreme_of, expr_of, neg_of, comp_of, sum_of, sign_of, base_of, absolute_of, extreme_in, brackets_of, case_of, cases, condition_of, result_of}
+use Rattle.rs_syntax.specs.Expressions.{rel_of, expr_of, neg_of, comp_of, sum_of, sign_of, base_of, case_of, cases, condition_of, result_of}
 use Rattle.rs_syntax.specs.Makes.{Makes}
 use Rattle.rs_syntax.specs.Operands.{first_expr_of}
 use Rattle.rs_syntax.specs.Reads.{Found, Halts, Reads}
-use Rattle.rs_syntax.specs.Syntax.{Expression, Int, Text, Column, Neg, Abs, Least, Case, Compare, Not, expression_of}
-use Rattle.rs_syntax.specs.Syntax as syntax
-use Rattle.rs_syntax.specs.Trees.{starts_at, ends_at, span, span_of, leaf, is_of_kind, leaf_name, leaf_number, leaf_text, leaf_span, qualified}
-use Rattle.rs_syntax.specs.declared.name.ColRef.{ColRef}
+use Rattle.rs_syntax.specs.Syntax.{Expression, Neg, Case, Compare, Not, expression_of}
+use Rattle.rs_syntax.specs.Trees.{ends_at, span, leaf_span}
 use Rattle.rs_syntax.specs.declared.node.Node as node
 use Rattle.rs_syntax.specs.declared.parser.Fault.{Fault}
 use Rattle.rs_syntax.specs.declared.parser.cases.When.{When}
-use Rattle.rs_syntax.specs.declared.parser.Fault.TheVariants.{Memory}
-use Rattle.rs_syntax.proofs.Chains.{neg_of-this, neg_of-that, comp_of-this, comp_of-that, sign_of-this, sign_of-that, base_of-number, base_of-literal, base_of-plain, base_of-absolute, base_of-extreme, base_of-brackets, base_of-case, absolute_of-this, absolute_of-that, extreme_in-this, extreme_in-that, brackets_of-node, case_of-node, condition_of-node, result_of-node, cases-list}
+use Rattle.rs_syntax.proofs.Chains.{neg_of-this, neg_of-that, comp_of-this, comp_of-that, sign_of-this, sign_of-that, case_of-node, condition_of-node, result_of-node, cases-list}
 use Rattle.rs_syntax.proofs.Spans.{read-starts, read-ends, counted-left, token-left, quiet-left, is_quiet}
-use Rattle.rs_syntax.proofs.Steps.{read-both, read-this, read-that, read-not, read-stop, read-more, read-rule, found, halts-this, halts-that, halts-item, halts-later, halts-rule, halts-memory, halts-made}
+use Rattle.rs_syntax.proofs.Steps.{read-both, read-this, read-that, read-not, read-stop, read-more, read-rule, found, halts-that, halts-item, halts-later, halts-rule, halts-made}
 use Rattle.rs_syntax.proofs.Operands.{before}
 
 -- WHEN parts that begin at b stand at x with these read

@@ -1,8 +1,7 @@
 -- Decimal digits, read one at a time.
-use Rattle.std.specs.Prelude.{ℤ, pos, neg_ℤ, nat_abs, Option, option_map, ◌==◌, IfSome}
-use Rattle.std.proofs.Common.{ℕ, zero, ◌≡◌, ◌+◌, ◌-◌, ◌*◌, ◌<◌, ◌≤◌, ◌&&◌, Bool, true, false, nat_le, List, [], ◌∷◌, Some, None, length, get_or, drop, suc, drop-cons, fold, refl, arith, if◌then◌else◌}
-use Rattle.std.proofs.lemmas.Bool.{le-leb, leb-true, lt-leb}
-use Rattle.rs_value.specs.Number.{number_of, decimal_value, are_digits, greatest_int, int_value}
+use Rattle.std.proofs.Common.{ℕ, ◌≡◌, ◌+◌, ◌-◌, ◌*◌, ◌<◌, ◌≤◌, ◌&&◌, Bool, true, false, nat_le, List, [], ◌∷◌, Some, None, length, get_or, drop, suc, drop-cons, fold, refl, arith, if◌then◌else◌}
+use Rattle.std.proofs.lemmas.Bool.{lt-leb}
+use Rattle.rs_value.specs.Number.{number_of, decimal_value, are_digits}
 
 -- the number so far is at most the number of all
 pub number_rises : (n : ℕ) (digits : List ℕ) → n ≤ fold (λ n digit. 10 * n + (digit - 48)) n digits

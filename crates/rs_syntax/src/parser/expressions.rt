@@ -160,7 +160,7 @@ impl Parser {
         ensures { Reads (Use plain) column_in (λ c. c) self.old self.new result }
     {
         let first = self.plain_name()?;
-        self.qualified(first)
+        self.qualify(first)
     }
 
     /// `ABS "(" expr ")"`, or the column `abs`.
@@ -226,7 +226,7 @@ impl Parser {
             self.expect(TokenKind::OpenBracket)?;
             return Ok(Word::Function(kind, at.start));
         }
-        let column = self.qualified(Name { text, at })?;
+        let column = self.qualify(Name { text, at })?;
         Ok(Word::Column(column))
     }
 }

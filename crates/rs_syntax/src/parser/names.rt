@@ -17,11 +17,11 @@ impl Parser {
         ensures { Reads (Use colref) colref_of (λ c. c) self.old self.new result }
     {
         let first = self.name()?;
-        self.qualified(first)
+        self.qualify(first)
     }
 
     /// What may stand behind a name that is a column or its alias: `[ "." name ]`.
-    pub(crate) fn qualified(&mut self, first: Name) -> Result<ColRef, Fault>
+    pub(crate) fn qualify(&mut self, first: Name) -> Result<ColRef, Fault>
         ensures { Reads (optional (word Dot ⨟ name_part)) (qualified first) (λ c. c) self.old self.new result }
     {
         if !self.at(TokenKind::Dot) {

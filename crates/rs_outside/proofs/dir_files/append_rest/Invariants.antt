@@ -6,7 +6,7 @@ use Rattle.rs_outside.proofs.dir_files.append_rest.Given as goal
 abbrev pub invariant-loop-count : goal.invariant-loop-count
 invariant-loop-count g l =
     (bytes : List ℕ) × (l.into.items ≡ l.initial.into.items ++ bytes) × (length bytes + l.room ≡ l.limit)
-    × Consumes (g.F.Read.remaining l.initial.file) (g.F.Read.remaining l.file) bytes
+    × Consumes (g.F.Read.remaining l.initial.file.reader) (g.F.Read.remaining l.file.reader) bytes
 
 abbrev pub decreases-loop-count : goal.decreases-loop-count
 decreases-loop-count g l = l.room

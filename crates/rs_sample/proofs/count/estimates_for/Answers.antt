@@ -42,8 +42,8 @@ pub count_each-requires-clause-few_rows : goal.count_each-requires-clause-few_ro
 count_each-requires-clause-few_rows c =
     samples-small (length c.args.block.now.from) c.args.sizes.now c.args.samples.now c.requires.block.some_entries c.requires.block.most_entries c.requires.samples
 
-pub expected-requires-clause-few : goal.expected-requires-clause-few
-expected-requires-clause-few c =
+pub expected_count-requires-clause-few : goal.expected_count-requires-clause-few
+expected_count-requires-clause-few c =
     let samples = c.args.samples.now in
     let i = c.loop-count.count-index in
     let rows = ap length (c.deref.ensures.value ∙ c.in_ok-rows.ensures) in
@@ -54,8 +54,8 @@ expected-requires-clause-few c =
     let sampled = ap (product_inside c.args.mask) c.requires.sampled in
     omega arith
 
-pub expected-requires-clause-counted : goal.expected-requires-clause-counted
-expected-requires-clause-counted c =
+pub expected_count-requires-clause-counted : goal.expected_count-requires-clause-counted
+expected_count-requires-clause-counted c =
     let samples = c.args.samples.now in
     let i = c.loop-count.count-index in
     let rows = ap length (c.deref.ensures.value ∙ c.in_ok-rows.ensures) in
@@ -73,11 +73,11 @@ loop-count-preserved c =
     let count = get_or counts i 0 in
     let within : i < length counts = c.loop-count-test.true in
     record {
-      value = c.in_ok-push.ensures.items ∙ ap (λ ns. ns ++ c.expected.result ∷ []) c.loop-count.invariant.value
-          ∙ ap (λ n. map (λ k. div_ceil (k * product_inside c.args.mask c.args.sizes.now) (product_inside c.args.mask c.args.sampled.now)) (take i counts) ++ n ∷ []) c.expected.ensures.value
+      value = c.in_ok-push.ensures.items ∙ ap (λ ns. ns ++ c.expected_count.result ∷ []) c.loop-count.invariant.value
+          ∙ ap (λ n. map (λ k. div_ceil (k * product_inside c.args.mask c.args.sizes.now) (product_inside c.args.mask c.args.sampled.now)) (take i counts) ++ n ∷ []) c.expected_count.ensures.value
           ∙ sym (map-with (λ k. div_ceil (k * product_inside c.args.mask c.args.sizes.now) (product_inside c.args.mask c.args.sampled.now)) counts i count within (get_or-other counts i 0 within));
       limit = subst (AllByRecursion (λ n. n ≤ most_expected c.args.mask)) (sym c.in_ok-push.ensures.items)
-          (each-push (λ n. n ≤ most_expected c.args.mask) c.loop-count.numbers.items c.expected.result c.loop-count.invariant.limit c.expected.ensures.limit);
+          (each-push (λ n. n ≤ most_expected c.args.mask) c.loop-count.numbers.items c.expected_count.result c.loop-count.invariant.limit c.expected_count.ensures.limit);
     }
 
 pub returns-clause-length : goal.returns-clause-length

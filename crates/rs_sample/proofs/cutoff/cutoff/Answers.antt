@@ -27,9 +27,9 @@ loop-rows-preserved c = λ answer catalogue formed are all.
     ∙ ap (λ mask. padded 8 (map (known_worth answer catalogue block mask rows) block.terms)) c.all_entries.ensures
     ∙ ap (padded 8) (known-all answer catalogue block (all_entries block) rows block.terms (terms-inside catalogue block formed)) in
     c.in_ok-push.ensures.items
-    ∙ ap (λ ss. ss ++ c.evaluated.result ∷ []) (c.loop-rows.invariant answer catalogue formed are all)
+    ∙ ap (λ ss. ss ++ c.evaluated_score.result ∷ []) (c.loop-rows.invariant answer catalogue formed are all)
     ∙ ap (λ s. map (λ rs. score_of answer catalogue block rs block.terms) (take i combos) ++ s ∷ [])
-    (c.evaluated.ensures.value ∙ ap (λ terms. evaluated c.weights-weights.result terms c.worths_for-worths.result) c.all_terms.ensures
+    (c.evaluated_score.ensures.value ∙ ap (λ terms. evaluated c.weights-weights.result terms c.worths_for-worths.result) c.all_terms.ensures
     ∙ ap₂ (λ ws vs. evaluated ws (all_terms block) vs) c.weights-weights.ensures.value worths
     ∙ sum-padded (all_terms block) 8 (weights_of block).weight (worths_of answer catalogue block rows)
     (let long = length-map block.terms (worth_of answer catalogue block rows) in let few = c.requires.few_terms in omega arith)

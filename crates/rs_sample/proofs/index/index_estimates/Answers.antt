@@ -28,8 +28,8 @@ count_worths-count-requires-clause-few c =
     let small = both.1 in
     omega arith
 
-pub expected-requires-clause-few : goal.expected-requires-clause-few
-expected-requires-clause-few c =
+pub expected_count-requires-clause-few : goal.expected_count-requires-clause-few
+expected_count-requires-clause-few c =
     let terms = c.args.block.now.terms in
     let place = c.loop-place.place in
     let term : Term = c.term-item.result in
@@ -44,8 +44,8 @@ expected-requires-clause-few c =
     let limit = c.count_worths-count.ensures.limit in
     omega arith
 
-pub expected-requires-clause-counted : goal.expected-requires-clause-counted
-expected-requires-clause-counted c =
+pub expected_count-requires-clause-counted : goal.expected_count-requires-clause-counted
+expected_count-requires-clause-counted c =
     let terms = c.args.block.now.terms in
     let place = c.loop-place.place in
     let term : Term = c.term-item.result in
@@ -94,12 +94,12 @@ loop-place-preserved c =
     let counted = c.count_worths-count.ensures.value
     ∙ ap (λ n. length (filter (λ worth. nat_le cutoff (term.weight * worth + n)) c.deref.result.now)) others
     ∙ ap (λ ws. length (filter (λ worth. nat_le cutoff (term.weight * worth + rest (weights_of block) (2 ^ place))) ws)) same in
-    let number : c.expected.result ≡ index_number block sizes sampled worths cutoff place term =
-    c.expected.ensures.value ∙ ap (λ n. div_ceil (n * product_inside term.entries sizes) (product_inside term.entries sampled)) counted in
+    let number : c.expected_count.result ≡ index_number block sizes sampled worths cutoff place term =
+    c.expected_count.ensures.value ∙ ap (λ n. div_ceil (n * product_inside term.entries sizes) (product_inside term.entries sampled)) counted in
     let pushed = c.in_ok-push.ensures.items in
     let count = c.loop-place.invariant.count in
     record {
-      count = ap length pushed ∙ length-append numbers (c.expected.result ∷ []) ∙ ap (λ n. n + 1) count;
-      value = next-value block sizes sampled worths cutoff numbers c.push.new.self.items place c.expected.result term pushed count at c.loop-place.invariant.value number;
-      limit = next-limit block sizes sampled worths cutoff numbers c.push.new.self.items place c.expected.result term pushed count at c.loop-place.invariant.limit c.expected.ensures.limit;
+      count = ap length pushed ∙ length-append numbers (c.expected_count.result ∷ []) ∙ ap (λ n. n + 1) count;
+      value = next-value block sizes sampled worths cutoff numbers c.push.new.self.items place c.expected_count.result term pushed count at c.loop-place.invariant.value number;
+      limit = next-limit block sizes sampled worths cutoff numbers c.push.new.self.items place c.expected_count.result term pushed count at c.loop-place.invariant.limit c.expected_count.ensures.limit;
     }

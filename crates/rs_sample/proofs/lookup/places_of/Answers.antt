@@ -1,4 +1,4 @@
-use Rattle.std.proofs.Common.{◌≡◌, ◌∙◌, ◌<◌, ◌≤◌, [], get_or, length, sym, subst, arith}
+use Rattle.std.proofs.Common.{◌∙◌, ◌≤◌, [], get_or, length, sym, subst, arith}
 use Rattle.rs_order.proofs.EachFacts.{each-get_or}
 use Rattle.rs_sample.specs.Finding.{places_in}
 use Rattle.rs_sample.proofs.PlaceFacts.{length-places, place-few, places-at}

@@ -1,8 +1,8 @@
 use Rattle.std.proofs.Common.{rules, arith, sym, refl, ◌≡◌, ◌<◌, ◌++◌, [], ◌∷◌}
 use Rattle.rs_syntax.proofs.Chains.{chain-start, chain-more, chain-end, chain-halts, chain-halts-first, operator-less, operand-less}
-use Rattle.rs_syntax.proofs.Cycle.{Repeating-start, Repeating-push, Repeating-end, Repeating-halts, token-less, counted-less, part-less, item-less, behind-le, when-less, neg-that, neg-this, comp-that, comp-this, sign-that, sign-this, case-found, when-found}
+use Rattle.rs_syntax.proofs.Cycle.{Repeating-start, Repeating-push, Repeating-end, Repeating-halts, token-less, counted-less, part-less, when-less, neg-that, neg-this, comp-that, comp-this, sign-that, sign-this, case-found, when-found}
 use Rattle.rs_syntax.proofs.Operands.{base-absolute, base-extreme, base-brackets, base-case, before, expr_before-found, halts-pair, called-less, halts-word, halts-called, absolute-column, absolute-function, extreme-column, extreme-function, brackets-behind}
-use Rattle.rs_syntax.proofs.Steps.{halts-first, halts-then, halts-this, halts-that, halts-rule, halts-memory, halts-made, goes_on}
+use Rattle.rs_syntax.proofs.Steps.{halts-first, halts-then, halts-this, halts-rule, halts-memory, halts-made, goes_on}
 use Rattle.rs_syntax.proofs.parser.Parser.+expr.Goals as goal
 
 pub chain-operand-requires : goal.chain-operand-requires

@@ -11,6 +11,6 @@ returns-in_err-first c = goes_on _ _ (search rules) (halts-rule (halts-first c.i
 
 pub returns : goal.returns
 returns c =
-    reads-rule colref colref_of (λ column. column) c.args.self.now c.qualified.new.self c.qualified.result
-    (reads-behind (optional (word Dot ⨟ name)) (λ t. colref_of (Node t)) (qualified c.in_ok-first.first) (λ column. column) c.qualified.new.self c.qualified.result
-    c.in_ok-first.ensures.read (λ u. ap (λ first. qualified first u) c.in_ok-first.ensures.means) c.qualified.ensures)
+    reads-rule colref colref_of (λ column. column) c.args.self.now c.qualify.new.self c.qualify.result
+    (reads-behind (optional (word Dot ⨟ name)) (λ t. colref_of (Node t)) (qualified c.in_ok-first.first) (λ column. column) c.qualify.new.self c.qualify.result
+    c.in_ok-first.ensures.read (λ u. ap (λ first. qualified first u) c.in_ok-first.ensures.means) c.qualify.ensures)

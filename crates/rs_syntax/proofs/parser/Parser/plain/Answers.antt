@@ -22,4 +22,4 @@ pub returns-in_err-first : goal.returns-in_err-first
 returns-in_err-first c = goes_on _ _ (search rules) (halts-rule (halts-first c.in_err-first.ensures))
 
 pub returns : goal.returns
-returns c = Reads-qualified _ _ _ c.in_ok-first.first c.qualified.result c.in_ok-first.ensures c.qualified.ensures
+returns c = Reads-qualified _ _ _ c.in_ok-first.first c.qualify.result c.in_ok-first.ensures c.qualify.ensures

@@ -1,6 +1,6 @@
 use Rattle.std.proofs.Common.{◌≡◌, ◌++◌, length}
 use Rattle.rs_grammar.specs.Lexemes.{undoubled}
-use Rattle.rs_grammar.proofs.lexeme.undoubled.Given as goal
+use Rattle.rs_grammar.proofs.lexeme.undouble.Given as goal
 
 -- what is made, and what the rest makes, are what the bytes make
 abbrev pub invariant-loop-bytes : goal.invariant-loop-bytes

@@ -1,7 +1,7 @@
 use Rattle.std.proofs.Common.{◌≡◌, Some, None, get_or, ap, sym, ◌∙◌}
 use Rattle.rs_table.specs.Column.{place_of}
 use Rattle.rs_bind.proofs.PlaceFacts.{placed-None, placed-Some}
-use Rattle.rs_bind.proofs.columns.placed.Goals as goal
+use Rattle.rs_bind.proofs.columns.place_in.Goals as goal
 
 pub returns-in_err-place : goal.returns-in_err-place
 returns-in_err-place c =

@@ -1,6 +1,6 @@
 use Rattle.std.proofs.Common.{rules, sym, refl}
 use Rattle.rs_syntax.proofs.Steps.{read-both, read-not, read-this, found, halts-then, halts-this, goes_on}
-use Rattle.rs_syntax.proofs.parser.Parser.qualified.Goals as goal
+use Rattle.rs_syntax.proofs.parser.Parser.qualify.Goals as goal
 
 pub returns-then-not-at : goal.returns-then-not-at
 returns-then-not-at c = found (read-not (sym c.if-not-at.ensures)) refl

@@ -1,6 +1,6 @@
 use Rattle.std.proofs.Common.{◌≡◌, ◌≤◌, ◌+◌, ◌*◌, ◌/◌, ◌^◌, drop}
 use Rattle.rs_rank.specs.Weights.{sum_inside}
-use Rattle.rs_sample.proofs.bound.evaluated.Given as goal
+use Rattle.rs_sample.proofs.bound.evaluated_score.Given as goal
 
 -- what the terms so far and those to come give is the whole
 abbrev pub invariant-loop-place : goal.invariant-loop-place

@@ -3,7 +3,7 @@ use Rattle.std.proofs.lemmas.Bool.{cases_lt}
 use Rattle.rs_order.proofs.EachFacts.{each-get_or}
 use Rattle.rs_rank.specs.Weights.{sum_inside}
 use Rattle.rs_sample.proofs.CountFacts.{sum-all, sum-more, term-limit}
-use Rattle.rs_sample.proofs.bound.evaluated.Goals as goal
+use Rattle.rs_sample.proofs.bound.evaluated_score.Goals as goal
 
 pub loop-place-preserved : goal.loop-place-preserved
 loop-place-preserved c =

@@ -1,6 +1,6 @@
 use Rattle.std.proofs.Common.{inl, inr}
 use Rattle.rs_value.proofs.TextFacts.{text_of-utf8}
-use Rattle.rs_grammar.proofs.lexeme.copied.Goals as goal
+use Rattle.rs_grammar.proofs.lexeme.copy.Goals as goal
 
 pub unreachable-requires : goal.unreachable-requires
 unreachable-requires c =

@@ -2,7 +2,7 @@ use Rattle.std.proofs.Common.{◌≡◌, ◌≤◌, [], drop, length}
 use Rattle.rs_table.specs.Appended.{appended}
 use Rattle.rs_bind.specs.Names.{named, named_behind}
 use Rattle.rs_bind.proofs.NameFacts.{names_of}
-use Rattle.rs_bind.proofs.names.named.Given as goal
+use Rattle.rs_bind.proofs.names.distinct_columns.Given as goal
 
 abbrev pub invariant-loop-name : goal.invariant-loop-name
 invariant-loop-name l = record {

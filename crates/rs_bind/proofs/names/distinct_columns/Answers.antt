@@ -4,7 +4,7 @@ use Rattle.std.proofs.lemmas.List.{length_push}
 use Rattle.rs_table.specs.Column.{is_named}
 use Rattle.rs_bind.specs.Names.{named}
 use Rattle.rs_bind.proofs.NameFacts.{named-full, named-next, named-twice}
-use Rattle.rs_bind.proofs.names.named.Goals as goal
+use Rattle.rs_bind.proofs.names.distinct_columns.Goals as goal
 
 pub returns-then-len-most-clause-gives : goal.returns-then-len-most-clause-gives
 returns-then-len-most-clause-gives c =

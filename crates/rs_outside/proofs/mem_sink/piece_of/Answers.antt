@@ -1,6 +1,6 @@
 use Rattle.std.proofs.Common.{drop, arith}
 use Rattle.std.proofs.lemmas.Grind.{common_steps}
-use Rattle.rs_outside.proofs.mem_sink.taken.Goals as goal
+use Rattle.rs_outside.proofs.mem_sink.piece_of.Goals as goal
 
 pub returns-in-Some-clause-prefix : goal.returns-in-Some-clause-prefix
 returns-in-Some-clause-prefix c =

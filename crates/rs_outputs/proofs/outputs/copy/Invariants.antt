@@ -1,5 +1,5 @@
 use Rattle.std.proofs.Common.{◌≡◌, take}
-use Rattle.rs_outputs.proofs.outputs.copied.Given as goal
+use Rattle.rs_outputs.proofs.outputs.copy.Given as goal
 
 abbrev pub invariant-loop-value : goal.invariant-loop-value
 invariant-loop-value l = l.copies.items ≡ take l.value-index l.values

@@ -1,0 +1,52 @@
+ghost use Rattle.std.specs.Prelude.{◌≡◌, Some};
+ghost use Rattle.std.specs.Io.{ReadsAtMost};
+ghost use Rattle.std.specs.Io.KnownBytes.{ReadConsumes};
+ghost use Rattle.rs_outside.specs.Reading.{read_answer};
+
+use std::io;
+use std::io::{ErrorKind, Read};
+
+/// A reader with what its last read answered, so that a contract can say what an answer comes of.
+#[derive(Drop)]
+pub struct Reading<F> {
+    reader: F,
+    last: Option<Result<usize, ErrorKind>>,
+}
+
+impl<F: Read> Reading<F> {
+    /// The reader, of which nothing was read yet.
+    pub fn new(reader: F) -> Reading<F>
+        ensures { result ≡ record { reader = reader; last = None } }
+    {
+        Reading { reader, last: None }
+    }
+
+    /// One read.
+    fn read(&mut self, chunk: &mut [u8]) -> io::Result<usize>
+        ensures bound { ReadsAtMost result chunk.new }
+        ensures bytes { ReadConsumes (F.remaining self.old.reader) (F.remaining self.new.reader) result chunk.new }
+        ensures last { self.new.last ≡ Some (read_answer result) }
+    {
+        let result = self.reader.read(chunk);
+        self.last = Some(match &result {
+            Ok(count) => Ok(*count),
+            Err(error) => Err(error.kind()),
+        });
+        result
+    }
+
+    /// One read, tried again where a signal interrupts it.
+    pub(crate) fn read_some(&mut self, chunk: &mut [u8]) -> io::Result<usize>
+        ensures bound { ReadsAtMost result chunk.new }
+        ensures bytes { ReadConsumes (F.remaining self.old.reader) (F.remaining self.new.reader) result chunk.new }
+        ensures last { self.new.last ≡ Some (read_answer result) }
+    {
+        for _ in 0..u64::MAX {
+            match self.read(chunk) {
+                Err(error) if error.kind() == ErrorKind::Interrupted => {}
+                result => return result,
+            }
+        }
+        self.read(chunk)
+    }
+}
