@@ -6,12 +6,10 @@ use Rattle.rs_order.specs.Schedule.{Left, Right}
 use Rattle.rs_plan.specs.Counts.{counts, counts_at, asked_of}
 use Rattle.rs_plan.specs.declared.counts.Counts.{Counts}
 use Rattle.rs_plan.specs.Lists.{World}
-use Rattle.rs_plan.specs.Trees.{Distinct, NestedJoin, Rank, SetOperator, PlanTree}
-use Rattle.rs_exec.specs.Cores.{tree_with}
+use Rattle.rs_plan.specs.Trees.{Distinct, JoinOperator, Rank, SetOperator}
+use Rattle.rs_exec.specs.Cores.{kind_of}
 use Rattle.rs_exec.specs.declared.distinct.DistinctNode.{DistinctNode}
 use Rattle.rs_exec.specs.declared.join.JoinNode.{JoinNode}
-use Rattle.rs_exec.specs.declared.join_core.JoinCore.{JoinCore}
-use Rattle.rs_exec.specs.declared.join_core.JoinCore.TheVariants.{Hash, Nested}
 use Rattle.rs_exec.specs.declared.node.Node.{Node}
 use Rattle.rs_exec.specs.declared.node.Node.TheVariants as node
 use Rattle.rs_exec.specs.declared.node.Node.TheViews as view
@@ -26,11 +24,6 @@ use Rattle.rs_exec.specs.Standing.{Stands}
 both-lengths : {A B : Type 0} (xs ys : List A) (us vs : List B) → length xs ≡ length us → length ys ≡ length vs → length (xs ++ ys) ≡ length (us ++ vs)
 both-lengths xs ys us vs first second = length-append xs ys ∙ ap₂ (λ (n m : ℕ). n + m) first second ∙ sym (length-append us vs)
 
--- a join counts the same whichever way it is done
-counts-with : (w : World) (number : ℕ) (core : JoinCore) (l r : PlanTree) (a : ℕ) → counts w number (tree_with core l r) a ≡ counts w number (NestedJoin l r) a
-counts-with w number (Nested joined) l r a = refl
-counts-with w number (Hash hashed) l r a = refl
-
 pub counts-stand : (w : World) (number : ℕ) (n : Node) → Stands w number n → counts_in n ≡ counts w number (tree_in n) (asked_in n)
 counts-stand w number (node.SeqScan head) is =
     ap (λ (n : TableNode). record { asked = n.tally.asked; gave = n.tally.gave; calls = 0; drawn = n.scan.drawn } ∷ []) is
@@ -42,10 +35,9 @@ counts-stand w number (node.Rank' head p child) is =
     (counts-stand w number child is.1 ∙ ap (counts w number (tree_in child)) is.0.asked)
 counts-stand w number (node.Join' head p left q right) is =
     ap (λ (n : JoinNode). record { asked = n.tally.asked; gave = n.tally.gave; calls = 0; drawn = 0 } ∷ counts_in left ++ counts_in right) is.0.keeps
-    ∙ ap₂ (λ (on_left on_right : List Counts). counts_at w number (NestedJoin (tree_in left) (tree_in right)) head.tally.asked ∷ on_left ++ on_right)
+    ∙ ap₂ (λ (on_left on_right : List Counts). counts_at w number (JoinOperator (kind_of head.core) (tree_in left) (tree_in right)) head.tally.asked ∷ on_left ++ on_right)
     (counts-stand w number left is.1 ∙ ap (counts w number (tree_in left)) is.0.left_asked)
     (counts-stand w number right is.2 ∙ ap (counts w number (tree_in right)) is.0.right_asked)
-    ∙ sym (counts-with w number head.core (tree_in left) (tree_in right) head.tally.asked)
 counts-stand w number (node.Distinct' head p child) is =
     ap (λ (n : DistinctNode). record { asked = n.tally.asked; gave = n.tally.gave; calls = 0; drawn = 0 } ∷ counts_in child) is.0.keeps
     ∙ ap (λ (rest : List Counts). counts_at w number (Distinct (tree_in child)) head.tally.asked ∷ rest)
@@ -64,9 +56,8 @@ counts-length w number (node.RankScan head) a = refl
 counts-length w number (node.Rank' head p child) a = ap suc (counts-length w number child (asked_of w number (Rank head.term (tree_in child)) a Left))
 counts-length w number (node.Join' head p left q right) a =
     ap suc (both-lengths (counts_in left) (counts_in right)
-    (counts w number (tree_in left) (asked_of w number (NestedJoin (tree_in left) (tree_in right)) a Left)) (counts w number (tree_in right) (asked_of w number (NestedJoin (tree_in left) (tree_in right)) a Right))
-    (counts-length w number left (asked_of w number (NestedJoin (tree_in left) (tree_in right)) a Left)) (counts-length w number right (asked_of w number (NestedJoin (tree_in left) (tree_in right)) a Right)))
-    ∙ sym (ap (λ (all : List Counts). length all) (counts-with w number head.core (tree_in left) (tree_in right) a))
+    (counts w number (tree_in left) (asked_of w number (JoinOperator (kind_of head.core) (tree_in left) (tree_in right)) a Left)) (counts w number (tree_in right) (asked_of w number (JoinOperator (kind_of head.core) (tree_in left) (tree_in right)) a Right))
+    (counts-length w number left (asked_of w number (JoinOperator (kind_of head.core) (tree_in left) (tree_in right)) a Left)) (counts-length w number right (asked_of w number (JoinOperator (kind_of head.core) (tree_in left) (tree_in right)) a Right)))
 counts-length w number (node.Distinct' head p child) a = ap suc (counts-length w number child (asked_of w number (Distinct (tree_in child)) a Left))
 counts-length w number (node.Set' head p left q right) a =
     ap suc (both-lengths (counts_in left) (counts_in right)

@@ -22,7 +22,7 @@ use Rattle.rs_mu.specs.Mu.{ask_of, left_for, taken_for}
 use Rattle.rs_plan.specs.Counts.{asked_of, gave_of}
 use Rattle.rs_plan.specs.Lists.{World, list_of}
 use Rattle.rs_query.specs.Blocks.{block_in}
-use Rattle.rs_plan.specs.Trees.{Distinct, HashJoin, NestedJoin, PlanTree, Rank, RankScan, SeqScan, SetOperator}
+use Rattle.rs_plan.specs.Trees.{Distinct, JoinOperator, Rank, RankScan, SeqScan, SetOperator, PlanTree}
 use Rattle.rs_exec.specs.Asked.{Asked, CanAsk, NodeAfter, RankAfter}
 use Rattle.rs_exec.specs.Asking.{exec_faults, next_row, world_of}
 use Rattle.rs_exec.specs.Drawing.{ScansEntry, drawn_then, next_drawn, passes, tally_with}
@@ -49,8 +49,7 @@ abbrev pub height : PlanTree → ℕ
 height (SeqScan entry) = 0
 height (RankScan entry term index) = 0
 height (Rank term child) = suc (height child)
-height (HashJoin left right) = suc (max (height left) (height right))
-height (NestedJoin left right) = suc (max (height left) (height right))
+height (JoinOperator kind left right) = suc (max (height left) (height right))
 height (Distinct child) = suc (height child)
 height (SetOperator left right) = suc (max (height left) (height right))
 

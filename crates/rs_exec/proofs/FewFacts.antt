@@ -14,7 +14,7 @@ use Rattle.rs_query.specs.Combinations.{choices, combinations, numbers_to, satis
 use Rattle.rs_query.specs.Tables.{all_entries, sizes_of}
 use Rattle.rs_plan.specs.Lists.{World, numbered_block, list_of, sizes_in, sources}
 use Rattle.rs_plan.specs.Plans.{IsPart}
-use Rattle.rs_plan.specs.Trees.{Distinct, HashJoin, NestedJoin, Rank, RankScan, SeqScan, SetOperator, PlanTree, entries}
+use Rattle.rs_plan.specs.Trees.{Distinct, JoinOperator, Rank, RankScan, SeqScan, SetOperator, PlanTree, entries}
 use Rattle.rs_exec.proofs.ListFacts.{list-length}
 
 pub length-firsts : (rows : List Answer) → length (firsts rows) ≤ length rows
@@ -92,8 +92,7 @@ module _ (w : World) (number : ℕ) (sizes : sizes_in w number ≡ sizes_of w.ca
   sources-few (SeqScan entry) part = ids-few (mask_of entry)
   sources-few (RankScan entry term index) part = ids-few (mask_of entry)
   sources-few (Rank term child) part = sources-few child part.0
-  sources-few (HashJoin left right) part = ids-few (bit_or (entries left) (entries right))
-  sources-few (NestedJoin left right) part = ids-few (bit_or (entries left) (entries right))
+  sources-few (JoinOperator kind left right) part = ids-few (bit_or (entries left) (entries right))
   sources-few (Distinct child) part =
       let count = length-map (base_of w.answer w.catalogue number (numbered_block w number) (sizes_in w number)) (λ (row : Answer). row.ids) in
       let all = base-few in

@@ -40,7 +40,7 @@ use Rattle.rs_ripple.proofs.PairFacts.{In-ordered, In-ordered-back, IsPair, orde
 use Rattle.rs_ripple.proofs.SideFacts.{sides-grid}
 use Rattle.rs_plan.specs.Lists.{World, ids_of, key_under, list_of, numbered_block, row_under, sizes_in, sources, weights_in}
 use Rattle.rs_plan.specs.Plans.{AreJoined, HasNoDistinct, IsPart}
-use Rattle.rs_plan.specs.Trees.{Distinct, NestedJoin, Rank, SetOperator, PlanTree, entries, terms}
+use Rattle.rs_plan.specs.Trees.{Distinct, JoinKind, JoinOperator, Nested, Rank, SetOperator, PlanTree, entries, terms}
 use Rattle.rs_exec.specs.Joining.{join_for, side_for}
 use Rattle.rs_exec.proofs.ListFacts.{list-climbs, list-others, unsorted}
 use Rattle.rs_exec.proofs.PartMaskFacts.{can-join, entries-few, terms-apart, terms-inside}
@@ -178,7 +178,7 @@ module _ (w : World) (number : ℕ) (left right : PlanTree) (can : CanJoinParts 
   rights_of = list_of w number right
 
   -- each row of both sides together is the merge of two that match
-  row-parts : (row : RankRow) → IsRowFor w number (NestedJoin left right) row
+  row-parts : (row : RankRow) → IsRowFor w number (JoinOperator Nested left right) row
       → IsPair (joins w.catalogue (numbered_block w number) (entries left) (entries right)) merge_row (list_of w number left) (list_of w number right) row
   row-parts row is =
       let choice = choice-of both is.rows is.is_in in
@@ -203,7 +203,7 @@ module _ (w : World) (number : ℕ) (left right : PlanTree) (can : CanJoinParts 
   -- and each such merge is a row of both
   row-whole : (row : RankRow)
       → IsPair (joins w.catalogue (numbered_block w number) (entries left) (entries right)) merge_row (list_of w number left) (list_of w number right) row
-      → IsRowFor w number (NestedJoin left right) row
+      → IsRowFor w number (JoinOperator Nested left right) row
   row-whole row pair =
       let l = In-list-back w number left can.left_part can.joined.left_whole pair.left pair.in_left in
       let r = In-list-back w number right can.right_part can.joined.right_whole pair.right pair.in_right in
@@ -250,16 +250,17 @@ module _ (w : World) (number : ℕ) (left right : PlanTree) (can : CanJoinParts 
   }
 
   -- the rows of both together
-  unsorted-both : (row : RankRow) → In row (list_of w number (NestedJoin left right)) → IsRowFor w number (NestedJoin left right) row
+  unsorted-both : (row : RankRow) → In row (list_of w number (JoinOperator Nested left right)) → IsRowFor w number (JoinOperator Nested left right) row
   unsorted-both row inside =
-      In-list-back w number (NestedJoin left right) (can.left_part, can.right_part, can.joined) (can.joined.left_whole, can.joined.right_whole) row inside
+      In-list-back w number (JoinOperator Nested left right) (can.left_part, can.right_part, can.joined, tt) (can.joined.left_whole, can.joined.right_whole) row inside
 
-  pub join-list : list_of w number (NestedJoin left right) ≡ answers (join_for w number left right) (list_of w number left) (list_of w number right)
-  join-list =
-      Climbs-same key_cmp key_cmp-total (answer_key j) (list_of w number (NestedJoin left right)) (answers j lefts_of rights_of)
-      (list-climbs w number (NestedJoin left right)) (ordered-climbs key_cmp j.matches merge_row (answer_key j) lefts_of rights_of (sides-grid j lefts_of rights_of join-sides))
+  -- the list of a join is the same whichever way it is done
+  pub join-list : (kind : JoinKind) → list_of w number (JoinOperator kind left right) ≡ answers (join_for w number left right) (list_of w number left) (list_of w number right)
+  join-list kind =
+      Climbs-same key_cmp key_cmp-total (answer_key j) (list_of w number (JoinOperator Nested left right)) (answers j lefts_of rights_of)
+      (list-climbs w number (JoinOperator Nested left right)) (ordered-climbs key_cmp j.matches merge_row (answer_key j) lefts_of rights_of (sides-grid j lefts_of rights_of join-sides))
       (λ row inside. In-ordered key_cmp j.matches merge_row (answer_key j) lefts_of rights_of row (row-parts row (unsorted-both row inside)))
       (λ row inside.
       let is = row-whole row (In-ordered-back key_cmp j.matches merge_row (answer_key j) lefts_of rights_of row inside) in
-      In-list w number (NestedJoin left right) (can.left_part, can.right_part, can.joined) (can.joined.left_whole, can.joined.right_whole) row
+      In-list w number (JoinOperator Nested left right) (can.left_part, can.right_part, can.joined, tt) (can.joined.left_whole, can.joined.right_whole) row
       (record { rows = is.rows; is_in = is.is_in; made = is.made }))

@@ -12,6 +12,7 @@ use Rattle.rs_order.specs.Schedule.{JoinSide, Left, Right, SideAsk, asked, is_of
 use Rattle.rs_order.proofs.ScheduleFacts.{asked-left, asked-right}
 use Rattle.rs_rank.specs.Keys.{key_cmp}
 use Rattle.rs_rank.specs.Turns.{join_schedule, left_asks, right_asks}
+use Rattle.rs_rank.specs.declared.ask.JoinAsk.{JoinAsk}
 use Rattle.rs_rank.specs.declared.ask.JoinAsk.TheVariants.{End, NeedLeft, NeedRight, Ready}
 use Rattle.rs_rank.specs.declared.key.Key.{Key}
 use Rattle.rs_rank.specs.declared.row.RankRow.{RankRow}
@@ -24,8 +25,8 @@ use Rattle.rs_query.specs.declared.query.Query.{Query}
 use Rattle.rs_query.proofs.QuestionFacts.{AllAsked, AllAsked-more, AllAsked-none, Ended-behind, Gave, Gave-ok, Inquires-fault, Stopped-within}
 use Rattle.rs_filter.specs.Matching.{IsView, is_side, joins}
 use Rattle.rs_ripple.specs.After.{joined_after}
-use Rattle.rs_ripple.specs.Joined.{CanFeedLeft, CanFeedRight, Fits, JoinStands, Joined, end_left, end_right, fed_left, fed_right, rest_for}
-use Rattle.rs_ripple.specs.Ripple.{ask_of, taken_for}
+use Rattle.rs_ripple.specs.Joined.{Fits, JoinStands, Joined, rest_for}
+use Rattle.rs_ripple.specs.Ripple.{Ripple, ask_of, left_ended, right_ended, taken_for}
 use Rattle.rs_ripple.specs.Stands.{BeginsWith, Join, answer_key, answers, merged_key, schedule_of, side_keys}
 use Rattle.rs_ripple.proofs.AfterFacts.{left-open, right-open}
 use Rattle.rs_ripple.proofs.JoinLawFacts.{is-now, left-can-feed, left-end-stands, left-fed-stands, right-can-feed, right-end-stands, right-fed-stands, stands-fits, taken-join-stands}
@@ -38,11 +39,13 @@ use Rattle.rs_plan.specs.Counts.{asked_of, gave_of}
 use Rattle.rs_plan.specs.Lists.{World, list_of}
 use Rattle.rs_query.specs.Blocks.{block_in}
 use Rattle.rs_plan.specs.Plans.{IsPart}
-use Rattle.rs_plan.specs.Trees.{NestedJoin, PlanTree, entries, HashJoin}
+use Rattle.rs_plan.specs.Trees.{JoinKind, JoinOperator, PlanTree, entries}
 use Rattle.rs_exec.specs.Asked.{CanAsk}
 use Rattle.rs_exec.specs.Asking.{exec_faults, next_row, world_of}
+use Rattle.rs_exec.specs.Cores.{CanFeed, joined_with_row}
 use Rattle.rs_exec.specs.Indexes.{PlanIndexesHold}
 use Rattle.rs_exec.specs.Joining.{join_for}
+use Rattle.rs_exec.specs.Sides.{of_side}
 use Rattle.rs_exec.specs.declared.fault.ExecFault.{ExecFault}
 use Rattle.rs_exec.specs.declared.fault.ExecFault.TheVariants.{Memory}
 use Rattle.rs_exec.proofs.PlacesFacts.{list-few-of, part-of}
@@ -68,21 +71,19 @@ pub record JoinBetween (w : World) (number : ℕ) (left right : PlanTree) (a lef
   pub made : List SideAsk
   pub made_is : made ≡ schedule_of (join_for w number left right) (list_of w number left) (list_of w number right) a ++ more
   pub keeps : JoinStands (join_for w number left right) (list_of w number left) (list_of w number right) made a joined
-  pub left_asked : left_asks ≡ asked Left made
-  pub right_asked : right_asks ≡ asked Right made
+  pub asked_is : (side : JoinSide) → of_side left_asks right_asks side ≡ asked side made
   pub all_asked : AllAsked old.answer w.catalogue (flat_map (side_part (questions w number left) (questions w number right)) more) old now
 
 -- after ask a + 1 of a join: the row that it gave is the next one of its list, all questions of the ask were asked, and what is kept
 -- is what this many asks leave
-pub record AskedAll (w : World) (number : ℕ) (left right : PlanTree) (a left_asks right_asks : ℕ) (row : Option RankRow) (after : Joined) (old now : ScorerState) : Type 0 where
-  pub inquires : Inquires Memory (next_row w number (NestedJoin left right) a) (Ok row) old now
-  pub value : row ≡ slice_get (list_of w number (NestedJoin left right)) a
-  pub left_all : left_asks ≡ asked_of w number (NestedJoin left right) (suc a) Left
-  pub right_all : right_asks ≡ asked_of w number (NestedJoin left right) (suc a) Right
+pub record AskedAll (w : World) (number : ℕ) (kind : JoinKind) (left right : PlanTree) (a left_asks right_asks : ℕ) (row : Option RankRow) (after : Joined) (old now : ScorerState) : Type 0 where
+  pub inquires : Inquires Memory (next_row w number (JoinOperator kind left right) a) (Ok row) old now
+  pub value : row ≡ slice_get (list_of w number (JoinOperator kind left right)) a
+  pub asked_all : (side : JoinSide) → of_side left_asks right_asks side ≡ asked_of w number (JoinOperator kind left right) (suc a) side
   pub keeps : after ≡ joined_after (join_for w number left right) (list_of w number left) (list_of w number right)
-      (asked_of w number (NestedJoin left right) (suc a) Left) (asked_of w number (NestedJoin left right) (suc a) Right) (gave_of w number (NestedJoin left right) (suc a))
+      (asked_of w number (JoinOperator kind left right) (suc a) Left) (asked_of w number (JoinOperator kind left right) (suc a) Right) (gave_of w number (JoinOperator kind left right) (suc a))
 
-module _ (w : World) (number : ℕ) (left right : PlanTree) (parts : CanJoinParts w number left right) where
+module _ (w : World) (number : ℕ) (kind : JoinKind) (left right : PlanTree) (parts : CanJoinParts w number left right) where
   abbrev j : Join
   j = join_for w number left right
 
@@ -99,37 +100,37 @@ module _ (w : World) (number : ℕ) (left right : PlanTree) (parts : CanJoinPart
   schedule = schedule_of j lefts rights
 
   -- the asks of its sides are those of a core
-  pub join-schedule : (n : ℕ) → child_asks w number (NestedJoin left right) n ≡ schedule_of (join_for w number left right) (list_of w number left) (list_of w number right) n
+  pub join-schedule : (n : ℕ) → child_asks w number (JoinOperator kind left right) n ≡ schedule_of (join_for w number left right) (list_of w number left) (list_of w number right) n
   join-schedule zero = refl
   join-schedule (suc n) =
       ap (λ (bar : Option Key). join_schedule key_cmp (merged_key j) (side_keys j j.left lefts) (side_keys j j.right rights) bar)
-      (bar_after-map (answer_key j) (list_of w number (NestedJoin left right)) n
-      ∙ ap (λ (rows : List RankRow). bar_after (answer_key j) rows n) (join-list w number left right parts))
+      (bar_after-map (answer_key j) (list_of w number (JoinOperator kind left right)) n
+      ∙ ap (λ (rows : List RankRow). bar_after (answer_key j) rows n) (join-list w number left right parts kind))
 
-  pub join-asked : (n : ℕ) (side : JoinSide) → asked_of w number (NestedJoin left right) n side ≡ asked side (schedule_of (join_for w number left right) (list_of w number left) (list_of w number right) n)
+  pub join-asked : (n : ℕ) (side : JoinSide) → asked_of w number (JoinOperator kind left right) n side ≡ asked side (schedule_of (join_for w number left right) (list_of w number left) (list_of w number right) n)
   join-asked n side = ap (λ (asks : List SideAsk). length (filter (is_of_side side) asks)) (join-schedule n)
 
   -- this many of each side
-  bar-same : (n : ℕ) → bar_after (answer_key j) (answers j lefts rights) n ≡ bar_of w number (NestedJoin left right) n
+  bar-same : (n : ℕ) → bar_after (answer_key j) (answers j lefts rights) n ≡ bar_of w number (JoinOperator kind left right) n
   bar-same n =
-      sym (bar_after-map (answer_key j) (list_of w number (NestedJoin left right)) n
-      ∙ ap (λ (rows : List RankRow). bar_after (answer_key j) rows n) (join-list w number left right parts))
+      sym (bar_after-map (answer_key j) (list_of w number (JoinOperator kind left right)) n
+      ∙ ap (λ (rows : List RankRow). bar_after (answer_key j) rows n) (join-list w number left right parts kind))
 
-  pub join-left_asks : (n : ℕ) → asked_of w number (NestedJoin left right) (suc n) Left
-      ≡ left_asks key_cmp (merged_key (join_for w number left right)) (keys_of w number left) (keys_of w number right) (bar_of w number (NestedJoin left right) n)
+  pub join-left_asks : (n : ℕ) → asked_of w number (JoinOperator kind left right) (suc n) Left
+      ≡ left_asks key_cmp (merged_key (join_for w number left right)) (keys_of w number left) (keys_of w number right) (bar_of w number (JoinOperator kind left right) n)
   join-left_asks n =
       join-asked (suc n) Left ∙ left-exact j lefts rights n (join-sides w number left right parts)
       ∙ ap (left_asks key_cmp (merged_key j) (side_keys j j.left lefts) (side_keys j j.right rights)) (bar-same n)
 
-  pub join-right_asks : (n : ℕ) → asked_of w number (NestedJoin left right) (suc n) Right
-      ≡ right_asks key_cmp (merged_key (join_for w number left right)) (keys_of w number left) (keys_of w number right) (bar_of w number (NestedJoin left right) n)
+  pub join-right_asks : (n : ℕ) → asked_of w number (JoinOperator kind left right) (suc n) Right
+      ≡ right_asks key_cmp (merged_key (join_for w number left right)) (keys_of w number left) (keys_of w number right) (bar_of w number (JoinOperator kind left right) n)
   join-right_asks n =
       join-asked (suc n) Right ∙ right-exact j lefts rights n (join-sides w number left right parts)
       ∙ ap (right_asks key_cmp (merged_key j) (side_keys j j.left lefts) (side_keys j j.right rights)) (bar-same n)
 
   -- the questions of one ask, in two parts
   pub join-questions : (a : ℕ) (more rest : List SideAsk) → schedule_of (join_for w number left right) (list_of w number left) (list_of w number right) (suc a) ≡ (schedule_of (join_for w number left right) (list_of w number left) (list_of w number right) a ++ more) ++ rest
-      → questions_of_ask w number (NestedJoin left right) (suc a) ≡ flat_map (side_part (questions w number left) (questions w number right)) more ++ flat_map (side_part (questions w number left) (questions w number right)) rest
+      → questions_of_ask w number (JoinOperator kind left right) (suc a) ≡ flat_map (side_part (questions w number left) (questions w number right)) more ++ flat_map (side_part (questions w number left) (questions w number right)) rest
   join-questions a more rest is =
       ap₂ (λ (first all : List SideAsk). drop (length (flat_map step first)) (flat_map step all)) (join-schedule a) (join-schedule (suc a) ∙ is ∙ append_assoc (schedule a) more rest)
       ∙ ap (drop (length (flat_map step (schedule a)))) (flat_map-append step (schedule a) (more ++ rest))
@@ -137,16 +138,16 @@ module _ (w : World) (number : ℕ) (left right : PlanTree) (parts : CanJoinPart
       ∙ flat_map-append step more rest
 
   -- at first no question of this ask was asked
-  pub between-start : (a left_asks right_asks : ℕ) (joined : Joined) (old : ScorerState) → a ≤ length (list_of w number (NestedJoin left right))
+  pub between-start : (a left_asks right_asks : ℕ) (joined : Joined) (old : ScorerState) → a ≤ length (list_of w number (JoinOperator kind left right))
       → joined ≡ joined_after (join_for w number left right) (list_of w number left) (list_of w number right)
-      (asked_of w number (NestedJoin left right) a Left) (asked_of w number (NestedJoin left right) a Right) (gave_of w number (NestedJoin left right) a)
-      → left_asks ≡ asked_of w number (NestedJoin left right) a Left → right_asks ≡ asked_of w number (NestedJoin left right) a Right
+      (asked_of w number (JoinOperator kind left right) a Left) (asked_of w number (JoinOperator kind left right) a Right) (gave_of w number (JoinOperator kind left right) a)
+      → ((side : JoinSide) → of_side left_asks right_asks side ≡ asked_of w number (JoinOperator kind left right) a side)
       → JoinBetween w number left right a left_asks right_asks joined old old
-  between-start a left_asks right_asks joined old few is on_left on_right =
-      let all : min a (length (list_of w number (NestedJoin left right))) ≡ a = omega arith in
+  between-start a left_asks right_asks joined old few is asked_now =
+      let all : min a (length (list_of w number (JoinOperator kind left right))) ≡ a = omega arith in
       let same : joined ≡ joined_after j lefts rights (asked Left (schedule a)) (asked Right (schedule a)) a =
-      is ∙ ap (λ n. joined_after j lefts rights n (asked_of w number (NestedJoin left right) a Right) (gave_of w number (NestedJoin left right) a)) (join-asked a Left)
-      ∙ ap (λ n. joined_after j lefts rights (asked Left (schedule a)) n (gave_of w number (NestedJoin left right) a)) (join-asked a Right)
+      is ∙ ap (λ n. joined_after j lefts rights n (asked_of w number (JoinOperator kind left right) a Right) (gave_of w number (JoinOperator kind left right) a)) (join-asked a Left)
+      ∙ ap (λ n. joined_after j lefts rights (asked Left (schedule a)) n (gave_of w number (JoinOperator kind left right) a)) (join-asked a Right)
       ∙ ap (λ n. joined_after j lefts rights (asked Left (schedule a)) (asked Right (schedule a)) n) all in
       let sides = join-sides w number left right parts in
       record {
@@ -159,29 +160,38 @@ module _ (w : World) (number : ℕ) (left right : PlanTree) (parts : CanJoinPart
             state = ap (λ (d : Joined). d.ripple) same;
             least = BeginsWith-itself (schedule a);
             most = schedule_of-more j lefts rights sides a;
-            within = subst (λ (rows : List RankRow). a ≤ length rows) (join-list w number left right parts) few;
+            within = subst (λ (rows : List RankRow). a ≤ length rows) (join-list w number left right parts kind) few;
           };
           left_rows = ap (λ (d : Joined). d.lefts) same;
           right_rows = ap (λ (d : Joined). d.rights) same;
         };
-        left_asked = on_left ∙ join-asked a Left;
-        right_asked = on_right ∙ join-asked a Right;
+        asked_is = λ side. asked_now side ∙ join-asked a side;
         all_asked = AllAsked-none old.answer w.catalogue old;
       }
 
--- a hash join asks as a nested one does
-pub hash-asks : (w : World) (number : ℕ) (left right : PlanTree) (n : ℕ) → child_asks w number (HashJoin left right) n ≡ child_asks w number (NestedJoin left right) n
-hash-asks w number left right zero = refl
-hash-asks w number left right (suc n) = refl
+-- the asks of a join are the same whichever way it is done
+pub kind-asks : (w : World) (number : ℕ) (kind other : JoinKind) (left right : PlanTree) (n : ℕ)
+    → child_asks w number (JoinOperator kind left right) n ≡ child_asks w number (JoinOperator other left right) n
+kind-asks w number kind other left right zero = refl
+kind-asks w number kind other left right (suc n) = refl
+
+-- what a core says that needs a row of a side, and what is kept of a side that has ended
+abbrev pub need_of : JoinSide → JoinAsk
+need_of Left = NeedLeft
+need_of Right = NeedRight
+
+abbrev pub ended_of : JoinSide → Ripple → Ripple
+ended_of Left ripple = left_ended ripple
+ended_of Right ripple = right_ended ripple
 
 -- a join that can be asked once more
-module _ (catalogue : CatalogDef) (query : Query) (number : ℕ) (left right : PlanTree) (a : ℕ) (old : ScorerState)
-    (can : CanAsk (world_of catalogue old.answer query) number (NestedJoin left right) a) where
+module _ (catalogue : CatalogDef) (query : Query) (number : ℕ) (kind : JoinKind) (left right : PlanTree) (a : ℕ) (old : ScorerState)
+    (can : CanAsk (world_of catalogue old.answer query) number (JoinOperator kind left right) a) where
   abbrev world : World
   world = world_of catalogue old.answer query
 
   abbrev tree : PlanTree
-  tree = NestedJoin left right
+  tree = JoinOperator kind left right
 
   pub join-parts : CanJoinParts (world_of catalogue old.answer query) number left right
   join-parts = record {
@@ -194,38 +204,30 @@ module _ (catalogue : CatalogDef) (query : Query) (number : ℕ) (left right : P
     joined = can.part.2;
   }
 
-  -- a side of it, once it is known that it was asked no further than to its end
-  side-can : (side : PlanTree) (asks : ℕ) (now : ScorerState) → IsPart catalogue (block_in query number) side → PlanIndexesHold old.answer catalogue side
-      → asks ≤ length (list_of (world_of catalogue old.answer query) number side) → now.answer ≡ old.answer → CanAsk (world_of catalogue now.answer query) number side asks
-  side-can side asks now part indexes most same =
-      subst (λ answer. CanAsk (world_of catalogue answer query) number side asks) (sym same)
-      (record {
-        formed = can.formed;
-        number_is = can.number_is;
-        part = part-of catalogue query number side part;
-        indexes = indexes;
-        weights = can.weights;
-        more = most;
-        few = list-few-of catalogue old.answer query number side can.number_is can.tables (part-of catalogue query number side part);
-        tables = can.tables;
-      })
+  -- its sides are parts of a plan, and their indexes hold the answers
+  part-on : (side : JoinSide) → IsPart catalogue (block_in query number) (of_side left right side)
+  part-on Left = can.part.0
+  part-on Right = can.part.1
+
+  indexes-on : (side : JoinSide) → PlanIndexesHold old.answer catalogue (of_side left right side)
+  indexes-on Left = can.indexes.0
+  indexes-on Right = can.indexes.1
 
   abbrev OnSide : PlanTree → RankRow → Type 0
   OnSide side row = is_side catalogue (block_in query number) (entries side) row ≡ true
 
   -- what holds of each row of the list of a side
-  side-rows : (side : PlanTree) → IsPart catalogue (block_in query number) side
-      → AllByRecursion (IsRow (world_of catalogue old.answer query) number side) (list_of (world_of catalogue old.answer query) number side)
-  side-rows side part = list-rows world number (few-entries catalogue query number can.formed) (sizes-are catalogue old.answer query number can.number_is) side part
+  side-rows : (side : JoinSide) → AllByRecursion (IsRow (world_of catalogue old.answer query) number (of_side left right side)) (list_of (world_of catalogue old.answer query) number (of_side left right side))
+  side-rows side = list-rows world number (few-entries catalogue query number can.formed) (sizes-are catalogue old.answer query number can.number_is) (of_side left right side) (part-on side)
 
   -- so those that came first are rows of that side
-  side-first : (side : PlanTree) → IsPart catalogue (block_in query number) side → (n : ℕ) (rows : List RankRow)
-      → rows ≡ take n (list_of (world_of catalogue old.answer query) number side)
-      → AllByRecursion (λ (row : RankRow). is_side catalogue (block_in query number) (entries side) row ≡ true) rows
-  side-first side part n rows first =
-      subst (AllByRecursion (OnSide side)) (sym first)
-      (each-take (OnSide side) n (list_of world number side)
-      (each-weaker (IsRow world number side) (OnSide side) (λ row is. is.side) (list_of world number side) (side-rows side part)))
+  side-first : (side : JoinSide) (n : ℕ) (rows : List RankRow) → rows ≡ take n (list_of (world_of catalogue old.answer query) number (of_side left right side))
+      → AllByRecursion (λ (row : RankRow). is_side catalogue (block_in query number) (entries (of_side left right side)) row ≡ true) rows
+  side-first side n rows first =
+      let own = of_side left right side in
+      subst (AllByRecursion (OnSide own)) (sym first)
+      (each-take (OnSide own) n (list_of world number own)
+      (each-weaker (IsRow world number own) (OnSide own) (λ row is. is.side) (list_of world number own) (side-rows side)))
 
   abbrev jn : Join
   jn = join_for (world_of catalogue old.answer query) number left right
@@ -251,16 +253,16 @@ module _ (catalogue : CatalogDef) (query : Query) (number : ℕ) (left right : P
     comes x at = split-at (asks_to (suc a)) between.made x between.keeps.core.most at
 
     questions-from : (x : SideAsk) → slice_get (asks_to (suc a)) (length between.made) ≡ Some x
-        → questions_of_ask (world_of catalogue old.answer query) number (NestedJoin left right) (suc a)
+        → questions_of_ask (world_of catalogue old.answer query) number (JoinOperator kind left right) (suc a)
         ≡ flat_map puts between.more ++ (puts x ++ flat_map puts (drop (suc (length between.made)) (asks_to (suc a))))
     questions-from x at =
-        join-questions world number left right join-parts a between.more (x ∷ behind)
+        join-questions world number kind left right join-parts a between.more (x ∷ behind)
         (comes x at ∙ ap (λ (front : List SideAsk). front ++ (x ∷ behind)) between.made_is)
 
     asked-more : (side : JoinSide) (x : SideAsk) → slice_get (asks_to (suc a)) (length between.made) ≡ Some x → length (filter (is_of_side side) (x ∷ [])) ≡ 1
-        → asked side between.made < asked_of (world_of catalogue old.answer query) number (NestedJoin left right) (suc a) side
+        → asked side between.made < asked_of (world_of catalogue old.answer query) number (JoinOperator kind left right) (suc a) side
     asked-more side x at one =
-        let all = join-asked world number left right join-parts (suc a) side in
+        let all = join-asked world number kind left right join-parts (suc a) side in
         let count : asked side (asks_to (suc a)) ≡ asked side between.made + length (filter (is_of_side side) (x ∷ behind)) =
         ap (asked side) (comes x at) ∙ ap (λ (asks : List SideAsk). length asks) (filter-append (is_of_side side) between.made (x ∷ behind))
         ∙ length-append (filter (is_of_side side) between.made) (filter (is_of_side side) (x ∷ behind)) in
@@ -269,229 +271,175 @@ module _ (catalogue : CatalogDef) (query : Query) (number : ℕ) (left right : P
         ∙ length-append (filter (is_of_side side) (x ∷ [])) (filter (is_of_side side) behind) in
         omega arith
 
-    -- what an ask of a side gave
-    side-gave : (side : PlanTree) (asks : ℕ) (row : Option RankRow) (new : ScorerState) → Inquires Memory (next_row (world_of catalogue now.answer query) number side asks) (Ok row) now new
-        → Gave old.answer catalogue (questions_of_ask (world_of catalogue old.answer query) number side (suc asks)) (slice_get (list_of (world_of catalogue old.answer query) number side) asks) row now new
-    side-gave side asks row new below =
-        Gave-ok exec_faults Memory old.answer catalogue {A = Option RankRow} (questions_of_ask world number side (suc asks)) (slice_get (list_of world number side) asks) row now new
-        (subst (λ answer. Inquires Memory (next_row (world_of catalogue answer query) number side asks) (Ok row) now new) between.all_asked.keeps.answer below)
-
-    module _ (x : SideAsk) (side : PlanTree) (asks : ℕ) (is : side_part (questions (world_of catalogue old.answer query) number left) (questions (world_of catalogue old.answer query) number right) x ≡ questions_of_ask (world_of catalogue old.answer query) number side (suc asks)) where
-      -- all questions up to the end of that ask were asked
-      side-asked : (row : Option RankRow) (new : ScorerState) → Inquires Memory (next_row (world_of catalogue now.answer query) number side asks) (Ok row) now new
-          → AllAsked old.answer catalogue (flat_map puts (between.more ++ x ∷ [])) old new
-      side-asked row new below =
-          subst (λ (qs : List Question). AllAsked old.answer catalogue qs old new)
-          (sym (flat_map-append puts between.more (x ∷ []) ∙ ap (λ (qs : List Question). flat_map puts between.more ++ qs) (append-nil (puts x) ∙ is)))
-          (AllAsked-more old.answer catalogue (flat_map puts between.more) (questions_of_ask world number side (suc asks)) old now new between.all_asked (side-gave side asks row new below).asked)
-
-      module _ (at : slice_get (asks_to (suc a)) (length between.made) ≡ Some x) where
-        split : questions_of_ask (world_of catalogue old.answer query) number (NestedJoin left right) (suc a)
-            ≡ flat_map puts between.more ++ (questions_of_ask (world_of catalogue old.answer query) number side (suc asks) ++ flat_map puts (drop (suc (length between.made)) (asks_to (suc a))))
-        split = questions-from x at ∙ ap (λ (qs : List Question). flat_map puts between.more ++ (qs ++ flat_map puts behind)) is
-
-        -- a fault of it ends the ask
-        side-fault : (fault : ExecFault) (new : ScorerState) → Inquires Memory (next_row (world_of catalogue now.answer query) number side asks) (Err fault) now new
-            → Inquires Memory (next_row (world_of catalogue old.answer query) number (NestedJoin left right) a) (Err fault) old new
-        side-fault fault new below =
-            Inquires-fault exec_faults Memory old.answer catalogue {A = Option RankRow} {B = Option RankRow} (flat_map puts between.more) (questions_of_ask world number side (suc asks)) (flat_map puts behind)
-            (questions_of_ask world number tree (suc a)) (slice_get (list_of world number side) asks) (slice_get (list_of world number tree) a) fault old now new
-            split between.all_asked
-            (subst (λ answer. Inquires Memory (next_row (world_of catalogue answer query) number side asks) (Err fault) now new) between.all_asked.keeps.answer below)
-
-        -- there was no memory for the row that it gave
-        side-stopped : (row : Option RankRow) (new : ScorerState) → Inquires Memory (next_row (world_of catalogue now.answer query) number side asks) (Ok row) now new
-            → Inquires Memory (next_row (world_of catalogue old.answer query) number (NestedJoin left right) a) (Err Memory) old new
-        side-stopped row new below =
-            Stopped-within exec_faults Memory catalogue {A = Option RankRow} (flat_map puts between.more ++ questions_of_ask world number side (suc asks)) (flat_map puts behind)
-            (questions_of_ask world number tree (suc a)) (slice_get (list_of world number tree) a) (Err Memory) old new
-            (split ∙ sym (append_assoc (flat_map puts between.more) (questions_of_ask world number side (suc asks)) (flat_map puts behind))) refl
-            (AllAsked-more old.answer catalogue (flat_map puts between.more) (questions_of_ask world number side (suc asks)) old now new between.all_asked (side-gave side asks row new below).asked)
-
     made-more : (x : SideAsk) → between.made ++ x ∷ [] ≡ asks_to a ++ (between.more ++ x ∷ [])
     made-more x = ap (λ (front : List SideAsk). front ++ x ∷ []) between.made_is ∙ append_assoc (asks_to a) between.more (x ∷ [])
 
-    -- where the core needs a left row, the left side can be asked once more
-    module _ (need : ask_of joined.ripple ≡ NeedLeft) where
-      abbrev next_left : SideAsk
-      next_left = record { side = Left; number = suc (asked Left between.made) }
+    -- of each side: its next ask, which is made where the core needs a row of it
+    abbrev next_of : JoinSide → SideAsk
+    next_of side = record { side = side; number = suc (asked side between.made) }
 
-      left-at : slice_get (asks_to (suc a)) (length between.made) ≡ Some (record { side = Left; number = suc (asked Left between.made) })
-      left-at = subst (Tells jn left_rows right_rows between.made a) need (stands-tells jn left_rows right_rows between.made a joined.ripple between.keeps.core)
+    next-at : (side : JoinSide) → ask_of joined.ripple ≡ need_of side → slice_get (asks_to (suc a)) (length between.made) ≡ Some (next_of side)
+    next-at Left need = subst (Tells jn left_rows right_rows between.made a) need (stands-tells jn left_rows right_rows between.made a joined.ripple between.keeps.core)
+    next-at Right need = subst (Tells jn left_rows right_rows between.made a) need (stands-tells jn left_rows right_rows between.made a joined.ripple between.keeps.core)
 
-      left-is : side_part (questions (world_of catalogue old.answer query) number left) (questions (world_of catalogue old.answer query) number right) (record { side = Left; number = suc (asked Left between.made) })
-          ≡ questions_of_ask (world_of catalogue old.answer query) number left (suc left_asks)
-      left-is = ap (λ n. questions_of_ask world number left (suc n)) (sym between.left_asked)
+    next-is : (side : JoinSide) → puts (next_of side) ≡ questions_of_ask (world_of catalogue old.answer query) number (of_side left right side) (suc (of_side left_asks right_asks side))
+    next-is Left = ap (λ n. questions_of_ask world number left (suc n)) (sym (between.asked_is Left))
+    next-is Right = ap (λ n. questions_of_ask world number right (suc n)) (sym (between.asked_is Right))
 
-      pub left-can : CanAsk (world_of catalogue now.answer query) number left left_asks
-      left-can =
-          let most = left-open jn left_rows right_rows between.made a joined between.keeps need in
-          let same = between.left_asked in
-          side-can left left_asks now can.part.0 can.indexes.0 (omega arith) between.all_asked.keeps.answer
+    next-one : (side : JoinSide) → length (filter (is_of_side side) (next_of side ∷ [])) ≡ 1
+    next-one Left = refl
+    next-one Right = refl
 
-      pub left-less : left_asks < asked_of (world_of catalogue old.answer query) number (NestedJoin left right) (suc a) Left
-      left-less = let less = asked-more Left next_left left-at refl in let same = between.left_asked in omega arith
+    next-open : (side : JoinSide) → ask_of joined.ripple ≡ need_of side → asked side between.made ≤ length (list_of (world_of catalogue old.answer query) number (of_side left right side))
+    next-open Left need = left-open jn left_rows right_rows between.made a joined between.keeps need
+    next-open Right need = right-open jn left_rows right_rows between.made a joined between.keeps need
 
-      pub left-fault : (fault : ExecFault) (new : ScorerState) → Inquires Memory (next_row (world_of catalogue now.answer query) number left left_asks) (Err fault) now new
-          → Inquires Memory (next_row (world_of catalogue old.answer query) number (NestedJoin left right) a) (Err fault) old new
-      left-fault fault new below = side-fault next_left left left_asks left-is left-at fault new below
+    next-asked : (side s : JoinSide) → of_side (of_side (suc left_asks) left_asks side) (of_side right_asks (suc right_asks) side) s ≡ asked s (between.made ++ next_of side ∷ [])
+    next-asked Left Left = ap suc (between.asked_is Left) ∙ sym (asked-left between.made (suc (asked Left between.made))).0
+    next-asked Left Right = between.asked_is Right ∙ sym (asked-left between.made (suc (asked Left between.made))).1
+    next-asked Right Left = between.asked_is Left ∙ sym (asked-right between.made (suc (asked Right between.made))).0
+    next-asked Right Right = ap suc (between.asked_is Right) ∙ sym (asked-right between.made (suc (asked Right between.made))).1
 
-      pub left-stopped : (row : Option RankRow) (new : ScorerState) → Inquires Memory (next_row (world_of catalogue now.answer query) number left left_asks) (Ok row) now new
-          → Inquires Memory (next_row (world_of catalogue old.answer query) number (NestedJoin left right) a) (Err Memory) old new
-      left-stopped row new below = side-stopped next_left left left_asks left-is left-at row new below
+    next-feeds : (side : JoinSide) → ask_of joined.ripple ≡ need_of side → (row : RankRow)
+        → slice_get (list_of (world_of catalogue old.answer query) number (of_side left right side)) (asked side between.made) ≡ Some row → CanFeed side row joined
+    next-feeds Left need row there = left-can-feed jn left_rows right_rows between.made a joined between.keeps need row there
+    next-feeds Right need row there = right-can-feed jn left_rows right_rows between.made a joined between.keeps need row there
 
-      -- what it gave is its next row
-      left-there : (row : Option RankRow) (new : ScorerState) → Inquires Memory (next_row (world_of catalogue now.answer query) number left left_asks) (Ok row) now new
-          → slice_get (list_of (world_of catalogue old.answer query) number left) (asked Left between.made) ≡ row
-      left-there row new below = ap (slice_get left_rows) (sym between.left_asked) ∙ sym (side-gave left left_asks row new below).is_value
+    next-fed : (side : JoinSide) → ask_of joined.ripple ≡ need_of side → (row : RankRow)
+        → slice_get (list_of (world_of catalogue old.answer query) number (of_side left right side)) (asked side between.made) ≡ Some row
+        → JoinStands jn left_rows right_rows (between.made ++ next_of side ∷ []) a (joined_with_row side jn.matches row joined)
+    next-fed Left need row there = left-fed-stands jn left_rows right_rows between.made a joined between.keeps need row there
+    next-fed Right need row there = right-fed-stands jn left_rows right_rows between.made a joined between.keeps need row there
 
-      module _ (new : ScorerState) where
-        left-more : (row : Option RankRow) → Inquires Memory (next_row (world_of catalogue now.answer query) number left left_asks) (Ok row) now new
-            → (after : Joined) → JoinStands (join_for (world_of catalogue old.answer query) number left right) (list_of (world_of catalogue old.answer query) number left) (list_of (world_of catalogue old.answer query) number right) (between.made ++ record { side = Left; number = suc (asked Left between.made) } ∷ []) a after
-            → JoinBetween (world_of catalogue old.answer query) number left right a (suc left_asks) right_asks after old new
-        left-more row below after keeps =
-            let counts = asked-left between.made (suc (asked Left between.made)) in
-            record {
-              more = between.more ++ next_left ∷ [];
-              made = between.made ++ next_left ∷ [];
-              made_is = made-more next_left;
-              keeps = keeps;
-              left_asked = ap suc between.left_asked ∙ sym counts.0;
-              right_asked = between.right_asked ∙ sym counts.1;
-              all_asked = side-asked next_left left left_asks left-is row new below;
-            }
+    next-ended : (side : JoinSide) → ask_of joined.ripple ≡ need_of side
+        → slice_get (list_of (world_of catalogue old.answer query) number (of_side left right side)) (asked side between.made) ≡ None
+        → JoinStands jn left_rows right_rows (between.made ++ next_of side ∷ []) a (record joined { ripple = ended_of side joined.ripple })
+    next-ended Left need over = (left-end-stands jn left_rows right_rows between.made a joined between.keeps need over).1
+    next-ended Right need over = (right-end-stands jn left_rows right_rows between.made a joined between.keeps need over).1
 
-        -- the row is taken
-        module _ (row : RankRow) (below : Inquires Memory (next_row (world_of catalogue now.answer query) number left left_asks) (Ok (Some row)) now new) where
-          pub left-feeds : CanFeedLeft row joined
-          left-feeds = left-can-feed jn left_rows right_rows between.made a joined between.keeps need row (left-there (Some row) new below)
+    -- where the core needs a row of a side, the side can be asked once more
+    module _ (side : JoinSide) (need : ask_of joined.ripple ≡ need_of side) where
+      abbrev own : PlanTree
+      own = of_side left right side
 
-          -- its entries have rows of their tables, and so it is a row of its side
-          left-row : IsRow (world_of catalogue old.answer query) number left row
-          left-row = each-slice_get (IsRow world number left) left_rows (asked Left between.made) row (side-rows left can.part.0) (left-there (Some row) new below)
+      abbrev own_asks : ℕ
+      own_asks = of_side left_asks right_asks side
 
-          pub left-rows : HasRows catalogue (block_in query number) (entries left) row.ids.rows
-          left-rows = left-row.rows
+      pub side-can : CanAsk (world_of catalogue now.answer query) number (of_side left right side) (of_side left_asks right_asks side)
+      side-can =
+          let most = next-open side need in
+          let same = between.asked_is side in
+          subst (λ answer. CanAsk (world_of catalogue answer query) number own own_asks) (sym between.all_asked.keeps.answer)
+          (record {
+            formed = can.formed;
+            number_is = can.number_is;
+            part = part-of catalogue query number own (part-on side);
+            indexes = indexes-on side;
+            weights = can.weights;
+            more = omega arith;
+            few = list-few-of catalogue old.answer query number own can.number_is can.tables (part-of catalogue query number own (part-on side));
+            tables = can.tables;
+          })
 
-          pub left-side : is_side catalogue (block_in query number) (entries left) row ≡ true
-          left-side = left-row.side
+      pub side-less : of_side left_asks right_asks side < asked_of (world_of catalogue old.answer query) number (JoinOperator kind left right) (suc a) side
+      side-less = let less = asked-more side (next_of side) (next-at side need) (next-one side) in let same = between.asked_is side in omega arith
 
-          pub left-fed : JoinBetween (world_of catalogue old.answer query) number left right a (suc left_asks) right_asks
-              (fed_left (joins catalogue (block_in query number) (entries left) (entries right)) row joined) old new
-          left-fed =
-              left-more (Some row) below (fed_left jn.matches row joined)
-              (left-fed-stands jn left_rows right_rows between.made a joined between.keeps need row (left-there (Some row) new below))
+      split : questions_of_ask (world_of catalogue old.answer query) number (JoinOperator kind left right) (suc a)
+          ≡ flat_map puts between.more ++ (questions_of_ask (world_of catalogue old.answer query) number (of_side left right side) (suc (of_side left_asks right_asks side)) ++ flat_map puts (drop (suc (length between.made)) (asks_to (suc a))))
+      split = questions-from (next_of side) (next-at side need) ∙ ap (λ (qs : List Question). flat_map puts between.more ++ (qs ++ flat_map puts behind)) (next-is side)
 
-        -- its end is told
-        pub left-ended : Inquires Memory (next_row (world_of catalogue now.answer query) number left left_asks) (Ok None) now new
-            → JoinBetween (world_of catalogue old.answer query) number left right a (suc left_asks) right_asks (end_left joined) old new
-        left-ended below =
-            left-more None below (end_left joined) (left-end-stands jn left_rows right_rows between.made a joined between.keeps need (left-there None new below)).1
+      -- a fault of it ends the ask
+      pub side-fault : (fault : ExecFault) (new : ScorerState)
+          → Inquires Memory (next_row (world_of catalogue now.answer query) number (of_side left right side) (of_side left_asks right_asks side)) (Err fault) now new
+          → Inquires Memory (next_row (world_of catalogue old.answer query) number (JoinOperator kind left right) a) (Err fault) old new
+      side-fault fault new below =
+          Inquires-fault exec_faults Memory old.answer catalogue {A = Option RankRow} {B = Option RankRow} (flat_map puts between.more) (questions_of_ask world number own (suc own_asks)) (flat_map puts behind)
+          (questions_of_ask world number tree (suc a)) (slice_get (list_of world number own) own_asks) (slice_get (list_of world number tree) a) fault old now new
+          split between.all_asked
+          (subst (λ answer. Inquires Memory (next_row (world_of catalogue answer query) number own own_asks) (Err fault) now new) between.all_asked.keeps.answer below)
 
-    -- where the core needs a right row, the right side can be asked once more
-    module _ (need : ask_of joined.ripple ≡ NeedRight) where
-      abbrev next_right : SideAsk
-      next_right = record { side = Right; number = suc (asked Right between.made) }
+      module _ (row : Option RankRow) (new : ScorerState)
+          (below : Inquires Memory (next_row (world_of catalogue now.answer query) number (of_side left right side) (of_side left_asks right_asks side)) (Ok row) now new) where
+        -- what it gave is its next row
+        gave : Gave old.answer catalogue (questions_of_ask (world_of catalogue old.answer query) number (of_side left right side) (suc (of_side left_asks right_asks side)))
+            (slice_get (list_of (world_of catalogue old.answer query) number (of_side left right side)) (of_side left_asks right_asks side)) row now new
+        gave =
+            Gave-ok exec_faults Memory old.answer catalogue {A = Option RankRow} (questions_of_ask world number own (suc own_asks)) (slice_get (list_of world number own) own_asks) row now new
+            (subst (λ answer. Inquires Memory (next_row (world_of catalogue answer query) number own own_asks) (Ok row) now new) between.all_asked.keeps.answer below)
 
-      right-at : slice_get (asks_to (suc a)) (length between.made) ≡ Some (record { side = Right; number = suc (asked Right between.made) })
-      right-at = subst (Tells jn left_rows right_rows between.made a) need (stands-tells jn left_rows right_rows between.made a joined.ripple between.keeps.core)
+        there : slice_get (list_of (world_of catalogue old.answer query) number (of_side left right side)) (asked side between.made) ≡ row
+        there = ap (slice_get (list_of world number own)) (sym (between.asked_is side)) ∙ sym gave.is_value
 
-      right-is : side_part (questions (world_of catalogue old.answer query) number left) (questions (world_of catalogue old.answer query) number right) (record { side = Right; number = suc (asked Right between.made) })
-          ≡ questions_of_ask (world_of catalogue old.answer query) number right (suc right_asks)
-      right-is = ap (λ n. questions_of_ask world number right (suc n)) (sym between.right_asked)
+        -- there was no memory for it
+        pub side-stopped : Inquires Memory (next_row (world_of catalogue old.answer query) number (JoinOperator kind left right) a) (Err Memory) old new
+        side-stopped =
+            Stopped-within exec_faults Memory catalogue {A = Option RankRow} (flat_map puts between.more ++ questions_of_ask world number own (suc own_asks)) (flat_map puts behind)
+            (questions_of_ask world number tree (suc a)) (slice_get (list_of world number tree) a) (Err Memory) old new
+            (split ∙ sym (append_assoc (flat_map puts between.more) (questions_of_ask world number own (suc own_asks)) (flat_map puts behind))) refl
+            (AllAsked-more old.answer catalogue (flat_map puts between.more) (questions_of_ask world number own (suc own_asks)) old now new between.all_asked gave.asked)
 
-      pub right-can : CanAsk (world_of catalogue now.answer query) number right right_asks
-      right-can =
-          let most = right-open jn left_rows right_rows between.made a joined between.keeps need in
-          let same = between.right_asked in
-          side-can right right_asks now can.part.1 can.indexes.1 (omega arith) between.all_asked.keeps.answer
+        side-more : (after : Joined) → JoinStands (join_for (world_of catalogue old.answer query) number left right) (list_of (world_of catalogue old.answer query) number left) (list_of (world_of catalogue old.answer query) number right)
+            (between.made ++ record { side = side; number = suc (asked side between.made) } ∷ []) a after
+            → JoinBetween (world_of catalogue old.answer query) number left right a (of_side (suc left_asks) left_asks side) (of_side right_asks (suc right_asks) side) after old new
+        side-more after keeps = record {
+          more = between.more ++ next_of side ∷ [];
+          made = between.made ++ next_of side ∷ [];
+          made_is = made-more (next_of side);
+          keeps = keeps;
+          asked_is = next-asked side;
+          all_asked = subst (λ (qs : List Question). AllAsked old.answer catalogue qs old new)
+              (sym (flat_map-append puts between.more (next_of side ∷ []) ∙ ap (λ (qs : List Question). flat_map puts between.more ++ qs) (append-nil (puts (next_of side)) ∙ next-is side)))
+              (AllAsked-more old.answer catalogue (flat_map puts between.more) (questions_of_ask world number own (suc own_asks)) old now new between.all_asked gave.asked);
+        }
 
-      pub right-less : right_asks < asked_of (world_of catalogue old.answer query) number (NestedJoin left right) (suc a) Right
-      right-less = let less = asked-more Right next_right right-at refl in let same = between.right_asked in omega arith
+      -- the row is taken
+      module _ (row : RankRow) (new : ScorerState)
+          (below : Inquires Memory (next_row (world_of catalogue now.answer query) number (of_side left right side) (of_side left_asks right_asks side)) (Ok (Some row)) now new) where
+        pub side-feeds : CanFeed side row joined
+        side-feeds = next-feeds side need row (there (Some row) new below)
 
-      pub right-fault : (fault : ExecFault) (new : ScorerState) → Inquires Memory (next_row (world_of catalogue now.answer query) number right right_asks) (Err fault) now new
-          → Inquires Memory (next_row (world_of catalogue old.answer query) number (NestedJoin left right) a) (Err fault) old new
-      right-fault fault new below = side-fault next_right right right_asks right-is right-at fault new below
+        -- its entries have rows of their tables, and so it is a row of its side
+        pub side-row : IsRow (world_of catalogue old.answer query) number (of_side left right side) row
+        side-row = each-slice_get (IsRow world number own) (list_of world number own) (asked side between.made) row (side-rows side) (there (Some row) new below)
 
-      pub right-stopped : (row : Option RankRow) (new : ScorerState) → Inquires Memory (next_row (world_of catalogue now.answer query) number right right_asks) (Ok row) now new
-          → Inquires Memory (next_row (world_of catalogue old.answer query) number (NestedJoin left right) a) (Err Memory) old new
-      right-stopped row new below = side-stopped next_right right right_asks right-is right-at row new below
+        pub side-fed : JoinBetween (world_of catalogue old.answer query) number left right a (of_side (suc left_asks) left_asks side) (of_side right_asks (suc right_asks) side)
+            (joined_with_row side (joins catalogue (block_in query number) (entries left) (entries right)) row joined) old new
+        side-fed = side-more (Some row) new below (joined_with_row side jn.matches row joined) (next-fed side need row (there (Some row) new below))
 
-      -- what it gave is its next row
-      right-there : (row : Option RankRow) (new : ScorerState) → Inquires Memory (next_row (world_of catalogue now.answer query) number right right_asks) (Ok row) now new
-          → slice_get (list_of (world_of catalogue old.answer query) number right) (asked Right between.made) ≡ row
-      right-there row new below = ap (slice_get right_rows) (sym between.right_asked) ∙ sym (side-gave right right_asks row new below).is_value
-
-      module _ (new : ScorerState) where
-        right-more : (row : Option RankRow) → Inquires Memory (next_row (world_of catalogue now.answer query) number right right_asks) (Ok row) now new
-            → (after : Joined) → JoinStands (join_for (world_of catalogue old.answer query) number left right) (list_of (world_of catalogue old.answer query) number left) (list_of (world_of catalogue old.answer query) number right) (between.made ++ record { side = Right; number = suc (asked Right between.made) } ∷ []) a after
-            → JoinBetween (world_of catalogue old.answer query) number left right a left_asks (suc right_asks) after old new
-        right-more row below after keeps =
-            let counts = asked-right between.made (suc (asked Right between.made)) in
-            record {
-              more = between.more ++ next_right ∷ [];
-              made = between.made ++ next_right ∷ [];
-              made_is = made-more next_right;
-              keeps = keeps;
-              left_asked = between.left_asked ∙ sym counts.0;
-              right_asked = ap suc between.right_asked ∙ sym counts.1;
-              all_asked = side-asked next_right right right_asks right-is row new below;
-            }
-
-        -- the row is taken
-        module _ (row : RankRow) (below : Inquires Memory (next_row (world_of catalogue now.answer query) number right right_asks) (Ok (Some row)) now new) where
-          pub right-feeds : CanFeedRight row joined
-          right-feeds = right-can-feed jn left_rows right_rows between.made a joined between.keeps need row (right-there (Some row) new below)
-
-          -- its entries have rows of their tables, and so it is a row of its side
-          right-row : IsRow (world_of catalogue old.answer query) number right row
-          right-row = each-slice_get (IsRow world number right) right_rows (asked Right between.made) row (side-rows right can.part.1) (right-there (Some row) new below)
-
-          pub right-rows : HasRows catalogue (block_in query number) (entries right) row.ids.rows
-          right-rows = right-row.rows
-
-          pub right-side : is_side catalogue (block_in query number) (entries right) row ≡ true
-          right-side = right-row.side
-
-          pub right-fed : JoinBetween (world_of catalogue old.answer query) number left right a left_asks (suc right_asks)
-              (fed_right (joins catalogue (block_in query number) (entries left) (entries right)) row joined) old new
-          right-fed =
-              right-more (Some row) below (fed_right jn.matches row joined)
-              (right-fed-stands jn left_rows right_rows between.made a joined between.keeps need row (right-there (Some row) new below))
-
-        -- its end is told
-        pub right-ended : Inquires Memory (next_row (world_of catalogue now.answer query) number right right_asks) (Ok None) now new
-            → JoinBetween (world_of catalogue old.answer query) number left right a left_asks (suc right_asks) (end_right joined) old new
-        right-ended below =
-            right-more None below (end_right joined) (right-end-stands jn left_rows right_rows between.made a joined between.keeps need (right-there None new below)).1
+      -- its end is told
+      pub side-ended : (new : ScorerState)
+          → Inquires Memory (next_row (world_of catalogue now.answer query) number (of_side left right side) (of_side left_asks right_asks side)) (Ok None) now new
+          → JoinBetween (world_of catalogue old.answer query) number left right a (of_side (suc left_asks) left_asks side) (of_side right_asks (suc right_asks) side)
+          (record joined { ripple = ended_of side joined.ripple }) old new
+      side-ended new below = side-more None new below (record joined { ripple = ended_of side joined.ripple }) (next-ended side need (there None new below))
 
     -- the rows that were drawn are rows of their sides
     pub between-lefts : AllByRecursion (λ (row : RankRow). is_side catalogue (block_in query number) (entries left) row ≡ true) joined.lefts
-    between-lefts = side-first left can.part.0 (asked Left between.made) joined.lefts between.keeps.left_rows
+    between-lefts = side-first Left (asked Left between.made) joined.lefts between.keeps.left_rows
 
     pub between-rights : AllByRecursion (λ (row : RankRow). is_side catalogue (block_in query number) (entries right) row ≡ true) joined.rights
-    between-rights = side-first right can.part.1 (asked Right between.made) joined.rights between.keeps.right_rows
+    between-rights = side-first Right (asked Right between.made) joined.rights between.keeps.right_rows
 
     pub between-fits : Fits (joins catalogue (block_in query number) (entries left) (entries right)) joined
     between-fits = stands-fits jn left_rows right_rows between.made a joined between.keeps
 
     -- where all asks were made, all questions of this ask were asked
-    questions-all : between.made ≡ asks_to (suc a) → questions_of_ask (world_of catalogue old.answer query) number (NestedJoin left right) (suc a) ≡ flat_map puts between.more
+    questions-all : between.made ≡ asks_to (suc a) → questions_of_ask (world_of catalogue old.answer query) number (JoinOperator kind left right) (suc a) ≡ flat_map puts between.more
     questions-all all =
-        join-questions world number left right join-parts a between.more [] (sym all ∙ between.made_is ∙ sym (append-nil (asks_to a ++ between.more)))
+        join-questions world number kind left right join-parts a between.more [] (sym all ∙ between.made_is ∙ sym (append-nil (asks_to a ++ between.more)))
         ∙ append-nil (flat_map puts between.more)
 
-    asked-all : between.made ≡ asks_to (suc a) → (side : JoinSide) → asked side between.made ≡ asked_of (world_of catalogue old.answer query) number (NestedJoin left right) (suc a) side
-    asked-all all side = ap (asked side) all ∙ sym (join-asked world number left right join-parts (suc a) side)
+    asked-all : between.made ≡ asks_to (suc a) → (side : JoinSide) → asked side between.made ≡ asked_of (world_of catalogue old.answer query) number (JoinOperator kind left right) (suc a) side
+    asked-all all side = ap (asked side) all ∙ sym (join-asked world number kind left right join-parts (suc a) side)
 
-    list-is : list_of (world_of catalogue old.answer query) number (NestedJoin left right) ≡ answers (join_for (world_of catalogue old.answer query) number left right) (list_of (world_of catalogue old.answer query) number left) (list_of (world_of catalogue old.answer query) number right)
-    list-is = join-list world number left right join-parts
+    list-is : list_of (world_of catalogue old.answer query) number (JoinOperator kind left right) ≡ answers (join_for (world_of catalogue old.answer query) number left right) (list_of (world_of catalogue old.answer query) number left) (list_of (world_of catalogue old.answer query) number right)
+    list-is = join-list world number left right join-parts kind
 
     -- what it keeps then, of this many answers
     kept-all : between.made ≡ asks_to (suc a) → (count : ℕ) (after : Joined) → JoinStands (join_for (world_of catalogue old.answer query) number left right) (list_of (world_of catalogue old.answer query) number left) (list_of (world_of catalogue old.answer query) number right) between.made count after
-        → count ≡ gave_of (world_of catalogue old.answer query) number (NestedJoin left right) (suc a)
+        → count ≡ gave_of (world_of catalogue old.answer query) number (JoinOperator kind left right) (suc a)
         → after ≡ joined_after (join_for (world_of catalogue old.answer query) number left right) (list_of (world_of catalogue old.answer query) number left) (list_of (world_of catalogue old.answer query) number right)
-        (asked_of (world_of catalogue old.answer query) number (NestedJoin left right) (suc a) Left) (asked_of (world_of catalogue old.answer query) number (NestedJoin left right) (suc a) Right) (gave_of (world_of catalogue old.answer query) number (NestedJoin left right) (suc a))
+        (asked_of (world_of catalogue old.answer query) number (JoinOperator kind left right) (suc a) Left) (asked_of (world_of catalogue old.answer query) number (JoinOperator kind left right) (suc a) Right) (gave_of (world_of catalogue old.answer query) number (JoinOperator kind left right) (suc a))
     kept-all all count after keeps gave =
         is-now jn left_rows right_rows between.made count after keeps
         ∙ ap (λ n. joined_after jn left_rows right_rows n (asked Right between.made) count) (asked-all all Left)
@@ -500,7 +448,7 @@ module _ (catalogue : CatalogDef) (query : Query) (number : ℕ) (left right : P
 
     -- where it is ready, it gives the next row of its list, and stands one ask further
     pub ready-after : ask_of joined.ripple ≡ Ready
-        → AskedAll (world_of catalogue old.answer query) number left right a left_asks right_asks (taken_for (ask_of joined.ripple) joined.ripple) (rest_for (ask_of joined.ripple) joined) old now
+        → AskedAll (world_of catalogue old.answer query) number kind left right a left_asks right_asks (taken_for (ask_of joined.ripple) joined.ripple) (rest_for (ask_of joined.ripple) joined) old now
     ready-after ready =
         let tells = subst (Tells jn left_rows right_rows between.made a) ready (stands-tells jn left_rows right_rows between.made a joined.ripple between.keeps.core) in
         let value : taken_for (ask_of joined.ripple) joined.ripple ≡ slice_get (list_of world number tree) a =
@@ -512,13 +460,12 @@ module _ (catalogue : CatalogDef) (query : Query) (number : ℕ) (left right : P
           inquires = Ended-behind exec_faults Memory catalogue {A = Option RankRow} (flat_map puts between.more) (questions_of_ask world number tree (suc a)) (slice_get (list_of world number tree) a)
               (taken_for (ask_of joined.ripple) joined.ripple) old now (questions-all tells.0) value between.all_asked;
           value = value;
-          left_all = between.left_asked ∙ asked-all tells.0 Left;
-          right_all = between.right_asked ∙ asked-all tells.0 Right;
+          asked_all = λ side. between.asked_is side ∙ asked-all tells.0 side;
           keeps = kept-all tells.0 (suc a) (rest_for (ask_of joined.ripple) joined) (taken-join-stands jn left_rows right_rows between.made a joined between.keeps ready).1 gave;
         }
 
     -- and where it has ended, there is none
-    pub end-after : ask_of joined.ripple ≡ End → AskedAll (world_of catalogue old.answer query) number left right a left_asks right_asks None joined old now
+    pub end-after : ask_of joined.ripple ≡ End → AskedAll (world_of catalogue old.answer query) number kind left right a left_asks right_asks None joined old now
     end-after end =
         let tells = subst (Tells jn left_rows right_rows between.made a) end (stands-tells jn left_rows right_rows between.made a joined.ripple between.keeps.core) in
         let size = ap (λ (rows : List RankRow). length rows) list-is in
@@ -529,7 +476,6 @@ module _ (catalogue : CatalogDef) (query : Query) (number : ℕ) (left right : P
           inquires = Ended-behind exec_faults Memory catalogue {A = Option RankRow} (flat_map puts between.more) (questions_of_ask world number tree (suc a)) (slice_get (list_of world number tree) a)
               None old now (questions-all tells.0) value between.all_asked;
           value = value;
-          left_all = between.left_asked ∙ asked-all tells.0 Left;
-          right_all = between.right_asked ∙ asked-all tells.0 Right;
+          asked_all = λ side. between.asked_is side ∙ asked-all tells.0 side;
           keeps = kept-all tells.0 a joined between.keeps gave;
         }

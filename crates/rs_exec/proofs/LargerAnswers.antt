@@ -22,7 +22,7 @@ use Rattle.rs_plan.specs.Asks.{asks_alone, child_asks, query_schedule}
 use Rattle.rs_plan.specs.Calls.{own_question, part_of, questions, questions_of_ask, rank_part, side_part}
 use Rattle.rs_plan.specs.Lists.{World, key_under, list_of, list_of_plan, weights_in}
 use Rattle.rs_query.specs.Blocks.{block_in}
-use Rattle.rs_plan.specs.Trees.{Distinct, HashJoin, NestedJoin, Rank, RankScan, SeqScan, SetOperator, PlanTree, terms}
+use Rattle.rs_plan.specs.Trees.{Distinct, JoinOperator, Rank, RankScan, SeqScan, SetOperator, PlanTree, terms}
 use Rattle.rs_exec.specs.Asking.{exec_faults, world_of}
 use Rattle.rs_exec.specs.Covering.{Covers, CoversBlock, HasPredicate}
 use Rattle.rs_exec.specs.Cursors.{SameAsks, answer_for}
@@ -60,14 +60,10 @@ module _ (catalogue more : CatalogDef) (answer : Answering) (query : Query) (cov
   child_asks-same number (Distinct child) (suc n) = λ i.
       asks_alone (map (key_under small (terms child)) (list-is number child i))
       (bar_after (λ (key : Key). key) (map (key_under small (terms (Distinct child))) (list-is number (Distinct child) i)) n)
-  child_asks-same number (HashJoin left right) (suc n) = λ i.
+  child_asks-same number (JoinOperator kind left right) (suc n) = λ i.
       join_schedule key_cmp (merge_key (weights_in small) (terms left) (terms right))
       (map (key_under small (terms left)) (list-is number left i)) (map (key_under small (terms right)) (list-is number right i))
-      (bar_after (λ (key : Key). key) (map (key_under small (terms (HashJoin left right))) (list-is number (HashJoin left right) i)) n)
-  child_asks-same number (NestedJoin left right) (suc n) = λ i.
-      join_schedule key_cmp (merge_key (weights_in small) (terms left) (terms right))
-      (map (key_under small (terms left)) (list-is number left i)) (map (key_under small (terms right)) (list-is number right i))
-      (bar_after (λ (key : Key). key) (map (key_under small (terms (NestedJoin left right))) (list-is number (NestedJoin left right) i)) n)
+      (bar_after (λ (key : Key). key) (map (key_under small (terms (JoinOperator kind left right))) (list-is number (JoinOperator kind left right) i)) n)
   child_asks-same number (SetOperator left right) (suc n) = λ i.
       query_schedule query (map (key_under small (terms left)) (list-is 1 left i)) (map (key_under small (terms right)) (list-is 2 right i))
       (bar_after (λ (key : Key). key) (map (key_under small (terms (SetOperator left right))) (list-is number (SetOperator left right) i)) n)
@@ -80,10 +76,8 @@ module _ (catalogue more : CatalogDef) (answer : Answering) (query : Query) (cov
       flat_map (rank_part small term (list-is number child i) (λ b. questions-same number child b i)) (child_asks-same number (Rank term child) a i)
   questions-same number (Distinct child) a = λ i.
       flat_map (λ (ask : SideAsk). part_of (λ b. questions-same number child b i) ask.number) (child_asks-same number (Distinct child) a i)
-  questions-same number (HashJoin left right) a = λ i.
-      flat_map (side_part (λ b. questions-same number left b i) (λ b. questions-same number right b i)) (child_asks-same number (HashJoin left right) a i)
-  questions-same number (NestedJoin left right) a = λ i.
-      flat_map (side_part (λ b. questions-same number left b i) (λ b. questions-same number right b i)) (child_asks-same number (NestedJoin left right) a i)
+  questions-same number (JoinOperator kind left right) a = λ i.
+      flat_map (side_part (λ b. questions-same number left b i) (λ b. questions-same number right b i)) (child_asks-same number (JoinOperator kind left right) a i)
   questions-same number (SetOperator left right) a = λ i.
       flat_map (side_part (λ b. questions-same 1 left b i) (λ b. questions-same 2 right b i)) (child_asks-same number (SetOperator left right) a i)
 
@@ -117,11 +111,8 @@ module _ (catalogue more : CatalogDef) (answer : Answering) (query : Query) (cov
   covered-questions number (Distinct child) a =
       each-flat_map IsCovered (λ (ask : SideAsk). part_of (questions small number child) ask.number) (child_asks small number (Distinct child) a)
       (λ ask. each-part IsCovered (questions small number child) ask.number (covered-questions number child))
-  covered-questions number (HashJoin left right) a =
-      each-flat_map IsCovered (side_part (questions small number left) (questions small number right)) (child_asks small number (HashJoin left right) a)
-      (covered-side (questions small number left) (questions small number right) (covered-questions number left) (covered-questions number right))
-  covered-questions number (NestedJoin left right) a =
-      each-flat_map IsCovered (side_part (questions small number left) (questions small number right)) (child_asks small number (NestedJoin left right) a)
+  covered-questions number (JoinOperator kind left right) a =
+      each-flat_map IsCovered (side_part (questions small number left) (questions small number right)) (child_asks small number (JoinOperator kind left right) a)
       (covered-side (questions small number left) (questions small number right) (covered-questions number left) (covered-questions number right))
   covered-questions number (SetOperator left right) a =
       each-flat_map IsCovered (side_part (questions small 1 left) (questions small 2 right)) (child_asks small number (SetOperator left right) a)

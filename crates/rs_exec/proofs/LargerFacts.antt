@@ -40,7 +40,7 @@ use Rattle.rs_query.specs.declared.term.Term.{Term}
 use Rattle.rs_order.proofs.EachFacts.{each-slice_get, each-weaker}
 use Rattle.rs_catalog.proofs.JoinedFacts.{joined, slice_get-front}
 use Rattle.rs_plan.specs.Plans.{IsComplete, IsPart, IsPlan, IsRankScan, IsSetPlan}
-use Rattle.rs_plan.specs.Trees.{Distinct, HashJoin, NestedJoin, Rank, RankScan, SeqScan, SetOperator, PlanTree}
+use Rattle.rs_plan.specs.Trees.{Distinct, JoinOperator, Rank, RankScan, SeqScan, SetOperator, PlanTree}
 use Rattle.rs_exec.specs.Covering.{CoversBlock, HasPredicate}
 use Rattle.rs_catalog.specs.Held.{Holds}
 use Rattle.rs_exec.specs.Indexes.{PlanIndexesHold}
@@ -260,8 +260,7 @@ module _ (catalogue more : CatalogDef) where
     indexes-larger answer (SeqScan entry) part holds = tt
     indexes-larger answer (RankScan entry term number) part holds = holds-larger entry term number part answer holds
     indexes-larger answer (Rank term child) part holds = indexes-larger answer child part.0 holds
-    indexes-larger answer (HashJoin left right) part holds = (indexes-larger answer left part.0 holds.0, indexes-larger answer right part.1 holds.1)
-    indexes-larger answer (NestedJoin left right) part holds = (indexes-larger answer left part.0 holds.0, indexes-larger answer right part.1 holds.1)
+    indexes-larger answer (JoinOperator kind left right) part holds = (indexes-larger answer left part.0 holds.0, indexes-larger answer right part.1 holds.1)
     indexes-larger answer (Distinct child) part holds = indexes-larger answer child part.0 holds
     indexes-larger answer (SetOperator left right) part holds = absurd part
 
@@ -296,8 +295,7 @@ module _ (catalogue more : CatalogDef) where
     first = position-front (λ i. is_for part.table part.term.predicate part.term.args entry i.def) catalogue.indexes more.indexes number part.first;
   }
   part-larger block (Rank term child) part = (part-larger block child part.0, part.1)
-  part-larger block (HashJoin left right) part = (part-larger block left part.0, part-larger block right part.1, part.2, part.3)
-  part-larger block (NestedJoin left right) part = (part-larger block left part.0, part-larger block right part.1, part.2)
+  part-larger block (JoinOperator kind left right) part = (part-larger block left part.0, part-larger block right part.1, part.2, part.3)
   part-larger block (Distinct child) part = (part-larger block child part.0, part.1)
   part-larger block (SetOperator left right) part = absurd part
 

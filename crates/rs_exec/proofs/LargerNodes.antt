@@ -27,7 +27,7 @@ use Rattle.rs_plan.specs.Counts.{asked_of, drawn_to, gave_of, place_in_index, pl
 use Rattle.rs_plan.specs.Lists.{World, ids_of, key_under, list_of, row_under, sizes_in, sources, weights_in, worths}
 use Rattle.rs_query.specs.Blocks.{block_in}
 use Rattle.rs_plan.specs.Plans.{IsPart, IsRankScan}
-use Rattle.rs_plan.specs.Trees.{Distinct, HashJoin, NestedJoin, Rank, RankScan, SeqScan, SetOperator, PlanTree, entries, terms}
+use Rattle.rs_plan.specs.Trees.{Distinct, Hash, JoinKind, JoinOperator, Nested, Rank, RankScan, SeqScan, SetOperator, PlanTree, entries, terms}
 use Rattle.rs_exec.specs.Asking.{world_of}
 use Rattle.rs_exec.specs.Distincts.{distinct_node_after}
 use Rattle.rs_exec.specs.Outputs.{output_row, outputs_in}
@@ -38,7 +38,7 @@ use Rattle.rs_rank.specs.Merging.{merge_key}
 use Rattle.rs_rank.specs.Turns.{join_schedule}
 use Rattle.rs_ripple.specs.After.{joined_after}
 use Rattle.rs_ripple.specs.Joined.{Joined}
-use Rattle.rs_exec.specs.Cores.{core_like, tree_with, with_values}
+use Rattle.rs_exec.specs.Cores.{core_of, kind_of, with_values}
 use Rattle.rs_exec.specs.Drawing.{entry_conjuncts}
 use Rattle.rs_exec.specs.Covering.{Covers, CoversBlock}
 use Rattle.rs_exec.specs.Joining.{side_for}
@@ -49,8 +49,7 @@ use Rattle.rs_exec.specs.SetCores.{CoreStands}
 use Rattle.rs_exec.specs.SetNodes.{SetStands, operator_of, sides_for}
 use Rattle.rs_exec.specs.declared.set.SetNode.{SetNode}
 use Rattle.rs_exec.specs.Standing.{Stands, index_node_after, join_node_after, joined_from, rank_node_after, table_node_after}
-use Rattle.rs_exec.specs.declared.join_core.JoinCore.{JoinCore}
-use Rattle.rs_exec.specs.declared.join_core.JoinCore.TheVariants.{Hash, Nested}
+use Rattle.rs_exec.specs.declared.join_core.JoinCore.TheVariants as core
 use Rattle.rs_exec.specs.declared.node.Node.{Node}
 use Rattle.rs_exec.specs.declared.node.Node.TheVariants as node
 use Rattle.rs_exec.proofs.CoversFacts.{block-covered, covers}
@@ -70,11 +69,6 @@ view-same catalogue more (Set op left right limit) covered = λ i. record {
   second = map (size-same catalogue more right covered.1 i) (1 ∷ 2 ∷ 3 ∷ 4 ∷ 5 ∷ 6 ∷ []);
 }
 
--- the sides of a join are parts of a plan, whichever way it is done
-part-with : (catalogue : CatalogDef) (block : Block) (core : JoinCore) (l r : PlanTree) → IsPart catalogue block (tree_with core l r) → IsPart catalogue block l × IsPart catalogue block r
-part-with catalogue block (Nested joined) l r part = (part.0, part.1)
-part-with catalogue block (Hash hashed) l r part = (part.0, part.1)
-
 -- and has the same rows
 rows-same : (catalogue more : CatalogDef) (answer : Answering) (query : Query) → Covers catalogue query
     → rows_of answer (joined catalogue more) query (all_rows (joined catalogue more) query) ≡ rows_of answer catalogue query (all_rows catalogue query)
@@ -82,12 +76,6 @@ rows-same catalogue more answer (One block limit) covered = λ i. base-same cata
 rows-same catalogue more answer (Set op left right limit) covered = λ i.
     set_base op (base-same catalogue more left covered.0 answer 1 i (view-same catalogue more (Set op left right limit) covered i).first)
     (base-same catalogue more right covered.1 answer 2 i (view-same catalogue more (Set op left right limit) covered i).second)
-
--- a join's part of a plan is one of a block
-part-joined : (catalogue : CatalogDef) (query : Query) (number : ℕ) (core : JoinCore) (left right : PlanTree) → IsPartOf catalogue query number (tree_with core left right)
-    → IsPart catalogue (block_in query number) (tree_with core left right)
-part-joined catalogue query number (Nested other) left right part = part
-part-joined catalogue query number (Hash other) left right part = part
 
 -- the sides of a set operator are plans of both blocks
 side-parts : (catalogue : CatalogDef) (query : Query) (number : ℕ) (left right : PlanTree) → IsPartOf catalogue query number (SetOperator left right)
@@ -137,8 +125,7 @@ module _ (catalogue more : CatalogDef) (answer : Answering) (query : Query) (cov
   sources-same number (SeqScan entry) = ids-same number (mask_of entry)
   sources-same number (RankScan entry term index) = ids-same number (mask_of entry)
   sources-same number (Rank term child) = sources-same number child
-  sources-same number (HashJoin left right) = ids-same number (bit_or (entries left) (entries right))
-  sources-same number (NestedJoin left right) = ids-same number (bit_or (entries left) (entries right))
+  sources-same number (JoinOperator kind left right) = ids-same number (bit_or (entries left) (entries right))
   sources-same number (Distinct child) = λ i.
       map (λ (row : Answer). row.ids) (base-same catalogue more (block_in query number) (block-is number) answer number i (sizes-same number i))
   sources-same number (SetOperator left right) = λ i. map (λ (row : Answer). row.ids) (rows-same catalogue more answer query covered i)
@@ -158,13 +145,13 @@ module _ (catalogue more : CatalogDef) (answer : Answering) (query : Query) (cov
       length (filter (is_of_side Left) (asks_alone (map (key_under small (terms child)) (list-same number child i))
       (bar_after (λ (key : Key). key) (map (key_under small (terms (Rank term child))) (list-same number (Rank term child) i)) n)))
 
-  join_asked-same : (number : ℕ) (left right : PlanTree) → (a : ℕ) (side : JoinSide)
-      → asked_of large number (NestedJoin left right) a side ≡ asked_of small number (NestedJoin left right) a side
-  join_asked-same number left right zero side = refl
-  join_asked-same number left right (suc n) side = λ i.
+  join_asked-same : (number : ℕ) (kind : JoinKind) (left right : PlanTree) → (a : ℕ) (side : JoinSide)
+      → asked_of large number (JoinOperator kind left right) a side ≡ asked_of small number (JoinOperator kind left right) a side
+  join_asked-same number kind left right zero side = refl
+  join_asked-same number kind left right (suc n) side = λ i.
       length (filter (is_of_side side) (join_schedule key_cmp (merge_key (weights_in small) (terms left) (terms right))
       (map (key_under small (terms left)) (list-same number left i)) (map (key_under small (terms right)) (list-same number right i))
-      (bar_after (λ (key : Key). key) (map (key_under small (terms (NestedJoin left right))) (list-same number (NestedJoin left right) i)) n)))
+      (bar_after (λ (key : Key). key) (map (key_under small (terms (JoinOperator kind left right))) (list-same number (JoinOperator kind left right) i)) n)))
 
   distinct_asked-same : (number : ℕ) (child : PlanTree) → (a : ℕ) → asked_of large number (Distinct child) a Left ≡ asked_of small number (Distinct child) a Left
   distinct_asked-same number child zero = refl
@@ -237,10 +224,10 @@ module _ (catalogue more : CatalogDef) (answer : Answering) (query : Query) (cov
     calls = min (asked-same number term child a i) (length (list-same number child i));
   }
 
-  joined-same : (number : ℕ) (left right : PlanTree) → (a : ℕ)
-      → joined_from large number left right (asked_of large number (NestedJoin left right) a Left) (asked_of large number (NestedJoin left right) a Right) (gave_of large number (NestedJoin left right) a)
-      ≡ joined_from small number left right (asked_of small number (NestedJoin left right) a Left) (asked_of small number (NestedJoin left right) a Right) (gave_of small number (NestedJoin left right) a)
-  joined-same number left right a = λ i.
+  joined-same : (number : ℕ) (kind : JoinKind) (left right : PlanTree) → (a : ℕ)
+      → joined_from large number left right (asked_of large number (JoinOperator kind left right) a Left) (asked_of large number (JoinOperator kind left right) a Right) (gave_of large number (JoinOperator kind left right) a)
+      ≡ joined_from small number left right (asked_of small number (JoinOperator kind left right) a Left) (asked_of small number (JoinOperator kind left right) a Right) (gave_of small number (JoinOperator kind left right) a)
+  joined-same number kind left right a = λ i.
       joined_after (record {
         weights = weights_in small;
         block = number;
@@ -248,13 +235,13 @@ module _ (catalogue more : CatalogDef) (answer : Answering) (query : Query) (cov
         right = side_for right;
         matches = joins-same catalogue more (block_in query number) (block-is number) i (entries left) (entries right);
       }) (list-same number left i) (list-same number right i)
-      (join_asked-same number left right a Left i) (join_asked-same number left right a Right i)
-      (gave-same number (NestedJoin left right) a i)
+      (join_asked-same number kind left right a Left i) (join_asked-same number kind left right a Right i)
+      (gave-same number (JoinOperator kind left right) a i)
 
-  core-same : (number : ℕ) (core : JoinCore) (left right : ℕ) (large_rows small_rows : Joined) → large_rows ≡ small_rows
-      → core_like core (joined catalogue more) (block_in query number) left right large_rows ≡ core_like core catalogue (block_in query number) left right small_rows
-  core-same number (Nested other) left right large_rows small_rows same = ap Nested same
-  core-same number (Hash other) left right large_rows small_rows same = λ i. Hash (record {
+  core-same : (number : ℕ) (kind : JoinKind) (left right : ℕ) (large_rows small_rows : Joined) → large_rows ≡ small_rows
+      → core_of kind (joined catalogue more) (block_in query number) left right large_rows ≡ core_of kind catalogue (block_in query number) left right small_rows
+  core-same number Nested left right large_rows small_rows same = ap core.Nested same
+  core-same number Hash left right large_rows small_rows same = λ i. core.Hash (record {
     ripple = (same i).ripple;
     lefts = with_values (left_values-same catalogue more (block_in query number) (block-is number) i left right) (same i).lefts;
     rights = with_values (right_values-same catalogue more (block_in query number) (block-is number) i left right) (same i).rights;
@@ -265,19 +252,19 @@ module _ (catalogue more : CatalogDef) (answer : Answering) (query : Query) (cov
     sizes = tables-same catalogue more (block_in query number) (block-is number) i;
   }
 
-  join-same : (number : ℕ) (core : JoinCore) (left right : PlanTree) → (a : ℕ)
-      → join_node_after large number core left right a ≡ join_node_after small number core left right a
-  join-same number core left right a =
-      let kept = core-same number core (entries left) (entries right)
-      (joined_from large number left right (asked_of large number (NestedJoin left right) a Left) (asked_of large number (NestedJoin left right) a Right) (gave_of large number (NestedJoin left right) a))
-      (joined_from small number left right (asked_of small number (NestedJoin left right) a Left) (asked_of small number (NestedJoin left right) a Right) (gave_of small number (NestedJoin left right) a))
-      (joined-same number left right a) in
+  join-same : (number : ℕ) (kind : JoinKind) (left right : PlanTree) → (a : ℕ)
+      → join_node_after large number kind left right a ≡ join_node_after small number kind left right a
+  join-same number kind left right a =
+      let kept = core-same number kind (entries left) (entries right)
+      (joined_from large number left right (asked_of large number (JoinOperator kind left right) a Left) (asked_of large number (JoinOperator kind left right) a Right) (gave_of large number (JoinOperator kind left right) a))
+      (joined_from small number left right (asked_of small number (JoinOperator kind left right) a Left) (asked_of small number (JoinOperator kind left right) a Right) (gave_of small number (JoinOperator kind left right) a))
+      (joined-same number kind left right a) in
       λ i. record {
         core = kept i;
         block = number;
         conditions = conditions-same number (entries left) (entries right) i;
         cells = tt;
-        tally = record { asked = a; gave = gave-same number (NestedJoin left right) a i };
+        tally = record { asked = a; gave = gave-same number (JoinOperator kind left right) a i };
       }
 
   distinct-same : (number : ℕ) (child : PlanTree) → (a : ℕ) → distinct_node_after large number child a ≡ distinct_node_after small number child a
@@ -316,16 +303,15 @@ module _ (catalogue more : CatalogDef) (answer : Answering) (query : Query) (cov
     },
     stands-larger number child part.0 is.1,
   )
-  stands-larger number (node.Join' head p left q right) part is =
-      let parts = part-with catalogue (block_in query number) head.core (tree_in left) (tree_in right) (part-joined catalogue query number head.core (tree_in left) (tree_in right) part) in (
-        record {
-          keeps = is.0.keeps ∙ sym (join-same number head.core (tree_in left) (tree_in right) head.tally.asked);
-          left_asked = is.0.left_asked ∙ sym (join_asked-same number (tree_in left) (tree_in right) head.tally.asked Left);
-          right_asked = is.0.right_asked ∙ sym (join_asked-same number (tree_in left) (tree_in right) head.tally.asked Right);
-        },
-        stands-larger number left (part-of catalogue query number (tree_in left) parts.0) is.1,
-        stands-larger number right (part-of catalogue query number (tree_in right) parts.1) is.2,
-      )
+  stands-larger number (node.Join' head p left q right) part is = (
+    record {
+      keeps = is.0.keeps ∙ sym (join-same number (kind_of head.core) (tree_in left) (tree_in right) head.tally.asked);
+      left_asked = is.0.left_asked ∙ sym (join_asked-same number (kind_of head.core) (tree_in left) (tree_in right) head.tally.asked Left);
+      right_asked = is.0.right_asked ∙ sym (join_asked-same number (kind_of head.core) (tree_in left) (tree_in right) head.tally.asked Right);
+    },
+    stands-larger number left (part-of catalogue query number (tree_in left) part.0) is.1,
+    stands-larger number right (part-of catalogue query number (tree_in right) part.1) is.2,
+  )
   stands-larger number (node.Distinct' head p child) part is = (
     record {
       keeps = is.0.keeps ∙ sym (distinct-same number (tree_in child) head.tally.asked);

@@ -40,6 +40,7 @@ mod SetOpenFacts
 mod SetPlanFacts
 mod SetStartFacts
 mod SetStepFacts
+mod SideFacts
 mod SourceFacts
 mod StartFacts
 mod StepFacts

@@ -34,7 +34,7 @@ use Rattle.rs_filter.proofs.SideFacts.{test-IsChoice}
 use Rattle.rs_mu.proofs.StandFacts.{length-sorted}
 use Rattle.rs_plan.specs.Lists.{World, numbered_block, ids_of, key_under, list_of, row_under, sizes_in, sources}
 use Rattle.rs_plan.specs.Plans.{IsPart}
-use Rattle.rs_plan.specs.Trees.{Distinct, HashJoin, NestedJoin, Rank, RankScan, SeqScan, SetOperator, PlanTree, entries, terms}
+use Rattle.rs_plan.specs.Trees.{Distinct, JoinOperator, Rank, RankScan, SeqScan, SetOperator, PlanTree, entries, terms}
 use Rattle.rs_exec.proofs.SourceFacts.{ids_in}
 
 -- ids that rise
@@ -75,8 +75,7 @@ pub sources-rise : (w : World) (number : ℕ) (tree : PlanTree) → IdsRise (sou
 sources-rise w number (SeqScan entry) = rise-ids_of w number (mask_of entry)
 sources-rise w number (RankScan entry term index) = rise-ids_of w number (mask_of entry)
 sources-rise w number (Rank term child) = sources-rise w number child
-sources-rise w number (HashJoin left right) = rise-ids_of w number (bit_or (entries left) (entries right))
-sources-rise w number (NestedJoin left right) = rise-ids_of w number (bit_or (entries left) (entries right))
+sources-rise w number (JoinOperator kind left right) = rise-ids_of w number (bit_or (entries left) (entries right))
 sources-rise w number (Distinct child) = rise-ids_in (base_of w.answer w.catalogue number (numbered_block w number) (sizes_in w number)) (Rise-base w.answer w.catalogue number (numbered_block w number) (sizes_in w number))
 sources-rise w number (SetOperator left right) = rise-ids_in (rows_of w.answer w.catalogue w.query w.view) (Rise-query w.answer w.catalogue w.query w.view)
 
@@ -204,8 +203,7 @@ module _ (w : World) (number : ℕ) (few : length (numbered_block w number).from
   each-source (SeqScan entry) part = each-ids_of (mask_of entry)
   each-source (RankScan entry term index) part = each-ids_of (mask_of entry)
   each-source (Rank term child) part = each-source child part.0
-  each-source (HashJoin left right) part = each-ids_of (bit_or (entries left) (entries right))
-  each-source (NestedJoin left right) part = each-ids_of (bit_or (entries left) (entries right))
+  each-source (JoinOperator kind left right) part = each-ids_of (bit_or (entries left) (entries right))
   each-source (Distinct child) part =
       subst (λ mask. AllByRecursion (IsOf w number mask) (sources w number (Distinct child))) (sym part.1.all)
       (each-map (IsOf w number (all_entries (numbered_block w number))) (λ (row : Answer). row.ids)

@@ -13,7 +13,7 @@ use Rattle.rs_plan.specs.Calls.{calls_of_plan, part_of, part_of_plan, questions,
 use Rattle.rs_plan.specs.Counts.{asked_of}
 use Rattle.rs_plan.specs.Lists.{World, numbered_block, list_of, sizes_in, weights_in}
 use Rattle.rs_plan.specs.Plans.{IsPart, IsPlan}
-use Rattle.rs_plan.specs.Trees.{Distinct, HashJoin, NestedJoin, Rank, RankScan, SeqScan, SetOperator, PlanTree}
+use Rattle.rs_plan.specs.Trees.{Distinct, JoinKind, JoinOperator, Rank, RankScan, SeqScan, SetOperator, PlanTree}
 use Rattle.rs_filter.specs.Matching.{IsView}
 use Rattle.rs_ripple.specs.Stands.{BeginsWith, schedule_of}
 use Rattle.rs_ripple.proofs.ScheduleFacts.{schedule_of-more}
@@ -45,20 +45,20 @@ begun (x ∷ xs) (f ∷ front) begins =
     ap₂ (λ z zs. z ∷ zs) (sym first) (begun xs front rest)
 
 -- of a join, whichever way it is done
-join-grows : (w : World) (number : ℕ) (left right : PlanTree) (a : ℕ) → IsQuery w.catalogue w.query → IsView (sizes_in w number) (sizes_of w.catalogue (numbered_block w number))
-    → IsPart w.catalogue (numbered_block w number) (NestedJoin left right) → IsWeights (weights_in w)
-    → questions w number (NestedJoin left right) (suc a) ≡ questions w number (NestedJoin left right) a ++ questions_of_ask w number (NestedJoin left right) (suc a)
-join-grows w number left right a formed view part weights =
+join-grows : (w : World) (number : ℕ) (kind : JoinKind) (left right : PlanTree) (a : ℕ) → IsQuery w.catalogue w.query → IsView (sizes_in w number) (sizes_of w.catalogue (numbered_block w number))
+    → IsPart w.catalogue (numbered_block w number) (JoinOperator kind left right) → IsWeights (weights_in w)
+    → questions w number (JoinOperator kind left right) (suc a) ≡ questions w number (JoinOperator kind left right) a ++ questions_of_ask w number (JoinOperator kind left right) (suc a)
+join-grows w number kind left right a formed view part weights =
     let parts : CanJoinParts w number left right = record { formed = formed; weights = weights; view = view; left_part = part.0; right_part = part.1; joined = part.2 } in
     let j = join_for w number left right in
     let before = schedule_of j (list_of w number left) (list_of w number right) a in
     let after = schedule_of j (list_of w number left) (list_of w number right) (suc a) in
     let step = side_part (questions w number left) (questions w number right) in
-    behind-front (questions w number (NestedJoin left right) a) (questions w number (NestedJoin left right) (suc a)) (flat_map step (drop (length before) after))
-    (ap (flat_map step) (join-schedule w number left right parts (suc a)
+    behind-front (questions w number (JoinOperator kind left right) a) (questions w number (JoinOperator kind left right) (suc a)) (flat_map step (drop (length before) after))
+    (ap (flat_map step) (join-schedule w number kind left right parts (suc a)
     ∙ begun after before (schedule_of-more j (list_of w number left) (list_of w number right) (join-sides w number left right parts) a))
     ∙ flat_map-append step before (drop (length before) after)
-    ∙ ap (λ (asks : List SideAsk). flat_map step asks ++ flat_map step (drop (length before) after)) (sym (join-schedule w number left right parts a)))
+    ∙ ap (λ (asks : List SideAsk). flat_map step asks ++ flat_map step (drop (length before) after)) (sym (join-schedule w number kind left right parts a)))
 
 pub grows : (w : World) (number : ℕ) (tree : PlanTree) (a : ℕ) → IsQuery w.catalogue w.query → IsView (sizes_in w number) (sizes_of w.catalogue (numbered_block w number))
     → IsPartOf w.catalogue w.query number tree → IsWeights (weights_in w)
@@ -75,8 +75,7 @@ grows w number (Rank term child) a formed view part weights =
     ∙ ap (flat_map step) (asks_from-split Left 1 first (last - first) last (omega arith))
     ∙ flat_map-append step (asks_from Left 1 first) (asks_from Left (1 + first) (last - first))
     ∙ ap (λ (qs : List Question). qs ++ flat_map step (asks_from Left (1 + first) (last - first))) (sym (rank-questions w number term child a)))
-grows w number (HashJoin left right) a formed view part weights = join-grows w number left right a formed view (part.0, part.1, part.2) weights
-grows w number (NestedJoin left right) a formed view part weights = join-grows w number left right a formed view part weights
+grows w number (JoinOperator kind left right) a formed view part weights = join-grows w number kind left right a formed view part weights
 grows w number (Distinct child) a formed view part weights =
     let first = asked_of w number (Distinct child) a Left in
     let last = asked_of w number (Distinct child) (suc a) Left in
@@ -109,8 +108,7 @@ parts-in-turn w tree zero formed view weights plan = sym (ap (map (call_for w.ca
   none (SeqScan entry) = refl
   none (RankScan entry term index) = refl
   none (Rank term child) = refl
-  none (HashJoin left right) = refl
-  none (NestedJoin left right) = refl
+  none (JoinOperator kind left right) = refl
   none (Distinct child) = refl
   none (SetOperator left right) = refl
 parts-in-turn w tree (suc n) formed view weights plan =

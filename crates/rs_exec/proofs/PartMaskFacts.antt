@@ -21,7 +21,7 @@ use Rattle.rs_rank.specs.declared.weights.Weights.{Weights}
 use Rattle.rs_ripple.specs.Ripple.{CanJoin}
 use Rattle.rs_plan.specs.Plans.{AreJoined, IsPart}
 use Rattle.rs_exec.specs.Joining.{side_for}
-use Rattle.rs_plan.specs.Trees.{Distinct, HashJoin, NestedJoin, Rank, RankScan, SeqScan, SetOperator, PlanTree, entries, terms}
+use Rattle.rs_plan.specs.Trees.{Distinct, JoinOperator, Rank, RankScan, SeqScan, SetOperator, PlanTree, entries, terms}
 
 -- the mask of an entry among six
 mask-few : (entry most : ℕ) → 1 ≤ entry → entry ≤ most → most ≤ 6 → mask_of entry < 2 ^ 6
@@ -35,9 +35,7 @@ pub entries-few : (catalogue : CatalogDef) (block : Block) (tree : PlanTree) →
 entries-few catalogue block (SeqScan entry) few part = mask-few entry (length block.from) part.some part.most few
 entries-few catalogue block (RankScan entry term index) few part = mask-few entry (length block.from) part.is_entry.some part.is_entry.most few
 entries-few catalogue block (Rank term child) few part = entries-few catalogue block child few part.0
-entries-few catalogue block (HashJoin left right) few part =
-    or_lt 6 (entries left) (entries right) (entries-few catalogue block left few part.0) (entries-few catalogue block right few part.1)
-entries-few catalogue block (NestedJoin left right) few part =
+entries-few catalogue block (JoinOperator kind left right) few part =
     or_lt 6 (entries left) (entries right) (entries-few catalogue block left few part.0) (entries-few catalogue block right few part.1)
 entries-few catalogue block (Distinct child) few part = entries-few catalogue block child few part.0
 entries-few catalogue block (SetOperator left right) few part = absurd part
@@ -95,11 +93,7 @@ terms-inside catalogue block (Rank term child) part place bit = elim (in-either 
     inside = part.1.there;
   }
 ]
-terms-inside catalogue block (HashJoin left right) part place bit = elim (in-either (terms left) (terms right) place bit) [
-  | inl first ↦ wider-left block place (entries left) (entries right) (terms-inside catalogue block left part.0 place first)
-  | inr second ↦ wider-right block place (entries left) (entries right) (terms-inside catalogue block right part.1 place second)
-]
-terms-inside catalogue block (NestedJoin left right) part place bit = elim (in-either (terms left) (terms right) place bit) [
+terms-inside catalogue block (JoinOperator kind left right) part place bit = elim (in-either (terms left) (terms right) place bit) [
   | inl first ↦ wider-left block place (entries left) (entries right) (terms-inside catalogue block left part.0 place first)
   | inr second ↦ wider-right block place (entries left) (entries right) (terms-inside catalogue block right part.1 place second)
 ]

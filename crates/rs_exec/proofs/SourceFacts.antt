@@ -16,7 +16,7 @@ use Rattle.rs_query.specs.declared.query.Query.TheVariants.{One, Set}
 use Rattle.rs_plan.specs.Lists.{World, numbered_block, ids_of, sizes_in, sources}
 use Rattle.rs_query.specs.Blocks.{block_in}
 use Rattle.rs_plan.specs.Plans.{HasNoDistinct, IsComplete, IsPart, IsPlan, IsSetPlan}
-use Rattle.rs_plan.specs.Trees.{Distinct, HashJoin, NestedJoin, Rank, RankScan, SeqScan, SetOperator, PlanTree, entries, terms}
+use Rattle.rs_plan.specs.Trees.{Distinct, JoinOperator, Rank, RankScan, SeqScan, SetOperator, PlanTree, entries, terms}
 
 -- the ids of rows
 abbrev pub ids_in : List Answer → List Ids
@@ -41,8 +41,7 @@ module _ (w : World) where
   sources-dropped block number (SeqScan entry) part drops = absurd (drops tt)
   sources-dropped block number (RankScan entry term index) part drops = absurd (drops tt)
   sources-dropped block number (Rank term child) part drops = sources-dropped block number child part.0 drops
-  sources-dropped block number (HashJoin left right) part drops = absurd (drops (part.2.left_whole, part.2.right_whole))
-  sources-dropped block number (NestedJoin left right) part drops = absurd (drops (part.2.left_whole, part.2.right_whole))
+  sources-dropped block number (JoinOperator kind left right) part drops = absurd (drops (part.2.left_whole, part.2.right_whole))
   sources-dropped block number (Distinct child) part drops = refl
   sources-dropped block number (SetOperator left right) part drops = absurd part
 
@@ -51,8 +50,7 @@ module _ (w : World) where
   whole block (SeqScan entry) part plain = tt
   whole block (RankScan entry term index) part plain = tt
   whole block (Rank term child) part plain = whole block child part.0 plain
-  whole block (HashJoin left right) part plain = (part.2.left_whole, part.2.right_whole)
-  whole block (NestedJoin left right) part plain = (part.2.left_whole, part.2.right_whole)
+  whole block (JoinOperator kind left right) part plain = (part.2.left_whole, part.2.right_whole)
   whole block (Distinct child) part plain = absurd (true≢false (sym part.1.wanted ∙ plain))
   whole block (SetOperator left right) part plain = absurd part
 

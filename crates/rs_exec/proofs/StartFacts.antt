@@ -13,11 +13,11 @@ use Rattle.rs_rank.specs.declared.weights.Weights.{Weights}
 use Rattle.rs_plan.specs.Counts.{size_at}
 use Rattle.rs_plan.specs.Lists.{World, list_of, numbered_block, sizes_in, weights_in}
 use Rattle.rs_plan.specs.Plans.{IsEntryNumber, IsPart}
-use Rattle.rs_plan.specs.Trees.{Distinct, HashJoin, NestedJoin, Rank, RankScan, SeqScan, PlanTree, entries, terms}
-use Rattle.rs_hrjn.specs.Hashed.{new_hashed}
+use Rattle.rs_plan.specs.Trees.{Distinct, Hash, JoinKind, JoinOperator, Nested, Rank, RankScan, SeqScan, PlanTree, entries, terms}
 use Rattle.rs_ripple.specs.Joined.{Joined, new_joined}
 use Rattle.rs_ripple.specs.Stands.{side_keys, state_after}
-use Rattle.rs_exec.specs.Cores.{core_like, hashed_with, tree_with}
+use Rattle.rs_ripple.specs.declared.side.Side.{Side}
+use Rattle.rs_exec.specs.Cores.{core_of, kind_of, new_join_core}
 use Rattle.rs_exec.specs.Distincts.{DropsStand, distinct_node_after}
 use Rattle.rs_exec.specs.Joining.{join_for, side_for}
 use Rattle.rs_exec.specs.Nodes.{asked_in, tree_in}
@@ -26,7 +26,6 @@ use Rattle.rs_exec.specs.Starting.{IsStart, no_tally, new_table_node, new_index_
 use Rattle.rs_exec.specs.declared.distinct.DistinctNode.{DistinctNode}
 use Rattle.rs_exec.specs.declared.join.JoinNode.{JoinNode}
 use Rattle.rs_exec.specs.declared.join_core.JoinCore.{JoinCore}
-use Rattle.rs_exec.specs.declared.join_core.JoinCore.TheVariants.{Hash, Nested}
 use Rattle.rs_exec.specs.declared.node.Node.{Node}
 use Rattle.rs_exec.specs.declared.node.Node.TheVariants as node
 use Rattle.rs_exec.specs.declared.rank.RankNode.{RankNode}
@@ -34,18 +33,21 @@ use Rattle.rs_exec.specs.declared.scan.IndexNode.{IndexNode}
 use Rattle.rs_exec.specs.declared.scan.TableNode.{TableNode}
 use Rattle.rs_exec.specs.declared.tally.Tally.{Tally}
 
+-- a new core is of its kind
+new-kind : (kind : JoinKind) (weights : Weights) (left right : Side) → kind_of (new_join_core kind weights left right) ≡ kind
+new-kind Nested weights left right = refl
+new-kind Hash weights left right = refl
+
 -- the nodes are of the tree that they were made for
 pub start-tree : (catalogue : CatalogDef) (block : Block) (number : ℕ) (tree : PlanTree) (n : Node) → IsStart catalogue block number tree n → tree_in n ≡ tree
 start-tree catalogue block number (SeqScan entry) (node.SeqScan head) is = ap (λ (h : TableNode). SeqScan h.entry) is
 start-tree catalogue block number (RankScan entry term index) (node.RankScan head) is = ap (λ (h : IndexNode). RankScan h.entry h.term h.scan.index) is
 start-tree catalogue block number (Rank term child) (node.Rank' head p below) is =
     ap (λ (h : RankNode). Rank h.term (tree_in below)) is.0 ∙ ap (Rank term) (start-tree catalogue block number child below is.1)
-start-tree catalogue block number (HashJoin left right) (node.Join' head p l q r) is =
-    ap (λ (h : JoinNode). tree_with h.core (tree_in l) (tree_in r)) is.0
-    ∙ ap₂ HashJoin (start-tree catalogue block number left l is.1) (start-tree catalogue block number right r is.2)
-start-tree catalogue block number (NestedJoin left right) (node.Join' head p l q r) is =
-    ap (λ (h : JoinNode). tree_with h.core (tree_in l) (tree_in r)) is.0
-    ∙ ap₂ NestedJoin (start-tree catalogue block number left l is.1) (start-tree catalogue block number right r is.2)
+start-tree catalogue block number (JoinOperator kind left right) (node.Join' head p l q r) is =
+    ap (λ (h : JoinNode). JoinOperator (kind_of h.core) (tree_in l) (tree_in r)) is.0
+    ∙ ap (λ (k : JoinKind). JoinOperator k (tree_in l) (tree_in r)) (new-kind kind (weights_of block) (side_for left) (side_for right))
+    ∙ ap₂ (JoinOperator kind) (start-tree catalogue block number left l is.1) (start-tree catalogue block number right r is.2)
 start-tree catalogue block number (Distinct child) (node.Distinct' head p below) is = ap Distinct (start-tree catalogue block number child below is.1)
 start-tree catalogue block number tree n is = absurd is
 
@@ -54,8 +56,7 @@ pub start-asked : (catalogue : CatalogDef) (block : Block) (number : ℕ) (tree 
 start-asked catalogue block number (SeqScan entry) (node.SeqScan head) is = ap (λ (h : TableNode). h.tally.asked) is
 start-asked catalogue block number (RankScan entry term index) (node.RankScan head) is = ap (λ (h : IndexNode). h.tally.asked) is
 start-asked catalogue block number (Rank term child) (node.Rank' head p below) is = ap (λ (h : RankNode). h.tally.asked) is.0
-start-asked catalogue block number (HashJoin left right) (node.Join' head p l q r) is = ap (λ (h : JoinNode). h.tally.asked) is.0
-start-asked catalogue block number (NestedJoin left right) (node.Join' head p l q r) is = ap (λ (h : JoinNode). h.tally.asked) is.0
+start-asked catalogue block number (JoinOperator kind left right) (node.Join' head p l q r) is = ap (λ (h : JoinNode). h.tally.asked) is.0
 start-asked catalogue block number (Distinct child) (node.Distinct' head p below) is = ap (λ (h : DistinctNode). h.tally.asked) is.0
 start-asked catalogue block number tree n is = absurd is
 
@@ -103,15 +104,6 @@ new_join w core number left right = record {
   tally = no_tally;
 }
 
--- a core of either kind
-data JoinKind : Type 0 where
-  pairs : JoinKind
-  values : JoinKind
-
-abbrev new_core : JoinKind → Weights → PlanTree → PlanTree → JoinCore
-new_core pairs weights left right = Nested (new_joined weights (side_for left) (side_for right))
-new_core values weights left right = Hash (new_hashed weights (side_for left) (side_for right))
-
 joined-none : (w : World) (number : ℕ) (left right : PlanTree) → new_joined (weights_in w) (side_for left) (side_for right) ≡ joined_from w number left right 0 0 0
 joined-none w number left right =
     let j = join_for w number left right in
@@ -123,20 +115,19 @@ joined-none w number left right =
     } in
     ap₂ core (none-less (length (side_keys j j.left (list_of w number left)))) (none-less (length (side_keys j j.right (list_of w number right))))
 
-core-none : (kind : JoinKind) (w : World) (number : ℕ) (left right : PlanTree) → new_core kind (weights_in w) left right
-    ≡ core_like (new_core kind (weights_in w) left right) w.catalogue (numbered_block w number) (entries left) (entries right) (joined_from w number left right 0 0 0)
-core-none pairs w number left right = ap Nested (joined-none w number left right)
-core-none values w number left right =
-    ap (λ (d : Joined). Hash (hashed_with w.catalogue (numbered_block w number) (entries left) (entries right) d)) (joined-none w number left right)
+-- it keeps what no asks leave
+new-is : (kind : JoinKind) (w : World) (number : ℕ) (left right : PlanTree) → new_join_core kind (weights_in w) (side_for left) (side_for right)
+    ≡ core_of kind w.catalogue (numbered_block w number) (entries left) (entries right) (joined_from w number left right 0 0 0)
+new-is Nested w number left right = ap (core_of Nested w.catalogue (numbered_block w number) (entries left) (entries right)) (joined-none w number left right)
+new-is Hash w number left right = ap (core_of Hash w.catalogue (numbered_block w number) (entries left) (entries right)) (joined-none w number left right)
 
 join-none : (kind : JoinKind) (w : World) (number : ℕ) (left right : PlanTree)
-    → new_join w (new_core kind (weights_in w) left right) number left right ≡ join_node_after w number (new_core kind (weights_in w) left right) left right 0
+    → new_join w (new_join_core kind (weights_in w) (side_for left) (side_for right)) number left right ≡ join_node_after w number kind left right 0
 join-none kind w number left right =
-    let own = new_core kind (weights_in w) left right in
-    let like = core_like own w.catalogue (numbered_block w number) (entries left) (entries right) in
-    let node : JoinCore → ℕ → JoinNode = λ core gave. record (new_join w core number left right) { tally = record { asked = 0; gave = gave } } in
-    ap (λ (core : JoinCore). node core 0) (core-none kind w number left right)
-    ∙ ap (λ (gave : ℕ). node (like (joined_from w number left right 0 0 gave)) gave) (none-given (length (list_of w number (NestedJoin left right))))
+    let like = core_of kind w.catalogue (numbered_block w number) (entries left) (entries right) in
+    let node : JoinCore → ℕ → JoinNode = λ kept gave. record (new_join w kept number left right) { tally = record { asked = 0; gave = gave } } in
+    ap (λ (kept : JoinCore). node kept 0) (new-is kind w number left right)
+    ∙ ap (λ (gave : ℕ). node (like (joined_from w number left right 0 0 gave)) gave) (none-given (length (list_of w number (JoinOperator kind left right))))
 
 module _ (w : World) (number : ℕ) (most : length (numbered_block w number).from ≤ 6) (sizes : sizes_in w number ≡ sizes_of w.catalogue (numbered_block w number)) where
   -- an entry has the rows of its table
@@ -148,14 +139,15 @@ module _ (w : World) (number : ℕ) (most : length (numbered_block w number).fro
 
   module _ (weights : weights_of (numbered_block w number) ≡ weights_in w) where
     -- a join of two sides that weren't asked
-    join-starts : (kind : JoinKind) (left right : PlanTree) (l r : Node) (head : JoinNode) → head ≡ new_join w (new_core kind (weights_of (numbered_block w number)) left right) number left right
+    join-starts : (kind : JoinKind) (left right : PlanTree) (l r : Node) (head : JoinNode) → head ≡ new_join w (new_join_core kind (weights_of (numbered_block w number)) (side_for left) (side_for right)) number left right
         → tree_in l ≡ left → tree_in r ≡ right → asked_in l ≡ 0 → asked_in r ≡ 0 → JoinStands w number head (tree_in l) (tree_in r) (asked_in l) (asked_in r)
     join-starts kind left right l r head is on_left on_right left_asked right_asked =
-        let same : head ≡ new_join w (new_core kind (weights_in w) (tree_in l) (tree_in r)) number (tree_in l) (tree_in r) =
-        is ∙ ap (λ (ws : Weights). new_join w (new_core kind ws left right) number left right) weights
-        ∙ ap₂ (λ (x y : PlanTree). new_join w (new_core kind (weights_in w) x y) number x y) (sym on_left) (sym on_right) in
+        let same : head ≡ new_join w (new_join_core kind (weights_in w) (side_for (tree_in l)) (side_for (tree_in r))) number (tree_in l) (tree_in r) =
+        is ∙ ap (λ (ws : Weights). new_join w (new_join_core kind ws (side_for left) (side_for right)) number left right) weights
+        ∙ ap₂ (λ (x y : PlanTree). new_join w (new_join_core kind (weights_in w) (side_for x) (side_for y)) number x y) (sym on_left) (sym on_right) in
         subst (λ (h : JoinNode). JoinStands w number h (tree_in l) (tree_in r) (asked_in l) (asked_in r)) (sym same) (record {
-          keeps = join-none kind w number (tree_in l) (tree_in r);
+          keeps = join-none kind w number (tree_in l) (tree_in r)
+              ∙ ap (λ (k : JoinKind). join_node_after w number k (tree_in l) (tree_in r) 0) (sym (new-kind kind (weights_in w) (side_for (tree_in l)) (side_for (tree_in r))));
           left_asked = left_asked;
           right_asked = right_asked;
         })
@@ -182,14 +174,8 @@ module _ (w : World) (number : ℕ) (most : length (numbered_block w number).fro
           }),
           start-stands child below part.0 is.1,
         )
-    start-stands (HashJoin left right) (node.Join' head p l q r) part is = (
-      join-starts values left right l r head is.0 (start-tree w.catalogue (numbered_block w number) number left l is.1) (start-tree w.catalogue (numbered_block w number) number right r is.2)
-          (start-asked w.catalogue (numbered_block w number) number left l is.1) (start-asked w.catalogue (numbered_block w number) number right r is.2),
-      start-stands left l part.0 is.1,
-      start-stands right r part.1 is.2,
-    )
-    start-stands (NestedJoin left right) (node.Join' head p l q r) part is = (
-      join-starts pairs left right l r head is.0 (start-tree w.catalogue (numbered_block w number) number left l is.1) (start-tree w.catalogue (numbered_block w number) number right r is.2)
+    start-stands (JoinOperator kind left right) (node.Join' head p l q r) part is = (
+      join-starts kind left right l r head is.0 (start-tree w.catalogue (numbered_block w number) number left l is.1) (start-tree w.catalogue (numbered_block w number) number right r is.2)
           (start-asked w.catalogue (numbered_block w number) number left l is.1) (start-asked w.catalogue (numbered_block w number) number right r is.2),
       start-stands left l part.0 is.1,
       start-stands right r part.1 is.2,

@@ -13,16 +13,14 @@ use Rattle.rs_expr.specs.Meaning.{value_of}
 use Rattle.rs_catalog.specs.Catalog.{CatalogDef, NamedTable}
 use Rattle.rs_catalog.specs.declared.index.BoundArg.TheVariants as arg
 use Rattle.rs_query.specs.declared.query.Query.TheVariants.{One}
-use Rattle.rs_hrjn.specs.Hashed.{new_hashed}
-use Rattle.rs_plan.specs.Lists.{World, list_of, weights_in}
-use Rattle.rs_plan.specs.Trees.{NestedJoin, SeqScan}
-use Rattle.rs_ripple.specs.Joined.{Joined, new_joined}
+use Rattle.rs_plan.specs.Lists.{World, list_of}
+use Rattle.rs_plan.specs.Trees.{Hash, JoinOperator, Nested, SeqScan}
+use Rattle.rs_ripple.specs.Joined.{Joined}
 use Rattle.rs_ripple.specs.Stands.{answers}
 use Rattle.rs_exec.specs.Cores.{joined_in}
-use Rattle.rs_exec.specs.Joining.{join_for, side_for}
+use Rattle.rs_exec.specs.Joining.{join_for}
 use Rattle.rs_exec.specs.Standing.{join_node_after}
-use Rattle.rs_exec.specs.declared.join_core.JoinCore.{JoinCore}
-use Rattle.rs_exec.specs.declared.join_core.JoinCore.TheVariants.{Hash, Nested}
+use Rattle.rs_exec.specs.declared.join_core.JoinCore.TheVariants as core
 
 abbrev int : ℕ → Value
 int n = value.Int (pos n)
@@ -63,24 +61,17 @@ abbrev key : ℕ → ℕ → ℕ → Key
 key mask first second = record { bound = 10; ids = ids mask first second }
 
 -- the first row of a matches the second and the third of b, and the second row of a the first of b
-list_joined : list_of world 1 (NestedJoin (SeqScan 1) (SeqScan 2)) ≡ row 3 1 2 ∷ row 3 1 3 ∷ row 3 2 1 ∷ []
+list_joined : list_of world 1 (JoinOperator Nested (SeqScan 1) (SeqScan 2)) ≡ row 3 1 2 ∷ row 3 1 3 ∷ row 3 2 1 ∷ []
 list_joined = refl
 
 pairs_joined : answers (join_for world 1 (SeqScan 1) (SeqScan 2)) (list_of world 1 (SeqScan 1)) (list_of world 1 (SeqScan 2)) ≡ row 3 1 2 ∷ row 3 1 3 ∷ row 3 2 1 ∷ []
 pairs_joined = refl
 
--- joins by trying all pairs, and by join values
-abbrev nested : JoinCore
-nested = Nested (new_joined (weights_in world) (side_for (SeqScan 1)) (side_for (SeqScan 2)))
-
-abbrev hash : JoinCore
-hash = Hash (new_hashed (weights_in world) (side_for (SeqScan 1)) (side_for (SeqScan 2)))
-
 -- the first answer: the first rows don't match. The left side's key, that of both first rows, comes first, on a tie with the right
 -- side's; then both sides' keys are that of the first left row with the first right one, and so on, until the second right row is
 -- there. The pair of the second left row with the first right one is held
 abbrev core_after_one : Joined
-core_after_one = joined_in (join_node_after world 1 nested (SeqScan 1) (SeqScan 2) 1).core
+core_after_one = joined_in (join_node_after world 1 Nested (SeqScan 1) (SeqScan 2) 1).core
 
 lefts_after_one : core_after_one.lefts ≡ row 1 1 0 ∷ row 1 2 0 ∷ []
 lefts_after_one = refl
@@ -95,7 +86,7 @@ taken_after_one : core_after_one.ripple.taken ≡ Some (key 3 1 2)
 taken_after_one = refl
 
 -- a hash join keeps the same, each row with its value of g
-hashed_after_one : (join_node_after world 1 hash (SeqScan 1) (SeqScan 2) 1).core ≡ Hash (record {
+hashed_after_one : (join_node_after world 1 Hash (SeqScan 1) (SeqScan 2) 1).core ≡ core.Hash (record {
   ripple = core_after_one.ripple;
   lefts = record { row = row 1 1 0; values = int 1 ∷ [] } ∷ record { row = row 1 2 0; values = int 2 ∷ [] } ∷ [];
   rights = record { row = row 2 0 1; values = int 2 ∷ [] } ∷ record { row = row 2 0 2; values = int 1 ∷ [] } ∷ [];
@@ -104,7 +95,7 @@ hashed_after_one = refl
 
 -- behind the last answer both sides have ended, and nothing is held
 abbrev core_after_four : Joined
-core_after_four = joined_in (join_node_after world 1 nested (SeqScan 1) (SeqScan 2) 4).core
+core_after_four = joined_in (join_node_after world 1 Nested (SeqScan 1) (SeqScan 2) 4).core
 
 held_after_four : core_after_four.ripple.held ≡ []
 held_after_four = refl
@@ -117,7 +108,7 @@ right_over_after_four = refl
 
 -- a join of which nothing was asked keeps nothing
 abbrev core_at_first : Joined
-core_at_first = joined_in (join_node_after world 1 nested (SeqScan 1) (SeqScan 2) 0).core
+core_at_first = joined_in (join_node_after world 1 Nested (SeqScan 1) (SeqScan 2) 0).core
 
 lefts_at_first : core_at_first.lefts ≡ []
 lefts_at_first = refl

@@ -10,17 +10,16 @@ use Rattle.rs_query.specs.WellFormed.{IsQuery}
 use Rattle.rs_query.specs.declared.query.Query.{Query}
 use Rattle.rs_query.specs.declared.query.Query.TheVariants.{One, Set}
 use Rattle.rs_plan.specs.Lists.{World, list_of, numbered_block, weights_in}
-use Rattle.rs_plan.specs.Trees.{Distinct, NestedJoin, Rank, SetOperator, PlanTree}
+use Rattle.rs_plan.specs.Trees.{Distinct, JoinOperator, Rank, SetOperator, PlanTree}
 use Rattle.rs_exec.specs.declared.distinct.DistinctNode.{DistinctNode}
 use Rattle.rs_exec.specs.declared.fault.ExecFault.{ExecFault}
 use Rattle.rs_exec.specs.declared.fault.ExecFault.TheVariants.{Memory}
 use Rattle.rs_exec.specs.declared.join.JoinNode.{JoinNode}
-use Rattle.rs_exec.specs.declared.join_core.JoinCore.{JoinCore}
 use Rattle.rs_exec.specs.declared.node.Node.{Node}
 use Rattle.rs_exec.specs.declared.rank.RankNode.{RankNode}
 use Rattle.rs_exec.specs.declared.set.SetNode.{SetNode}
 use Rattle.rs_exec.specs.Asking.{next_row}
-use Rattle.rs_exec.specs.Cores.{tree_with}
+use Rattle.rs_exec.specs.Cores.{kind_of}
 use Rattle.rs_exec.specs.Distincts.{DropsStand}
 use Rattle.rs_exec.specs.Indexes.{PlanIndexesHold}
 use Rattle.rs_exec.specs.Nodes.{asked_in, number_in, tree_in}
@@ -60,11 +59,10 @@ pub record RankAfter (w : World) (number : ℕ) (tree : PlanTree) (asked : ℕ) 
   pub operator : HeadStands w number head (tree_in child) (asked_in child)
   pub input : Stands w number child
 
--- the same of a join and its two sides, whose core was this one before
-pub record JoinAfter (w : World) (number : ℕ) (core : JoinCore) (tree : PlanTree) (asked : ℕ) (head : JoinNode) (left right : Node) : Type 0 where
+-- the same of a join and its two sides
+pub record JoinAfter (w : World) (number : ℕ) (tree : PlanTree) (asked : ℕ) (head : JoinNode) (left right : Node) : Type 0 where
   pub number_is : head.block ≡ number
-  pub kind_is : (l r : PlanTree) → tree_with head.core l r ≡ tree_with core l r
-  pub tree_is : NestedJoin (tree_in left) (tree_in right) ≡ tree
+  pub tree_is : JoinOperator (kind_of head.core) (tree_in left) (tree_in right) ≡ tree
   pub asked_is : head.tally.asked ≡ suc asked
   pub operator : JoinStands w number head (tree_in left) (tree_in right) (asked_in left) (asked_in right)
   pub left_side : Stands w number left
@@ -113,15 +111,15 @@ RankAsked w head child new new_child =
 
 -- of a join and its sides
 abbrev pub CanAskJoin : World → JoinNode → Node → Node → Type 0
-CanAskJoin w head left right = CanAsk w head.block (NestedJoin (tree_in left) (tree_in right)) head.tally.asked
+CanAskJoin w head left right = CanAsk w head.block (JoinOperator (kind_of head.core) (tree_in left) (tree_in right)) head.tally.asked
 
 abbrev pub JoinNodeStands : World → JoinNode → Node → Node → Type 0
 JoinNodeStands w head left right = JoinStands w head.block head (tree_in left) (tree_in right) (asked_in left) (asked_in right)
 
 abbrev pub JoinAsked : World → JoinNode → Node → Node → JoinNode → Node → Node → Result (Option RankRow) ExecFault → ScorerState → ScorerState → Type 0
 JoinAsked w head left right new new_left new_right =
-    Asked w head.block (NestedJoin (tree_in left) (tree_in right)) head.tally.asked
-    (JoinAfter w head.block head.core (NestedJoin (tree_in left) (tree_in right)) head.tally.asked new new_left new_right)
+    Asked w head.block (JoinOperator (kind_of head.core) (tree_in left) (tree_in right)) head.tally.asked
+    (JoinAfter w head.block (JoinOperator (kind_of head.core) (tree_in left) (tree_in right)) head.tally.asked new new_left new_right)
 
 -- of an operator that drops duplicates and its input
 abbrev pub CanAskDistinct : World → DistinctNode → Node → Type 0

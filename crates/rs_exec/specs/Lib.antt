@@ -13,6 +13,7 @@ pub mod Outputs
 pub mod Parts
 pub mod SetCores
 pub mod SetNodes
+pub mod Sides
 pub mod Standing
 pub mod Starting
 pub mod Stored

@@ -1,8 +1,8 @@
 -- The nodes of a plan that is executed: which tree they are, and what they count.
 use Rattle.std.specs.Prelude.{ℕ, zero, suc, List, [], ◌∷◌, ◌++◌, Result, Ok, Err}
 use Rattle.rs_plan.specs.declared.counts.Counts.{Counts}
-use Rattle.rs_plan.specs.Trees.{Distinct, Rank, RankScan, SeqScan, SetOperator, PlanTree}
-use Rattle.rs_exec.specs.Cores.{tree_with}
+use Rattle.rs_plan.specs.Trees.{Distinct, JoinOperator, Rank, RankScan, SeqScan, SetOperator, PlanTree}
+use Rattle.rs_exec.specs.Cores.{kind_of}
 use Rattle.rs_exec.specs.declared.node.Node.{Node}
 use Rattle.rs_exec.specs.declared.node.Node.TheVariants as node
 use Rattle.rs_exec.specs.declared.tally.Tally.{Tally}
@@ -12,7 +12,7 @@ abbrev pub tree_in : Node → PlanTree
 tree_in (node.SeqScan head) = SeqScan head.entry
 tree_in (node.RankScan head) = RankScan head.entry head.term head.scan.index
 tree_in (node.Rank' head p child) = Rank head.term (tree_in child)
-tree_in (node.Join' head p left q right) = tree_with head.core (tree_in left) (tree_in right)
+tree_in (node.Join' head p left q right) = JoinOperator (kind_of head.core) (tree_in left) (tree_in right)
 tree_in (node.Distinct' head p child) = Distinct (tree_in child)
 tree_in (node.Set' head p left q right) = SetOperator (tree_in left) (tree_in right)
 

@@ -7,7 +7,7 @@ use Rattle.rs_mu.specs.Mu.{Mu}
 use Rattle.rs_mu.specs.Stands.{Evaluation, state_after}
 use Rattle.rs_plan.specs.Counts.{asked_of, drawn_of, gave_of, size_at}
 use Rattle.rs_plan.specs.Lists.{World, list_of, numbered_block, weights_in, worths}
-use Rattle.rs_plan.specs.Trees.{NestedJoin, Rank, RankScan, SeqScan, PlanTree, entries, terms}
+use Rattle.rs_plan.specs.Trees.{JoinKind, JoinOperator, Rank, RankScan, SeqScan, PlanTree, entries, terms}
 use Rattle.rs_filter.specs.Conditions.{conditions_of}
 use Rattle.rs_ripple.specs.After.{joined_after}
 use Rattle.rs_ripple.specs.Joined.{Joined}
@@ -18,8 +18,7 @@ use Rattle.rs_exec.specs.declared.rank.RankNode.{RankNode}
 use Rattle.rs_exec.specs.declared.scan.IndexNode.{IndexNode}
 use Rattle.rs_exec.specs.declared.scan.TableNode.{TableNode}
 use Rattle.rs_exec.specs.declared.tally.Tally.{Tally}
-use Rattle.rs_exec.specs.declared.join_core.JoinCore.{JoinCore}
-use Rattle.rs_exec.specs.Cores.{core_like}
+use Rattle.rs_exec.specs.Cores.{core_of, kind_of}
 use Rattle.rs_exec.specs.Distincts.{DropsStand}
 use Rattle.rs_exec.specs.Drawing.{entry_conjuncts}
 use Rattle.rs_exec.specs.Joining.{join_for}
@@ -93,23 +92,23 @@ abbrev pub joined_from : World → ℕ → PlanTree → PlanTree → ℕ → ℕ
 joined_from w number left right left_asks right_asks answers =
     joined_after (join_for w number left right) (list_of w number left) (list_of w number right) left_asks right_asks answers
 
--- a join with a core of the kind of this one: its sides were asked as often as its answers take. The list of a join and the asks
--- of its sides are the same whichever way it is done
-abbrev pub join_node_after : World → ℕ → JoinCore → PlanTree → PlanTree → ℕ → JoinNode
-join_node_after w number core left right a = record {
-  core = core_like core w.catalogue (numbered_block w number) (entries left) (entries right) (joined_from w number left right
-      (asked_of w number (NestedJoin left right) a Left) (asked_of w number (NestedJoin left right) a Right) (gave_of w number (NestedJoin left right) a));
+-- a join: its sides were asked as often as its answers take
+abbrev pub join_node_after : World → ℕ → JoinKind → PlanTree → PlanTree → ℕ → JoinNode
+join_node_after w number kind left right a = record {
+  core = core_of kind w.catalogue (numbered_block w number) (entries left) (entries right) (joined_from w number left right
+      (asked_of w number (JoinOperator kind left right) a Left) (asked_of w number (JoinOperator kind left right) a Right)
+      (gave_of w number (JoinOperator kind left right) a));
   block = number;
   conditions = conditions_of w.catalogue (numbered_block w number) (entries left) (entries right);
   cells = tt;
-  tally = tally_after w number (NestedJoin left right) a;
+  tally = tally_after w number (JoinOperator kind left right) a;
 }
 
 -- a join over sides of these trees that were asked this many times keeps what its own asks give
 pub record JoinStands (w : World) (number : ℕ) (head : JoinNode) (left right : PlanTree) (left_asks right_asks : ℕ) : Type 0 where
-  pub keeps : head ≡ join_node_after w number head.core left right head.tally.asked
-  pub left_asked : left_asks ≡ asked_of w number (NestedJoin left right) head.tally.asked Left
-  pub right_asked : right_asks ≡ asked_of w number (NestedJoin left right) head.tally.asked Right
+  pub keeps : head ≡ join_node_after w number (kind_of head.core) left right head.tally.asked
+  pub left_asked : left_asks ≡ asked_of w number (JoinOperator (kind_of head.core) left right) head.tally.asked Left
+  pub right_asked : right_asks ≡ asked_of w number (JoinOperator (kind_of head.core) left right) head.tally.asked Right
 
 -- a node and all below it keep what the asks of the node give
 abbrev pub Stands : World → ℕ → Node → Type 0

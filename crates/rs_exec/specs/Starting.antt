@@ -11,10 +11,7 @@ use Rattle.rs_query.specs.declared.query.Query.{Query}
 use Rattle.rs_query.specs.declared.query.Query.TheVariants.{One, Set}
 use Rattle.rs_value.specs.declared.set_op.SetOp.{SetOp}
 use Rattle.rs_scan.specs.Scans.{new_index_scan, new_table_scan}
-use Rattle.rs_plan.specs.Trees.{Distinct, HashJoin, NestedJoin, Rank, RankScan, SeqScan, SetOperator, PlanTree, entries, terms}
-use Rattle.rs_hrjn.specs.Hashed.{new_hashed}
-use Rattle.rs_ripple.specs.Joined.{new_joined}
-use Rattle.rs_exec.specs.declared.join_core.JoinCore.TheVariants.{Hash, Nested}
+use Rattle.rs_plan.specs.Trees.{Distinct, JoinOperator, Rank, RankScan, SeqScan, SetOperator, PlanTree, entries, terms}
 use Rattle.rs_exec.specs.declared.distinct.DistinctNode.{DistinctNode}
 use Rattle.rs_exec.specs.declared.join.JoinNode.{JoinNode}
 use Rattle.rs_exec.specs.declared.node.Node.{Node}
@@ -24,6 +21,7 @@ use Rattle.rs_exec.specs.declared.tally.Tally.{Tally}
 use Rattle.rs_exec.specs.declared.set.SetNode.{SetNode}
 use Rattle.rs_exec.specs.declared.scan.IndexNode.{IndexNode}
 use Rattle.rs_exec.specs.declared.scan.TableNode.{TableNode}
+use Rattle.rs_exec.specs.Cores.{new_join_core}
 use Rattle.rs_exec.specs.Drawing.{entry_conjuncts}
 use Rattle.rs_exec.specs.Joining.{side_for}
 use Rattle.rs_exec.specs.SetCores.{new_core}
@@ -62,18 +60,9 @@ IsStart catalogue block number (RankScan entry term index) (node.RankScan head) 
 IsStart catalogue block number (Rank term child) (node.Rank' head p below) =
     (head ≡ record { core = new_mu (weights_of block) (terms child) term; term = term; args = tt; tally = no_tally; calls = 0 })
     × IsStart catalogue block number child below
-IsStart catalogue block number (HashJoin left right) (node.Join' head p on_left q on_right) =
+IsStart catalogue block number (JoinOperator kind left right) (node.Join' head p on_left q on_right) =
     (head ≡ record {
-      core = Hash (new_hashed (weights_of block) (side_for left) (side_for right));
-      block = number;
-      conditions = conditions_of catalogue block (entries left) (entries right);
-      cells = tt;
-      tally = no_tally;
-    })
-    × IsStart catalogue block number left on_left × IsStart catalogue block number right on_right
-IsStart catalogue block number (NestedJoin left right) (node.Join' head p on_left q on_right) =
-    (head ≡ record {
-      core = Nested (new_joined (weights_of block) (side_for left) (side_for right));
+      core = new_join_core kind (weights_of block) (side_for left) (side_for right);
       block = number;
       conditions = conditions_of catalogue block (entries left) (entries right);
       cells = tt;

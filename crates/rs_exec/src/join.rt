@@ -2,12 +2,10 @@
 
 ghost use Rattle.std.specs.Prelude.{◌≡◌, ◌<◌, ◌+◌, ◌-◌, ◌^◌, OnOk, is_some, if◌then◌else◌, false};
 ghost use Rattle.rs_query.specs.Blocks.{block_in};
+ghost use Rattle.rs_order.specs.Schedule.{Left, Right};
 ghost use Rattle.rs_rank.specs.declared.ask.JoinAsk.TheVariants.{NeedLeft, NeedRight, Ready};
-ghost use Rattle.rs_hrjn.specs.Hashed.{new_hashed};
-ghost use Rattle.rs_ripple.specs.Joined.{new_joined};
-ghost use Rattle.rs_ripple.specs.Ripple.{CanEnd, CanJoin, ask_of, left_ended, left_for, right_ended, taken_for};
-ghost use Rattle.rs_exec.specs.Cores.{CanTakeLeft, CanTakeRight, core_with, joined_in, left_taken, right_taken};
-ghost use Rattle.rs_exec.specs.declared.join_core.JoinCore.TheVariants.{Hash, Nested};
+ghost use Rattle.rs_ripple.specs.Ripple.{CanEnd, ask_of, left_ended, left_for, right_ended, taken_for};
+ghost use Rattle.rs_exec.specs.Cores.{CanTake, core_with, core_with_row, joined_in};
 ghost use Rattle.rs_exec.specs.Asked.{CanAskJoin, JoinAsked, JoinNodeStands};
 ghost use Rattle.rs_exec.specs.Asking.{world_in};
 ghost use Rattle.rs_exec.specs.Standing.{Stands};
@@ -19,12 +17,9 @@ use crate::node::Node;
 use crate::tally::Tally;
 use rs_expr::Scorer;
 use rs_filter::JoinConditions;
-use rs_hrjn::Hrjn;
-use rs_nrjn::Nrjn;
 use rs_plan::Counts;
 use rs_query::KeptList;
-use rs_rank::{JoinAsk, RankRow, Weights};
-use rs_ripple::Side;
+use rs_rank::{JoinAsk, RankRow};
 use rs_value::Memory;
 use std::alloc::Global;
 
@@ -41,53 +36,17 @@ pub(crate) struct JoinNode {
 }
 
 impl JoinNode {
-    /// The join of two sides of a block, of which no row is drawn, by trying all pairs.
-    pub(crate) fn nested(
+    /// A join of a block with this core, which was asked nothing.
+    pub(crate) fn new(
         alloc: Global,
-        weights: Weights,
+        core: JoinCore,
         block: u8,
-        left: Side,
-        right: Side,
         conditions: JoinConditions,
     ) -> JoinNode
-        requires { CanJoin weights left right }
-        ensures { result ≡ record {
-          core = Nested (new_joined weights left right);
-          block = block;
-          conditions = conditions;
-          cells = tt;
-          tally = record { asked = 0; gave = 0 };
-        } }
+        ensures { result ≡ record { core = core; block = block; conditions = conditions; cells = tt; tally = record { asked = 0; gave = 0 } } }
     {
         JoinNode {
-            core: JoinCore::Nested(Nrjn::new(alloc, weights, left, right)),
-            block,
-            conditions,
-            cells: KeptList::new(alloc),
-            tally: Tally::new(),
-        }
-    }
-
-    /// The same join by join values.
-    pub(crate) fn hash(
-        alloc: Global,
-        weights: Weights,
-        block: u8,
-        left: Side,
-        right: Side,
-        conditions: JoinConditions,
-    ) -> JoinNode
-        requires { CanJoin weights left right }
-        ensures { result ≡ record {
-          core = Hash (new_hashed weights left right);
-          block = block;
-          conditions = conditions;
-          cells = tt;
-          tally = record { asked = 0; gave = 0 };
-        } }
-    {
-        JoinNode {
-            core: JoinCore::Hash(Hrjn::new(alloc, weights, left, right)),
+            core,
             block,
             conditions,
             cells: KeptList::new(alloc),
@@ -105,9 +64,9 @@ impl JoinNode {
 
     /// Takes the left side's next row, and finds the right rows drawn so far that it matches.
     fn feed_left(&mut self, row: RankRow, context: &QueryContext<'_>) -> Result<(), Memory>
-        requires { CanTakeLeft context.now.catalog.now (block_in context.now.query.now self.old.block) self.old.conditions row self.old.core }
+        requires { CanTake Left context.now.catalog.now (block_in context.now.query.now self.old.block) self.old.conditions row self.old.core }
         ensures { OnOk result (self.new ≡ record self.old {
-          core = left_taken context.now.catalog.now (block_in context.now.query.now self.old.block) self.old.conditions row self.old.core;
+          core = core_with_row Left context.now.catalog.now (block_in context.now.query.now self.old.block) self.old.conditions row self.old.core;
         }) }
     {
         let block = context.block(self.block);
@@ -123,9 +82,9 @@ impl JoinNode {
 
     /// Takes the right side's next row, and finds the left rows drawn so far that it matches.
     fn feed_right(&mut self, row: RankRow, context: &QueryContext<'_>) -> Result<(), Memory>
-        requires { CanTakeRight context.now.catalog.now (block_in context.now.query.now self.old.block) self.old.conditions row self.old.core }
+        requires { CanTake Right context.now.catalog.now (block_in context.now.query.now self.old.block) self.old.conditions row self.old.core }
         ensures { OnOk result (self.new ≡ record self.old {
-          core = right_taken context.now.catalog.now (block_in context.now.query.now self.old.block) self.old.conditions row self.old.core;
+          core = core_with_row Right context.now.catalog.now (block_in context.now.query.now self.old.block) self.old.conditions row self.old.core;
         }) }
     {
         let block = context.block(self.block);

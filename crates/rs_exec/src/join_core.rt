@@ -1,16 +1,21 @@
 //! How a join finds the pairs that match.
 
 ghost use Rattle.std.specs.Prelude.{◌≡◌, OnOk, false};
+ghost use Rattle.rs_plan.specs.Shapes.{tree_of};
+ghost use Rattle.rs_plan.specs.Trees.{JoinKind, JoinOperator, PlanTree};
+ghost use Rattle.rs_order.specs.Schedule.{Left, Right};
 ghost use Rattle.rs_rank.specs.declared.ask.JoinAsk.TheVariants.{NeedLeft, NeedRight, Ready};
-ghost use Rattle.rs_ripple.specs.Ripple.{CanEnd, ask_of, left_ended, left_for, right_ended, taken_for};
-ghost use Rattle.rs_exec.specs.Cores.{CanTakeLeft, CanTakeRight, core_with, joined_in, left_taken, right_taken};
+ghost use Rattle.rs_ripple.specs.Ripple.{CanEnd, CanJoin, ask_of, left_ended, left_for, right_ended, taken_for};
+ghost use Rattle.rs_exec.specs.Cores.{CanTake, core_with, core_with_row, joined_in, new_join_core};
 
 use rs_catalog::Catalog;
 use rs_filter::{BlockMatch, JoinConditions, left_values, right_values};
 use rs_hrjn::Hrjn;
 use rs_nrjn::Nrjn;
+use rs_plan::Plan;
 use rs_query::{Block, KeptList};
-use rs_rank::{JoinAsk, RankRow};
+use rs_rank::{JoinAsk, RankRow, Weights};
+use rs_ripple::Side;
 use rs_value::Memory;
 use std::alloc::Global;
 
@@ -24,6 +29,25 @@ pub(crate) enum JoinCore {
 }
 
 impl JoinCore {
+    /// The join of two sides of which no row is drawn, in the way of a plan.
+    pub(crate) fn new(
+        alloc: Global,
+        plan: &Plan,
+        weights: Weights,
+        left: Side,
+        right: Side,
+    ) -> JoinCore
+        requires { CanJoin weights left right }
+        ensures { (kind : JoinKind) (l r : PlanTree) → tree_of plan.now ≡ JoinOperator kind l r → result ≡ new_join_core kind weights left right }
+    {
+        match plan {
+            Plan::HashJoin { left: _, right: _ } => {
+                JoinCore::Hash(Hrjn::new(alloc, weights, left, right))
+            }
+            _ => JoinCore::Nested(Nrjn::new(alloc, weights, left, right)),
+        }
+    }
+
     /// What the join does next.
     pub(crate) fn ask(&self) -> JoinAsk
         requires { (joined_in self.now).ripple.spent ≡ false }
@@ -45,8 +69,8 @@ impl JoinCore {
         conditions: &JoinConditions,
         cells: &mut KeptList,
     ) -> Result<(), Memory>
-        requires { CanTakeLeft catalog.now block.now conditions.now row self.old }
-        ensures { OnOk result (self.new ≡ left_taken catalog.now block.now conditions.now row self.old) }
+        requires { CanTake Left catalog.now block.now conditions.now row self.old }
+        ensures { OnOk result (self.new ≡ core_with_row Left catalog.now block.now conditions.now row self.old) }
     {
         let mut matcher = BlockMatch::new(catalog, block, conditions, cells);
         match self {
@@ -68,8 +92,8 @@ impl JoinCore {
         conditions: &JoinConditions,
         cells: &mut KeptList,
     ) -> Result<(), Memory>
-        requires { CanTakeRight catalog.now block.now conditions.now row self.old }
-        ensures { OnOk result (self.new ≡ right_taken catalog.now block.now conditions.now row self.old) }
+        requires { CanTake Right catalog.now block.now conditions.now row self.old }
+        ensures { OnOk result (self.new ≡ core_with_row Right catalog.now block.now conditions.now row self.old) }
     {
         let mut matcher = BlockMatch::new(catalog, block, conditions, cells);
         match self {

@@ -12,6 +12,7 @@ ghost use Rattle.rs_exec.specs.Starting.{IsDistinctOver, IsJoinOver, IsQueryStar
 
 use crate::distinct::DistinctNode;
 use crate::join::JoinNode;
+use crate::join_core::JoinCore;
 use crate::node::Node;
 use crate::rank::RankNode;
 use crate::scan::{IndexNode, TableNode};
@@ -41,13 +42,13 @@ impl Node {
         match query {
             Query::One(block, _) => Node::start(alloc, catalog, block, 1, plan),
             Query::Set(op, left, right, _) => {
-                Node::combined(alloc, catalog, *op, left, right, plan)
+                Node::start_set(alloc, catalog, *op, left, right, plan)
             }
         }
     }
 
     /// The nodes of a plan of a set query of these blocks, or of what stands below a rank operator in one.
-    fn combined(
+    fn start_set(
         alloc: Global,
         catalog: &Catalog,
         op: SetOp,
@@ -67,20 +68,21 @@ impl Node {
                 index: _,
             } => unreachable!(),
             Plan::Rank { term, child } => {
-                let below = Node::combined(alloc, catalog, op, left_block, right_block, child)?;
-                let below = boxed(alloc, below)?;
+                let below = Node::start_set(alloc, catalog, op, left_block, right_block, child)?;
+                let below = hold(alloc, below)?;
                 let weights = left_block.weights();
                 let head = RankNode::new(alloc, weights, child.signature().terms, *term);
                 Ok(over(head, below))
             }
-            Plan::HashJoin { left: _, right: _ } => unreachable!(),
-            Plan::NestedJoin { left: _, right: _ } => unreachable!(),
+            Plan::HashJoin { left: _, right: _ } | Plan::NestedJoin { left: _, right: _ } => {
+                unreachable!()
+            }
             Plan::Distinct { child: _ } => unreachable!(),
             Plan::SetOperator { left, right } => {
                 let weights = left_block.weights();
                 let terms = left.signature().terms;
-                let on_left = boxed(alloc, Node::start(alloc, catalog, left_block, 1, left)?)?;
-                let on_right = boxed(alloc, Node::start(alloc, catalog, right_block, 2, right)?)?;
+                let on_left = hold(alloc, Node::start(alloc, catalog, left_block, 1, left)?)?;
+                let on_right = hold(alloc, Node::start(alloc, catalog, right_block, 2, right)?)?;
                 let head = SetNode::new(alloc, op, weights, terms);
                 Ok(set_over(head, on_left, on_right))
             }
@@ -116,11 +118,11 @@ impl Node {
                 Ok(Node::RankScan(head))
             }
             Plan::Rank { term, child } => {
-                let below = boxed(alloc, Node::start(alloc, catalog, block, number, child)?)?;
+                let below = hold(alloc, Node::start(alloc, catalog, block, number, child)?)?;
                 let head = RankNode::new(alloc, block.weights(), child.signature().terms, *term);
                 Ok(over(head, below))
             }
-            Plan::HashJoin { left, right } => {
+            Plan::HashJoin { left, right } | Plan::NestedJoin { left, right } => {
                 let weights = block.weights();
                 let left_side = side_of(left);
                 let right_side = side_of(right);
@@ -131,33 +133,14 @@ impl Node {
                     left_side.mask,
                     right_side.mask,
                 )?;
-                let on_left = boxed(alloc, Node::start(alloc, catalog, block, number, left)?)?;
-                let on_right = boxed(alloc, Node::start(alloc, catalog, block, number, right)?)?;
-                let head = JoinNode::hash(
-                    alloc, weights, number, left_side, right_side, conditions,
-                );
-                Ok(join_over(head, on_left, on_right))
-            }
-            Plan::NestedJoin { left, right } => {
-                let weights = block.weights();
-                let left_side = side_of(left);
-                let right_side = side_of(right);
-                let conditions = JoinConditions::new(
-                    alloc,
-                    catalog,
-                    block,
-                    left_side.mask,
-                    right_side.mask,
-                )?;
-                let on_left = boxed(alloc, Node::start(alloc, catalog, block, number, left)?)?;
-                let on_right = boxed(alloc, Node::start(alloc, catalog, block, number, right)?)?;
-                let head = JoinNode::nested(
-                    alloc, weights, number, left_side, right_side, conditions,
-                );
+                let on_left = hold(alloc, Node::start(alloc, catalog, block, number, left)?)?;
+                let on_right = hold(alloc, Node::start(alloc, catalog, block, number, right)?)?;
+                let core = JoinCore::new(alloc, plan, weights, left_side, right_side);
+                let head = JoinNode::new(alloc, core, number, conditions);
                 Ok(join_over(head, on_left, on_right))
             }
             Plan::Distinct { child } => {
-                let below = boxed(alloc, Node::start(alloc, catalog, block, number, child)?)?;
+                let below = hold(alloc, Node::start(alloc, catalog, block, number, child)?)?;
                 Ok(distinct_over(DistinctNode::new(alloc), below))
             }
             Plan::SetOperator { left: _, right: _ } => unreachable!(),
@@ -180,7 +163,7 @@ fn distinct_over(head: DistinctNode, below: Box<Node>) -> Node
 }
 
 /// A node in memory of its own.
-fn boxed(alloc: Global, node: Node) -> Result<Box<Node>, Memory>
+fn hold(alloc: Global, node: Node) -> Result<Box<Node>, Memory>
     ensures { IfOk result (λ held. held.value ≡ node) }
 {
     Ok(Box::new(alloc, node)?)

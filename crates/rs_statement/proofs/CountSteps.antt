@@ -10,7 +10,7 @@ use Rattle.rs_plan.specs.Counts.{asked_of, counts, counts_of_plan}
 use Rattle.rs_plan.specs.declared.counts.Counts.{Counts}
 use Rattle.rs_order.specs.Schedule.{Left, Right}
 use Rattle.rs_plan.specs.Lists.{World}
-use Rattle.rs_plan.specs.Trees.{Distinct, HashJoin, NestedJoin, Rank, RankScan, SeqScan, SetOperator, PlanTree}
+use Rattle.rs_plan.specs.Trees.{Distinct, JoinOperator, Rank, RankScan, SeqScan, SetOperator, PlanTree}
 use Rattle.rs_enum.specs.Texts.{nodes_of}
 use Rattle.rs_enum.proofs.TextFacts.{plan-nodes}
 use Rattle.rs_exec.specs.Asking.{world_of}
@@ -23,12 +23,9 @@ length-counts w number (SeqScan entry) n = refl
 length-counts w number (RankScan entry term index) n = refl
 length-counts w number (Rank term child) n = ap suc (length-counts w number child (asked_of w number (Rank term child) n Left))
 length-counts w number (Distinct child) n = ap suc (length-counts w number child (asked_of w number (Distinct child) n Left))
-length-counts w number (HashJoin left right) n =
-    ap suc (length-append (counts w number left (asked_of w number (HashJoin left right) n Left)) (counts w number right (asked_of w number (HashJoin left right) n Right))
-    ∙ ap₂ (λ a b. a + b) (length-counts w number left (asked_of w number (HashJoin left right) n Left)) (length-counts w number right (asked_of w number (HashJoin left right) n Right)))
-length-counts w number (NestedJoin left right) n =
-    ap suc (length-append (counts w number left (asked_of w number (NestedJoin left right) n Left)) (counts w number right (asked_of w number (NestedJoin left right) n Right))
-    ∙ ap₂ (λ a b. a + b) (length-counts w number left (asked_of w number (NestedJoin left right) n Left)) (length-counts w number right (asked_of w number (NestedJoin left right) n Right)))
+length-counts w number (JoinOperator kind left right) n =
+    ap suc (length-append (counts w number left (asked_of w number (JoinOperator kind left right) n Left)) (counts w number right (asked_of w number (JoinOperator kind left right) n Right))
+    ∙ ap₂ (λ a b. a + b) (length-counts w number left (asked_of w number (JoinOperator kind left right) n Left)) (length-counts w number right (asked_of w number (JoinOperator kind left right) n Right)))
 length-counts w number (SetOperator left right) n =
     ap suc (length-append (counts w 1 left (asked_of w number (SetOperator left right) n Left)) (counts w 2 right (asked_of w number (SetOperator left right) n Right))
     ∙ ap₂ (λ a b. a + b) (length-counts w 1 left (asked_of w number (SetOperator left right) n Left)) (length-counts w 2 right (asked_of w number (SetOperator left right) n Right)))

@@ -20,7 +20,7 @@ use Rattle.rs_plan.specs.Asks.{child_asks}
 use Rattle.rs_plan.specs.Calls.{own_question, part_of, questions, questions_of_ask, rank_part, side_part}
 use Rattle.rs_plan.specs.Lists.{World, list_of, numbered_block}
 use Rattle.rs_query.specs.Blocks.{block_in}
-use Rattle.rs_plan.specs.Trees.{Distinct, HashJoin, NestedJoin, Rank, RankScan, SeqScan, SetOperator, PlanTree}
+use Rattle.rs_plan.specs.Trees.{Distinct, JoinOperator, Rank, RankScan, SeqScan, SetOperator, PlanTree}
 use Rattle.rs_exec.specs.Asking.{exec_faults, world_of}
 use Rattle.rs_exec.specs.Cursors.{CursorState, StandsFor, asks_of, call_of, is_over, next_answer, no_question, plan_of}
 use Rattle.rs_exec.specs.declared.fault.ExecFault.{ExecFault}
@@ -75,11 +75,8 @@ module _ (w : World) (formed : IsQuery w.catalogue w.query) where
   named-questions number (Distinct child) a =
       each-flat_map IsNamed (λ (ask : SideAsk). part_of (questions w number child) ask.number) (child_asks w number (Distinct child) a)
       (λ ask. named-part (questions w number child) (named-questions number child) ask.number)
-  named-questions number (HashJoin left right) a =
-      each-flat_map IsNamed (side_part (questions w number left) (questions w number right)) (child_asks w number (HashJoin left right) a)
-      (named-side (questions w number left) (questions w number right) (named-questions number left) (named-questions number right))
-  named-questions number (NestedJoin left right) a =
-      each-flat_map IsNamed (side_part (questions w number left) (questions w number right)) (child_asks w number (NestedJoin left right) a)
+  named-questions number (JoinOperator kind left right) a =
+      each-flat_map IsNamed (side_part (questions w number left) (questions w number right)) (child_asks w number (JoinOperator kind left right) a)
       (named-side (questions w number left) (questions w number right) (named-questions number left) (named-questions number right))
   named-questions number (SetOperator left right) a =
       each-flat_map IsNamed (side_part (questions w 1 left) (questions w 2 right)) (child_asks w number (SetOperator left right) a)

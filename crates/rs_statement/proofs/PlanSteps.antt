@@ -12,7 +12,7 @@ use Rattle.rs_query.specs.Questions.{Faults, Question, first_of, is_bad, outcome
 use Rattle.rs_plan.specs.Calls.{questions_of_ask}
 use Rattle.rs_plan.specs.Counts.{counts_at, counts_of_plan, gave_of}
 use Rattle.rs_plan.specs.Lists.{World, list_of_plan}
-use Rattle.rs_plan.specs.Trees.{Distinct, HashJoin, NestedJoin, Rank, RankScan, SeqScan, SetOperator, PlanTree}
+use Rattle.rs_plan.specs.Trees.{Distinct, JoinOperator, Rank, RankScan, SeqScan, SetOperator, PlanTree}
 use Rattle.rs_exec.specs.Asking.{exec_faults}
 use Rattle.rs_exec.specs.Cursors.{answer_for, asks_after, is_limit, is_over, next_answer, next_of, no_question}
 use Rattle.rs_statement.specs.Parts.Asks.{asks_left}
@@ -139,6 +139,5 @@ first-counts w (SeqScan entry) n = refl
 first-counts w (RankScan entry term index) n = refl
 first-counts w (Rank term child) n = refl
 first-counts w (Distinct child) n = refl
-first-counts w (HashJoin left right) n = refl
-first-counts w (NestedJoin left right) n = refl
+first-counts w (JoinOperator kind left right) n = refl
 first-counts w (SetOperator left right) n = refl

@@ -22,7 +22,7 @@ use Rattle.rs_bind.specs.Sources.{Found, entries_of, items_of, sources_of}
 use Rattle.rs_bind.proofs.FormedFacts.{formed}
 use Rattle.rs_typing.proofs.ResultFacts.{same_Ok, well}
 use Rattle.rs_plan.specs.Plans.{IsComplete, IsPart, IsPlan, IsRank, IsSetPlan}
-use Rattle.rs_plan.specs.Trees.{Distinct, HashJoin, NestedJoin, Rank, RankScan, SeqScan, SetOperator, PlanTree}
+use Rattle.rs_plan.specs.Trees.{Distinct, Hash, JoinOperator, Nested, Rank, RankScan, SeqScan, SetOperator, PlanTree}
 use Rattle.rs_sample.specs.Cards.{BlockCards}
 use Rattle.rs_enum.specs.Least.{least_plan}
 use Rattle.rs_enum.proofs.LeastFacts.{plan-found}
@@ -147,8 +147,8 @@ module _ (catalogue : CatalogDef) where
     first = part.first;
   }
   bare-part block (Rank term child) part = (bare-part block child part.0, bare-rank block term child part.1)
-  bare-part block (HashJoin left right) part = absurd (let none = part.3.there in cc)
-  bare-part block (NestedJoin left right) part = (bare-part block left part.0, bare-part block right part.1, part.2)
+  bare-part block (JoinOperator Hash left right) part = absurd (let none = part.3.there in cc)
+  bare-part block (JoinOperator Nested left right) part = (bare-part block left part.0, bare-part block right part.1, part.2, tt)
   bare-part block (Distinct child) part = (bare-part block child part.0, record { wanted = part.1.wanted; all = part.1.all; first = part.1.first })
   bare-part block (SetOperator left right) part = absurd part
 
@@ -160,8 +160,7 @@ module _ (catalogue : CatalogDef) where
   bare-set left right (Rank term child) plan = (bare-set left right child plan.0, bare-rank left term child plan.1)
   bare-set left right (SeqScan entry) plan = absurd plan
   bare-set left right (RankScan entry term index) plan = absurd plan
-  bare-set left right (HashJoin l r) plan = absurd plan
-  bare-set left right (NestedJoin l r) plan = absurd plan
+  bare-set left right (JoinOperator kind l r) plan = absurd plan
   bare-set left right (Distinct child) plan = absurd plan
 
   unfiltered-plan : (bound : Query) (tree : PlanTree) → IsPlan catalogue (unfiltered bound) tree → IsPlan catalogue bound tree

@@ -27,7 +27,7 @@ use Rattle.rs_bind.specs.Queries.{bound_query}
 use Rattle.rs_typing.proofs.ResultFacts.{same_Ok}
 use Rattle.rs_query.specs.declared.query.Query.{Query}
 use Rattle.rs_plan.specs.Counts.{counts_of_plan}
-use Rattle.rs_plan.specs.Trees.{NestedJoin, Rank, RankScan, SeqScan}
+use Rattle.rs_plan.specs.Trees.{JoinOperator, Nested, Rank, RankScan, SeqScan}
 use Rattle.rs_exec.specs.Asking.{world_of}
 use Rattle.rs_enum.specs.Texts.{text_of}
 use Rattle.rs_sample.specs.Samples.{samples_from}
@@ -196,9 +196,9 @@ select_two = record select {
 }
 
 -- the pairs of two tables are asked for in their order, and no further than a pair could still come before the next one to be put
-asks_of_a_join : (bound : Query) → bound_query (made_of (codes "v\n3\n10\n")) select_two ≡ Ok bound → planned_step (world_of (made_of (codes "v\n3\n10\n")) answer bound) (Rank 1 (NestedJoin (SeqScan 1) (SeqScan 2))) ≡ record { events = Score (call (pos 3)) ∷ Score (call (pos 10)) ∷ Put (codes "1,10,3,10\n") ∷ Score (call (pos 3)) ∷ Score (call (pos 10)) ∷ Put (codes "2,10,10,10\n") ∷ Put (codes "3,3,3,3\n") ∷ Put (codes "4,3,10,3\n") ∷ []; outcome = Ok (made_of (codes "v\n3\n10\n")) }
+asks_of_a_join : (bound : Query) → bound_query (made_of (codes "v\n3\n10\n")) select_two ≡ Ok bound → planned_step (world_of (made_of (codes "v\n3\n10\n")) answer bound) (Rank 1 (JoinOperator Nested (SeqScan 1) (SeqScan 2))) ≡ record { events = Score (call (pos 3)) ∷ Score (call (pos 10)) ∷ Put (codes "1,10,3,10\n") ∷ Score (call (pos 3)) ∷ Score (call (pos 10)) ∷ Put (codes "2,10,10,10\n") ∷ Put (codes "3,3,3,3\n") ∷ Put (codes "4,3,10,3\n") ∷ []; outcome = Ok (made_of (codes "v\n3\n10\n")) }
 unfolding create_table create_predicate select answer call csv_on_literals digits chars is_utf8 encode_utf8 escaped fields_text is_blank select_two made_of
-asks_of_a_join bound is = subst (λ query. planned_step (world_of (made_of (codes "v\n3\n10\n")) answer query) (Rank 1 (NestedJoin (SeqScan 1) (SeqScan 2))) ≡ record { events = Score (call (pos 3)) ∷ Score (call (pos 10)) ∷ Put (codes "1,10,3,10\n") ∷ Score (call (pos 3)) ∷ Score (call (pos 10)) ∷ Put (codes "2,10,10,10\n") ∷ Put (codes "3,3,3,3\n") ∷ Put (codes "4,3,10,3\n") ∷ []; outcome = Ok (made_of (codes "v\n3\n10\n")) }) (same_Ok _ bound is) refl
+asks_of_a_join bound is = subst (λ query. planned_step (world_of (made_of (codes "v\n3\n10\n")) answer query) (Rank 1 (JoinOperator Nested (SeqScan 1) (SeqScan 2))) ≡ record { events = Score (call (pos 3)) ∷ Score (call (pos 10)) ∷ Put (codes "1,10,3,10\n") ∷ Score (call (pos 3)) ∷ Score (call (pos 10)) ∷ Put (codes "2,10,10,10\n") ∷ Put (codes "3,3,3,3\n") ∷ Put (codes "4,3,10,3\n") ∷ []; outcome = Ok (made_of (codes "v\n3\n10\n")) }) (same_Ok _ bound is) refl
 
 -- the sample of a term over one of two tables asks for the rows of that table alone
 samples_of_a_join : (bound : Query) → bound_query (made_of (codes "v\n3\n10\n")) select_two ≡ Ok bound → sample_step (made_of (codes "v\n3\n10\n")) 7 bound ≡ record { events = Score (call (pos 3)) ∷ Score (call (pos 10)) ∷ []; outcome = Ok (made_of (codes "v\n3\n10\n")) }

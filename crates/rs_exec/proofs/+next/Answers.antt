@@ -3,6 +3,7 @@ use Rattle.std.proofs.Common.{◌∙◌, suc, Ok, refl, sym, ap, subst, arith}
 use Rattle.rs_plan.specs.Calls.{questions_of_ask}
 use Rattle.rs_value.proofs.ResultFacts.{given-err}
 use Rattle.rs_exec.specs.Asked.{Asked, CanAsk, NodeAfter}
+use Rattle.rs_order.specs.Schedule.{Left, Right}
 use Rattle.rs_exec.specs.Asking.{world_of}
 use Rattle.rs_exec.specs.Nodes.{asked_in, number_in, tree_in}
 use Rattle.rs_exec.specs.Standing.{Stands}
@@ -11,8 +12,7 @@ use Rattle.rs_exec.specs.declared.node.Node.{Node}
 use Rattle.rs_exec.specs.declared.node.Node.TheVariants as node
 use Rattle.rs_exec.proofs.CycleFacts.{end-kept, given, height, index-entry, index-gave, index-view, input-can, input-failed, input-stands, next-nearer, rank-asked, row-can, row-failed, row-kept, still-stopped, table-entry, table-gave}
 use Rattle.rs_exec.proofs.DistinctCycleFacts.{distinct-asked, drops_turn-can, drops_turn-dropped, drops_turn-failed, drops_turn-given, drops_turn-over, drops_turn-puts, drops_turn-stands, drops_turn-start, drops_turn-stopped}
-use Rattle.rs_exec.proofs.JoinCycleFacts.{join-asked-node, turn-given, turn-left_can, turn-left_ended, turn-left_failed, turn-left_fed, turn-left_nearer, turn-left_stands, turn-left_stopped, turn-left_takes, turn-over, turn-right_can, turn-right_ended, turn-right_failed, turn-right_fed, turn-right_nearer, turn-right_stands, turn-right_stopped, turn-right_takes, turn-start}
-use Rattle.rs_order.specs.Schedule.{Left, Right}
+use Rattle.rs_exec.proofs.JoinCycleFacts.{join-asked-node, turn-can, turn-ended, turn-failed, turn-fed, turn-given, turn-nearer, turn-over, turn-stands, turn-start, turn-stopped, turn-takes}
 use Rattle.rs_exec.proofs.SetCycleFacts.{set-asked-node, set_turn-alive, set_turn-can, set_turn-ended, set_turn-failed, set_turn-fed, set_turn-given, set_turn-nearer, set_turn-over, set_turn-puts, set_turn-small, set_turn-stands, set_turn-start, set_turn-stopped, set_turn-sum}
 use Rattle.rs_exec.proofs.StepFacts.{Between, between-start}
 use Rattle.rs_exec.proofs.+next.Goals as goal
@@ -163,81 +163,81 @@ join::next_joined-loop-left-init g t c =
 pub join::next_joined-next-requires : goal.join::next_joined-next-requires
 join::next_joined-next-requires g t c κs within =
     let less = c.decreases in
-    let same = ap height c.loop-left.invariant.left_tree in
+    let same = ap height (c.loop-left.invariant.tree_is Left) in
     let need = sym c.in-NeedLeft.ensures in
-    (omega arith, (within, (turn-left_can c.loop-left.invariant c.requires.can need, turn-left_stands c.loop-left.invariant c.requires.can need)))
+    (omega arith, (within, (turn-can c.loop-left.invariant c.requires.can Left need, turn-stands c.loop-left.invariant c.requires.can Left need)))
 
 pub join::next_joined-returns-in_err-row-in-NeedLeft : goal.join::next_joined-returns-in_err-row-in-NeedLeft
 join::next_joined-returns-in_err-row-in-NeedLeft g t c =
-    turn-left_failed c.loop-left.invariant c.requires.can (sym c.in-NeedLeft.ensures) _ c.in_err-row-in-NeedLeft.field-0.0 c.from_residual.result (g.S.Scorer.state c.next.new.scorer)
+    turn-failed c.loop-left.invariant c.requires.can Left (sym c.in-NeedLeft.ensures) _ c.in_err-row-in-NeedLeft.field-0.0 c.from_residual.result (g.S.Scorer.state c.next.new.scorer)
     (given-err c.from_residual.result c.in_err-row-in-NeedLeft.field-0.0 c.from_residual.ensures) c.in_err-row-in-NeedLeft.ensures.inquires
 
 pub join::next_joined-feed_left-requires : goal.join::next_joined-feed_left-requires
 join::next_joined-feed_left-requires g t c =
-    turn-left_takes c.loop-left.invariant c.requires.can (sym c.in-NeedLeft.ensures) c.in-Some.row c.in_ok-row-in-NeedLeft.field-0 c.in-Some.is
+    turn-takes c.loop-left.invariant c.requires.can Left (sym c.in-NeedLeft.ensures) c.in-Some.row c.in_ok-row-in-NeedLeft.field-0 c.in-Some.is
     (g.S.Scorer.state c.next.new.scorer) c.in_ok-row-in-NeedLeft.ensures.inquires
 
 pub join::next_joined-loop-left-smaller-in-Continue-branch-3 : goal.join::next_joined-loop-left-smaller-in-Continue-branch-3
 join::next_joined-loop-left-smaller-in-Continue-branch-3 g t c =
-    turn-left_nearer c.loop-left.invariant c.requires.can (sym c.in-NeedLeft.ensures) c.next.new.self (c.in_ok-row-in-NeedLeft.ensures.leaves refl)
+    turn-nearer c.loop-left.invariant c.requires.can Left (sym c.in-NeedLeft.ensures) c.next.new.self (c.in_ok-row-in-NeedLeft.ensures.leaves refl)
 
 pub join::next_joined-loop-left-preserved-in-Continue-branch-3 : goal.join::next_joined-loop-left-preserved-in-Continue-branch-3
 join::next_joined-loop-left-preserved-in-Continue-branch-3 g t c =
-    turn-left_fed c.loop-left.invariant c.requires.can (sym c.in-NeedLeft.ensures) c.in-Some.row c.in_ok-row-in-NeedLeft.field-0 c.in-Some.is
+    turn-fed c.loop-left.invariant c.requires.can Left (sym c.in-NeedLeft.ensures) c.in-Some.row c.in_ok-row-in-NeedLeft.field-0 c.in-Some.is
     (g.S.Scorer.state c.next.new.scorer) c.in_ok-row-in-NeedLeft.ensures.inquires c.feed_left.new.self c.next.new.self c.in_ok-feed_left-in-Some.ensures (c.in_ok-row-in-NeedLeft.ensures.leaves refl)
 
 pub join::next_joined-returns-in_err-feed_left-in-Some : goal.join::next_joined-returns-in_err-feed_left-in-Some
 join::next_joined-returns-in_err-feed_left-in-Some g t c =
-    turn-left_stopped c.loop-left.invariant c.requires.can (sym c.in-NeedLeft.ensures) c.in-Some.row c.in_ok-row-in-NeedLeft.field-0 c.in-Some.is
+    turn-stopped c.loop-left.invariant c.requires.can Left (sym c.in-NeedLeft.ensures) c.in-Some.row c.in_ok-row-in-NeedLeft.field-0 c.in-Some.is
     (g.S.Scorer.state c.next.new.scorer) c.in_ok-row-in-NeedLeft.ensures.inquires _ c.from_residual-in_err-feed_left-in-Some.result (given-err c.from_residual-in_err-feed_left-in-Some.result Memory c.from_residual-in_err-feed_left-in-Some.ensures)
 
 pub join::next_joined-loop-left-smaller-in-None : goal.join::next_joined-loop-left-smaller-in-None
 join::next_joined-loop-left-smaller-in-None g t c =
-    turn-left_nearer c.loop-left.invariant c.requires.can (sym c.in-NeedLeft.ensures) c.next.new.self (c.in_ok-row-in-NeedLeft.ensures.leaves refl)
+    turn-nearer c.loop-left.invariant c.requires.can Left (sym c.in-NeedLeft.ensures) c.next.new.self (c.in_ok-row-in-NeedLeft.ensures.leaves refl)
 
 pub join::next_joined-loop-left-preserved-in-None : goal.join::next_joined-loop-left-preserved-in-None
 join::next_joined-loop-left-preserved-in-None g t c =
-    turn-left_ended c.loop-left.invariant c.requires.can (sym c.in-NeedLeft.ensures) c.in_ok-row-in-NeedLeft.field-0 c.in-None.is
+    turn-ended c.loop-left.invariant c.requires.can Left (sym c.in-NeedLeft.ensures) c.in_ok-row-in-NeedLeft.field-0 c.in-None.is
     (g.S.Scorer.state c.next.new.scorer) c.end_left.new.self c.next.new.self c.end_left.ensures c.in_ok-row-in-NeedLeft.ensures.inquires (c.in_ok-row-in-NeedLeft.ensures.leaves refl)
 
 pub join::next_joined-next-requires-in-NeedRight : goal.join::next_joined-next-requires-in-NeedRight
 join::next_joined-next-requires-in-NeedRight g t c κs within =
     let less = c.decreases in
-    let same = ap height c.loop-left.invariant.right_tree in
+    let same = ap height (c.loop-left.invariant.tree_is Right) in
     let need = sym c.in-NeedRight.ensures in
-    (omega arith, (within, (turn-right_can c.loop-left.invariant c.requires.can need, turn-right_stands c.loop-left.invariant c.requires.can need)))
+    (omega arith, (within, (turn-can c.loop-left.invariant c.requires.can Right need, turn-stands c.loop-left.invariant c.requires.can Right need)))
 
 pub join::next_joined-returns-in_err-row-in-NeedRight : goal.join::next_joined-returns-in_err-row-in-NeedRight
 join::next_joined-returns-in_err-row-in-NeedRight g t c =
-    turn-right_failed c.loop-left.invariant c.requires.can (sym c.in-NeedRight.ensures) _ c.in_err-row-in-NeedRight.field-0.0 c.from_residual-in_err-row-in-NeedRight.result (g.S.Scorer.state c.next-in-NeedRight.new.scorer)
+    turn-failed c.loop-left.invariant c.requires.can Right (sym c.in-NeedRight.ensures) _ c.in_err-row-in-NeedRight.field-0.0 c.from_residual-in_err-row-in-NeedRight.result (g.S.Scorer.state c.next-in-NeedRight.new.scorer)
     (given-err c.from_residual-in_err-row-in-NeedRight.result c.in_err-row-in-NeedRight.field-0.0 c.from_residual-in_err-row-in-NeedRight.ensures) c.in_err-row-in-NeedRight.ensures.inquires
 
 pub join::next_joined-feed_right-requires : goal.join::next_joined-feed_right-requires
 join::next_joined-feed_right-requires g t c =
-    turn-right_takes c.loop-left.invariant c.requires.can (sym c.in-NeedRight.ensures) c.in-Some-2.row c.in_ok-row-in-NeedRight.field-0 c.in-Some-2.is
+    turn-takes c.loop-left.invariant c.requires.can Right (sym c.in-NeedRight.ensures) c.in-Some-2.row c.in_ok-row-in-NeedRight.field-0 c.in-Some-2.is
     (g.S.Scorer.state c.next-in-NeedRight.new.scorer) c.in_ok-row-in-NeedRight.ensures.inquires
 
 pub join::next_joined-loop-left-smaller-in-Continue-branch-6 : goal.join::next_joined-loop-left-smaller-in-Continue-branch-6
 join::next_joined-loop-left-smaller-in-Continue-branch-6 g t c =
-    turn-right_nearer c.loop-left.invariant c.requires.can (sym c.in-NeedRight.ensures) c.next-in-NeedRight.new.self (c.in_ok-row-in-NeedRight.ensures.leaves refl)
+    turn-nearer c.loop-left.invariant c.requires.can Right (sym c.in-NeedRight.ensures) c.next-in-NeedRight.new.self (c.in_ok-row-in-NeedRight.ensures.leaves refl)
 
 pub join::next_joined-loop-left-preserved-in-Continue-branch-6 : goal.join::next_joined-loop-left-preserved-in-Continue-branch-6
 join::next_joined-loop-left-preserved-in-Continue-branch-6 g t c =
-    turn-right_fed c.loop-left.invariant c.requires.can (sym c.in-NeedRight.ensures) c.in-Some-2.row c.in_ok-row-in-NeedRight.field-0 c.in-Some-2.is
+    turn-fed c.loop-left.invariant c.requires.can Right (sym c.in-NeedRight.ensures) c.in-Some-2.row c.in_ok-row-in-NeedRight.field-0 c.in-Some-2.is
     (g.S.Scorer.state c.next-in-NeedRight.new.scorer) c.in_ok-row-in-NeedRight.ensures.inquires c.feed_right.new.self c.next-in-NeedRight.new.self c.in_ok-feed_right-in-Some-2.ensures (c.in_ok-row-in-NeedRight.ensures.leaves refl)
 
 pub join::next_joined-returns-in_err-feed_right-in-Some-2 : goal.join::next_joined-returns-in_err-feed_right-in-Some-2
 join::next_joined-returns-in_err-feed_right-in-Some-2 g t c =
-    turn-right_stopped c.loop-left.invariant c.requires.can (sym c.in-NeedRight.ensures) c.in-Some-2.row c.in_ok-row-in-NeedRight.field-0 c.in-Some-2.is
+    turn-stopped c.loop-left.invariant c.requires.can Right (sym c.in-NeedRight.ensures) c.in-Some-2.row c.in_ok-row-in-NeedRight.field-0 c.in-Some-2.is
     (g.S.Scorer.state c.next-in-NeedRight.new.scorer) c.in_ok-row-in-NeedRight.ensures.inquires _ c.from_residual-in_err-feed_right-in-Some-2.result (given-err c.from_residual-in_err-feed_right-in-Some-2.result Memory c.from_residual-in_err-feed_right-in-Some-2.ensures)
 
 pub join::next_joined-loop-left-smaller : goal.join::next_joined-loop-left-smaller
 join::next_joined-loop-left-smaller g t c =
-    turn-right_nearer c.loop-left.invariant c.requires.can (sym c.in-NeedRight.ensures) c.next-in-NeedRight.new.self (c.in_ok-row-in-NeedRight.ensures.leaves refl)
+    turn-nearer c.loop-left.invariant c.requires.can Right (sym c.in-NeedRight.ensures) c.next-in-NeedRight.new.self (c.in_ok-row-in-NeedRight.ensures.leaves refl)
 
 pub join::next_joined-loop-left-preserved : goal.join::next_joined-loop-left-preserved
 join::next_joined-loop-left-preserved g t c =
-    turn-right_ended c.loop-left.invariant c.requires.can (sym c.in-NeedRight.ensures) c.in_ok-row-in-NeedRight.field-0 c.in-None-2.is
+    turn-ended c.loop-left.invariant c.requires.can Right (sym c.in-NeedRight.ensures) c.in_ok-row-in-NeedRight.field-0 c.in-None-2.is
     (g.S.Scorer.state c.next-in-NeedRight.new.scorer) c.end_right.new.self c.next-in-NeedRight.new.self c.end_right.ensures c.in_ok-row-in-NeedRight.ensures.inquires (c.in_ok-row-in-NeedRight.ensures.leaves refl)
 
 pub join::next_joined-returns-in-Ready : goal.join::next_joined-returns-in-Ready

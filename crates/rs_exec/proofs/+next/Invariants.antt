@@ -2,8 +2,9 @@ use Rattle.std.proofs.Common.{◌+◌, ◌-◌, ◌*◌, suc, max, length}
 use Rattle.rs_order.specs.Schedule.{Left, Right}
 use Rattle.rs_plan.specs.Counts.{asked_of}
 use Rattle.rs_plan.specs.Lists.{list_of}
-use Rattle.rs_plan.specs.Trees.{NestedJoin, Rank, SetOperator}
+use Rattle.rs_plan.specs.Trees.{JoinOperator, Rank, SetOperator}
 use Rattle.rs_exec.specs.Asking.{world_of}
+use Rattle.rs_exec.specs.Cores.{kind_of}
 use Rattle.rs_exec.specs.Nodes.{asked_in, number_in, tree_in}
 use Rattle.rs_exec.proofs.CycleFacts.{Turn, height}
 use Rattle.rs_exec.proofs.DistinctCycleFacts.{DropsTurn}
@@ -34,13 +35,13 @@ decreases-join::next_joined g l = 2 * max (height (tree_in l.left.now)) (height 
 -- the join stands between two asks of its sides, which stand too and are of the same plan
 abbrev pub invariant-join::next_joined-loop-left : goal.invariant-join::next_joined-loop-left
 invariant-join::next_joined-loop-left g l =
-    JoinTurn l.context.catalog.now l.context.query.now l.fn.head.block l.fn.head.core (tree_in l.fn.left) (tree_in l.fn.right) l.fn.head.tally.asked (g.S.Scorer.state l.fn.scorer) l.head l.left l.right (g.S.Scorer.state l.scorer)
+    JoinTurn l.context.catalog.now l.context.query.now l.fn.head.block (kind_of l.fn.head.core) (tree_in l.fn.left) (tree_in l.fn.right) l.fn.head.tally.asked (g.S.Scorer.state l.fn.scorer) l.head l.left l.right (g.S.Scorer.state l.scorer)
 
 -- the asks of both sides that are left
 abbrev pub decreases-join::next_joined-loop-left : goal.decreases-join::next_joined-loop-left
 decreases-join::next_joined-loop-left g l =
-    (asked_of (world_of l.context.catalog.now (g.S.Scorer.state l.fn.scorer).answer l.context.query.now) l.fn.head.block (NestedJoin (tree_in l.fn.left) (tree_in l.fn.right)) (suc l.fn.head.tally.asked) Left - asked_in l.left)
-    + (asked_of (world_of l.context.catalog.now (g.S.Scorer.state l.fn.scorer).answer l.context.query.now) l.fn.head.block (NestedJoin (tree_in l.fn.left) (tree_in l.fn.right)) (suc l.fn.head.tally.asked) Right - asked_in l.right)
+    (asked_of (world_of l.context.catalog.now (g.S.Scorer.state l.fn.scorer).answer l.context.query.now) l.fn.head.block (JoinOperator (kind_of l.fn.head.core) (tree_in l.fn.left) (tree_in l.fn.right)) (suc l.fn.head.tally.asked) Left - asked_in l.left)
+    + (asked_of (world_of l.context.catalog.now (g.S.Scorer.state l.fn.scorer).answer l.context.query.now) l.fn.head.block (JoinOperator (kind_of l.fn.head.core) (tree_in l.fn.left) (tree_in l.fn.right)) (suc l.fn.head.tally.asked) Right - asked_in l.right)
 
 abbrev pub decreases-distinct::next_distinct : goal.decreases-distinct::next_distinct
 decreases-distinct::next_distinct g l = 2 * height (tree_in l.child.now) + 1

@@ -2,10 +2,6 @@
 use Rattle.rs_exec.proofs.JoinListFacts.{join-list}
 use Rattle.rs_exec.proofs.join_laws.joins_give_the_pairs_that_match.Goals as goal
 
-pub returns-clause-nested : goal.returns-clause-nested
-returns-clause-nested c = λ w number left right formed weights view part.
-    join-list w number left right (record { formed = formed; weights = weights; view = view; left_part = part.0; right_part = part.1; joined = part.2 })
-
-pub returns-clause-hashed : goal.returns-clause-hashed
-returns-clause-hashed c = λ w number left right formed weights view part.
-    join-list w number left right (record { formed = formed; weights = weights; view = view; left_part = part.0; right_part = part.1; joined = part.2 })
+pub returns : goal.returns
+returns c = λ w number kind left right formed weights view part.
+    join-list w number left right (record { formed = formed; weights = weights; view = view; left_part = part.0; right_part = part.1; joined = part.2 }) kind

@@ -1,9 +1,10 @@
 -- The block is that of the join.
 use Rattle.std.proofs.Common.{sym, subst}
+use Rattle.rs_order.specs.Schedule.{Right}
 use Rattle.rs_query.specs.declared.block.Block.{Block}
-use Rattle.rs_exec.specs.Cores.{CanTakeRight}
+use Rattle.rs_exec.specs.Cores.{CanTake}
 use Rattle.rs_exec.proofs.join.JoinNode.feed_right.Goals as goal
 
 pub feed_right-requires : goal.feed_right-requires
 feed_right-requires c =
-    subst (λ (b : Block). CanTakeRight c.args.context.now.catalog.now b c.args.self.now.conditions c.args.row c.args.self.now.core) (sym c.block-block.ensures) c.requires
+    subst (λ (b : Block). CanTake Right c.args.context.now.catalog.now b c.args.self.now.conditions c.args.row c.args.self.now.core) (sym c.block-block.ensures) c.requires

@@ -1,0 +1,12 @@
+-- Two things, one for each side of an operator, as a function of the side.
+use Rattle.rs_order.specs.Schedule.{JoinSide, Left, Right}
+
+-- that of a side
+abbrev pub of_side : {A : Type 0} → A → A → JoinSide → A
+of_side left right Left = left
+of_side left right Right = right
+
+-- the other side
+abbrev pub other_side : JoinSide → JoinSide
+other_side Left = Right
+other_side Right = Left
