@@ -93,13 +93,6 @@ inside-inside a b c first second = same_from_bits (bit_and a c) a (λ i.
     let n = bit_at_and a c i in
     omega arith)
 
--- what is common to a mask and another one is in both
-pub common-inside : (a b : ℕ) → bit_and (bit_and a b) b ≡ bit_and a b
-common-inside a b = same_from_bits (bit_and (bit_and a b) b) (bit_and a b) (λ i.
-    let n = bit_at_and (bit_and a b) b i in
-    let o = bit_at_and a b i in
-    omega arith)
-
 -- parts of two masks that are apart are apart
 pub parts-apart : (l r v w : ℕ) → bit_and l v ≡ l → bit_and r w ≡ r → bit_and v w ≡ 0 → bit_and l r ≡ 0
 parts-apart l r v w left right apart = same_from_bits (bit_and l r) 0 (λ i.

@@ -301,24 +301,6 @@ module _ (catalogue : CatalogDef) where
   set-rows (One block limit) cards tree is = absurd is
   set-rows (Set op left right limit) cards tree is = estimate-set catalogue left right cards 1 tree (terms tree) is
 
-  -- below an operator for a term, and on the sides of the set operator
-  pub set-child : (query : Query) (t : ℕ) (child : PlanTree) → IsSetPart catalogue query (Rank t child)
-      → IsSetPart catalogue query child × IsNumberedTerm (block_in query 1) t
-  set-child (One block limit) t child is = absurd is
-  set-child (Set op left right limit) t child is = (is.0, numbered left t is.1.term is.1.is_term)
-
-  pub set-left : (query : Query) (a b : PlanTree) → IsSetPart catalogue query (SetOperator a b) → IsPart catalogue (block_in query 1) a
-  set-left (One block limit) a b is = absurd is
-  set-left (Set op left right limit) a b is = is.0.part
-
-  pub set-right : (query : Query) (a b : PlanTree) → IsSetPart catalogue query (SetOperator a b) → IsPart catalogue (block_in query 2) b
-  set-right (One block limit) a b is = absurd is
-  set-right (Set op left right limit) a b is = is.1.part
-
-  pub set-agree : (query : Query) (a b : PlanTree) → IsSetPart catalogue query (SetOperator a b) → terms a ≡ terms b
-  set-agree (One block limit) a b is = absurd is
-  set-agree (Set op left right limit) a b is = is.2
-
   pub set-rank-most : (query : Query) (t : ℕ) (child : PlanTree) (below rows call : ℕ) → IsQuery catalogue query → IsSetPart catalogue query (Rank t child)
       → rows ≤ 2 ^ 103 → call < 2 ^ 16 → below ≤ most_set_cost (terms child) → below + rows * call ≤ most_set_cost (bit_or (terms child) (mask_of t))
   set-rank-most (One block limit) t child below rows call q is few small most = absurd is

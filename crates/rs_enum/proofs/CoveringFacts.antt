@@ -24,9 +24,6 @@ rank-of block t a b same_entries same_terms is = record {
   there = ap (λ m. is_inside is.term.entries m) same_entries ∙ is.there;
 }
 
-all-below : (n : ℕ) → 2 ^ n - 1 < 2 ^ n
-all-below n = let some : 0 < 2 ^ n = pow_pos n in omega arith
-
 module _ (catalogue : CatalogDef) (block : Block) where
   -- where the block doesn't say so, no duplicates are dropped
   pub keeps-duplicates : (tree : PlanTree) → block.distinct ≡ false → IsPart catalogue block tree → HasNoDistinct tree

@@ -38,6 +38,3 @@ pub masks-most : (count masks : ℕ) → masks ≡ 2 ^ count → count ≤ 8 →
 masks-most count masks is few =
     let power : 2 ^ count ≤ 2 ^ 8 = pow-le-pow_right {n = 2} (omega arith) few in
     omega arith
-
-pub masks-some : (count masks : ℕ) → masks ≡ 2 ^ count → 1 ≤ masks
-masks-some count masks is = subst (λ n. 1 ≤ n) (sym is) (pow_pos count)

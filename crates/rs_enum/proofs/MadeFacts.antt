@@ -20,11 +20,6 @@ use Rattle.rs_enum.proofs.BitFacts.{left-of-union, left-without, number-apart}
 use Rattle.rs_enum.proofs.CostFacts.{numbered}
 use Rattle.rs_enum.proofs.WithinFacts.{left-terms, right-terms}
 
--- where something is mapped, there is something
-pub some-mapped : {A B : Type 0} (f : A → B) (o : Option A) (y : B) → option_map f o ≡ Some y → IsSome o
-some-mapped f (Some x) y is = refl
-some-mapped f None y is = absurd (none-some y is)
-
 module _ (query : Query) (places : List (Option Kept)) (first second : ℕ) where
   same-left : (left : ℕ) (l r m s : PlanTree) → AreKeptSides query places first second left l r → AreKeptSides query places first second left m s → l ≡ m
   same-left left l r m s a b = same_Some l m (sym a.left_kept ∙ b.left_kept)

@@ -209,7 +209,3 @@ pub right-within : (catalogue : CatalogDef) (query : Query) (cards : List BlockC
     → (rights : List (Option Kept)) (e : ℕ) → length rights ≡ 2 ^ length (block_in query 2).terms → e < 2 ^ length (block_in query 1).terms → e < length rights
 right-within catalogue query cards q both rights e all below =
     subst (λ n. e < n) (sym all) (subst (λ n. e < 2 ^ n) (right-terms-below catalogue query cards q both) below)
-
--- a query of two blocks, and the plans of a query
-pub set-extent : (op : SetOp) (l r : Block) (limit : Option ℕ) (query : Query) (cards : List BlockCards) → query ≡ Set op l r limit → IsExtent query cards extent.Both
-set-extent op l r limit query cards is = subst (λ x. IsExtent x cards extent.Both) (sym is) tt

@@ -134,26 +134,6 @@ pub plan-nodes : (catalogue : CatalogDef) (query : Query) → IsQuery catalogue 
 plan-nodes catalogue (One block limit) q tree is = let few = few-nodes catalogue block q.0 tree is.0.part in omega arith
 plan-nodes catalogue (Set op left right limit) q tree is = let few = few-set-nodes catalogue (Set op left right limit) q tree is.0 in omega arith
 
--- a scan is of an entry
-pub entry-of : (catalogue : CatalogDef) (block : Block) (tree : PlanTree) → IsPart catalogue block tree → HasEntry block tree
-entry-of catalogue block (SeqScan e) is = is
-entry-of catalogue block (RankScan e t i) is = is.is_entry
-entry-of catalogue block (Rank t child) is = tt
-entry-of catalogue block (HashJoin l r) is = tt
-entry-of catalogue block (NestedJoin l r) is = tt
-entry-of catalogue block (Distinct child) is = tt
-entry-of catalogue block (SetOperator l r) is = tt
-
-pub entry-of-set : (catalogue : CatalogDef) (query : Query) (block : Block) (tree : PlanTree) → IsSetPart catalogue query tree → HasEntry block tree
-entry-of-set catalogue (One b limit) block tree is = absurd is
-entry-of-set catalogue (Set op left right limit) block (Rank t child) is = tt
-entry-of-set catalogue (Set op left right limit) block (SetOperator a b) is = tt
-entry-of-set catalogue (Set op left right limit) block (SeqScan e) is = absurd is
-entry-of-set catalogue (Set op left right limit) block (RankScan e t i) is = absurd is
-entry-of-set catalogue (Set op left right limit) block (HashJoin a b) is = absurd is
-entry-of-set catalogue (Set op left right limit) block (NestedJoin a b) is = absurd is
-entry-of-set catalogue (Set op left right limit) block (Distinct child) is = absurd is
-
 -- the parts of a line
 pub line-text : (t0 t1 t2 t3 t4 t5 t6 indent name est rows label cost done end : List ℕ) → t1 ≡ t0 ++ indent → t2 ≡ t1 ++ name → t3 ≡ t2 ++ (est ++ rows)
     → t4 ≡ t3 ++ (label ++ cost) → t5 ≡ t4 ++ done → t6 ≡ t5 ++ end

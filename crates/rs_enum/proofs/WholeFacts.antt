@@ -34,9 +34,6 @@ module _ (value : PlanTree → ℕ) where
   pub by_value-on : (a b c : PlanTree) → NoLaterBy value a b → NoLaterBy value b c → NoLaterBy value a c
   by_value-on a b c = upto value-total a b c
 
-  pub by_value-itself : (a : PlanTree) → NoLaterBy value a a
-  by_value-itself a = ap is_gt (tied_itself value-total a)
-
   pub by_value-less : (a b : PlanTree) → value a < value b → NoLaterBy value a b
   by_value-less a b less = ap (λ o. is_gt (ordering_then o (code_cmp (code a) (code b)))) (sym (nat_cmp_is (value a) (value b) Less less))
 
@@ -123,12 +120,6 @@ module _ (catalogue : CatalogDef) where
       estimate-part catalogue query cards (block_in query number) number tree (terms tree) is.part
       ∙ ap (λ m. (cards_at cards number).estimate m (terms tree)) is.all
   whole-estimate query cards extent.Both tree is = set-rows catalogue query cards tree is
-
-  -- the terms of a tree are terms of its block
-  pub whole-terms : (query : Query) → IsQuery catalogue query → (e : Extent) (tree : PlanTree) → IsWhole catalogue query e tree
-      → terms tree < 2 ^ length (block_in query (number_of e)).terms
-  whole-terms query q (extent.Block number) tree is = terms-below catalogue (block_in query number) tree is.part
-  whole-terms query q extent.Both tree is = set-below-left catalogue query tree is
 
   -- a query of a set operator, whose first block is well-formed
   pub few-terms : (query : Query) → IsQuery catalogue query → (e : Extent) → length (block_in query (number_of e)).terms ≤ 8
@@ -220,9 +211,3 @@ pub right-terms-below : (catalogue : CatalogDef) (query : Query) (cards : List B
     → length (block_in query 1).terms ≡ length (block_in query 2).terms
 right-terms-below catalogue (One block limit) cards q is = absurd is
 right-terms-below catalogue (Set op left right limit) cards q is = same-terms left right left.terms right.terms q.0.terms
-
-pub extent-block : (query : Query) (cards : List BlockCards) (e : Extent) (number : ℕ) → IsExtent query cards e → e ≡ extent.Block number → IsBlockNumber cards number
-extent-block query cards e number is same = subst (IsExtent query cards) same is
-
-pub extent-both : (query : Query) (cards : List BlockCards) (e : Extent) → IsExtent query cards e → e ≡ extent.Both → IsExtent query cards extent.Both
-extent-both query cards e is same = subst (IsExtent query cards) same is
