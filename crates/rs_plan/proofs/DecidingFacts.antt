@@ -17,11 +17,11 @@ use Rattle.rs_query.specs.declared.block.Block.{Block}
 use Rattle.rs_query.specs.declared.query.Query.{Query}
 use Rattle.rs_query.specs.declared.query.Query.TheVariants.{One, Set}
 use Rattle.rs_query.specs.declared.term.Term.{Term}
-use Rattle.rs_plan.specs.Deciding.{are_joined, has_no_distinct, is_complete, is_distinct, is_found, is_hashed, is_part, is_plan, is_rank, is_rank_of, is_rank_scan, is_scan_of, is_set_plan, joins_sides}
+use Rattle.rs_plan.specs.Deciding.{are_joined, has_no_distinct, is_complete, is_distinct, is_found, is_hashed, is_part, is_plan, is_rank, is_rank_of, is_rank_scan, is_scan_of, is_set_plan, joins_sides, may_join}
 use Rattle.rs_plan.specs.Numbers.{HasNumbers, IsUpTo}
 use Rattle.rs_query.specs.Answers.{all_terms}
-use Rattle.rs_plan.specs.Plans.{AreJoined, HasNoDistinct, IsComplete, IsDistinct, IsEntryNumber, IsHashed, IsPart, IsPlan, IsRank, IsRankScan, IsSetPlan, IsTermOf, JoinsSides}
-use Rattle.rs_plan.specs.Trees.{Distinct, HashJoin, NestedJoin, Rank, RankScan, SeqScan, SetOperator, PlanTree, entries, terms}
+use Rattle.rs_plan.specs.Plans.{AreJoined, HasNoDistinct, IsComplete, IsDistinct, IsEntryNumber, IsHashed, IsPart, IsPlan, IsRank, IsRankScan, IsSetPlan, IsTermOf, JoinsSides, MayJoin}
+use Rattle.rs_plan.specs.Trees.{Distinct, Hash, JoinKind, JoinOperator, Nested, Rank, RankScan, SeqScan, SetOperator, PlanTree, entries, terms}
 
 -- a number beyond the eight of a mask isn't in it
 pub past-mask : (mask place : ℕ) → mask < 2 ^ 8 → 8 ≤ place → (mask / 2 ^ place % 2 == 1) ≡ false
@@ -151,12 +151,15 @@ hashed-decided block left right =
     (λ hashed. record { place = hashed.place; conjunct = hashed.conjunct; is = hashed.there; joins = record { columns = hashed.columns; is = hashed.equality; across = hashed.across } })
     (one_joins-decided left right block.conjuncts)
 
+may_join-decided : (kind : JoinKind) (block : Block) (left right : ℕ) → Decides (may_join kind block left right) (MayJoin kind block left right)
+may_join-decided Hash block left right = hashed-decided block left right
+may_join-decided Nested block left right = always
+
 whole-decided : (tree : PlanTree) → Decides (has_no_distinct tree) (HasNoDistinct tree)
 whole-decided (SeqScan entry) = always
 whole-decided (RankScan entry term index) = always
 whole-decided (Rank term child) = whole-decided child
-whole-decided (HashJoin left right) = Decides-and (has_no_distinct left) (has_no_distinct right) (whole-decided left) (whole-decided right)
-whole-decided (NestedJoin left right) = Decides-and (has_no_distinct left) (has_no_distinct right) (whole-decided left) (whole-decided right)
+whole-decided (JoinOperator kind left right) = Decides-and (has_no_distinct left) (has_no_distinct right) (whole-decided left) (whole-decided right)
 whole-decided (Distinct child) = never
 whole-decided (SetOperator left right) = Decides-and (has_no_distinct left) (has_no_distinct right) (whole-decided left) (whole-decided right)
 
@@ -184,23 +187,16 @@ part-decided catalogue block (RankScan entry term index) n = rank_scan-decided c
 part-decided catalogue block (Rank term child) n =
     Decides-and (is_part catalogue block child) (is_rank block term (entries child) (terms child))
     (part-decided catalogue block child n.1) (rank-decided block term child n.0.some)
-part-decided catalogue block (HashJoin left right) n =
-    Decides-like (is_part catalogue block (HashJoin left right))
+part-decided catalogue block (JoinOperator kind left right) n =
+    Decides-like (is_part catalogue block (JoinOperator kind left right))
     (λ all. (all.0, all.1.0, all.1.1.0, all.1.1.1))
     (λ all. (all.0, (all.1, (all.2, all.3))))
-    (Decides-and (is_part catalogue block left) (is_part catalogue block right && (are_joined left right && is_hashed block (entries left) (entries right)))
+    (Decides-and (is_part catalogue block left) (is_part catalogue block right && (are_joined left right && may_join kind block (entries left) (entries right)))
     (part-decided catalogue block left n.0)
-    (Decides-and (is_part catalogue block right) (are_joined left right && is_hashed block (entries left) (entries right))
+    (Decides-and (is_part catalogue block right) (are_joined left right && may_join kind block (entries left) (entries right))
     (part-decided catalogue block right n.1)
-    (Decides-and (are_joined left right) (is_hashed block (entries left) (entries right))
-    (joined-decided left right) (hashed-decided block (entries left) (entries right)))))
-part-decided catalogue block (NestedJoin left right) n =
-    Decides-like (is_part catalogue block (NestedJoin left right))
-    (λ all. (all.0, all.1.0, all.1.1))
-    (λ all. (all.0, (all.1, all.2)))
-    (Decides-and (is_part catalogue block left) (is_part catalogue block right && are_joined left right)
-    (part-decided catalogue block left n.0)
-    (Decides-and (is_part catalogue block right) (are_joined left right) (part-decided catalogue block right n.1) (joined-decided left right)))
+    (Decides-and (are_joined left right) (may_join kind block (entries left) (entries right))
+    (joined-decided left right) (may_join-decided kind block (entries left) (entries right)))))
 part-decided catalogue block (Distinct child) n =
     Decides-and (is_part catalogue block child) (is_distinct block child) (part-decided catalogue block child n) (distinct-decided block child)
 part-decided catalogue block (SetOperator left right) n = never
@@ -222,8 +218,7 @@ set_plan-decided catalogue left right (RankScan entry term index) n = never
 set_plan-decided catalogue left right (Rank term child) n =
     Decides-and (is_set_plan catalogue left right child) (is_rank left term (entries child) (terms child))
     (set_plan-decided catalogue left right child n.1) (rank-decided left term child n.0.some)
-set_plan-decided catalogue left right (HashJoin l r) n = never
-set_plan-decided catalogue left right (NestedJoin l r) n = never
+set_plan-decided catalogue left right (JoinOperator kind l r) n = never
 set_plan-decided catalogue left right (Distinct child) n = never
 set_plan-decided catalogue left right (SetOperator l r) n =
     Decides-like (is_set_plan catalogue left right (SetOperator l r))
@@ -254,9 +249,7 @@ part-numbers catalogue block (RankScan entry term index) from terms is =
     (entry-number block entry from is.is_entry, term-number block term is.term terms is.is_term)
 part-numbers catalogue block (Rank term child) from terms is =
     (term-number block term is.1.term terms is.1.is_term, part-numbers catalogue block child from terms is.0)
-part-numbers catalogue block (HashJoin left right) from terms is =
-    (part-numbers catalogue block left from terms is.0, part-numbers catalogue block right from terms is.1)
-part-numbers catalogue block (NestedJoin left right) from terms is =
+part-numbers catalogue block (JoinOperator kind left right) from terms is =
     (part-numbers catalogue block left from terms is.0, part-numbers catalogue block right from terms is.1)
 part-numbers catalogue block (Distinct child) from terms is = part-numbers catalogue block child from terms is.0
 part-numbers catalogue block (SetOperator left right) from terms is = absurd is
@@ -270,8 +263,7 @@ set_plan-numbers catalogue left right (SetOperator l r) lf lt rf rt is =
     (part-numbers catalogue left l lf lt is.0.part, part-numbers catalogue right r rf rt is.1.part)
 set_plan-numbers catalogue left right (SeqScan entry) lf lt rf rt is = absurd is
 set_plan-numbers catalogue left right (RankScan entry term index) lf lt rf rt is = absurd is
-set_plan-numbers catalogue left right (HashJoin l r) lf lt rf rt is = absurd is
-set_plan-numbers catalogue left right (NestedJoin l r) lf lt rf rt is = absurd is
+set_plan-numbers catalogue left right (JoinOperator kind l r) lf lt rf rt is = absurd is
 set_plan-numbers catalogue left right (Distinct child) lf lt rf rt is = absurd is
 
 pub plan-numbers : (catalogue : CatalogDef) (query : Query) (tree : PlanTree) → IsQuery catalogue query → IsPlan catalogue query tree → HasNumbers tree

@@ -1,6 +1,7 @@
 pub mod CodeFacts
 pub mod DecidingFacts
 pub mod LawFacts
+pub mod ShapeFacts
 pub mod WorkedCounts
 pub mod WorkedJoins
 pub mod WorkedPlans

@@ -18,7 +18,7 @@ use Rattle.rs_plan.specs.Asks.{child_asks}
 use Rattle.rs_plan.specs.Calls.{calls_of_plan}
 use Rattle.rs_plan.specs.Counts.{counts_of_plan}
 use Rattle.rs_plan.specs.Lists.{World, list_of_plan}
-use Rattle.rs_plan.specs.Trees.{HashJoin, NestedJoin, Rank, SeqScan, PlanTree}
+use Rattle.rs_plan.specs.Trees.{Hash, JoinOperator, Nested, Rank, SeqScan, PlanTree}
 use Rattle.rs_plan.specs.declared.counts.Counts.{Counts}
 
 abbrev int : ℕ → Value
@@ -67,7 +67,7 @@ right n = record { side = Right; number = n }
 
 -- the second table stands on the left
 abbrev turned : PlanTree
-turned = HashJoin (Rank 2 (SeqScan 2)) (Rank 1 (SeqScan 1))
+turned = JoinOperator Hash (Rank 2 (SeqScan 2)) (Rank 1 (SeqScan 1))
 
 -- equal scores: the row numbers in FROM order decide
 list_turned : list_of_plan ones turned ≡ row 1 1 2 ∷ row 1 2 2 ∷ row 2 1 2 ∷ row 2 2 2 ∷ []
@@ -97,7 +97,7 @@ counts_turned = refl
 
 -- a join by trying each pair has the same list and asks the same
 abbrev nested : PlanTree
-nested = NestedJoin (Rank 2 (SeqScan 2)) (Rank 1 (SeqScan 1))
+nested = JoinOperator Nested (Rank 2 (SeqScan 2)) (Rank 1 (SeqScan 1))
 
 list_nested : list_of_plan ones nested ≡ list_of_plan ones turned
 list_nested = refl
@@ -112,12 +112,12 @@ left_empty = world [] ((int 1 ∷ []) ∷ []) (0 ∷ 1 ∷ 0 ∷ 0 ∷ 0 ∷ 0 �
 abbrev right_empty : World
 right_empty = world ((int 1 ∷ []) ∷ []) [] (1 ∷ 0 ∷ 0 ∷ 0 ∷ 0 ∷ 0 ∷ [])
 
-asks_left_empty : child_asks left_empty 1 (NestedJoin (SeqScan 1) (SeqScan 2)) 1 ≡ left 1 ∷ []
+asks_left_empty : child_asks left_empty 1 (JoinOperator Nested (SeqScan 1) (SeqScan 2)) 1 ≡ left 1 ∷ []
 asks_left_empty = refl
 
-asks_right_empty : child_asks right_empty 1 (NestedJoin (SeqScan 1) (SeqScan 2)) 1 ≡ left 1 ∷ right 1 ∷ []
+asks_right_empty : child_asks right_empty 1 (JoinOperator Nested (SeqScan 1) (SeqScan 2)) 1 ≡ left 1 ∷ right 1 ∷ []
 asks_right_empty = refl
 
 -- a side that is never asked counts nothing
-counts_left_empty : counts_of_plan left_empty (NestedJoin (SeqScan 1) (SeqScan 2)) 1 ≡ node 1 0 0 0 ∷ node 1 0 0 0 ∷ node 0 0 0 0 ∷ []
+counts_left_empty : counts_of_plan left_empty (JoinOperator Nested (SeqScan 1) (SeqScan 2)) 1 ≡ node 1 0 0 0 ∷ node 1 0 0 0 ∷ node 0 0 0 0 ∷ []
 counts_left_empty = refl

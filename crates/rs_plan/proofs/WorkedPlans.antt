@@ -14,7 +14,7 @@ use Rattle.rs_query.specs.declared.query.Query.{Query}
 use Rattle.rs_query.specs.declared.query.Query.TheVariants.{One, Set}
 use Rattle.rs_query.specs.declared.term.Term.{Term}
 use Rattle.rs_plan.specs.Deciding.{is_plan}
-use Rattle.rs_plan.specs.Trees.{Distinct, HashJoin, NestedJoin, Rank, RankScan, SeqScan, SetOperator, PlanTree}
+use Rattle.rs_plan.specs.Trees.{Distinct, Hash, JoinOperator, Nested, Rank, RankScan, SeqScan, SetOperator, PlanTree}
 
 abbrev predicate : List ℕ → PredicateDef
 predicate name = record { name = name; params = kind.Int ∷ []; max = 10; cost = 1; formula = Argument 0 }
@@ -57,14 +57,14 @@ are_plans query [] = []
 are_plans query (tree ∷ trees) = is_plan catalogue query tree ∷ are_plans query trees
 
 abbrev scans : PlanTree
-scans = HashJoin (SeqScan 1) (SeqScan 2)
+scans = JoinOperator Hash (SeqScan 1) (SeqScan 2)
 
 -- terms are evaluated above the join, below it, or by scans of indexes
 plans_of_a_join : are_plans (joined false) (
     Rank 1 (Rank 2 scans)
     ∷ Rank 2 (Rank 1 scans)
-    ∷ Rank 2 (NestedJoin (SeqScan 2) (Rank 1 (SeqScan 1)))
-    ∷ HashJoin (RankScan 1 1 1) (RankScan 2 2 0)
+    ∷ Rank 2 (JoinOperator Nested (SeqScan 2) (Rank 1 (SeqScan 1)))
+    ∷ JoinOperator Hash (RankScan 1 1 1) (RankScan 2 2 0)
     ∷ []) ≡ true ∷ true ∷ true ∷ true ∷ []
 plans_of_a_join = refl
 
@@ -74,8 +74,8 @@ other_trees_of_a_join : are_plans (joined false) (
     Rank 1 (SeqScan 1)
     ∷ Rank 1 scans
     ∷ Rank 1 (Rank 1 (Rank 2 scans))
-    ∷ HashJoin (Rank 2 (Rank 1 (SeqScan 1))) (SeqScan 2)
-    ∷ Rank 2 (Rank 1 (NestedJoin (SeqScan 1) scans))
+    ∷ JoinOperator Hash (Rank 2 (Rank 1 (SeqScan 1))) (SeqScan 2)
+    ∷ Rank 2 (Rank 1 (JoinOperator Nested (SeqScan 1) scans))
     ∷ Rank 2 (Rank 1 (Distinct scans))
     ∷ Rank 2 (Rank 3 scans)
     ∷ []) ≡ false ∷ false ∷ false ∷ false ∷ false ∷ false ∷ false ∷ []
@@ -83,10 +83,10 @@ other_trees_of_a_join = refl
 
 -- an index of other arguments, one that isn't the first of these, one that isn't there, and one for a term of the other entry
 other_indexes : are_plans (joined false) (
-    HashJoin (RankScan 1 1 0) (RankScan 2 2 0)
-    ∷ HashJoin (RankScan 1 1 2) (RankScan 2 2 0)
-    ∷ HashJoin (RankScan 1 1 3) (RankScan 2 2 0)
-    ∷ HashJoin (RankScan 2 1 1) (RankScan 1 2 0)
+    JoinOperator Hash (RankScan 1 1 0) (RankScan 2 2 0)
+    ∷ JoinOperator Hash (RankScan 1 1 2) (RankScan 2 2 0)
+    ∷ JoinOperator Hash (RankScan 1 1 3) (RankScan 2 2 0)
+    ∷ JoinOperator Hash (RankScan 2 1 1) (RankScan 1 2 0)
     ∷ []) ≡ false ∷ false ∷ false ∷ false ∷ []
 other_indexes = refl
 
@@ -96,7 +96,7 @@ plans_with_distinct : are_plans (joined true) (
     ∷ Distinct (Rank 1 (Rank 2 scans))
     ∷ Rank 1 (Rank 2 scans)
     ∷ Rank 1 (Distinct (Rank 2 (Distinct scans)))
-    ∷ Rank 1 (Rank 2 (HashJoin (Distinct (SeqScan 1)) (SeqScan 2)))
+    ∷ Rank 1 (Rank 2 (JoinOperator Hash (Distinct (SeqScan 1)) (SeqScan 2)))
     ∷ []) ≡ true ∷ true ∷ false ∷ false ∷ false ∷ []
 plans_with_distinct = refl
 

@@ -11,7 +11,7 @@ use Rattle.rs_rank.specs.declared.key.Key.{Key}
 use Rattle.rs_query.specs.declared.query.Query.{Query}
 use Rattle.rs_query.specs.declared.query.Query.TheVariants.{One, Set}
 use Rattle.rs_plan.specs.Lists.{World, key_under, list_of, weights_in}
-use Rattle.rs_plan.specs.Trees.{Distinct, HashJoin, NestedJoin, Rank, RankScan, SeqScan, SetOperator, PlanTree, terms}
+use Rattle.rs_plan.specs.Trees.{Distinct, JoinOperator, Rank, RankScan, SeqScan, SetOperator, PlanTree, terms}
 
 -- the keys of a node's list
 abbrev pub keys_of : World → ℕ → PlanTree → List Key
@@ -36,9 +36,7 @@ asks_upto w number (SeqScan entry) bar = []
 asks_upto w number (RankScan entry term index) bar = []
 asks_upto w number (Rank term child) bar = asks_alone (keys_of w number child) bar
 asks_upto w number (Distinct child) bar = asks_alone (keys_of w number child) bar
-asks_upto w number (HashJoin left right) bar =
-    join_schedule key_cmp (merge_key (weights_in w) (terms left) (terms right)) (keys_of w number left) (keys_of w number right) bar
-asks_upto w number (NestedJoin left right) bar =
+asks_upto w number (JoinOperator kind left right) bar =
     join_schedule key_cmp (merge_key (weights_in w) (terms left) (terms right)) (keys_of w number left) (keys_of w number right) bar
 asks_upto w number (SetOperator left right) bar = query_schedule w.query (keys_of w 1 left) (keys_of w 2 right) bar
 

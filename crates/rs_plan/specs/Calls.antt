@@ -10,7 +10,7 @@ use Rattle.rs_query.specs.Questions.{Question, call_for, question_of}
 use Rattle.rs_query.specs.declared.term.Term.{Term}
 use Rattle.rs_plan.specs.Asks.{child_asks}
 use Rattle.rs_plan.specs.Lists.{World, numbered_block, list_of}
-use Rattle.rs_plan.specs.Trees.{Distinct, HashJoin, NestedJoin, Rank, RankScan, SeqScan, SetOperator, PlanTree}
+use Rattle.rs_plan.specs.Trees.{Distinct, JoinOperator, Rank, RankScan, SeqScan, SetOperator, PlanTree}
 
 -- what comes with ask j alone, where f gives all that comes with this many asks
 abbrev pub part_of : {A : Type 0} → (ℕ → List A) → ℕ → List A
@@ -45,10 +45,8 @@ questions w number (Rank term child) = λ a.
     flat_map (rank_part w term (list_of w number child) (questions w number child)) (child_asks w number (Rank term child) a)
 questions w number (Distinct child) = λ a.
     flat_map (λ (ask : SideAsk). part_of (questions w number child) ask.number) (child_asks w number (Distinct child) a)
-questions w number (HashJoin left right) = λ a.
-    flat_map (side_part (questions w number left) (questions w number right)) (child_asks w number (HashJoin left right) a)
-questions w number (NestedJoin left right) = λ a.
-    flat_map (side_part (questions w number left) (questions w number right)) (child_asks w number (NestedJoin left right) a)
+questions w number (JoinOperator kind left right) = λ a.
+    flat_map (side_part (questions w number left) (questions w number right)) (child_asks w number (JoinOperator kind left right) a)
 questions w number (SetOperator left right) = λ a.
     flat_map (side_part (questions w 1 left) (questions w 2 right)) (child_asks w number (SetOperator left right) a)
 

@@ -9,7 +9,7 @@ use Rattle.rs_query.specs.Tables.{row_number}
 use Rattle.rs_plan.specs.declared.counts.Counts.{Counts}
 use Rattle.rs_plan.specs.Asks.{child_asks}
 use Rattle.rs_plan.specs.Lists.{World, list_of, sizes_in}
-use Rattle.rs_plan.specs.Trees.{Distinct, HashJoin, NestedJoin, Rank, RankScan, SeqScan, SetOperator, PlanTree}
+use Rattle.rs_plan.specs.Trees.{Distinct, JoinOperator, Rank, RankScan, SeqScan, SetOperator, PlanTree}
 
 -- how often a node asked a child; an only child is the left one
 abbrev pub asked_of : World → ℕ → PlanTree → ℕ → JoinSide → ℕ
@@ -63,14 +63,10 @@ counts w number (RankScan entry term index) = λ a. counts_at w number (RankScan
 counts w number (Rank term child) = λ a.
     counts_at w number (Rank term child) a ∷ counts w number child (asked_of w number (Rank term child) a Left)
 counts w number (Distinct child) = λ a. counts_at w number (Distinct child) a ∷ counts w number child (asked_of w number (Distinct child) a Left)
-counts w number (HashJoin left right) = λ a.
-    counts_at w number (HashJoin left right) a
-    ∷ counts w number left (asked_of w number (HashJoin left right) a Left)
-    ++ counts w number right (asked_of w number (HashJoin left right) a Right)
-counts w number (NestedJoin left right) = λ a.
-    counts_at w number (NestedJoin left right) a
-    ∷ counts w number left (asked_of w number (NestedJoin left right) a Left)
-    ++ counts w number right (asked_of w number (NestedJoin left right) a Right)
+counts w number (JoinOperator kind left right) = λ a.
+    counts_at w number (JoinOperator kind left right) a
+    ∷ counts w number left (asked_of w number (JoinOperator kind left right) a Left)
+    ++ counts w number right (asked_of w number (JoinOperator kind left right) a Right)
 counts w number (SetOperator left right) = λ a.
     counts_at w number (SetOperator left right) a
     ∷ counts w 1 left (asked_of w number (SetOperator left right) a Left)

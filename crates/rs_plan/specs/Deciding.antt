@@ -13,7 +13,7 @@ use Rattle.rs_query.specs.declared.query.Query.{Query}
 use Rattle.rs_query.specs.declared.query.Query.TheVariants.{One, Set}
 use Rattle.rs_query.specs.declared.term.Term.{Term}
 use Rattle.rs_query.specs.Answers.{all_terms}
-use Rattle.rs_plan.specs.Trees.{Distinct, HashJoin, NestedJoin, Rank, RankScan, SeqScan, SetOperator, PlanTree, entries, terms}
+use Rattle.rs_plan.specs.Trees.{Distinct, Hash, JoinKind, JoinOperator, Nested, Rank, RankScan, SeqScan, SetOperator, PlanTree, entries, terms}
 
 -- an index was found, and it is this one
 abbrev pub is_found : Option ℕ → ℕ → Bool
@@ -56,14 +56,18 @@ abbrev pub has_no_distinct : PlanTree → Bool
 has_no_distinct (SeqScan entry) = true
 has_no_distinct (RankScan entry term index) = true
 has_no_distinct (Rank term child) = has_no_distinct child
-has_no_distinct (HashJoin left right) = has_no_distinct left && has_no_distinct right
-has_no_distinct (NestedJoin left right) = has_no_distinct left && has_no_distinct right
+has_no_distinct (JoinOperator kind left right) = has_no_distinct left && has_no_distinct right
 has_no_distinct (Distinct child) = false
 has_no_distinct (SetOperator left right) = has_no_distinct left && has_no_distinct right
 
 -- two sides of a join share no entry, and drop no duplicates
 abbrev pub are_joined : PlanTree → PlanTree → Bool
 are_joined left right = (bit_and (entries left) (entries right) == 0) && (has_no_distinct left && has_no_distinct right)
+
+-- rows of these entries may be joined in this way
+abbrev pub may_join : JoinKind → Block → ℕ → ℕ → Bool
+may_join Hash block left right = is_hashed block left right
+may_join Nested block left right = true
 
 -- duplicates are dropped once, of rows of all entries, where the block says so
 abbrev pub is_distinct : Block → PlanTree → Bool
@@ -74,9 +78,8 @@ abbrev pub is_part : CatalogDef → Block → PlanTree → Bool
 is_part catalogue block (SeqScan entry) = nat_le entry (length block.from)
 is_part catalogue block (RankScan entry term index) = is_rank_scan catalogue block entry term index
 is_part catalogue block (Rank term child) = is_part catalogue block child && is_rank block term (entries child) (terms child)
-is_part catalogue block (HashJoin left right) =
-    is_part catalogue block left && (is_part catalogue block right && (are_joined left right && is_hashed block (entries left) (entries right)))
-is_part catalogue block (NestedJoin left right) = is_part catalogue block left && (is_part catalogue block right && are_joined left right)
+is_part catalogue block (JoinOperator kind left right) =
+    is_part catalogue block left && (is_part catalogue block right && (are_joined left right && may_join kind block (entries left) (entries right)))
 is_part catalogue block (Distinct child) = is_part catalogue block child && is_distinct block child
 is_part catalogue block (SetOperator left right) = false
 
@@ -90,8 +93,7 @@ abbrev pub is_set_plan : CatalogDef → Block → Block → PlanTree → Bool
 is_set_plan catalogue left right (SeqScan entry) = false
 is_set_plan catalogue left right (RankScan entry term index) = false
 is_set_plan catalogue left right (Rank term child) = is_set_plan catalogue left right child && is_rank left term (entries child) (terms child)
-is_set_plan catalogue left right (HashJoin l r) = false
-is_set_plan catalogue left right (NestedJoin l r) = false
+is_set_plan catalogue left right (JoinOperator kind l r) = false
 is_set_plan catalogue left right (Distinct child) = false
 is_set_plan catalogue left right (SetOperator l r) = is_complete catalogue left l && (is_complete catalogue right r && (terms l == terms r))
 

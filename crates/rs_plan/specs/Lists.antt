@@ -18,7 +18,7 @@ use Rattle.rs_query.specs.Combinations.{combinations}
 use Rattle.rs_query.specs.Views.{View}
 use Rattle.rs_query.specs.declared.block.Block.{Block}
 use Rattle.rs_query.specs.declared.query.Query.{Query}
-use Rattle.rs_plan.specs.Trees.{Distinct, HashJoin, NestedJoin, Rank, RankScan, SeqScan, SetOperator, PlanTree, entries, terms}
+use Rattle.rs_plan.specs.Trees.{Distinct, JoinOperator, Rank, RankScan, SeqScan, SetOperator, PlanTree, entries, terms}
 
 -- what the rows of a query are made of: the catalogue, what the scorer answers, the query, and how many rows of its tables it sees
 pub record World : Type 0 where
@@ -49,8 +49,7 @@ abbrev pub sources : World → ℕ → PlanTree → List Ids
 sources w number (SeqScan entry) = ids_of w number (mask_of entry)
 sources w number (RankScan entry term index) = ids_of w number (mask_of entry)
 sources w number (Rank term child) = sources w number child
-sources w number (HashJoin left right) = ids_of w number (bit_or (entries left) (entries right))
-sources w number (NestedJoin left right) = ids_of w number (bit_or (entries left) (entries right))
+sources w number (JoinOperator kind left right) = ids_of w number (bit_or (entries left) (entries right))
 sources w number (Distinct child) = map (λ (row : Answer). row.ids) (base_of w.answer w.catalogue number (numbered_block w number) (sizes_in w number))
 sources w number (SetOperator left right) = map (λ (row : Answer). row.ids) (rows_of w.answer w.catalogue w.query w.view)
 

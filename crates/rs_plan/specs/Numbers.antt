@@ -1,6 +1,6 @@
 -- The numbers that stand in a tree, and the number of its kind.
 use Rattle.std.specs.Prelude.{ℕ, ◌≤◌}
-use Rattle.rs_plan.specs.Trees.{Distinct, HashJoin, NestedJoin, Rank, RankScan, SeqScan, SetOperator, PlanTree}
+use Rattle.rs_plan.specs.Trees.{Distinct, JoinOperator, Rank, RankScan, SeqScan, SetOperator, PlanTree, join_number}
 
 -- a number from 1 up to another one
 pub record IsUpTo (most number : ℕ) : Type 0 where
@@ -12,8 +12,7 @@ abbrev pub HasNumbers : PlanTree → Type 0
 HasNumbers (SeqScan entry) = IsUpTo 6 entry
 HasNumbers (RankScan entry term index) = IsUpTo 6 entry × IsUpTo 8 term
 HasNumbers (Rank term child) = IsUpTo 8 term × HasNumbers child
-HasNumbers (HashJoin left right) = HasNumbers left × HasNumbers right
-HasNumbers (NestedJoin left right) = HasNumbers left × HasNumbers right
+HasNumbers (JoinOperator kind left right) = HasNumbers left × HasNumbers right
 HasNumbers (Distinct child) = HasNumbers child
 HasNumbers (SetOperator left right) = HasNumbers left × HasNumbers right
 
@@ -22,7 +21,6 @@ abbrev pub kind_number : PlanTree → ℕ
 kind_number (SeqScan entry) = 1
 kind_number (RankScan entry term index) = 2
 kind_number (Rank term child) = 3
-kind_number (HashJoin left right) = 4
-kind_number (NestedJoin left right) = 5
+kind_number (JoinOperator kind left right) = join_number kind
 kind_number (Distinct child) = 6
 kind_number (SetOperator left right) = 7

@@ -11,7 +11,7 @@ use Rattle.rs_query.specs.declared.block.Block.{Block}
 use Rattle.rs_query.specs.declared.query.Query.{Query}
 use Rattle.rs_query.specs.declared.query.Query.TheVariants.{One, Set}
 use Rattle.rs_query.specs.declared.term.Term.{Term}
-use Rattle.rs_plan.specs.Trees.{Distinct, HashJoin, NestedJoin, Rank, RankScan, SeqScan, SetOperator, PlanTree, entries, terms}
+use Rattle.rs_plan.specs.Trees.{Distinct, Hash, JoinKind, JoinOperator, Nested, Rank, RankScan, SeqScan, SetOperator, PlanTree, entries, terms}
 
 -- the number of a FROM entry of a block
 pub record IsEntryNumber (block : Block) (entry : ℕ) : Type 0 where
@@ -60,8 +60,7 @@ abbrev pub HasNoDistinct : PlanTree → Type 0
 HasNoDistinct (SeqScan entry) = Unit {0}
 HasNoDistinct (RankScan entry term index) = Unit {0}
 HasNoDistinct (Rank term child) = HasNoDistinct child
-HasNoDistinct (HashJoin left right) = HasNoDistinct left × HasNoDistinct right
-HasNoDistinct (NestedJoin left right) = HasNoDistinct left × HasNoDistinct right
+HasNoDistinct (JoinOperator kind left right) = HasNoDistinct left × HasNoDistinct right
 HasNoDistinct (Distinct child) = ⊥
 HasNoDistinct (SetOperator left right) = HasNoDistinct left × HasNoDistinct right
 
@@ -70,6 +69,11 @@ pub record AreJoined (left right : PlanTree) : Type 0 where
   pub apart : AreDisjoint (entries left) (entries right)
   pub left_whole : HasNoDistinct left
   pub right_whole : HasNoDistinct right
+
+-- rows of these entries may be joined in this way
+abbrev pub MayJoin : JoinKind → Block → ℕ → ℕ → Type 0
+MayJoin Hash block left right = IsHashed block left right
+MayJoin Nested block left right = Unit {0}
 
 -- duplicates are dropped once, of rows of all entries, where the block says so
 pub record IsDistinct (block : Block) (child : PlanTree) : Type 0 where
@@ -82,9 +86,8 @@ abbrev pub IsPart : CatalogDef → Block → PlanTree → Type 0
 IsPart catalogue block (SeqScan entry) = IsEntryNumber block entry
 IsPart catalogue block (RankScan entry term index) = IsRankScan catalogue block entry term index
 IsPart catalogue block (Rank term child) = IsPart catalogue block child × IsRank block term child
-IsPart catalogue block (HashJoin left right) =
-    IsPart catalogue block left × IsPart catalogue block right × AreJoined left right × IsHashed block (entries left) (entries right)
-IsPart catalogue block (NestedJoin left right) = IsPart catalogue block left × IsPart catalogue block right × AreJoined left right
+IsPart catalogue block (JoinOperator kind left right) =
+    IsPart catalogue block left × IsPart catalogue block right × AreJoined left right × MayJoin kind block (entries left) (entries right)
 IsPart catalogue block (Distinct child) = IsPart catalogue block child × IsDistinct block child
 IsPart catalogue block (SetOperator left right) = ⊥
 

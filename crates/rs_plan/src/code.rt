@@ -39,23 +39,19 @@ impl Plan {
                 } => term.cmp(other_term).then(child.cmp_code(other_child)),
                 _ => self.kind_number().cmp(&other.kind_number()),
             },
-            Plan::HashJoin { left, right } => match other {
+            Plan::HashJoin { left, right } | Plan::NestedJoin { left, right } => match other {
                 Plan::HashJoin {
                     left: other_left,
                     right: other_right,
-                } => {
-                    let masks = left.signature().cmp_masks(other_left.signature());
-                    masks.then(left.cmp_code(other_left).then(right.cmp_code(other_right)))
                 }
-                _ => self.kind_number().cmp(&other.kind_number()),
-            },
-            Plan::NestedJoin { left, right } => match other {
-                Plan::NestedJoin {
+                | Plan::NestedJoin {
                     left: other_left,
                     right: other_right,
                 } => {
-                    let masks = left.signature().cmp_masks(other_left.signature());
-                    masks.then(left.cmp_code(other_left).then(right.cmp_code(other_right)))
+                    let kinds = self.kind_number().cmp(&other.kind_number());
+                    let masks = left.cmp_signature(other_left);
+                    let sides = left.cmp_code(other_left).then(right.cmp_code(other_right));
+                    kinds.then(masks.then(sides))
                 }
                 _ => self.kind_number().cmp(&other.kind_number()),
             },

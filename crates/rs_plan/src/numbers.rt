@@ -19,10 +19,10 @@ impl Plan {
                 index: _,
             } => is_up_to(6, *entry) && is_up_to(8, *term),
             Plan::Rank { term, child } => is_up_to(8, *term) && child.has_numbers(),
-            Plan::HashJoin { left, right } => left.has_numbers() && right.has_numbers(),
-            Plan::NestedJoin { left, right } => left.has_numbers() && right.has_numbers(),
+            Plan::HashJoin { left, right }
+            | Plan::NestedJoin { left, right }
+            | Plan::SetOperator { left, right } => left.has_numbers() && right.has_numbers(),
             Plan::Distinct { child } => child.has_numbers(),
-            Plan::SetOperator { left, right } => left.has_numbers() && right.has_numbers(),
         }
     }
 }

@@ -30,7 +30,7 @@ impl Signature {
     }
 
     /// The order of the numbers that the masks are, that of the entries first.
-    pub(crate) fn cmp_masks(self, other: Signature) -> Ordering
+    fn cmp_masks(self, other: Signature) -> Ordering
         ensures { result ≡ ordering_then (nat_cmp self.entries other.entries) (nat_cmp self.terms other.terms) }
     {
         self.entries
@@ -40,6 +40,16 @@ impl Signature {
 }
 
 impl Plan {
+    /// The order of the masks of two plans, that of the entries first.
+    pub(crate) fn cmp_signature(&self, other: &Plan) -> Ordering
+        requires own { HasNumbers (tree_of self.now) }
+        requires others { HasNumbers (tree_of other.now) }
+        ensures { result ≡ ordering_then (nat_cmp (entries (tree_of self.now)) (entries (tree_of other.now)))
+            (nat_cmp (terms (tree_of self.now)) (terms (tree_of other.now))) }
+    {
+        self.signature().cmp_masks(other.signature())
+    }
+
     /// The entries of the plan, and the terms that it evaluates; of a set operator those of its left side. It takes no
     /// memory.
     pub fn signature(&self) -> Signature
@@ -67,8 +77,9 @@ impl Plan {
                     terms: union(below.terms, mask_of(*term)),
                 }
             }
-            Plan::HashJoin { left, right } => left.signature().union(right.signature()),
-            Plan::NestedJoin { left, right } => left.signature().union(right.signature()),
+            Plan::HashJoin { left, right } | Plan::NestedJoin { left, right } => {
+                left.signature().union(right.signature())
+            }
             Plan::Distinct { child } => child.signature(),
             Plan::SetOperator { left, right: _ } => left.signature(),
         }

@@ -66,8 +66,7 @@ impl Plan {
             Plan::Rank { term, child } => {
                 child.is_set_plan(catalog, left, right) && is_rank(left, *term, child.signature())
             }
-            Plan::HashJoin { left: _, right: _ } => false,
-            Plan::NestedJoin { left: _, right: _ } => false,
+            Plan::HashJoin { left: _, right: _ } | Plan::NestedJoin { left: _, right: _ } => false,
             Plan::Distinct { child: _ } => false,
             Plan::SetOperator {
                 left: left_side,
@@ -145,10 +144,12 @@ impl Plan {
                 index: _,
             } => true,
             Plan::Rank { term: _, child } => child.has_no_distinct(),
-            Plan::HashJoin { left, right } => left.has_no_distinct() && right.has_no_distinct(),
-            Plan::NestedJoin { left, right } => left.has_no_distinct() && right.has_no_distinct(),
+            Plan::HashJoin { left, right }
+            | Plan::NestedJoin { left, right }
+            | Plan::SetOperator { left, right } => {
+                left.has_no_distinct() && right.has_no_distinct()
+            }
             Plan::Distinct { child: _ } => false,
-            Plan::SetOperator { left, right } => left.has_no_distinct() && right.has_no_distinct(),
         }
     }
 }
