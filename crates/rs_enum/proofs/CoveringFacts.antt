@@ -9,7 +9,7 @@ use Rattle.rs_query.specs.declared.block.Block.{Block}
 use Rattle.rs_query.specs.declared.query.Query.{Query}
 use Rattle.rs_sample.specs.Cards.{BlockCards}
 use Rattle.rs_plan.specs.Plans.{HasNoDistinct, IsHashed, IsPart, IsRank}
-use Rattle.rs_plan.specs.Trees.{Distinct, HashJoin, NestedJoin, Rank, RankScan, SeqScan, SetOperator, PlanTree, entries, terms}
+use Rattle.rs_plan.specs.Trees.{Distinct, Hash, JoinOperator, Nested, PlanTree, Rank, RankScan, SeqScan, SetOperator, entries, terms}
 use Rattle.rs_enum.specs.Candidates.{IsCandidate}
 use Rattle.rs_enum.specs.Least.{ComesNoLater}
 use Rattle.rs_enum.proofs.WithinFacts.{terms-below}
@@ -30,8 +30,7 @@ module _ (catalogue : CatalogDef) (block : Block) where
   keeps-duplicates (SeqScan e) says is = tt
   keeps-duplicates (RankScan e t i) says is = tt
   keeps-duplicates (Rank t child) says is = keeps-duplicates child says is.0
-  keeps-duplicates (HashJoin l r) says is = (keeps-duplicates l says is.0, keeps-duplicates r says is.1)
-  keeps-duplicates (NestedJoin l r) says is = (keeps-duplicates l says is.0, keeps-duplicates r says is.1)
+  keeps-duplicates (JoinOperator kind l r) says is = (keeps-duplicates l says is.0, keeps-duplicates r says is.1)
   keeps-duplicates (Distinct child) says is = absurd (let e : true ≡ false = sym is.1.wanted ∙ says in cc)
   keeps-duplicates (SetOperator l r) says is = absurd is
 
@@ -73,7 +72,7 @@ module _ (catalogue : CatalogDef) (block : Block) where
             no_later = no_later-on catalogue query cards f.found (Rank t c.found) (Rank t child) f.no_later
                 (exchanged-below catalogue query cards block t c.found child s.part is.0 s.its_entries s.its_terms c.no_later);
           }
-      covers-all (HashJoin l r) is whole =
+      covers-all (JoinOperator Hash l r) is whole =
           let a = covers-all l is.0 whole.0 in
           let b = covers-all r is.1 whole.1 in
           let s = sound (entries l) (terms l) a.found (terms-below catalogue block l is.0) a.is in
@@ -81,7 +80,7 @@ module _ (catalogue : CatalogDef) (block : Block) where
           let apart : AreDisjoint (entries a.found) (entries b.found) =
           subst₂ (λ x y. bit_and x y ≡ 0) (sym s.its_entries) (sym u.its_entries) is.2.apart in
           let hashed : IsHashed block (entries a.found) (entries b.found) = subst₂ (IsHashed block) (sym s.its_entries) (sym u.its_entries) is.3 in
-          let f = filled (entries (HashJoin l r)) (terms (HashJoin l r)) (HashJoin a.found b.found) (record {
+          let f = filled (entries (JoinOperator Hash l r)) (terms (JoinOperator Hash l r)) (JoinOperator Hash a.found b.found) (record {
             part = (s.part, u.part, record { apart = apart; left_whole = s.whole; right_whole = u.whole }, hashed);
             whole = (s.whole, u.whole);
             its_entries = λ at. bit_or (s.its_entries at) (u.its_entries at);
@@ -94,19 +93,19 @@ module _ (catalogue : CatalogDef) (block : Block) where
           record {
             found = f.found;
             is = f.is;
-            no_later = no_later-on catalogue query cards f.found (HashJoin a.found b.found) (HashJoin l r) f.no_later
-                (no_later-on catalogue query cards (HashJoin a.found b.found) (HashJoin l b.found) (HashJoin l r)
+            no_later = no_later-on catalogue query cards f.found (JoinOperator Hash a.found b.found) (JoinOperator Hash l r) f.no_later
+                (no_later-on catalogue query cards (JoinOperator Hash a.found b.found) (JoinOperator Hash l b.found) (JoinOperator Hash l r)
                 (exchanged-left-hash catalogue query cards block a.found l b.found s.part is.0 s.its_entries s.its_terms a.no_later)
                 (exchanged-right-hash catalogue query cards block l b.found r u.part is.1 u.its_entries u.its_terms b.no_later));
           }
-      covers-all (NestedJoin l r) is whole =
+      covers-all (JoinOperator Nested l r) is whole =
           let a = covers-all l is.0 whole.0 in
           let b = covers-all r is.1 whole.1 in
           let s = sound (entries l) (terms l) a.found (terms-below catalogue block l is.0) a.is in
           let u = sound (entries r) (terms r) b.found (terms-below catalogue block r is.1) b.is in
           let apart : AreDisjoint (entries a.found) (entries b.found) =
           subst₂ (λ x y. bit_and x y ≡ 0) (sym s.its_entries) (sym u.its_entries) is.2.apart in
-          let f = filled (entries (NestedJoin l r)) (terms (NestedJoin l r)) (NestedJoin a.found b.found) (record {
+          let f = filled (entries (JoinOperator Nested l r)) (terms (JoinOperator Nested l r)) (JoinOperator Nested a.found b.found) (record {
             part = (s.part, u.part, record { apart = apart; left_whole = s.whole; right_whole = u.whole });
             whole = (s.whole, u.whole);
             its_entries = λ at. bit_or (s.its_entries at) (u.its_entries at);
@@ -119,8 +118,8 @@ module _ (catalogue : CatalogDef) (block : Block) where
           record {
             found = f.found;
             is = f.is;
-            no_later = no_later-on catalogue query cards f.found (NestedJoin a.found b.found) (NestedJoin l r) f.no_later
-                (no_later-on catalogue query cards (NestedJoin a.found b.found) (NestedJoin l b.found) (NestedJoin l r)
+            no_later = no_later-on catalogue query cards f.found (JoinOperator Nested a.found b.found) (JoinOperator Nested l r) f.no_later
+                (no_later-on catalogue query cards (JoinOperator Nested a.found b.found) (JoinOperator Nested l b.found) (JoinOperator Nested l r)
                 (exchanged-left-nested catalogue query cards block a.found l b.found s.part is.0 s.its_entries s.its_terms a.no_later)
                 (exchanged-right-nested catalogue query cards block l b.found r u.part is.1 u.its_entries u.its_terms b.no_later));
           }

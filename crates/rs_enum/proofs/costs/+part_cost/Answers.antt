@@ -5,7 +5,7 @@ use Rattle.rs_sample.specs.Kept.{cards_of}
 use Rattle.rs_query.specs.Blocks.{block_in}
 use Rattle.rs_plan.specs.Plans.{HasNoDistinct, IsPart}
 use Rattle.rs_plan.specs.Shapes.{tree_of}
-use Rattle.rs_plan.specs.Trees.{Distinct, HashJoin, NestedJoin, Rank, RankScan}
+use Rattle.rs_plan.specs.Trees.{Distinct, Hash, JoinOperator, Nested, Rank, RankScan}
 use Rattle.rs_enum.specs.QueryCards.{cards_at}
 use Rattle.rs_enum.specs.Bounds.{IsNumberedTerm}
 use Rattle.rs_enum.proofs.CostFacts.{block-cards, block-formed, numbered, part-fits, term-alone}
@@ -82,9 +82,9 @@ hashed-requires t c =
     let whole = tree_of c.args.plan.now in
     let left = tree_of c.deref-left.result.now in
     let right = tree_of c.deref-right.result.now in
-    let is : whole ≡ HashJoin left right =
-    ap tree_of c.in-HashJoin.is ∙ (λ at. HashJoin (tree_of (sym c.deref-left.ensures at)) (tree_of (sym c.deref-right.ensures at))) in
-    let part : IsPart catalogue block (HashJoin left right) = subst (IsPart catalogue block) is c.requires.part in
+    let is : whole ≡ JoinOperator Hash left right =
+    ap tree_of c.in-HashJoin.is ∙ (λ at. JoinOperator Hash (tree_of (sym c.deref-left.ensures at)) (tree_of (sym c.deref-right.ensures at))) in
+    let part : IsPart catalogue block (JoinOperator Hash left right) = subst (IsPart catalogue block) is c.requires.part in
     let most = hash-whole catalogue block formed whole left right c.part_cost-left_cost.result c.part_cost-right_cost.result
     c.part_rows-left_rows.result c.part_rows-right_rows.result c.part_rows-rows-in-HashJoin.result is part
     (c.part_cost-left_cost.ensures.spare part.2.left_whole) (c.part_cost-right_cost.ensures.spare part.2.right_whole)
@@ -100,9 +100,9 @@ returns-in-HashJoin-clause-most t c =
     let whole = tree_of c.args.plan.now in
     let left = tree_of c.deref-left.result.now in
     let right = tree_of c.deref-right.result.now in
-    let is : whole ≡ HashJoin left right =
-    ap tree_of c.in-HashJoin.is ∙ (λ at. HashJoin (tree_of (sym c.deref-left.ensures at)) (tree_of (sym c.deref-right.ensures at))) in
-    let part : IsPart catalogue block (HashJoin left right) = subst (IsPart catalogue block) is c.requires.part in
+    let is : whole ≡ JoinOperator Hash left right =
+    ap tree_of c.in-HashJoin.is ∙ (λ at. JoinOperator Hash (tree_of (sym c.deref-left.ensures at)) (tree_of (sym c.deref-right.ensures at))) in
+    let part : IsPart catalogue block (JoinOperator Hash left right) = subst (IsPart catalogue block) is c.requires.part in
     let most = hash-whole catalogue block formed whole left right c.part_cost-left_cost.result c.part_cost-right_cost.result
     c.part_rows-left_rows.result c.part_rows-right_rows.result c.part_rows-rows-in-HashJoin.result is part
     (c.part_cost-left_cost.ensures.spare part.2.left_whole) (c.part_cost-right_cost.ensures.spare part.2.right_whole)
@@ -118,9 +118,9 @@ returns-in-HashJoin-clause-spare t c = λ no_distinct.
     let whole = tree_of c.args.plan.now in
     let left = tree_of c.deref-left.result.now in
     let right = tree_of c.deref-right.result.now in
-    let is : whole ≡ HashJoin left right =
-    ap tree_of c.in-HashJoin.is ∙ (λ at. HashJoin (tree_of (sym c.deref-left.ensures at)) (tree_of (sym c.deref-right.ensures at))) in
-    let part : IsPart catalogue block (HashJoin left right) = subst (IsPart catalogue block) is c.requires.part in
+    let is : whole ≡ JoinOperator Hash left right =
+    ap tree_of c.in-HashJoin.is ∙ (λ at. JoinOperator Hash (tree_of (sym c.deref-left.ensures at)) (tree_of (sym c.deref-right.ensures at))) in
+    let part : IsPart catalogue block (JoinOperator Hash left right) = subst (IsPart catalogue block) is c.requires.part in
     let most = hash-whole catalogue block formed whole left right c.part_cost-left_cost.result c.part_cost-right_cost.result
     c.part_rows-left_rows.result c.part_rows-right_rows.result c.part_rows-rows-in-HashJoin.result is part
     (c.part_cost-left_cost.ensures.spare part.2.left_whole) (c.part_cost-right_cost.ensures.spare part.2.right_whole)
@@ -136,9 +136,9 @@ nested-requires t c =
     let whole = tree_of c.args.plan.now in
     let left = tree_of c.deref-left-in-NestedJoin.result.now in
     let right = tree_of c.deref-right-in-NestedJoin.result.now in
-    let is : whole ≡ NestedJoin left right =
-    ap tree_of c.in-NestedJoin.is ∙ (λ at. NestedJoin (tree_of (sym c.deref-left-in-NestedJoin.ensures at)) (tree_of (sym c.deref-right-in-NestedJoin.ensures at))) in
-    let part : IsPart catalogue block (NestedJoin left right) = subst (IsPart catalogue block) is c.requires.part in
+    let is : whole ≡ JoinOperator Nested left right =
+    ap tree_of c.in-NestedJoin.is ∙ (λ at. JoinOperator Nested (tree_of (sym c.deref-left-in-NestedJoin.ensures at)) (tree_of (sym c.deref-right-in-NestedJoin.ensures at))) in
+    let part : IsPart catalogue block (JoinOperator Nested left right) = subst (IsPart catalogue block) is c.requires.part in
     let most = nested-whole catalogue block formed whole left right c.part_cost-left_cost-in-NestedJoin.result c.part_cost-right_cost-in-NestedJoin.result
     c.part_rows-left_rows-in-NestedJoin.result c.part_rows-right_rows-in-NestedJoin.result c.part_rows-rows-in-NestedJoin.result is part
     (c.part_cost-left_cost-in-NestedJoin.ensures.spare part.2.left_whole) (c.part_cost-right_cost-in-NestedJoin.ensures.spare part.2.right_whole)
@@ -154,9 +154,9 @@ returns-in-NestedJoin-clause-most t c =
     let whole = tree_of c.args.plan.now in
     let left = tree_of c.deref-left-in-NestedJoin.result.now in
     let right = tree_of c.deref-right-in-NestedJoin.result.now in
-    let is : whole ≡ NestedJoin left right =
-    ap tree_of c.in-NestedJoin.is ∙ (λ at. NestedJoin (tree_of (sym c.deref-left-in-NestedJoin.ensures at)) (tree_of (sym c.deref-right-in-NestedJoin.ensures at))) in
-    let part : IsPart catalogue block (NestedJoin left right) = subst (IsPart catalogue block) is c.requires.part in
+    let is : whole ≡ JoinOperator Nested left right =
+    ap tree_of c.in-NestedJoin.is ∙ (λ at. JoinOperator Nested (tree_of (sym c.deref-left-in-NestedJoin.ensures at)) (tree_of (sym c.deref-right-in-NestedJoin.ensures at))) in
+    let part : IsPart catalogue block (JoinOperator Nested left right) = subst (IsPart catalogue block) is c.requires.part in
     let most = nested-whole catalogue block formed whole left right c.part_cost-left_cost-in-NestedJoin.result c.part_cost-right_cost-in-NestedJoin.result
     c.part_rows-left_rows-in-NestedJoin.result c.part_rows-right_rows-in-NestedJoin.result c.part_rows-rows-in-NestedJoin.result is part
     (c.part_cost-left_cost-in-NestedJoin.ensures.spare part.2.left_whole) (c.part_cost-right_cost-in-NestedJoin.ensures.spare part.2.right_whole)
@@ -172,9 +172,9 @@ returns-in-NestedJoin-clause-spare t c = λ no_distinct.
     let whole = tree_of c.args.plan.now in
     let left = tree_of c.deref-left-in-NestedJoin.result.now in
     let right = tree_of c.deref-right-in-NestedJoin.result.now in
-    let is : whole ≡ NestedJoin left right =
-    ap tree_of c.in-NestedJoin.is ∙ (λ at. NestedJoin (tree_of (sym c.deref-left-in-NestedJoin.ensures at)) (tree_of (sym c.deref-right-in-NestedJoin.ensures at))) in
-    let part : IsPart catalogue block (NestedJoin left right) = subst (IsPart catalogue block) is c.requires.part in
+    let is : whole ≡ JoinOperator Nested left right =
+    ap tree_of c.in-NestedJoin.is ∙ (λ at. JoinOperator Nested (tree_of (sym c.deref-left-in-NestedJoin.ensures at)) (tree_of (sym c.deref-right-in-NestedJoin.ensures at))) in
+    let part : IsPart catalogue block (JoinOperator Nested left right) = subst (IsPart catalogue block) is c.requires.part in
     let most = nested-whole catalogue block formed whole left right c.part_cost-left_cost-in-NestedJoin.result c.part_cost-right_cost-in-NestedJoin.result
     c.part_rows-left_rows-in-NestedJoin.result c.part_rows-right_rows-in-NestedJoin.result c.part_rows-rows-in-NestedJoin.result is part
     (c.part_cost-left_cost-in-NestedJoin.ensures.spare part.2.left_whole) (c.part_cost-right_cost-in-NestedJoin.ensures.spare part.2.right_whole)
