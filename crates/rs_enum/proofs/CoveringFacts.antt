@@ -8,12 +8,12 @@ use Rattle.rs_query.specs.Meaning.{is_inside}
 use Rattle.rs_query.specs.declared.block.Block.{Block}
 use Rattle.rs_query.specs.declared.query.Query.{Query}
 use Rattle.rs_sample.specs.Cards.{BlockCards}
-use Rattle.rs_plan.specs.Plans.{HasNoDistinct, IsHashed, IsPart, IsRank}
-use Rattle.rs_plan.specs.Trees.{Distinct, Hash, JoinOperator, Nested, PlanTree, Rank, RankScan, SeqScan, SetOperator, entries, terms}
+use Rattle.rs_plan.specs.Plans.{HasNoDistinct, IsPart, IsRank, MayJoin}
+use Rattle.rs_plan.specs.Trees.{Distinct, JoinOperator, PlanTree, Rank, RankScan, SeqScan, SetOperator, entries, terms}
 use Rattle.rs_enum.specs.Candidates.{IsCandidate}
 use Rattle.rs_enum.specs.Least.{ComesNoLater}
 use Rattle.rs_enum.proofs.WithinFacts.{terms-below}
-use Rattle.rs_enum.proofs.OrderOfPlans.{exchanged-below, exchanged-left-hash, exchanged-left-nested, exchanged-right-hash, exchanged-right-nested, no_later-on}
+use Rattle.rs_enum.proofs.OrderOfPlans.{exchanged-below, exchanged-left, exchanged-right, no_later-on}
 
 -- an operator for a term over another child of the same entries and terms
 rank-of : (block : Block) (t : ℕ) (a b : PlanTree) → entries a ≡ entries b → terms a ≡ terms b → IsRank block t b → IsRank block t a
@@ -72,16 +72,16 @@ module _ (catalogue : CatalogDef) (block : Block) where
             no_later = no_later-on catalogue query cards f.found (Rank t c.found) (Rank t child) f.no_later
                 (exchanged-below catalogue query cards block t c.found child s.part is.0 s.its_entries s.its_terms c.no_later);
           }
-      covers-all (JoinOperator Hash l r) is whole =
+      covers-all (JoinOperator kind l r) is whole =
           let a = covers-all l is.0 whole.0 in
           let b = covers-all r is.1 whole.1 in
           let s = sound (entries l) (terms l) a.found (terms-below catalogue block l is.0) a.is in
           let u = sound (entries r) (terms r) b.found (terms-below catalogue block r is.1) b.is in
           let apart : AreDisjoint (entries a.found) (entries b.found) =
           subst₂ (λ x y. bit_and x y ≡ 0) (sym s.its_entries) (sym u.its_entries) is.2.apart in
-          let hashed : IsHashed block (entries a.found) (entries b.found) = subst₂ (IsHashed block) (sym s.its_entries) (sym u.its_entries) is.3 in
-          let f = filled (entries (JoinOperator Hash l r)) (terms (JoinOperator Hash l r)) (JoinOperator Hash a.found b.found) (record {
-            part = (s.part, u.part, record { apart = apart; left_whole = s.whole; right_whole = u.whole }, hashed);
+          let may : MayJoin kind block (entries a.found) (entries b.found) = subst₂ (MayJoin kind block) (sym s.its_entries) (sym u.its_entries) is.3 in
+          let f = filled (entries (JoinOperator kind l r)) (terms (JoinOperator kind l r)) (JoinOperator kind a.found b.found) (record {
+            part = (s.part, u.part, record { apart = apart; left_whole = s.whole; right_whole = u.whole }, may);
             whole = (s.whole, u.whole);
             its_entries = λ at. bit_or (s.its_entries at) (u.its_entries at);
             its_terms = λ at. bit_or (s.its_terms at) (u.its_terms at);
@@ -93,35 +93,10 @@ module _ (catalogue : CatalogDef) (block : Block) where
           record {
             found = f.found;
             is = f.is;
-            no_later = no_later-on catalogue query cards f.found (JoinOperator Hash a.found b.found) (JoinOperator Hash l r) f.no_later
-                (no_later-on catalogue query cards (JoinOperator Hash a.found b.found) (JoinOperator Hash l b.found) (JoinOperator Hash l r)
-                (exchanged-left-hash catalogue query cards block a.found l b.found s.part is.0 s.its_entries s.its_terms a.no_later)
-                (exchanged-right-hash catalogue query cards block l b.found r u.part is.1 u.its_entries u.its_terms b.no_later));
-          }
-      covers-all (JoinOperator Nested l r) is whole =
-          let a = covers-all l is.0 whole.0 in
-          let b = covers-all r is.1 whole.1 in
-          let s = sound (entries l) (terms l) a.found (terms-below catalogue block l is.0) a.is in
-          let u = sound (entries r) (terms r) b.found (terms-below catalogue block r is.1) b.is in
-          let apart : AreDisjoint (entries a.found) (entries b.found) =
-          subst₂ (λ x y. bit_and x y ≡ 0) (sym s.its_entries) (sym u.its_entries) is.2.apart in
-          let f = filled (entries (JoinOperator Nested l r)) (terms (JoinOperator Nested l r)) (JoinOperator Nested a.found b.found) (record {
-            part = (s.part, u.part, record { apart = apart; left_whole = s.whole; right_whole = u.whole });
-            whole = (s.whole, u.whole);
-            its_entries = λ at. bit_or (s.its_entries at) (u.its_entries at);
-            its_terms = λ at. bit_or (s.its_terms at) (u.its_terms at);
-            made = (
-              subst₂ (λ x y. kept x y ≡ Some a.found) (sym s.its_entries) (sym s.its_terms) a.is,
-              subst₂ (λ x y. kept x y ≡ Some b.found) (sym u.its_entries) (sym u.its_terms) b.is,
-            );
-          }) in
-          record {
-            found = f.found;
-            is = f.is;
-            no_later = no_later-on catalogue query cards f.found (JoinOperator Nested a.found b.found) (JoinOperator Nested l r) f.no_later
-                (no_later-on catalogue query cards (JoinOperator Nested a.found b.found) (JoinOperator Nested l b.found) (JoinOperator Nested l r)
-                (exchanged-left-nested catalogue query cards block a.found l b.found s.part is.0 s.its_entries s.its_terms a.no_later)
-                (exchanged-right-nested catalogue query cards block l b.found r u.part is.1 u.its_entries u.its_terms b.no_later));
+            no_later = no_later-on catalogue query cards f.found (JoinOperator kind a.found b.found) (JoinOperator kind l r) f.no_later
+                (no_later-on catalogue query cards (JoinOperator kind a.found b.found) (JoinOperator kind l b.found) (JoinOperator kind l r)
+                (exchanged-left catalogue query cards block kind a.found l b.found s.part is.0 s.its_entries s.its_terms a.no_later)
+                (exchanged-right catalogue query cards block kind l b.found r u.part is.1 u.its_entries u.its_terms b.no_later));
           }
       covers-all (Distinct child) is whole = absurd whole
       covers-all (SetOperator l r) is whole = absurd is

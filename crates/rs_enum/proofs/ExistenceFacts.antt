@@ -108,6 +108,7 @@ module _ (catalogue : CatalogDef) (block : Block) (formed : IsBlock catalogue bl
       left_whole = whole-left_deep n;
       right_whole = tt;
     },
+    tt,
   )
 
   -- the scans of all entries

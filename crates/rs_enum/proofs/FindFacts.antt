@@ -55,7 +55,8 @@ module _ (catalogue : CatalogDef) (block : Block) (formed : IsBlock catalogue bl
   rank-at t (SeqScan e) some most x at = absurd (let small = second-small catalogue block formed (SeqScan e) x.part in omega arith)
   rank-at t (RankScan e u i) some most x at = absurd (let small = second-small catalogue block formed (RankScan e u i) x.part in omega arith)
   rank-at t (Rank u child) some most x at = record { child = child; is = (let same : u ≡ t = omega arith in ap (λ n. Rank n child) same) }
-  rank-at t (JoinOperator kind l r) some most x at = absurd (omega arith)
+  rank-at t (JoinOperator Hash l r) some most x at = absurd (omega arith)
+  rank-at t (JoinOperator Nested l r) some most x at = absurd (omega arith)
   rank-at t (Distinct child) some most x at = absurd x.made
   rank-at t (SetOperator l r) some most x at = absurd x.made
 
@@ -289,7 +290,7 @@ module _ (catalogue : CatalogDef) (query : Query) (cards : List BlockCards) (for
       → IsOne catalogue query cards places first second (5 * 256 + left) found
   nested-one left s are rows rows_is few found cost_is choice_is =
       let part : IsPart catalogue (block_in query 1) (JoinOperator Nested are.l are.r) =
-      (are.left_part, are.right_part, record { apart = are.apart; left_whole = are.left_whole; right_whole = are.right_whole }) in
+      (are.left_part, are.right_part, record { apart = are.apart; left_whole = are.left_whole; right_whole = are.right_whole }, tt) in
       let most = nested-whole catalogue (block_in query 1) formed (JoinOperator Nested are.l are.r) are.l are.r s.left_cost s.right_cost s.left_rows s.right_rows rows refl part
       are.left_spare are.right_spare are.left_few are.right_few (subst (λ n. rows ≤ 131072 ^ count_ones n) (sym are.both_entries) few) in
       let bound = subst₂ (λ x y. s.left_cost + s.right_cost + s.left_rows * s.right_rows + rows + 2 ^ 105 ≤ most_cost x y) are.both_entries are.both_terms most in

@@ -46,7 +46,7 @@ module _ (catalogue : CatalogDef) (query : Query) (cards : List BlockCards) (for
   sides-masks are left s is =
       subst₂ (IsEstimated (cards_at cards 1)) is.both_entries is.both_terms
       (masks-part (block_in query 1) (cards_at cards 1) (block-cards query cards 1 are (first-numbered query cards are)) catalogue (JoinOperator Nested is.l is.r)
-      (is.left_part, is.right_part, record { apart = is.apart; left_whole = is.left_whole; right_whole = is.right_whole }))
+      (is.left_part, is.right_part, record { apart = is.apart; left_whole = is.left_whole; right_whole = is.right_whole }, tt))
 
   -- no code starts between those of two kinds
   pub first-scans : (found : Option Candidate) → IsTheFirst catalogue query cards places first second (3 * 256) found

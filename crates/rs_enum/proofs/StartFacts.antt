@@ -188,7 +188,8 @@ module _ (catalogue : CatalogDef) (block : Block) (formed : IsBlock catalogue bl
     start-most (SeqScan e) x = let small = second-small (SeqScan e) x.part in omega arith
     start-most (RankScan e t i) x = let small = second-small (RankScan e t i) x.part in omega arith
     start-most (Rank t child) x = let small = second-small (Rank t child) x.part in omega arith
-    start-most (JoinOperator kind l r) x = let small = second-small (JoinOperator kind l r) x.part in omega arith
+    start-most (JoinOperator Hash l r) x = let small = second-small (JoinOperator Hash l r) x.part in omega arith
+    start-most (JoinOperator Nested l r) x = let small = second-small (JoinOperator Nested l r) x.part in omega arith
     start-most (Distinct child) x = absurd x.made
     start-most (SetOperator l r) x = absurd x.made
 
@@ -205,7 +206,8 @@ module _ (catalogue : CatalogDef) (block : Block) (formed : IsBlock catalogue bl
     no-term-zero (SeqScan e) x at = let small = second-small (SeqScan e) x.part in omega arith
     no-term-zero (RankScan e t i) x at = let small = second-small (RankScan e t i) x.part in omega arith
     no-term-zero (Rank t child) x at = let some = x.part.1.is_term.some in omega arith
-    no-term-zero (JoinOperator kind l r) x at = omega arith
+    no-term-zero (JoinOperator Hash l r) x at = omega arith
+    no-term-zero (JoinOperator Nested l r) x at = omega arith
     no-term-zero (Distinct child) x at = x.made
     no-term-zero (SetOperator l r) x at = x.made
 

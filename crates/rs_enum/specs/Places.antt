@@ -7,7 +7,7 @@ use Rattle.rs_sample.specs.Cards.{BlockCards}
 use Rattle.rs_query.specs.Blocks.{block_in}
 use Rattle.rs_plan.specs.Plans.{HasNoDistinct, IsPart, IsRankScan}
 use Rattle.rs_plan.specs.Shapes.{tree_of}
-use Rattle.rs_plan.specs.Trees.{Distinct, Hash, JoinOperator, Nested, PlanTree, Rank, RankScan, SeqScan, SetOperator, entries, terms}
+use Rattle.rs_plan.specs.Trees.{Distinct, Hash, JoinOperator, Nested, PlanTree, Rank, RankScan, SeqScan, SetOperator, entries, terms, join_number}
 use Rattle.rs_enum.specs.declared.candidate.Candidate.{Candidate}
 use Rattle.rs_enum.specs.declared.candidate.Choice.{Choice}
 use Rattle.rs_enum.specs.declared.candidate.Sides.{Sides}
@@ -55,8 +55,7 @@ abbrev pub start_of : PlanTree → ℕ
 start_of (SeqScan entry) = 1 * 256 + entry
 start_of (RankScan entry term index) = 2 * 256 + entry
 start_of (Rank term child) = 3 * 256 + term
-start_of (JoinOperator Hash left right) = 4 * 256 + entries left
-start_of (JoinOperator Nested left right) = 5 * 256 + entries left
+start_of (JoinOperator kind left right) = join_number kind * 256 + entries left
 start_of (Distinct child) = 6 * 256
 start_of (SetOperator left right) = 7 * 256
 
