@@ -9,7 +9,7 @@ use Rattle.rs_query.specs.Blocks.{block_in}
 use Rattle.rs_enum.specs.QueryCards.{cards_at}
 use Rattle.rs_enum.proofs.CostFacts.{block-cards, indexed}
 use Rattle.rs_enum.specs.Given.{block_of}
-use Rattle.rs_enum.proofs.find.Search.rank_scan.Goals as goal
+use Rattle.rs_enum.proofs.search.Search.rank_scan.Goals as goal
 
 pub index_rows-requires-clause-alone : goal.index_rows-requires-clause-alone
 index_rows-requires-clause-alone c =

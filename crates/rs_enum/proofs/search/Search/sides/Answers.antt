@@ -16,7 +16,7 @@ use Rattle.rs_enum.proofs.FindFacts.{no-sides-left, no-sides-outside, no-sides-r
 use Rattle.rs_enum.proofs.AloneFacts.{estimate-alone}
 use Rattle.rs_enum.proofs.SearchFacts.{kept-some}
 use Rattle.rs_enum.specs.Given.{block_of, cards_in, query_in}
-use Rattle.rs_enum.proofs.find.Search.sides.Goals as goal
+use Rattle.rs_enum.proofs.search.Search.sides.Goals as goal
 
 pub returns-then-left-of : goal.returns-then-left-of
 returns-then-left-of c =

@@ -17,7 +17,7 @@ use Rattle.rs_enum.specs.Places.{AreKept, IsTheFirst, IsTheScan}
 use Rattle.rs_enum.proofs.CostFacts.{block-formed}
 use Rattle.rs_enum.proofs.FindFacts.{no-entry, no-index, no-term, rank_scan-first, seq-first}
 use Rattle.rs_enum.specs.Given.{block_of, cards_in, query_in}
-use Rattle.rs_enum.proofs.find.Search.scan.Goals as goal
+use Rattle.rs_enum.proofs.search.Search.scan.Goals as goal
 
 first-scan : (catalogue : CatalogDef) (query : Query) (cards : List BlockCards) → IsBlock catalogue (block_in query 1) → (places : List (Option Kept))
     → AreKept catalogue query cards places → (first second : ℕ) → second < 2 ^ length (block_in query 1).terms

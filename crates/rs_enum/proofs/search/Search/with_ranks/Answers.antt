@@ -7,7 +7,7 @@ use Rattle.rs_enum.proofs.CostFacts.{block-formed}
 use Rattle.rs_enum.proofs.SearchFacts.{first-ranks, first-scans}
 use Rattle.rs_enum.proofs.StartFacts.{IsTheFirst-cheaper}
 use Rattle.rs_enum.specs.Given.{block_of, cards_in, query_in}
-use Rattle.rs_enum.proofs.find.Search.with_ranks.Goals as goal
+use Rattle.rs_enum.proofs.search.Search.with_ranks.Goals as goal
 
 pub loop-place-init : goal.loop-place-init
 loop-place-init c = first-scans c.args.self.now.planning.catalog.now (query_in c.args.self.now) (cards_in c.args.self.now) (block-formed c.args.self.now.planning.catalog.now c.args.self.now.planning.query.now c.args.self.now.number c.requires.search.planning.query)

@@ -5,7 +5,7 @@ use Rattle.rs_enum.proofs.CostFacts.{block-formed}
 use Rattle.rs_enum.proofs.SearchFacts.{entries-few, first-hashed}
 use Rattle.rs_enum.proofs.StartFacts.{IsTheFirst-cheaper}
 use Rattle.rs_enum.specs.Given.{cards_in, query_in}
-use Rattle.rs_enum.proofs.find.Search.with_hash_joins.Goals as goal
+use Rattle.rs_enum.proofs.search.Search.with_hash_joins.Goals as goal
 
 pub loop-left-init : goal.loop-left-init
 loop-left-init c = (c.requires.found, omega arith)

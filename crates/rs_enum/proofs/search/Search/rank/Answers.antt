@@ -18,7 +18,7 @@ use Rattle.rs_enum.proofs.FindFacts.{rank-elsewhere, rank-missing, rank-one, ran
 use Rattle.rs_enum.proofs.AloneFacts.{estimate-alone}
 use Rattle.rs_enum.proofs.SearchFacts.{inside-false, inside-true, kept-without, one-fits}
 use Rattle.rs_enum.specs.Given.{block_of, cards_in, query_in}
-use Rattle.rs_enum.proofs.find.Search.rank.Goals as goal
+use Rattle.rs_enum.proofs.search.Search.rank.Goals as goal
 
 pub returns-then-not-has_number : goal.returns-then-not-has_number
 returns-then-not-has_number c =

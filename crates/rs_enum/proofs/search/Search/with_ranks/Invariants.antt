@@ -1,7 +1,7 @@
 use Rattle.std.proofs.Common.{◌+◌, ◌*◌}
 use Rattle.rs_enum.specs.Places.{IsTheFirst}
 use Rattle.rs_enum.specs.Given.{cards_in, query_in}
-use Rattle.rs_enum.proofs.find.Search.with_ranks.Given as goal
+use Rattle.rs_enum.proofs.search.Search.with_ranks.Given as goal
 
 -- what is first of all that were tried
 abbrev pub invariant-loop-place : goal.invariant-loop-place
