@@ -143,11 +143,11 @@ module _ (ts : List ℕ) (lesser : List PlanTree) where
 
   In-hash : (l r : PlanTree) → In l lesser → In r lesser → In (JoinOperator Hash l r) (trees_over ts lesser)
   unfolding hashes
-  In-hash l r is_l is_r = In-second (JoinOperator Hash l r) (pairs-in JoinOperator Hash l r lesser lesser is_l is_r)
+  In-hash l r is_l is_r = In-second (JoinOperator Hash l r) (pairs-in (JoinOperator Hash) l r lesser lesser is_l is_r)
 
   In-nested : (l r : PlanTree) → In l lesser → In r lesser → In (JoinOperator Nested l r) (trees_over ts lesser)
   unfolding nesteds
-  In-nested l r is_l is_r = In-third (JoinOperator Nested l r) (pairs-in JoinOperator Nested l r lesser lesser is_l is_r)
+  In-nested l r is_l is_r = In-third (JoinOperator Nested l r) (pairs-in (JoinOperator Nested) l r lesser lesser is_l is_r)
 
   In-distinct : (child : PlanTree) → In child lesser → In (Distinct child) (trees_over ts lesser)
   unfolding distincts
@@ -167,13 +167,13 @@ module _ (ts : List ℕ) (lesser : List PlanTree) where
     second-back : In tree hashes → IsOver es ts indexes tree
     unfolding hashes
     second-back h =
-        let p = pairs-back JoinOperator Hash lesser lesser tree h in
+        let p = pairs-back (JoinOperator Hash) lesser lesser tree h in
         subst (IsOver es ts indexes) (sym p.pair) (over p.first p.first_in, over p.second p.second_in)
 
     third-back : In tree nesteds → IsOver es ts indexes tree
     unfolding nesteds
     third-back h =
-        let p = pairs-back JoinOperator Nested lesser lesser tree h in
+        let p = pairs-back (JoinOperator Nested) lesser lesser tree h in
         subst (IsOver es ts indexes) (sym p.pair) (over p.first p.first_in, over p.second p.second_in)
 
     fourth-back : In tree distincts → IsOver es ts indexes tree

@@ -343,7 +343,8 @@ module _ (catalogue : CatalogDef) (query : Query) (cards : List BlockCards) (for
   scan-case (SeqScan e) x below seq rank = seq e refl x.part x.its_entries x.its_terms
   scan-case (RankScan e t i) x below seq rank = rank e t i refl x.part x.its_entries x.its_terms
   scan-case (Rank t child) x below seq rank = absurd (omega arith)
-  scan-case (JoinOperator kind l r) x below seq rank = absurd (omega arith)
+  scan-case (JoinOperator Hash l r) x below seq rank = absurd (omega arith)
+  scan-case (JoinOperator Nested l r) x below seq rank = absurd (omega arith)
   scan-case (Distinct child) x below seq rank = absurd x.made
   scan-case (SetOperator l r) x below seq rank = absurd x.made
 

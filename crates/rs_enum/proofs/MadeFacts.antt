@@ -1,7 +1,7 @@
 -- A choice makes one tree, that of each plan which it was made of.
 use Rattle.std.proofs.Common.{◌≡◌, ℕ, ◌≤◌, List, length, refl, sym, ◌∙◌, ap, subst, arith, bit_and, bit_xor}
-use Rattle.std.specs.Prelude.{Option, Some, None, IsSome, option_map}
-use Rattle.std.proofs.lemmas.Option.{none-some, same_Some}
+use Rattle.std.specs.Prelude.{Option, Some}
+use Rattle.std.proofs.lemmas.Option.{same_Some}
 use Rattle.rs_rank.specs.Masks.{mask_of}
 use Rattle.rs_catalog.specs.Catalog.{CatalogDef}
 use Rattle.rs_query.specs.WellFormed.{IsBlock}

@@ -15,7 +15,7 @@ use Rattle.rs_sample.specs.Cards.{BlockCards}
 use Rattle.rs_query.specs.Blocks.{block_in}
 use Rattle.rs_plan.specs.Plans.{IsComplete, IsPlan}
 use Rattle.rs_plan.specs.Shapes.{tree_of}
-use Rattle.rs_plan.specs.Trees.{Distinct, Hash, JoinOperator, Nested, PlanTree, Rank, RankScan, SeqScan, SetOperator, code, terms}
+use Rattle.rs_plan.specs.Trees.{Distinct, JoinOperator, PlanTree, Rank, RankScan, SeqScan, SetOperator, code, terms}
 use Rattle.rs_enum.specs.declared.extent.Extent.TheVariants as extent
 use Rattle.rs_enum.specs.declared.kept.Kept.{Kept}
 use Rattle.rs_enum.specs.Costs.{cost_in, estimate_of}

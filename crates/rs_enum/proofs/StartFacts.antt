@@ -147,12 +147,20 @@ module _ (catalogue : CatalogDef) (block : Block) (formed : IsBlock catalogue bl
     pub same-start : (a b : PlanTree) → IsCandidate catalogue block kept first second a → IsCandidate catalogue block kept first second b
         → start_of a ≡ start_of b → a ≡ b
     same-start (SeqScan e) (SeqScan f) x y same = ap SeqScan (omega arith)
+    same-start (SeqScan e) (JoinOperator Hash m s) x y same =
+        absurd (let small = second-small (SeqScan e) x.part in let less = second-small (JoinOperator Hash m s) y.part in omega arith)
+    same-start (SeqScan e) (JoinOperator Nested m s) x y same =
+        absurd (let small = second-small (SeqScan e) x.part in let less = second-small (JoinOperator Nested m s) y.part in omega arith)
     same-start (SeqScan e) other x y same = absurd (let small = second-small (SeqScan e) x.part in let less = second-small other y.part in omega arith)
     same-start (RankScan e t i) (RankScan f u j) x y same =
         let entry : e ≡ f = omega arith in
         let term : t ≡ u = mask-number t u x.part.is_term.some y.part.is_term.some (x.its_terms ∙ sym y.its_terms) in
         let index = same-index catalogue block e t i f u j x.part y.part entry term in
         λ at. RankScan (entry at) (term at) (index at)
+    same-start (RankScan e t i) (JoinOperator Hash m s) x y same =
+        absurd (let small = second-small (RankScan e t i) x.part in let less = second-small (JoinOperator Hash m s) y.part in omega arith)
+    same-start (RankScan e t i) (JoinOperator Nested m s) x y same =
+        absurd (let small = second-small (RankScan e t i) x.part in let less = second-small (JoinOperator Nested m s) y.part in omega arith)
     same-start (RankScan e t i) other x y same = absurd (let small = second-small (RankScan e t i) x.part in let less = second-small other y.part in omega arith)
     same-start (Rank t a) (Rank u b) x y same =
         let term : t ≡ u = omega arith in
@@ -163,6 +171,10 @@ module _ (catalogue : CatalogDef) (block : Block) (formed : IsBlock catalogue bl
         let child = kept-same a b x.made y.made (x.its_entries ∙ sym y.its_entries)
         (without_a ∙ ap (λ n. bit_xor second (mask_of n)) term ∙ sym without_b) in
         λ at. Rank (term at) (child at)
+    same-start (Rank t a) (JoinOperator Hash m s) x y same =
+        absurd (let small = second-small (Rank t a) x.part in let less = second-small (JoinOperator Hash m s) y.part in omega arith)
+    same-start (Rank t a) (JoinOperator Nested m s) x y same =
+        absurd (let small = second-small (Rank t a) x.part in let less = second-small (JoinOperator Nested m s) y.part in omega arith)
     same-start (Rank t a) other x y same = absurd (let small = second-small (Rank t a) x.part in let less = second-small other y.part in omega arith)
     same-start (JoinOperator Hash l r) (JoinOperator Hash m s) x y same =
         let same_left : entries l ≡ entries m = omega arith in

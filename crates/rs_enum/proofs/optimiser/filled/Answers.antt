@@ -22,9 +22,13 @@ signature_at-of-requires-clause-row c =
     c.masks-columns.ensures less refl in
     omega arith
 
-pub keep-requires-clause-kept : goal.keep-requires-clause-kept
-keep-requires-clause-kept c =
-    subst (AreKept c.args.planning.now.catalog.now (alone c.args.planning.now.query.now c.args.number) (alone_cards (cards_of c.args.planning.now.cards.now) c.args.number)) (sym c.deref.ensures.value) c.loop-place.invariant.0.kept
+pub keep-requires-clause-search : goal.keep-requires-clause-search
+keep-requires-clause-search c = record {
+  planning = c.requires.planning;
+  number = c.requires.number;
+  kept = subst (AreKept c.args.planning.now.catalog.now (alone c.args.planning.now.query.now c.args.number) (alone_cards (cards_of c.args.planning.now.cards.now) c.args.number))
+      (sym c.deref.ensures.value) c.loop-place.invariant.0.kept;
+}
 
 pub loop-place-preserved : goal.loop-place-preserved
 loop-place-preserved c =

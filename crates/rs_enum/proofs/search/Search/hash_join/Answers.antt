@@ -4,7 +4,6 @@ use Rattle.std.specs.Prelude.{Some}
 use Rattle.rs_query.specs.declared.block.Block.{Block}
 use Rattle.rs_sample.specs.Kept.{cards_of}
 use Rattle.rs_plan.specs.Plans.{IsHashed}
-use Rattle.rs_enum.specs.QueryCards.{alone}
 use Rattle.rs_enum.specs.declared.candidate.Candidate.{Candidate}
 use Rattle.rs_enum.specs.declared.candidate.Choice.TheVariants as choice
 use Rattle.rs_enum.specs.Places.{AreTheSides, IsOne, IsTheOne}
@@ -63,4 +62,4 @@ hashed-cost-requires c =
     omega arith
 
 pub returns : goal.returns
-returns c = one c.before (record { cost = c.hashed-cost.result; choice = choice.HashJoin c.args.left }) c.hashed-cost.ensures refl
+returns c = one (record { before = c.before.before; type_inv = record { self = c.type_inv.self } }) (record { cost = c.hashed-cost.result; choice = choice.HashJoin c.args.left }) c.hashed-cost.ensures refl

@@ -2,7 +2,6 @@
 use Rattle.std.proofs.Common.{◌≡◌, ◌+◌, ◌*◌, refl, sym, subst, arith}
 use Rattle.std.specs.Prelude.{Some}
 use Rattle.rs_sample.specs.Kept.{cards_of}
-use Rattle.rs_enum.specs.QueryCards.{alone}
 use Rattle.rs_enum.specs.declared.candidate.Candidate.{Candidate}
 use Rattle.rs_enum.specs.declared.candidate.Choice.TheVariants as choice
 use Rattle.rs_enum.specs.Places.{AreTheSides, IsOne, IsTheOne}
@@ -51,4 +50,4 @@ nested-cost-requires c =
     omega arith
 
 pub returns : goal.returns
-returns c = one c.before (record { cost = c.nested-cost.result; choice = choice.NestedJoin c.args.left }) c.nested-cost.ensures refl
+returns c = one (record { before = c.before.before; type_inv = record { self = c.type_inv.self } }) (record { cost = c.nested-cost.result; choice = choice.NestedJoin c.args.left }) c.nested-cost.ensures refl

@@ -5,8 +5,6 @@ use Rattle.std.specs.Borrow.{Bor}
 use Rattle.rs_rank.specs.Masks.{mask_of}
 use Rattle.rs_query.specs.declared.block.Block.{Block}
 use Rattle.rs_sample.specs.Kept.{cards_of}
-use Rattle.rs_query.specs.Blocks.{block_in}
-use Rattle.rs_enum.specs.QueryCards.{alone}
 use Rattle.rs_enum.specs.declared.candidate.Candidate.{Candidate}
 use Rattle.rs_enum.specs.declared.candidate.Choice.TheVariants as choice
 use Rattle.rs_enum.specs.declared.kept.Kept.{Kept}
@@ -97,4 +95,4 @@ with_calls-cost-requires c =
     omega arith
 
 pub returns : goal.returns
-returns c = one c.before (record { cost = c.with_calls-cost.result; choice = choice.Rank c.args.term }) c.with_calls-cost.ensures refl
+returns c = one (record { before = c.before.before; type_inv = record { self = c.type_inv.self } }) (record { cost = c.with_calls-cost.result; choice = choice.Rank c.args.term }) c.with_calls-cost.ensures refl

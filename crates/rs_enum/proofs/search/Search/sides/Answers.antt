@@ -4,9 +4,7 @@ use Rattle.std.specs.Prelude.{Some, None, option_map}
 use Rattle.std.specs.Borrow.{Bor}
 use Rattle.rs_query.specs.declared.block.Block.{Block}
 use Rattle.rs_sample.specs.Kept.{cards_of}
-use Rattle.rs_query.specs.Blocks.{block_in}
 use Rattle.rs_plan.specs.Shapes.{tree_of}
-use Rattle.rs_enum.specs.QueryCards.{alone}
 use Rattle.rs_enum.specs.declared.candidate.Sides.{Sides}
 use Rattle.rs_enum.specs.declared.kept.Kept.{Kept}
 use Rattle.rs_enum.specs.Places.{AreTheSides, kept_at}
