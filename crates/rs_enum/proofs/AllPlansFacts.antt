@@ -19,7 +19,7 @@ use Rattle.rs_query.specs.declared.query.Query.TheVariants.{One, Set}
 use Rattle.rs_plan.specs.Deciding.{is_plan}
 use Rattle.rs_plan.specs.Numbers.{HasNumbers, IsUpTo}
 use Rattle.rs_plan.specs.Plans.{HasNoDistinct, IsPart, IsPlan, IsSetPlan}
-use Rattle.rs_plan.specs.Trees.{Distinct, HashJoin, NestedJoin, Rank, RankScan, SeqScan, SetOperator, PlanTree, entries, terms}
+use Rattle.rs_plan.specs.Trees.{Distinct, Hash, JoinOperator, Nested, PlanTree, Rank, RankScan, SeqScan, SetOperator, entries, terms}
 use Rattle.rs_plan.proofs.DecidingFacts.{plan-decided, plan-numbers}
 use Rattle.rs_enum.specs.AllPlans.{all_plans, all_scans, trees_of, trees_over}
 use Rattle.rs_enum.proofs.BitFacts.{ones-mask, ones-or}
@@ -58,8 +58,7 @@ abbrev IsOver : List ℕ → List ℕ → List ℕ → PlanTree → Type 0
 IsOver es ts indexes (SeqScan e) = In e es
 IsOver es ts indexes (RankScan e t i) = In e es × In t ts × In i indexes
 IsOver es ts indexes (Rank t child) = In t ts × IsOver es ts indexes child
-IsOver es ts indexes (HashJoin l r) = IsOver es ts indexes l × IsOver es ts indexes r
-IsOver es ts indexes (NestedJoin l r) = IsOver es ts indexes l × IsOver es ts indexes r
+IsOver es ts indexes (JoinOperator kind l r) = IsOver es ts indexes l × IsOver es ts indexes r
 IsOver es ts indexes (Distinct child) = IsOver es ts indexes child
 IsOver es ts indexes (SetOperator l r) = IsOver es ts indexes l × IsOver es ts indexes r
 
@@ -67,8 +66,7 @@ abbrev levels : PlanTree → ℕ
 levels (SeqScan e) = 1
 levels (RankScan e t i) = 1
 levels (Rank t child) = suc (levels child)
-levels (HashJoin l r) = suc (max (levels l) (levels r))
-levels (NestedJoin l r) = suc (max (levels l) (levels r))
+levels (JoinOperator kind l r) = suc (max (levels l) (levels r))
 levels (Distinct child) = suc (levels child)
 levels (SetOperator l r) = suc (max (levels l) (levels r))
 
@@ -76,8 +74,7 @@ some-levels : (tree : PlanTree) → 1 ≤ levels tree
 some-levels (SeqScan e) = omega arith
 some-levels (RankScan e t i) = omega arith
 some-levels (Rank t child) = omega arith
-some-levels (HashJoin l r) = omega arith
-some-levels (NestedJoin l r) = omega arith
+some-levels (JoinOperator kind l r) = omega arith
 some-levels (Distinct child) = omega arith
 some-levels (SetOperator l r) = omega arith
 
@@ -103,10 +100,10 @@ module _ (ts : List ℕ) (lesser : List PlanTree) where
   ranks = flat_map (λ term. map (Rank term) lesser) ts
 
   hashes : List PlanTree
-  hashes = flat_map (λ left. map (HashJoin left) lesser) lesser
+  hashes = flat_map (λ left. map (JoinOperator Hash left) lesser) lesser
 
   nesteds : List PlanTree
-  nesteds = flat_map (λ left. map (NestedJoin left) lesser) lesser
+  nesteds = flat_map (λ left. map (JoinOperator Nested left) lesser) lesser
 
   distincts : List PlanTree
   distincts = map Distinct lesser
@@ -144,13 +141,13 @@ module _ (ts : List ℕ) (lesser : List PlanTree) where
   unfolding ranks
   In-rank t child is_t is_child = In-first (Rank t child) (pairs-in Rank t child ts lesser is_t is_child)
 
-  In-hash : (l r : PlanTree) → In l lesser → In r lesser → In (HashJoin l r) (trees_over ts lesser)
+  In-hash : (l r : PlanTree) → In l lesser → In r lesser → In (JoinOperator Hash l r) (trees_over ts lesser)
   unfolding hashes
-  In-hash l r is_l is_r = In-second (HashJoin l r) (pairs-in HashJoin l r lesser lesser is_l is_r)
+  In-hash l r is_l is_r = In-second (JoinOperator Hash l r) (pairs-in (JoinOperator Hash) l r lesser lesser is_l is_r)
 
-  In-nested : (l r : PlanTree) → In l lesser → In r lesser → In (NestedJoin l r) (trees_over ts lesser)
+  In-nested : (l r : PlanTree) → In l lesser → In r lesser → In (JoinOperator Nested l r) (trees_over ts lesser)
   unfolding nesteds
-  In-nested l r is_l is_r = In-third (NestedJoin l r) (pairs-in NestedJoin l r lesser lesser is_l is_r)
+  In-nested l r is_l is_r = In-third (JoinOperator Nested l r) (pairs-in (JoinOperator Nested) l r lesser lesser is_l is_r)
 
   In-distinct : (child : PlanTree) → In child lesser → In (Distinct child) (trees_over ts lesser)
   unfolding distincts
@@ -170,13 +167,13 @@ module _ (ts : List ℕ) (lesser : List PlanTree) where
     second-back : In tree hashes → IsOver es ts indexes tree
     unfolding hashes
     second-back h =
-        let p = pairs-back HashJoin lesser lesser tree h in
+        let p = pairs-back (JoinOperator Hash) lesser lesser tree h in
         subst (IsOver es ts indexes) (sym p.pair) (over p.first p.first_in, over p.second p.second_in)
 
     third-back : In tree nesteds → IsOver es ts indexes tree
     unfolding nesteds
     third-back h =
-        let p = pairs-back NestedJoin lesser lesser tree h in
+        let p = pairs-back (JoinOperator Nested) lesser lesser tree h in
         subst (IsOver es ts indexes) (sym p.pair) (over p.first p.first_in, over p.second p.second_in)
 
     fourth-back : In tree distincts → IsOver es ts indexes tree
@@ -244,11 +241,11 @@ module _ (es ts indexes : List ℕ) where
   In-trees (Rank t child) (suc n) few over =
       In-right (Rank t child) (all_scans es ts indexes) (trees_over ts (trees_of es ts indexes n))
       (In-rank ts (trees_of es ts indexes n) t child over.0 (In-trees child n (omega arith) over.1))
-  In-trees (HashJoin l r) (suc n) few over =
-      In-right (HashJoin l r) (all_scans es ts indexes) (trees_over ts (trees_of es ts indexes n))
+  In-trees (JoinOperator Hash l r) (suc n) few over =
+      In-right (JoinOperator Hash l r) (all_scans es ts indexes) (trees_over ts (trees_of es ts indexes n))
       (In-hash ts (trees_of es ts indexes n) l r (In-trees l n (omega arith) over.0) (In-trees r n (omega arith) over.1))
-  In-trees (NestedJoin l r) (suc n) few over =
-      In-right (NestedJoin l r) (all_scans es ts indexes) (trees_over ts (trees_of es ts indexes n))
+  In-trees (JoinOperator Nested l r) (suc n) few over =
+      In-right (JoinOperator Nested l r) (all_scans es ts indexes) (trees_over ts (trees_of es ts indexes n))
       (In-nested ts (trees_of es ts indexes n) l r (In-trees l n (omega arith) over.0) (In-trees r n (omega arith) over.1))
   In-trees (Distinct child) (suc n) few over =
       In-right (Distinct child) (all_scans es ts indexes) (trees_over ts (trees_of es ts indexes n))
@@ -273,8 +270,7 @@ numbered-back : (catalogue : CatalogDef) (tree : PlanTree) → IsNumbered catalo
 numbered-back catalogue (SeqScan e) over = In-numbers_to-back e 6 over
 numbered-back catalogue (RankScan e t i) over = (In-numbers_to-back e 6 over.0, In-numbers_to-back t 8 over.1)
 numbered-back catalogue (Rank t child) over = (In-numbers_to-back t 8 over.0, numbered-back catalogue child over.1)
-numbered-back catalogue (HashJoin l r) over = (numbered-back catalogue l over.0, numbered-back catalogue r over.1)
-numbered-back catalogue (NestedJoin l r) over = (numbered-back catalogue l over.0, numbered-back catalogue r over.1)
+numbered-back catalogue (JoinOperator kind l r) over = (numbered-back catalogue l over.0, numbered-back catalogue r over.1)
 numbered-back catalogue (Distinct child) over = numbered-back catalogue child over
 numbered-back catalogue (SetOperator l r) over = (numbered-back catalogue l over.0, numbered-back catalogue r over.1)
 
@@ -299,9 +295,7 @@ numbered-part catalogue block (RankScan e t i) is numbers = (
   In-numbers_from 0 (length catalogue.indexes) i (omega arith) (let within = found-within _ catalogue.indexes i is.first in omega arith),
 )
 numbered-part catalogue block (Rank t child) is numbers = (upto-in 8 t numbers.0, numbered-part catalogue block child is.0 numbers.1)
-numbered-part catalogue block (HashJoin l r) is numbers =
-    (numbered-part catalogue block l is.0 numbers.0, numbered-part catalogue block r is.1 numbers.1)
-numbered-part catalogue block (NestedJoin l r) is numbers =
+numbered-part catalogue block (JoinOperator kind l r) is numbers =
     (numbered-part catalogue block l is.0 numbers.0, numbered-part catalogue block r is.1 numbers.1)
 numbered-part catalogue block (Distinct child) is numbers = numbered-part catalogue block child is.0 numbers
 numbered-part catalogue block (SetOperator l r) is numbers = absurd is
@@ -312,8 +306,7 @@ numbered-set catalogue left right (SetOperator l r) is numbers =
     (numbered-part catalogue left l is.0.part numbers.0, numbered-part catalogue right r is.1.part numbers.1)
 numbered-set catalogue left right (SeqScan e) is numbers = absurd is
 numbered-set catalogue left right (RankScan e t i) is numbers = absurd is
-numbered-set catalogue left right (HashJoin l r) is numbers = absurd is
-numbered-set catalogue left right (NestedJoin l r) is numbers = absurd is
+numbered-set catalogue left right (JoinOperator kind l r) is numbers = absurd is
 numbered-set catalogue left right (Distinct child) is numbers = absurd is
 
 numbered-plan : (catalogue : CatalogDef) (query : Query) (tree : PlanTree) → IsQuery catalogue query → IsPlan catalogue query tree → IsNumbered catalogue tree
@@ -341,11 +334,7 @@ module _ (catalogue : CatalogDef) (block : Block) (formed : IsBlock catalogue bl
   some-ones (SeqScan e) is = let one = ones-mask (e - 1) in omega arith
   some-ones (RankScan e t i) is = let one = ones-mask (e - 1) in omega arith
   some-ones (Rank t child) is = some-ones child is.0
-  some-ones (HashJoin l r) is =
-      let both = (both-ones l r is.0 is.1 is.2.apart).0 in
-      let some = some-ones l is.0 in
-      omega arith
-  some-ones (NestedJoin l r) is =
+  some-ones (JoinOperator kind l r) is =
       let both = (both-ones l r is.0 is.1 is.2.apart).0 in
       let some = some-ones l is.0 in
       omega arith
@@ -370,9 +359,7 @@ module _ (catalogue : CatalogDef) (block : Block) (formed : IsBlock catalogue bl
       let one = rank-one t child is in
       let few = whole-levels child is.0 whole in
       omega arith
-  whole-levels (HashJoin l r) is whole =
-      joined-levels l r is.0 is.1 is.2.apart (whole-levels l is.0 whole.0) (whole-levels r is.1 whole.1)
-  whole-levels (NestedJoin l r) is whole =
+  whole-levels (JoinOperator kind l r) is whole =
       joined-levels l r is.0 is.1 is.2.apart (whole-levels l is.0 whole.0) (whole-levels r is.1 whole.1)
   whole-levels (Distinct child) is whole = absurd whole
   whole-levels (SetOperator l r) is whole = absurd is
@@ -384,8 +371,7 @@ module _ (catalogue : CatalogDef) (block : Block) (formed : IsBlock catalogue bl
       let one = rank-one t child is in
       let few = part-levels child is.0 in
       omega arith
-  part-levels (HashJoin l r) is = let few = whole-levels (HashJoin l r) is (is.2.left_whole, is.2.right_whole) in omega arith
-  part-levels (NestedJoin l r) is = let few = whole-levels (NestedJoin l r) is (is.2.left_whole, is.2.right_whole) in omega arith
+  part-levels (JoinOperator kind l r) is = let few = whole-levels (JoinOperator kind l r) is (is.2.left_whole, is.2.right_whole) in omega arith
   part-levels (Distinct child) is = let few = whole-levels child is.0 is.1.first in omega arith
   part-levels (SetOperator l r) is = absurd is
 
@@ -412,8 +398,7 @@ set-levels catalogue left right left_formed right_formed (SetOperator l r) is sm
     omega arith
 set-levels catalogue left right left_formed right_formed (SeqScan e) is small = absurd is
 set-levels catalogue left right left_formed right_formed (RankScan e t i) is small = absurd is
-set-levels catalogue left right left_formed right_formed (HashJoin l r) is small = absurd is
-set-levels catalogue left right left_formed right_formed (NestedJoin l r) is small = absurd is
+set-levels catalogue left right left_formed right_formed (JoinOperator kind l r) is small = absurd is
 set-levels catalogue left right left_formed right_formed (Distinct child) is small = absurd is
 
 plan-levels : (catalogue : CatalogDef) (query : Query) (tree : PlanTree) → IsQuery catalogue query → IsPlan catalogue query tree → levels tree ≤ 16

@@ -5,7 +5,7 @@ use Rattle.rs_query.specs.declared.query.Query.{Query}
 use Rattle.rs_sample.specs.Cards.{BlockCards}
 use Rattle.rs_query.specs.Blocks.{block_in}
 use Rattle.rs_plan.specs.Plans.{IsPart}
-use Rattle.rs_plan.specs.Trees.{Distinct, HashJoin, NestedJoin, Rank, RankScan, SeqScan, SetOperator, PlanTree, terms}
+use Rattle.rs_plan.specs.Trees.{Distinct, Hash, JoinOperator, Nested, PlanTree, Rank, RankScan, SeqScan, SetOperator, terms}
 use Rattle.rs_enum.specs.Costs.{call_cost, cost_in, cost_of, estimate_of}
 use Rattle.rs_enum.specs.QueryCards.{AreCards, IsBlockNumber, alone, alone_cards, cards_at}
 use Rattle.rs_enum.proofs.CostFacts.{block-cards}
@@ -29,9 +29,9 @@ module _ (catalogue : CatalogDef) (query : Query) (cards : List BlockCards) (num
   cost-alone (SeqScan e) is = refl
   cost-alone (RankScan e t i) is = refl
   cost-alone (Rank t child) is = λ at. cost-alone child is.0 at + estimate-alone child is.0 at * call_cost catalogue (block_in query number) t
-  cost-alone (HashJoin l r) is =
-      λ at. cost-alone l is.0 at + cost-alone r is.1 at + 2 * (estimate-alone l is.0 at + estimate-alone r is.1 at) + estimate-alone (HashJoin l r) is at
-  cost-alone (NestedJoin l r) is =
-      λ at. cost-alone l is.0 at + cost-alone r is.1 at + estimate-alone l is.0 at * estimate-alone r is.1 at + estimate-alone (NestedJoin l r) is at
+  cost-alone (JoinOperator Hash l r) is =
+      λ at. cost-alone l is.0 at + cost-alone r is.1 at + 2 * (estimate-alone l is.0 at + estimate-alone r is.1 at) + estimate-alone (JoinOperator Hash l r) is at
+  cost-alone (JoinOperator Nested l r) is =
+      λ at. cost-alone l is.0 at + cost-alone r is.1 at + estimate-alone l is.0 at * estimate-alone r is.1 at + estimate-alone (JoinOperator Nested l r) is at
   cost-alone (Distinct child) is = λ at. cost-alone child is.0 at + estimate-alone child is.0 at
   cost-alone (SetOperator l r) is = absurd is

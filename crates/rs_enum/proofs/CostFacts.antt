@@ -22,7 +22,7 @@ use Rattle.rs_sample.specs.Cards.{AreRead, BlockCards, IsEstimated, IsIndexed}
 use Rattle.rs_query.specs.Blocks.{block_in}
 use Rattle.rs_plan.specs.Numbers.{HasNumbers}
 use Rattle.rs_plan.specs.Plans.{IsEntryNumber, IsPart, IsPlan, IsSetPlan, IsTermOf}
-use Rattle.rs_plan.specs.Trees.{Distinct, HashJoin, NestedJoin, Rank, RankScan, SeqScan, SetOperator, PlanTree, entries, terms}
+use Rattle.rs_plan.specs.Trees.{Distinct, JoinOperator, PlanTree, Rank, RankScan, SeqScan, SetOperator, entries, terms}
 use Rattle.rs_plan.proofs.DecidingFacts.{part-numbers}
 use Rattle.rs_enum.specs.Bounds.{IsNumberedTerm, IsSetPart, has_set_operator, most_cost, most_set_cost}
 use Rattle.rs_enum.specs.Costs.{estimate_of, estimate_under}
@@ -207,8 +207,7 @@ module _ (catalogue : CatalogDef) (left right : Block) where
   set-has-numbers l r (SetOperator a b) is = (part-has-numbers catalogue left l a is.0.part, part-has-numbers catalogue right r b is.1.part)
   set-has-numbers l r (SeqScan e) is = absurd is
   set-has-numbers l r (RankScan e t i) is = absurd is
-  set-has-numbers l r (HashJoin a b) is = absurd is
-  set-has-numbers l r (NestedJoin a b) is = absurd is
+  set-has-numbers l r (JoinOperator kind a b) is = absurd is
   set-has-numbers l r (Distinct child) is = absurd is
 
   pub set-terms-below : (tree : PlanTree) → IsSetPlan catalogue left right tree → terms tree < 2 ^ length left.terms
@@ -220,8 +219,7 @@ module _ (catalogue : CatalogDef) (left right : Block) where
   set-terms-below (SetOperator a b) is = terms-below catalogue left a is.0.part
   set-terms-below (SeqScan e) is = absurd is
   set-terms-below (RankScan e t i) is = absurd is
-  set-terms-below (HashJoin a b) is = absurd is
-  set-terms-below (NestedJoin a b) is = absurd is
+  set-terms-below (JoinOperator kind a b) is = absurd is
   set-terms-below (Distinct child) is = absurd is
 
   pub estimate-set : (cards : List BlockCards) (number : ℕ) (tree : PlanTree) (mask : ℕ) → IsSetPlan catalogue left right tree
@@ -232,8 +230,7 @@ module _ (catalogue : CatalogDef) (left right : Block) where
       + (estimate-part catalogue (One left None) cards right 2 b mask is.1.part ∙ ap (λ m. (cards_at cards 2).estimate m mask) is.1.all) at
   estimate-set cards number (SeqScan e) mask is = absurd is
   estimate-set cards number (RankScan e t i) mask is = absurd is
-  estimate-set cards number (HashJoin a b) mask is = absurd is
-  estimate-set cards number (NestedJoin a b) mask is = absurd is
+  estimate-set cards number (JoinOperator kind a b) mask is = absurd is
   estimate-set cards number (Distinct child) mask is = absurd is
 
 pub same-terms : (left right : Block) (xs ys : List Term) → AreSameTerms left right xs ys → length xs ≡ length ys
@@ -247,8 +244,7 @@ pub part-has-none : (catalogue : CatalogDef) (block : Block) (tree : PlanTree) �
 part-has-none catalogue block (SeqScan e) is = refl
 part-has-none catalogue block (RankScan e t i) is = refl
 part-has-none catalogue block (Rank t child) is = part-has-none catalogue block child is.0
-part-has-none catalogue block (HashJoin l r) is = refl
-part-has-none catalogue block (NestedJoin l r) is = refl
+part-has-none catalogue block (JoinOperator kind l r) is = refl
 part-has-none catalogue block (Distinct child) is = refl
 part-has-none catalogue block (SetOperator l r) is = absurd is
 
@@ -257,8 +253,7 @@ set-has-one catalogue left right (Rank t child) is = set-has-one catalogue left 
 set-has-one catalogue left right (SetOperator a b) is = refl
 set-has-one catalogue left right (SeqScan e) is = absurd is
 set-has-one catalogue left right (RankScan e t i) is = absurd is
-set-has-one catalogue left right (HashJoin a b) is = absurd is
-set-has-one catalogue left right (NestedJoin a b) is = absurd is
+set-has-one catalogue left right (JoinOperator kind a b) is = absurd is
 set-has-one catalogue left right (Distinct child) is = absurd is
 
 pub set-part : (catalogue : CatalogDef) (query : Query) (tree : PlanTree) → (IsPlan catalogue query tree ⊎ IsPart catalogue (block_in query 1) tree)

@@ -17,7 +17,7 @@ use Rattle.rs_query.specs.declared.query.Query.TheVariants.{One, Set}
 use Rattle.rs_query.specs.declared.term.Term.{Term}
 use Rattle.rs_query.proofs.EntryFacts.{terms-inside}
 use Rattle.rs_plan.specs.Plans.{HasNoDistinct, IsComplete, IsPart, IsPlan, IsRank, IsSetPlan}
-use Rattle.rs_plan.specs.Trees.{Distinct, NestedJoin, Rank, SeqScan, SetOperator, PlanTree, entries, terms}
+use Rattle.rs_plan.specs.Trees.{Distinct, JoinOperator, Nested, PlanTree, Rank, SeqScan, SetOperator, entries, terms}
 use Rattle.rs_enum.proofs.BitFacts.{union-sum}
 
 -- the first this many numbers, and one more
@@ -42,7 +42,7 @@ not-yet n =
 -- the scans of the first entries, joined one after another
 left_deep : ℕ → PlanTree
 left_deep zero = SeqScan 1
-left_deep (suc n) = NestedJoin (left_deep n) (SeqScan (suc (suc n)))
+left_deep (suc n) = JoinOperator Nested (left_deep n) (SeqScan (suc (suc n)))
 
 -- duplicates are dropped above them, or not
 based : Bool → PlanTree → PlanTree
@@ -108,6 +108,7 @@ module _ (catalogue : CatalogDef) (block : Block) (formed : IsBlock catalogue bl
       left_whole = whole-left_deep n;
       right_whole = tt;
     },
+    tt,
   )
 
   -- the scans of all entries

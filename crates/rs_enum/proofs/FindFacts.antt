@@ -17,7 +17,7 @@ use Rattle.rs_sample.specs.Cards.{BlockCards}
 use Rattle.rs_query.specs.Blocks.{block_in}
 use Rattle.rs_plan.specs.Plans.{IsEntryNumber, IsHashed, IsPart, IsRankScan, IsTermOf}
 use Rattle.rs_plan.specs.Shapes.{tree_of}
-use Rattle.rs_plan.specs.Trees.{Distinct, HashJoin, NestedJoin, Rank, RankScan, SeqScan, SetOperator, PlanTree, entries, terms}
+use Rattle.rs_plan.specs.Trees.{Distinct, Hash, JoinOperator, Nested, PlanTree, Rank, RankScan, SeqScan, SetOperator, entries, terms}
 use Rattle.rs_enum.specs.QueryCards.{cards_at}
 use Rattle.rs_enum.specs.declared.candidate.Candidate.{Candidate}
 use Rattle.rs_enum.specs.declared.candidate.Choice.TheVariants as choice
@@ -55,38 +55,38 @@ module _ (catalogue : CatalogDef) (block : Block) (formed : IsBlock catalogue bl
   rank-at t (SeqScan e) some most x at = absurd (let small = second-small catalogue block formed (SeqScan e) x.part in omega arith)
   rank-at t (RankScan e u i) some most x at = absurd (let small = second-small catalogue block formed (RankScan e u i) x.part in omega arith)
   rank-at t (Rank u child) some most x at = record { child = child; is = (let same : u ≡ t = omega arith in ap (λ n. Rank n child) same) }
-  rank-at t (HashJoin l r) some most x at = absurd (omega arith)
-  rank-at t (NestedJoin l r) some most x at = absurd (omega arith)
+  rank-at t (JoinOperator Hash l r) some most x at = absurd (omega arith)
+  rank-at t (JoinOperator Nested l r) some most x at = absurd (omega arith)
   rank-at t (Distinct child) some most x at = absurd x.made
   rank-at t (SetOperator l r) some most x at = absurd x.made
 
   pub record IsHashJoinOf (left : ℕ) (tree : PlanTree) : Type 0 where
     pub l : PlanTree
     pub r : PlanTree
-    pub is : tree ≡ HashJoin l r
+    pub is : tree ≡ JoinOperator Hash l r
     pub left_entries : entries l ≡ left
 
   pub hash-at : (left : ℕ) (tree : PlanTree) → left < 256 → IsCandidate catalogue block kept first second tree → start_of tree ≡ 4 * 256 + left → IsHashJoinOf left tree
   hash-at left (SeqScan e) small x at = absurd (let less = second-small catalogue block formed (SeqScan e) x.part in omega arith)
   hash-at left (RankScan e u i) small x at = absurd (let less = second-small catalogue block formed (RankScan e u i) x.part in omega arith)
   hash-at left (Rank u child) small x at = absurd (let less = second-small catalogue block formed (Rank u child) x.part in omega arith)
-  hash-at left (HashJoin l r) small x at = record { l = l; r = r; is = refl; left_entries = omega arith }
-  hash-at left (NestedJoin l r) small x at = absurd (omega arith)
+  hash-at left (JoinOperator Hash l r) small x at = record { l = l; r = r; is = refl; left_entries = omega arith }
+  hash-at left (JoinOperator Nested l r) small x at = absurd (omega arith)
   hash-at left (Distinct child) small x at = absurd x.made
   hash-at left (SetOperator l r) small x at = absurd x.made
 
   pub record IsNestedJoinOf (left : ℕ) (tree : PlanTree) : Type 0 where
     pub l : PlanTree
     pub r : PlanTree
-    pub is : tree ≡ NestedJoin l r
+    pub is : tree ≡ JoinOperator Nested l r
     pub left_entries : entries l ≡ left
 
   pub nested-at : (left : ℕ) (tree : PlanTree) → left < 256 → IsCandidate catalogue block kept first second tree → start_of tree ≡ 5 * 256 + left → IsNestedJoinOf left tree
   nested-at left (SeqScan e) small x at = absurd (let less = second-small catalogue block formed (SeqScan e) x.part in omega arith)
   nested-at left (RankScan e u i) small x at = absurd (let less = second-small catalogue block formed (RankScan e u i) x.part in omega arith)
   nested-at left (Rank u child) small x at = absurd (let less = second-small catalogue block formed (Rank u child) x.part in omega arith)
-  nested-at left (HashJoin l r) small x at = absurd (let less = second-small catalogue block formed (HashJoin l r) x.part in omega arith)
-  nested-at left (NestedJoin l r) small x at = record { l = l; r = r; is = refl; left_entries = omega arith }
+  nested-at left (JoinOperator Hash l r) small x at = absurd (let less = second-small catalogue block formed (JoinOperator Hash l r) x.part in omega arith)
+  nested-at left (JoinOperator Nested l r) small x at = record { l = l; r = r; is = refl; left_entries = omega arith }
   nested-at left (Distinct child) small x at = absurd x.made
   nested-at left (SetOperator l r) small x at = absurd x.made
 
@@ -261,13 +261,13 @@ module _ (catalogue : CatalogDef) (query : Query) (cards : List BlockCards) (for
       let right : entries are.r ≡ bit_xor first left =
       sym (left-of-union (entries are.l) (entries are.r) are.apart) ∙ (λ at. bit_xor (are.both_entries at) (are.left_entries at)) in
       let joined : IsHashed (block_in query 1) (entries are.l) (entries are.r) = subst₂ (IsHashed (block_in query 1)) (sym are.left_entries) (sym right) hashed in
-      let part : IsPart catalogue (block_in query 1) (HashJoin are.l are.r) =
+      let part : IsPart catalogue (block_in query 1) (JoinOperator Hash are.l are.r) =
       (are.left_part, are.right_part, record { apart = are.apart; left_whole = are.left_whole; right_whole = are.right_whole }, joined) in
-      let most = hash-whole catalogue (block_in query 1) formed (HashJoin are.l are.r) are.l are.r s.left_cost s.right_cost s.left_rows s.right_rows rows refl part
+      let most = hash-whole catalogue (block_in query 1) formed (JoinOperator Hash are.l are.r) are.l are.r s.left_cost s.right_cost s.left_rows s.right_rows rows refl part
       are.left_spare are.right_spare are.left_few are.right_few (subst (λ n. rows ≤ 131072 ^ count_ones n) (sym are.both_entries) few) in
       let bound = subst₂ (λ x y. s.left_cost + s.right_cost + 2 * (s.left_rows + s.right_rows) + rows + 2 ^ 105 ≤ most_cost x y) are.both_entries are.both_terms most in
       record {
-        tree = HashJoin are.l are.r;
+        tree = JoinOperator Hash are.l are.r;
         stands = record {
           made = record {
             part = part;
@@ -289,13 +289,13 @@ module _ (catalogue : CatalogDef) (query : Query) (cards : List BlockCards) (for
       → (found : Candidate) → found.cost ≡ s.left_cost + s.right_cost + s.left_rows * s.right_rows + rows → found.choice ≡ choice.NestedJoin left
       → IsOne catalogue query cards places first second (5 * 256 + left) found
   nested-one left s are rows rows_is few found cost_is choice_is =
-      let part : IsPart catalogue (block_in query 1) (NestedJoin are.l are.r) =
-      (are.left_part, are.right_part, record { apart = are.apart; left_whole = are.left_whole; right_whole = are.right_whole }) in
-      let most = nested-whole catalogue (block_in query 1) formed (NestedJoin are.l are.r) are.l are.r s.left_cost s.right_cost s.left_rows s.right_rows rows refl part
+      let part : IsPart catalogue (block_in query 1) (JoinOperator Nested are.l are.r) =
+      (are.left_part, are.right_part, record { apart = are.apart; left_whole = are.left_whole; right_whole = are.right_whole }, tt) in
+      let most = nested-whole catalogue (block_in query 1) formed (JoinOperator Nested are.l are.r) are.l are.r s.left_cost s.right_cost s.left_rows s.right_rows rows refl part
       are.left_spare are.right_spare are.left_few are.right_few (subst (λ n. rows ≤ 131072 ^ count_ones n) (sym are.both_entries) few) in
       let bound = subst₂ (λ x y. s.left_cost + s.right_cost + s.left_rows * s.right_rows + rows + 2 ^ 105 ≤ most_cost x y) are.both_entries are.both_terms most in
       record {
-        tree = NestedJoin are.l are.r;
+        tree = JoinOperator Nested are.l are.r;
         stands = record {
           made = record {
             part = part;
@@ -317,21 +317,21 @@ module _ (catalogue : CatalogDef) (query : Query) (cards : List BlockCards) (for
       → (tree : PlanTree) → CanBeMade catalogue query places first second tree → start_of tree ≡ 5 * 256 + left → ⊥
   nested-none left less none tree x at =
       let n = nested-at catalogue (block_in query 1) formed (tree_at (length (block_in query 1).terms) places) first second left tree less x at in
-      let y : CanBeMade catalogue query places first second (NestedJoin n.l n.r) = subst (CanBeMade catalogue query places first second) n.is x in
+      let y : CanBeMade catalogue query places first second (JoinOperator Nested n.l n.r) = subst (CanBeMade catalogue query places first second) n.is x in
       none n.l n.r y.part.0 y.part.1 y.part.2.apart y.its_entries y.its_terms n.left_entries y.made.0 y.made.1
 
   pub hash-none : (left : ℕ) → left < 256 → AreNoSides catalogue query places first second left
       → (tree : PlanTree) → CanBeMade catalogue query places first second tree → start_of tree ≡ 4 * 256 + left → ⊥
   hash-none left less none tree x at =
       let n = hash-at catalogue (block_in query 1) formed (tree_at (length (block_in query 1).terms) places) first second left tree less x at in
-      let y : CanBeMade catalogue query places first second (HashJoin n.l n.r) = subst (CanBeMade catalogue query places first second) n.is x in
+      let y : CanBeMade catalogue query places first second (JoinOperator Hash n.l n.r) = subst (CanBeMade catalogue query places first second) n.is x in
       none n.l n.r y.part.0 y.part.1 y.part.2.apart y.its_entries y.its_terms n.left_entries y.made.0 y.made.1
 
   pub hash-apart : (left : ℕ) → left < 256 → (IsHashed (block_in query 1) left (bit_xor first left) → ⊥)
       → (tree : PlanTree) → CanBeMade catalogue query places first second tree → start_of tree ≡ 4 * 256 + left → ⊥
   hash-apart left less none tree x at =
       let n = hash-at catalogue (block_in query 1) formed (tree_at (length (block_in query 1).terms) places) first second left tree less x at in
-      let y : CanBeMade catalogue query places first second (HashJoin n.l n.r) = subst (CanBeMade catalogue query places first second) n.is x in
+      let y : CanBeMade catalogue query places first second (JoinOperator Hash n.l n.r) = subst (CanBeMade catalogue query places first second) n.is x in
       let right : entries n.r ≡ bit_xor first left =
       sym (left-of-union (entries n.l) (entries n.r) y.part.2.apart) ∙ (λ i. bit_xor (y.its_entries i) (n.left_entries i)) in
       none (subst₂ (IsHashed (block_in query 1)) n.left_entries right y.part.3)
@@ -343,8 +343,8 @@ module _ (catalogue : CatalogDef) (query : Query) (cards : List BlockCards) (for
   scan-case (SeqScan e) x below seq rank = seq e refl x.part x.its_entries x.its_terms
   scan-case (RankScan e t i) x below seq rank = rank e t i refl x.part x.its_entries x.its_terms
   scan-case (Rank t child) x below seq rank = absurd (omega arith)
-  scan-case (HashJoin l r) x below seq rank = absurd (omega arith)
-  scan-case (NestedJoin l r) x below seq rank = absurd (omega arith)
+  scan-case (JoinOperator Hash l r) x below seq rank = absurd (omega arith)
+  scan-case (JoinOperator Nested l r) x below seq rank = absurd (omega arith)
   scan-case (Distinct child) x below seq rank = absurd x.made
   scan-case (SetOperator l r) x below seq rank = absurd x.made
 

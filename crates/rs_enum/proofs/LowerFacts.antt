@@ -12,7 +12,7 @@ use Rattle.rs_sample.specs.Cards.{BlockCards}
 use Rattle.rs_query.specs.Blocks.{block_in}
 use Rattle.rs_plan.specs.Plans.{HasNoDistinct, IsPart}
 use Rattle.rs_plan.specs.Shapes.{tree_of}
-use Rattle.rs_plan.specs.Trees.{Distinct, Rank, PlanTree, code, entries, terms}
+use Rattle.rs_plan.specs.Trees.{Distinct, PlanTree, Rank, code, entries, terms}
 use Rattle.rs_enum.specs.declared.extent.Extent.TheVariants as extent
 use Rattle.rs_enum.specs.declared.kept.Kept.{Kept}
 use Rattle.rs_enum.specs.Bounds.{most_cost}

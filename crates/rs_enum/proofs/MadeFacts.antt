@@ -8,7 +8,7 @@ use Rattle.rs_query.specs.WellFormed.{IsBlock}
 use Rattle.rs_query.specs.declared.query.Query.{Query}
 use Rattle.rs_query.specs.Blocks.{block_in}
 use Rattle.rs_plan.specs.Shapes.{tree_of}
-use Rattle.rs_plan.specs.Trees.{Distinct, HashJoin, NestedJoin, Rank, RankScan, SeqScan, SetOperator, PlanTree, entries, terms}
+use Rattle.rs_plan.specs.Trees.{Distinct, Hash, JoinKind, JoinOperator, Nested, PlanTree, Rank, RankScan, SeqScan, SetOperator, entries, terms}
 use Rattle.rs_enum.specs.declared.candidate.Candidate.{Candidate}
 use Rattle.rs_enum.specs.declared.candidate.Choice.{Choice}
 use Rattle.rs_enum.specs.declared.candidate.Choice.TheVariants as choice
@@ -36,15 +36,15 @@ module _ (query : Query) (places : List (Option Kept)) (first second : ℕ) wher
   chosen-one (choice.HashJoin left) a b x y =
       let l = same-left left x.0 x.1 y.0 y.1 x.3 y.3 in
       let r = same-right left x.0 x.1 y.0 y.1 x.3 y.3 in
-      x.2 ∙ (λ i. HashJoin (l i) (r i)) ∙ sym y.2
+      x.2 ∙ (λ i. JoinOperator Hash (l i) (r i)) ∙ sym y.2
   chosen-one (choice.NestedJoin left) a b x y =
       let l = same-left left x.0 x.1 y.0 y.1 x.3 y.3 in
       let r = same-right left x.0 x.1 y.0 y.1 x.3 y.3 in
-      x.2 ∙ (λ i. NestedJoin (l i) (r i)) ∙ sym y.2
+      x.2 ∙ (λ i. JoinOperator Nested (l i) (r i)) ∙ sym y.2
 
 module _ (catalogue : CatalogDef) (query : Query) (formed : IsBlock catalogue (block_in query 1)) (places : List (Option Kept)) (first second : ℕ) where
-  kept-sides : (l r : PlanTree) → CanBeMade catalogue query places first second (NestedJoin l r) → AreKeptSides query places first second (entries l) l r
-  kept-sides l r x =
+  kept-sides : (kind : JoinKind) (l r : PlanTree) → CanBeMade catalogue query places first second (JoinOperator kind l r) → AreKeptSides query places first second (entries l) l r
+  kept-sides kind l r x =
       let right : entries r ≡ bit_xor first (entries l) =
       sym (left-of-union (entries l) (entries r) x.part.2.apart) ∙ (λ i. bit_xor (x.its_entries i) (entries l)) in
       let left_terms : terms l ≡ bit_and second (terms_within (entries l) (block_in query 1).terms) =
@@ -71,12 +71,10 @@ module _ (catalogue : CatalogDef) (query : Query) (formed : IsBlock catalogue (b
       let most = (numbered (block_in query 1) t x.part.1.term x.part.1.is_term).most in
       subst (λ c. IsChosen query places first second c (Rank t child)) (same_Some (choice.Rank t) chosen is)
       (child, refl, (λ i. tree_at (length (block_in query 1).terms) places (sym x.its_entries i) (sym below i)) ∙ x.made, x.part.1.is_term.some, omega arith)
-  chosen-of (HashJoin l r) x chosen is =
-      let y : CanBeMade catalogue query places first second (NestedJoin l r) =
-      record { part = (x.part.0, x.part.1, x.part.2); whole = x.whole; its_entries = x.its_entries; its_terms = x.its_terms; made = x.made } in
-      subst (λ c. IsChosen query places first second c (HashJoin l r)) (same_Some (choice.HashJoin (entries l)) chosen is) (l, r, refl, kept-sides l r y)
-  chosen-of (NestedJoin l r) x chosen is =
-      subst (λ c. IsChosen query places first second c (NestedJoin l r)) (same_Some (choice.NestedJoin (entries l)) chosen is) (l, r, refl, kept-sides l r x)
+  chosen-of (JoinOperator Hash l r) x chosen is =
+      subst (λ c. IsChosen query places first second c (JoinOperator Hash l r)) (same_Some (choice.HashJoin (entries l)) chosen is) (l, r, refl, kept-sides Hash l r x)
+  chosen-of (JoinOperator Nested l r) x chosen is =
+      subst (λ c. IsChosen query places first second c (JoinOperator Nested l r)) (same_Some (choice.NestedJoin (entries l)) chosen is) (l, r, refl, kept-sides Nested l r x)
   chosen-of (Distinct child) x chosen is = absurd x.made
   chosen-of (SetOperator l r) x chosen is = absurd x.made
 

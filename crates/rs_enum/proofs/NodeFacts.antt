@@ -6,7 +6,7 @@ use Rattle.rs_query.specs.declared.block.Block.{Block}
 use Rattle.rs_query.specs.declared.query.Query.{Query}
 use Rattle.rs_query.specs.declared.query.Query.TheVariants.{One, Set}
 use Rattle.rs_plan.specs.Plans.{IsPart}
-use Rattle.rs_plan.specs.Trees.{Distinct, HashJoin, NestedJoin, Rank, RankScan, SeqScan, SetOperator, PlanTree, entries, terms}
+use Rattle.rs_plan.specs.Trees.{Distinct, Hash, JoinOperator, Nested, PlanTree, Rank, RankScan, SeqScan, SetOperator, entries, terms}
 use Rattle.rs_enum.specs.Bounds.{IsSetPart, most_cost, most_set_cost}
 use Rattle.rs_enum.proofs.BoundFacts.{most-rank_scan, most-scan, most-sides}
 use Rattle.rs_enum.proofs.CostFacts.{entries-small, hash-most, nested-most, part-rows, rank-most, set-rank-most}
@@ -25,7 +25,7 @@ module _ (catalogue : CatalogDef) (block : Block) (formed : IsBlock catalogue bl
       subst (λ w. below + rows * call + extra ≤ most_cost (entries w) (terms w)) (sym is)
       (rank-most catalogue block formed t child below rows call extra (subst (IsPart catalogue block) is part) few small most)
 
-  pub hash-whole : (whole l r : PlanTree) (left right left_rows right_rows rows : ℕ) → whole ≡ HashJoin l r → (part : IsPart catalogue block (HashJoin l r))
+  pub hash-whole : (whole l r : PlanTree) (left right left_rows right_rows rows : ℕ) → whole ≡ JoinOperator Hash l r → (part : IsPart catalogue block (JoinOperator Hash l r))
       → left + 2 ^ 105 ≤ most_cost (entries l) (terms l) → right + 2 ^ 105 ≤ most_cost (entries r) (terms r)
       → left_rows ≤ 131072 ^ count_ones (entries l) → right_rows ≤ 131072 ^ count_ones (entries r) → rows ≤ 131072 ^ count_ones (entries whole)
       → left + right + 2 * (left_rows + right_rows) + rows + 2 ^ 105 ≤ most_cost (entries whole) (terms whole)
@@ -34,7 +34,7 @@ module _ (catalogue : CatalogDef) (block : Block) (formed : IsBlock catalogue bl
       (hash-most catalogue block formed l r left right left_rows right_rows rows part.0 part.1 part.2.apart left_most right_most left_few right_few
       (subst (λ w. rows ≤ 131072 ^ count_ones (entries w)) is few))
 
-  pub nested-whole : (whole l r : PlanTree) (left right left_rows right_rows rows : ℕ) → whole ≡ NestedJoin l r → (part : IsPart catalogue block (NestedJoin l r))
+  pub nested-whole : (whole l r : PlanTree) (left right left_rows right_rows rows : ℕ) → whole ≡ JoinOperator Nested l r → (part : IsPart catalogue block (JoinOperator Nested l r))
       → left + 2 ^ 105 ≤ most_cost (entries l) (terms l) → right + 2 ^ 105 ≤ most_cost (entries r) (terms r)
       → left_rows ≤ 131072 ^ count_ones (entries l) → right_rows ≤ 131072 ^ count_ones (entries r) → rows ≤ 131072 ^ count_ones (entries whole)
       → left + right + left_rows * right_rows + rows + 2 ^ 105 ≤ most_cost (entries whole) (terms whole)

@@ -13,7 +13,7 @@ use Rattle.rs_query.specs.declared.query.Query.{Query}
 use Rattle.rs_sample.specs.Cards.{BlockCards}
 use Rattle.rs_query.specs.Blocks.{block_in}
 use Rattle.rs_plan.specs.Plans.{IsPart}
-use Rattle.rs_plan.specs.Trees.{Distinct, HashJoin, NestedJoin, Rank, RankScan, SeqScan, SetOperator, PlanTree, code, code_cmp, entries, terms}
+use Rattle.rs_plan.specs.Trees.{Distinct, Hash, JoinKind, JoinOperator, Nested, PlanTree, Rank, RankScan, SeqScan, SetOperator, code, code_cmp, entries, terms}
 use Rattle.rs_plan.proofs.CodeFacts.{code-split}
 use Rattle.rs_plan.proofs.LawFacts.{plan-tied}
 use Rattle.rs_enum.specs.QueryCards.{cards_at}
@@ -116,8 +116,7 @@ module _ (catalogue : CatalogDef) (query : Query) (cards : List BlockCards) wher
   estimate-part block number (SeqScan e) mask is = refl
   estimate-part block number (RankScan e t i) mask is = refl
   estimate-part block number (Rank t child) mask is = estimate-part block number child mask is.0
-  estimate-part block number (HashJoin l r) mask is = refl
-  estimate-part block number (NestedJoin l r) mask is = refl
+  estimate-part block number (JoinOperator kind l r) mask is = refl
   estimate-part block number (Distinct child) mask is = refl
   estimate-part block number (SetOperator l r) mask is = absurd is
 
@@ -136,42 +135,53 @@ module _ (catalogue : CatalogDef) (query : Query) (cards : List BlockCards) wher
         exchanged a b (Rank t a) (Rank t b) (estimate_of cards 1 b * call_cost catalogue (block_in query 1) t)
         (ap (λ n. cost_of catalogue query cards a + n) same) refl (rank-codes t a b) is
 
-    pub exchanged-left-hash : (l m r : PlanTree) → IsPart catalogue block l → IsPart catalogue block m → entries l ≡ entries m → terms l ≡ terms m
-        → ComesNoLater catalogue query cards l m → ComesNoLater catalogue query cards (HashJoin l r) (HashJoin m r)
+    exchanged-left-hash : (l m r : PlanTree) → IsPart catalogue block l → IsPart catalogue block m → entries l ≡ entries m → terms l ≡ terms m
+        → ComesNoLater catalogue query cards l m → ComesNoLater catalogue query cards (JoinOperator Hash l r) (JoinOperator Hash m r)
     exchanged-left-hash l m r is_l is_m same_entries same_terms is =
         let rows = same-estimate block 1 l m is_l is_m same_entries same_terms in
-        let whole : estimate_of cards 1 (HashJoin l r) ≡ estimate_of cards 1 (HashJoin m r) =
+        let whole : estimate_of cards 1 (JoinOperator Hash l r) ≡ estimate_of cards 1 (JoinOperator Hash m r) =
         λ at. (cards_at cards 1).estimate (bit_or (same_entries at) (entries r)) (bit_or (same_terms at) (terms r)) in
-        exchanged l m (HashJoin l r) (HashJoin m r)
-        (cost_of catalogue query cards r + 2 * (estimate_of cards 1 m + estimate_of cards 1 r) + estimate_of cards 1 (HashJoin m r))
+        exchanged l m (JoinOperator Hash l r) (JoinOperator Hash m r)
+        (cost_of catalogue query cards r + 2 * (estimate_of cards 1 m + estimate_of cards 1 r) + estimate_of cards 1 (JoinOperator Hash m r))
         (omega arith) (omega arith) (masks-front l m (code l ++ code r) (code m ++ code r) same_entries same_terms ∙ left-codes l m r) is
 
-    pub exchanged-right-hash : (l r s : PlanTree) → IsPart catalogue block r → IsPart catalogue block s → entries r ≡ entries s → terms r ≡ terms s
-        → ComesNoLater catalogue query cards r s → ComesNoLater catalogue query cards (HashJoin l r) (HashJoin l s)
+    exchanged-right-hash : (l r s : PlanTree) → IsPart catalogue block r → IsPart catalogue block s → entries r ≡ entries s → terms r ≡ terms s
+        → ComesNoLater catalogue query cards r s → ComesNoLater catalogue query cards (JoinOperator Hash l r) (JoinOperator Hash l s)
     exchanged-right-hash l r s is_r is_s same_entries same_terms is =
         let rows = same-estimate block 1 r s is_r is_s same_entries same_terms in
-        let whole : estimate_of cards 1 (HashJoin l r) ≡ estimate_of cards 1 (HashJoin l s) =
+        let whole : estimate_of cards 1 (JoinOperator Hash l r) ≡ estimate_of cards 1 (JoinOperator Hash l s) =
         λ at. (cards_at cards 1).estimate (bit_or (entries l) (same_entries at)) (bit_or (terms l) (same_terms at)) in
-        exchanged r s (HashJoin l r) (HashJoin l s)
-        (cost_of catalogue query cards l + 2 * (estimate_of cards 1 l + estimate_of cards 1 s) + estimate_of cards 1 (HashJoin l s))
+        exchanged r s (JoinOperator Hash l r) (JoinOperator Hash l s)
+        (cost_of catalogue query cards l + 2 * (estimate_of cards 1 l + estimate_of cards 1 s) + estimate_of cards 1 (JoinOperator Hash l s))
         (omega arith) (omega arith) (masks-front l l (code l ++ code r) (code l ++ code s) refl refl ∙ right-codes l r s) is
 
-    pub exchanged-left-nested : (l m r : PlanTree) → IsPart catalogue block l → IsPart catalogue block m → entries l ≡ entries m → terms l ≡ terms m
-        → ComesNoLater catalogue query cards l m → ComesNoLater catalogue query cards (NestedJoin l r) (NestedJoin m r)
+    exchanged-left-nested : (l m r : PlanTree) → IsPart catalogue block l → IsPart catalogue block m → entries l ≡ entries m → terms l ≡ terms m
+        → ComesNoLater catalogue query cards l m → ComesNoLater catalogue query cards (JoinOperator Nested l r) (JoinOperator Nested m r)
     exchanged-left-nested l m r is_l is_m same_entries same_terms is =
         let pairs = ap (λ n. n * estimate_of cards 1 r) (same-estimate block 1 l m is_l is_m same_entries same_terms) in
-        let whole : estimate_of cards 1 (NestedJoin l r) ≡ estimate_of cards 1 (NestedJoin m r) =
+        let whole : estimate_of cards 1 (JoinOperator Nested l r) ≡ estimate_of cards 1 (JoinOperator Nested m r) =
         λ at. (cards_at cards 1).estimate (bit_or (same_entries at) (entries r)) (bit_or (same_terms at) (terms r)) in
-        exchanged l m (NestedJoin l r) (NestedJoin m r)
-        (cost_of catalogue query cards r + estimate_of cards 1 m * estimate_of cards 1 r + estimate_of cards 1 (NestedJoin m r))
+        exchanged l m (JoinOperator Nested l r) (JoinOperator Nested m r)
+        (cost_of catalogue query cards r + estimate_of cards 1 m * estimate_of cards 1 r + estimate_of cards 1 (JoinOperator Nested m r))
         (omega arith) (omega arith) (masks-front l m (code l ++ code r) (code m ++ code r) same_entries same_terms ∙ left-codes l m r) is
 
-    pub exchanged-right-nested : (l r s : PlanTree) → IsPart catalogue block r → IsPart catalogue block s → entries r ≡ entries s → terms r ≡ terms s
-        → ComesNoLater catalogue query cards r s → ComesNoLater catalogue query cards (NestedJoin l r) (NestedJoin l s)
+    exchanged-right-nested : (l r s : PlanTree) → IsPart catalogue block r → IsPart catalogue block s → entries r ≡ entries s → terms r ≡ terms s
+        → ComesNoLater catalogue query cards r s → ComesNoLater catalogue query cards (JoinOperator Nested l r) (JoinOperator Nested l s)
     exchanged-right-nested l r s is_r is_s same_entries same_terms is =
         let pairs = ap (λ n. estimate_of cards 1 l * n) (same-estimate block 1 r s is_r is_s same_entries same_terms) in
-        let whole : estimate_of cards 1 (NestedJoin l r) ≡ estimate_of cards 1 (NestedJoin l s) =
+        let whole : estimate_of cards 1 (JoinOperator Nested l r) ≡ estimate_of cards 1 (JoinOperator Nested l s) =
         λ at. (cards_at cards 1).estimate (bit_or (entries l) (same_entries at)) (bit_or (terms l) (same_terms at)) in
-        exchanged r s (NestedJoin l r) (NestedJoin l s)
-        (cost_of catalogue query cards l + estimate_of cards 1 l * estimate_of cards 1 s + estimate_of cards 1 (NestedJoin l s))
+        exchanged r s (JoinOperator Nested l r) (JoinOperator Nested l s)
+        (cost_of catalogue query cards l + estimate_of cards 1 l * estimate_of cards 1 s + estimate_of cards 1 (JoinOperator Nested l s))
         (omega arith) (omega arith) (masks-front l l (code l ++ code r) (code l ++ code s) refl refl ∙ right-codes l r s) is
+
+    -- on each side of a join of either kind
+    pub exchanged-left : (kind : JoinKind) (l m r : PlanTree) → IsPart catalogue block l → IsPart catalogue block m → entries l ≡ entries m → terms l ≡ terms m
+        → ComesNoLater catalogue query cards l m → ComesNoLater catalogue query cards (JoinOperator kind l r) (JoinOperator kind m r)
+    exchanged-left Hash l m r is_l is_m same_entries same_terms is = exchanged-left-hash l m r is_l is_m same_entries same_terms is
+    exchanged-left Nested l m r is_l is_m same_entries same_terms is = exchanged-left-nested l m r is_l is_m same_entries same_terms is
+
+    pub exchanged-right : (kind : JoinKind) (l r s : PlanTree) → IsPart catalogue block r → IsPart catalogue block s → entries r ≡ entries s → terms r ≡ terms s
+        → ComesNoLater catalogue query cards r s → ComesNoLater catalogue query cards (JoinOperator kind l r) (JoinOperator kind l s)
+    exchanged-right Hash l r s is_r is_s same_entries same_terms is = exchanged-right-hash l r s is_r is_s same_entries same_terms is
+    exchanged-right Nested l r s is_r is_s same_entries same_terms is = exchanged-right-nested l r s is_r is_s same_entries same_terms is

@@ -17,7 +17,7 @@ use Rattle.rs_sample.specs.Cards.{BlockCards}
 use Rattle.rs_query.specs.Blocks.{block_in}
 use Rattle.rs_plan.specs.Plans.{HasNoDistinct, IsPart}
 use Rattle.rs_plan.specs.Shapes.{tree_of}
-use Rattle.rs_plan.specs.Trees.{Distinct, HashJoin, NestedJoin, Rank, RankScan, SeqScan, SetOperator, PlanTree, entries, terms}
+use Rattle.rs_plan.specs.Trees.{Distinct, JoinOperator, PlanTree, Rank, RankScan, SeqScan, SetOperator, entries, terms}
 use Rattle.rs_enum.specs.declared.candidate.Candidate.{Candidate}
 use Rattle.rs_enum.specs.declared.kept.Kept.{Kept}
 use Rattle.rs_enum.specs.Candidates.{HasKeptChildren, IsCandidate}
@@ -61,17 +61,7 @@ module _ (catalogue : CatalogDef) (block : Block) where
       omega arith) in
       let row : entries child * 2 ^ length block.terms ≡ first * 2 ^ length block.terms = ap (λ n. n * 2 ^ length block.terms) is.its_entries in
       sym (same (entries child) (terms child) (terms-below catalogue block child is.part.0) (omega arith)) ∙ is.made
-  children-kept kept other first second small same (HashJoin l r) is =
-      let sum = union-sum (entries l) (entries r) is.part.2.apart in
-      let all = is.its_entries in
-      let some_left = some-entry catalogue block l is.part.0 in
-      let some_right = some-entry catalogue block r is.part.1 in
-      let left_small = terms-below catalogue block l is.part.0 in
-      let right_small = terms-below catalogue block r is.part.1 in (
-        sym (same (entries l) (terms l) left_small (earlier-row (2 ^ length block.terms) (entries l) first (terms l) second (omega arith) left_small)) ∙ is.made.0,
-        sym (same (entries r) (terms r) right_small (earlier-row (2 ^ length block.terms) (entries r) first (terms r) second (omega arith) right_small)) ∙ is.made.1,
-      )
-  children-kept kept other first second small same (NestedJoin l r) is =
+  children-kept kept other first second small same (JoinOperator kind l r) is =
       let sum = union-sum (entries l) (entries r) is.part.2.apart in
       let all = is.its_entries in
       let some_left = some-entry catalogue block l is.part.0 in

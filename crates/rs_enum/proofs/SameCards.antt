@@ -16,7 +16,7 @@ use Rattle.rs_sample.specs.Cards.{AllSayTheSame, BlockCards, SayTheSame}
 use Rattle.rs_sample.specs.Sampling.{query_cards}
 use Rattle.rs_query.specs.Blocks.{block_in}
 use Rattle.rs_plan.specs.Plans.{IsPart, IsPlan, IsSetPlan}
-use Rattle.rs_plan.specs.Trees.{Distinct, HashJoin, NestedJoin, Rank, RankScan, SeqScan, SetOperator, PlanTree, code, code_cmp, entries, terms}
+use Rattle.rs_plan.specs.Trees.{Distinct, Hash, JoinOperator, Nested, PlanTree, Rank, RankScan, SeqScan, SetOperator, code, code_cmp, entries, terms}
 use Rattle.rs_plan.specs.declared.counts.Counts.{Counts}
 use Rattle.rs_enum.specs.Costs.{call_cost, cost_in, cost_of, estimate_of}
 use Rattle.rs_enum.specs.Least.{least_plan}
@@ -59,10 +59,10 @@ module _ (catalogue : CatalogDef) (query : Query) (formed : IsQuery catalogue qu
         (term-alone (block_in query number) (cards_at cards number) (block-cards query cards number are is_number) catalogue e t i is))
     part-cost (Rank t child) is =
         λ at. part-cost child is.0 at + part-estimate child is.0 at * call_cost catalogue (block_in query number) t
-    part-cost (HashJoin l r) is =
-        λ at. part-cost l is.0 at + part-cost r is.1 at + 2 * (part-estimate l is.0 at + part-estimate r is.1 at) + part-estimate (HashJoin l r) is at
-    part-cost (NestedJoin l r) is =
-        λ at. part-cost l is.0 at + part-cost r is.1 at + part-estimate l is.0 at * part-estimate r is.1 at + part-estimate (NestedJoin l r) is at
+    part-cost (JoinOperator Hash l r) is =
+        λ at. part-cost l is.0 at + part-cost r is.1 at + 2 * (part-estimate l is.0 at + part-estimate r is.1 at) + part-estimate (JoinOperator Hash l r) is at
+    part-cost (JoinOperator Nested l r) is =
+        λ at. part-cost l is.0 at + part-cost r is.1 at + part-estimate l is.0 at * part-estimate r is.1 at + part-estimate (JoinOperator Nested l r) is at
     part-cost (Distinct child) is = λ at. part-cost child is.0 at + part-estimate child is.0 at
     part-cost (SetOperator l r) is = absurd is
 
@@ -79,11 +79,8 @@ module _ (catalogue : CatalogDef) (query : Query) (formed : IsQuery catalogue qu
     part-lines level (RankScan e t i) counts is = part-line level (RankScan e t i) (first_of counts) is
     part-lines level (Rank t child) counts is = λ at.
         part-line level (Rank t child) (first_of counts) is at ++ part-lines (level + 1) child (behind 1 counts) is.0 at
-    part-lines level (HashJoin l r) counts is = λ at.
-        part-line level (HashJoin l r) (first_of counts) is at
-        ++ part-lines (level + 1) l (behind 1 counts) is.0 at ++ part-lines (level + 1) r (behind (1 + nodes_of l) counts) is.1 at
-    part-lines level (NestedJoin l r) counts is = λ at.
-        part-line level (NestedJoin l r) (first_of counts) is at
+    part-lines level (JoinOperator kind l r) counts is = λ at.
+        part-line level (JoinOperator kind l r) (first_of counts) is at
         ++ part-lines (level + 1) l (behind 1 counts) is.0 at ++ part-lines (level + 1) r (behind (1 + nodes_of l) counts) is.1 at
     part-lines level (Distinct child) counts is = λ at.
         part-line level (Distinct child) (first_of counts) is at ++ part-lines (level + 1) child (behind 1 counts) is.0 at
@@ -116,8 +113,7 @@ module _ (catalogue : CatalogDef) (op : SetOp) (left right : Block) (limit : Opt
       λ at. left_cost at + right_cost at + left_rows at + right_rows at
   set-cost (SeqScan e) is = absurd is
   set-cost (RankScan e t i) is = absurd is
-  set-cost (HashJoin l r) is = absurd is
-  set-cost (NestedJoin l r) is = absurd is
+  set-cost (JoinOperator kind l r) is = absurd is
   set-cost (Distinct child) is = absurd is
 
   set-line : (level : ℕ) (tree : PlanTree) (counts : Option Counts) → IsSetPlan catalogue left right tree
@@ -137,8 +133,7 @@ module _ (catalogue : CatalogDef) (op : SetOp) (left right : Block) (limit : Opt
       λ at. set-line level (SetOperator l r) (first_of counts) is at ++ left_lines at ++ right_lines at
   set-lines level (SeqScan e) counts is = absurd is
   set-lines level (RankScan e t i) counts is = absurd is
-  set-lines level (HashJoin l r) counts is = absurd is
-  set-lines level (NestedJoin l r) counts is = absurd is
+  set-lines level (JoinOperator kind l r) counts is = absurd is
   set-lines level (Distinct child) counts is = absurd is
 
 plan-cost : (catalogue : CatalogDef) (query : Query) → IsQuery catalogue query → (cards other : List BlockCards) → AreCards query cards → AllSayTheSame cards other

@@ -13,7 +13,7 @@ use Rattle.rs_sample.specs.Cards.{BlockCards, IsEstimated}
 use Rattle.rs_query.specs.Blocks.{block_in}
 use Rattle.rs_plan.specs.Plans.{IsPart}
 use Rattle.rs_plan.specs.Shapes.{tree_of}
-use Rattle.rs_plan.specs.Trees.{NestedJoin}
+use Rattle.rs_plan.specs.Trees.{JoinOperator, Nested}
 use Rattle.rs_enum.specs.declared.candidate.Candidate.{Candidate}
 use Rattle.rs_enum.specs.declared.candidate.Sides.{Sides}
 use Rattle.rs_enum.specs.declared.kept.Kept.{Kept}
@@ -45,8 +45,8 @@ module _ (catalogue : CatalogDef) (query : Query) (cards : List BlockCards) (for
       → IsEstimated (cards_at cards 1) first second
   sides-masks are left s is =
       subst₂ (IsEstimated (cards_at cards 1)) is.both_entries is.both_terms
-      (masks-part (block_in query 1) (cards_at cards 1) (block-cards query cards 1 are (first-numbered query cards are)) catalogue (NestedJoin is.l is.r)
-      (is.left_part, is.right_part, record { apart = is.apart; left_whole = is.left_whole; right_whole = is.right_whole }))
+      (masks-part (block_in query 1) (cards_at cards 1) (block-cards query cards 1 are (first-numbered query cards are)) catalogue (JoinOperator Nested is.l is.r)
+      (is.left_part, is.right_part, record { apart = is.apart; left_whole = is.left_whole; right_whole = is.right_whole }, tt))
 
   -- no code starts between those of two kinds
   pub first-scans : (found : Option Candidate) → IsTheFirst catalogue query cards places first second (3 * 256) found

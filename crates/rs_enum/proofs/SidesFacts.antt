@@ -15,7 +15,7 @@ use Rattle.rs_sample.specs.Cards.{BlockCards}
 use Rattle.rs_query.specs.Blocks.{block_in}
 use Rattle.rs_plan.specs.Plans.{IsComplete, IsPlan}
 use Rattle.rs_plan.specs.Shapes.{tree_of}
-use Rattle.rs_plan.specs.Trees.{Distinct, HashJoin, NestedJoin, Rank, RankScan, SeqScan, SetOperator, PlanTree, code, terms}
+use Rattle.rs_plan.specs.Trees.{Distinct, JoinOperator, PlanTree, Rank, RankScan, SeqScan, SetOperator, code, terms}
 use Rattle.rs_enum.specs.declared.extent.Extent.TheVariants as extent
 use Rattle.rs_enum.specs.declared.kept.Kept.{Kept}
 use Rattle.rs_enum.specs.Costs.{cost_in, estimate_of}
@@ -48,8 +48,7 @@ module _ (catalogue : CatalogDef) (op : SetOp) (l r : Block) (limit : Option ℕ
   both-of (SetOperator a b) is = record { a = a; b = b; is = refl; left = is.0.0; right = is.0.1; agree = is.0.2 }
   both-of (SeqScan n) is = absurd is.0
   both-of (RankScan n t i) is = absurd is.0
-  both-of (HashJoin a b) is = absurd is.0
-  both-of (NestedJoin a b) is = absurd is.0
+  both-of (JoinOperator kind a b) is = absurd is.0
   both-of (Distinct child) is = absurd is.0
 
   keeps-left : (other : PlanTree) → (x : AreBoth other) → terms other ≡ e → KeepsTop (cost_in catalogue (Set op l r limit) cards 1) lefts x.a

@@ -20,7 +20,7 @@ use Rattle.rs_sample.specs.Cards.{BlockCards}
 use Rattle.rs_query.specs.Blocks.{block_in}
 use Rattle.rs_plan.specs.Numbers.{kind_number}
 use Rattle.rs_plan.specs.Plans.{HasNoDistinct, IsPart, IsRankScan}
-use Rattle.rs_plan.specs.Trees.{Distinct, HashJoin, NestedJoin, Rank, RankScan, SeqScan, SetOperator, PlanTree, code, code_cmp, entries, terms}
+use Rattle.rs_plan.specs.Trees.{Distinct, Hash, JoinOperator, Nested, PlanTree, Rank, RankScan, SeqScan, SetOperator, code, code_cmp, entries, terms}
 use Rattle.rs_plan.proofs.DecidingFacts.{part-numbers}
 use Rattle.rs_enum.specs.declared.candidate.Candidate.{Candidate}
 use Rattle.rs_enum.specs.declared.kept.Kept.{Kept}
@@ -38,8 +38,7 @@ abbrev pub second_number : PlanTree → ℕ
 second_number (SeqScan e) = e
 second_number (RankScan e t i) = e
 second_number (Rank t child) = t
-second_number (HashJoin l r) = entries l
-second_number (NestedJoin l r) = entries l
+second_number (JoinOperator kind l r) = entries l
 second_number (Distinct child) = 0
 second_number (SetOperator l r) = 0
 
@@ -47,8 +46,7 @@ abbrev rest_of : PlanTree → List ℕ
 rest_of (SeqScan e) = []
 rest_of (RankScan e t i) = t ∷ []
 rest_of (Rank t child) = code child
-rest_of (HashJoin l r) = terms l ∷ code l ++ code r
-rest_of (NestedJoin l r) = terms l ∷ code l ++ code r
+rest_of (JoinOperator kind l r) = terms l ∷ code l ++ code r
 rest_of (Distinct child) = []
 rest_of (SetOperator l r) = []
 
@@ -56,8 +54,7 @@ start-is : (tree : PlanTree) → start_of tree ≡ kind_number tree * 256 + seco
 start-is (SeqScan e) = refl
 start-is (RankScan e t i) = refl
 start-is (Rank t child) = refl
-start-is (HashJoin l r) = refl
-start-is (NestedJoin l r) = refl
+start-is (JoinOperator kind l r) = refl
 start-is (Distinct child) = refl
 start-is (SetOperator l r) = refl
 
@@ -91,8 +88,7 @@ module _ (catalogue : CatalogDef) (block : Block) (formed : IsBlock catalogue bl
   code-starts (SeqScan e) is whole = refl
   code-starts (RankScan e t i) is whole = refl
   code-starts (Rank t child) is whole = refl
-  code-starts (HashJoin l r) is whole = refl
-  code-starts (NestedJoin l r) is whole = refl
+  code-starts (JoinOperator kind l r) is whole = refl
   code-starts (Distinct child) is whole = absurd whole
   code-starts (SetOperator l r) is whole = absurd is
 
@@ -110,8 +106,7 @@ module _ (catalogue : CatalogDef) (block : Block) (formed : IsBlock catalogue bl
       let numbers = part-numbers catalogue block (Rank t child) formed.most_entries formed.most_terms is in
       let within = numbers.0.within in
       omega arith
-  second-small (HashJoin l r) is = let small = entries-small l is.0 in omega arith
-  second-small (NestedJoin l r) is = let small = entries-small l is.0 in omega arith
+  second-small (JoinOperator kind l r) is = let small = entries-small l is.0 in omega arith
   second-small (Distinct child) is = omega arith
   second-small (SetOperator l r) is = omega arith
 
@@ -152,12 +147,20 @@ module _ (catalogue : CatalogDef) (block : Block) (formed : IsBlock catalogue bl
     pub same-start : (a b : PlanTree) → IsCandidate catalogue block kept first second a → IsCandidate catalogue block kept first second b
         → start_of a ≡ start_of b → a ≡ b
     same-start (SeqScan e) (SeqScan f) x y same = ap SeqScan (omega arith)
+    same-start (SeqScan e) (JoinOperator Hash m s) x y same =
+        absurd (let small = second-small (SeqScan e) x.part in let less = second-small (JoinOperator Hash m s) y.part in omega arith)
+    same-start (SeqScan e) (JoinOperator Nested m s) x y same =
+        absurd (let small = second-small (SeqScan e) x.part in let less = second-small (JoinOperator Nested m s) y.part in omega arith)
     same-start (SeqScan e) other x y same = absurd (let small = second-small (SeqScan e) x.part in let less = second-small other y.part in omega arith)
     same-start (RankScan e t i) (RankScan f u j) x y same =
         let entry : e ≡ f = omega arith in
         let term : t ≡ u = mask-number t u x.part.is_term.some y.part.is_term.some (x.its_terms ∙ sym y.its_terms) in
         let index = same-index catalogue block e t i f u j x.part y.part entry term in
         λ at. RankScan (entry at) (term at) (index at)
+    same-start (RankScan e t i) (JoinOperator Hash m s) x y same =
+        absurd (let small = second-small (RankScan e t i) x.part in let less = second-small (JoinOperator Hash m s) y.part in omega arith)
+    same-start (RankScan e t i) (JoinOperator Nested m s) x y same =
+        absurd (let small = second-small (RankScan e t i) x.part in let less = second-small (JoinOperator Nested m s) y.part in omega arith)
     same-start (RankScan e t i) other x y same = absurd (let small = second-small (RankScan e t i) x.part in let less = second-small other y.part in omega arith)
     same-start (Rank t a) (Rank u b) x y same =
         let term : t ≡ u = omega arith in
@@ -168,23 +171,27 @@ module _ (catalogue : CatalogDef) (block : Block) (formed : IsBlock catalogue bl
         let child = kept-same a b x.made y.made (x.its_entries ∙ sym y.its_entries)
         (without_a ∙ ap (λ n. bit_xor second (mask_of n)) term ∙ sym without_b) in
         λ at. Rank (term at) (child at)
+    same-start (Rank t a) (JoinOperator Hash m s) x y same =
+        absurd (let small = second-small (Rank t a) x.part in let less = second-small (JoinOperator Hash m s) y.part in omega arith)
+    same-start (Rank t a) (JoinOperator Nested m s) x y same =
+        absurd (let small = second-small (Rank t a) x.part in let less = second-small (JoinOperator Nested m s) y.part in omega arith)
     same-start (Rank t a) other x y same = absurd (let small = second-small (Rank t a) x.part in let less = second-small other y.part in omega arith)
-    same-start (HashJoin l r) (HashJoin m s) x y same =
+    same-start (JoinOperator Hash l r) (JoinOperator Hash m s) x y same =
         let same_left : entries l ≡ entries m = omega arith in
         let are = sides-same l r m s x.part.0 x.part.1 y.part.0 y.part.1 x.part.2.apart y.part.2.apart
         (x.its_entries ∙ sym y.its_entries) (x.its_terms ∙ sym y.its_terms) same_left in
         let left = kept-same l m x.made.0 y.made.0 same_left are.left_terms in
         let right = kept-same r s x.made.1 y.made.1 are.right_entries are.right_terms in
-        λ at. HashJoin (left at) (right at)
-    same-start (HashJoin l r) other x y same = absurd (let small = second-small (HashJoin l r) x.part in let less = second-small other y.part in omega arith)
-    same-start (NestedJoin l r) (NestedJoin m s) x y same =
+        λ at. JoinOperator Hash (left at) (right at)
+    same-start (JoinOperator Hash l r) other x y same = absurd (let small = second-small (JoinOperator Hash l r) x.part in let less = second-small other y.part in omega arith)
+    same-start (JoinOperator Nested l r) (JoinOperator Nested m s) x y same =
         let same_left : entries l ≡ entries m = omega arith in
         let are = sides-same l r m s x.part.0 x.part.1 y.part.0 y.part.1 x.part.2.apart y.part.2.apart
         (x.its_entries ∙ sym y.its_entries) (x.its_terms ∙ sym y.its_terms) same_left in
         let left = kept-same l m x.made.0 y.made.0 same_left are.left_terms in
         let right = kept-same r s x.made.1 y.made.1 are.right_entries are.right_terms in
-        λ at. NestedJoin (left at) (right at)
-    same-start (NestedJoin l r) other x y same = absurd (let small = second-small (NestedJoin l r) x.part in let less = second-small other y.part in omega arith)
+        λ at. JoinOperator Nested (left at) (right at)
+    same-start (JoinOperator Nested l r) other x y same = absurd (let small = second-small (JoinOperator Nested l r) x.part in let less = second-small other y.part in omega arith)
     same-start (Distinct child) other x y same = absurd x.made
     same-start (SetOperator l r) other x y same = absurd x.made
 
@@ -193,8 +200,8 @@ module _ (catalogue : CatalogDef) (block : Block) (formed : IsBlock catalogue bl
     start-most (SeqScan e) x = let small = second-small (SeqScan e) x.part in omega arith
     start-most (RankScan e t i) x = let small = second-small (RankScan e t i) x.part in omega arith
     start-most (Rank t child) x = let small = second-small (Rank t child) x.part in omega arith
-    start-most (HashJoin l r) x = let small = second-small (HashJoin l r) x.part in omega arith
-    start-most (NestedJoin l r) x = let small = second-small (NestedJoin l r) x.part in omega arith
+    start-most (JoinOperator Hash l r) x = let small = second-small (JoinOperator Hash l r) x.part in omega arith
+    start-most (JoinOperator Nested l r) x = let small = second-small (JoinOperator Nested l r) x.part in omega arith
     start-most (Distinct child) x = absurd x.made
     start-most (SetOperator l r) x = absurd x.made
 
@@ -211,8 +218,8 @@ module _ (catalogue : CatalogDef) (block : Block) (formed : IsBlock catalogue bl
     no-term-zero (SeqScan e) x at = let small = second-small (SeqScan e) x.part in omega arith
     no-term-zero (RankScan e t i) x at = let small = second-small (RankScan e t i) x.part in omega arith
     no-term-zero (Rank t child) x at = let some = x.part.1.is_term.some in omega arith
-    no-term-zero (HashJoin l r) x at = omega arith
-    no-term-zero (NestedJoin l r) x at = omega arith
+    no-term-zero (JoinOperator Hash l r) x at = omega arith
+    no-term-zero (JoinOperator Nested l r) x at = omega arith
     no-term-zero (Distinct child) x at = x.made
     no-term-zero (SetOperator l r) x at = x.made
 
@@ -223,8 +230,8 @@ module _ (catalogue : CatalogDef) (block : Block) (formed : IsBlock catalogue bl
         let some = x.part.1.is_term.some in
         let within = slice_get_within block.terms (t - 1) x.part.1.term x.part.1.is_term.there in
         omega arith
-    no-more-terms (HashJoin l r) x above below = let own = some-entry catalogue block l x.part.0 in omega arith
-    no-more-terms (NestedJoin l r) x above below = omega arith
+    no-more-terms (JoinOperator Hash l r) x above below = let own = some-entry catalogue block l x.part.0 in omega arith
+    no-more-terms (JoinOperator Nested l r) x above below = omega arith
     no-more-terms (Distinct child) x above below = x.made
     no-more-terms (SetOperator l r) x above below = x.made
 
@@ -232,9 +239,9 @@ module _ (catalogue : CatalogDef) (block : Block) (formed : IsBlock catalogue bl
     no-more-hashed (SeqScan e) x above below = let small = second-small (SeqScan e) x.part in omega arith
     no-more-hashed (RankScan e t i) x above below = let small = second-small (RankScan e t i) x.part in omega arith
     no-more-hashed (Rank t child) x above below = let small = second-small (Rank t child) x.part in omega arith
-    no-more-hashed (HashJoin l r) x above below =
+    no-more-hashed (JoinOperator Hash l r) x above below =
         let less = (left-below l r x.part.0 x.part.1 x.part.2.apart x.its_entries).1 in omega arith
-    no-more-hashed (NestedJoin l r) x above below = let own = some-entry catalogue block l x.part.0 in omega arith
+    no-more-hashed (JoinOperator Nested l r) x above below = let own = some-entry catalogue block l x.part.0 in omega arith
     no-more-hashed (Distinct child) x above below = x.made
     no-more-hashed (SetOperator l r) x above below = x.made
 
@@ -242,8 +249,8 @@ module _ (catalogue : CatalogDef) (block : Block) (formed : IsBlock catalogue bl
     no-more-nested (SeqScan e) x above = let small = second-small (SeqScan e) x.part in omega arith
     no-more-nested (RankScan e t i) x above = let small = second-small (RankScan e t i) x.part in omega arith
     no-more-nested (Rank t child) x above = let small = second-small (Rank t child) x.part in omega arith
-    no-more-nested (HashJoin l r) x above = let small = second-small (HashJoin l r) x.part in omega arith
-    no-more-nested (NestedJoin l r) x above =
+    no-more-nested (JoinOperator Hash l r) x above = let small = second-small (JoinOperator Hash l r) x.part in omega arith
+    no-more-nested (JoinOperator Nested l r) x above =
         let less = (left-below l r x.part.0 x.part.1 x.part.2.apart x.its_entries).1 in omega arith
     no-more-nested (Distinct child) x above = x.made
     no-more-nested (SetOperator l r) x above = x.made

@@ -10,7 +10,7 @@ use Rattle.rs_query.specs.declared.block.Block.{Block}
 use Rattle.rs_query.specs.declared.query.Query.{Query}
 use Rattle.rs_query.specs.declared.query.Query.TheVariants.{One, Set}
 use Rattle.rs_plan.specs.Plans.{HasNoDistinct, IsPart, IsPlan, IsSetPlan}
-use Rattle.rs_plan.specs.Trees.{Distinct, HashJoin, NestedJoin, Rank, RankScan, SeqScan, SetOperator, PlanTree, entries, terms}
+use Rattle.rs_plan.specs.Trees.{Distinct, JoinOperator, PlanTree, Rank, RankScan, SeqScan, SetOperator, entries, terms}
 use Rattle.rs_enum.specs.Bounds.{IsSetPart}
 use Rattle.rs_enum.specs.Texts.{alias_of, nodes_of, table_of}
 use Rattle.rs_enum.proofs.BitFacts.{ones-mask, ones-or}
@@ -59,14 +59,7 @@ nodes-most catalogue block formed (Rank t child) is whole =
     let numbers = part-has-numbers catalogue block formed (Rank t child) is in
     let ones = ones-rank (terms child) t (terms-small catalogue block formed child is.0) numbers.0 is.1.absent in
     omega arith
-nodes-most catalogue block formed (HashJoin l r) is whole =
-    let left = nodes-most catalogue block formed l is.0 whole.0 in
-    let right = nodes-most catalogue block formed r is.1 whole.1 in
-    let sum = ones-or 6 (entries l) (entries r) (entries-small catalogue block formed l is.0) (entries-small catalogue block formed r is.1) is.2.apart in
-    let other = ones-or 8 (terms l) (terms r) (terms-small catalogue block formed l is.0) (terms-small catalogue block formed r is.1)
-    (sides-apart catalogue block formed l r is.0 is.1 is.2.apart) in
-    omega arith
-nodes-most catalogue block formed (NestedJoin l r) is whole =
+nodes-most catalogue block formed (JoinOperator kind l r) is whole =
     let left = nodes-most catalogue block formed l is.0 whole.0 in
     let right = nodes-most catalogue block formed r is.1 whole.1 in
     let sum = ones-or 6 (entries l) (entries r) (entries-small catalogue block formed l is.0) (entries-small catalogue block formed r is.1) is.2.apart in
@@ -86,10 +79,8 @@ nodes-part catalogue block formed (Rank t child) is =
     let numbers = part-has-numbers catalogue block formed (Rank t child) is in
     let ones = ones-rank (terms child) t (terms-small catalogue block formed child is.0) numbers.0 is.1.absent in
     omega arith
-nodes-part catalogue block formed (HashJoin l r) is =
-    let most = nodes-most catalogue block formed (HashJoin l r) is (is.2.left_whole, is.2.right_whole) in omega arith
-nodes-part catalogue block formed (NestedJoin l r) is =
-    let most = nodes-most catalogue block formed (NestedJoin l r) is (is.2.left_whole, is.2.right_whole) in omega arith
+nodes-part catalogue block formed (JoinOperator kind l r) is =
+    let most = nodes-most catalogue block formed (JoinOperator kind l r) is (is.2.left_whole, is.2.right_whole) in omega arith
 nodes-part catalogue block formed (Distinct child) is = let most = nodes-most catalogue block formed child is.0 is.1.first in omega arith
 nodes-part catalogue block formed (SetOperator l r) is = absurd is
 
@@ -116,8 +107,7 @@ set-nodes catalogue left right l r (SetOperator a b) is =
     omega arith
 set-nodes catalogue left right l r (SeqScan e) is = absurd is
 set-nodes catalogue left right l r (RankScan e t i) is = absurd is
-set-nodes catalogue left right l r (HashJoin a b) is = absurd is
-set-nodes catalogue left right l r (NestedJoin a b) is = absurd is
+set-nodes catalogue left right l r (JoinOperator kind a b) is = absurd is
 set-nodes catalogue left right l r (Distinct child) is = absurd is
 
 pub few-set-nodes : (catalogue : CatalogDef) (query : Query) → IsQuery catalogue query → (tree : PlanTree) → IsSetPart catalogue query tree → nodes_of tree ≤ 49

@@ -21,7 +21,7 @@ use Rattle.rs_sample.specs.Cards.{BlockCards}
 use Rattle.rs_query.specs.Blocks.{block_in}
 use Rattle.rs_plan.specs.Plans.{IsRank}
 use Rattle.rs_plan.specs.Shapes.{tree_of}
-use Rattle.rs_plan.specs.Trees.{Rank, PlanTree, terms}
+use Rattle.rs_plan.specs.Trees.{PlanTree, Rank, terms}
 use Rattle.rs_enum.specs.declared.extent.Extent.{Extent}
 use Rattle.rs_enum.specs.declared.extent.Top.{Top}
 use Rattle.rs_enum.specs.declared.kept.Kept.{Kept}

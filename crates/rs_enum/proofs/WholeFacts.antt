@@ -15,7 +15,7 @@ use Rattle.rs_query.specs.declared.query.Query.TheVariants.{One, Set}
 use Rattle.rs_sample.specs.Cards.{BlockCards}
 use Rattle.rs_query.specs.Blocks.{block_in}
 use Rattle.rs_plan.specs.Plans.{IsRank}
-use Rattle.rs_plan.specs.Trees.{Distinct, HashJoin, NestedJoin, Rank, RankScan, SeqScan, SetOperator, PlanTree, code, code_cmp, entries, terms}
+use Rattle.rs_plan.specs.Trees.{Distinct, JoinOperator, PlanTree, Rank, RankScan, SeqScan, SetOperator, code, code_cmp, entries, terms}
 use Rattle.rs_enum.specs.declared.extent.Extent.{Extent}
 use Rattle.rs_enum.specs.declared.extent.Extent.TheVariants as extent
 use Rattle.rs_enum.specs.Costs.{estimate_of}
@@ -88,8 +88,7 @@ module _ (catalogue : CatalogDef) where
   whole-case query (extent.Block number) topped (SeqScan n) is rank distinct set = absurd (is.drops topped tt)
   whole-case query (extent.Block number) topped (RankScan n t i) is rank distinct set = absurd (is.drops topped tt)
   whole-case query (extent.Block number) topped (Rank t child) is rank distinct set = rank t child refl
-  whole-case query (extent.Block number) topped (HashJoin l r) is rank distinct set = absurd (is.drops topped (is.part.2.left_whole, is.part.2.right_whole))
-  whole-case query (extent.Block number) topped (NestedJoin l r) is rank distinct set = absurd (is.drops topped (is.part.2.left_whole, is.part.2.right_whole))
+  whole-case query (extent.Block number) topped (JoinOperator kind l r) is rank distinct set = absurd (is.drops topped (is.part.2.left_whole, is.part.2.right_whole))
   whole-case query (extent.Block number) topped (Distinct child) is rank distinct set = distinct child refl
   whole-case query (extent.Block number) topped (SetOperator l r) is rank distinct set = absurd is.part
   whole-case (One block limit) extent.Both topped tree is rank distinct set = absurd is
@@ -97,8 +96,7 @@ module _ (catalogue : CatalogDef) where
   whole-case (Set op left right limit) extent.Both topped (SetOperator l r) is rank distinct set = set l r refl
   whole-case (Set op left right limit) extent.Both topped (SeqScan n) is rank distinct set = absurd is
   whole-case (Set op left right limit) extent.Both topped (RankScan n t i) is rank distinct set = absurd is
-  whole-case (Set op left right limit) extent.Both topped (HashJoin l r) is rank distinct set = absurd is
-  whole-case (Set op left right limit) extent.Both topped (NestedJoin l r) is rank distinct set = absurd is
+  whole-case (Set op left right limit) extent.Both topped (JoinOperator kind l r) is rank distinct set = absurd is
   whole-case (Set op left right limit) extent.Both topped (Distinct child) is rank distinct set = absurd is
 
   pub whole-entries : (query : Query) (e : Extent) (tree : PlanTree) → IsWhole catalogue query e tree → entries tree ≡ all_entries (block_in query (number_of e))
@@ -108,8 +106,7 @@ module _ (catalogue : CatalogDef) where
   whole-entries (Set op left right limit) extent.Both (SetOperator l r) is = is.0.all
   whole-entries (Set op left right limit) extent.Both (SeqScan n) is = absurd is
   whole-entries (Set op left right limit) extent.Both (RankScan n t i) is = absurd is
-  whole-entries (Set op left right limit) extent.Both (HashJoin l r) is = absurd is
-  whole-entries (Set op left right limit) extent.Both (NestedJoin l r) is = absurd is
+  whole-entries (Set op left right limit) extent.Both (JoinOperator kind l r) is = absurd is
   whole-entries (Set op left right limit) extent.Both (Distinct child) is = absurd is
 
   -- how many rows are expected of it

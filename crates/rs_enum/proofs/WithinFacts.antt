@@ -17,7 +17,7 @@ use Rattle.rs_query.specs.WellFormed.{IsBlock, IsTerm, argument_columns, entries
 use Rattle.rs_query.specs.declared.block.Block.{Block}
 use Rattle.rs_query.specs.declared.term.Term.{Term}
 use Rattle.rs_plan.specs.Plans.{IsEntryNumber, IsPart}
-use Rattle.rs_plan.specs.Trees.{Distinct, HashJoin, NestedJoin, Rank, RankScan, SeqScan, SetOperator, PlanTree, entries, terms}
+use Rattle.rs_plan.specs.Trees.{Distinct, JoinOperator, PlanTree, Rank, RankScan, SeqScan, SetOperator, entries, terms}
 use Rattle.rs_enum.specs.Within.{terms_within}
 use Rattle.rs_enum.proofs.BitFacts.{inside-bit, inside-inside, inside-union-left, inside-union-right, kept-of-union, number-inside, part-apart-from, parts-apart, union-inside, apart-back}
 
@@ -170,8 +170,7 @@ module _ (catalogue : CatalogDef) (block : Block) where
       union-inside (terms child) (mask_of t) (terms_within (entries child) block.terms) (terms-within child is.0)
       (number-inside (terms_within (entries child) block.terms) t (ap (λ n. n == 1)
       (terms_within-has (entries child) block.terms (t - 1) is.1.term is.1.is_term.there is.1.there)))
-  terms-within (HashJoin l r) is = of-sides block l r (terms-within l is.0) (terms-within r is.1)
-  terms-within (NestedJoin l r) is = of-sides block l r (terms-within l is.0) (terms-within r is.1)
+  terms-within (JoinOperator kind l r) is = of-sides block l r (terms-within l is.0) (terms-within r is.1)
   terms-within (Distinct child) is = terms-within child is.0
   terms-within (SetOperator l r) is = absurd is
 
@@ -179,8 +178,7 @@ module _ (catalogue : CatalogDef) (block : Block) where
   entries-below (SeqScan e) is = entry-below block e is
   entries-below (RankScan e t i) is = entry-below block e is.is_entry
   entries-below (Rank t child) is = entries-below child is.0
-  entries-below (HashJoin l r) is = or_lt (length block.from) (entries l) (entries r) (entries-below l is.0) (entries-below r is.1)
-  entries-below (NestedJoin l r) is = or_lt (length block.from) (entries l) (entries r) (entries-below l is.0) (entries-below r is.1)
+  entries-below (JoinOperator kind l r) is = or_lt (length block.from) (entries l) (entries r) (entries-below l is.0) (entries-below r is.1)
   entries-below (Distinct child) is = entries-below child is.0
   entries-below (SetOperator l r) is = absurd is
 
@@ -188,8 +186,7 @@ module _ (catalogue : CatalogDef) (block : Block) where
   some-entry (SeqScan e) is = pow_pos (e - 1)
   some-entry (RankScan e t i) is = pow_pos (e - 1)
   some-entry (Rank t child) is = some-entry child is.0
-  some-entry (HashJoin l r) is = let own = some-entry l is.0 in let most = le_or_l (entries l) (entries r) in omega arith
-  some-entry (NestedJoin l r) is = let own = some-entry l is.0 in let most = le_or_l (entries l) (entries r) in omega arith
+  some-entry (JoinOperator kind l r) is = let own = some-entry l is.0 in let most = le_or_l (entries l) (entries r) in omega arith
   some-entry (Distinct child) is = some-entry child is.0
   some-entry (SetOperator l r) is = absurd is
 

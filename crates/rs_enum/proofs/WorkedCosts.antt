@@ -15,7 +15,7 @@ use Rattle.rs_query.specs.declared.query.Query.{Query}
 use Rattle.rs_query.specs.declared.query.Query.TheVariants.{One, Set}
 use Rattle.rs_query.specs.declared.term.Term.{Term}
 use Rattle.rs_sample.specs.Cards.{BlockCards}
-use Rattle.rs_plan.specs.Trees.{Distinct, HashJoin, NestedJoin, Rank, RankScan, SeqScan, SetOperator, PlanTree}
+use Rattle.rs_plan.specs.Trees.{Distinct, Hash, JoinOperator, Nested, PlanTree, Rank, RankScan, SeqScan, SetOperator}
 use Rattle.rs_enum.specs.Costs.{cost_of, estimate_of}
 use Rattle.rs_enum.specs.Least.{plan_cmp}
 
@@ -105,14 +105,14 @@ pair_cards = record {
 } ∷ []
 
 abbrev pub nested : PlanTree
-nested = NestedJoin (SeqScan 1) (RankScan 2 1 0)
+nested = JoinOperator Nested (SeqScan 1) (RankScan 2 1 0)
 
 -- 3 + 2 * 1 + 3 * 1 + 3 for each pair of the sides' rows, and 3 + 2 * 1 + 2 * (3 + 1) + 3 by equal values
-costs_of_joins : costs two_tables pair_cards (nested ∷ HashJoin (SeqScan 1) (RankScan 2 1 0) ∷ []) ≡ 11 ∷ 16 ∷ []
+costs_of_joins : costs two_tables pair_cards (nested ∷ JoinOperator Hash (SeqScan 1) (RankScan 2 1 0) ∷ []) ≡ 11 ∷ 16 ∷ []
 costs_of_joins = refl
 
 -- the sides may be exchanged: the left one's entries decide
-order_of_sides : plan_cmp catalogue two_tables pair_cards nested (NestedJoin (RankScan 2 1 0) (SeqScan 1)) ≡ Less
+order_of_sides : plan_cmp catalogue two_tables pair_cards nested (JoinOperator Nested (RankScan 2 1 0) (SeqScan 1)) ≡ Less
 order_of_sides = refl
 
 -- SELECT DISTINCT x FROM h o ORDER BY p(x): 3 + 3, and 3 * 1 above
@@ -171,7 +171,7 @@ abbrev pub five_cards : List BlockCards
 five_cards = record { entries = 2; reads = 1 ∷ 2 ∷ []; estimate = λ entries terms. cond (eqb entries 3) 7 5; index_estimate = λ entry term. 5 } ∷ []
 
 abbrev pub hash_plan : PlanTree
-hash_plan = HashJoin (RankScan 1 1 0) (RankScan 2 2 0)
+hash_plan = JoinOperator Hash (RankScan 1 1 0) (RankScan 2 2 0)
 
 costs_of_scans : costs two_terms five_cards (RankScan 1 1 0 ∷ hash_plan ∷ []) ≡ 10 ∷ 47 ∷ []
 costs_of_scans = refl
@@ -186,7 +186,7 @@ full_cards = record {
 } ∷ []
 
 abbrev pub nested_scans : PlanTree
-nested_scans = NestedJoin (RankScan 1 1 0) (RankScan 2 2 0)
+nested_scans = JoinOperator Nested (RankScan 1 1 0) (RankScan 2 2 0)
 
 costs_of_pairs : costs two_terms full_cards (nested_scans ∷ []) ≡ 34360262656 ∷ []
 costs_of_pairs = refl

@@ -6,14 +6,14 @@ use Rattle.rs_catalog.specs.Catalog.{CatalogDef}
 use Rattle.rs_query.specs.Combinations.{numbers_to}
 use Rattle.rs_query.specs.declared.query.Query.{Query}
 use Rattle.rs_plan.specs.Deciding.{is_plan}
-use Rattle.rs_plan.specs.Trees.{Distinct, HashJoin, NestedJoin, Rank, RankScan, SeqScan, SetOperator, PlanTree}
+use Rattle.rs_plan.specs.Trees.{Distinct, Hash, JoinOperator, Nested, PlanTree, Rank, RankScan, SeqScan, SetOperator}
 
 -- the operators over these trees, each with each of the terms
 abbrev pub trees_over : List ℕ → List PlanTree → List PlanTree
 trees_over terms lesser =
     flat_map (λ term. map (Rank term) lesser) terms
-    ++ flat_map (λ left. map (HashJoin left) lesser) lesser
-    ++ flat_map (λ left. map (NestedJoin left) lesser) lesser
+    ++ flat_map (λ left. map (JoinOperator Hash left) lesser) lesser
+    ++ flat_map (λ left. map (JoinOperator Nested left) lesser) lesser
     ++ map Distinct lesser
     ++ flat_map (λ left. map (SetOperator left) lesser) lesser
 

@@ -5,7 +5,7 @@ use Rattle.rs_query.specs.declared.block.Block.{Block}
 use Rattle.rs_query.specs.declared.query.Query.{Query}
 use Rattle.rs_query.specs.declared.query.Query.TheVariants.{One, Set}
 use Rattle.rs_plan.specs.Plans.{IsSetPlan}
-use Rattle.rs_plan.specs.Trees.{Distinct, HashJoin, NestedJoin, Rank, RankScan, SeqScan, SetOperator, PlanTree}
+use Rattle.rs_plan.specs.Trees.{Distinct, JoinOperator, PlanTree, Rank, RankScan, SeqScan, SetOperator}
 
 -- a part of a plan of a block, by its entries and evaluated terms
 abbrev pub most_cost : ℕ → ℕ → ℕ
@@ -25,8 +25,7 @@ abbrev pub has_set_operator : PlanTree → Bool
 has_set_operator (SeqScan entry) = false
 has_set_operator (RankScan entry term index) = false
 has_set_operator (Rank term child) = has_set_operator child
-has_set_operator (HashJoin left right) = false
-has_set_operator (NestedJoin left right) = false
+has_set_operator (JoinOperator kind left right) = false
 has_set_operator (Distinct child) = false
 has_set_operator (SetOperator left right) = true
 

@@ -3,15 +3,14 @@ use Rattle.std.specs.Prelude.{ℕ, ◌≡◌, Option, Some}
 use Rattle.rs_catalog.specs.Catalog.{CatalogDef}
 use Rattle.rs_query.specs.declared.block.Block.{Block}
 use Rattle.rs_plan.specs.Plans.{HasNoDistinct, IsPart}
-use Rattle.rs_plan.specs.Trees.{Distinct, HashJoin, NestedJoin, Rank, RankScan, SeqScan, SetOperator, PlanTree, entries, terms}
+use Rattle.rs_plan.specs.Trees.{Distinct, JoinOperator, PlanTree, Rank, RankScan, SeqScan, SetOperator, entries, terms}
 
 -- the children of a plan are those that are kept of their entries and terms
 abbrev pub HasKeptChildren : (ℕ → ℕ → Option PlanTree) → PlanTree → Type 0
 HasKeptChildren kept (SeqScan entry) = Unit {0}
 HasKeptChildren kept (RankScan entry term index) = Unit {0}
 HasKeptChildren kept (Rank term child) = kept (entries child) (terms child) ≡ Some child
-HasKeptChildren kept (HashJoin left right) = (kept (entries left) (terms left) ≡ Some left) × (kept (entries right) (terms right) ≡ Some right)
-HasKeptChildren kept (NestedJoin left right) = (kept (entries left) (terms left) ≡ Some left) × (kept (entries right) (terms right) ≡ Some right)
+HasKeptChildren kept (JoinOperator kind left right) = (kept (entries left) (terms left) ≡ Some left) × (kept (entries right) (terms right) ≡ Some right)
 HasKeptChildren kept (Distinct child) = ⊥
 HasKeptChildren kept (SetOperator left right) = ⊥
 

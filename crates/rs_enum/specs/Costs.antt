@@ -8,7 +8,7 @@ use Rattle.rs_query.specs.declared.query.Query.{Query}
 use Rattle.rs_query.specs.declared.term.Term.{Term}
 use Rattle.rs_sample.specs.Cards.{BlockCards}
 use Rattle.rs_query.specs.Blocks.{block_in}
-use Rattle.rs_plan.specs.Trees.{Distinct, HashJoin, NestedJoin, Rank, RankScan, SeqScan, SetOperator, PlanTree, entries, terms}
+use Rattle.rs_plan.specs.Trees.{Distinct, Hash, JoinOperator, Nested, PlanTree, Rank, RankScan, SeqScan, SetOperator, entries, terms}
 use Rattle.rs_enum.specs.QueryCards.{cards_at}
 
 -- how many rows are expected of a plan of the block of this number, once the terms in a mask are evaluated; of a set operator, and
@@ -32,12 +32,12 @@ cost_in catalogue query cards number (SeqScan entry) = size_of catalogue (block_
 cost_in catalogue query cards number (RankScan entry term index) = 2 * (cards_at cards number).index_estimate entry term
 cost_in catalogue query cards number (Rank term child) =
     cost_in catalogue query cards number child + estimate_of cards number child * call_cost catalogue (block_in query number) term
-cost_in catalogue query cards number (HashJoin left right) =
+cost_in catalogue query cards number (JoinOperator Hash left right) =
     cost_in catalogue query cards number left + cost_in catalogue query cards number right
-    + 2 * (estimate_of cards number left + estimate_of cards number right) + estimate_of cards number (HashJoin left right)
-cost_in catalogue query cards number (NestedJoin left right) =
+    + 2 * (estimate_of cards number left + estimate_of cards number right) + estimate_of cards number (JoinOperator Hash left right)
+cost_in catalogue query cards number (JoinOperator Nested left right) =
     cost_in catalogue query cards number left + cost_in catalogue query cards number right
-    + estimate_of cards number left * estimate_of cards number right + estimate_of cards number (NestedJoin left right)
+    + estimate_of cards number left * estimate_of cards number right + estimate_of cards number (JoinOperator Nested left right)
 cost_in catalogue query cards number (Distinct child) = cost_in catalogue query cards number child + estimate_of cards number child
 cost_in catalogue query cards number (SetOperator left right) =
     cost_in catalogue query cards 1 left + cost_in catalogue query cards 2 right + estimate_of cards 1 left + estimate_of cards 2 right

@@ -2,6 +2,7 @@ pub mod AllPlans
 pub mod Bounds
 pub mod Candidates
 pub mod Costs
+pub mod Given
 pub mod Least
 pub mod Made
 pub mod Places

@@ -5,7 +5,7 @@ use Rattle.rs_catalog.specs.Catalog.{CatalogDef}
 use Rattle.rs_query.specs.declared.query.Query.{Query}
 use Rattle.rs_sample.specs.Cards.{BlockCards}
 use Rattle.rs_query.specs.Blocks.{block_in}
-use Rattle.rs_plan.specs.Trees.{HashJoin, NestedJoin, Rank, RankScan, SeqScan, PlanTree}
+use Rattle.rs_plan.specs.Trees.{Hash, JoinOperator, Nested, PlanTree, Rank, RankScan, SeqScan}
 use Rattle.rs_enum.specs.declared.candidate.Candidate.{Candidate}
 use Rattle.rs_enum.specs.declared.candidate.Choice.{Choice}
 use Rattle.rs_enum.specs.declared.candidate.Choice.TheVariants as choice
@@ -26,9 +26,9 @@ IsChosen query places first second (choice.Rank term) tree =
     (child : PlanTree) × (tree ≡ Rank term child) × (tree_at (length (block_in query 1).terms) places first (bit_xor second (mask_of term)) ≡ Some child)
     × (1 ≤ term) × (term ≤ 8)
 IsChosen query places first second (choice.HashJoin left) tree =
-    (l : PlanTree) × (r : PlanTree) × (tree ≡ HashJoin l r) × AreKeptSides query places first second left l r
+    (l : PlanTree) × (r : PlanTree) × (tree ≡ JoinOperator Hash l r) × AreKeptSides query places first second left l r
 IsChosen query places first second (choice.NestedJoin left) tree =
-    (l : PlanTree) × (r : PlanTree) × (tree ≡ NestedJoin l r) × AreKeptSides query places first second left l r
+    (l : PlanTree) × (r : PlanTree) × (tree ≡ JoinOperator Nested l r) × AreKeptSides query places first second left l r
 
 -- what is to be kept of a signature: the first of all plans that can be made, if there is one
 pub record IsFound (catalogue : CatalogDef) (query : Query) (cards : List BlockCards) (places : List (Option Kept)) (first second : ℕ) (made : Option Kept) : Type 0 where

@@ -7,7 +7,7 @@ use Rattle.rs_sample.specs.Cards.{BlockCards}
 use Rattle.rs_query.specs.Blocks.{block_in}
 use Rattle.rs_plan.specs.Plans.{HasNoDistinct, IsPart, IsRankScan}
 use Rattle.rs_plan.specs.Shapes.{tree_of}
-use Rattle.rs_plan.specs.Trees.{Distinct, HashJoin, NestedJoin, Rank, RankScan, SeqScan, SetOperator, PlanTree, entries, terms}
+use Rattle.rs_plan.specs.Trees.{Distinct, Hash, JoinOperator, Nested, PlanTree, Rank, RankScan, SeqScan, SetOperator, entries, terms, join_number}
 use Rattle.rs_enum.specs.declared.candidate.Candidate.{Candidate}
 use Rattle.rs_enum.specs.declared.candidate.Choice.{Choice}
 use Rattle.rs_enum.specs.declared.candidate.Sides.{Sides}
@@ -45,8 +45,8 @@ abbrev pub choice_of : PlanTree → Option Choice
 choice_of (SeqScan entry) = Some (choice.SeqScan entry)
 choice_of (RankScan entry term index) = Some (choice.RankScan entry term index)
 choice_of (Rank term child) = Some (choice.Rank term)
-choice_of (HashJoin left right) = Some (choice.HashJoin (entries left))
-choice_of (NestedJoin left right) = Some (choice.NestedJoin (entries left))
+choice_of (JoinOperator Hash left right) = Some (choice.HashJoin (entries left))
+choice_of (JoinOperator Nested left right) = Some (choice.NestedJoin (entries left))
 choice_of (Distinct child) = None
 choice_of (SetOperator left right) = None
 
@@ -55,8 +55,7 @@ abbrev pub start_of : PlanTree → ℕ
 start_of (SeqScan entry) = 1 * 256 + entry
 start_of (RankScan entry term index) = 2 * 256 + entry
 start_of (Rank term child) = 3 * 256 + term
-start_of (HashJoin left right) = 4 * 256 + entries left
-start_of (NestedJoin left right) = 5 * 256 + entries left
+start_of (JoinOperator kind left right) = join_number kind * 256 + entries left
 start_of (Distinct child) = 6 * 256
 start_of (SetOperator left right) = 7 * 256
 

@@ -9,7 +9,7 @@ use Rattle.rs_query.specs.declared.query.Query.TheVariants.{One, Set}
 use Rattle.rs_sample.specs.Cards.{BlockCards}
 use Rattle.rs_query.specs.Blocks.{block_in}
 use Rattle.rs_plan.specs.Plans.{IsEntryNumber}
-use Rattle.rs_plan.specs.Trees.{Distinct, HashJoin, NestedJoin, Rank, RankScan, SeqScan, SetOperator, PlanTree}
+use Rattle.rs_plan.specs.Trees.{Distinct, Hash, JoinOperator, Nested, PlanTree, Rank, RankScan, SeqScan, SetOperator}
 use Rattle.rs_plan.specs.declared.counts.Counts.{Counts}
 use Rattle.rs_enum.specs.Costs.{cost_in, estimate_of}
 
@@ -44,8 +44,8 @@ name_of catalogue query number (RankScan entry term index) =
     codes "RankScan " ++ table_of catalogue (block_in query number) entry ++ codes " " ++ alias_of (block_in query number) entry
     ++ codes " term " ++ decimal term
 name_of catalogue query number (Rank term child) = codes "Rank term " ++ decimal term
-name_of catalogue query number (HashJoin left right) = codes "HashRankJoin"
-name_of catalogue query number (NestedJoin left right) = codes "NestedRankJoin"
+name_of catalogue query number (JoinOperator Hash left right) = codes "HashRankJoin"
+name_of catalogue query number (JoinOperator Nested left right) = codes "NestedRankJoin"
 name_of catalogue query number (Distinct child) = codes "Distinct"
 name_of catalogue query number (SetOperator left right) = operator_of query
 
@@ -72,8 +72,7 @@ abbrev pub nodes_of : PlanTree → ℕ
 nodes_of (SeqScan entry) = 1
 nodes_of (RankScan entry term index) = 1
 nodes_of (Rank term child) = suc (nodes_of child)
-nodes_of (HashJoin left right) = suc (nodes_of left + nodes_of right)
-nodes_of (NestedJoin left right) = suc (nodes_of left + nodes_of right)
+nodes_of (JoinOperator kind left right) = suc (nodes_of left + nodes_of right)
 nodes_of (Distinct child) = suc (nodes_of child)
 nodes_of (SetOperator left right) = suc (nodes_of left + nodes_of right)
 
@@ -93,12 +92,8 @@ plan_lines catalogue query cards level number (RankScan entry term index) counts
 plan_lines catalogue query cards level number (Rank term child) counts =
     plan_line catalogue query cards level number (Rank term child) (first_of counts)
     ++ plan_lines catalogue query cards (level + 1) number child (behind 1 counts)
-plan_lines catalogue query cards level number (HashJoin left right) counts =
-    plan_line catalogue query cards level number (HashJoin left right) (first_of counts)
-    ++ plan_lines catalogue query cards (level + 1) number left (behind 1 counts)
-    ++ plan_lines catalogue query cards (level + 1) number right (behind (1 + nodes_of left) counts)
-plan_lines catalogue query cards level number (NestedJoin left right) counts =
-    plan_line catalogue query cards level number (NestedJoin left right) (first_of counts)
+plan_lines catalogue query cards level number (JoinOperator kind left right) counts =
+    plan_line catalogue query cards level number (JoinOperator kind left right) (first_of counts)
     ++ plan_lines catalogue query cards (level + 1) number left (behind 1 counts)
     ++ plan_lines catalogue query cards (level + 1) number right (behind (1 + nodes_of left) counts)
 plan_lines catalogue query cards level number (Distinct child) counts =

@@ -11,7 +11,7 @@ use Rattle.rs_sample.specs.Cards.{BlockCards}
 use Rattle.rs_query.specs.Blocks.{block_in}
 use Rattle.rs_plan.specs.Plans.{HasNoDistinct, IsComplete, IsPart}
 use Rattle.rs_plan.specs.Shapes.{tree_of}
-use Rattle.rs_plan.specs.Trees.{Distinct, HashJoin, NestedJoin, Rank, RankScan, SeqScan, SetOperator, PlanTree, code, code_cmp, entries, terms}
+use Rattle.rs_plan.specs.Trees.{Distinct, JoinOperator, PlanTree, Rank, RankScan, SeqScan, SetOperator, code, code_cmp, entries, terms}
 use Rattle.rs_enum.specs.declared.extent.Extent.{Extent}
 use Rattle.rs_enum.specs.declared.extent.Extent.TheVariants as whole
 use Rattle.rs_enum.specs.declared.extent.Top.{Top}
@@ -91,8 +91,7 @@ abbrev pub root_term : PlanTree → ℕ
 root_term (SeqScan entry) = 9
 root_term (RankScan entry term index) = 9
 root_term (Rank term child) = term
-root_term (HashJoin left right) = 9
-root_term (NestedJoin left right) = 9
+root_term (JoinOperator kind left right) = 9
 root_term (Distinct child) = 9
 root_term (SetOperator left right) = 9
 

@@ -8,6 +8,7 @@ ghost use Rattle.rs_query.specs.Blocks.{block_in};
 ghost use Rattle.rs_plan.specs.Shapes.{tree_of};
 ghost use Rattle.rs_plan.specs.Trees.{Distinct, SetOperator};
 ghost use Rattle.rs_enum.specs.declared.extent.Extent.TheVariants as whole;
+ghost use Rattle.rs_enum.specs.Given.{CanPlan};
 ghost use Rattle.rs_enum.specs.QueryCards.{AreCards, IsBlockNumber};
 ghost use Rattle.rs_enum.specs.Tops.{AreBases, AreLower, AreTops, IsExtent, IsLastRow, IsTheBase, SameKept, top_at};
 
@@ -16,6 +17,7 @@ use crate::costs::{both_sides, rows_of_all};
 use crate::find::kept_at;
 use crate::kept::Kept;
 use crate::optimiser::masks;
+use crate::planning::Planning;
 use crate::tops::top_at;
 use rs_catalog::Catalog;
 use rs_plan::{Plan, Signature};
@@ -65,24 +67,21 @@ fn copy_of(alloc: Global, kept: Option<&Kept>) -> Result<Option<Kept>, Memory>
 /// What is kept of a block is the base of what is kept with duplicates dropped.
 pub(crate) fn dropped(
     alloc: Global,
-    catalog: &Catalog,
-    query: &Query,
-    cards: &Cards,
+    planning: &Planning,
     number: u8,
     lower: &[Option<Kept>],
 ) -> Result<Vec<Option<Kept>>, Memory>
-    requires query { IsQuery catalog.now query.now }
-    requires cards { AreCards query.now (cards_of cards.now) }
-    requires number { IsBlockNumber (cards_of cards.now) number }
-    requires wanted { (block_in query.now number).distinct ≡ true }
-    requires lower { AreLower catalog.now query.now (cards_of cards.now) number lower.now }
-    requires all { length lower.now ≡ 2 ^ length (block_in query.now number).terms }
-    ensures bases { IfOk result (λ bases. AreBases catalog.now query.now (cards_of cards.now) (whole.Block number) bases.items) }
-    ensures all { IfOk result (λ bases. length bases.items ≡ 2 ^ length (block_in query.now number).terms) }
+    requires planning { CanPlan planning.now }
+    requires number { IsBlockNumber (cards_of planning.now.cards.now) number }
+    requires wanted { (block_in planning.now.query.now number).distinct ≡ true }
+    requires lower { AreLower planning.now.catalog.now planning.now.query.now (cards_of planning.now.cards.now) number lower.now }
+    requires all { length lower.now ≡ 2 ^ length (block_in planning.now.query.now number).terms }
+    ensures bases { IfOk result (λ bases. AreBases planning.now.catalog.now planning.now.query.now (cards_of planning.now.cards.now) (whole.Block number) bases.items) }
+    ensures all { IfOk result (λ bases. length bases.items ≡ 2 ^ length (block_in planning.now.query.now number).terms) }
 {
     let mut bases = Vec::new(alloc);
-    for place in 0..masks(block_in(query, number).terms.len() as u8) {
-        let base = dropped_at(alloc, catalog, query, cards, number, lower, place as u8)?;
+    for place in 0..masks(block_in(planning.query, number).terms.len() as u8) {
+        let base = dropped_at(alloc, planning, number, lower, place as u8)?;
         bases.push(base)?;
     }
     Ok(bases)
@@ -91,26 +90,23 @@ pub(crate) fn dropped(
 /// The plan that drops duplicates of what is kept of these terms.
 fn dropped_at(
     alloc: Global,
-    catalog: &Catalog,
-    query: &Query,
-    cards: &Cards,
+    planning: &Planning,
     number: u8,
     lower: &[Option<Kept>],
     evaluated: u8,
 ) -> Result<Option<Kept>, Memory>
-    requires query { IsQuery catalog.now query.now }
-    requires cards { AreCards query.now (cards_of cards.now) }
-    requires number { IsBlockNumber (cards_of cards.now) number }
-    requires wanted { (block_in query.now number).distinct ≡ true }
-    requires lower { AreLower catalog.now query.now (cards_of cards.now) number lower.now }
-    requires all { length lower.now ≡ 2 ^ length (block_in query.now number).terms }
-    requires evaluated { evaluated < 2 ^ length (block_in query.now number).terms }
-    ensures { IfOk result (λ base. IsTheBase catalog.now query.now (cards_of cards.now) (whole.Block number) evaluated base) }
+    requires planning { CanPlan planning.now }
+    requires number { IsBlockNumber (cards_of planning.now.cards.now) number }
+    requires wanted { (block_in planning.now.query.now number).distinct ≡ true }
+    requires lower { AreLower planning.now.catalog.now planning.now.query.now (cards_of planning.now.cards.now) number lower.now }
+    requires all { length lower.now ≡ 2 ^ length (block_in planning.now.query.now number).terms }
+    requires evaluated { evaluated < 2 ^ length (block_in planning.now.query.now number).terms }
+    ensures { IfOk result (λ base. IsTheBase planning.now.catalog.now planning.now.query.now (cards_of planning.now.cards.now) (whole.Block number) evaluated base) }
 {
     match top_at(lower, evaluated) {
         None => Ok(None),
         Some(kept) => {
-            let rows = rows_of_all(catalog, query, cards, number, evaluated);
+            let rows = rows_of_all(planning, number, evaluated);
             let base = without_duplicates(alloc, kept, rows)?;
             Ok(Some(base))
         }
@@ -132,25 +128,22 @@ fn without_duplicates(alloc: Global, kept: &Kept, rows: u128) -> Result<Kept, Me
 /// The set operator of what is kept of both blocks, for each mask of terms.
 pub(crate) fn set_bases(
     alloc: Global,
-    catalog: &Catalog,
-    query: &Query,
-    cards: &Cards,
+    planning: &Planning,
     left: &[Option<Kept>],
     right: &[Option<Kept>],
 ) -> Result<Vec<Option<Kept>>, Memory>
-    requires query { IsQuery catalog.now query.now }
-    requires cards { AreCards query.now (cards_of cards.now) }
-    requires both { IsExtent query.now (cards_of cards.now) whole.Both }
-    requires left { AreTops catalog.now query.now (cards_of cards.now) (whole.Block 1) left.now }
-    requires right { AreTops catalog.now query.now (cards_of cards.now) (whole.Block 2) right.now }
-    requires left_all { length left.now ≡ 2 ^ length (block_in query.now 1).terms }
-    requires right_all { length right.now ≡ 2 ^ length (block_in query.now 2).terms }
-    ensures bases { IfOk result (λ bases. AreBases catalog.now query.now (cards_of cards.now) whole.Both bases.items) }
-    ensures all { IfOk result (λ bases. length bases.items ≡ 2 ^ length (block_in query.now 1).terms) }
+    requires planning { CanPlan planning.now }
+    requires both { IsExtent planning.now.query.now (cards_of planning.now.cards.now) whole.Both }
+    requires left { AreTops planning.now.catalog.now planning.now.query.now (cards_of planning.now.cards.now) (whole.Block 1) left.now }
+    requires right { AreTops planning.now.catalog.now planning.now.query.now (cards_of planning.now.cards.now) (whole.Block 2) right.now }
+    requires left_all { length left.now ≡ 2 ^ length (block_in planning.now.query.now 1).terms }
+    requires right_all { length right.now ≡ 2 ^ length (block_in planning.now.query.now 2).terms }
+    ensures bases { IfOk result (λ bases. AreBases planning.now.catalog.now planning.now.query.now (cards_of planning.now.cards.now) whole.Both bases.items) }
+    ensures all { IfOk result (λ bases. length bases.items ≡ 2 ^ length (block_in planning.now.query.now 1).terms) }
 {
     let mut bases = Vec::new(alloc);
-    for place in 0..masks(block_in(query, 1).terms.len() as u8) {
-        let base = both_at(alloc, catalog, query, cards, left, right, place as u8)?;
+    for place in 0..masks(block_in(planning.query, 1).terms.len() as u8) {
+        let base = both_at(alloc, planning, left, right, place as u8)?;
         bases.push(base)?;
     }
     Ok(bases)
@@ -159,56 +152,50 @@ pub(crate) fn set_bases(
 /// The set operator of what is kept of both blocks of these terms.
 fn both_at(
     alloc: Global,
-    catalog: &Catalog,
-    query: &Query,
-    cards: &Cards,
+    planning: &Planning,
     left: &[Option<Kept>],
     right: &[Option<Kept>],
     evaluated: u8,
 ) -> Result<Option<Kept>, Memory>
-    requires query { IsQuery catalog.now query.now }
-    requires cards { AreCards query.now (cards_of cards.now) }
-    requires both { IsExtent query.now (cards_of cards.now) whole.Both }
-    requires left { AreTops catalog.now query.now (cards_of cards.now) (whole.Block 1) left.now }
-    requires right { AreTops catalog.now query.now (cards_of cards.now) (whole.Block 2) right.now }
-    requires left_all { length left.now ≡ 2 ^ length (block_in query.now 1).terms }
-    requires right_all { length right.now ≡ 2 ^ length (block_in query.now 2).terms }
-    requires evaluated { evaluated < 2 ^ length (block_in query.now 1).terms }
-    ensures { IfOk result (λ base. IsTheBase catalog.now query.now (cards_of cards.now) whole.Both evaluated base) }
+    requires planning { CanPlan planning.now }
+    requires both { IsExtent planning.now.query.now (cards_of planning.now.cards.now) whole.Both }
+    requires left { AreTops planning.now.catalog.now planning.now.query.now (cards_of planning.now.cards.now) (whole.Block 1) left.now }
+    requires right { AreTops planning.now.catalog.now planning.now.query.now (cards_of planning.now.cards.now) (whole.Block 2) right.now }
+    requires left_all { length left.now ≡ 2 ^ length (block_in planning.now.query.now 1).terms }
+    requires right_all { length right.now ≡ 2 ^ length (block_in planning.now.query.now 2).terms }
+    requires evaluated { evaluated < 2 ^ length (block_in planning.now.query.now 1).terms }
+    ensures { IfOk result (λ base. IsTheBase planning.now.catalog.now planning.now.query.now (cards_of planning.now.cards.now) whole.Both evaluated base) }
 {
     match top_at(left, evaluated) {
         None => Ok(None),
-        Some(first) => both_over(alloc, catalog, query, cards, left, right, first, evaluated),
+        Some(first) => both_over(alloc, planning, left, right, first, evaluated),
     }
 }
 
 /// The same, where this is what is kept of the first block.
 fn both_over(
     alloc: Global,
-    catalog: &Catalog,
-    query: &Query,
-    cards: &Cards,
+    planning: &Planning,
     left: &[Option<Kept>],
     right: &[Option<Kept>],
     first: &Kept,
     evaluated: u8,
 ) -> Result<Option<Kept>, Memory>
-    requires query { IsQuery catalog.now query.now }
-    requires cards { AreCards query.now (cards_of cards.now) }
-    requires both { IsExtent query.now (cards_of cards.now) whole.Both }
-    requires left { AreTops catalog.now query.now (cards_of cards.now) (whole.Block 1) left.now }
-    requires right { AreTops catalog.now query.now (cards_of cards.now) (whole.Block 2) right.now }
-    requires left_all { length left.now ≡ 2 ^ length (block_in query.now 1).terms }
-    requires right_all { length right.now ≡ 2 ^ length (block_in query.now 2).terms }
-    requires evaluated { evaluated < 2 ^ length (block_in query.now 1).terms }
+    requires planning { CanPlan planning.now }
+    requires both { IsExtent planning.now.query.now (cards_of planning.now.cards.now) whole.Both }
+    requires left { AreTops planning.now.catalog.now planning.now.query.now (cards_of planning.now.cards.now) (whole.Block 1) left.now }
+    requires right { AreTops planning.now.catalog.now planning.now.query.now (cards_of planning.now.cards.now) (whole.Block 2) right.now }
+    requires left_all { length left.now ≡ 2 ^ length (block_in planning.now.query.now 1).terms }
+    requires right_all { length right.now ≡ 2 ^ length (block_in planning.now.query.now 2).terms }
+    requires evaluated { evaluated < 2 ^ length (block_in planning.now.query.now 1).terms }
     requires first { top_at left.now evaluated ≡ Some first.now }
-    ensures { IfOk result (λ base. IsTheBase catalog.now query.now (cards_of cards.now) whole.Both evaluated base) }
+    ensures { IfOk result (λ base. IsTheBase planning.now.catalog.now planning.now.query.now (cards_of planning.now.cards.now) whole.Both evaluated base) }
 {
     match top_at(right, evaluated) {
         None => Ok(None),
         Some(second) => {
-            let left_rows = rows_of_all(catalog, query, cards, 1, evaluated);
-            let right_rows = rows_of_all(catalog, query, cards, 2, evaluated);
+            let left_rows = rows_of_all(planning, 1, evaluated);
+            let right_rows = rows_of_all(planning, 2, evaluated);
             let cost = both_sides(first.cost, second.cost, left_rows, right_rows);
             let plan = both_plans(alloc, &first.plan, &second.plan)?;
             Ok(Some(Kept { cost, plan }))

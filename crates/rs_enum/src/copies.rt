@@ -2,7 +2,7 @@
 
 ghost use Rattle.std.specs.Prelude.{◌≡◌, IfOk};
 ghost use Rattle.rs_plan.specs.Shapes.{tree_of};
-ghost use Rattle.rs_plan.specs.Trees.{Distinct, HashJoin, NestedJoin, Rank, SetOperator};
+ghost use Rattle.rs_plan.specs.Trees.{Distinct, Hash, JoinOperator, Nested, Rank, SetOperator};
 
 use rs_plan::Plan;
 use rs_value::Memory;
@@ -78,7 +78,7 @@ pub(crate) fn ranked(alloc: Global, term: u8, child: Plan) -> Result<Plan, Memor
 
 /// A hash join of two plans.
 pub(crate) fn hash_joined(alloc: Global, left: Plan, right: Plan) -> Result<Plan, Memory>
-    ensures { IfOk result (λ plan. tree_of plan ≡ HashJoin (tree_of left) (tree_of right)) }
+    ensures { IfOk result (λ plan. tree_of plan ≡ JoinOperator Hash (tree_of left) (tree_of right)) }
 {
     let (left, right) = boxed(alloc, left, right)?;
     Ok(Plan::HashJoin { left, right })
@@ -86,7 +86,7 @@ pub(crate) fn hash_joined(alloc: Global, left: Plan, right: Plan) -> Result<Plan
 
 /// A nested join of two plans.
 pub(crate) fn nested_joined(alloc: Global, left: Plan, right: Plan) -> Result<Plan, Memory>
-    ensures { IfOk result (λ plan. tree_of plan ≡ NestedJoin (tree_of left) (tree_of right)) }
+    ensures { IfOk result (λ plan. tree_of plan ≡ JoinOperator Nested (tree_of left) (tree_of right)) }
 {
     let (left, right) = boxed(alloc, left, right)?;
     Ok(Plan::NestedJoin { left, right })

@@ -11,8 +11,10 @@ ghost use Rattle.rs_plan.specs.Shapes.{tree_of};
 ghost use Rattle.rs_plan.specs.Trees.{entries, terms};
 ghost use Rattle.rs_enum.specs.Bounds.{IsNumberedTerm, IsSetPart, has_set_operator, most_cost, most_set_cost};
 ghost use Rattle.rs_enum.specs.Costs.{call_cost, cost_in, cost_of, estimate_of};
+ghost use Rattle.rs_enum.specs.Given.{CanPlan};
 ghost use Rattle.rs_enum.specs.QueryCards.{AreCards, IsBlockNumber, cards_at};
 
+use crate::planning::Planning;
 use rs_catalog::Catalog;
 use rs_plan::{Plan, Signature};
 use rs_query::{Block, Query, block_in, size_of};
@@ -27,10 +29,15 @@ pub fn cost(catalog: &Catalog, query: &Query, cards: &Cards, plan: &Plan) -> u12
     ensures value { result ≡ cost_of catalog.now query.now (cards_of cards.now) (tree_of plan.now) }
     ensures fits { result < 2 ^ 123 }
 {
+    let planning = Planning {
+        catalog,
+        query,
+        cards,
+    };
     if has_set_operator(plan) {
-        set_cost(catalog, query, cards, plan)
+        set_cost(&planning, plan)
     } else {
-        part_cost(catalog, query, cards, 1, plan)
+        part_cost(&planning, 1, plan)
     }
 }
 
@@ -54,27 +61,30 @@ pub(crate) fn has_set_operator(plan: &Plan) -> bool
 }
 
 /// The cost of a set operator, or of operators for terms above one.
-pub(crate) fn set_cost(catalog: &Catalog, query: &Query, cards: &Cards, plan: &Plan) -> u128
-    requires query { IsQuery catalog.now query.now }
-    requires cards { AreCards query.now (cards_of cards.now) }
-    requires part { IsSetPart catalog.now query.now (tree_of plan.now) }
-    ensures value { result ≡ cost_of catalog.now query.now (cards_of cards.now) (tree_of plan.now) }
+pub(crate) fn set_cost(planning: &Planning, plan: &Plan) -> u128
+    requires planning { CanPlan planning.now }
+    requires part { IsSetPart planning.now.catalog.now planning.now.query.now (tree_of plan.now) }
+    ensures value { result ≡ cost_of planning.now.catalog.now planning.now.query.now (cards_of planning.now.cards.now) (tree_of plan.now) }
     ensures most { result ≤ most_set_cost (terms (tree_of plan.now)) }
 {
     match plan {
         Plan::Rank { term, child } => {
             let child = &**child;
-            let below = set_cost(catalog, query, cards, child);
-            let rows = set_rows(catalog, query, cards, child);
-            with_calls(below, rows, call_cost(catalog, block_in(query, 1), *term))
+            let below = set_cost(planning, child);
+            let rows = set_rows(planning, child);
+            with_calls(
+                below,
+                rows,
+                call_cost(planning.catalog, block_in(planning.query, 1), *term),
+            )
         }
         Plan::SetOperator { left, right } => {
             let left = &**left;
             let right = &**right;
-            let left_cost = part_cost(catalog, query, cards, 1, left);
-            let right_cost = part_cost(catalog, query, cards, 2, right);
-            let left_rows = part_rows(catalog, query, cards, 1, left);
-            let right_rows = part_rows(catalog, query, cards, 2, right);
+            let left_cost = part_cost(planning, 1, left);
+            let right_cost = part_cost(planning, 2, right);
+            let left_rows = part_rows(planning, 1, left);
+            let right_rows = part_rows(planning, 2, right);
             both_sides(left_cost, right_cost, left_rows, right_rows)
         }
         _ => 0,
@@ -82,77 +92,73 @@ pub(crate) fn set_cost(catalog: &Catalog, query: &Query, cards: &Cards, plan: &P
 }
 
 /// How many rows are expected of a set operator, or of operators for terms above one.
-pub(crate) fn set_rows(catalog: &Catalog, query: &Query, cards: &Cards, plan: &Plan) -> u128
-    requires query { IsQuery catalog.now query.now }
-    requires cards { AreCards query.now (cards_of cards.now) }
-    requires part { IsSetPart catalog.now query.now (tree_of plan.now) }
-    ensures value { result ≡ estimate_of (cards_of cards.now) 1 (tree_of plan.now) }
+pub(crate) fn set_rows(planning: &Planning, plan: &Plan) -> u128
+    requires planning { CanPlan planning.now }
+    requires part { IsSetPart planning.now.catalog.now planning.now.query.now (tree_of plan.now) }
+    ensures value { result ≡ estimate_of (cards_of planning.now.cards.now) 1 (tree_of plan.now) }
     ensures most { result ≤ 2 ^ 103 }
 {
     let evaluated = plan.signature().terms;
-    let left = rows_of_all(catalog, query, cards, 1, evaluated);
-    let right = rows_of_all(catalog, query, cards, 2, evaluated);
+    let left = rows_of_all(planning, 1, evaluated);
+    let right = rows_of_all(planning, 2, evaluated);
     left + right
 }
 
 /// The cost of a part of a plan of the block of this number.
-pub(crate) fn part_cost(
-    catalog: &Catalog,
-    query: &Query,
-    cards: &Cards,
-    number: u8,
-    plan: &Plan,
-) -> u128
-    requires query { IsQuery catalog.now query.now }
-    requires cards { AreCards query.now (cards_of cards.now) }
-    requires number { IsBlockNumber (cards_of cards.now) number }
-    requires part { IsPart catalog.now (block_in query.now number) (tree_of plan.now) }
-    ensures value { result ≡ cost_in catalog.now query.now (cards_of cards.now) number (tree_of plan.now) }
+pub(crate) fn part_cost(planning: &Planning, number: u8, plan: &Plan) -> u128
+    requires planning { CanPlan planning.now }
+    requires number { IsBlockNumber (cards_of planning.now.cards.now) number }
+    requires part { IsPart planning.now.catalog.now (block_in planning.now.query.now number) (tree_of plan.now) }
+    ensures value { result ≡ cost_in planning.now.catalog.now planning.now.query.now (cards_of planning.now.cards.now) number (tree_of plan.now) }
     ensures most { result ≤ most_cost (entries (tree_of plan.now)) (terms (tree_of plan.now)) }
     ensures spare { HasNoDistinct (tree_of plan.now)
         → result + 2 ^ 105 ≤ most_cost (entries (tree_of plan.now)) (terms (tree_of plan.now)) }
 {
     match plan {
-        Plan::SeqScan { entry } => table_rows(catalog, block_in(query, number), *entry),
+        Plan::SeqScan { entry } => table_rows(
+            planning.catalog,
+            block_in(planning.query, number),
+            *entry,
+        ),
         Plan::RankScan {
             entry,
             term,
             index: _,
-        } => 2 * index_rows(cards, number, *entry, *term),
+        } => 2 * index_rows(planning.cards, number, *entry, *term),
         Plan::Rank { term, child } => {
             let child = &**child;
-            let below = part_cost(catalog, query, cards, number, child);
-            let rows = part_rows(catalog, query, cards, number, child);
+            let below = part_cost(planning, number, child);
+            let rows = part_rows(planning, number, child);
             with_calls(
                 below,
                 rows,
-                call_cost(catalog, block_in(query, number), *term),
+                call_cost(planning.catalog, block_in(planning.query, number), *term),
             )
         }
         Plan::HashJoin { left, right } => {
             let left = &**left;
             let right = &**right;
-            let left_cost = part_cost(catalog, query, cards, number, left);
-            let right_cost = part_cost(catalog, query, cards, number, right);
-            let left_rows = part_rows(catalog, query, cards, number, left);
-            let right_rows = part_rows(catalog, query, cards, number, right);
-            let rows = part_rows(catalog, query, cards, number, plan);
+            let left_cost = part_cost(planning, number, left);
+            let right_cost = part_cost(planning, number, right);
+            let left_rows = part_rows(planning, number, left);
+            let right_rows = part_rows(planning, number, right);
+            let rows = part_rows(planning, number, plan);
             hashed(left_cost, right_cost, left_rows, right_rows, rows)
         }
         Plan::NestedJoin { left, right } => {
             let left = &**left;
             let right = &**right;
-            let left_cost = part_cost(catalog, query, cards, number, left);
-            let right_cost = part_cost(catalog, query, cards, number, right);
-            let left_rows = part_rows(catalog, query, cards, number, left);
-            let right_rows = part_rows(catalog, query, cards, number, right);
-            let rows = part_rows(catalog, query, cards, number, plan);
+            let left_cost = part_cost(planning, number, left);
+            let right_cost = part_cost(planning, number, right);
+            let left_rows = part_rows(planning, number, left);
+            let right_rows = part_rows(planning, number, right);
+            let rows = part_rows(planning, number, plan);
             nested(left_cost, right_cost, left_rows, right_rows, rows)
         }
         Plan::Distinct { child } => {
             let child = &**child;
-            let below = part_cost(catalog, query, cards, number, child);
-            let rows = part_rows(catalog, query, cards, number, child);
+            let below = part_cost(planning, number, child);
+            let rows = part_rows(planning, number, child);
             below + rows
         }
         Plan::SetOperator { left: _, right: _ } => 0,
@@ -160,43 +166,29 @@ pub(crate) fn part_cost(
 }
 
 /// How many rows are expected of a part of a plan of the block of this number.
-pub(crate) fn part_rows(
-    catalog: &Catalog,
-    query: &Query,
-    cards: &Cards,
-    number: u8,
-    plan: &Plan,
-) -> u128
-    requires query { IsQuery catalog.now query.now }
-    requires cards { AreCards query.now (cards_of cards.now) }
-    requires number { IsBlockNumber (cards_of cards.now) number }
-    requires part { IsPart catalog.now (block_in query.now number) (tree_of plan.now) }
-    ensures value { result ≡ estimate_of (cards_of cards.now) number (tree_of plan.now) }
+pub(crate) fn part_rows(planning: &Planning, number: u8, plan: &Plan) -> u128
+    requires planning { CanPlan planning.now }
+    requires number { IsBlockNumber (cards_of planning.now.cards.now) number }
+    requires part { IsPart planning.now.catalog.now (block_in planning.now.query.now number) (tree_of plan.now) }
+    ensures value { result ≡ estimate_of (cards_of planning.now.cards.now) number (tree_of plan.now) }
     ensures most { result ≤ 131072 ^ count_ones (entries (tree_of plan.now)) }
 {
-    rows_of(cards, number, plan.signature())
+    rows_of(planning.cards, number, plan.signature())
 }
 
 /// How many rows are expected of all entries of the block of this number, once some terms are evaluated.
-pub(crate) fn rows_of_all(
-    catalog: &Catalog,
-    query: &Query,
-    cards: &Cards,
-    number: u8,
-    evaluated: u8,
-) -> u128
-    requires query { IsQuery catalog.now query.now }
-    requires cards { AreCards query.now (cards_of cards.now) }
-    requires number { IsBlockNumber (cards_of cards.now) number }
-    requires evaluated { evaluated < 2 ^ length (block_in query.now number).terms }
-    ensures value { result ≡ (cards_at (cards_of cards.now) number).estimate (all_entries (block_in query.now number)) evaluated }
+pub(crate) fn rows_of_all(planning: &Planning, number: u8, evaluated: u8) -> u128
+    requires planning { CanPlan planning.now }
+    requires number { IsBlockNumber (cards_of planning.now.cards.now) number }
+    requires evaluated { evaluated < 2 ^ length (block_in planning.now.query.now number).terms }
+    ensures value { result ≡ (cards_at (cards_of planning.now.cards.now) number).estimate (all_entries (block_in planning.now.query.now number)) evaluated }
     ensures most { result ≤ 2 ^ 102 }
 {
     let all = Signature {
-        entries: block_in(query, number).all_entries(),
+        entries: block_in(planning.query, number).all_entries(),
         terms: evaluated,
     };
-    rows_of(cards, number, all)
+    rows_of(planning.cards, number, all)
 }
 
 /// How many rows are expected of some entries of the block of this number, once some terms are evaluated.

@@ -4,14 +4,11 @@
 
 ghost use Rattle.std.specs.Prelude.{ℕ, ◌≡◌, ◌≤◌, ◌<◌, ◌+◌, ◌*◌, ◌^◌, MatchOption, length, option_map, slice_get, Some, ◌-◌, count_ones};
 ghost use Rattle.rs_rank.specs.Masks.{mask_of};
-ghost use Rattle.rs_query.specs.WellFormed.{IsQuery};
-ghost use Rattle.rs_sample.specs.Kept.{cards_of};
-ghost use Rattle.rs_query.specs.Blocks.{block_in};
 ghost use Rattle.rs_plan.specs.Numbers.{IsUpTo};
 ghost use Rattle.rs_plan.specs.Plans.{IsEntryNumber};
 ghost use Rattle.rs_enum.specs.Bounds.{IsNumberedTerm};
-ghost use Rattle.rs_enum.specs.Places.{AreKept, AreTheSides, IsTheFirst, IsTheOne, IsTheScan, cheaper, kept_at};
-ghost use Rattle.rs_enum.specs.QueryCards.{AreCards, IsBlockNumber, alone, alone_cards};
+ghost use Rattle.rs_enum.specs.Given.{CanSearch, block_of, cards_in, query_in};
+ghost use Rattle.rs_enum.specs.Places.{AreTheSides, IsTheFirst, IsTheOne, IsTheScan, cheaper, kept_at};
 ghost use Rattle.rs_enum.specs.Within.{terms_within};
 
 use crate::candidate::{Candidate, Choice, Sides};
@@ -19,11 +16,10 @@ use crate::costs::{
     call_cost, hashed, index_rows, nested, part_rows, rows_of, table_rows, with_calls,
 };
 use crate::kept::Kept;
-use rs_catalog::Catalog;
+use crate::search::Search;
 use rs_plan::{Signature, can_hash};
-use rs_query::{Block, Query, Term, block_in, is_inside};
+use rs_query::{Block, Term, block_in, is_inside};
 use rs_rank::{has_number, mask_of};
-use rs_sample::Cards;
 
 /// What is kept of a signature, where the block has this many terms.
 pub(crate) fn kept_at(count: u8, places: &[Option<Kept>], of: Signature) -> Option<&Kept>
@@ -107,322 +103,220 @@ fn number_of(mask: u8, most: u8) -> Option<u8>
     None
 }
 
-/// An operator for a term over what is kept without it.
-fn rank(
-    catalog: &Catalog,
-    query: &Query,
-    cards: &Cards,
-    number: u8,
-    places: &[Option<Kept>],
-    of: Signature,
-    term: u8,
-) -> Option<Candidate>
-    requires query { IsQuery catalog.now query.now }
-    requires cards { AreCards query.now (cards_of cards.now) }
-    requires number { IsBlockNumber (cards_of cards.now) number }
-    requires kept { AreKept catalog.now (alone query.now number) (alone_cards (cards_of cards.now) number) places.now }
-    requires terms { of.terms < 2 ^ length (block_in query.now number).terms }
-    requires term { IsNumberedTerm (block_in query.now number) term }
-    ensures { IsTheOne catalog.now (alone query.now number) (alone_cards (cards_of cards.now) number) places.now of.entries of.terms (3 * 256 + term) result }
-{
-    let block = block_in(query, number);
-    let reads = term_at(block, term).entries;
-    if !has_number(of.terms, term) {
-        return None;
-    }
-    if reads & of.entries != reads {
-        return None;
-    }
-    let below = Signature {
-        entries: of.entries,
-        terms: of.terms ^ mask_of(term),
-    };
-    let child = kept_at(block.terms.len() as u8, places, below)?;
-    let rows = part_rows(catalog, query, cards, number, &child.plan);
-    let cost = with_calls(child.cost, rows, call_cost(catalog, block, term));
-    Some(Candidate {
-        cost,
-        choice: Choice::Rank { term },
-    })
-}
-
-/// What is kept of the sides of a join whose left side has these entries. The left side evaluates those of the terms that speak
-/// of its entries alone, and the right side likewise.
-fn sides(
-    catalog: &Catalog,
-    query: &Query,
-    cards: &Cards,
-    number: u8,
-    places: &[Option<Kept>],
-    of: Signature,
-    left: u8,
-) -> Option<Sides>
-    requires query { IsQuery catalog.now query.now }
-    requires cards { AreCards query.now (cards_of cards.now) }
-    requires number { IsBlockNumber (cards_of cards.now) number }
-    requires kept { AreKept catalog.now (alone query.now number) (alone_cards (cards_of cards.now) number) places.now }
-    requires terms { of.terms < 2 ^ length (block_in query.now number).terms }
-    ensures { AreTheSides catalog.now (alone query.now number) (alone_cards (cards_of cards.now) number) places.now of.entries of.terms left result }
-{
-    if left & of.entries != left {
-        return None;
-    }
-    let block = block_in(query, number);
-    let count = block.terms.len() as u8;
-    let right = of.entries ^ left;
-    let left_terms = of.terms & terms_inside(block, left);
-    let right_terms = of.terms & terms_inside(block, right);
-    if left_terms | right_terms != of.terms {
-        return None;
-    }
-    let left_of = Signature {
-        entries: left,
-        terms: left_terms,
-    };
-    let right_of = Signature {
-        entries: right,
-        terms: right_terms,
-    };
-    let left_kept = kept_at(count, places, left_of)?;
-    let right_kept = kept_at(count, places, right_of)?;
-    Some(Sides {
-        left_cost: left_kept.cost,
-        right_cost: right_kept.cost,
-        left_rows: part_rows(catalog, query, cards, number, &left_kept.plan),
-        right_rows: part_rows(catalog, query, cards, number, &right_kept.plan),
-    })
-}
-
-/// A hash join of what is kept, whose left side has these entries.
-fn hash_join(
-    catalog: &Catalog,
-    query: &Query,
-    cards: &Cards,
-    number: u8,
-    places: &[Option<Kept>],
-    of: Signature,
-    left: u8,
-) -> Option<Candidate>
-    requires query { IsQuery catalog.now query.now }
-    requires cards { AreCards query.now (cards_of cards.now) }
-    requires number { IsBlockNumber (cards_of cards.now) number }
-    requires kept { AreKept catalog.now (alone query.now number) (alone_cards (cards_of cards.now) number) places.now }
-    requires terms { of.terms < 2 ^ length (block_in query.now number).terms }
-    ensures { IsTheOne catalog.now (alone query.now number) (alone_cards (cards_of cards.now) number) places.now of.entries of.terms (4 * 256 + left) result }
-{
-    let found = sides(catalog, query, cards, number, places, of, left)?;
-    if !can_hash(block_in(query, number), left, of.entries ^ left) {
-        return None;
-    }
-    let rows = rows_of(cards, number, of);
-    let cost = hashed(
-        found.left_cost,
-        found.right_cost,
-        found.left_rows,
-        found.right_rows,
-        rows,
-    );
-    Some(Candidate {
-        cost,
-        choice: Choice::HashJoin { left },
-    })
-}
-
-/// A nested join of what is kept, whose left side has these entries.
-fn nested_join(
-    catalog: &Catalog,
-    query: &Query,
-    cards: &Cards,
-    number: u8,
-    places: &[Option<Kept>],
-    of: Signature,
-    left: u8,
-) -> Option<Candidate>
-    requires query { IsQuery catalog.now query.now }
-    requires cards { AreCards query.now (cards_of cards.now) }
-    requires number { IsBlockNumber (cards_of cards.now) number }
-    requires kept { AreKept catalog.now (alone query.now number) (alone_cards (cards_of cards.now) number) places.now }
-    requires terms { of.terms < 2 ^ length (block_in query.now number).terms }
-    ensures { IsTheOne catalog.now (alone query.now number) (alone_cards (cards_of cards.now) number) places.now of.entries of.terms (5 * 256 + left) result }
-{
-    let found = sides(catalog, query, cards, number, places, of, left)?;
-    let rows = rows_of(cards, number, of);
-    let cost = nested(
-        found.left_cost,
-        found.right_cost,
-        found.left_rows,
-        found.right_rows,
-        rows,
-    );
-    Some(Candidate {
-        cost,
-        choice: Choice::NestedJoin { left },
-    })
-}
-
-/// A scan of an entry by the index of a term.
-fn rank_scan(
-    catalog: &Catalog,
-    query: &Query,
-    cards: &Cards,
-    number: u8,
-    entry: u8,
-    term: u8,
-) -> Option<Candidate>
-    requires query { IsQuery catalog.now query.now }
-    requires cards { AreCards query.now (cards_of cards.now) }
-    requires number { IsBlockNumber (cards_of cards.now) number }
-    requires entry { IsEntryNumber (block_in query.now number) entry }
-    requires term { IsNumberedTerm (block_in query.now number) term }
-    ensures { IsTheScan catalog.now (alone query.now number) (alone_cards (cards_of cards.now) number) entry term result }
-{
-    let block = block_in(query, number);
-    let found = &block.terms.items()[term as usize - 1];
-    if found.entries != mask_of(entry) {
-        return None;
-    }
-    let table = block.from.items()[entry as usize - 1].0;
-    let index = catalog.index_for(table, found.predicate, found.args.items(), entry)?;
-    Some(Candidate {
-        cost: 2 * index_rows(cards, number, entry, term),
-        choice: Choice::RankScan { entry, term, index },
-    })
-}
-
-/// A scan of an entry, as its table has the rows or by an index.
-fn scan(
-    catalog: &Catalog,
-    query: &Query,
-    cards: &Cards,
-    number: u8,
-    places: &[Option<Kept>],
-    of: Signature,
-) -> Option<Candidate>
-    requires query { IsQuery catalog.now query.now }
-    requires cards { AreCards query.now (cards_of cards.now) }
-    requires number { IsBlockNumber (cards_of cards.now) number }
-    requires kept { AreKept catalog.now (alone query.now number) (alone_cards (cards_of cards.now) number) places.now }
-    requires terms { of.terms < 2 ^ length (block_in query.now number).terms }
-    ensures { IsTheFirst catalog.now (alone query.now number) (alone_cards (cards_of cards.now) number) places.now of.entries of.terms (3 * 256) result }
-{
-    let block = block_in(query, number);
-    let entry = number_of(of.entries, block.from.len() as u8)?;
-    if of.terms == 0 {
-        return Some(Candidate {
-            cost: table_rows(catalog, block, entry),
-            choice: Choice::SeqScan { entry },
-        });
-    }
-    let term = number_of(of.terms, block.terms.len() as u8)?;
-    rank_scan(catalog, query, cards, number, entry, term)
-}
-
-/// What was found, and operators for each of the evaluated terms.
-fn with_ranks(
-    catalog: &Catalog,
-    query: &Query,
-    cards: &Cards,
-    number: u8,
-    places: &[Option<Kept>],
-    of: Signature,
-    found: Option<Candidate>,
-) -> Option<Candidate>
-    requires query { IsQuery catalog.now query.now }
-    requires cards { AreCards query.now (cards_of cards.now) }
-    requires number { IsBlockNumber (cards_of cards.now) number }
-    requires kept { AreKept catalog.now (alone query.now number) (alone_cards (cards_of cards.now) number) places.now }
-    requires terms { of.terms < 2 ^ length (block_in query.now number).terms }
-    requires found { IsTheFirst catalog.now (alone query.now number) (alone_cards (cards_of cards.now) number) places.now of.entries of.terms (3 * 256) found }
-    ensures { IsTheFirst catalog.now (alone query.now number) (alone_cards (cards_of cards.now) number) places.now of.entries of.terms (4 * 256 + 1) result }
-{
-    let count = block_in(query, number).terms.len() as u8;
-    let mut best = found;
-    for place in 0..count {
-        best = cheaper(
-            best,
-            rank(catalog, query, cards, number, places, of, place + 1),
+impl Search<'_> {
+    /// An operator for a term over what is kept without it.
+    fn rank(&self, of: Signature, term: u8) -> Option<Candidate>
+        requires search { CanSearch self.now }
+        requires terms { of.terms < 2 ^ length (block_of self.now).terms }
+        requires term { IsNumberedTerm (block_of self.now) term }
+        ensures { IsTheOne self.now.planning.catalog.now (query_in self.now) (cards_in self.now) self.now.places.now of.entries of.terms (3 * 256 + term) result }
+    {
+        let block = block_in(self.planning.query, self.number);
+        let reads = term_at(block, term).entries;
+        if !has_number(of.terms, term) {
+            return None;
+        }
+        if reads & of.entries != reads {
+            return None;
+        }
+        let below = Signature {
+            entries: of.entries,
+            terms: of.terms ^ mask_of(term),
+        };
+        let child = kept_at(block.terms.len() as u8, self.places, below)?;
+        let rows = part_rows(&self.planning, self.number, &child.plan);
+        let cost = with_calls(
+            child.cost,
+            rows,
+            call_cost(self.planning.catalog, block, term),
         );
+        Some(Candidate {
+            cost,
+            choice: Choice::Rank { term },
+        })
     }
-    best
-}
 
-/// What was found, and hash joins of what is kept.
-fn with_hash_joins(
-    catalog: &Catalog,
-    query: &Query,
-    cards: &Cards,
-    number: u8,
-    places: &[Option<Kept>],
-    of: Signature,
-    found: Option<Candidate>,
-) -> Option<Candidate>
-    requires query { IsQuery catalog.now query.now }
-    requires cards { AreCards query.now (cards_of cards.now) }
-    requires number { IsBlockNumber (cards_of cards.now) number }
-    requires kept { AreKept catalog.now (alone query.now number) (alone_cards (cards_of cards.now) number) places.now }
-    requires entries { of.entries < 2 ^ length (block_in query.now number).from }
-    requires terms { of.terms < 2 ^ length (block_in query.now number).terms }
-    requires found { IsTheFirst catalog.now (alone query.now number) (alone_cards (cards_of cards.now) number) places.now of.entries of.terms (4 * 256 + 1) found }
-    ensures { IsTheFirst catalog.now (alone query.now number) (alone_cards (cards_of cards.now) number) places.now of.entries of.terms (5 * 256 + 1) result }
-{
-    let mut best = found;
-    for left in 1..of.entries {
-        best = cheaper(
-            best,
-            hash_join(catalog, query, cards, number, places, of, left),
+    /// What is kept of the sides of a join whose left side has these entries. The left side evaluates those of the terms that speak
+    /// of its entries alone, and the right side likewise.
+    fn sides(&self, of: Signature, left: u8) -> Option<Sides>
+        requires search { CanSearch self.now }
+        requires terms { of.terms < 2 ^ length (block_of self.now).terms }
+        ensures { AreTheSides self.now.planning.catalog.now (query_in self.now) (cards_in self.now) self.now.places.now of.entries of.terms left result }
+    {
+        if left & of.entries != left {
+            return None;
+        }
+        let block = block_in(self.planning.query, self.number);
+        let count = block.terms.len() as u8;
+        let right = of.entries ^ left;
+        let left_terms = of.terms & terms_inside(block, left);
+        let right_terms = of.terms & terms_inside(block, right);
+        if left_terms | right_terms != of.terms {
+            return None;
+        }
+        let left_of = Signature {
+            entries: left,
+            terms: left_terms,
+        };
+        let right_of = Signature {
+            entries: right,
+            terms: right_terms,
+        };
+        let left_kept = kept_at(count, self.places, left_of)?;
+        let right_kept = kept_at(count, self.places, right_of)?;
+        Some(Sides {
+            left_cost: left_kept.cost,
+            right_cost: right_kept.cost,
+            left_rows: part_rows(&self.planning, self.number, &left_kept.plan),
+            right_rows: part_rows(&self.planning, self.number, &right_kept.plan),
+        })
+    }
+
+    /// A hash join of what is kept, whose left side has these entries.
+    fn hash_join(&self, of: Signature, left: u8) -> Option<Candidate>
+        requires search { CanSearch self.now }
+        requires terms { of.terms < 2 ^ length (block_of self.now).terms }
+        ensures { IsTheOne self.now.planning.catalog.now (query_in self.now) (cards_in self.now) self.now.places.now of.entries of.terms (4 * 256 + left) result }
+    {
+        let found = self.sides(of, left)?;
+        if !can_hash(
+            block_in(self.planning.query, self.number),
+            left,
+            of.entries ^ left,
+        ) {
+            return None;
+        }
+        let rows = rows_of(self.planning.cards, self.number, of);
+        let cost = hashed(
+            found.left_cost,
+            found.right_cost,
+            found.left_rows,
+            found.right_rows,
+            rows,
         );
+        Some(Candidate {
+            cost,
+            choice: Choice::HashJoin { left },
+        })
     }
-    best
-}
 
-/// What was found, and nested joins of what is kept.
-fn with_nested_joins(
-    catalog: &Catalog,
-    query: &Query,
-    cards: &Cards,
-    number: u8,
-    places: &[Option<Kept>],
-    of: Signature,
-    found: Option<Candidate>,
-) -> Option<Candidate>
-    requires query { IsQuery catalog.now query.now }
-    requires cards { AreCards query.now (cards_of cards.now) }
-    requires number { IsBlockNumber (cards_of cards.now) number }
-    requires kept { AreKept catalog.now (alone query.now number) (alone_cards (cards_of cards.now) number) places.now }
-    requires entries { of.entries < 2 ^ length (block_in query.now number).from }
-    requires terms { of.terms < 2 ^ length (block_in query.now number).terms }
-    requires found { IsTheFirst catalog.now (alone query.now number) (alone_cards (cards_of cards.now) number) places.now of.entries of.terms (5 * 256 + 1) found }
-    ensures { IsTheFirst catalog.now (alone query.now number) (alone_cards (cards_of cards.now) number) places.now of.entries of.terms (6 * 256) result }
-{
-    let mut best = found;
-    for left in 1..of.entries {
-        best = cheaper(
-            best,
-            nested_join(catalog, query, cards, number, places, of, left),
+    /// A nested join of what is kept, whose left side has these entries.
+    fn nested_join(&self, of: Signature, left: u8) -> Option<Candidate>
+        requires search { CanSearch self.now }
+        requires terms { of.terms < 2 ^ length (block_of self.now).terms }
+        ensures { IsTheOne self.now.planning.catalog.now (query_in self.now) (cards_in self.now) self.now.places.now of.entries of.terms (5 * 256 + left) result }
+    {
+        let found = self.sides(of, left)?;
+        let rows = rows_of(self.planning.cards, self.number, of);
+        let cost = nested(
+            found.left_cost,
+            found.right_cost,
+            found.left_rows,
+            found.right_rows,
+            rows,
         );
+        Some(Candidate {
+            cost,
+            choice: Choice::NestedJoin { left },
+        })
     }
-    best
-}
 
-/// The first of all plans that can be made for a signature.
-pub(crate) fn first_candidate(
-    catalog: &Catalog,
-    query: &Query,
-    cards: &Cards,
-    number: u8,
-    places: &[Option<Kept>],
-    of: Signature,
-) -> Option<Candidate>
-    requires query { IsQuery catalog.now query.now }
-    requires cards { AreCards query.now (cards_of cards.now) }
-    requires number { IsBlockNumber (cards_of cards.now) number }
-    requires kept { AreKept catalog.now (alone query.now number) (alone_cards (cards_of cards.now) number) places.now }
-    requires entries { of.entries < 2 ^ length (block_in query.now number).from }
-    requires terms { of.terms < 2 ^ length (block_in query.now number).terms }
-    ensures { IsTheFirst catalog.now (alone query.now number) (alone_cards (cards_of cards.now) number) places.now of.entries of.terms (6 * 256) result }
-{
-    let scanned = scan(catalog, query, cards, number, places, of);
-    let ranked = with_ranks(catalog, query, cards, number, places, of, scanned);
-    let hashed = with_hash_joins(catalog, query, cards, number, places, of, ranked);
-    with_nested_joins(catalog, query, cards, number, places, of, hashed)
+    /// A scan of an entry by the index of a term.
+    fn rank_scan(&self, entry: u8, term: u8) -> Option<Candidate>
+        requires search { CanSearch self.now }
+        requires entry { IsEntryNumber (block_of self.now) entry }
+        requires term { IsNumberedTerm (block_of self.now) term }
+        ensures { IsTheScan self.now.planning.catalog.now (query_in self.now) (cards_in self.now) entry term result }
+    {
+        let block = block_in(self.planning.query, self.number);
+        let found = &block.terms.items()[term as usize - 1];
+        if found.entries != mask_of(entry) {
+            return None;
+        }
+        let table = block.from.items()[entry as usize - 1].0;
+        let index = self
+            .planning
+            .catalog
+            .index_for(table, found.predicate, found.args.items(), entry)?;
+        Some(Candidate {
+            cost: 2 * index_rows(self.planning.cards, self.number, entry, term),
+            choice: Choice::RankScan { entry, term, index },
+        })
+    }
+
+    /// A scan of an entry, as its table has the rows or by an index.
+    fn scan(&self, of: Signature) -> Option<Candidate>
+        requires search { CanSearch self.now }
+        requires terms { of.terms < 2 ^ length (block_of self.now).terms }
+        ensures { IsTheFirst self.now.planning.catalog.now (query_in self.now) (cards_in self.now) self.now.places.now of.entries of.terms (3 * 256) result }
+    {
+        let block = block_in(self.planning.query, self.number);
+        let entry = number_of(of.entries, block.from.len() as u8)?;
+        if of.terms == 0 {
+            return Some(Candidate {
+                cost: table_rows(self.planning.catalog, block, entry),
+                choice: Choice::SeqScan { entry },
+            });
+        }
+        let term = number_of(of.terms, block.terms.len() as u8)?;
+        self.rank_scan(entry, term)
+    }
+
+    /// What was found, and operators for each of the evaluated terms.
+    fn with_ranks(&self, of: Signature, found: Option<Candidate>) -> Option<Candidate>
+        requires search { CanSearch self.now }
+        requires terms { of.terms < 2 ^ length (block_of self.now).terms }
+        requires found { IsTheFirst self.now.planning.catalog.now (query_in self.now) (cards_in self.now) self.now.places.now of.entries of.terms (3 * 256) found }
+        ensures { IsTheFirst self.now.planning.catalog.now (query_in self.now) (cards_in self.now) self.now.places.now of.entries of.terms (4 * 256 + 1) result }
+    {
+        let count = block_in(self.planning.query, self.number).terms.len() as u8;
+        let mut best = found;
+        for place in 0..count {
+            best = cheaper(best, self.rank(of, place + 1));
+        }
+        best
+    }
+
+    /// What was found, and hash joins of what is kept.
+    fn with_hash_joins(&self, of: Signature, found: Option<Candidate>) -> Option<Candidate>
+        requires search { CanSearch self.now }
+        requires entries { of.entries < 2 ^ length (block_of self.now).from }
+        requires terms { of.terms < 2 ^ length (block_of self.now).terms }
+        requires found { IsTheFirst self.now.planning.catalog.now (query_in self.now) (cards_in self.now) self.now.places.now of.entries of.terms (4 * 256 + 1) found }
+        ensures { IsTheFirst self.now.planning.catalog.now (query_in self.now) (cards_in self.now) self.now.places.now of.entries of.terms (5 * 256 + 1) result }
+    {
+        let mut best = found;
+        for left in 1..of.entries {
+            best = cheaper(best, self.hash_join(of, left));
+        }
+        best
+    }
+
+    /// What was found, and nested joins of what is kept.
+    fn with_nested_joins(&self, of: Signature, found: Option<Candidate>) -> Option<Candidate>
+        requires search { CanSearch self.now }
+        requires entries { of.entries < 2 ^ length (block_of self.now).from }
+        requires terms { of.terms < 2 ^ length (block_of self.now).terms }
+        requires found { IsTheFirst self.now.planning.catalog.now (query_in self.now) (cards_in self.now) self.now.places.now of.entries of.terms (5 * 256 + 1) found }
+        ensures { IsTheFirst self.now.planning.catalog.now (query_in self.now) (cards_in self.now) self.now.places.now of.entries of.terms (6 * 256) result }
+    {
+        let mut best = found;
+        for left in 1..of.entries {
+            best = cheaper(best, self.nested_join(of, left));
+        }
+        best
+    }
+
+    /// The first of all plans that can be made for a signature.
+    pub(crate) fn first_candidate(&self, of: Signature) -> Option<Candidate>
+        requires search { CanSearch self.now }
+        requires entries { of.entries < 2 ^ length (block_of self.now).from }
+        requires terms { of.terms < 2 ^ length (block_of self.now).terms }
+        ensures { IsTheFirst self.now.planning.catalog.now (query_in self.now) (cards_in self.now) self.now.places.now of.entries of.terms (6 * 256) result }
+    {
+        let scanned = self.scan(of);
+        let ranked = self.with_ranks(of, scanned);
+        let hashed = self.with_hash_joins(of, ranked);
+        self.with_nested_joins(of, hashed)
+    }
 }

@@ -14,6 +14,8 @@ mod kept;
 mod laws;
 mod made;
 mod optimiser;
+mod planning;
+mod search;
 mod text;
 mod tops;
 

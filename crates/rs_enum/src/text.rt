@@ -8,10 +8,12 @@ ghost use Rattle.rs_query.specs.Blocks.{block_in};
 ghost use Rattle.rs_plan.specs.Plans.{IsEntryNumber, IsPart, IsPlan};
 ghost use Rattle.rs_plan.specs.Shapes.{tree_of};
 ghost use Rattle.rs_enum.specs.Bounds.{IsSetPart};
+ghost use Rattle.rs_enum.specs.Given.{CanPlan};
 ghost use Rattle.rs_enum.specs.QueryCards.{AreCards, IsBlockNumber};
 ghost use Rattle.rs_enum.specs.Texts.{HasEntry, alias_of, behind, counted, done_by, first_of, name_of, nodes_of, operator_of, plan_lines, table_of, text_of};
 
 use crate::costs::{has_set_operator, part_cost, part_rows, set_cost, set_rows};
+use crate::planning::Planning;
 use rs_catalog::Catalog;
 use rs_plan::{Counts, Plan};
 use rs_query::{Block, Query, block_in};
@@ -47,11 +49,16 @@ pub fn explain(
     ensures { IfOk result (λ text. text.items ≡ text_of catalog.now query.now (cards_of cards.now) (tree_of plan.now)
         (option_map (λ told. told.now) counts.entry)) }
 {
+    let planning = Planning {
+        catalog,
+        query,
+        cards,
+    };
     let mut text = Vec::new(alloc);
     if has_set_operator(plan) {
-        put_set_lines(alloc, &mut text, catalog, query, cards, 0, plan, counts)?;
+        put_set_lines(alloc, &mut text, &planning, 0, plan, counts)?;
     } else {
-        put_part_lines(alloc, &mut text, catalog, query, cards, 0, 1, plan, counts)?;
+        put_part_lines(alloc, &mut text, &planning, 0, 1, plan, counts)?;
     }
     Ok(text)
 }
@@ -60,68 +67,36 @@ pub fn explain(
 fn put_set_lines(
     alloc: Global,
     text: &mut Vec<u8>,
-    catalog: &Catalog,
-    query: &Query,
-    cards: &Cards,
+    planning: &Planning,
     level: u8,
     plan: &Plan,
     counts: Option<&[Counts]>,
 ) -> Result<(), Memory>
-    requires query { IsQuery catalog.now query.now }
-    requires cards { AreCards query.now (cards_of cards.now) }
-    requires part { IsSetPart catalog.now query.now (tree_of plan.now) }
+    requires planning { CanPlan planning.now }
+    requires part { IsSetPart planning.now.catalog.now planning.now.query.now (tree_of plan.now) }
     requires few { level + nodes_of (tree_of plan.now) ≤ 255 }
     requires counts { IfSome counts (λ told. nodes_of (tree_of plan.now) ≤ length told.now) }
-    ensures { OnOk result (text.new.items ≡ text.old.items ++ plan_lines catalog.now query.now (cards_of cards.now) level 1
+    ensures { OnOk result (text.new.items ≡ text.old.items ++ plan_lines planning.now.catalog.now planning.now.query.now (cards_of planning.now.cards.now) level 1
         (tree_of plan.now) (option_map (λ told. told.now) counts.entry)) }
 {
     let line = Line {
         level,
-        rows: set_rows(catalog, query, cards, plan),
-        cost: set_cost(catalog, query, cards, plan),
+        rows: set_rows(planning, plan),
+        cost: set_cost(planning, plan),
         done: first_of(counts),
     };
-    put_line(alloc, text, catalog, query, 1, plan, line)?;
+    put_line(alloc, text, planning.catalog, planning.query, 1, plan, line)?;
     match plan {
         Plan::Rank { term: _, child } => {
             let child = &**child;
-            put_set_lines(
-                alloc,
-                text,
-                catalog,
-                query,
-                cards,
-                level + 1,
-                child,
-                behind(1, counts),
-            )
+            put_set_lines(alloc, text, planning, level + 1, child, behind(1, counts))
         }
         Plan::SetOperator { left, right } => {
             let left = &**left;
             let right = &**right;
             let right_counts = behind(1 + nodes_of(left), counts);
-            put_part_lines(
-                alloc,
-                text,
-                catalog,
-                query,
-                cards,
-                level + 1,
-                1,
-                left,
-                behind(1, counts),
-            )?;
-            put_part_lines(
-                alloc,
-                text,
-                catalog,
-                query,
-                cards,
-                level + 1,
-                2,
-                right,
-                right_counts,
-            )
+            put_part_lines(alloc, text, planning, level + 1, 1, left, behind(1, counts))?;
+            put_part_lines(alloc, text, planning, level + 1, 2, right, right_counts)
         }
         _ => Ok(()),
     }
@@ -131,39 +106,42 @@ fn put_set_lines(
 fn put_part_lines(
     alloc: Global,
     text: &mut Vec<u8>,
-    catalog: &Catalog,
-    query: &Query,
-    cards: &Cards,
+    planning: &Planning,
     level: u8,
     number: u8,
     plan: &Plan,
     counts: Option<&[Counts]>,
 ) -> Result<(), Memory>
-    requires query { IsQuery catalog.now query.now }
-    requires cards { AreCards query.now (cards_of cards.now) }
-    requires number { IsBlockNumber (cards_of cards.now) number }
-    requires part { IsPart catalog.now (block_in query.now number) (tree_of plan.now) }
+    requires planning { CanPlan planning.now }
+    requires number { IsBlockNumber (cards_of planning.now.cards.now) number }
+    requires part { IsPart planning.now.catalog.now (block_in planning.now.query.now number) (tree_of plan.now) }
     requires few { level + nodes_of (tree_of plan.now) ≤ 255 }
     requires counts { IfSome counts (λ told. nodes_of (tree_of plan.now) ≤ length told.now) }
-    ensures { OnOk result (text.new.items ≡ text.old.items ++ plan_lines catalog.now query.now (cards_of cards.now) level number
+    ensures { OnOk result (text.new.items ≡ text.old.items ++ plan_lines planning.now.catalog.now planning.now.query.now (cards_of planning.now.cards.now) level number
         (tree_of plan.now) (option_map (λ told. told.now) counts.entry)) }
 {
     let line = Line {
         level,
-        rows: part_rows(catalog, query, cards, number, plan),
-        cost: part_cost(catalog, query, cards, number, plan),
+        rows: part_rows(planning, number, plan),
+        cost: part_cost(planning, number, plan),
         done: first_of(counts),
     };
-    put_line(alloc, text, catalog, query, number, plan, line)?;
+    put_line(
+        alloc,
+        text,
+        planning.catalog,
+        planning.query,
+        number,
+        plan,
+        line,
+    )?;
     match plan {
         Plan::Rank { term: _, child } => {
             let child = &**child;
             put_part_lines(
                 alloc,
                 text,
-                catalog,
-                query,
-                cards,
+                planning,
                 level + 1,
                 number,
                 child,
@@ -177,9 +155,7 @@ fn put_part_lines(
             put_part_lines(
                 alloc,
                 text,
-                catalog,
-                query,
-                cards,
+                planning,
                 level + 1,
                 number,
                 left,
@@ -188,9 +164,7 @@ fn put_part_lines(
             put_part_lines(
                 alloc,
                 text,
-                catalog,
-                query,
-                cards,
+                planning,
                 level + 1,
                 number,
                 right,
@@ -204,9 +178,7 @@ fn put_part_lines(
             put_part_lines(
                 alloc,
                 text,
-                catalog,
-                query,
-                cards,
+                planning,
                 level + 1,
                 number,
                 left,
@@ -215,9 +187,7 @@ fn put_part_lines(
             put_part_lines(
                 alloc,
                 text,
-                catalog,
-                query,
-                cards,
+                planning,
                 level + 1,
                 number,
                 right,
@@ -229,9 +199,7 @@ fn put_part_lines(
             put_part_lines(
                 alloc,
                 text,
-                catalog,
-                query,
-                cards,
+                planning,
                 level + 1,
                 number,
                 child,

@@ -9,6 +9,7 @@ ghost use Rattle.rs_plan.specs.Shapes.{tree_of};
 ghost use Rattle.rs_plan.specs.Trees.{PlanTree};
 ghost use Rattle.rs_enum.specs.declared.extent.Extent.TheVariants as whole;
 ghost use Rattle.rs_enum.specs.Bounds.{IsNumberedTerm};
+ghost use Rattle.rs_enum.specs.Given.{CanPlan};
 ghost use Rattle.rs_enum.specs.QueryCards.{AreCards};
 ghost use Rattle.rs_enum.specs.Tops.{AreBases, AreTops, IsExtent, IsMadeTop, IsTheFirstRank, IsTheFirstTop, IsTheOneRank, IsTheTop, IsTopped, base_top, cheaper_top, number_of, rows_most, top_at, top_tree, whole_rows};
 
@@ -17,6 +18,7 @@ use crate::costs::{call_cost, rows_of_all, with_calls};
 use crate::extent::{Extent, Top};
 use crate::kept::Kept;
 use crate::optimiser::masks;
+use crate::planning::Planning;
 use rs_catalog::Catalog;
 use rs_plan::Plan;
 use rs_query::{Query, block_in};
@@ -36,37 +38,29 @@ fn number_of(extent: Extent) -> u8
 }
 
 /// How many rows are expected of all entries, once these terms are evaluated.
-fn whole_rows(
-    catalog: &Catalog,
-    query: &Query,
-    cards: &Cards,
-    extent: Extent,
-    evaluated: u8,
-) -> u128
-    requires query { IsQuery catalog.now query.now }
-    requires cards { AreCards query.now (cards_of cards.now) }
-    requires extent { IsExtent query.now (cards_of cards.now) extent }
-    requires evaluated { evaluated < 2 ^ length (block_in query.now (number_of extent)).terms }
-    ensures value { result ≡ whole_rows query.now (cards_of cards.now) extent evaluated }
+fn whole_rows(planning: &Planning, extent: Extent, evaluated: u8) -> u128
+    requires planning { CanPlan planning.now }
+    requires extent { IsExtent planning.now.query.now (cards_of planning.now.cards.now) extent }
+    requires evaluated { evaluated < 2 ^ length (block_in planning.now.query.now (number_of extent)).terms }
+    ensures value { result ≡ whole_rows planning.now.query.now (cards_of planning.now.cards.now) extent evaluated }
     ensures most { result ≤ rows_most extent }
 {
     match extent {
-        Extent::Block { number } => rows_of_all(catalog, query, cards, number, evaluated),
-        Extent::Both => both_rows(catalog, query, cards, evaluated),
+        Extent::Block { number } => rows_of_all(planning, number, evaluated),
+        Extent::Both => both_rows(planning, evaluated),
     }
 }
 
 /// How many rows are expected of all entries of both blocks.
-fn both_rows(catalog: &Catalog, query: &Query, cards: &Cards, evaluated: u8) -> u128
-    requires query { IsQuery catalog.now query.now }
-    requires cards { AreCards query.now (cards_of cards.now) }
-    requires both { IsExtent query.now (cards_of cards.now) whole.Both }
-    requires evaluated { evaluated < 2 ^ length (block_in query.now 1).terms }
-    ensures value { result ≡ whole_rows query.now (cards_of cards.now) whole.Both evaluated }
+fn both_rows(planning: &Planning, evaluated: u8) -> u128
+    requires planning { CanPlan planning.now }
+    requires both { IsExtent planning.now.query.now (cards_of planning.now.cards.now) whole.Both }
+    requires evaluated { evaluated < 2 ^ length (block_in planning.now.query.now 1).terms }
+    ensures value { result ≡ whole_rows planning.now.query.now (cards_of planning.now.cards.now) whole.Both evaluated }
     ensures most { result ≤ 2 ^ 103 }
 {
-    let left = rows_of_all(catalog, query, cards, 1, evaluated);
-    let right = rows_of_all(catalog, query, cards, 2, evaluated);
+    let left = rows_of_all(planning, 1, evaluated);
+    let right = rows_of_all(planning, 2, evaluated);
     left + right
 }
 
@@ -95,31 +89,32 @@ fn cheaper_top(best: Option<Top>, next: Option<Top>) -> Option<Top>
 
 /// An operator for a term over what is kept without it.
 fn rank_top(
-    catalog: &Catalog,
-    query: &Query,
-    cards: &Cards,
+    planning: &Planning,
     extent: Extent,
     tops: &[Option<Kept>],
     evaluated: u8,
     term: u8,
 ) -> Option<Top>
-    requires query { IsQuery catalog.now query.now }
-    requires cards { AreCards query.now (cards_of cards.now) }
-    requires extent { IsExtent query.now (cards_of cards.now) extent }
-    requires topped { IsTopped query.now extent }
-    requires tops { AreTops catalog.now query.now (cards_of cards.now) extent tops.now }
+    requires planning { CanPlan planning.now }
+    requires extent { IsExtent planning.now.query.now (cards_of planning.now.cards.now) extent }
+    requires topped { IsTopped planning.now.query.now extent }
+    requires tops { AreTops planning.now.catalog.now planning.now.query.now (cards_of planning.now.cards.now) extent tops.now }
     requires counted { length tops.now ≡ evaluated }
-    requires evaluated { evaluated < 2 ^ length (block_in query.now (number_of extent)).terms }
-    requires term { IsNumberedTerm (block_in query.now (number_of extent)) term }
-    ensures { IsTheOneRank catalog.now query.now (cards_of cards.now) extent tops.now evaluated term result }
+    requires evaluated { evaluated < 2 ^ length (block_in planning.now.query.now (number_of extent)).terms }
+    requires term { IsNumberedTerm (block_in planning.now.query.now (number_of extent)) term }
+    ensures { IsTheOneRank planning.now.catalog.now planning.now.query.now (cards_of planning.now.cards.now) extent tops.now evaluated term result }
 {
     if !has_number(evaluated, term) {
         return None;
     }
     let below = evaluated ^ mask_of(term);
     let child = top_at(tops, below)?;
-    let rows = whole_rows(catalog, query, cards, extent, below);
-    let call = call_cost(catalog, block_in(query, number_of(extent)), term);
+    let rows = whole_rows(planning, extent, below);
+    let call = call_cost(
+        planning.catalog,
+        block_in(planning.query, number_of(extent)),
+        term,
+    );
     let cost = with_calls(child.cost, rows, call);
     Some(Top {
         cost,
@@ -129,26 +124,23 @@ fn rank_top(
 
 /// The first of all operators for terms over what is kept.
 fn first_rank(
-    catalog: &Catalog,
-    query: &Query,
-    cards: &Cards,
+    planning: &Planning,
     extent: Extent,
     tops: &[Option<Kept>],
     evaluated: u8,
 ) -> Option<Top>
-    requires query { IsQuery catalog.now query.now }
-    requires cards { AreCards query.now (cards_of cards.now) }
-    requires extent { IsExtent query.now (cards_of cards.now) extent }
-    requires topped { IsTopped query.now extent }
-    requires tops { AreTops catalog.now query.now (cards_of cards.now) extent tops.now }
+    requires planning { CanPlan planning.now }
+    requires extent { IsExtent planning.now.query.now (cards_of planning.now.cards.now) extent }
+    requires topped { IsTopped planning.now.query.now extent }
+    requires tops { AreTops planning.now.catalog.now planning.now.query.now (cards_of planning.now.cards.now) extent tops.now }
     requires counted { length tops.now ≡ evaluated }
-    requires evaluated { evaluated < 2 ^ length (block_in query.now (number_of extent)).terms }
-    ensures { IsTheFirstRank catalog.now query.now (cards_of cards.now) extent tops.now evaluated 9 result }
+    requires evaluated { evaluated < 2 ^ length (block_in planning.now.query.now (number_of extent)).terms }
+    ensures { IsTheFirstRank planning.now.catalog.now planning.now.query.now (cards_of planning.now.cards.now) extent tops.now evaluated 9 result }
 {
-    let count = block_in(query, number_of(extent)).terms.len() as u8;
+    let count = block_in(planning.query, number_of(extent)).terms.len() as u8;
     let mut best = None;
     for place in 0..count {
-        let next = rank_top(catalog, query, cards, extent, tops, evaluated, place + 1);
+        let next = rank_top(planning, extent, tops, evaluated, place + 1);
         best = cheaper_top(best, next);
     }
     best
@@ -167,26 +159,23 @@ fn base_top(bases: &[Option<Kept>], evaluated: u8) -> Option<Top>
 
 /// The first of all plans of these terms.
 fn first_top(
-    catalog: &Catalog,
-    query: &Query,
-    cards: &Cards,
+    planning: &Planning,
     extent: Extent,
     bases: &[Option<Kept>],
     tops: &[Option<Kept>],
     evaluated: u8,
 ) -> Option<Top>
-    requires query { IsQuery catalog.now query.now }
-    requires cards { AreCards query.now (cards_of cards.now) }
-    requires extent { IsExtent query.now (cards_of cards.now) extent }
-    requires topped { IsTopped query.now extent }
-    requires bases { AreBases catalog.now query.now (cards_of cards.now) extent bases.now }
-    requires all { length bases.now ≡ 2 ^ length (block_in query.now (number_of extent)).terms }
-    requires tops { AreTops catalog.now query.now (cards_of cards.now) extent tops.now }
+    requires planning { CanPlan planning.now }
+    requires extent { IsExtent planning.now.query.now (cards_of planning.now.cards.now) extent }
+    requires topped { IsTopped planning.now.query.now extent }
+    requires bases { AreBases planning.now.catalog.now planning.now.query.now (cards_of planning.now.cards.now) extent bases.now }
+    requires all { length bases.now ≡ 2 ^ length (block_in planning.now.query.now (number_of extent)).terms }
+    requires tops { AreTops planning.now.catalog.now planning.now.query.now (cards_of planning.now.cards.now) extent tops.now }
     requires counted { length tops.now ≡ evaluated }
-    requires evaluated { evaluated < 2 ^ length (block_in query.now (number_of extent)).terms }
-    ensures { IsTheFirstTop catalog.now query.now (cards_of cards.now) extent bases.now tops.now evaluated 10 result }
+    requires evaluated { evaluated < 2 ^ length (block_in planning.now.query.now (number_of extent)).terms }
+    ensures { IsTheFirstTop planning.now.catalog.now planning.now.query.now (cards_of planning.now.cards.now) extent bases.now tops.now evaluated 10 result }
 {
-    let ranked = first_rank(catalog, query, cards, extent, tops, evaluated);
+    let ranked = first_rank(planning, extent, tops, evaluated);
     cheaper_top(ranked, base_top(bases, evaluated))
 }
 
@@ -222,26 +211,23 @@ fn copy_top(alloc: Global, tops: &[Option<Kept>], evaluated: u8) -> Result<Plan,
 /// What is to be kept of these terms.
 fn next_top(
     alloc: Global,
-    catalog: &Catalog,
-    query: &Query,
-    cards: &Cards,
+    planning: &Planning,
     extent: Extent,
     bases: &[Option<Kept>],
     tops: &[Option<Kept>],
     evaluated: u8,
 ) -> Result<Option<Kept>, Memory>
-    requires query { IsQuery catalog.now query.now }
-    requires cards { AreCards query.now (cards_of cards.now) }
-    requires extent { IsExtent query.now (cards_of cards.now) extent }
-    requires topped { IsTopped query.now extent }
-    requires bases { AreBases catalog.now query.now (cards_of cards.now) extent bases.now }
-    requires all { length bases.now ≡ 2 ^ length (block_in query.now (number_of extent)).terms }
-    requires tops { AreTops catalog.now query.now (cards_of cards.now) extent tops.now }
+    requires planning { CanPlan planning.now }
+    requires extent { IsExtent planning.now.query.now (cards_of planning.now.cards.now) extent }
+    requires topped { IsTopped planning.now.query.now extent }
+    requires bases { AreBases planning.now.catalog.now planning.now.query.now (cards_of planning.now.cards.now) extent bases.now }
+    requires all { length bases.now ≡ 2 ^ length (block_in planning.now.query.now (number_of extent)).terms }
+    requires tops { AreTops planning.now.catalog.now planning.now.query.now (cards_of planning.now.cards.now) extent tops.now }
     requires counted { length tops.now ≡ evaluated }
-    requires evaluated { evaluated < 2 ^ length (block_in query.now (number_of extent)).terms }
-    ensures { IfOk result (λ top. IsTheTop catalog.now query.now (cards_of cards.now) extent evaluated top) }
+    requires evaluated { evaluated < 2 ^ length (block_in planning.now.query.now (number_of extent)).terms }
+    ensures { IfOk result (λ top. IsTheTop planning.now.catalog.now planning.now.query.now (cards_of planning.now.cards.now) extent evaluated top) }
 {
-    match first_top(catalog, query, cards, extent, bases, tops, evaluated) {
+    match first_top(planning, extent, bases, tops, evaluated) {
         None => Ok(None),
         Some(found) => {
             let plan = made_top(alloc, bases, tops, evaluated, found.term)?;
@@ -256,34 +242,22 @@ fn next_top(
 /// What is kept of all plans, for each mask of terms, the lesser ones first.
 pub(crate) fn ranked_tops(
     alloc: Global,
-    catalog: &Catalog,
-    query: &Query,
-    cards: &Cards,
+    planning: &Planning,
     extent: Extent,
     bases: &[Option<Kept>],
 ) -> Result<Vec<Option<Kept>>, Memory>
-    requires query { IsQuery catalog.now query.now }
-    requires cards { AreCards query.now (cards_of cards.now) }
-    requires extent { IsExtent query.now (cards_of cards.now) extent }
-    requires topped { IsTopped query.now extent }
-    requires bases { AreBases catalog.now query.now (cards_of cards.now) extent bases.now }
-    requires all { length bases.now ≡ 2 ^ length (block_in query.now (number_of extent)).terms }
-    ensures tops { IfOk result (λ tops. AreTops catalog.now query.now (cards_of cards.now) extent tops.items) }
-    ensures all { IfOk result (λ tops. length tops.items ≡ 2 ^ length (block_in query.now (number_of extent)).terms) }
+    requires planning { CanPlan planning.now }
+    requires extent { IsExtent planning.now.query.now (cards_of planning.now.cards.now) extent }
+    requires topped { IsTopped planning.now.query.now extent }
+    requires bases { AreBases planning.now.catalog.now planning.now.query.now (cards_of planning.now.cards.now) extent bases.now }
+    requires all { length bases.now ≡ 2 ^ length (block_in planning.now.query.now (number_of extent)).terms }
+    ensures tops { IfOk result (λ tops. AreTops planning.now.catalog.now planning.now.query.now (cards_of planning.now.cards.now) extent tops.items) }
+    ensures all { IfOk result (λ tops. length tops.items ≡ 2 ^ length (block_in planning.now.query.now (number_of extent)).terms) }
 {
-    let count = block_in(query, number_of(extent)).terms.len() as u8;
+    let count = block_in(planning.query, number_of(extent)).terms.len() as u8;
     let mut tops = Vec::new(alloc);
     for place in 0..masks(count) {
-        let top = next_top(
-            alloc,
-            catalog,
-            query,
-            cards,
-            extent,
-            bases,
-            &tops,
-            place as u8,
-        )?;
+        let top = next_top(alloc, planning, extent, bases, &tops, place as u8)?;
         tops.push(top)?;
     }
     Ok(tops)

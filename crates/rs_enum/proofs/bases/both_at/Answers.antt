@@ -6,9 +6,9 @@ use Rattle.rs_enum.proofs.bases.both_at.Goals as goal
 
 pub returns-in-None : goal.returns-in-None
 returns-in-None c =
-    sides-none-left c.args.catalog.now c.args.query.now c.requires.query (cards_of c.args.cards.now) c.requires.both c.args.left.now c.args.right.now c.requires.left c.requires.right
+    sides-none-left c.args.planning.now.catalog.now c.args.planning.now.query.now c.requires.planning.query (cards_of c.args.planning.now.cards.now) c.requires.both c.args.left.now c.args.right.now c.requires.left c.requires.right
     c.args.evaluated (subst (λ n. c.args.evaluated < n) (sym c.requires.left_all) c.requires.evaluated)
-    (right-within c.args.catalog.now c.args.query.now (cards_of c.args.cards.now) c.requires.query c.requires.both c.args.right.now c.args.evaluated c.requires.right_all c.requires.evaluated)
+    (right-within c.args.planning.now.catalog.now c.args.planning.now.query.now (cards_of c.args.planning.now.cards.now) c.requires.planning.query c.requires.both c.args.right.now c.args.evaluated c.requires.right_all c.requires.evaluated)
     (sym c.in-None.ensures)
 
 pub both_over-requires-clause-first : goal.both_over-requires-clause-first

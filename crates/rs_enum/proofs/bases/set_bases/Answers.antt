@@ -13,38 +13,38 @@ use Rattle.rs_enum.proofs.bases.set_bases.Goals as goal
 
 pub loop-place-init : goal.loop-place-init
 loop-place-init c = (
-  subst (AreBases c.args.catalog.now c.args.query.now (cards_of c.args.cards.now) whole.Both) (sym c.new-bases.ensures.items)
-      (first-none (IsBase c.args.catalog.now c.args.query.now whole.Both) (whole_cost c.args.catalog.now c.args.query.now (cards_of c.args.cards.now) whole.Both) (FitsWhole c.args.query.now whole.Both)),
+  subst (AreBases c.args.planning.now.catalog.now c.args.planning.now.query.now (cards_of c.args.planning.now.cards.now) whole.Both) (sym c.new-bases.ensures.items)
+      (first-none (IsBase c.args.planning.now.catalog.now c.args.planning.now.query.now whole.Both) (whole_cost c.args.planning.now.catalog.now c.args.planning.now.query.now (cards_of c.args.planning.now.cards.now) whole.Both) (FitsWhole c.args.planning.now.query.now whole.Both)),
   ap length c.new-bases.ensures.items,
 )
 
 pub overflow_cast-place : goal.overflow_cast-place
 overflow_cast-place c =
-    let few = few-terms c.args.catalog.now c.args.query.now c.requires.query whole.Both in
-    let count : c.len.result ≡ length (block_in c.args.query.now 1).terms = c.len.ensures ∙ ap (λ (b : Block). length b.terms) c.block_in.ensures in
+    let few = few-terms c.args.planning.now.catalog.now c.args.planning.now.query.now c.requires.planning.query whole.Both in
+    let count : c.len.result ≡ length (block_in c.args.planning.now.query.now 1).terms = c.len.ensures ∙ ap (λ (b : Block). length b.terms) c.block_in.ensures in
     let most = masks-most c.len.result c.masks-place-end.result c.masks-place-end.ensures (omega arith) in
     let less = c.loop-place-test.true in
     omega arith
 
 pub both_at-requires-clause-evaluated : goal.both_at-requires-clause-evaluated
 both_at-requires-clause-evaluated c =
-    let count : c.len.result ≡ length (block_in c.args.query.now 1).terms = c.len.ensures ∙ ap (λ (b : Block). length b.terms) c.block_in.ensures in
+    let count : c.len.result ≡ length (block_in c.args.planning.now.query.now 1).terms = c.len.ensures ∙ ap (λ (b : Block). length b.terms) c.block_in.ensures in
     subst (λ n. c.loop-place.place < n) (c.masks-place-end.ensures ∙ ap (λ n. 2 ^ n) count) c.loop-place-test.true
 
 pub loop-place-preserved : goal.loop-place-preserved
 loop-place-preserved c =
     let items : c.push.new.self.items ≡ c.loop-place.bases.items ++ c.in_ok-base.base ∷ [] = c.in_ok-push.ensures.items in
-    let next : IsTheBase c.args.catalog.now c.args.query.now (cards_of c.args.cards.now) whole.Both (length c.loop-place.bases.items) c.in_ok-base.base =
-    subst (λ n. IsTheBase c.args.catalog.now c.args.query.now (cards_of c.args.cards.now) whole.Both n c.in_ok-base.base) (sym c.loop-place.invariant.1) c.in_ok-base.ensures in (
-      subst (AreBases c.args.catalog.now c.args.query.now (cards_of c.args.cards.now) whole.Both) (sym items)
-          (first-more (IsBase c.args.catalog.now c.args.query.now whole.Both) (whole_cost c.args.catalog.now c.args.query.now (cards_of c.args.cards.now) whole.Both) (FitsWhole c.args.query.now whole.Both)
+    let next : IsTheBase c.args.planning.now.catalog.now c.args.planning.now.query.now (cards_of c.args.planning.now.cards.now) whole.Both (length c.loop-place.bases.items) c.in_ok-base.base =
+    subst (λ n. IsTheBase c.args.planning.now.catalog.now c.args.planning.now.query.now (cards_of c.args.planning.now.cards.now) whole.Both n c.in_ok-base.base) (sym c.loop-place.invariant.1) c.in_ok-base.ensures in (
+      subst (AreBases c.args.planning.now.catalog.now c.args.planning.now.query.now (cards_of c.args.planning.now.cards.now) whole.Both) (sym items)
+          (first-more (IsBase c.args.planning.now.catalog.now c.args.planning.now.query.now whole.Both) (whole_cost c.args.planning.now.catalog.now c.args.planning.now.query.now (cards_of c.args.planning.now.cards.now) whole.Both) (FitsWhole c.args.planning.now.query.now whole.Both)
           c.loop-place.bases.items c.in_ok-base.base c.loop-place.invariant.0 next),
       ap length items ∙ length-append c.loop-place.bases.items (c.in_ok-base.base ∷ []) ∙ ap (λ n. n + 1) c.loop-place.invariant.1,
     )
 
 pub returns-clause-all : goal.returns-clause-all
 returns-clause-all c =
-    let count : c.len.result ≡ length (block_in c.args.query.now 1).terms = c.len.ensures ∙ ap (λ (b : Block). length b.terms) c.block_in.ensures in
+    let count : c.len.result ≡ length (block_in c.args.planning.now.query.now 1).terms = c.len.ensures ∙ ap (λ (b : Block). length b.terms) c.block_in.ensures in
     let within = c.loop-place.auto.place-end in
     let done = c.loop-place-test.false in
     let end : c.loop-place.place ≡ c.masks-place-end.result = omega arith in

@@ -6,4 +6,4 @@ use Rattle.rs_enum.proofs.bases.set_bases.Given as goal
 
 -- as many are kept as were counted
 abbrev pub invariant-loop-place : goal.invariant-loop-place
-invariant-loop-place l = AreBases l.catalog l.query (cards_of l.cards) whole.Both l.bases.items × (length l.bases.items ≡ l.place)
+invariant-loop-place l = AreBases l.planning.catalog.now l.planning.query.now (cards_of l.planning.cards.now) whole.Both l.bases.items × (length l.bases.items ≡ l.place)

@@ -5,7 +5,7 @@ use Rattle.rs_sample.specs.Kept.{cards_of}
 use Rattle.rs_query.specs.Blocks.{block_in}
 use Rattle.rs_plan.specs.Plans.{HasNoDistinct, IsPart}
 use Rattle.rs_plan.specs.Shapes.{tree_of}
-use Rattle.rs_plan.specs.Trees.{Distinct, HashJoin, NestedJoin, Rank, RankScan}
+use Rattle.rs_plan.specs.Trees.{Distinct, Hash, JoinOperator, Nested, Rank, RankScan}
 use Rattle.rs_enum.specs.QueryCards.{cards_at}
 use Rattle.rs_enum.specs.Bounds.{IsNumberedTerm}
 use Rattle.rs_enum.proofs.CostFacts.{block-cards, block-formed, numbered, part-fits, term-alone}
@@ -14,18 +14,18 @@ use Rattle.rs_enum.proofs.costs.+part_cost.Goals as goal
 
 pub index_rows-requires-clause-alone : goal.index_rows-requires-clause-alone
 index_rows-requires-clause-alone t c =
-    let catalogue = c.args.catalog.now in
-    let block = block_in c.args.query.now c.args.number in
-    let own = cards_at (cards_of c.args.cards.now) c.args.number in
-    let are = block-cards c.args.query.now (cards_of c.args.cards.now) c.args.number c.requires.cards c.requires.number in
+    let catalogue = c.args.planning.now.catalog.now in
+    let block = block_in c.args.planning.now.query.now c.args.number in
+    let own = cards_at (cards_of c.args.planning.now.cards.now) c.args.number in
+    let are = block-cards c.args.planning.now.query.now (cards_of c.args.planning.now.cards.now) c.args.number c.requires.planning.cards c.requires.number in
     let is : tree_of c.args.plan.now ≡ RankScan c.in-RankScan.entry c.in-RankScan.term c.in-RankScan.index = ap tree_of c.in-RankScan.is in
     term-alone block own are catalogue c.in-RankScan.entry c.in-RankScan.term c.in-RankScan.index (subst (IsPart catalogue block) is c.requires.part)
 
 pub call_cost-requires-clause-term : goal.call_cost-requires-clause-term
 call_cost-requires-clause-term t c =
-    let catalogue = c.args.catalog.now in
-    let block = block_in c.args.query.now c.args.number in
-    let formed = block-formed catalogue c.args.query.now c.args.number c.requires.query in
+    let catalogue = c.args.planning.now.catalog.now in
+    let block = block_in c.args.planning.now.query.now c.args.number in
+    let formed = block-formed catalogue c.args.planning.now.query.now c.args.number c.requires.planning.query in
     let whole = tree_of c.args.plan.now in
     let child = tree_of c.deref-child.result.now in
     let is : whole ≡ Rank c.in-Rank.term child = ap tree_of c.in-Rank.is ∙ ap (λ x. Rank c.in-Rank.term (tree_of x)) (sym c.deref-child.ensures) in
@@ -34,9 +34,9 @@ call_cost-requires-clause-term t c =
 
 pub with_calls-requires : goal.with_calls-requires
 with_calls-requires t c =
-    let catalogue = c.args.catalog.now in
-    let block = block_in c.args.query.now c.args.number in
-    let formed = block-formed catalogue c.args.query.now c.args.number c.requires.query in
+    let catalogue = c.args.planning.now.catalog.now in
+    let block = block_in c.args.planning.now.query.now c.args.number in
+    let formed = block-formed catalogue c.args.planning.now.query.now c.args.number c.requires.planning.query in
     let whole = tree_of c.args.plan.now in
     let child = tree_of c.deref-child.result.now in
     let is : whole ≡ Rank c.in-Rank.term child = ap tree_of c.in-Rank.is ∙ ap (λ x. Rank c.in-Rank.term (tree_of x)) (sym c.deref-child.ensures) in
@@ -48,9 +48,9 @@ with_calls-requires t c =
 
 pub returns-in-Rank-clause-most : goal.returns-in-Rank-clause-most
 returns-in-Rank-clause-most t c =
-    let catalogue = c.args.catalog.now in
-    let block = block_in c.args.query.now c.args.number in
-    let formed = block-formed catalogue c.args.query.now c.args.number c.requires.query in
+    let catalogue = c.args.planning.now.catalog.now in
+    let block = block_in c.args.planning.now.query.now c.args.number in
+    let formed = block-formed catalogue c.args.planning.now.query.now c.args.number c.requires.planning.query in
     let whole = tree_of c.args.plan.now in
     let child = tree_of c.deref-child.result.now in
     let is : whole ≡ Rank c.in-Rank.term child = ap tree_of c.in-Rank.is ∙ ap (λ x. Rank c.in-Rank.term (tree_of x)) (sym c.deref-child.ensures) in
@@ -62,9 +62,9 @@ returns-in-Rank-clause-most t c =
 
 pub returns-in-Rank-clause-spare : goal.returns-in-Rank-clause-spare
 returns-in-Rank-clause-spare t c = λ no_distinct.
-    let catalogue = c.args.catalog.now in
-    let block = block_in c.args.query.now c.args.number in
-    let formed = block-formed catalogue c.args.query.now c.args.number c.requires.query in
+    let catalogue = c.args.planning.now.catalog.now in
+    let block = block_in c.args.planning.now.query.now c.args.number in
+    let formed = block-formed catalogue c.args.planning.now.query.now c.args.number c.requires.planning.query in
     let whole = tree_of c.args.plan.now in
     let child = tree_of c.deref-child.result.now in
     let is : whole ≡ Rank c.in-Rank.term child = ap tree_of c.in-Rank.is ∙ ap (λ x. Rank c.in-Rank.term (tree_of x)) (sym c.deref-child.ensures) in
@@ -76,15 +76,15 @@ returns-in-Rank-clause-spare t c = λ no_distinct.
 
 pub hashed-requires : goal.hashed-requires
 hashed-requires t c =
-    let catalogue = c.args.catalog.now in
-    let block = block_in c.args.query.now c.args.number in
-    let formed = block-formed catalogue c.args.query.now c.args.number c.requires.query in
+    let catalogue = c.args.planning.now.catalog.now in
+    let block = block_in c.args.planning.now.query.now c.args.number in
+    let formed = block-formed catalogue c.args.planning.now.query.now c.args.number c.requires.planning.query in
     let whole = tree_of c.args.plan.now in
     let left = tree_of c.deref-left.result.now in
     let right = tree_of c.deref-right.result.now in
-    let is : whole ≡ HashJoin left right =
-    ap tree_of c.in-HashJoin.is ∙ (λ at. HashJoin (tree_of (sym c.deref-left.ensures at)) (tree_of (sym c.deref-right.ensures at))) in
-    let part : IsPart catalogue block (HashJoin left right) = subst (IsPart catalogue block) is c.requires.part in
+    let is : whole ≡ JoinOperator Hash left right =
+    ap tree_of c.in-HashJoin.is ∙ (λ at. JoinOperator Hash (tree_of (sym c.deref-left.ensures at)) (tree_of (sym c.deref-right.ensures at))) in
+    let part : IsPart catalogue block (JoinOperator Hash left right) = subst (IsPart catalogue block) is c.requires.part in
     let most = hash-whole catalogue block formed whole left right c.part_cost-left_cost.result c.part_cost-right_cost.result
     c.part_rows-left_rows.result c.part_rows-right_rows.result c.part_rows-rows-in-HashJoin.result is part
     (c.part_cost-left_cost.ensures.spare part.2.left_whole) (c.part_cost-right_cost.ensures.spare part.2.right_whole)
@@ -94,15 +94,15 @@ hashed-requires t c =
 
 pub returns-in-HashJoin-clause-most : goal.returns-in-HashJoin-clause-most
 returns-in-HashJoin-clause-most t c =
-    let catalogue = c.args.catalog.now in
-    let block = block_in c.args.query.now c.args.number in
-    let formed = block-formed catalogue c.args.query.now c.args.number c.requires.query in
+    let catalogue = c.args.planning.now.catalog.now in
+    let block = block_in c.args.planning.now.query.now c.args.number in
+    let formed = block-formed catalogue c.args.planning.now.query.now c.args.number c.requires.planning.query in
     let whole = tree_of c.args.plan.now in
     let left = tree_of c.deref-left.result.now in
     let right = tree_of c.deref-right.result.now in
-    let is : whole ≡ HashJoin left right =
-    ap tree_of c.in-HashJoin.is ∙ (λ at. HashJoin (tree_of (sym c.deref-left.ensures at)) (tree_of (sym c.deref-right.ensures at))) in
-    let part : IsPart catalogue block (HashJoin left right) = subst (IsPart catalogue block) is c.requires.part in
+    let is : whole ≡ JoinOperator Hash left right =
+    ap tree_of c.in-HashJoin.is ∙ (λ at. JoinOperator Hash (tree_of (sym c.deref-left.ensures at)) (tree_of (sym c.deref-right.ensures at))) in
+    let part : IsPart catalogue block (JoinOperator Hash left right) = subst (IsPart catalogue block) is c.requires.part in
     let most = hash-whole catalogue block formed whole left right c.part_cost-left_cost.result c.part_cost-right_cost.result
     c.part_rows-left_rows.result c.part_rows-right_rows.result c.part_rows-rows-in-HashJoin.result is part
     (c.part_cost-left_cost.ensures.spare part.2.left_whole) (c.part_cost-right_cost.ensures.spare part.2.right_whole)
@@ -112,15 +112,15 @@ returns-in-HashJoin-clause-most t c =
 
 pub returns-in-HashJoin-clause-spare : goal.returns-in-HashJoin-clause-spare
 returns-in-HashJoin-clause-spare t c = λ no_distinct.
-    let catalogue = c.args.catalog.now in
-    let block = block_in c.args.query.now c.args.number in
-    let formed = block-formed catalogue c.args.query.now c.args.number c.requires.query in
+    let catalogue = c.args.planning.now.catalog.now in
+    let block = block_in c.args.planning.now.query.now c.args.number in
+    let formed = block-formed catalogue c.args.planning.now.query.now c.args.number c.requires.planning.query in
     let whole = tree_of c.args.plan.now in
     let left = tree_of c.deref-left.result.now in
     let right = tree_of c.deref-right.result.now in
-    let is : whole ≡ HashJoin left right =
-    ap tree_of c.in-HashJoin.is ∙ (λ at. HashJoin (tree_of (sym c.deref-left.ensures at)) (tree_of (sym c.deref-right.ensures at))) in
-    let part : IsPart catalogue block (HashJoin left right) = subst (IsPart catalogue block) is c.requires.part in
+    let is : whole ≡ JoinOperator Hash left right =
+    ap tree_of c.in-HashJoin.is ∙ (λ at. JoinOperator Hash (tree_of (sym c.deref-left.ensures at)) (tree_of (sym c.deref-right.ensures at))) in
+    let part : IsPart catalogue block (JoinOperator Hash left right) = subst (IsPart catalogue block) is c.requires.part in
     let most = hash-whole catalogue block formed whole left right c.part_cost-left_cost.result c.part_cost-right_cost.result
     c.part_rows-left_rows.result c.part_rows-right_rows.result c.part_rows-rows-in-HashJoin.result is part
     (c.part_cost-left_cost.ensures.spare part.2.left_whole) (c.part_cost-right_cost.ensures.spare part.2.right_whole)
@@ -130,15 +130,15 @@ returns-in-HashJoin-clause-spare t c = λ no_distinct.
 
 pub nested-requires : goal.nested-requires
 nested-requires t c =
-    let catalogue = c.args.catalog.now in
-    let block = block_in c.args.query.now c.args.number in
-    let formed = block-formed catalogue c.args.query.now c.args.number c.requires.query in
+    let catalogue = c.args.planning.now.catalog.now in
+    let block = block_in c.args.planning.now.query.now c.args.number in
+    let formed = block-formed catalogue c.args.planning.now.query.now c.args.number c.requires.planning.query in
     let whole = tree_of c.args.plan.now in
     let left = tree_of c.deref-left-in-NestedJoin.result.now in
     let right = tree_of c.deref-right-in-NestedJoin.result.now in
-    let is : whole ≡ NestedJoin left right =
-    ap tree_of c.in-NestedJoin.is ∙ (λ at. NestedJoin (tree_of (sym c.deref-left-in-NestedJoin.ensures at)) (tree_of (sym c.deref-right-in-NestedJoin.ensures at))) in
-    let part : IsPart catalogue block (NestedJoin left right) = subst (IsPart catalogue block) is c.requires.part in
+    let is : whole ≡ JoinOperator Nested left right =
+    ap tree_of c.in-NestedJoin.is ∙ (λ at. JoinOperator Nested (tree_of (sym c.deref-left-in-NestedJoin.ensures at)) (tree_of (sym c.deref-right-in-NestedJoin.ensures at))) in
+    let part : IsPart catalogue block (JoinOperator Nested left right) = subst (IsPart catalogue block) is c.requires.part in
     let most = nested-whole catalogue block formed whole left right c.part_cost-left_cost-in-NestedJoin.result c.part_cost-right_cost-in-NestedJoin.result
     c.part_rows-left_rows-in-NestedJoin.result c.part_rows-right_rows-in-NestedJoin.result c.part_rows-rows-in-NestedJoin.result is part
     (c.part_cost-left_cost-in-NestedJoin.ensures.spare part.2.left_whole) (c.part_cost-right_cost-in-NestedJoin.ensures.spare part.2.right_whole)
@@ -148,15 +148,15 @@ nested-requires t c =
 
 pub returns-in-NestedJoin-clause-most : goal.returns-in-NestedJoin-clause-most
 returns-in-NestedJoin-clause-most t c =
-    let catalogue = c.args.catalog.now in
-    let block = block_in c.args.query.now c.args.number in
-    let formed = block-formed catalogue c.args.query.now c.args.number c.requires.query in
+    let catalogue = c.args.planning.now.catalog.now in
+    let block = block_in c.args.planning.now.query.now c.args.number in
+    let formed = block-formed catalogue c.args.planning.now.query.now c.args.number c.requires.planning.query in
     let whole = tree_of c.args.plan.now in
     let left = tree_of c.deref-left-in-NestedJoin.result.now in
     let right = tree_of c.deref-right-in-NestedJoin.result.now in
-    let is : whole ≡ NestedJoin left right =
-    ap tree_of c.in-NestedJoin.is ∙ (λ at. NestedJoin (tree_of (sym c.deref-left-in-NestedJoin.ensures at)) (tree_of (sym c.deref-right-in-NestedJoin.ensures at))) in
-    let part : IsPart catalogue block (NestedJoin left right) = subst (IsPart catalogue block) is c.requires.part in
+    let is : whole ≡ JoinOperator Nested left right =
+    ap tree_of c.in-NestedJoin.is ∙ (λ at. JoinOperator Nested (tree_of (sym c.deref-left-in-NestedJoin.ensures at)) (tree_of (sym c.deref-right-in-NestedJoin.ensures at))) in
+    let part : IsPart catalogue block (JoinOperator Nested left right) = subst (IsPart catalogue block) is c.requires.part in
     let most = nested-whole catalogue block formed whole left right c.part_cost-left_cost-in-NestedJoin.result c.part_cost-right_cost-in-NestedJoin.result
     c.part_rows-left_rows-in-NestedJoin.result c.part_rows-right_rows-in-NestedJoin.result c.part_rows-rows-in-NestedJoin.result is part
     (c.part_cost-left_cost-in-NestedJoin.ensures.spare part.2.left_whole) (c.part_cost-right_cost-in-NestedJoin.ensures.spare part.2.right_whole)
@@ -166,15 +166,15 @@ returns-in-NestedJoin-clause-most t c =
 
 pub returns-in-NestedJoin-clause-spare : goal.returns-in-NestedJoin-clause-spare
 returns-in-NestedJoin-clause-spare t c = λ no_distinct.
-    let catalogue = c.args.catalog.now in
-    let block = block_in c.args.query.now c.args.number in
-    let formed = block-formed catalogue c.args.query.now c.args.number c.requires.query in
+    let catalogue = c.args.planning.now.catalog.now in
+    let block = block_in c.args.planning.now.query.now c.args.number in
+    let formed = block-formed catalogue c.args.planning.now.query.now c.args.number c.requires.planning.query in
     let whole = tree_of c.args.plan.now in
     let left = tree_of c.deref-left-in-NestedJoin.result.now in
     let right = tree_of c.deref-right-in-NestedJoin.result.now in
-    let is : whole ≡ NestedJoin left right =
-    ap tree_of c.in-NestedJoin.is ∙ (λ at. NestedJoin (tree_of (sym c.deref-left-in-NestedJoin.ensures at)) (tree_of (sym c.deref-right-in-NestedJoin.ensures at))) in
-    let part : IsPart catalogue block (NestedJoin left right) = subst (IsPart catalogue block) is c.requires.part in
+    let is : whole ≡ JoinOperator Nested left right =
+    ap tree_of c.in-NestedJoin.is ∙ (λ at. JoinOperator Nested (tree_of (sym c.deref-left-in-NestedJoin.ensures at)) (tree_of (sym c.deref-right-in-NestedJoin.ensures at))) in
+    let part : IsPart catalogue block (JoinOperator Nested left right) = subst (IsPart catalogue block) is c.requires.part in
     let most = nested-whole catalogue block formed whole left right c.part_cost-left_cost-in-NestedJoin.result c.part_cost-right_cost-in-NestedJoin.result
     c.part_rows-left_rows-in-NestedJoin.result c.part_rows-right_rows-in-NestedJoin.result c.part_rows-rows-in-NestedJoin.result is part
     (c.part_cost-left_cost-in-NestedJoin.ensures.spare part.2.left_whole) (c.part_cost-right_cost-in-NestedJoin.ensures.spare part.2.right_whole)
@@ -184,9 +184,9 @@ returns-in-NestedJoin-clause-spare t c = λ no_distinct.
 
 pub overflow_add-result : goal.overflow_add-result
 overflow_add-result t c =
-    let catalogue = c.args.catalog.now in
-    let block = block_in c.args.query.now c.args.number in
-    let formed = block-formed catalogue c.args.query.now c.args.number c.requires.query in
+    let catalogue = c.args.planning.now.catalog.now in
+    let block = block_in c.args.planning.now.query.now c.args.number in
+    let formed = block-formed catalogue c.args.planning.now.query.now c.args.number c.requires.planning.query in
     let whole = tree_of c.args.plan.now in
     let child = tree_of c.deref-child-in-Distinct.result.now in
     let is : whole ≡ Distinct child = ap tree_of c.in-Distinct.is ∙ ap (λ x. Distinct (tree_of x)) (sym c.deref-child-in-Distinct.ensures) in
@@ -199,9 +199,9 @@ overflow_add-result t c =
 
 pub returns-in-Distinct-clause-most : goal.returns-in-Distinct-clause-most
 returns-in-Distinct-clause-most t c =
-    let catalogue = c.args.catalog.now in
-    let block = block_in c.args.query.now c.args.number in
-    let formed = block-formed catalogue c.args.query.now c.args.number c.requires.query in
+    let catalogue = c.args.planning.now.catalog.now in
+    let block = block_in c.args.planning.now.query.now c.args.number in
+    let formed = block-formed catalogue c.args.planning.now.query.now c.args.number c.requires.planning.query in
     let whole = tree_of c.args.plan.now in
     let child = tree_of c.deref-child-in-Distinct.result.now in
     let is : whole ≡ Distinct child = ap tree_of c.in-Distinct.is ∙ ap (λ x. Distinct (tree_of x)) (sym c.deref-child-in-Distinct.ensures) in
@@ -212,9 +212,9 @@ returns-in-Distinct-clause-most t c =
 
 pub returns-in-SeqScan-clause-most : goal.returns-in-SeqScan-clause-most
 returns-in-SeqScan-clause-most t c =
-    let catalogue = c.args.catalog.now in
-    let block = block_in c.args.query.now c.args.number in
-    let formed = block-formed catalogue c.args.query.now c.args.number c.requires.query in
+    let catalogue = c.args.planning.now.catalog.now in
+    let block = block_in c.args.planning.now.query.now c.args.number in
+    let formed = block-formed catalogue c.args.planning.now.query.now c.args.number c.requires.planning.query in
     let whole = tree_of c.args.plan.now in
     let few = c.table_rows.ensures.most in
     let most = scan-whole catalogue block formed whole c.in-SeqScan.entry c.table_rows.result (ap tree_of c.in-SeqScan.is) (omega arith) in
@@ -222,9 +222,9 @@ returns-in-SeqScan-clause-most t c =
 
 pub returns-in-RankScan-clause-most : goal.returns-in-RankScan-clause-most
 returns-in-RankScan-clause-most t c =
-    let catalogue = c.args.catalog.now in
-    let block = block_in c.args.query.now c.args.number in
-    let formed = block-formed catalogue c.args.query.now c.args.number c.requires.query in
+    let catalogue = c.args.planning.now.catalog.now in
+    let block = block_in c.args.planning.now.query.now c.args.number in
+    let formed = block-formed catalogue c.args.planning.now.query.now c.args.number c.requires.planning.query in
     let whole = tree_of c.args.plan.now in
     let few = c.index_rows.ensures.most in
     let most = rank_scan-whole catalogue block formed whole c.in-RankScan.entry c.in-RankScan.term c.in-RankScan.index (2 * c.index_rows.result)
@@ -233,9 +233,9 @@ returns-in-RankScan-clause-most t c =
 
 pub returns-in-SeqScan-clause-spare : goal.returns-in-SeqScan-clause-spare
 returns-in-SeqScan-clause-spare t c = λ no_distinct.
-    let catalogue = c.args.catalog.now in
-    let block = block_in c.args.query.now c.args.number in
-    let formed = block-formed catalogue c.args.query.now c.args.number c.requires.query in
+    let catalogue = c.args.planning.now.catalog.now in
+    let block = block_in c.args.planning.now.query.now c.args.number in
+    let formed = block-formed catalogue c.args.planning.now.query.now c.args.number c.requires.planning.query in
     let whole = tree_of c.args.plan.now in
     let few = c.table_rows.ensures.most in
     let most = scan-whole catalogue block formed whole c.in-SeqScan.entry c.table_rows.result (ap tree_of c.in-SeqScan.is) (omega arith) in
@@ -243,9 +243,9 @@ returns-in-SeqScan-clause-spare t c = λ no_distinct.
 
 pub returns-in-RankScan-clause-spare : goal.returns-in-RankScan-clause-spare
 returns-in-RankScan-clause-spare t c = λ no_distinct.
-    let catalogue = c.args.catalog.now in
-    let block = block_in c.args.query.now c.args.number in
-    let formed = block-formed catalogue c.args.query.now c.args.number c.requires.query in
+    let catalogue = c.args.planning.now.catalog.now in
+    let block = block_in c.args.planning.now.query.now c.args.number in
+    let formed = block-formed catalogue c.args.planning.now.query.now c.args.number c.requires.planning.query in
     let whole = tree_of c.args.plan.now in
     let few = c.index_rows.ensures.most in
     let most = rank_scan-whole catalogue block formed whole c.in-RankScan.entry c.in-RankScan.term c.in-RankScan.index (2 * c.index_rows.result)

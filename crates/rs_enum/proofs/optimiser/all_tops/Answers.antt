@@ -11,14 +11,14 @@ use Rattle.rs_enum.proofs.CostFacts.{first-numbered}
 use Rattle.rs_enum.proofs.optimiser.all_tops.Goals as goal
 
 pub block_tops-requires-clause-number : goal.block_tops-requires-clause-number
-block_tops-requires-clause-number c = first-numbered c.args.query.now (cards_of c.args.cards.now) c.requires.cards
+block_tops-requires-clause-number c = first-numbered c.args.planning.now.query.now (cards_of c.args.planning.now.cards.now) c.requires.planning.cards
 
 pub returns-in-One-clause-tops : goal.returns-in-One-clause-tops
 returns-in-One-clause-tops c =
-    subst (λ (e : Extent). IfOk c.block_tops.result (λ (tops : Vec (Option Kept) Global). AreTops c.args.catalog.now c.args.query.now (cards_of c.args.cards.now) e tops.items))
+    subst (λ (e : Extent). IfOk c.block_tops.result (λ (tops : Vec (Option Kept) Global). AreTops c.args.planning.now.catalog.now c.args.planning.now.query.now (cards_of c.args.planning.now.cards.now) e tops.items))
     (sym (ap extent_of c.in-One.is)) c.block_tops.ensures.tops
 
 pub returns-in-Set-clause-tops : goal.returns-in-Set-clause-tops
 returns-in-Set-clause-tops c =
-    subst (λ (e : Extent). IfOk c.set_tops.result (λ (tops : Vec (Option Kept) Global). AreTops c.args.catalog.now c.args.query.now (cards_of c.args.cards.now) e tops.items))
+    subst (λ (e : Extent). IfOk c.set_tops.result (λ (tops : Vec (Option Kept) Global). AreTops c.args.planning.now.catalog.now c.args.planning.now.query.now (cards_of c.args.planning.now.cards.now) e tops.items))
     (sym (ap extent_of c.in-Set.is)) c.set_tops.ensures.tops

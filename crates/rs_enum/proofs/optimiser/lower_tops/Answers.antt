@@ -9,19 +9,19 @@ use Rattle.rs_enum.proofs.optimiser.lower_tops.Goals as goal
 
 pub last_row-requires-clause-some : goal.last_row-requires-clause-some
 last_row-requires-clause-some c =
-    subst (λ (b : Block). 1 ≤ length b.from) (sym c.block_in.ensures) (block-formed c.args.catalog.now c.args.query.now c.args.number c.requires.query).some_entries
+    subst (λ (b : Block). 1 ≤ length b.from) (sym c.block_in.ensures) (block-formed c.args.planning.now.catalog.now c.args.planning.now.query.now c.args.number c.requires.planning.query).some_entries
 
 pub last_row-requires-clause-most : goal.last_row-requires-clause-most
 last_row-requires-clause-most c =
-    subst (λ (b : Block). length b.from ≤ 6) (sym c.block_in.ensures) (block-formed c.args.catalog.now c.args.query.now c.args.number c.requires.query).most_entries
+    subst (λ (b : Block). length b.from ≤ 6) (sym c.block_in.ensures) (block-formed c.args.planning.now.catalog.now c.args.planning.now.query.now c.args.number c.requires.planning.query).most_entries
 
 pub last_row-requires-clause-few : goal.last_row-requires-clause-few
 last_row-requires-clause-few c =
-    subst (λ (b : Block). length b.terms ≤ 8) (sym c.block_in.ensures) (block-formed c.args.catalog.now c.args.query.now c.args.number c.requires.query).most_terms
+    subst (λ (b : Block). length b.terms ≤ 8) (sym c.block_in.ensures) (block-formed c.args.planning.now.catalog.now c.args.planning.now.query.now c.args.number c.requires.planning.query).most_terms
 
 pub returns-clause-lower : goal.returns-clause-lower
 returns-clause-lower c =
-    lower-row c.args.catalog.now c.args.query.now c.requires.query (cards_of c.args.cards.now) c.args.number c.in_ok-places.places.items c.in_ok-tops.tops.items
+    lower-row c.args.planning.now.catalog.now c.args.planning.now.query.now c.requires.planning.query (cards_of c.args.planning.now.cards.now) c.args.number c.in_ok-places.places.items c.in_ok-tops.tops.items
     c.in_ok-places.ensures.filled c.in_ok-places.ensures.all
     (subst₂ (λ (b : Block) places. IsLastRow b places c.in_ok-tops.tops.items) c.block_in.ensures c.deref.ensures.value c.in_ok-tops.ensures)
 

@@ -7,7 +7,7 @@ use Rattle.rs_enum.proofs.optimiser.without.Goals as goal
 
 pub ranked_tops-requires-clause-bases : goal.ranked_tops-requires-clause-bases
 ranked_tops-requires-clause-bases c =
-    subst (AreBases c.args.catalog.now c.args.query.now (cards_of c.args.cards.now) (whole.Block c.args.number)) (sym c.deref.ensures.value) c.in_ok-bases.ensures.bases
+    subst (AreBases c.args.planning.now.catalog.now c.args.planning.now.query.now (cards_of c.args.planning.now.cards.now) (whole.Block c.args.number)) (sym c.deref.ensures.value) c.in_ok-bases.ensures.bases
 
 pub ranked_tops-requires-clause-all : goal.ranked_tops-requires-clause-all
 ranked_tops-requires-clause-all c = ap length c.deref.ensures.value ∙ c.in_ok-bases.ensures.all
