@@ -14,8 +14,8 @@ use Rattle.rs_query.specs.declared.query.Query.TheVariants.{One, Set}
 use Rattle.rs_plan.specs.Counts.{AreWithinLimits, asked_of, counts, counts_at, counts_of_plan, drawn_of, own_calls, size_at}
 use Rattle.rs_plan.specs.declared.counts.Counts.{Counts}
 use Rattle.rs_plan.specs.Lists.{World, list_of}
-use Rattle.rs_plan.specs.Trees.{Distinct, HashJoin, NestedJoin, Rank, RankScan, SeqScan, SetOperator, PlanTree}
-use Rattle.rs_plan.proofs.ChildAskFacts.{distinct_child-most, hashed_left-most, hashed_right-most, nested_left-most, nested_right-most, rank_child-most, set_left_side-most, set_right_side-most}
+use Rattle.rs_plan.specs.Trees.{Distinct, JoinOperator, Rank, RankScan, SeqScan, SetOperator, PlanTree}
+use Rattle.rs_plan.proofs.ChildAskFacts.{distinct_child-most, left_side-most, rank_child-most, right_side-most, set_left_side-most, set_right_side-most}
 use Rattle.rs_exec.specs.Asked.{HasBlock}
 use Rattle.rs_exec.specs.Asking.{world_of}
 use Rattle.rs_exec.specs.Cursors.{CursorState, StandsFor, asks_of, plan_of}
@@ -103,28 +103,17 @@ module _ (catalogue : CatalogDef) (answer : Answering) (query : Query) (formed :
         own number (Distinct child) a has part asked (omega arith) (omega arith),
         counts-limited number child (asked_of w number (Distinct child) a Left) has child_part holds (omega arith),
       )
-  counts-limited number (HashJoin left right) a has part holds asked =
+  counts-limited number (JoinOperator kind left right) a has part holds asked =
       let left_part = part-of catalogue query number left part.0 in
       let right_part = part-of catalogue query number right part.1 in
-      let left_most = hashed_left-most w number left right a in
-      let right_most = hashed_right-most w number left right a in
+      let left_most = left_side-most w number kind left right a in
+      let right_most = right_side-most w number kind left right a in
       let lefts = few number left has left_part in
       let rights = few number right has right_part in
-      over-two (counts_at w number (HashJoin left right) a) (counts w number left (asked_of w number (HashJoin left right) a Left)) (counts w number right (asked_of w number (HashJoin left right) a Right))
-      (own number (HashJoin left right) a has part asked (omega arith) (omega arith))
-      (counts-limited number left (asked_of w number (HashJoin left right) a Left) has left_part holds.0 (omega arith))
-      (counts-limited number right (asked_of w number (HashJoin left right) a Right) has right_part holds.1 (omega arith))
-  counts-limited number (NestedJoin left right) a has part holds asked =
-      let left_part = part-of catalogue query number left part.0 in
-      let right_part = part-of catalogue query number right part.1 in
-      let left_most = nested_left-most w number left right a in
-      let right_most = nested_right-most w number left right a in
-      let lefts = few number left has left_part in
-      let rights = few number right has right_part in
-      over-two (counts_at w number (NestedJoin left right) a) (counts w number left (asked_of w number (NestedJoin left right) a Left)) (counts w number right (asked_of w number (NestedJoin left right) a Right))
-      (own number (NestedJoin left right) a has part asked (omega arith) (omega arith))
-      (counts-limited number left (asked_of w number (NestedJoin left right) a Left) has left_part holds.0 (omega arith))
-      (counts-limited number right (asked_of w number (NestedJoin left right) a Right) has right_part holds.1 (omega arith))
+      over-two (counts_at w number (JoinOperator kind left right) a) (counts w number left (asked_of w number (JoinOperator kind left right) a Left)) (counts w number right (asked_of w number (JoinOperator kind left right) a Right))
+      (own number (JoinOperator kind left right) a has part asked (omega arith) (omega arith))
+      (counts-limited number left (asked_of w number (JoinOperator kind left right) a Left) has left_part holds.0 (omega arith))
+      (counts-limited number right (asked_of w number (JoinOperator kind left right) a Right) has right_part holds.1 (omega arith))
   counts-limited number (SetOperator left right) a has part holds asked =
       let parts = side-parts catalogue query number left right part in
       let one = first-block query in

@@ -15,7 +15,7 @@ use Rattle.rs_query.specs.declared.query.Query.TheVariants.{One, Set}
 use Rattle.rs_plan.specs.Asks.{asks_alone, bar_of, keys_of, query_schedule}
 use Rattle.rs_plan.specs.Counts.{asked_of}
 use Rattle.rs_plan.specs.Lists.{World, key_under, list_of, weights_in}
-use Rattle.rs_plan.specs.Trees.{Distinct, HashJoin, NestedJoin, Rank, SetOperator, PlanTree, terms}
+use Rattle.rs_plan.specs.Trees.{Distinct, JoinKind, JoinOperator, Rank, SetOperator, PlanTree, terms}
 
 -- one ask for each key, and one for the end
 alone-most : (keys : List Key) (bar : Option Key) → asked Left (asks_alone keys bar) ≤ suc (length keys)
@@ -54,25 +54,15 @@ module _ (w : World) where
   distinct_child-most number child =
       most-after number (Distinct child) Left number child (λ n. alone-most (keys_of w number child) (bar_of w number (Distinct child) n))
 
-  pub hashed_left-most : (number : ℕ) (left right : PlanTree) (a : ℕ) → asked_of w number (HashJoin left right) a Left ≤ suc (length (list_of w number left))
-  hashed_left-most number left right =
-      most-after number (HashJoin left right) Left number left
-      (λ n. join_left-most key_cmp (merge_key (weights_in w) (terms left) (terms right)) (keys_of w number left) (keys_of w number right) (bar_of w number (HashJoin left right) n))
+  pub left_side-most : (number : ℕ) (kind : JoinKind) (left right : PlanTree) (a : ℕ) → asked_of w number (JoinOperator kind left right) a Left ≤ suc (length (list_of w number left))
+  left_side-most number kind left right =
+      most-after number (JoinOperator kind left right) Left number left
+      (λ n. join_left-most key_cmp (merge_key (weights_in w) (terms left) (terms right)) (keys_of w number left) (keys_of w number right) (bar_of w number (JoinOperator kind left right) n))
 
-  pub hashed_right-most : (number : ℕ) (left right : PlanTree) (a : ℕ) → asked_of w number (HashJoin left right) a Right ≤ suc (length (list_of w number right))
-  hashed_right-most number left right =
-      most-after number (HashJoin left right) Right number right
-      (λ n. join_right-most key_cmp (merge_key (weights_in w) (terms left) (terms right)) (keys_of w number left) (keys_of w number right) (bar_of w number (HashJoin left right) n))
-
-  pub nested_left-most : (number : ℕ) (left right : PlanTree) (a : ℕ) → asked_of w number (NestedJoin left right) a Left ≤ suc (length (list_of w number left))
-  nested_left-most number left right =
-      most-after number (NestedJoin left right) Left number left
-      (λ n. join_left-most key_cmp (merge_key (weights_in w) (terms left) (terms right)) (keys_of w number left) (keys_of w number right) (bar_of w number (NestedJoin left right) n))
-
-  pub nested_right-most : (number : ℕ) (left right : PlanTree) (a : ℕ) → asked_of w number (NestedJoin left right) a Right ≤ suc (length (list_of w number right))
-  nested_right-most number left right =
-      most-after number (NestedJoin left right) Right number right
-      (λ n. join_right-most key_cmp (merge_key (weights_in w) (terms left) (terms right)) (keys_of w number left) (keys_of w number right) (bar_of w number (NestedJoin left right) n))
+  pub right_side-most : (number : ℕ) (kind : JoinKind) (left right : PlanTree) (a : ℕ) → asked_of w number (JoinOperator kind left right) a Right ≤ suc (length (list_of w number right))
+  right_side-most number kind left right =
+      most-after number (JoinOperator kind left right) Right number right
+      (λ n. join_right-most key_cmp (merge_key (weights_in w) (terms left) (terms right)) (keys_of w number left) (keys_of w number right) (bar_of w number (JoinOperator kind left right) n))
 
   pub set_left_side-most : (number : ℕ) (left right : PlanTree) (a : ℕ) → asked_of w number (SetOperator left right) a Left ≤ suc (length (list_of w 1 left))
   set_left_side-most number left right =
