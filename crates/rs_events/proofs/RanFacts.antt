@@ -87,7 +87,7 @@ Done-append first more old middle new one two = record {
 }
 
 pub KeepsEnvironment-refl : (environment : Environment) → KeepsEnvironment environment environment
-KeepsEnvironment-refl environment = record { files = Keeps-refl environment.files; scorer = KeepsScorer-refl environment.scorer; out = Keeps-refl environment.out; err = Keeps-refl environment.err }
+KeepsEnvironment-refl environment = record { files = Keeps-refl environment.files; scorer = KeepsScorer-refl environment.scorer; out = Keeps-refl environment.out; err = Keeps-refl environment.err; behind = refl }
 
 pub KeepsEnvironment-then : (old middle new : Environment) → KeepsEnvironment old middle → KeepsEnvironment middle new → KeepsEnvironment old new
 KeepsEnvironment-then old middle new one two = record {
@@ -95,6 +95,7 @@ KeepsEnvironment-then old middle new one two = record {
   scorer = KeepsScorer-then old.scorer middle.scorer new.scorer one.scorer two.scorer;
   out = Keeps-then old.out middle.out new.out one.out two.out;
   err = Keeps-then old.err middle.err new.err one.err two.err;
+  behind = two.behind ∙ one.behind;
 }
 
 pub HasDone-none : (environment : Environment) → HasDone [] environment environment
@@ -115,7 +116,7 @@ HasDone-files environment files events fetched uncalled unput keeps = record {
     called = subst (λ all. Made all environment.scorer environment.scorer) (sym uncalled) (Made-none environment.scorer);
     put = told-none environment.out.told ∙ ap (λ all. option_map (λ held. held ++ all) environment.out.told) (sym unput);
   };
-  keeps = record { files = keeps; scorer = KeepsScorer-refl environment.scorer; out = Keeps-refl environment.out; err = Keeps-refl environment.err };
+  keeps = record { files = keeps; scorer = KeepsScorer-refl environment.scorer; out = Keeps-refl environment.out; err = Keeps-refl environment.err; behind = refl };
 }
 
 pub HasDone-scorer : (environment : Environment) (scorer : ScorerState) (made : List Call) → Made made environment.scorer scorer → KeepsScorer environment.scorer scorer
@@ -126,7 +127,7 @@ HasDone-scorer environment scorer made called keeps = record {
     called = subst (λ all. Made all environment.scorer scorer) (sym (calls-scores made)) called;
     put = told-none environment.out.told ∙ ap (λ all. option_map (λ held. held ++ all) environment.out.told) (sym (puts-scores made));
   };
-  keeps = record { files = Keeps-refl environment.files; scorer = keeps; out = Keeps-refl environment.out; err = Keeps-refl environment.err };
+  keeps = record { files = Keeps-refl environment.files; scorer = keeps; out = Keeps-refl environment.out; err = Keeps-refl environment.err; behind = refl };
 }
 
 pub HasDone-out : (environment : Environment) (out : Outside (List (List ℕ))) (events : List Event) → out.told ≡ option_map (λ held. held ++ puts events) environment.out.told
@@ -137,7 +138,7 @@ HasDone-out environment out events put unfetched uncalled keeps = record {
     called = subst (λ all. Made all environment.scorer environment.scorer) (sym uncalled) (Made-none environment.scorer);
     put = put;
   };
-  keeps = record { files = Keeps-refl environment.files; scorer = KeepsScorer-refl environment.scorer; out = keeps; err = Keeps-refl environment.err };
+  keeps = record { files = Keeps-refl environment.files; scorer = KeepsScorer-refl environment.scorer; out = keeps; err = Keeps-refl environment.err; behind = refl };
 }
 
 -- all events of a run were done
