@@ -5,12 +5,12 @@
 //! Events, runs, and how far the events of a run were done, are defined here.
 #![tactic(auto)]
 
-mod outside;
 mod file;
 mod halt_fault;
+mod outside;
 mod put;
 
-pub use outside::{Objects, Outside};
 pub use file::fetch_file;
 pub use halt_fault::HaltFault;
+pub use outside::{Objects, Outside};
 pub use put::put_text;

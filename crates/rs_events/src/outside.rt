@@ -9,7 +9,9 @@ use rs_outside::{Files, Sink};
 /// The files, the scorer and the output that a run is given, handed down as one.
 pub trait Outside {
     type Files: Files;
+
     type Scorer: Scorer;
+
     type Out: Sink;
 
     /// The three as contracts see them, beside a standard error that tells nothing.
@@ -55,7 +57,9 @@ pub struct Objects<'f, 's, 'o, F, S, O> {
 
 impl<'f, 's, 'o, F: Files, S: Scorer, O: Sink> Outside for Objects<'f, 's, 'o, F, S, O> {
     type Files = F;
+
     type Scorer = S;
+
     type Out = O;
 
     ghost state = { λ o. record (environment (F.state o.files.now) (S.state o.scorer.now) (O.state o.out.now) (untold 0)) {

@@ -15,13 +15,13 @@ declare-requires g c = record { written = rw c.in-Declare.is at c.requires.writt
 
 pub returns-in-Declare : goal.returns-in-Declare
 returns-in-Declare g c =
-    let finds = finds_in (g.F.Files.state c.args.files.now).told in
-    let answer = (g.S.Scorer.state c.args.scorer.now).answer in
+    let finds = finds_in (g.W.Outside.state c.args.outside.now).files.told in
+    let answer = (g.W.Outside.state c.args.outside.now).scorer.answer in
     let state = state_of c.args.catalog.now (held_in c.args.session.now) in record {
-      does = λ beside. Stepped-is (DoesInSession finds answer c.args.evaluating state (command_of c.args.statement.now))
+      does =  Stepped-is (DoesInSession finds answer c.args.evaluating state (command_of c.args.statement.now))
           (declare_step c.args.evaluating answer state c.in-Declare.name (query_of c.in-Declare.select))
           (state_of c.args.catalog.now (held_in c.declare.new.session)) c.declare.result
-          (record beside { files = g.F.Files.state c.args.files.now; scorer = g.S.Scorer.state c.args.scorer.now; out = g.O.Sink.state c.args.out.now })
+          (g.W.Outside.state c.args.outside.now)
           (record beside { files = g.F.Files.state c.args.files.now; scorer = g.S.Scorer.state c.declare.new.scorer; out = g.O.Sink.state c.args.out.now })
           (does-declare finds answer c.args.evaluating state c.args.statement.now c.in-Declare.name c.in-Declare.select c.in-Declare.is)
           (c.declare.ensures.opens (record beside { files = g.F.Files.state c.args.files.now; out = g.O.Sink.state c.args.out.now }));
@@ -34,13 +34,13 @@ fetch-requires g c = c.requires.asked
 
 pub returns-in-Fetch : goal.returns-in-Fetch
 returns-in-Fetch g c =
-    let finds = finds_in (g.F.Files.state c.args.files.now).told in
-    let answer = (g.S.Scorer.state c.args.scorer.now).answer in
+    let finds = finds_in (g.W.Outside.state c.args.outside.now).files.told in
+    let answer = (g.W.Outside.state c.args.outside.now).scorer.answer in
     let state = state_of c.args.catalog.now (held_in c.args.session.now) in record {
-      does = λ beside. Stepped-is (DoesInSession finds answer c.args.evaluating state (command_of c.args.statement.now))
+      does =  Stepped-is (DoesInSession finds answer c.args.evaluating state (command_of c.args.statement.now))
           (fetch_step answer state c.in-Fetch.count c.in-Fetch.name)
           (state_of c.args.catalog.now (held_in c.fetch.new.session)) c.fetch.result
-          (record beside { files = g.F.Files.state c.args.files.now; scorer = g.S.Scorer.state c.args.scorer.now; out = g.O.Sink.state c.args.out.now })
+          (g.W.Outside.state c.args.outside.now)
           (record beside { files = g.F.Files.state c.args.files.now; scorer = g.S.Scorer.state c.fetch.new.scorer; out = g.O.Sink.state c.fetch.new.out })
           (does-fetch finds answer c.args.evaluating state c.args.statement.now c.in-Fetch.count c.in-Fetch.name c.in-Fetch.is)
           (c.fetch.ensures.puts (record beside { files = g.F.Files.state c.args.files.now }));
@@ -50,12 +50,12 @@ returns-in-Fetch g c =
 
 pub returns-in-Close : goal.returns-in-Close
 returns-in-Close g c =
-    let finds = finds_in (g.F.Files.state c.args.files.now).told in
-    let answer = (g.S.Scorer.state c.args.scorer.now).answer in
+    let finds = finds_in (g.W.Outside.state c.args.outside.now).files.told in
+    let answer = (g.W.Outside.state c.args.outside.now).scorer.answer in
     let state = state_of c.args.catalog.now (held_in c.args.session.now) in record {
-      does = λ beside. Stepped-still (DoesInSession finds answer c.args.evaluating state (command_of c.args.statement.now))
+      does =  Stepped-still (DoesInSession finds answer c.args.evaluating state (command_of c.args.statement.now))
           (close_outcome state c.in-Close.name) (state_of c.args.catalog.now (held_in c.close.new.session)) c.close.result
-          (record beside { files = g.F.Files.state c.args.files.now; scorer = g.S.Scorer.state c.args.scorer.now; out = g.O.Sink.state c.args.out.now })
+          (g.W.Outside.state c.args.outside.now)
           (does-close finds answer c.args.evaluating state c.args.statement.now c.in-Close.name c.in-Close.is)
           (c.close.ensures.closes c.args.catalog.now);
       held = if-ok c.close.result _ c.requires.held;
@@ -71,19 +71,18 @@ run_without_cursor-requires g c = record {
 
 pub returns-in_default : goal.returns-in_default
 returns-in_default g c =
-    let finds = finds_in (g.F.Files.state c.args.files.now).told in
-    let answer = (g.S.Scorer.state c.args.scorer.now).answer in
+    let finds = finds_in (g.W.Outside.state c.args.outside.now).files.told in
+    let answer = (g.W.Outside.state c.args.outside.now).scorer.answer in
     let catalogue = c.args.catalog.now in
     let entries = held_in c.args.session.now in
     let command = command_of c.args.statement.now in
     let next = c.run_without_cursor.new.catalog in
-    let at = environment (g.F.Files.state c.args.files.now) (g.S.Scorer.state c.args.scorer.now) (g.O.Sink.state c.args.out.now) (g.O.Sink.state c.args.out.now) in
     let then = environment (g.F.Files.state c.run_without_cursor.new.files) (g.S.Scorer.state c.run_without_cursor.new.scorer) (g.O.Sink.state c.run_without_cursor.new.out) (g.O.Sink.state c.args.out.now) in
     let larger = c.cursors_stand_in_larger_catalogues.ensures in record {
-      does = λ beside. Stepped-beside finds answer c.args.evaluating (state_of catalogue entries) command next c.run_without_cursor.result
-          (record beside { files = g.F.Files.state c.args.files.now; scorer = g.S.Scorer.state c.args.scorer.now; out = g.O.Sink.state c.args.out.now })
-          (record beside { files = g.F.Files.state c.run_without_cursor.new.files; scorer = g.S.Scorer.state c.run_without_cursor.new.scorer; out = g.O.Sink.state c.run_without_cursor.new.out })
-          (of_no_cursor c.args.statement.now c.in_default.not-Declare c.in_default.not-Fetch c.in_default.not-Close) (c.run_without_cursor.ensures beside);
+      does =  Stepped-beside finds answer c.args.evaluating (state_of catalogue entries) command next c.run_without_cursor.result
+          (g.W.Outside.state c.args.outside.now)
+          (g.W.Outside.state c.run_without_cursor.new.outside)
+          (of_no_cursor c.args.statement.now c.in_default.not-Declare c.in_default.not-Fetch c.in_default.not-Close) c.run_without_cursor.ensures;
       held = if-stepped (Does finds answer c.args.evaluating catalogue command) next c.run_without_cursor.result at then (IndexesHold answer next) (c.run_without_cursor.ensures at)
           (λ step does leaves. held-step answer catalogue finds c.args.evaluating command step next c.requires.held c.requires.written does leaves);
       asked = if-stepped (Does finds answer c.args.evaluating catalogue command) next c.run_without_cursor.result at then (CanAllBeAsked answer next entries) (c.run_without_cursor.ensures at)

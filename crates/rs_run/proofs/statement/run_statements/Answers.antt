@@ -12,15 +12,15 @@ use Rattle.rs_run.proofs.statement.run_statements.Goals as goal
 
 pub loop-statement-init : goal.loop-statement-init
 loop-statement-init g c =
-    let answer = (g.S.Scorer.state c.args.scorer.now).answer in
+    let answer = (g.W.Outside.state c.args.outside.now).scorer.answer in
     let starts : nothing ≡ state_of c.new-catalog.result (held_in c.new-session.result) = λ i. record {
       catalogue = sym c.new-catalog.ensures i;
       cursors = cursors_of (sym c.new-session.ensures i);
     } in record {
-      between = λ beside. subst (λ state. Between (DoesInSession (finds_in (g.F.Files.state c.args.files.now).told) answer c.args.evaluating) nothing (commands_of c.args.statements.now) 0 state
-          (record beside { files = g.F.Files.state c.args.files.now; scorer = g.S.Scorer.state c.args.scorer.now; out = g.O.Sink.state c.args.out.now }) (record beside { files = g.F.Files.state c.args.files.now; scorer = g.S.Scorer.state c.args.scorer.now; out = g.O.Sink.state c.args.out.now }))
+      between =  subst (λ state. Between (DoesInSession (finds_in (g.W.Outside.state c.args.outside.now).files.told) answer c.args.evaluating) nothing (commands_of c.args.statements.now) 0 state
+          (g.W.Outside.state c.args.outside.now) (g.W.Outside.state c.args.outside.now))
           starts
-          (Between-start (DoesInSession (finds_in (g.F.Files.state c.args.files.now).told) answer c.args.evaluating) nothing (commands_of c.args.statements.now) (record beside { files = g.F.Files.state c.args.files.now; scorer = g.S.Scorer.state c.args.scorer.now; out = g.O.Sink.state c.args.out.now }));
+          (Between-start (DoesInSession (finds_in (g.W.Outside.state c.args.outside.now).files.told) answer c.args.evaluating) nothing (commands_of c.args.statements.now) (g.W.Outside.state c.args.outside.now));
       statements_same = refl;
       held = subst (IndexesHold answer) (sym c.new-catalog.ensures) tt;
       asked = subst (CanAllBeAsked answer c.new-catalog.result) (sym c.new-session.ensures) tt;
@@ -35,39 +35,37 @@ run_statement-requires g c =
     }
 
 pub returns-in-Err : goal.returns-in-Err
-returns-in-Err g c = λ beside. Runs-stops (DoesInSession (finds_in (g.F.Files.state c.args.files.now).told) (g.S.Scorer.state c.args.scorer.now).answer c.args.evaluating) nothing (commands_of c.args.statements.now)
+returns-in-Err g c =  Runs-stops (DoesInSession (finds_in (g.W.Outside.state c.args.outside.now).files.told) (g.W.Outside.state c.args.outside.now).scorer.answer c.args.evaluating) nothing (commands_of c.args.statements.now)
     (drop (suc c.loop-statement.statement-index) (commands_of c.args.statements.now)) (command_of c.statement-item.result) c.loop-statement.statement-index (state_of c.loop-statement.catalog (held_in c.loop-statement.session)) (state_of c.run_statement.new.catalog (held_in c.run_statement.new.session))
-    (record beside { files = g.F.Files.state c.args.files.now; scorer = g.S.Scorer.state c.args.scorer.now; out = g.O.Sink.state c.args.out.now }) (record beside { files = g.F.Files.state c.loop-statement.files; scorer = g.S.Scorer.state c.loop-statement.scorer; out = g.O.Sink.state c.loop-statement.out }) (record beside { files = g.F.Files.state c.run_statement.new.files; scorer = g.S.Scorer.state c.run_statement.new.scorer; out = g.O.Sink.state c.run_statement.new.out })
-    (c.loop-statement.invariant.between beside)
+    (g.W.Outside.state c.args.outside.now) (g.W.Outside.state c.loop-statement.outside) (g.W.Outside.state c.run_statement.new.outside)
+    c.loop-statement.invariant.between
     (drop-at command_of c.args.statements.now c.loop-statement.statement-index c.statement-item.result c.loop-statement-test.true c.statement-item.is)
-    (some-step (g.F.Files.state c.args.files.now).told (g.S.Scorer.state c.args.scorer.now).answer c.args.evaluating)
+    (some-step (g.W.Outside.state c.args.outside.now).files.told (g.W.Outside.state c.args.outside.now).scorer.answer c.args.evaluating)
     c.in-Err.fault
-    (Stepped-first (c.loop-statement.invariant.between beside).made c.args.evaluating (state_of c.loop-statement.catalog (held_in c.loop-statement.session)) (state_of c.run_statement.new.catalog (held_in c.run_statement.new.session))
-    (command_of c.statement-item.result) (Err c.in-Err.fault) (record beside { files = g.F.Files.state c.args.files.now; scorer = g.S.Scorer.state c.args.scorer.now; out = g.O.Sink.state c.args.out.now })
-    (record beside { files = g.F.Files.state c.loop-statement.files; scorer = g.S.Scorer.state c.loop-statement.scorer; out = g.O.Sink.state c.loop-statement.out }) (record beside { files = g.F.Files.state c.run_statement.new.files; scorer = g.S.Scorer.state c.run_statement.new.scorer; out = g.O.Sink.state c.run_statement.new.out })
-    (c.loop-statement.invariant.between beside).has (c.in-Err.ensures.does beside))
+    (Stepped-first c.loop-statement.invariant.between.made c.args.evaluating (state_of c.loop-statement.catalog (held_in c.loop-statement.session)) (state_of c.run_statement.new.catalog (held_in c.run_statement.new.session))
+    (command_of c.statement-item.result) (Err c.in-Err.fault) (g.W.Outside.state c.args.outside.now)
+    (g.W.Outside.state c.loop-statement.outside) (g.W.Outside.state c.run_statement.new.outside)
+    c.loop-statement.invariant.between.has c.in-Err.ensures.does)
 
 pub loop-statement-preserved : goal.loop-statement-preserved
 loop-statement-preserved g c = record {
-  between = λ beside. Between-next (DoesInSession (finds_in (g.F.Files.state c.args.files.now).told) (g.S.Scorer.state c.args.scorer.now).answer c.args.evaluating) nothing (commands_of c.args.statements.now)
+  between =  Between-next (DoesInSession (finds_in (g.W.Outside.state c.args.outside.now).files.told) (g.W.Outside.state c.args.outside.now).scorer.answer c.args.evaluating) nothing (commands_of c.args.statements.now)
       (drop (suc c.loop-statement.statement-index) (commands_of c.args.statements.now)) (command_of c.statement-item.result) c.loop-statement.statement-index (state_of c.loop-statement.catalog (held_in c.loop-statement.session)) (state_of c.run_statement.new.catalog (held_in c.run_statement.new.session))
-      (record beside { files = g.F.Files.state c.args.files.now; scorer = g.S.Scorer.state c.args.scorer.now; out = g.O.Sink.state c.args.out.now }) (record beside { files = g.F.Files.state c.loop-statement.files; scorer = g.S.Scorer.state c.loop-statement.scorer; out = g.O.Sink.state c.loop-statement.out }) (record beside { files = g.F.Files.state c.run_statement.new.files; scorer = g.S.Scorer.state c.run_statement.new.scorer; out = g.O.Sink.state c.run_statement.new.out })
-      (c.loop-statement.invariant.between beside)
+      (g.W.Outside.state c.args.outside.now) (g.W.Outside.state c.loop-statement.outside) (g.W.Outside.state c.run_statement.new.outside)
+      c.loop-statement.invariant.between
       (drop-at command_of c.args.statements.now c.loop-statement.statement-index c.statement-item.result c.loop-statement-test.true c.statement-item.is)
       (c.loop-statement.statement-index + 1) (omega arith) refl
-      (Stepped-first (c.loop-statement.invariant.between beside).made c.args.evaluating (state_of c.loop-statement.catalog (held_in c.loop-statement.session)) (state_of c.run_statement.new.catalog (held_in c.run_statement.new.session))
-      (command_of c.statement-item.result) (Ok tt) (record beside { files = g.F.Files.state c.args.files.now; scorer = g.S.Scorer.state c.args.scorer.now; out = g.O.Sink.state c.args.out.now })
-      (record beside { files = g.F.Files.state c.loop-statement.files; scorer = g.S.Scorer.state c.loop-statement.scorer; out = g.O.Sink.state c.loop-statement.out }) (record beside { files = g.F.Files.state c.run_statement.new.files; scorer = g.S.Scorer.state c.run_statement.new.scorer; out = g.O.Sink.state c.run_statement.new.out })
-      (c.loop-statement.invariant.between beside).has (c.in-Ok.ensures.does beside));
+      (Stepped-first c.loop-statement.invariant.between.made c.args.evaluating (state_of c.loop-statement.catalog (held_in c.loop-statement.session)) (state_of c.run_statement.new.catalog (held_in c.run_statement.new.session))
+      (command_of c.statement-item.result) (Ok tt) (g.W.Outside.state c.args.outside.now)
+      (g.W.Outside.state c.loop-statement.outside) (g.W.Outside.state c.run_statement.new.outside)
+      c.loop-statement.invariant.between.has c.in-Ok.ensures.does);
   statements_same = refl;
-  held = (let at = environment (g.F.Files.state c.loop-statement.files) (g.S.Scorer.state c.loop-statement.scorer) (g.O.Sink.state c.loop-statement.out) (g.O.Sink.state c.loop-statement.out) in
-      subst (λ answer. IndexesHold answer c.run_statement.new.catalog) (c.loop-statement.invariant.between at).has.keeps.scorer.answer c.in-Ok.ensures.held);
-  asked = (let at = environment (g.F.Files.state c.loop-statement.files) (g.S.Scorer.state c.loop-statement.scorer) (g.O.Sink.state c.loop-statement.out) (g.O.Sink.state c.loop-statement.out) in
-      subst (λ answer. CanAllBeAsked answer c.run_statement.new.catalog (held_in c.run_statement.new.session)) (c.loop-statement.invariant.between at).has.keeps.scorer.answer
+  held = (      subst (λ answer. IndexesHold answer c.run_statement.new.catalog) (c.loop-statement.invariant.between at).has.keeps.scorer.answer c.in-Ok.ensures.held);
+  asked = (      subst (λ answer. CanAllBeAsked answer c.run_statement.new.catalog (held_in c.run_statement.new.session)) (c.loop-statement.invariant.between at).has.keeps.scorer.answer
       c.in-Ok.ensures.asked);
 }
 
 pub returns : goal.returns
-returns g c = λ beside. Runs-all (DoesInSession (finds_in (g.F.Files.state c.args.files.now).told) (g.S.Scorer.state c.args.scorer.now).answer c.args.evaluating) nothing (commands_of c.args.statements.now) c.loop-statement.statement-index (state_of c.loop-statement.catalog (held_in c.loop-statement.session))
-    (record beside { files = g.F.Files.state c.args.files.now; scorer = g.S.Scorer.state c.args.scorer.now; out = g.O.Sink.state c.args.out.now }) (record beside { files = g.F.Files.state c.loop-statement.files; scorer = g.S.Scorer.state c.loop-statement.scorer; out = g.O.Sink.state c.loop-statement.out })
-    (drop-all command_of c.args.statements.now c.loop-statement.statement-index c.loop-statement-test.false) (c.loop-statement.invariant.between beside)
+returns g c =  Runs-all (DoesInSession (finds_in (g.W.Outside.state c.args.outside.now).files.told) (g.W.Outside.state c.args.outside.now).scorer.answer c.args.evaluating) nothing (commands_of c.args.statements.now) c.loop-statement.statement-index (state_of c.loop-statement.catalog (held_in c.loop-statement.session))
+    (g.W.Outside.state c.args.outside.now) (g.W.Outside.state c.loop-statement.outside)
+    (drop-all command_of c.args.statements.now c.loop-statement.statement-index c.loop-statement-test.false) c.loop-statement.invariant.between

@@ -27,18 +27,18 @@ use Rattle.rs_events.proofs.SteppedFacts.{Stepped-lines, Stepped-no_memory}
 use Rattle.rs_statement.proofs.analyzed.analyze_planned.Goals as goal
 
 pub returns-in_err-query : goal.returns-in_err-query
-returns-in_err-query g c = λ beside. rw (given-err c.from_residual.result (bind_fault c.in_err-query.field-0.0) c.from_residual.ensures) (
-    Stepped-refused (analyzed_step (g.S.Scorer.state c.args.scorer.now).answer c.args.catalog.now c.args.seed)
+returns-in_err-query g c =  rw (given-err c.from_residual.result (bind_fault c.in_err-query.field-0.0) c.from_residual.ensures) (
+    Stepped-refused (analyzed_step (g.W.Outside.state c.args.outside.now).scorer.answer c.args.catalog.now c.args.seed)
     (or_bind_fault (bound_query c.args.catalog.now (query_of c.args.select.now))) (bind_fault c.in_err-query.field-0.0) c.args.catalog.now
-    (record beside { scorer = g.S.Scorer.state c.args.scorer.now; out = g.O.Sink.state c.args.out.now }) (Gives-unbound _ _ _ c.in_err-query.ensures.gives refl))
+    (g.W.Outside.state c.args.outside.now) (Gives-unbound _ _ _ c.in_err-query.ensures.gives refl))
 
 pub returns-in-Err : goal.returns-in-Err
-returns-in-Err g c = λ beside.
-    let answer = (g.S.Scorer.state c.args.scorer.now).answer in
+returns-in-Err g c = 
+    let answer = (g.W.Outside.state c.args.outside.now).scorer.answer in
     let catalogue = c.args.catalog.now in
     Sampled-broken catalogue c.args.seed (analyzing answer catalogue c.args.seed)
     (or_bind_fault (bound_query catalogue (query_of c.args.select.now))) c.in_ok-query.query (Gives-bound _ _ c.in_ok-query.ensures.gives)
-    (record beside { scorer = g.S.Scorer.state c.args.scorer.now; out = g.O.Sink.state c.args.out.now })
+    (g.W.Outside.state c.args.outside.now)
     (record beside { scorer = g.S.Scorer.state c.take_sample.new.scorer; out = g.O.Sink.state c.args.out.now }) c.in-Err.fault
     (c.in-Err.ensures.calls (record beside { out = g.O.Sink.state c.args.out.now }))
 
@@ -49,14 +49,14 @@ choose_plan-requires g c = record {
 }
 
 pub returns-in-Err-choose_plan : goal.returns-in-Err-choose_plan
-returns-in-Err-choose_plan g c = λ beside.
-    let answer = (g.S.Scorer.state c.args.scorer.now).answer in
+returns-in-Err-choose_plan g c = 
+    let answer = (g.W.Outside.state c.args.outside.now).scorer.answer in
     let catalogue = c.args.catalog.now in
     let query = c.in_ok-query.query in
     let middle = record beside { scorer = g.S.Scorer.state c.take_sample.new.scorer; out = g.O.Sink.state c.args.out.now } in
     let rest = analyzing answer catalogue c.args.seed in
     Sampled-then catalogue c.args.seed rest (or_bind_fault (bound_query catalogue (query_of c.args.select.now))) query (Gives-bound _ _ c.in_ok-query.ensures.gives)
-    (record beside { scorer = g.S.Scorer.state c.args.scorer.now; out = g.O.Sink.state c.args.out.now }) middle (Err Memory) middle
+    (g.W.Outside.state c.args.outside.now) middle (Err Memory) middle
     (c.in-Ok.ensures.calls (record beside { out = g.O.Sink.state c.args.out.now }))
     (Stepped-no_memory (λ step. step ≡ rest query) (rest query) catalogue middle refl)
 
@@ -71,8 +71,8 @@ asked_text-told-requires g c =
 
 -- what was asked and told, over the answers that the scorer had at first and by the plan of the query
 pub returns-in_err-text : goal.returns-in_err-text
-returns-in_err-text g c = λ beside.
-    let answer = (g.S.Scorer.state c.args.scorer.now).answer in
+returns-in_err-text g c = 
+    let answer = (g.W.Outside.state c.args.outside.now).scorer.answer in
     let catalogue = c.args.catalog.now in
     let query = c.in_ok-query.query in
     let fault = c.in_err-text.field-0.0 in
@@ -83,14 +83,14 @@ returns-in_err-text g c = λ beside.
     rw (given-err c.from_residual-in_err-text.result fault c.from_residual-in_err-text.ensures) (
     Sampled-then catalogue c.args.seed (analyzing answer catalogue c.args.seed) (or_bind_fault (bound_query catalogue (query_of c.args.select.now))) query
     (Gives-bound _ _ c.in_ok-query.ensures.gives)
-    (record beside { scorer = g.S.Scorer.state c.args.scorer.now; out = g.O.Sink.state c.args.out.now }) new (Err fault) middle sampled
+    (g.W.Outside.state c.args.outside.now) new (Err fault) middle sampled
     (Stepped-broken (silent (planned_step (world_of catalogue answer query) (plan_for answer catalogue c.args.seed query))) (analyzed_lines answer catalogue c.args.seed query) fault catalogue catalogue middle new
     (same-asks catalogue query answer (g.S.Scorer.state c.take_sample.new.scorer).answer (plan_for answer catalogue c.args.seed query) (tree_of c.in-Ok-choose_plan.plan) (Err fault) middle new
     sampled.ran.keeps.scorer.answer tree (c.in_err-text.ensures.asks (record beside { out = g.O.Sink.state c.args.out.now })))))
 
 pub returns : goal.returns
-returns g c = λ beside.
-    let answer = (g.S.Scorer.state c.args.scorer.now).answer in
+returns g c = 
+    let answer = (g.W.Outside.state c.args.outside.now).scorer.answer in
     let here = (g.S.Scorer.state c.take_sample.new.scorer).answer in
     let catalogue = c.args.catalog.now in
     let query = c.in_ok-query.query in
@@ -113,7 +113,7 @@ returns g c = λ beside.
     ∙ ap (λ t. text_of catalogue query cards t (Some (counts_of_plan w t (asks_in_all w t)))) tree in
     Sampled-then catalogue c.args.seed (analyzing answer catalogue c.args.seed) (or_bind_fault (bound_query catalogue (query_of c.args.select.now))) query
     (Gives-bound _ _ c.in_ok-query.ensures.gives)
-    (record beside { scorer = g.S.Scorer.state c.args.scorer.now; out = g.O.Sink.state c.args.out.now }) new c.put_text.result middle sampled
+    (g.W.Outside.state c.args.outside.now) new c.put_text.result middle sampled
     (Stepped-then (silent (planned_step w plan)) (analyzed_lines answer catalogue c.args.seed query) catalogue catalogue c.put_text.result middle asked new
     (same-asks catalogue query answer here plan own (Ok tt) middle asked same tree (c.in_ok-text.ensures.asks (record beside { out = g.O.Sink.state c.args.out.now })))
     (Stepped-lines (text_of catalogue query cards plan (Some (counts_of_plan w plan (asks_in_all w plan))) ∷ []) catalogue c.put_text.result asked new

@@ -22,18 +22,18 @@ use Rattle.rs_events.proofs.SteppedFacts.{Stepped-lines, Stepped-no_memory}
 use Rattle.rs_statement.proofs.explained.explain_planned.Goals as goal
 
 pub returns-in_err-query : goal.returns-in_err-query
-returns-in_err-query g c = λ beside. rw (given-err c.from_residual.result (bind_fault c.in_err-query.field-0.0) c.from_residual.ensures) (
-    Stepped-refused (explained_step (g.S.Scorer.state c.args.scorer.now).answer c.args.catalog.now c.args.seed)
+returns-in_err-query g c =  rw (given-err c.from_residual.result (bind_fault c.in_err-query.field-0.0) c.from_residual.ensures) (
+    Stepped-refused (explained_step (g.W.Outside.state c.args.outside.now).scorer.answer c.args.catalog.now c.args.seed)
     (or_bind_fault (bound_query c.args.catalog.now (query_of c.args.select.now))) (bind_fault c.in_err-query.field-0.0) c.args.catalog.now
-    (record beside { scorer = g.S.Scorer.state c.args.scorer.now; out = g.O.Sink.state c.args.out.now }) (Gives-unbound _ _ _ c.in_err-query.ensures.gives refl))
+    (g.W.Outside.state c.args.outside.now) (Gives-unbound _ _ _ c.in_err-query.ensures.gives refl))
 
 pub returns-in-Err : goal.returns-in-Err
-returns-in-Err g c = λ beside.
-    let answer = (g.S.Scorer.state c.args.scorer.now).answer in
+returns-in-Err g c = 
+    let answer = (g.W.Outside.state c.args.outside.now).scorer.answer in
     let catalogue = c.args.catalog.now in
     Sampled-broken catalogue c.args.seed (λ query. lines_step (text_of catalogue query (cards_for answer catalogue c.args.seed query) (plan_for answer catalogue c.args.seed query) None ∷ []) catalogue)
     (or_bind_fault (bound_query catalogue (query_of c.args.select.now))) c.in_ok-query.query (Gives-bound _ _ c.in_ok-query.ensures.gives)
-    (record beside { scorer = g.S.Scorer.state c.args.scorer.now; out = g.O.Sink.state c.args.out.now })
+    (g.W.Outside.state c.args.outside.now)
     (record beside { scorer = g.S.Scorer.state c.take_sample.new.scorer; out = g.O.Sink.state c.args.out.now }) c.in-Err.fault
     (c.in-Err.ensures.calls (record beside { out = g.O.Sink.state c.args.out.now }))
 
@@ -44,14 +44,14 @@ choose_plan-requires g c = record {
 }
 
 pub returns-in-Err-choose_plan : goal.returns-in-Err-choose_plan
-returns-in-Err-choose_plan g c = λ beside.
-    let answer = (g.S.Scorer.state c.args.scorer.now).answer in
+returns-in-Err-choose_plan g c = 
+    let answer = (g.W.Outside.state c.args.outside.now).scorer.answer in
     let catalogue = c.args.catalog.now in
     let query = c.in_ok-query.query in
     let middle = record beside { scorer = g.S.Scorer.state c.take_sample.new.scorer; out = g.O.Sink.state c.args.out.now } in
     let rest : Query → Step CatalogDef = λ query. lines_step (text_of catalogue query (cards_for answer catalogue c.args.seed query) (plan_for answer catalogue c.args.seed query) None ∷ []) catalogue in
     Sampled-then catalogue c.args.seed rest (or_bind_fault (bound_query catalogue (query_of c.args.select.now))) query (Gives-bound _ _ c.in_ok-query.ensures.gives)
-    (record beside { scorer = g.S.Scorer.state c.args.scorer.now; out = g.O.Sink.state c.args.out.now }) middle (Err Memory) middle
+    (g.W.Outside.state c.args.outside.now) middle (Err Memory) middle
     (c.in-Ok.ensures.calls (record beside { out = g.O.Sink.state c.args.out.now }))
     (Stepped-no_memory (λ step. step ≡ rest query) (rest query) catalogue middle refl)
 
@@ -59,21 +59,21 @@ pub explain-told-requires : goal.explain-told-requires
 explain-told-requires g c = record { query = c.in_ok-query.ensures.formed; cards = c.in-Ok.ensures.own; plan = c.in-Ok-choose_plan.ensures.plan; counts = tt }
 
 pub returns-in_err-text : goal.returns-in_err-text
-returns-in_err-text g c = λ beside.
-    let answer = (g.S.Scorer.state c.args.scorer.now).answer in
+returns-in_err-text g c = 
+    let answer = (g.W.Outside.state c.args.outside.now).scorer.answer in
     let catalogue = c.args.catalog.now in
     let query = c.in_ok-query.query in
     let middle = record beside { scorer = g.S.Scorer.state c.take_sample.new.scorer; out = g.O.Sink.state c.args.out.now } in
     let rest : Query → Step CatalogDef = λ query. lines_step (text_of catalogue query (cards_for answer catalogue c.args.seed query) (plan_for answer catalogue c.args.seed query) None ∷ []) catalogue in
     rw (given-err c.from_residual-in_err-text.result Memory c.from_residual-in_err-text.ensures) (
     Sampled-then catalogue c.args.seed rest (or_bind_fault (bound_query catalogue (query_of c.args.select.now))) query (Gives-bound _ _ c.in_ok-query.ensures.gives)
-    (record beside { scorer = g.S.Scorer.state c.args.scorer.now; out = g.O.Sink.state c.args.out.now }) middle (Err Memory) middle
+    (g.W.Outside.state c.args.outside.now) middle (Err Memory) middle
     (c.in-Ok.ensures.calls (record beside { out = g.O.Sink.state c.args.out.now }))
     (Stepped-no_memory (λ step. step ≡ rest query) (rest query) catalogue middle refl))
 
 pub returns : goal.returns
-returns g c = λ beside.
-    let answer = (g.S.Scorer.state c.args.scorer.now).answer in
+returns g c = 
+    let answer = (g.W.Outside.state c.args.outside.now).scorer.answer in
     let catalogue = c.args.catalog.now in
     let query = c.in_ok-query.query in
     let cards = cards_for answer catalogue c.args.seed query in
@@ -88,7 +88,7 @@ returns g c = λ beside.
     ∙ ap (λ t. text_of catalogue query cards t None) tree in
     Sampled-then catalogue c.args.seed (λ query. lines_step (text_of catalogue query (cards_for answer catalogue c.args.seed query) (plan_for answer catalogue c.args.seed query) None ∷ []) catalogue)
     (or_bind_fault (bound_query catalogue (query_of c.args.select.now))) query (Gives-bound _ _ c.in_ok-query.ensures.gives)
-    (record beside { scorer = g.S.Scorer.state c.args.scorer.now; out = g.O.Sink.state c.args.out.now }) new c.put_text.result middle
+    (g.W.Outside.state c.args.outside.now) new c.put_text.result middle
     (c.in-Ok.ensures.calls (record beside { out = g.O.Sink.state c.args.out.now }))
     (Stepped-lines (text_of catalogue query cards plan None ∷ []) catalogue c.put_text.result middle new
     (subst (λ t. Ran (lines_run (t ∷ [])) c.put_text.result middle new) text (c.put_text.ensures (record beside { scorer = g.S.Scorer.state c.take_sample.new.scorer }))))

@@ -14,20 +14,20 @@ use Rattle.rs_events.proofs.RanFacts.{HasDone-none, Ran-all}
 use Rattle.rs_statement.proofs.planned.put_next.Goals as goal
 
 pub rank_of-requires : goal.rank_of-requires
-rank_of-requires g c = (c.args.catalog.now, (g.S.Scorer.state c.args.scorer.now).answer, c.in-Ok-Some.ensures.stands)
+rank_of-requires g c = (c.args.catalog.now, (g.W.Outside.state c.args.outside.now).scorer.answer, c.in-Ok-Some.ensures.stands)
 
 pub ask_fault-requires : goal.ask_fault-requires
 ask_fault-requires g c =
-    names-call c.args.catalog.now (g.S.Scorer.state c.args.scorer.now).answer c.args.cursor.now c.in-Err.why (g.S.Scorer.state c.args.scorer.now) (g.S.Scorer.state c.next.new.scorer)
+    names-call c.args.catalog.now (g.W.Outside.state c.args.outside.now).scorer.answer c.args.cursor.now c.in-Err.why (g.S.Scorer.state c.args.scorer.now) (g.S.Scorer.state c.next.new.scorer)
     c.requires.stands c.in-Err.ensures.asks
 
 pub returns-in-Err : goal.returns-in-Err
 returns-in-Err g c = record {
-  puts = λ beside. Stepped-unasked (given_lines (suc (asks_of c.args.cursor.now))) (ask_outcome c.args.catalog.now) exec.Memory
-      (call_of c.args.catalog.now (g.S.Scorer.state c.args.scorer.now).answer c.args.cursor.now) c.args.catalog.now
-      (record beside { scorer = g.S.Scorer.state c.args.scorer.now; out = g.O.Sink.state c.args.out.now }) (g.S.Scorer.state c.next.new.scorer)
+  puts =  Stepped-unasked (given_lines (suc (asks_of c.args.cursor.now))) (ask_outcome c.args.catalog.now) exec.Memory
+      (call_of c.args.catalog.now (g.W.Outside.state c.args.outside.now).scorer.answer c.args.cursor.now) c.args.catalog.now
+      (g.W.Outside.state c.args.outside.now) (g.S.Scorer.state c.next.new.scorer)
       (ask_fault c.args.catalog.now) c.in-Err.why c.ask_fault.result refl refl refl
-      (probes-call c.args.catalog.now (g.S.Scorer.state c.args.scorer.now).answer c.args.cursor.now) c.in-Err.ensures.asks c.ask_fault.ensures;
+      (probes-call c.args.catalog.now (g.W.Outside.state c.args.outside.now).scorer.answer c.args.cursor.now) c.in-Err.ensures.asks c.ask_fault.ensures;
   more = λ e. absurd cc;
   count = tt;
   over = λ e. absurd cc;
@@ -40,34 +40,34 @@ pub returns-in-Ok-None : goal.returns-in-Ok-None
 returns-in-Ok-None g c =
     let asks = rw c.in-Ok-None.field-0-is at c.in-Ok-None.ensures.asks in
     let at : IsAt c.args.cursor.now.query (plan_of c.args.cursor.now)
-    (asks_after (world_of c.args.catalog.now (g.S.Scorer.state c.args.scorer.now).answer c.args.cursor.now.query) (plan_of c.args.cursor.now) (asks_of c.args.cursor.now)) c.next.new.self =
+    (asks_after (world_of c.args.catalog.now (g.W.Outside.state c.args.outside.now).scorer.answer c.args.cursor.now.query) (plan_of c.args.cursor.now) (asks_of c.args.cursor.now)) c.next.new.self =
     record { query_is = c.next.ensures.query; plan_is = c.in-Ok-None.ensures.plan; asks_are = c.in-Ok-None.ensures.count } in record {
-      puts = λ beside. Stepped-asked (given_lines (suc (asks_of c.args.cursor.now))) (ask_outcome c.args.catalog.now) exec.Memory
-          (call_of c.args.catalog.now (g.S.Scorer.state c.args.scorer.now).answer c.args.cursor.now) c.args.catalog.now
-          (record beside { scorer = g.S.Scorer.state c.args.scorer.now; out = g.O.Sink.state c.args.out.now }) (g.S.Scorer.state c.next.new.scorer)
+      puts =  Stepped-asked (given_lines (suc (asks_of c.args.cursor.now))) (ask_outcome c.args.catalog.now) exec.Memory
+          (call_of c.args.catalog.now (g.W.Outside.state c.args.outside.now).scorer.answer c.args.cursor.now) c.args.catalog.now
+          (g.W.Outside.state c.args.outside.now) (g.S.Scorer.state c.next.new.scorer)
           None (Ok tt) (record beside { scorer = g.S.Scorer.state c.next.new.scorer; out = g.O.Sink.state c.args.out.now }) refl asks
           (Ran-all (lines_run []) (Ok tt) _ _ (HasDone-none (record beside { scorer = g.S.Scorer.state c.next.new.scorer; out = g.O.Sink.state c.args.out.now })) refl);
       more = λ e. absurd cc;
       count = at;
-      over = λ e. over-call c.args.catalog.now (g.S.Scorer.state c.args.scorer.now).answer c.args.cursor.now c.requires.stands c.next.new.self
+      over = λ e. over-call c.args.catalog.now (g.W.Outside.state c.args.outside.now).scorer.answer c.args.cursor.now c.requires.stands c.next.new.self
           (g.S.Scorer.state c.args.scorer.now) (g.S.Scorer.state c.next.new.scorer) asks at c.in-Ok-None.ensures.stands;
       stands = c.in-Ok-None.ensures.stands;
       left = λ e. absurd cc;
-      end = λ e. ended-call c.args.catalog.now (g.S.Scorer.state c.args.scorer.now).answer c.args.cursor.now c.requires.stands
+      end = λ e. ended-call c.args.catalog.now (g.W.Outside.state c.args.outside.now).scorer.answer c.args.cursor.now c.requires.stands
           (g.S.Scorer.state c.args.scorer.now) (g.S.Scorer.state c.next.new.scorer) asks;
     }
 
 pub returns-in_err-put_row-in-Ok-Some : goal.returns-in_err-put_row-in-Ok-Some
 returns-in_err-put_row-in-Ok-Some g c =
     let catalogue = c.args.catalog.now in
-    let answer = (g.S.Scorer.state c.args.scorer.now).answer in
+    let answer = (g.W.Outside.state c.args.outside.now).scorer.answer in
     let cursor = c.args.cursor.now in
     let asks = rw c.in-Ok-Some.field-0-is at c.in-Ok-Some.ensures.asks in
     let given = given-call catalogue answer cursor c.requires.stands c.in-Ok-Some.row c.next.new.self (g.S.Scorer.state c.args.scorer.now) (g.S.Scorer.state c.next.new.scorer)
     asks c.next.ensures.query c.in-Ok-Some.ensures.plan c.in-Ok-Some.ensures.count in
     rw (given-err c.from_residual.result c.in_err-put_row-in-Ok-Some.field-0.0 c.from_residual.ensures) (record {
-      puts = λ beside. Stepped-row catalogue answer cursor c.in-Ok-Some.row c.rank_of.result (Err c.in_err-put_row-in-Ok-Some.field-0.0)
-          (record beside { scorer = g.S.Scorer.state c.args.scorer.now; out = g.O.Sink.state c.args.out.now })
+      puts =  Stepped-row catalogue answer cursor c.in-Ok-Some.row c.rank_of.result (Err c.in_err-put_row-in-Ok-Some.field-0.0)
+          (g.W.Outside.state c.args.outside.now)
           (record beside { scorer = g.S.Scorer.state c.next.new.scorer; out = g.O.Sink.state c.put_row.new.out }) (g.S.Scorer.state c.next.new.scorer)
           (c.rank_of.ensures catalogue answer c.in-Ok-Some.ensures.stands ∙ given.rank) asks
           (c.in_err-put_row-in-Ok-Some.ensures (record beside { scorer = g.S.Scorer.state c.next.new.scorer }));
@@ -82,13 +82,13 @@ returns-in_err-put_row-in-Ok-Some g c =
 pub returns-in_ok-put_row-in-Ok-Some : goal.returns-in_ok-put_row-in-Ok-Some
 returns-in_ok-put_row-in-Ok-Some g c =
     let catalogue = c.args.catalog.now in
-    let answer = (g.S.Scorer.state c.args.scorer.now).answer in
+    let answer = (g.W.Outside.state c.args.outside.now).scorer.answer in
     let cursor = c.args.cursor.now in
     let asks = rw c.in-Ok-Some.field-0-is at c.in-Ok-Some.ensures.asks in
     let given = given-call catalogue answer cursor c.requires.stands c.in-Ok-Some.row c.next.new.self (g.S.Scorer.state c.args.scorer.now) (g.S.Scorer.state c.next.new.scorer)
     asks c.next.ensures.query c.in-Ok-Some.ensures.plan c.in-Ok-Some.ensures.count in record {
-      puts = λ beside. Stepped-row catalogue answer cursor c.in-Ok-Some.row c.rank_of.result (Ok tt)
-          (record beside { scorer = g.S.Scorer.state c.args.scorer.now; out = g.O.Sink.state c.args.out.now })
+      puts =  Stepped-row catalogue answer cursor c.in-Ok-Some.row c.rank_of.result (Ok tt)
+          (g.W.Outside.state c.args.outside.now)
           (record beside { scorer = g.S.Scorer.state c.next.new.scorer; out = g.O.Sink.state c.put_row.new.out }) (g.S.Scorer.state c.next.new.scorer)
           (c.rank_of.ensures catalogue answer c.in-Ok-Some.ensures.stands ∙ given.rank) asks
           (c.in_ok-put_row-in-Ok-Some.ensures (record beside { scorer = g.S.Scorer.state c.next.new.scorer }));

@@ -16,16 +16,16 @@ fetch_asked-requires g c = rw c.in-Asked.is at c.requires
 
 pub returns-in-Asked : goal.returns-in-Asked
 returns-in-Asked g c =
-    let answer = (g.S.Scorer.state c.args.scorer.now).answer in
+    let answer = (g.W.Outside.state c.args.outside.now).scorer.answer in
     let catalogue = c.args.catalog.now in
     let count = c.args.count in
     let cursor = c.in-Asked.cursor in
     let next = c.fetch_asked.new.cursor in
     let result = c.fetch_asked.result in
     let asks = next_of_cursor catalogue answer cursor count in record {
-      puts = λ beside. subst (λ kept. Stepped (λ step. step ≡ rows_step catalogue answer kept count) catalogue result
-          (record beside { scorer = g.S.Scorer.state c.args.scorer.now; out = g.O.Sink.state c.args.out.now })
-          (record beside { scorer = g.S.Scorer.state c.fetch_asked.new.scorer; out = g.O.Sink.state c.fetch_asked.new.out })) (sym c.in-Asked.is) (c.fetch_asked.ensures.puts beside);
+      puts =  subst (λ kept. Stepped (λ step. step ≡ rows_step catalogue answer kept count) catalogue result
+          (g.W.Outside.state c.args.outside.now)
+          (g.W.Outside.state c.fetch_asked.new.outside)) (sym c.in-Asked.is) c.fetch_asked.ensures.puts;
       source = if-ok-map result (IsAskedMore cursor asks next) (source_of (held.Asked next) ≡ source_of c.args.held.now)
           (λ more. subst (λ kept. source_of (held.Asked next) ≡ source_of kept) (sym c.in-Asked.is) (λ i. ByPlan (more.query_is i) (more.plan_is i))) c.fetch_asked.ensures.count;
       count = if-ok-map result (IsAskedMore cursor asks next) (asks_of next ≡ asked_of c.args.held.now + next_of catalogue answer c.args.held.now count)
@@ -38,7 +38,7 @@ fetch_ready-requires g c = subst (λ rows. c.in-Ready.given ≤ length rows) (sy
 
 pub returns-in-Ready : goal.returns-in-Ready
 returns-in-Ready g c =
-    let answer = (g.S.Scorer.state c.args.scorer.now).answer in
+    let answer = (g.W.Outside.state c.args.outside.now).scorer.answer in
     let catalogue = c.args.catalog.now in
     let count = c.args.count in
     let rows = c.in-Ready.rows in
@@ -47,8 +47,8 @@ returns-in-Ready g c =
     let result = c.fetch_ready.result in
     let within : given ≤ length rows.items = rw c.in-Ready.is at c.requires in
     let more = subst (λ slice. IfOk result (λ _. next ≡ given + next_rows slice given count)) c.deref.ensures.value c.fetch_ready.ensures.count in record {
-      puts = λ beside.
-          let old = record beside { scorer = g.S.Scorer.state c.args.scorer.now; out = g.O.Sink.state c.args.out.now } in
+      puts = 
+          let old = (g.W.Outside.state c.args.outside.now) in
           let new = record beside { scorer = g.S.Scorer.state c.args.scorer.now; out = g.O.Sink.state c.fetch_ready.new.out } in
           subst (λ kept. Stepped (λ step. step ≡ rows_step catalogue answer kept count) catalogue result old new) (sym c.in-Ready.is)
           (Stepped-lines (rank_lines (suc given) (take (next_rows rows.items given count) (drop given rows.items))) catalogue result old new
