@@ -11,11 +11,11 @@ pub record Environment : Type 0 where
   pub scorer : ScorerState
   pub out : Outside (List (List ℕ))
   pub err : Outside (List (List ℕ))
-  pub behind : ℕ × ℕ × ℕ
+  pub references : ℕ × ℕ × ℕ
 
 -- these objects, behind no reference
 abbrev pub environment : Outside FilesTold → ScorerState → Outside (List (List ℕ)) → Outside (List (List ℕ)) → Environment
-environment files scorer out err = record { files = files; scorer = scorer; out = out; err = err; behind = (0, 0, 0) }
+environment files scorer out err = record { files = files; scorer = scorer; out = out; err = err; references = (0, 0, 0) }
 
 -- for as long as calls go on, the scorer's answers stay, no count of faults falls, each object that is steady stays so, and the
 -- references stay the same
@@ -24,7 +24,7 @@ pub record KeepsEnvironment (old new : Environment) : Type 0 where
   pub scorer : KeepsScorer old.scorer new.scorer
   pub out : Keeps old.out new.out
   pub err : Keeps old.err new.err
-  pub behind : new.behind ≡ old.behind
+  pub references : new.references ≡ old.references
 
 -- no fetch, no call of the scorer and no put on standard output failed
 pub record NoneFailed (old new : Environment) : Type 0 where

@@ -63,7 +63,7 @@ impl<'f, 's, 'o, F: Files, S: Scorer, O: Sink> Outside for Objects<'f, 's, 'o, F
     type Out = O;
 
     ghost state = { λ o. record (environment (F.state o.files.now) (S.state o.scorer.now) (O.state o.out.now) (untold 0)) {
-      behind = (o.files.ghost_name, o.scorer.ghost_name, o.out.ghost_name);
+      references = (o.files.ghost_name, o.scorer.ghost_name, o.out.ghost_name);
     } };
 
     ghost with_files = { λ o files. record o { files = record o.files { now = files } } };

@@ -8,12 +8,16 @@ use Rattle.rs_run.proofs.TextFacts.{HasTokens-slice, Text-runs, Text-unlexed, Te
 use Rattle.rs_run.proofs.plain.run_text.Goals as goal
 
 pub returns-in_err-tokens : goal.returns-in_err-tokens
-returns-in_err-tokens g c =  Text-unlexed (StatementsRun (finds_in (g.W.Outside.state c.args.outside.now).files.told) (g.W.Outside.state c.args.outside.now).scorer.answer c.args.evaluating) c.args.script.now c.in_err-tokens.field-0.0 c.from_residual.result
-    (g.W.Outside.state c.args.outside.now) c.from_residual.ensures c.in_err-tokens.ensures.refused
+returns-in_err-tokens g c =
+    let old = g.W.Outside.state c.args.outside.now in
+    Text-unlexed (StatementsRun (finds_in old.files.told) old.scorer.answer c.args.evaluating) c.args.script.now c.in_err-tokens.field-0.0 c.from_residual.result
+    old c.from_residual.ensures c.in_err-tokens.ensures.refused
 
 pub returns-in_err-statements : goal.returns-in_err-statements
-returns-in_err-statements g c =  Text-unparsed (StatementsRun (finds_in (g.W.Outside.state c.args.outside.now).files.told) (g.W.Outside.state c.args.outside.now).scorer.answer c.args.evaluating) c.args.script.now c.deref.result.now c.in_err-statements.field-0.0
-    c.from_residual-in_err-statements.result (g.W.Outside.state c.args.outside.now) c.from_residual-in_err-statements.ensures
+returns-in_err-statements g c =
+    let old = g.W.Outside.state c.args.outside.now in
+    Text-unparsed (StatementsRun (finds_in old.files.told) old.scorer.answer c.args.evaluating) c.args.script.now c.deref.result.now c.in_err-statements.field-0.0
+    c.from_residual-in_err-statements.result old c.from_residual-in_err-statements.ensures
     (HasTokens-slice _ _ _ c.in_ok-tokens.ensures.spells c.in_ok-tokens.ensures.few c.deref.ensures.value) c.in_err-statements.ensures.refused
 
 pub run_statements-requires : goal.run_statements-requires
@@ -22,9 +26,10 @@ run_statements-requires g c = record {
 }
 
 pub returns : goal.returns
-returns g c =  Text-runs (StatementsRun (finds_in (g.W.Outside.state c.args.outside.now).files.told) (g.W.Outside.state c.args.outside.now).scorer.answer c.args.evaluating) c.args.script.now c.deref.result.now (commands_of c.in_ok-statements.statements.items)
-    c.run_statements.result (g.W.Outside.state c.args.outside.now) (g.W.Outside.state c.run_statements.new.outside)
+returns g c =
+    let old = g.W.Outside.state c.args.outside.now in
+    let new = g.W.Outside.state c.run_statements.new.outside in
+    let run = StatementsRun (finds_in old.files.told) old.scorer.answer c.args.evaluating in
+    Text-runs run c.args.script.now c.deref.result.now (commands_of c.in_ok-statements.statements.items) c.run_statements.result old new
     (HasTokens-slice _ _ _ c.in_ok-tokens.ensures.spells c.in_ok-tokens.ensures.few c.deref.ensures.value) c.in_ok-statements.ensures.found c.in_ok-statements.ensures.sound
-    (subst (λ statements. Runs (StatementsRun (finds_in (g.W.Outside.state c.args.outside.now).files.told) (g.W.Outside.state c.args.outside.now).scorer.answer c.args.evaluating (commands_of statements)) c.run_statements.result
-    (g.W.Outside.state c.args.outside.now) (g.W.Outside.state c.run_statements.new.outside))
-    c.deref-2.ensures.value c.run_statements.ensures)
+    (subst (λ statements. Runs (run (commands_of statements)) c.run_statements.result old new) c.deref-2.ensures.value c.run_statements.ensures)

@@ -3,7 +3,6 @@ use Rattle.rs_plan.specs.Lists.{list_of_plan}
 use Rattle.rs_exec.specs.Asking.{world_of}
 use Rattle.rs_exec.specs.Cursors.{StandsFor, asks_of, plan_of}
 use Rattle.rs_statement.specs.Parts.Asks.{left_of}
-use Rattle.rs_events.specs.Environment.{Environment}
 use Rattle.rs_events.proofs.SoFar.{SoFar}
 use Rattle.rs_statement.proofs.planned.put_all.Given as goal
 

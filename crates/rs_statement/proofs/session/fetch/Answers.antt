@@ -21,11 +21,10 @@ counted count result fits e = e ∙ ap (λ n. count_of (n, count.1)) (to_z-of_z 
 
 pub returns-in_err-count : goal.returns-in_err-count
 returns-in_err-count g c =
-    let answer = (g.W.Outside.state c.args.outside.now).scorer.answer in
+    let old = g.W.Outside.state c.args.outside.now in
     let state = state_of c.args.catalog.now c.args.session.now.cursors.entries in
     rw (given-err c.from_residual.result (bind_fault c.in_err-count.field-0.0) c.from_residual.ensures) (record {
-      puts =  Stepped-refused (fetched_step answer state) (fetched_cursor state c.args.count.now c.args.name.now) (bind_fault c.in_err-count.field-0.0) state
-          (g.W.Outside.state c.args.outside.now)
+      puts = Stepped-refused (fetched_step old.scorer.answer state) (fetched_cursor state c.args.count.now c.args.name.now) (bind_fault c.in_err-count.field-0.0) state old
           (fetched-refused state c.args.count.now c.args.name.now c.in_err-count.field-0.0 (counted c.args.count.now (Err c.in_err-count.field-0.0) (search rules) c.in_err-count.ensures));
       asked = tt;
     })
@@ -37,7 +36,8 @@ fetch_rows-requires g c =
 
 pub returns-in-Some : goal.returns-in-Some
 returns-in-Some g c =
-    let answer = (g.W.Outside.state c.args.outside.now).scorer.answer in
+    let old = g.W.Outside.state c.args.outside.now in
+    let answer = old.scorer.answer in
     let catalogue = c.args.catalog.now in
     let entries = c.args.session.now.cursors.entries in
     let state = state_of catalogue entries in
@@ -48,12 +48,9 @@ returns-in-Some g c =
     let written = (c.get_mut.follows.lender after).entries in
     let set = (c.get_mut.follows.holds after).0 in
     let found = sym c.in-Some.ensures.value in record {
-      puts = 
-          let old = (g.W.Outside.state c.args.outside.now) in
-          let new = (g.W.Outside.state c.fetch_rows.new.outside) in
-          Stepped-bound (fetched_step answer state) (fetched_cursor state c.args.count.now name) (open_cursor (name.text, before), count) (state_of catalogue written) c.fetch_rows.result old new
+      puts = Stepped-bound (fetched_step answer state) (fetched_cursor state c.args.count.now name) (open_cursor (name.text, before), count) (state_of catalogue written) c.fetch_rows.result old _
           (fetched-known state c.args.count.now name count (open_cursor (name.text, before)) (counted c.args.count.now (Ok count) (search rules) c.in_ok-count.ensures) (named-some name.text entries before found))
-          (Fetched-rows answer catalogue entries written name.text count c.fetch_rows.result old new before
+          (Fetched-rows answer catalogue entries written name.text count c.fetch_rows.result old _ before
           (fetched-cursors name.text (next_of catalogue answer before count) entries written before after c.fetch_rows.result c.get_mut.ensures.unique found set c.fetch_rows.ensures.source
           c.fetch_rows.ensures.count)
           c.fetch_rows.ensures.puts);
@@ -63,13 +60,12 @@ returns-in-Some g c =
 
 pub returns-in-None : goal.returns-in-None
 returns-in-None g c =
-    let answer = (g.W.Outside.state c.args.outside.now).scorer.answer in
+    let old = g.W.Outside.state c.args.outside.now in
     let catalogue = c.args.catalog.now in
     let entries = c.args.session.now.cursors.entries in
     let state = state_of catalogue entries in
     let name = c.args.name.now in record {
-      puts =  Stepped-refused (fetched_step answer state) (fetched_cursor state c.args.count.now name) c.session_fault.result (state_of catalogue (c.get_mut.follows.lender-at-none).entries)
-          (g.W.Outside.state c.args.outside.now)
+      puts = Stepped-refused (fetched_step old.scorer.answer state) (fetched_cursor state c.args.count.now name) c.session_fault.result (state_of catalogue (c.get_mut.follows.lender-at-none).entries) old
           (fetched-unknown state c.args.count.now name c.in_ok-count.count c.session_fault.result (counted c.args.count.now (Ok c.in_ok-count.count) (search rules) c.in_ok-count.ensures) (named-none name.text entries (sym c.in-None.ensures.value))
           c.session_fault.ensures);
       asked = tt;

@@ -1,6 +1,5 @@
 use Rattle.std.proofs.Common.{◌-◌}
 use Rattle.rs_statement.specs.Parts.Session.{wanted_step}
-use Rattle.rs_events.specs.Environment.{Environment}
 use Rattle.rs_events.proofs.SoFar.{SoFar}
 use Rattle.rs_statement.proofs.WantedSteps.{IsFetching}
 use Rattle.rs_statement.proofs.session.fetch_asked.Given as goal
