@@ -17,6 +17,7 @@ use Rattle.rs_run.specs.Faults.{WordsRun, run_faults, status_of}
 use Rattle.rs_run.specs.Outcome.{HasCause, Outcome, Reports, RunEnds, RunsTo}
 use Rattle.rs_run.specs.Running.{IsCut, IsRunOf, IsRunOrCut, OfForm}
 use Rattle.rs_run.specs.Words.{Form, form_of}
+use Rattle.rs_events.proofs.RanFacts.{Did-apart}
 use Rattle.rs_statement.proofs.OwnFaults.{IsOwn}
 use Rattle.rs_run.proofs.OwnRuns.{OwnFault, own_fault}
 

@@ -1,8 +1,10 @@
 use Rattle.std.proofs.Common.{◌∙◌, [], suc, refl}
 use Rattle.std.specs.Prelude.{None, Ok, Err}
 use Rattle.rs_value.proofs.ResultFacts.{given-err}
-use Rattle.rs_exec.specs.Cursors.{asks_of, call_of, plan_of}
+use Rattle.rs_exec.specs.Asking.{world_of}
+use Rattle.rs_exec.specs.Cursors.{asks_after, asks_of, call_of, plan_of}
 use Rattle.rs_exec.specs.declared.fault.ExecFault.TheVariants as exec
+use Rattle.rs_statement.specs.Parts.Asks.{IsAt}
 use Rattle.rs_events.specs.Run.{lines_run}
 use Rattle.rs_statement.specs.Planned.{ask_fault, ask_outcome, given_lines}
 use Rattle.rs_statement.proofs.CursorSteps.{Stepped-row, ended-call, given-call, over-call, probes-call}
@@ -12,7 +14,7 @@ use Rattle.rs_events.proofs.RanFacts.{HasDone-none, Ran-all}
 use Rattle.rs_statement.proofs.planned.put_next.Goals as goal
 
 pub next-requires : goal.next-requires
-next-requires g c = rw c.scorer.ensures.value c.requires.stands
+next-requires g c = rw c.scorer.ensures.value (λ sound. c.requires.stands)
 
 pub rank_of-requires : goal.rank_of-requires
 rank_of-requires g c = (c.args.catalog.now, (g.W.Scorer.Scorer.state c.scorer.result.now).answer, c.in-Ok-Some.ensures.stands)
@@ -45,7 +47,9 @@ returns-in-Ok-None g c =
     let scorer = g.W.Scorer.Scorer.state c.next.new.scorer in
     let asks = rw (c.in-Ok-None.field-0-is, c.scorer.ensures.value) at c.in-Ok-None.ensures.asks in
     let stands = rw c.scorer.ensures.value at c.in-Ok-None.ensures.stands in
-    let at = record { query_is = c.next.ensures.query; plan_is = c.in-Ok-None.ensures.plan; asks_are = rw c.scorer.ensures.value at c.in-Ok-None.ensures.count } in record {
+    let at : IsAt c.args.cursor.now.query (plan_of c.args.cursor.now)
+    (asks_after (world_of catalogue old.scorer.answer c.args.cursor.now.query) (plan_of c.args.cursor.now) (asks_of c.args.cursor.now)) c.next.new.self =
+    record { query_is = c.next.ensures.query; plan_is = c.in-Ok-None.ensures.plan; asks_are = rw c.scorer.ensures.value at c.in-Ok-None.ensures.count } in record {
       puts = rw g.met.W.Outside.after_scorer (Stepped-asked (given_lines (suc (asks_of c.args.cursor.now))) (ask_outcome catalogue) exec.Memory
           (call_of catalogue old.scorer.answer c.args.cursor.now) catalogue old scorer None (Ok tt) (record old { scorer = scorer }) refl asks
           (Ran-all (lines_run []) (Ok tt) _ _ (HasDone-none (record old { scorer = scorer })) refl));
