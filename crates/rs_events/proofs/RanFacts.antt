@@ -13,9 +13,9 @@ use Rattle.rs_expr.proofs.ScoringFacts.{KeepsScorer-refl, KeepsScorer-then, Made
 use Rattle.rs_events.specs.Environment.{Environment, KeepsEnvironment}
 use Rattle.rs_events.specs.Events.{Event, Fetch, Put, Score, calls, fetches, puts}
 use Rattle.rs_events.specs.HaltFaults.{Answers, HaltFaults, IsFaultOf, put_fault}
-use Rattle.rs_events.specs.Halts.{CallFailed, Done, Ended, FetchFailed, Halt, HaltsAt, NoMemory, PutFailed, fetched_more, halt_events}
+use Rattle.rs_events.specs.Halts.{CallFailed, Did, Done, Ended, FetchFailed, Halt, HaltsAt, NoMemory, PutFailed, fetched_more, halt_events}
 use Rattle.rs_events.specs.Run.{Run, behind, lines_run}
-use Rattle.rs_events.specs.Running.{HasDone, Ran}
+use Rattle.rs_events.specs.Running.{HasDone, Ran, Runs}
 
 -- events, and others behind them
 pub fetches-append : (a b : List Event) → fetches (a ++ b) ≡ fetches a ++ fetches b
@@ -87,7 +87,7 @@ Done-append first more old middle new one two = record {
 }
 
 pub KeepsEnvironment-refl : (environment : Environment) → KeepsEnvironment environment environment
-KeepsEnvironment-refl environment = record { files = Keeps-refl environment.files; scorer = KeepsScorer-refl environment.scorer; out = Keeps-refl environment.out; err = Keeps-refl environment.err }
+KeepsEnvironment-refl environment = record { files = Keeps-refl environment.files; scorer = KeepsScorer-refl environment.scorer; out = Keeps-refl environment.out; err = Keeps-refl environment.err; references = refl }
 
 pub KeepsEnvironment-then : (old middle new : Environment) → KeepsEnvironment old middle → KeepsEnvironment middle new → KeepsEnvironment old new
 KeepsEnvironment-then old middle new one two = record {
@@ -95,6 +95,7 @@ KeepsEnvironment-then old middle new one two = record {
   scorer = KeepsScorer-then old.scorer middle.scorer new.scorer one.scorer two.scorer;
   out = Keeps-then old.out middle.out new.out one.out two.out;
   err = Keeps-then old.err middle.err new.err one.err two.err;
+  references = two.references ∙ one.references;
 }
 
 pub HasDone-none : (environment : Environment) → HasDone [] environment environment
@@ -115,7 +116,7 @@ HasDone-files environment files events fetched uncalled unput keeps = record {
     called = subst (λ all. Made all environment.scorer environment.scorer) (sym uncalled) (Made-none environment.scorer);
     put = told-none environment.out.told ∙ ap (λ all. option_map (λ held. held ++ all) environment.out.told) (sym unput);
   };
-  keeps = record { files = keeps; scorer = KeepsScorer-refl environment.scorer; out = Keeps-refl environment.out; err = Keeps-refl environment.err };
+  keeps = record { files = keeps; scorer = KeepsScorer-refl environment.scorer; out = Keeps-refl environment.out; err = Keeps-refl environment.err; references = refl };
 }
 
 pub HasDone-scorer : (environment : Environment) (scorer : ScorerState) (made : List Call) → Made made environment.scorer scorer → KeepsScorer environment.scorer scorer
@@ -126,7 +127,7 @@ HasDone-scorer environment scorer made called keeps = record {
     called = subst (λ all. Made all environment.scorer scorer) (sym (calls-scores made)) called;
     put = told-none environment.out.told ∙ ap (λ all. option_map (λ held. held ++ all) environment.out.told) (sym (puts-scores made));
   };
-  keeps = record { files = Keeps-refl environment.files; scorer = keeps; out = Keeps-refl environment.out; err = Keeps-refl environment.err };
+  keeps = record { files = Keeps-refl environment.files; scorer = keeps; out = Keeps-refl environment.out; err = Keeps-refl environment.err; references = refl };
 }
 
 pub HasDone-out : (environment : Environment) (out : Outside (List (List ℕ))) (events : List Event) → out.told ≡ option_map (λ held. held ++ puts events) environment.out.told
@@ -137,7 +138,7 @@ HasDone-out environment out events put unfetched uncalled keeps = record {
     called = subst (λ all. Made all environment.scorer environment.scorer) (sym uncalled) (Made-none environment.scorer);
     put = put;
   };
-  keeps = record { files = Keeps-refl environment.files; scorer = KeepsScorer-refl environment.scorer; out = keeps; err = Keeps-refl environment.err };
+  keeps = record { files = Keeps-refl environment.files; scorer = KeepsScorer-refl environment.scorer; out = keeps; err = Keeps-refl environment.err; references = refl };
 }
 
 -- all events of a run were done
@@ -239,6 +240,40 @@ Ran-behind made run result old middle new has ran = record {
   answers = ran.answers;
   keeps = KeepsEnvironment-then old middle new has.keeps ran.keeps;
 }
+
+-- what was done doesn't speak of standard error, nor of the references
+pub Did-apart : (events : List Event) (halt : Halt) (old new : Environment) (err later : Outside (List (List ℕ))) (references later_references : ℕ × ℕ × ℕ) → Did events halt old new
+    → Did events halt (record old { err = err; references = references }) (record new { err = later; references = later_references })
+Did-apart events halt old new err later references later_references did = record {
+  done = did.done;
+  rest = did.rest;
+  split = did.split;
+  halts = halts halt did.rest did.halts;
+  all = record { fetched = did.all.fetched; called = did.all.called; put = did.all.put };
+} where
+  halts : (halt : Halt) (rest : List Event) → HaltsAt halt rest old new
+      → HaltsAt halt rest (record old { err = err; references = references }) (record new { err = later; references = later_references })
+  halts Ended rest h = h
+  halts NoMemory rest h = h
+  halts (PutFailed part) rest h = h
+  halts (FetchFailed name) rest h = h
+  halts (CallFailed call) rest h = h
+
+pub Runs-apart : {F : Type 0} {faults : HaltFaults F} (of : Run F → Type 0) (result : Result (Unit {0}) F) (old new : Environment) (err : Outside (List (List ℕ))) (references : ℕ × ℕ × ℕ)
+    → Runs faults of result old new → Runs faults of result (record old { err = err; references = references }) (record new { err = err; references = references })
+Runs-apart of result old new err references made =
+    let ran = made.ran in record {
+      run = made.run;
+      is = made.is;
+      ran = record {
+        halt = ran.halt;
+        did = Did-apart made.run.events ran.halt old new err err references references ran.did;
+        fault = ran.fault;
+        is_fault = ran.is_fault;
+        answers = ran.answers;
+        keeps = record { files = ran.keeps.files; scorer = ran.keeps.scorer; out = ran.keeps.out; err = Keeps-refl err; references = refl };
+      };
+    }
 
 -- a run that answered without a fault had none, and all its events were done
 pub record RanWell {F : Type 0} (run : Run F) (old new : Environment) : Type 0 where

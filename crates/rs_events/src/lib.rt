@@ -7,8 +7,10 @@
 
 mod file;
 mod halt_fault;
+mod outside;
 mod put;
 
 pub use file::fetch_file;
 pub use halt_fault::HaltFault;
+pub use outside::{Objects, Outside};
 pub use put::put_text;

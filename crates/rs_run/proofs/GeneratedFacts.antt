@@ -89,7 +89,7 @@ module _ (outside : Outside FilesTold) (old new : Environment) where
     fault = ran.fault;
     is_fault = ran.is_fault;
     answers = ran.answers;
-    keeps = record { files = Keeps-refl outside; scorer = ran.keeps.scorer; out = ran.keeps.out; err = ran.keeps.err };
+    keeps = record { files = Keeps-refl outside; scorer = ran.keeps.scorer; out = ran.keeps.out; err = ran.keeps.err; references = ran.keeps.references };
   }
 
   -- the script of this name, which was run over the generated files

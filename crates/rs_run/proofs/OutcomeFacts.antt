@@ -17,6 +17,7 @@ use Rattle.rs_run.specs.Faults.{WordsRun, run_faults, status_of}
 use Rattle.rs_run.specs.Outcome.{HasCause, Outcome, Reports, RunEnds, RunsTo}
 use Rattle.rs_run.specs.Running.{IsRun, OfForm}
 use Rattle.rs_run.specs.Words.{Form, form_of}
+use Rattle.rs_events.proofs.RanFacts.{Did-apart}
 use Rattle.rs_statement.proofs.OwnFaults.{IsOwn}
 use Rattle.rs_run.proofs.OwnRuns.{OwnFault, own_fault}
 
@@ -252,31 +253,15 @@ tells-ok words old new same ran =
     })
     ran.ran.keeps
 
--- what was done doesn't speak of standard error
-Did-err : (events : List Event) (halt : Halt) (old new : Environment) (err : Outside (List (List ℕ))) → Did events halt old new → Did events halt old (record new { err = err })
-Did-err events halt old new err did = record {
-  done = did.done;
-  rest = did.rest;
-  split = did.split;
-  halts = halts halt did.rest did.halts;
-  all = record { fetched = did.all.fetched; called = did.all.called; put = did.all.put };
-} where
-  halts : (halt : Halt) (rest : List Event) → HaltsAt halt rest old new → HaltsAt halt rest old (record new { err = err })
-  halts Ended rest h = h
-  halts NoMemory rest h = h
-  halts (PutFailed part) rest h = h
-  halts (FetchFailed name) rest h = h
-  halts (CallFailed call) rest h = h
-
 pub tells-fault : (words : List (List ℕ)) (fault : RunFault) (s : Status) (old new : Environment) (err : Outside (List (List ℕ))) → Reports (Some fault) s old.err err → Keeps old.err err
     → Runs run_faults (IsRun (finds_in old.files.told) old.scorer.answer words) (Err fault) old new → Tells words s old (record new { err = err })
 tells-fault words fault s old new err reports keeps ran =
     tells words ran.run s old (record new { err = err }) ran.is
     (record {
       halt = ran.ran.halt;
-      did = Did-err ran.run.events ran.ran.halt old new err ran.ran.did;
+      did = Did-apart ran.run.events ran.ran.halt old new old.err err old.references new.references ran.ran.did;
       fault = ran.ran.fault;
       is_fault = ran.ran.is_fault;
       reports = Reports-fault ran.ran.fault fault s old.err err ran.ran.answers reports;
     })
-    (record { files = ran.ran.keeps.files; scorer = ran.ran.keeps.scorer; out = ran.ran.keeps.out; err = keeps })
+    (record { files = ran.ran.keeps.files; scorer = ran.ran.keeps.scorer; out = ran.ran.keeps.out; err = keeps; references = ran.ran.keeps.references })

@@ -11,6 +11,7 @@ ghost use Rattle.rs_run.specs.Words.{RunScript};
 ghost use Rattle.rs_events.specs.Environment.{Environment};
 
 use crate::statement::run_statements;
+use rs_events::{Objects, Outside};
 use rs_expr::Scorer;
 use rs_lex::{MOST_BYTES, tokens};
 use rs_outside::{Files, Sink};
@@ -37,7 +38,8 @@ pub fn run_script<F: Files, S: Scorer, O: Sink>(
         (record beside { files = F.state files.new; scorer = S.state scorer.new; out = O.state out.new }) }
 {
     let script = fetch_script(alloc, name, files)?;
-    run_text(alloc, evaluating, &script, files, scorer, out)
+    let mut outside = Objects { files, scorer, out };
+    run_text(alloc, evaluating, &script, &mut outside)
 }
 
 /// Fetches the text of a script, without the byte order mark at its start.
@@ -73,21 +75,18 @@ fn without_mark(bytes: &[u8]) -> &[u8]
 }
 
 /// Does what the text of a script says.
-fn run_text<F: Files, S: Scorer, O: Sink>(
+fn run_text<W: Outside>(
     alloc: Global,
     evaluating: Evaluating,
     script: &Text,
-    files: &mut F,
-    scorer: &mut S,
-    out: &mut O,
+    outside: &mut W,
 ) -> Result<(), Fault>
     requires { length script.now ≤ 1048576 }
-    ensures { (beside : Environment) → Runs
-        (TextRuns (StatementsRun (finds_in (F.state files.old).told) (S.state scorer.old).answer evaluating) script.now) result
-        (record beside { files = F.state files.old; scorer = S.state scorer.old; out = O.state out.old })
-        (record beside { files = F.state files.new; scorer = S.state scorer.new; out = O.state out.new }) }
+    ensures { Runs
+        (TextRuns (StatementsRun (finds_in (W.state outside.old).files.told) (W.state outside.old).scorer.answer evaluating) script.now) result
+        (W.state outside.old) (W.state outside.new) }
 {
     let tokens = tokens(alloc, script)?;
     let statements = parse(alloc, script, &tokens)?;
-    run_statements(alloc, evaluating, &statements, files, scorer, out)
+    run_statements(alloc, evaluating, &statements, outside)
 }

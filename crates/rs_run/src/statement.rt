@@ -7,12 +7,10 @@ ghost use Rattle.rs_events.specs.Events.{finds_in};
 ghost use Rattle.rs_statement.specs.Statements.{Does};
 ghost use Rattle.rs_statement.specs.Session.{DoesInSession, StatementsRun};
 ghost use Rattle.rs_statement.specs.Parts.Session.{CanAllBeAsked, IsOfNoCursor, held_in, state_of};
-ghost use Rattle.rs_events.specs.Environment.{Environment};
 
 use rs_catalog::Catalog;
+use rs_events::Outside;
 use rs_exec::cursors_stand_in_larger_catalogues;
-use rs_expr::Scorer;
-use rs_outside::{Files, Sink};
 use rs_statement::{
     Evaluating, Fault, Session, close, create_index, create_predicate, create_table, declare,
     fetch, release, run_analyze, run_explain, run_select,
@@ -21,18 +19,15 @@ use rs_syntax::Statement;
 use std::alloc::Global;
 
 /// Runs the statements of a script one after another, up to the first fault, over an empty catalogue and without a cursor.
-pub fn run_statements<F: Files, S: Scorer, O: Sink>(
+pub fn run_statements<W: Outside>(
     alloc: Global,
     evaluating: Evaluating,
     statements: &[Statement],
-    files: &mut F,
-    scorer: &mut S,
-    out: &mut O,
+    outside: &mut W,
 ) -> Result<(), Fault>
     requires written { AreWritten (commands_of statements.now) }
-    ensures { (beside : Environment) → Runs (StatementsRun (finds_in (F.state files.old).told) (S.state scorer.old).answer evaluating (commands_of statements.now)) result
-        (record beside { files = F.state files.old; scorer = S.state scorer.old; out = O.state out.old })
-        (record beside { files = F.state files.new; scorer = S.state scorer.new; out = O.state out.new }) }
+    ensures { Runs (StatementsRun (finds_in (W.state outside.old).files.told) (W.state outside.old).scorer.answer evaluating (commands_of statements.now)) result
+        (W.state outside.old) (W.state outside.new) }
 {
     let mut catalog = Catalog::new(alloc);
     let mut session = Session::new(alloc);
@@ -43,9 +38,7 @@ pub fn run_statements<F: Files, S: Scorer, O: Sink>(
             statement,
             &mut catalog,
             &mut session,
-            files,
-            scorer,
-            out,
+            outside,
         ) {
             Ok(()) => {}
             Err(fault) => {
@@ -59,78 +52,74 @@ pub fn run_statements<F: Files, S: Scorer, O: Sink>(
 }
 
 /// Runs a statement.
-fn run_statement<F: Files, S: Scorer, O: Sink>(
+fn run_statement<W: Outside>(
     alloc: Global,
     evaluating: Evaluating,
     statement: &Statement,
     catalog: &mut Catalog,
     session: &mut Session,
-    files: &mut F,
-    scorer: &mut S,
-    out: &mut O,
+    outside: &mut W,
 ) -> Result<(), Fault>
     requires written { IsWritten (command_of statement.now) }
-    requires held { IndexesHold (S.state scorer.old).answer catalog.old }
-    requires asked { CanAllBeAsked (S.state scorer.old).answer catalog.old (held_in session.old) }
-    ensures does { (beside : Environment) → Stepped
-        (DoesInSession (finds_in (F.state files.old).told) (S.state scorer.old).answer evaluating
+    requires held { IndexesHold (W.state outside.old).scorer.answer catalog.old }
+    requires asked { CanAllBeAsked (W.state outside.old).scorer.answer catalog.old (held_in session.old) }
+    ensures does { Stepped
+        (DoesInSession (finds_in (W.state outside.old).files.told) (W.state outside.old).scorer.answer evaluating
         (state_of catalog.old (held_in session.old)) (command_of statement.now)) (state_of catalog.new (held_in session.new)) result
-        (record beside { files = F.state files.old; scorer = S.state scorer.old; out = O.state out.old })
-        (record beside { files = F.state files.new; scorer = S.state scorer.new; out = O.state out.new }) }
-    ensures held { IfOk result (λ _. IndexesHold (S.state scorer.old).answer catalog.new) }
-    ensures asked { IfOk result (λ _. CanAllBeAsked (S.state scorer.old).answer catalog.new (held_in session.new)) }
+        (W.state outside.old) (W.state outside.new) }
+    ensures held { IfOk result (λ _. IndexesHold (W.state outside.old).scorer.answer catalog.new) }
+    ensures asked { IfOk result (λ _. CanAllBeAsked (W.state outside.old).scorer.answer catalog.new (held_in session.new)) }
 {
     match statement {
         Statement::Declare { name, select } => declare(
-            alloc, evaluating, name, select, catalog, session, scorer,
+            alloc,
+            evaluating,
+            name,
+            select,
+            catalog,
+            session,
+            outside.scorer(),
         ),
-        Statement::Fetch { count, name } => {
-            fetch(alloc, count, name, catalog, session, scorer, out)
-        }
+        Statement::Fetch { count, name } => { fetch(alloc, count, name, catalog, session, outside) }
         Statement::Close { name } => close(name, session),
         _ => {
             cursors_stand_in_larger_catalogues();
-            run_without_cursor(alloc, evaluating, statement, catalog, files, scorer, out)
+            run_without_cursor(alloc, evaluating, statement, catalog, outside)
         }
     }
 }
 
 /// Runs a statement that concerns no cursor.
-fn run_without_cursor<F: Files, S: Scorer, O: Sink>(
+fn run_without_cursor<W: Outside>(
     alloc: Global,
     evaluating: Evaluating,
     statement: &Statement,
     catalog: &mut Catalog,
-    files: &mut F,
-    scorer: &mut S,
-    out: &mut O,
+    outside: &mut W,
 ) -> Result<(), Fault>
     requires form { IsOfNoCursor (command_of statement.now) }
     requires written { IsWritten (command_of statement.now) }
-    requires held { IndexesHold (S.state scorer.old).answer catalog.old }
-    ensures { (beside : Environment) → Stepped
-        (Does (finds_in (F.state files.old).told) (S.state scorer.old).answer evaluating catalog.old (command_of statement.now)) catalog.new result
-        (record beside { files = F.state files.old; scorer = S.state scorer.old; out = O.state out.old })
-        (record beside { files = F.state files.new; scorer = S.state scorer.new; out = O.state out.new }) }
+    requires held { IndexesHold (W.state outside.old).scorer.answer catalog.old }
+    ensures { Stepped
+        (Does (finds_in (W.state outside.old).files.told) (W.state outside.old).scorer.answer evaluating catalog.old (command_of statement.now)) catalog.new result
+        (W.state outside.old) (W.state outside.new) }
 {
     match statement {
         Statement::CreateTable {
             name,
             columns,
             file,
-        } => create_table(alloc, name, columns.items(), file, catalog, files),
+        } => create_table(alloc, name, columns.items(), file, catalog, outside.files()),
         Statement::CreatePredicate { name, .. } => create_predicate(
             alloc, name, statement, catalog,
         ),
         Statement::CreateRankIndex { name, .. } => {
-            create_index(alloc, name, statement, catalog, scorer)
+            create_index(alloc, name, statement, catalog, outside.scorer())
         }
-        Statement::Query(select) => { run_select(alloc, evaluating, select, catalog, scorer, out) }
-        Statement::Explain(select) => {
-            run_explain(alloc, evaluating, select, catalog, scorer, out)
-        }
+        Statement::Query(select) => { run_select(alloc, evaluating, select, catalog, outside) }
+        Statement::Explain(select) => { run_explain(alloc, evaluating, select, catalog, outside) }
         Statement::ExplainAnalyze(select) => {
-            run_analyze(alloc, evaluating, select, catalog, scorer, out)
+            run_analyze(alloc, evaluating, select, catalog, outside)
         }
         _ => unreachable!(),
     }

@@ -29,10 +29,9 @@ use crate::planning::{choose_plan, take_sample};
 use rs_bind::bind;
 use rs_catalog::Catalog;
 use rs_enum::{cards_decide_the_text, explain};
-use rs_events::put_text;
+use rs_events::{Outside, put_text};
 use rs_exec::Cursor;
 use rs_expr::Scorer;
-use rs_outside::Sink;
 use rs_plan::{Counts, Plan};
 use rs_query::Query;
 use rs_sample::Cards;
@@ -42,23 +41,21 @@ use std::alloc::Global;
 
 /// Asks the least plan of a query for all rows that the query wants, puts none of them, and then puts the text of the plan with
 /// what each node has done.
-pub fn analyze_planned<S: Scorer, O: Sink>(
+pub fn analyze_planned<W: Outside>(
     alloc: Global,
     seed: u64,
     select: &Select,
     catalog: &Catalog,
-    scorer: &mut S,
-    out: &mut O,
+    outside: &mut W,
 ) -> Result<(), Fault>
     requires written { IsWrittenQuery (query_of select.now) }
-    requires held { IndexesHold (S.state scorer.old).answer catalog.now }
-    ensures { (beside : Environment) → Stepped
-        (λ step. step ≡ refused_or (analyzed_step (S.state scorer.old).answer catalog.now seed) (or_bind_fault (bound_query catalog.now (query_of select.now))))
-        catalog.now result
-        (record beside { scorer = S.state scorer.old; out = O.state out.old }) (record beside { scorer = S.state scorer.new; out = O.state out.new }) }
+    requires held { IndexesHold (W.state outside.old).scorer.answer catalog.now }
+    ensures { Stepped
+        (λ step. step ≡ refused_or (analyzed_step (W.state outside.old).scorer.answer catalog.now seed) (or_bind_fault (bound_query catalog.now (query_of select.now))))
+        catalog.now result (W.state outside.old) (W.state outside.new) }
 {
     let query = bind(alloc, catalog, select)?;
-    let cards = match take_sample(alloc, seed, catalog, &query, scorer) {
+    let cards = match take_sample(alloc, seed, catalog, &query, outside.scorer()) {
         Ok(cards) => cards,
         Err(fault) => {
             drop(query);
@@ -74,11 +71,11 @@ pub fn analyze_planned<S: Scorer, O: Sink>(
         }
     };
     cards_decide_the_text();
-    let told = asked_text(alloc, catalog, query, &cards, &plan, scorer);
+    let told = asked_text(alloc, catalog, query, &cards, &plan, outside.scorer());
     drop(plan);
     drop(cards);
     let text = told?;
-    put_text(&text, out)
+    put_text(&text, outside.out())
 }
 
 /// Asks a plan for all rows that its query wants. Answers the text of the plan, with what each node has done.

@@ -6,37 +6,32 @@ ghost use Rattle.rs_syntax.specs.Written.{IsWrittenQuery};
 ghost use Rattle.rs_bind.specs.Queries.{bound_query};
 ghost use Rattle.rs_statement.specs.Parts.Steps.{Stepped};
 ghost use Rattle.rs_statement.specs.Statements.{explained_step, or_bind_fault, refused_or};
-ghost use Rattle.rs_events.specs.Environment.{Environment};
 
 use crate::fault::Fault;
 use crate::planning::{choose_plan, take_sample};
 use rs_bind::bind;
 use rs_catalog::Catalog;
 use rs_enum::{cards_decide_the_text, explain};
-use rs_events::put_text;
-use rs_expr::Scorer;
-use rs_outside::Sink;
+use rs_events::{Outside, put_text};
 use rs_syntax::Select;
 use rs_value::Memory;
 use std::alloc::Global;
 
 /// Puts the text of the least plan of a query, once its sample was taken. No row is asked for.
-pub fn explain_planned<S: Scorer, O: Sink>(
+pub fn explain_planned<W: Outside>(
     alloc: Global,
     seed: u64,
     select: &Select,
     catalog: &Catalog,
-    scorer: &mut S,
-    out: &mut O,
+    outside: &mut W,
 ) -> Result<(), Fault>
     requires written { IsWrittenQuery (query_of select.now) }
-    ensures { (beside : Environment) → Stepped
-        (λ step. step ≡ refused_or (explained_step (S.state scorer.old).answer catalog.now seed) (or_bind_fault (bound_query catalog.now (query_of select.now))))
-        catalog.now result
-        (record beside { scorer = S.state scorer.old; out = O.state out.old }) (record beside { scorer = S.state scorer.new; out = O.state out.new }) }
+    ensures { Stepped
+        (λ step. step ≡ refused_or (explained_step (W.state outside.old).scorer.answer catalog.now seed) (or_bind_fault (bound_query catalog.now (query_of select.now))))
+        catalog.now result (W.state outside.old) (W.state outside.new) }
 {
     let query = bind(alloc, catalog, select)?;
-    let cards = match take_sample(alloc, seed, catalog, &query, scorer) {
+    let cards = match take_sample(alloc, seed, catalog, &query, outside.scorer()) {
         Ok(cards) => cards,
         Err(fault) => {
             drop(query);
@@ -57,5 +52,5 @@ pub fn explain_planned<S: Scorer, O: Sink>(
     drop(cards);
     drop(query);
     let text = told?;
-    put_text(&text, out)
+    put_text(&text, outside.out())
 }

@@ -16,7 +16,6 @@ ghost use Rattle.rs_statement.specs.Planned.{ask_fault};
 ghost use Rattle.rs_events.specs.Sequence.{then_step};
 ghost use Rattle.rs_statement.specs.Statements.{or_bind_fault, query_step, refused_or};
 ghost use Rattle.rs_statement.specs.declared.evaluating.Evaluating.TheVariants.{Planned};
-ghost use Rattle.rs_events.specs.Environment.{Environment};
 
 use crate::fault::Fault;
 use crate::planning::start_planned;
@@ -24,78 +23,72 @@ use crate::put::put_row;
 use crate::query::{bad_score, failed_call};
 use rs_bind::bind;
 use rs_catalog::Catalog;
+use rs_events::Outside;
 use rs_exec::{Cursor, ExecFault};
-use rs_expr::Scorer;
 use rs_lines::RowLines;
-use rs_outside::Sink;
 use rs_syntax::Select;
 use std::alloc::Global;
 
 /// Prints the rows of a query: takes its sample, asks its least plan for one row after another, and puts each before it asks for
 /// the next one.
-pub fn run_planned<S: Scorer, O: Sink>(
+pub fn run_planned<W: Outside>(
     alloc: Global,
     seed: u64,
     select: &Select,
     catalog: &Catalog,
-    scorer: &mut S,
-    out: &mut O,
+    outside: &mut W,
 ) -> Result<(), Fault>
     requires written { IsWrittenQuery (query_of select.now) }
-    requires held { IndexesHold (S.state scorer.old).answer catalog.now }
-    ensures { (beside : Environment) → Stepped
-        (λ step. step ≡ refused_or (query_step (Planned seed) (S.state scorer.old).answer catalog.now) (or_bind_fault (bound_query catalog.now (query_of select.now))))
-        catalog.now result
-        (record beside { scorer = S.state scorer.old; out = O.state out.old }) (record beside { scorer = S.state scorer.new; out = O.state out.new }) }
+    requires held { IndexesHold (W.state outside.old).scorer.answer catalog.now }
+    ensures { Stepped
+        (λ step. step ≡ refused_or (query_step (Planned seed) (W.state outside.old).scorer.answer catalog.now) (or_bind_fault (bound_query catalog.now (query_of select.now))))
+        catalog.now result (W.state outside.old) (W.state outside.new) }
 {
     let query = bind(alloc, catalog, select)?;
-    let mut cursor = start_planned(alloc, seed, catalog, query, scorer)?;
-    let put = put_all(alloc, catalog, &mut cursor, scorer, out);
+    let mut cursor = start_planned(alloc, seed, catalog, query, outside.scorer())?;
+    let put = put_all(alloc, catalog, &mut cursor, outside);
     drop(cursor);
     put
 }
 
 /// Puts the rows of a cursor that are left, each before the next one is asked for.
-fn put_all<S: Scorer, O: Sink>(
+fn put_all<W: Outside>(
     alloc: Global,
     catalog: &Catalog,
     cursor: &mut Cursor,
-    scorer: &mut S,
-    out: &mut O,
+    outside: &mut W,
 ) -> Result<(), Fault>
-    requires stands { StandsFor catalog.now (S.state scorer.old).answer cursor.old }
-    ensures { (beside : Environment) → Stepped (λ step. step ≡ left_of catalog.now (S.state scorer.old).answer cursor.old) catalog.now result
-        (record beside { scorer = S.state scorer.old; out = O.state out.old }) (record beside { scorer = S.state scorer.new; out = O.state out.new }) }
+    requires stands { StandsFor catalog.now (W.state outside.old).scorer.answer cursor.old }
+    ensures { Stepped (λ step. step ≡ left_of catalog.now (W.state outside.old).scorer.answer cursor.old) catalog.now result (W.state outside.old) (W.state outside.new) }
 {
     let mut lines = RowLines::new(alloc);
-    while put_next(&mut lines, catalog, cursor, scorer, out)? {}
+    while put_next(&mut lines, catalog, cursor, outside)? {}
     Ok(())
 }
 
 /// Asks for the next row of a cursor and puts it. Answers whether there was one.
-pub fn put_next<S: Scorer, O: Sink>(
+pub fn put_next<W: Outside>(
     lines: &mut RowLines,
     catalog: &Catalog,
     cursor: &mut Cursor,
-    scorer: &mut S,
-    out: &mut O,
+    outside: &mut W,
 ) -> Result<bool, Fault>
-    requires stands { StandsFor catalog.now (S.state scorer.old).answer cursor.old }
-    ensures puts { (beside : Environment) → Stepped (λ step. step ≡ call_step catalog.now (S.state scorer.old).answer cursor.old) catalog.now (without_value result)
-        (record beside { scorer = S.state scorer.old; out = O.state out.old }) (record beside { scorer = S.state scorer.new; out = O.state out.new }) }
+    requires stands { StandsFor catalog.now (W.state outside.old).scorer.answer cursor.old }
+    ensures puts { Stepped (λ step. step ≡ call_step catalog.now (W.state outside.old).scorer.answer cursor.old) catalog.now (without_value result)
+        (W.state outside.old) (W.state outside.new) }
     ensures more { result ≡ Ok true → IsAt cursor.old.query (plan_of cursor.old) (suc (asks_of cursor.old)) cursor.new }
     ensures count { IfOk result (λ _. IsAt cursor.old.query (plan_of cursor.old)
-        (asks_after (world_of catalog.now (S.state scorer.old).answer cursor.old.query) (plan_of cursor.old) (asks_of cursor.old)) cursor.new) }
-    ensures over { result ≡ Ok false → IsOver catalog.now (S.state scorer.old).answer cursor.new }
-    ensures stands { IfOk result (λ _. StandsFor catalog.now (S.state scorer.old).answer cursor.new) }
-    ensures left { result ≡ Ok true → left_of catalog.now (S.state scorer.old).answer cursor.old
-        ≡ then_step (call_step catalog.now (S.state scorer.old).answer cursor.old) (left_of catalog.now (S.state scorer.old).answer cursor.new) }
+        (asks_after (world_of catalog.now (W.state outside.old).scorer.answer cursor.old.query) (plan_of cursor.old) (asks_of cursor.old)) cursor.new) }
+    ensures over { result ≡ Ok false → IsOver catalog.now (W.state outside.old).scorer.answer cursor.new }
+    ensures stands { IfOk result (λ _. StandsFor catalog.now (W.state outside.old).scorer.answer cursor.new) }
+    ensures left { result ≡ Ok true → left_of catalog.now (W.state outside.old).scorer.answer cursor.old
+        ≡ then_step (call_step catalog.now (W.state outside.old).scorer.answer cursor.old) (left_of catalog.now (W.state outside.old).scorer.answer cursor.new) }
     ensures rank { result ≡ Ok true → suc (asks_of cursor.old) ≤ 2 ^ 103 }
-    ensures end { result ≡ Ok false → left_of catalog.now (S.state scorer.old).answer cursor.old ≡ call_step catalog.now (S.state scorer.old).answer cursor.old }
+    ensures end { result ≡ Ok false → left_of catalog.now (W.state outside.old).scorer.answer cursor.old ≡ call_step catalog.now (W.state outside.old).scorer.answer cursor.old }
 {
-    match cursor.next(catalog, scorer) {
+    match cursor.next(catalog, outside.scorer()) {
         Ok(Some(row)) => {
-            put_row(lines, rank_of(cursor), &row, out)?;
+            put_row(lines, rank_of(cursor), &row, outside.out())?;
             Ok(true)
         }
         Ok(None) => Ok(false),

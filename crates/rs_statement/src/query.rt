@@ -8,41 +8,37 @@ ghost use Rattle.rs_syntax.specs.Written.{IsWrittenQuery};
 ghost use Rattle.rs_statement.specs.Parts.Steps.{Leaves, Stepped};
 ghost use Rattle.rs_statement.specs.declared.evaluating.Evaluating.TheVariants.{Plainly};
 ghost use Rattle.rs_statement.specs.Statements.{explain_outcome, or_bind_fault, query_fault, query_step, refused_or};
-ghost use Rattle.rs_events.specs.Environment.{Environment};
 
 use crate::fault::Fault;
 use crate::put::put_rows;
 use rs_bind::bind;
 use rs_catalog::Catalog;
-use rs_expr::Scorer;
-use rs_outside::Sink;
+use rs_events::Outside;
 use rs_plain::{PlainFault, answer_plainly};
 use rs_syntax::Select;
 use rs_value::Text;
 use std::alloc::Global;
 
 /// Prints the rows of a query: makes all its calls, and then puts the rows, each as one line.
-pub fn run_query<S: Scorer, O: Sink>(
+pub fn run_query<W: Outside>(
     alloc: Global,
     select: &Select,
     catalog: &Catalog,
-    scorer: &mut S,
-    out: &mut O,
+    outside: &mut W,
 ) -> Result<(), Fault>
     requires written { IsWrittenQuery (query_of select.now) }
-    ensures { (beside : Environment) → Stepped
-        (λ step. step ≡ refused_or (query_step Plainly (S.state scorer.old).answer catalog.now) (or_bind_fault (bound_query catalog.now (query_of select.now))))
-        catalog.now result
-        (record beside { scorer = S.state scorer.old; out = O.state out.old }) (record beside { scorer = S.state scorer.new; out = O.state out.new }) }
+    ensures { Stepped
+        (λ step. step ≡ refused_or (query_step Plainly (W.state outside.old).scorer.answer catalog.now) (or_bind_fault (bound_query catalog.now (query_of select.now))))
+        catalog.now result (W.state outside.old) (W.state outside.new) }
 {
     let query = bind(alloc, catalog, select)?;
-    let answered = answer_plainly(alloc, catalog, &query, scorer);
+    let answered = answer_plainly(alloc, catalog, &query, outside.scorer());
     drop(query);
     let rows = match answered {
         Ok(rows) => rows,
         Err(why) => return Err(query_fault(catalog, why)),
     };
-    put_rows(alloc, 0, &rows, out)
+    put_rows(alloc, 0, &rows, outside.out())
 }
 
 /// Binds the query of an EXPLAIN. Nothing is told of it, and no scorer is called.

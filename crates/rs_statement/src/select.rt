@@ -6,7 +6,6 @@ ghost use Rattle.rs_syntax.specs.Written.{IsWrittenQuery};
 ghost use Rattle.rs_catalog.specs.Held.{IndexesHold};
 ghost use Rattle.rs_statement.specs.Parts.Steps.{Stepped};
 ghost use Rattle.rs_statement.specs.Statements.{analyze_step, explain_step, select_step};
-ghost use Rattle.rs_events.specs.Environment.{Environment};
 
 use crate::analyzed::analyze_planned;
 use crate::evaluating::Evaluating;
@@ -15,69 +14,62 @@ use crate::fault::Fault;
 use crate::planned::run_planned;
 use crate::query::{explain_query, run_query};
 use rs_catalog::Catalog;
-use rs_expr::Scorer;
-use rs_outside::Sink;
+use rs_events::Outside;
 use rs_syntax::Select;
 use std::alloc::Global;
 
 /// Prints the rows of a query.
-pub fn run_select<S: Scorer, O: Sink>(
+pub fn run_select<W: Outside>(
     alloc: Global,
     evaluating: Evaluating,
     select: &Select,
     catalog: &Catalog,
-    scorer: &mut S,
-    out: &mut O,
+    outside: &mut W,
 ) -> Result<(), Fault>
     requires written { IsWrittenQuery (query_of select.now) }
-    requires held { IndexesHold (S.state scorer.old).answer catalog.now }
-    ensures { (beside : Environment) → Stepped
-        (λ step. step ≡ select_step evaluating (S.state scorer.old).answer catalog.now (query_of select.now)) catalog.now result
-        (record beside { scorer = S.state scorer.old; out = O.state out.old }) (record beside { scorer = S.state scorer.new; out = O.state out.new }) }
+    requires held { IndexesHold (W.state outside.old).scorer.answer catalog.now }
+    ensures { Stepped
+        (λ step. step ≡ select_step evaluating (W.state outside.old).scorer.answer catalog.now (query_of select.now)) catalog.now result (W.state outside.old) (W.state outside.new) }
 {
     match evaluating {
-        Evaluating::Plainly => run_query(alloc, select, catalog, scorer, out),
-        Evaluating::Planned(seed) => run_planned(alloc, seed, select, catalog, scorer, out),
+        Evaluating::Plainly => run_query(alloc, select, catalog, outside),
+        Evaluating::Planned(seed) => run_planned(alloc, seed, select, catalog, outside),
     }
 }
 
 /// EXPLAIN. Plainly, the query is bound, and nothing is told of it.
-pub fn run_explain<S: Scorer, O: Sink>(
+pub fn run_explain<W: Outside>(
     alloc: Global,
     evaluating: Evaluating,
     select: &Select,
     catalog: &Catalog,
-    scorer: &mut S,
-    out: &mut O,
+    outside: &mut W,
 ) -> Result<(), Fault>
     requires written { IsWrittenQuery (query_of select.now) }
-    ensures { (beside : Environment) → Stepped
-        (λ step. step ≡ explain_step evaluating (S.state scorer.old).answer catalog.now (query_of select.now)) catalog.now result
-        (record beside { scorer = S.state scorer.old; out = O.state out.old }) (record beside { scorer = S.state scorer.new; out = O.state out.new }) }
+    ensures { Stepped
+        (λ step. step ≡ explain_step evaluating (W.state outside.old).scorer.answer catalog.now (query_of select.now)) catalog.now result (W.state outside.old) (W.state outside.new) }
 {
     match evaluating {
         Evaluating::Plainly => explain_query(alloc, select, catalog),
-        Evaluating::Planned(seed) => explain_planned(alloc, seed, select, catalog, scorer, out),
+        Evaluating::Planned(seed) => explain_planned(alloc, seed, select, catalog, outside),
     }
 }
 
 /// EXPLAIN ANALYZE. Plainly, the query is bound, and nothing is told of it.
-pub fn run_analyze<S: Scorer, O: Sink>(
+pub fn run_analyze<W: Outside>(
     alloc: Global,
     evaluating: Evaluating,
     select: &Select,
     catalog: &Catalog,
-    scorer: &mut S,
-    out: &mut O,
+    outside: &mut W,
 ) -> Result<(), Fault>
     requires written { IsWrittenQuery (query_of select.now) }
-    requires held { IndexesHold (S.state scorer.old).answer catalog.now }
-    ensures { (beside : Environment) → Stepped
-        (λ step. step ≡ analyze_step evaluating (S.state scorer.old).answer catalog.now (query_of select.now)) catalog.now result
-        (record beside { scorer = S.state scorer.old; out = O.state out.old }) (record beside { scorer = S.state scorer.new; out = O.state out.new }) }
+    requires held { IndexesHold (W.state outside.old).scorer.answer catalog.now }
+    ensures { Stepped
+        (λ step. step ≡ analyze_step evaluating (W.state outside.old).scorer.answer catalog.now (query_of select.now)) catalog.now result (W.state outside.old) (W.state outside.new) }
 {
     match evaluating {
         Evaluating::Plainly => explain_query(alloc, select, catalog),
-        Evaluating::Planned(seed) => analyze_planned(alloc, seed, select, catalog, scorer, out),
+        Evaluating::Planned(seed) => analyze_planned(alloc, seed, select, catalog, outside),
     }
 }

@@ -29,6 +29,7 @@ use crate::query::query_fault;
 use indexmap::IndexMap;
 use rs_bind::{bind, bind_count};
 use rs_catalog::Catalog;
+use rs_events::Outside;
 use rs_exec::Cursor;
 use rs_expr::Scorer;
 use rs_lex::Span;
@@ -236,70 +237,65 @@ fn insert(session: &mut Session, name: Text, held: Held) -> Result<(), Memory>
 }
 
 /// FETCH: puts the next rows of a cursor, at most this many. Ranks go on from the FETCH before it.
-pub fn fetch<S: Scorer, O: Sink>(
+pub fn fetch<W: Outside>(
     alloc: Global,
     count: &(i64, Span),
     name: &Name,
     catalog: &Catalog,
     session: &mut Session,
-    scorer: &mut S,
-    out: &mut O,
+    outside: &mut W,
 ) -> Result<(), Fault>
-    requires { CanAllBeAsked (S.state scorer.old).answer catalog.now (held_in session.old) }
-    ensures puts { (beside : Environment) → Stepped
-        (λ step. step ≡ fetch_step (S.state scorer.old).answer (state_of catalog.now (held_in session.old)) count.now name.now)
+    requires { CanAllBeAsked (W.state outside.old).scorer.answer catalog.now (held_in session.old) }
+    ensures puts { Stepped
+        (λ step. step ≡ fetch_step (W.state outside.old).scorer.answer (state_of catalog.now (held_in session.old)) count.now name.now)
         (state_of catalog.now (held_in session.new)) result
-        (record beside { scorer = S.state scorer.old; out = O.state out.old }) (record beside { scorer = S.state scorer.new; out = O.state out.new }) }
-    ensures asked { IfOk result (λ _. CanAllBeAsked (S.state scorer.old).answer catalog.now (held_in session.new)) }
+        (W.state outside.old) (W.state outside.new) }
+    ensures asked { IfOk result (λ _. CanAllBeAsked (W.state outside.old).scorer.answer catalog.now (held_in session.new)) }
 {
     let count = bind_count(count.0, count.1)?;
     match session.cursors.get_mut(&name.text) {
-        Some(held) => fetch_rows(alloc, count, catalog, held, scorer, out),
+        Some(held) => fetch_rows(alloc, count, catalog, held, outside),
         None => Err(session_fault(SessionFault::Unknown, &name.text)),
     }
 }
 
 /// Puts the next rows of a cursor, at most this many.
-fn fetch_rows<S: Scorer, O: Sink>(
+fn fetch_rows<W: Outside>(
     alloc: Global,
     count: u32,
     catalog: &Catalog,
     held: &mut Held,
-    scorer: &mut S,
-    out: &mut O,
+    outside: &mut W,
 ) -> Result<(), Fault>
-    requires { CanBeAsked (S.state scorer.old).answer catalog.now held.old }
-    ensures puts { (beside : Environment) → Stepped
-        (λ step. step ≡ rows_step catalog.now (S.state scorer.old).answer held.old count) catalog.now result
-        (record beside { scorer = S.state scorer.old; out = O.state out.old }) (record beside { scorer = S.state scorer.new; out = O.state out.new }) }
+    requires { CanBeAsked (W.state outside.old).scorer.answer catalog.now held.old }
+    ensures puts { Stepped
+        (λ step. step ≡ rows_step catalog.now (W.state outside.old).scorer.answer held.old count) catalog.now result (W.state outside.old) (W.state outside.new) }
     ensures source { IfOk result (λ _. source_of held.new ≡ source_of held.old) }
-    ensures count { IfOk result (λ _. asked_of held.new ≡ asked_of held.old + next_of catalog.now (S.state scorer.old).answer held.old count) }
-    ensures asked { IfOk result (λ _. CanBeAsked (S.state scorer.old).answer catalog.now held.new) }
+    ensures count { IfOk result (λ _. asked_of held.new ≡ asked_of held.old + next_of catalog.now (W.state outside.old).scorer.answer held.old count) }
+    ensures asked { IfOk result (λ _. CanBeAsked (W.state outside.old).scorer.answer catalog.now held.new) }
 {
     match held {
-        Held::Asked(cursor) => fetch_asked(alloc, count, catalog, cursor, scorer, out),
-        Held::Ready { rows, given } => fetch_ready(alloc, count, rows, given, out),
+        Held::Asked(cursor) => fetch_asked(alloc, count, catalog, cursor, outside),
+        Held::Ready { rows, given } => fetch_ready(alloc, count, rows, given, outside.out()),
     }
 }
 
 /// Asks a cursor this many times, or up to the end of its rows, and puts each row before it asks for the next one.
-fn fetch_asked<S: Scorer, O: Sink>(
+fn fetch_asked<W: Outside>(
     alloc: Global,
     count: u32,
     catalog: &Catalog,
     cursor: &mut Cursor,
-    scorer: &mut S,
-    out: &mut O,
+    outside: &mut W,
 ) -> Result<(), Fault>
-    requires { StandsFor catalog.now (S.state scorer.old).answer cursor.old }
-    ensures puts { (beside : Environment) → Stepped (λ step. step ≡ wanted_step catalog.now (S.state scorer.old).answer cursor.old count) catalog.now result
-        (record beside { scorer = S.state scorer.old; out = O.state out.old }) (record beside { scorer = S.state scorer.new; out = O.state out.new }) }
-    ensures count { IfOk result (λ _. IsAskedMore cursor.old (next_of_cursor catalog.now (S.state scorer.old).answer cursor.old count) cursor.new) }
-    ensures stands { IfOk result (λ _. StandsFor catalog.now (S.state scorer.old).answer cursor.new) }
+    requires { StandsFor catalog.now (W.state outside.old).scorer.answer cursor.old }
+    ensures puts { Stepped (λ step. step ≡ wanted_step catalog.now (W.state outside.old).scorer.answer cursor.old count) catalog.now result (W.state outside.old) (W.state outside.new) }
+    ensures count { IfOk result (λ _. IsAskedMore cursor.old (next_of_cursor catalog.now (W.state outside.old).scorer.answer cursor.old count) cursor.new) }
+    ensures stands { IfOk result (λ _. StandsFor catalog.now (W.state outside.old).scorer.answer cursor.new) }
 {
     let mut lines = RowLines::new(alloc);
     for _ in 0..count {
-        if !put_next(&mut lines, catalog, cursor, scorer, out)? {
+        if !put_next(&mut lines, catalog, cursor, outside)? {
             return Ok(());
         }
     }

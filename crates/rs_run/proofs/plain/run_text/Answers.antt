@@ -9,14 +9,18 @@ use Rattle.rs_run.proofs.TextFacts.{HasTokens-slice, Text-runs, Text-unlexed, Te
 use Rattle.rs_run.proofs.plain.run_text.Goals as goal
 
 pub returns-in_err-tokens : goal.returns-in_err-tokens
-returns-in_err-tokens g c = λ beside. Text-unlexed (StatementsRun (finds_in (g.F.Files.state c.args.files.now).told) (g.S.Scorer.state c.args.scorer.now).answer c.args.evaluating) c.args.script.now
-    (each_text (finds_in (g.F.Files.state c.args.files.now).told) (finds_in-has (g.F.Files.state c.args.files.now).told) (g.S.Scorer.state c.args.scorer.now).answer c.args.evaluating c.args.script.now) c.in_err-tokens.field-0.0 c.from_residual.result
-    (record beside { files = g.F.Files.state c.args.files.now; scorer = g.S.Scorer.state c.args.scorer.now; out = g.O.Sink.state c.args.out.now }) c.from_residual.ensures c.in_err-tokens.ensures.refused
+returns-in_err-tokens g c =
+    let old = g.W.Outside.state c.args.outside.now in
+    Text-unlexed (StatementsRun (finds_in old.files.told) old.scorer.answer c.args.evaluating) c.args.script.now
+    (each_text (finds_in old.files.told) (finds_in-has old.files.told) old.scorer.answer c.args.evaluating c.args.script.now) c.in_err-tokens.field-0.0 c.from_residual.result
+    old c.from_residual.ensures c.in_err-tokens.ensures.refused
 
 pub returns-in_err-statements : goal.returns-in_err-statements
-returns-in_err-statements g c = λ beside. Text-unparsed (StatementsRun (finds_in (g.F.Files.state c.args.files.now).told) (g.S.Scorer.state c.args.scorer.now).answer c.args.evaluating) c.args.script.now
-    (each_text (finds_in (g.F.Files.state c.args.files.now).told) (finds_in-has (g.F.Files.state c.args.files.now).told) (g.S.Scorer.state c.args.scorer.now).answer c.args.evaluating c.args.script.now) c.deref.result.now c.in_err-statements.field-0.0
-    c.from_residual-in_err-statements.result (record beside { files = g.F.Files.state c.args.files.now; scorer = g.S.Scorer.state c.args.scorer.now; out = g.O.Sink.state c.args.out.now }) c.from_residual-in_err-statements.ensures
+returns-in_err-statements g c =
+    let old = g.W.Outside.state c.args.outside.now in
+    Text-unparsed (StatementsRun (finds_in old.files.told) old.scorer.answer c.args.evaluating) c.args.script.now
+    (each_text (finds_in old.files.told) (finds_in-has old.files.told) old.scorer.answer c.args.evaluating c.args.script.now) c.deref.result.now c.in_err-statements.field-0.0
+    c.from_residual-in_err-statements.result old c.from_residual-in_err-statements.ensures
     (HasTokens-slice _ _ _ c.in_ok-tokens.ensures.spells c.in_ok-tokens.ensures.few c.deref.ensures.value) c.in_err-statements.ensures.refused
 
 pub run_statements-requires : goal.run_statements-requires
@@ -25,9 +29,10 @@ run_statements-requires g c = record {
 }
 
 pub returns : goal.returns
-returns g c = λ beside. Text-runs (StatementsRun (finds_in (g.F.Files.state c.args.files.now).told) (g.S.Scorer.state c.args.scorer.now).answer c.args.evaluating) c.args.script.now c.deref.result.now (commands_of c.in_ok-statements.statements.items)
-    c.run_statements.result (record beside { files = g.F.Files.state c.args.files.now; scorer = g.S.Scorer.state c.args.scorer.now; out = g.O.Sink.state c.args.out.now }) (record beside { files = g.F.Files.state c.run_statements.new.files; scorer = g.S.Scorer.state c.run_statements.new.scorer; out = g.O.Sink.state c.run_statements.new.out })
+returns g c =
+    let old = g.W.Outside.state c.args.outside.now in
+    let new = g.W.Outside.state c.run_statements.new.outside in
+    let run = StatementsRun (finds_in old.files.told) old.scorer.answer c.args.evaluating in
+    Text-runs run c.args.script.now c.deref.result.now (commands_of c.in_ok-statements.statements.items) c.run_statements.result old new
     (HasTokens-slice _ _ _ c.in_ok-tokens.ensures.spells c.in_ok-tokens.ensures.few c.deref.ensures.value) c.in_ok-statements.ensures.found c.in_ok-statements.ensures.sound
-    (subst (λ statements. Runs (StatementsRun (finds_in (g.F.Files.state c.args.files.now).told) (g.S.Scorer.state c.args.scorer.now).answer c.args.evaluating (commands_of statements)) c.run_statements.result
-    (record beside { files = g.F.Files.state c.args.files.now; scorer = g.S.Scorer.state c.args.scorer.now; out = g.O.Sink.state c.args.out.now }) (record beside { files = g.F.Files.state c.run_statements.new.files; scorer = g.S.Scorer.state c.run_statements.new.scorer; out = g.O.Sink.state c.run_statements.new.out }))
-    c.deref-2.ensures.value (c.run_statements.ensures beside))
+    (subst (λ statements. Runs (run (commands_of statements)) c.run_statements.result old new) c.deref-2.ensures.value c.run_statements.ensures)

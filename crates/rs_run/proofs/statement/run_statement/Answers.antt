@@ -4,29 +4,31 @@ use Rattle.rs_statement.specs.Parts.Session.{CanAllBeAsked, held_in, state_of}
 use Rattle.rs_events.specs.Events.{finds_in}
 use Rattle.rs_statement.specs.Session.{DoesInSession, close_outcome, declare_step, fetch_step}
 use Rattle.rs_statement.specs.Statements.{Does}
-use Rattle.rs_events.specs.Environment.{environment}
 use Rattle.rs_statement.proofs.HeldSteps.{asked-step, held-step}
 use Rattle.rs_statement.proofs.SessionSteps.{Stepped-beside, does-close, does-declare, does-fetch, if-ok, if-stepped, of_no_cursor}
 use Rattle.rs_events.proofs.SteppedFacts.{Stepped-is, Stepped-still}
 use Rattle.rs_run.proofs.statement.run_statement.Goals as goal
 
 pub declare-requires : goal.declare-requires
-declare-requires g c = record { written = rw c.in-Declare.is at c.requires.written; held = c.requires.held; asked = c.requires.asked }
+declare-requires g c = record {
+  written = rw c.in-Declare.is at c.requires.written;
+  held = rw c.scorer.ensures.value c.requires.held;
+  asked = rw c.scorer.ensures.value c.requires.asked;
+}
 
 pub returns-in-Declare : goal.returns-in-Declare
 returns-in-Declare g c =
-    let finds = finds_in (g.F.Files.state c.args.files.now).told in
-    let answer = (g.S.Scorer.state c.args.scorer.now).answer in
+    let old = g.W.Outside.state c.args.outside.now in
+    let finds = finds_in old.files.told in
+    let answer = old.scorer.answer in
     let state = state_of c.args.catalog.now (held_in c.args.session.now) in record {
-      does = λ beside. Stepped-is (DoesInSession finds answer c.args.evaluating state (command_of c.args.statement.now))
+      does = rw g.met.W.Outside.after_scorer (Stepped-is (DoesInSession finds answer c.args.evaluating state (command_of c.args.statement.now))
           (declare_step c.args.evaluating answer state c.in-Declare.name (query_of c.in-Declare.select))
-          (state_of c.args.catalog.now (held_in c.declare.new.session)) c.declare.result
-          (record beside { files = g.F.Files.state c.args.files.now; scorer = g.S.Scorer.state c.args.scorer.now; out = g.O.Sink.state c.args.out.now })
-          (record beside { files = g.F.Files.state c.args.files.now; scorer = g.S.Scorer.state c.declare.new.scorer; out = g.O.Sink.state c.args.out.now })
+          (state_of c.args.catalog.now (held_in c.declare.new.session)) c.declare.result old _
           (does-declare finds answer c.args.evaluating state c.args.statement.now c.in-Declare.name c.in-Declare.select c.in-Declare.is)
-          (c.declare.ensures.opens (record beside { files = g.F.Files.state c.args.files.now; out = g.O.Sink.state c.args.out.now }));
+          (rw c.scorer.ensures.value at c.declare.ensures.opens old));
       held = if-ok c.declare.result _ c.requires.held;
-      asked = c.declare.ensures.asked;
+      asked = rw c.scorer.ensures.value at c.declare.ensures.asked;
     }
 
 pub fetch-requires : goal.fetch-requires
@@ -34,28 +36,27 @@ fetch-requires g c = c.requires.asked
 
 pub returns-in-Fetch : goal.returns-in-Fetch
 returns-in-Fetch g c =
-    let finds = finds_in (g.F.Files.state c.args.files.now).told in
-    let answer = (g.S.Scorer.state c.args.scorer.now).answer in
+    let old = g.W.Outside.state c.args.outside.now in
+    let finds = finds_in old.files.told in
+    let answer = old.scorer.answer in
     let state = state_of c.args.catalog.now (held_in c.args.session.now) in record {
-      does = λ beside. Stepped-is (DoesInSession finds answer c.args.evaluating state (command_of c.args.statement.now))
+      does = Stepped-is (DoesInSession finds answer c.args.evaluating state (command_of c.args.statement.now))
           (fetch_step answer state c.in-Fetch.count c.in-Fetch.name)
-          (state_of c.args.catalog.now (held_in c.fetch.new.session)) c.fetch.result
-          (record beside { files = g.F.Files.state c.args.files.now; scorer = g.S.Scorer.state c.args.scorer.now; out = g.O.Sink.state c.args.out.now })
-          (record beside { files = g.F.Files.state c.args.files.now; scorer = g.S.Scorer.state c.fetch.new.scorer; out = g.O.Sink.state c.fetch.new.out })
+          (state_of c.args.catalog.now (held_in c.fetch.new.session)) c.fetch.result old _
           (does-fetch finds answer c.args.evaluating state c.args.statement.now c.in-Fetch.count c.in-Fetch.name c.in-Fetch.is)
-          (c.fetch.ensures.puts (record beside { files = g.F.Files.state c.args.files.now }));
+          c.fetch.ensures.puts;
       held = if-ok c.fetch.result _ c.requires.held;
       asked = c.fetch.ensures.asked;
     }
 
 pub returns-in-Close : goal.returns-in-Close
 returns-in-Close g c =
-    let finds = finds_in (g.F.Files.state c.args.files.now).told in
-    let answer = (g.S.Scorer.state c.args.scorer.now).answer in
+    let old = g.W.Outside.state c.args.outside.now in
+    let finds = finds_in old.files.told in
+    let answer = old.scorer.answer in
     let state = state_of c.args.catalog.now (held_in c.args.session.now) in record {
-      does = λ beside. Stepped-still (DoesInSession finds answer c.args.evaluating state (command_of c.args.statement.now))
-          (close_outcome state c.in-Close.name) (state_of c.args.catalog.now (held_in c.close.new.session)) c.close.result
-          (record beside { files = g.F.Files.state c.args.files.now; scorer = g.S.Scorer.state c.args.scorer.now; out = g.O.Sink.state c.args.out.now })
+      does = Stepped-still (DoesInSession finds answer c.args.evaluating state (command_of c.args.statement.now))
+          (close_outcome state c.in-Close.name) (state_of c.args.catalog.now (held_in c.close.new.session)) c.close.result old
           (does-close finds answer c.args.evaluating state c.args.statement.now c.in-Close.name c.in-Close.is)
           (c.close.ensures.closes c.args.catalog.now);
       held = if-ok c.close.result _ c.requires.held;
@@ -71,22 +72,20 @@ run_without_cursor-requires g c = record {
 
 pub returns-in_default : goal.returns-in_default
 returns-in_default g c =
-    let finds = finds_in (g.F.Files.state c.args.files.now).told in
-    let answer = (g.S.Scorer.state c.args.scorer.now).answer in
+    let old = g.W.Outside.state c.args.outside.now in
+    let finds = finds_in old.files.told in
+    let answer = old.scorer.answer in
     let catalogue = c.args.catalog.now in
     let entries = held_in c.args.session.now in
     let command = command_of c.args.statement.now in
     let next = c.run_without_cursor.new.catalog in
-    let at = environment (g.F.Files.state c.args.files.now) (g.S.Scorer.state c.args.scorer.now) (g.O.Sink.state c.args.out.now) (g.O.Sink.state c.args.out.now) in
-    let then = environment (g.F.Files.state c.run_without_cursor.new.files) (g.S.Scorer.state c.run_without_cursor.new.scorer) (g.O.Sink.state c.run_without_cursor.new.out) (g.O.Sink.state c.args.out.now) in
+    let new = g.W.Outside.state c.run_without_cursor.new.outside in
     let larger = c.cursors_stand_in_larger_catalogues.ensures in record {
-      does = λ beside. Stepped-beside finds answer c.args.evaluating (state_of catalogue entries) command next c.run_without_cursor.result
-          (record beside { files = g.F.Files.state c.args.files.now; scorer = g.S.Scorer.state c.args.scorer.now; out = g.O.Sink.state c.args.out.now })
-          (record beside { files = g.F.Files.state c.run_without_cursor.new.files; scorer = g.S.Scorer.state c.run_without_cursor.new.scorer; out = g.O.Sink.state c.run_without_cursor.new.out })
-          (of_no_cursor c.args.statement.now c.in_default.not-Declare c.in_default.not-Fetch c.in_default.not-Close) (c.run_without_cursor.ensures beside);
-      held = if-stepped (Does finds answer c.args.evaluating catalogue command) next c.run_without_cursor.result at then (IndexesHold answer next) (c.run_without_cursor.ensures at)
+      does = Stepped-beside finds answer c.args.evaluating (state_of catalogue entries) command next c.run_without_cursor.result old new
+          (of_no_cursor c.args.statement.now c.in_default.not-Declare c.in_default.not-Fetch c.in_default.not-Close) c.run_without_cursor.ensures;
+      held = if-stepped (Does finds answer c.args.evaluating catalogue command) next c.run_without_cursor.result old new (IndexesHold answer next) c.run_without_cursor.ensures
           (λ step does leaves. held-step answer catalogue finds c.args.evaluating command step next c.requires.held c.requires.written does leaves);
-      asked = if-stepped (Does finds answer c.args.evaluating catalogue command) next c.run_without_cursor.result at then (CanAllBeAsked answer next entries) (c.run_without_cursor.ensures at)
+      asked = if-stepped (Does finds answer c.args.evaluating catalogue command) next c.run_without_cursor.result old new (CanAllBeAsked answer next entries) c.run_without_cursor.ensures
           (λ step does leaves. asked-step answer catalogue finds c.args.evaluating command step next entries (record {
             tables = λ cursor name table. larger.tables catalogue answer cursor name table;
             predicates = λ cursor predicate. larger.predicates catalogue answer cursor predicate;

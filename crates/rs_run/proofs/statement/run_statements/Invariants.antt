@@ -4,19 +4,16 @@ use Rattle.rs_catalog.specs.Held.{IndexesHold}
 use Rattle.rs_events.specs.Events.{finds_in}
 use Rattle.rs_statement.specs.Parts.Session.{CanAllBeAsked, held_in, state_of}
 use Rattle.rs_statement.specs.Session.{DoesInSession, nothing}
-use Rattle.rs_events.specs.Environment.{Environment}
 use Rattle.rs_events.proofs.LoopFacts.{Between}
 use Rattle.rs_run.proofs.statement.run_statements.Given as goal
 
 -- what was done up to the next statement; each index that is there holds the scorer's answers, and each open cursor can be asked
 pub record Goes (g : goal.Over) (l : goal.Live-loop-statement g) : Type 0 where
-  pub between : (beside : Environment) → Between (DoesInSession (finds_in (g.F.Files.state l.fn.files).told) (g.S.Scorer.state l.fn.scorer).answer l.evaluating) nothing (commands_of l.fn.statements) l.statement-index
-      (state_of l.catalog (held_in l.session))
-      (record beside { files = g.F.Files.state l.fn.files; scorer = g.S.Scorer.state l.fn.scorer; out = g.O.Sink.state l.fn.out })
-      (record beside { files = g.F.Files.state l.files; scorer = g.S.Scorer.state l.scorer; out = g.O.Sink.state l.out })
+  pub between : Between (DoesInSession (finds_in (g.W.Outside.state l.fn.outside).files.told) (g.W.Outside.state l.fn.outside).scorer.answer l.evaluating) nothing (commands_of l.fn.statements) l.statement-index
+      (state_of l.catalog (held_in l.session)) (g.W.Outside.state l.fn.outside) (g.W.Outside.state l.outside)
   pub statements_same : l.statements ≡ l.fn.statements
-  pub held : IndexesHold (g.S.Scorer.state l.fn.scorer).answer l.catalog
-  pub asked : CanAllBeAsked (g.S.Scorer.state l.fn.scorer).answer l.catalog (held_in l.session)
+  pub held : IndexesHold (g.W.Outside.state l.fn.outside).scorer.answer l.catalog
+  pub asked : CanAllBeAsked (g.W.Outside.state l.fn.outside).scorer.answer l.catalog (held_in l.session)
 
 abbrev pub invariant-loop-statement : goal.invariant-loop-statement
 invariant-loop-statement g l = Goes g l

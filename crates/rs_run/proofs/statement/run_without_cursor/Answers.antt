@@ -7,26 +7,31 @@ use Rattle.rs_events.proofs.SteppedFacts.{Stepped-is, Stepped-map, Stepped-still
 use Rattle.rs_run.proofs.statement.run_without_cursor.Goals as goal
 
 pub returns-in-CreateTable : goal.returns-in-CreateTable
-returns-in-CreateTable g c = λ beside. Stepped-map
-    _
-    (Does (finds_in (g.F.Files.state c.args.files.now).told) (g.S.Scorer.state c.args.scorer.now).answer c.args.evaluating c.args.catalog.now (command_of c.args.statement.now)) c.create_table.new.catalog c.create_table.result
-    (record beside { files = g.F.Files.state c.args.files.now; scorer = g.S.Scorer.state c.args.scorer.now; out = g.O.Sink.state c.args.out.now }) (record beside { files = g.F.Files.state c.create_table.new.files; scorer = g.S.Scorer.state c.args.scorer.now; out = g.O.Sink.state c.args.out.now })
-    (Does-table (finds_in (g.F.Files.state c.args.files.now).told) (g.S.Scorer.state c.args.scorer.now).answer c.args.evaluating c.args.catalog.now c.args.statement.now c.in-CreateTable.name c.in-CreateTable.columns c.deref.result.now c.in-CreateTable.file c.in-CreateTable.is
+returns-in-CreateTable g c =
+    let old = g.W.Outside.state c.args.outside.now in
+    let finds = finds_in old.files.told in
+    rw g.met.W.Outside.after_files (
+    Stepped-map _ (Does finds old.scorer.answer c.args.evaluating c.args.catalog.now (command_of c.args.statement.now)) c.create_table.new.catalog c.create_table.result old _
+    (Does-table finds old.scorer.answer c.args.evaluating c.args.catalog.now c.args.statement.now c.in-CreateTable.name c.in-CreateTable.columns c.deref.result.now c.in-CreateTable.file c.in-CreateTable.is
     (c.deref.ensures.value ∙ c.items.ensures))
-    (c.create_table.ensures (record beside { files = g.F.Files.state c.args.files.now; scorer = g.S.Scorer.state c.args.scorer.now; out = g.O.Sink.state c.args.out.now }))
+    (rw c.files.ensures.value at c.create_table.ensures old))
 
 pub returns-in-CreateRankIndex : goal.returns-in-CreateRankIndex
-returns-in-CreateRankIndex g c = λ beside. Stepped-is (Does (finds_in (g.F.Files.state c.args.files.now).told) (g.S.Scorer.state c.args.scorer.now).answer c.args.evaluating c.args.catalog.now (command_of c.args.statement.now))
-    _
-    c.create_index.new.catalog c.create_index.result
-    (record beside { files = g.F.Files.state c.args.files.now; scorer = g.S.Scorer.state c.args.scorer.now; out = g.O.Sink.state c.args.out.now }) (record beside { files = g.F.Files.state c.args.files.now; scorer = g.S.Scorer.state c.create_index.new.scorer; out = g.O.Sink.state c.args.out.now })
-    (Does-index (finds_in (g.F.Files.state c.args.files.now).told) (g.S.Scorer.state c.args.scorer.now).answer c.args.evaluating c.args.catalog.now c.args.statement.now _ _ _ _ _ c.in-CreateRankIndex.is)
-    (c.create_index.ensures (record beside { files = g.F.Files.state c.args.files.now; scorer = g.S.Scorer.state c.args.scorer.now; out = g.O.Sink.state c.args.out.now }))
+returns-in-CreateRankIndex g c =
+    let old = g.W.Outside.state c.args.outside.now in
+    let finds = finds_in old.files.told in
+    rw g.met.W.Outside.after_scorer (
+    Stepped-is (Does finds old.scorer.answer c.args.evaluating c.args.catalog.now (command_of c.args.statement.now)) _ c.create_index.new.catalog c.create_index.result old _
+    (Does-index finds old.scorer.answer c.args.evaluating c.args.catalog.now c.args.statement.now _ _ _ _ _ c.in-CreateRankIndex.is)
+    (rw c.scorer.ensures.value at c.create_index.ensures old))
 
 pub returns-in-CreatePredicate : goal.returns-in-CreatePredicate
-returns-in-CreatePredicate g c = λ beside. Stepped-still (Does (finds_in (g.F.Files.state c.args.files.now).told) (g.S.Scorer.state c.args.scorer.now).answer c.args.evaluating c.args.catalog.now (command_of c.args.statement.now)) (predicate_outcome c.args.catalog.now c.in-CreatePredicate.name (command_of c.args.statement.now))
-    c.create_predicate.new.catalog c.create_predicate.result (record beside { files = g.F.Files.state c.args.files.now; scorer = g.S.Scorer.state c.args.scorer.now; out = g.O.Sink.state c.args.out.now })
-    (Does-predicate (finds_in (g.F.Files.state c.args.files.now).told) (g.S.Scorer.state c.args.scorer.now).answer c.args.evaluating c.args.catalog.now c.args.statement.now _ _ _ _ _ c.in-CreatePredicate.is) c.create_predicate.ensures
+returns-in-CreatePredicate g c =
+    let old = g.W.Outside.state c.args.outside.now in
+    let finds = finds_in old.files.told in
+    Stepped-still (Does finds old.scorer.answer c.args.evaluating c.args.catalog.now (command_of c.args.statement.now))
+    (predicate_outcome c.args.catalog.now c.in-CreatePredicate.name (command_of c.args.statement.now)) c.create_predicate.new.catalog c.create_predicate.result old
+    (Does-predicate finds old.scorer.answer c.args.evaluating c.args.catalog.now c.args.statement.now _ _ _ _ _ c.in-CreatePredicate.is) c.create_predicate.ensures
 
 pub unreachable-requires : goal.unreachable-requires
 unreachable-requires g c =
@@ -37,11 +42,12 @@ pub run_select-requires : goal.run_select-requires
 run_select-requires g c = record { written = rw c.in-Query.is at c.requires.written; held = c.requires.held }
 
 pub returns-in-Query : goal.returns-in-Query
-returns-in-Query g c = λ beside. Stepped-is (Does (finds_in (g.F.Files.state c.args.files.now).told) (g.S.Scorer.state c.args.scorer.now).answer c.args.evaluating c.args.catalog.now (command_of c.args.statement.now))
-    (select_step c.args.evaluating (g.S.Scorer.state c.args.scorer.now).answer c.args.catalog.now (query_of c.in-Query.select)) c.args.catalog.now c.run_select.result
-    (record beside { files = g.F.Files.state c.args.files.now; scorer = g.S.Scorer.state c.args.scorer.now; out = g.O.Sink.state c.args.out.now }) (record beside { files = g.F.Files.state c.args.files.now; scorer = g.S.Scorer.state c.run_select.new.scorer; out = g.O.Sink.state c.run_select.new.out })
-    (Does-query (finds_in (g.F.Files.state c.args.files.now).told) (g.S.Scorer.state c.args.scorer.now).answer c.args.evaluating c.args.catalog.now c.args.statement.now c.in-Query.select c.in-Query.is)
-    (c.run_select.ensures (record beside { files = g.F.Files.state c.args.files.now; scorer = g.S.Scorer.state c.args.scorer.now; out = g.O.Sink.state c.args.out.now }))
+returns-in-Query g c =
+    let old = g.W.Outside.state c.args.outside.now in
+    let finds = finds_in old.files.told in
+    Stepped-is (Does finds old.scorer.answer c.args.evaluating c.args.catalog.now (command_of c.args.statement.now))
+    (select_step c.args.evaluating old.scorer.answer c.args.catalog.now (query_of c.in-Query.select)) c.args.catalog.now c.run_select.result old _
+    (Does-query finds old.scorer.answer c.args.evaluating c.args.catalog.now c.args.statement.now c.in-Query.select c.in-Query.is) c.run_select.ensures
 
 pub run_explain-requires : goal.run_explain-requires
 run_explain-requires g c = record { written = rw c.in-Explain.is at c.requires.written }
@@ -50,15 +56,17 @@ pub run_analyze-requires : goal.run_analyze-requires
 run_analyze-requires g c = record { written = rw c.in-ExplainAnalyze.is at c.requires.written; held = c.requires.held }
 
 pub returns-in-Explain : goal.returns-in-Explain
-returns-in-Explain g c = λ beside. Stepped-is (Does (finds_in (g.F.Files.state c.args.files.now).told) (g.S.Scorer.state c.args.scorer.now).answer c.args.evaluating c.args.catalog.now (command_of c.args.statement.now))
-    (explain_step c.args.evaluating (g.S.Scorer.state c.args.scorer.now).answer c.args.catalog.now (query_of c.in-Explain.select)) c.args.catalog.now c.run_explain.result
-    (record beside { files = g.F.Files.state c.args.files.now; scorer = g.S.Scorer.state c.args.scorer.now; out = g.O.Sink.state c.args.out.now }) (record beside { files = g.F.Files.state c.args.files.now; scorer = g.S.Scorer.state c.run_explain.new.scorer; out = g.O.Sink.state c.run_explain.new.out })
-    (Does-explain (finds_in (g.F.Files.state c.args.files.now).told) (g.S.Scorer.state c.args.scorer.now).answer c.args.evaluating c.args.catalog.now c.args.statement.now c.in-Explain.select c.in-Explain.is)
-    (c.run_explain.ensures (record beside { files = g.F.Files.state c.args.files.now; scorer = g.S.Scorer.state c.args.scorer.now; out = g.O.Sink.state c.args.out.now }))
+returns-in-Explain g c =
+    let old = g.W.Outside.state c.args.outside.now in
+    let finds = finds_in old.files.told in
+    Stepped-is (Does finds old.scorer.answer c.args.evaluating c.args.catalog.now (command_of c.args.statement.now))
+    (explain_step c.args.evaluating old.scorer.answer c.args.catalog.now (query_of c.in-Explain.select)) c.args.catalog.now c.run_explain.result old _
+    (Does-explain finds old.scorer.answer c.args.evaluating c.args.catalog.now c.args.statement.now c.in-Explain.select c.in-Explain.is) c.run_explain.ensures
 
 pub returns-in-ExplainAnalyze : goal.returns-in-ExplainAnalyze
-returns-in-ExplainAnalyze g c = λ beside. Stepped-is (Does (finds_in (g.F.Files.state c.args.files.now).told) (g.S.Scorer.state c.args.scorer.now).answer c.args.evaluating c.args.catalog.now (command_of c.args.statement.now))
-    (analyze_step c.args.evaluating (g.S.Scorer.state c.args.scorer.now).answer c.args.catalog.now (query_of c.in-ExplainAnalyze.select)) c.args.catalog.now c.run_analyze.result
-    (record beside { files = g.F.Files.state c.args.files.now; scorer = g.S.Scorer.state c.args.scorer.now; out = g.O.Sink.state c.args.out.now }) (record beside { files = g.F.Files.state c.args.files.now; scorer = g.S.Scorer.state c.run_analyze.new.scorer; out = g.O.Sink.state c.run_analyze.new.out })
-    (Does-analyze (finds_in (g.F.Files.state c.args.files.now).told) (g.S.Scorer.state c.args.scorer.now).answer c.args.evaluating c.args.catalog.now c.args.statement.now c.in-ExplainAnalyze.select c.in-ExplainAnalyze.is)
-    (c.run_analyze.ensures (record beside { files = g.F.Files.state c.args.files.now; scorer = g.S.Scorer.state c.args.scorer.now; out = g.O.Sink.state c.args.out.now }))
+returns-in-ExplainAnalyze g c =
+    let old = g.W.Outside.state c.args.outside.now in
+    let finds = finds_in old.files.told in
+    Stepped-is (Does finds old.scorer.answer c.args.evaluating c.args.catalog.now (command_of c.args.statement.now))
+    (analyze_step c.args.evaluating old.scorer.answer c.args.catalog.now (query_of c.in-ExplainAnalyze.select)) c.args.catalog.now c.run_analyze.result old _
+    (Does-analyze finds old.scorer.answer c.args.evaluating c.args.catalog.now c.args.statement.now c.in-ExplainAnalyze.select c.in-ExplainAnalyze.is) c.run_analyze.ensures

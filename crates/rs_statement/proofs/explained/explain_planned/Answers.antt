@@ -22,20 +22,22 @@ use Rattle.rs_events.proofs.SteppedFacts.{Stepped-lines, Stepped-no_memory}
 use Rattle.rs_statement.proofs.explained.explain_planned.Goals as goal
 
 pub returns-in_err-query : goal.returns-in_err-query
-returns-in_err-query g c = λ beside. rw (given-err c.from_residual.result (bind_fault c.in_err-query.field-0.0) c.from_residual.ensures) (
-    Stepped-refused (explained_step (g.S.Scorer.state c.args.scorer.now).answer c.args.catalog.now c.args.seed)
+returns-in_err-query g c =
+    let old = g.W.Outside.state c.args.outside.now in
+    rw (given-err c.from_residual.result (bind_fault c.in_err-query.field-0.0) c.from_residual.ensures) (
+    Stepped-refused (explained_step old.scorer.answer c.args.catalog.now c.args.seed)
     (or_bind_fault (bound_query c.args.catalog.now (query_of c.args.select.now))) (bind_fault c.in_err-query.field-0.0) c.args.catalog.now
-    (record beside { scorer = g.S.Scorer.state c.args.scorer.now; out = g.O.Sink.state c.args.out.now }) (Gives-unbound _ _ _ c.in_err-query.ensures.gives refl))
+    old (Gives-unbound _ _ _ c.in_err-query.ensures.gives refl))
 
 pub returns-in-Err : goal.returns-in-Err
-returns-in-Err g c = λ beside.
-    let answer = (g.S.Scorer.state c.args.scorer.now).answer in
+returns-in-Err g c =
+    let old = g.W.Outside.state c.args.outside.now in
+    let answer = old.scorer.answer in
     let catalogue = c.args.catalog.now in
+    rw g.met.W.Outside.after_scorer (
     Sampled-broken catalogue c.args.seed (λ query. lines_step (text_of catalogue query (cards_for answer catalogue c.args.seed query) (plan_for answer catalogue c.args.seed query) None ∷ []) catalogue)
     (or_bind_fault (bound_query catalogue (query_of c.args.select.now))) c.in_ok-query.query (Gives-bound _ _ c.in_ok-query.ensures.gives)
-    (record beside { scorer = g.S.Scorer.state c.args.scorer.now; out = g.O.Sink.state c.args.out.now })
-    (record beside { scorer = g.S.Scorer.state c.take_sample.new.scorer; out = g.O.Sink.state c.args.out.now }) c.in-Err.fault
-    (c.in-Err.ensures.calls (record beside { out = g.O.Sink.state c.args.out.now }))
+    old _ c.in-Err.fault (rw c.scorer.ensures.value at c.in-Err.ensures.calls old))
 
 pub choose_plan-requires : goal.choose_plan-requires
 choose_plan-requires g c = record {
@@ -44,51 +46,54 @@ choose_plan-requires g c = record {
 }
 
 pub returns-in-Err-choose_plan : goal.returns-in-Err-choose_plan
-returns-in-Err-choose_plan g c = λ beside.
-    let answer = (g.S.Scorer.state c.args.scorer.now).answer in
+returns-in-Err-choose_plan g c =
+    let old = g.W.Outside.state c.args.outside.now in
+    let answer = old.scorer.answer in
     let catalogue = c.args.catalog.now in
     let query = c.in_ok-query.query in
-    let middle = record beside { scorer = g.S.Scorer.state c.take_sample.new.scorer; out = g.O.Sink.state c.args.out.now } in
+    let middle = record old { scorer = g.W.Scorer.Scorer.state c.take_sample.new.scorer } in
     let rest : Query → Step CatalogDef = λ query. lines_step (text_of catalogue query (cards_for answer catalogue c.args.seed query) (plan_for answer catalogue c.args.seed query) None ∷ []) catalogue in
+    rw g.met.W.Outside.after_scorer (
     Sampled-then catalogue c.args.seed rest (or_bind_fault (bound_query catalogue (query_of c.args.select.now))) query (Gives-bound _ _ c.in_ok-query.ensures.gives)
-    (record beside { scorer = g.S.Scorer.state c.args.scorer.now; out = g.O.Sink.state c.args.out.now }) middle (Err Memory) middle
-    (c.in-Ok.ensures.calls (record beside { out = g.O.Sink.state c.args.out.now }))
-    (Stepped-no_memory (λ step. step ≡ rest query) (rest query) catalogue middle refl)
+    old middle (Err Memory) middle (rw c.scorer.ensures.value at c.in-Ok.ensures.calls old)
+    (Stepped-no_memory (λ step. step ≡ rest query) (rest query) catalogue middle refl))
 
 pub explain-told-requires : goal.explain-told-requires
 explain-told-requires g c = record { query = c.in_ok-query.ensures.formed; cards = c.in-Ok.ensures.own; plan = c.in-Ok-choose_plan.ensures.plan; counts = tt }
 
 pub returns-in_err-text : goal.returns-in_err-text
-returns-in_err-text g c = λ beside.
-    let answer = (g.S.Scorer.state c.args.scorer.now).answer in
+returns-in_err-text g c =
+    let old = g.W.Outside.state c.args.outside.now in
+    let answer = old.scorer.answer in
     let catalogue = c.args.catalog.now in
     let query = c.in_ok-query.query in
-    let middle = record beside { scorer = g.S.Scorer.state c.take_sample.new.scorer; out = g.O.Sink.state c.args.out.now } in
+    let middle = record old { scorer = g.W.Scorer.Scorer.state c.take_sample.new.scorer } in
     let rest : Query → Step CatalogDef = λ query. lines_step (text_of catalogue query (cards_for answer catalogue c.args.seed query) (plan_for answer catalogue c.args.seed query) None ∷ []) catalogue in
-    rw (given-err c.from_residual-in_err-text.result Memory c.from_residual-in_err-text.ensures) (
+    rw (given-err c.from_residual-in_err-text.result Memory c.from_residual-in_err-text.ensures, g.met.W.Outside.after_scorer) (
     Sampled-then catalogue c.args.seed rest (or_bind_fault (bound_query catalogue (query_of c.args.select.now))) query (Gives-bound _ _ c.in_ok-query.ensures.gives)
-    (record beside { scorer = g.S.Scorer.state c.args.scorer.now; out = g.O.Sink.state c.args.out.now }) middle (Err Memory) middle
-    (c.in-Ok.ensures.calls (record beside { out = g.O.Sink.state c.args.out.now }))
+    old middle (Err Memory) middle (rw c.scorer.ensures.value at c.in-Ok.ensures.calls old)
     (Stepped-no_memory (λ step. step ≡ rest query) (rest query) catalogue middle refl))
 
 pub returns : goal.returns
-returns g c = λ beside.
-    let answer = (g.S.Scorer.state c.args.scorer.now).answer in
+returns g c =
+    let old = g.W.Outside.state c.args.outside.now in
+    let answer = old.scorer.answer in
     let catalogue = c.args.catalog.now in
     let query = c.in_ok-query.query in
     let cards = cards_for answer catalogue c.args.seed query in
     let plan = plan_for answer catalogue c.args.seed query in
-    let middle = record beside { scorer = g.S.Scorer.state c.take_sample.new.scorer; out = g.O.Sink.state c.args.out.now } in
-    let new = record beside { scorer = g.S.Scorer.state c.take_sample.new.scorer; out = g.O.Sink.state c.put_text.new.out } in
-    let tree = c.in-Ok-choose_plan.ensures.tree cards c.in-Ok.ensures.cards in
+    let middle = record old { scorer = g.W.Scorer.Scorer.state c.take_sample.new.scorer } in
+    let new = record middle { out = g.W.Out.Sink.state c.put_text.new.out } in
+    let same = rw c.scorer.ensures.value at c.in-Ok.ensures.cards in
+    let tree = c.in-Ok-choose_plan.ensures.tree cards same in
     let text : c.deref.result.now ≡ text_of catalogue query cards plan None =
     c.deref.ensures.value ∙ c.in_ok-text.ensures
     ∙ c.cards_decide_the_text.ensures catalogue query (cards_of c.in-Ok.cards) cards (tree_of c.in-Ok-choose_plan.plan) None c.in_ok-query.ensures.formed c.in-Ok.ensures.own
-    c.in-Ok.ensures.cards c.in-Ok-choose_plan.ensures.plan
+    same c.in-Ok-choose_plan.ensures.plan
     ∙ ap (λ t. text_of catalogue query cards t None) tree in
+    rw (g.met.W.Outside.after_out, g.met.W.Outside.after_scorer) (
     Sampled-then catalogue c.args.seed (λ query. lines_step (text_of catalogue query (cards_for answer catalogue c.args.seed query) (plan_for answer catalogue c.args.seed query) None ∷ []) catalogue)
     (or_bind_fault (bound_query catalogue (query_of c.args.select.now))) query (Gives-bound _ _ c.in_ok-query.ensures.gives)
-    (record beside { scorer = g.S.Scorer.state c.args.scorer.now; out = g.O.Sink.state c.args.out.now }) new c.put_text.result middle
-    (c.in-Ok.ensures.calls (record beside { out = g.O.Sink.state c.args.out.now }))
+    old new c.put_text.result middle (rw c.scorer.ensures.value at c.in-Ok.ensures.calls old)
     (Stepped-lines (text_of catalogue query cards plan None ∷ []) catalogue c.put_text.result middle new
-    (subst (λ t. Ran (lines_run (t ∷ [])) c.put_text.result middle new) text (c.put_text.ensures (record beside { scorer = g.S.Scorer.state c.take_sample.new.scorer }))))
+    (subst (λ t. Ran (lines_run (t ∷ [])) c.put_text.result middle new) text (rw (c.out.ensures.value, g.met.W.Outside.after_scorer) at c.put_text.ensures middle))))

@@ -1,55 +1,47 @@
 use Rattle.std.proofs.Common.{ap, refl, subst, sym}
 use Rattle.std.specs.Prelude.{Ok}
-use Rattle.rs_value.specs.Outside.{untold}
 use Rattle.rs_value.proofs.ResultFacts.{given-err}
 use Rattle.rs_exec.specs.Cursors.{StandsFor}
 use Rattle.rs_statement.specs.Parts.Asks.{left_of}
-use Rattle.rs_events.specs.Environment.{environment}
 use Rattle.rs_statement.proofs.LeftSteps.{Left-broken, Left-ended, Left-more, as_they_are, fewer-asks}
 use Rattle.rs_events.proofs.SoFar.{SoFar-start}
 use Rattle.rs_statement.proofs.planned.put_all.Goals as goal
 
 pub loop-lines-init : goal.loop-lines-init
-loop-lines-init g c = record {
-  so_far = λ beside. SoFar-start (left_of c.args.catalog.now (g.S.Scorer.state c.args.scorer.now).answer c.args.cursor.now)
-      (record beside { scorer = g.S.Scorer.state c.args.scorer.now; out = g.O.Sink.state c.args.out.now });
-  stands = c.requires.stands;
-}
+loop-lines-init g c =
+    let old = g.W.Outside.state c.args.outside.now in
+    record { so_far = SoFar-start (left_of c.args.catalog.now old.scorer.answer c.args.cursor.now) old; stands = c.requires.stands }
 
 pub put_next-requires : goal.put_next-requires
-put_next-requires g c =
-    let at = environment (untold 0) (g.S.Scorer.state c.args.scorer.now) (g.O.Sink.state c.args.out.now) (g.O.Sink.state c.args.out.now) in
-    record { stands = subst (λ answer. StandsFor c.args.catalog.now answer c.loop-lines.cursor) (sym (c.loop-lines.invariant.so_far at).has.keeps.scorer.answer) c.loop-lines.invariant.stands }
+put_next-requires g c = record {
+  stands = subst (λ answer. StandsFor c.args.catalog.now answer c.loop-lines.cursor) (sym c.loop-lines.invariant.so_far.has.keeps.scorer.answer) c.loop-lines.invariant.stands;
+}
 
 pub returns-in_err-put_next : goal.returns-in_err-put_next
-returns-in_err-put_next g c = λ beside. rw (given-err c.from_residual.result c.in_err-put_next.field-0.0 c.from_residual.ensures) (
-    Left-broken as_they_are (λ first rest. refl) c.args.catalog.now (g.S.Scorer.state c.args.scorer.now).answer (left_of c.args.catalog.now (g.S.Scorer.state c.args.scorer.now).answer c.args.cursor.now) c.loop-lines.cursor
-    (record beside { scorer = g.S.Scorer.state c.args.scorer.now; out = g.O.Sink.state c.args.out.now }) (record beside { scorer = g.S.Scorer.state c.loop-lines.scorer; out = g.O.Sink.state c.loop-lines.out })
-    (record beside { scorer = g.S.Scorer.state c.put_next.new.scorer; out = g.O.Sink.state c.put_next.new.out })
-    (c.loop-lines.invariant.so_far beside) (c.loop-lines.invariant.so_far beside).has.keeps.scorer.answer c.loop-lines.invariant.stands c.in_err-put_next.field-0.0 (c.in_err-put_next.ensures.puts beside))
+returns-in_err-put_next g c =
+    let old = g.W.Outside.state c.args.outside.now in
+    let so_far = c.loop-lines.invariant.so_far in
+    rw (given-err c.from_residual.result c.in_err-put_next.field-0.0 c.from_residual.ensures) (
+    Left-broken as_they_are (λ first rest. refl) c.args.catalog.now old.scorer.answer (left_of c.args.catalog.now old.scorer.answer c.args.cursor.now) c.loop-lines.cursor old _ _
+    so_far so_far.has.keeps.scorer.answer c.loop-lines.invariant.stands c.in_err-put_next.field-0.0 c.in_err-put_next.ensures.puts)
 
 pub loop-lines-smaller : goal.loop-lines-smaller
 loop-lines-smaller g c =
-    let at = environment (untold 0) (g.S.Scorer.state c.args.scorer.now) (g.O.Sink.state c.args.out.now) (g.O.Sink.state c.args.out.now) in
-    fewer-asks c.args.catalog.now (g.S.Scorer.state c.args.scorer.now).answer c.loop-lines.cursor c.put_next.new.cursor (c.in_ok-put_next.ensures.more (ap Ok c.if-branch.true))
-    (subst (λ answer. StandsFor c.args.catalog.now answer c.put_next.new.cursor) (c.loop-lines.invariant.so_far at).has.keeps.scorer.answer c.in_ok-put_next.ensures.stands)
+    fewer-asks c.args.catalog.now (g.W.Outside.state c.args.outside.now).scorer.answer c.loop-lines.cursor c.put_next.new.cursor (c.in_ok-put_next.ensures.more (ap Ok c.if-branch.true))
+    (subst (λ answer. StandsFor c.args.catalog.now answer c.put_next.new.cursor) c.loop-lines.invariant.so_far.has.keeps.scorer.answer c.in_ok-put_next.ensures.stands)
 
 pub loop-lines-preserved : goal.loop-lines-preserved
 loop-lines-preserved g c =
-    let at = environment (untold 0) (g.S.Scorer.state c.args.scorer.now) (g.O.Sink.state c.args.out.now) (g.O.Sink.state c.args.out.now) in record {
-      so_far = λ beside. Left-more as_they_are (λ first rest. refl) c.args.catalog.now (g.S.Scorer.state c.args.scorer.now).answer (left_of c.args.catalog.now (g.S.Scorer.state c.args.scorer.now).answer c.args.cursor.now)
-          c.loop-lines.cursor (record beside { scorer = g.S.Scorer.state c.args.scorer.now; out = g.O.Sink.state c.args.out.now })
-          (record beside { scorer = g.S.Scorer.state c.loop-lines.scorer; out = g.O.Sink.state c.loop-lines.out })
-          (record beside { scorer = g.S.Scorer.state c.put_next.new.scorer; out = g.O.Sink.state c.put_next.new.out })
-          (c.loop-lines.invariant.so_far beside) (c.loop-lines.invariant.so_far beside).has.keeps.scorer.answer c.put_next.new.cursor
-          (c.in_ok-put_next.ensures.left (ap Ok c.if-branch.true)) (c.in_ok-put_next.ensures.puts beside);
-      stands = subst (λ answer. StandsFor c.args.catalog.now answer c.put_next.new.cursor) (c.loop-lines.invariant.so_far at).has.keeps.scorer.answer
-          c.in_ok-put_next.ensures.stands;
+    let old = g.W.Outside.state c.args.outside.now in
+    let so_far = c.loop-lines.invariant.so_far in record {
+      so_far = Left-more as_they_are (λ first rest. refl) c.args.catalog.now old.scorer.answer (left_of c.args.catalog.now old.scorer.answer c.args.cursor.now) c.loop-lines.cursor old _ _
+          so_far so_far.has.keeps.scorer.answer c.put_next.new.cursor (c.in_ok-put_next.ensures.left (ap Ok c.if-branch.true)) c.in_ok-put_next.ensures.puts;
+      stands = subst (λ answer. StandsFor c.args.catalog.now answer c.put_next.new.cursor) so_far.has.keeps.scorer.answer c.in_ok-put_next.ensures.stands;
     }
 
 pub returns : goal.returns
-returns g c = λ beside.
-    Left-ended as_they_are (λ first rest. refl) c.args.catalog.now (g.S.Scorer.state c.args.scorer.now).answer (left_of c.args.catalog.now (g.S.Scorer.state c.args.scorer.now).answer c.args.cursor.now) c.loop-lines.cursor
-    (record beside { scorer = g.S.Scorer.state c.args.scorer.now; out = g.O.Sink.state c.args.out.now }) (record beside { scorer = g.S.Scorer.state c.loop-lines.scorer; out = g.O.Sink.state c.loop-lines.out })
-    (record beside { scorer = g.S.Scorer.state c.put_next.new.scorer; out = g.O.Sink.state c.put_next.new.out })
-    (c.loop-lines.invariant.so_far beside) (c.loop-lines.invariant.so_far beside).has.keeps.scorer.answer (c.in_ok-put_next.ensures.end (ap Ok c.if-branch.false)) (c.in_ok-put_next.ensures.puts beside)
+returns g c =
+    let old = g.W.Outside.state c.args.outside.now in
+    let so_far = c.loop-lines.invariant.so_far in
+    Left-ended as_they_are (λ first rest. refl) c.args.catalog.now old.scorer.answer (left_of c.args.catalog.now old.scorer.answer c.args.cursor.now) c.loop-lines.cursor old _ _
+    so_far so_far.has.keeps.scorer.answer (c.in_ok-put_next.ensures.end (ap Ok c.if-branch.false)) c.in_ok-put_next.ensures.puts

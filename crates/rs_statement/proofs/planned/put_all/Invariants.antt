@@ -3,20 +3,19 @@ use Rattle.rs_plan.specs.Lists.{list_of_plan}
 use Rattle.rs_exec.specs.Asking.{world_of}
 use Rattle.rs_exec.specs.Cursors.{StandsFor, asks_of, plan_of}
 use Rattle.rs_statement.specs.Parts.Asks.{left_of}
-use Rattle.rs_events.specs.Environment.{Environment}
 use Rattle.rs_events.proofs.SoFar.{SoFar}
 use Rattle.rs_statement.proofs.planned.put_all.Given as goal
 
 -- some asks were made and their rows put; the others are left, and the cursor stands
 abbrev pub invariant-loop-lines : goal.invariant-loop-lines
 invariant-loop-lines g l =
-    let answer = (g.S.Scorer.state l.fn.scorer).answer in record {
-      so_far : (beside : Environment) → SoFar (left_of l.catalog answer l.fn.cursor) (left_of l.catalog answer l.cursor)
-          (record beside { scorer = g.S.Scorer.state l.fn.scorer; out = g.O.Sink.state l.fn.out }) (record beside { scorer = g.S.Scorer.state l.scorer; out = g.O.Sink.state l.out });
+    let answer = (g.W.Outside.state l.fn.outside).scorer.answer in record {
+      so_far : SoFar (left_of l.catalog answer l.fn.cursor) (left_of l.catalog answer l.cursor)
+          (g.W.Outside.state l.fn.outside) (g.W.Outside.state l.outside);
       stands : StandsFor l.catalog answer l.cursor;
     }
 
 -- the asks that are left
 abbrev pub decreases-loop-lines : goal.decreases-loop-lines
 decreases-loop-lines g l =
-    suc (length (list_of_plan (world_of l.catalog (g.S.Scorer.state l.fn.scorer).answer l.cursor.query) (plan_of l.cursor))) - asks_of l.cursor
+    suc (length (list_of_plan (world_of l.catalog (g.W.Outside.state l.fn.outside).scorer.answer l.cursor.query) (plan_of l.cursor))) - asks_of l.cursor

@@ -13,66 +13,70 @@ use Rattle.rs_statement.proofs.NamedFacts.{names-call}
 use Rattle.rs_events.proofs.RanFacts.{HasDone-none, Ran-all}
 use Rattle.rs_statement.proofs.planned.put_next.Goals as goal
 
+pub next-requires : goal.next-requires
+next-requires g c = rw c.scorer.ensures.value (λ sound. c.requires.stands)
+
 pub rank_of-requires : goal.rank_of-requires
-rank_of-requires g c = (c.args.catalog.now, (g.S.Scorer.state c.args.scorer.now).answer, c.in-Ok-Some.ensures.stands)
+rank_of-requires g c = (c.args.catalog.now, (g.W.Scorer.Scorer.state c.scorer.result.now).answer, c.in-Ok-Some.ensures.stands)
 
 pub ask_fault-requires : goal.ask_fault-requires
 ask_fault-requires g c =
-    names-call c.args.catalog.now (g.S.Scorer.state c.args.scorer.now).answer c.args.cursor.now c.in-Err.why (g.S.Scorer.state c.args.scorer.now) (g.S.Scorer.state c.next.new.scorer)
-    c.requires.stands c.in-Err.ensures.asks
+    let old = g.W.Outside.state c.args.outside.now in
+    names-call c.args.catalog.now old.scorer.answer c.args.cursor.now c.in-Err.why old.scorer (g.W.Scorer.Scorer.state c.next.new.scorer)
+    c.requires.stands (rw c.scorer.ensures.value at c.in-Err.ensures.asks)
 
 pub returns-in-Err : goal.returns-in-Err
-returns-in-Err g c = record {
-  puts = λ beside. Stepped-unasked (given_lines (suc (asks_of c.args.cursor.now))) (ask_outcome c.args.catalog.now) exec.Memory
-      (call_of c.args.catalog.now (g.S.Scorer.state c.args.scorer.now).answer c.args.cursor.now) c.args.catalog.now
-      (record beside { scorer = g.S.Scorer.state c.args.scorer.now; out = g.O.Sink.state c.args.out.now }) (g.S.Scorer.state c.next.new.scorer)
-      (ask_fault c.args.catalog.now) c.in-Err.why c.ask_fault.result refl refl refl
-      (probes-call c.args.catalog.now (g.S.Scorer.state c.args.scorer.now).answer c.args.cursor.now) c.in-Err.ensures.asks c.ask_fault.ensures;
-  more = λ e. absurd cc;
-  count = tt;
-  over = λ e. absurd cc;
-  stands = tt;
-  left = λ e. absurd cc;
-  rank = λ e. absurd cc;
-  end = λ e. absurd cc;
-}
+returns-in-Err g c =
+    let old = g.W.Outside.state c.args.outside.now in record {
+      puts = rw g.met.W.Outside.after_scorer (Stepped-unasked (given_lines (suc (asks_of c.args.cursor.now))) (ask_outcome c.args.catalog.now) exec.Memory
+          (call_of c.args.catalog.now old.scorer.answer c.args.cursor.now) c.args.catalog.now old (g.W.Scorer.Scorer.state c.next.new.scorer)
+          (ask_fault c.args.catalog.now) c.in-Err.why c.ask_fault.result refl refl refl
+          (probes-call c.args.catalog.now old.scorer.answer c.args.cursor.now) (rw c.scorer.ensures.value at c.in-Err.ensures.asks) c.ask_fault.ensures);
+      more = λ e. absurd cc;
+      count = tt;
+      over = λ e. absurd cc;
+      stands = tt;
+      left = λ e. absurd cc;
+      rank = λ e. absurd cc;
+      end = λ e. absurd cc;
+    }
 
 pub returns-in-Ok-None : goal.returns-in-Ok-None
 returns-in-Ok-None g c =
-    let asks = rw c.in-Ok-None.field-0-is at c.in-Ok-None.ensures.asks in
+    let catalogue = c.args.catalog.now in
+    let old = g.W.Outside.state c.args.outside.now in
+    let scorer = g.W.Scorer.Scorer.state c.next.new.scorer in
+    let asks = rw (c.in-Ok-None.field-0-is, c.scorer.ensures.value) at c.in-Ok-None.ensures.asks in
+    let stands = rw c.scorer.ensures.value at c.in-Ok-None.ensures.stands in
     let at : IsAt c.args.cursor.now.query (plan_of c.args.cursor.now)
-    (asks_after (world_of c.args.catalog.now (g.S.Scorer.state c.args.scorer.now).answer c.args.cursor.now.query) (plan_of c.args.cursor.now) (asks_of c.args.cursor.now)) c.next.new.self =
-    record { query_is = c.next.ensures.query; plan_is = c.in-Ok-None.ensures.plan; asks_are = c.in-Ok-None.ensures.count } in record {
-      puts = λ beside. Stepped-asked (given_lines (suc (asks_of c.args.cursor.now))) (ask_outcome c.args.catalog.now) exec.Memory
-          (call_of c.args.catalog.now (g.S.Scorer.state c.args.scorer.now).answer c.args.cursor.now) c.args.catalog.now
-          (record beside { scorer = g.S.Scorer.state c.args.scorer.now; out = g.O.Sink.state c.args.out.now }) (g.S.Scorer.state c.next.new.scorer)
-          None (Ok tt) (record beside { scorer = g.S.Scorer.state c.next.new.scorer; out = g.O.Sink.state c.args.out.now }) refl asks
-          (Ran-all (lines_run []) (Ok tt) _ _ (HasDone-none (record beside { scorer = g.S.Scorer.state c.next.new.scorer; out = g.O.Sink.state c.args.out.now })) refl);
+    (asks_after (world_of catalogue old.scorer.answer c.args.cursor.now.query) (plan_of c.args.cursor.now) (asks_of c.args.cursor.now)) c.next.new.self =
+    record { query_is = c.next.ensures.query; plan_is = c.in-Ok-None.ensures.plan; asks_are = rw c.scorer.ensures.value at c.in-Ok-None.ensures.count } in record {
+      puts = rw g.met.W.Outside.after_scorer (Stepped-asked (given_lines (suc (asks_of c.args.cursor.now))) (ask_outcome catalogue) exec.Memory
+          (call_of catalogue old.scorer.answer c.args.cursor.now) catalogue old scorer None (Ok tt) (record old { scorer = scorer }) refl asks
+          (Ran-all (lines_run []) (Ok tt) _ _ (HasDone-none (record old { scorer = scorer })) refl));
       more = λ e. absurd cc;
       count = at;
-      over = λ e. over-call c.args.catalog.now (g.S.Scorer.state c.args.scorer.now).answer c.args.cursor.now c.requires.stands c.next.new.self
-          (g.S.Scorer.state c.args.scorer.now) (g.S.Scorer.state c.next.new.scorer) asks at c.in-Ok-None.ensures.stands;
-      stands = c.in-Ok-None.ensures.stands;
+      over = λ e. over-call catalogue old.scorer.answer c.args.cursor.now c.requires.stands c.next.new.self old.scorer scorer asks at stands;
+      stands = stands;
       left = λ e. absurd cc;
       rank = λ e. absurd cc;
-      end = λ e. ended-call c.args.catalog.now (g.S.Scorer.state c.args.scorer.now).answer c.args.cursor.now c.requires.stands
-          (g.S.Scorer.state c.args.scorer.now) (g.S.Scorer.state c.next.new.scorer) asks;
+      end = λ e. ended-call catalogue old.scorer.answer c.args.cursor.now c.requires.stands old.scorer scorer asks;
     }
 
 pub returns-in_err-put_row-in-Ok-Some : goal.returns-in_err-put_row-in-Ok-Some
 returns-in_err-put_row-in-Ok-Some g c =
     let catalogue = c.args.catalog.now in
-    let answer = (g.S.Scorer.state c.args.scorer.now).answer in
+    let old = g.W.Outside.state c.args.outside.now in
     let cursor = c.args.cursor.now in
-    let asks = rw c.in-Ok-Some.field-0-is at c.in-Ok-Some.ensures.asks in
-    let given = given-call catalogue answer cursor c.requires.stands c.in-Ok-Some.row c.next.new.self (g.S.Scorer.state c.args.scorer.now) (g.S.Scorer.state c.next.new.scorer)
-    asks c.next.ensures.query c.in-Ok-Some.ensures.plan c.in-Ok-Some.ensures.count in
+    let scorer = g.W.Scorer.Scorer.state c.next.new.scorer in
+    let asks = rw (c.in-Ok-Some.field-0-is, c.scorer.ensures.value) at c.in-Ok-Some.ensures.asks in
+    let given = given-call catalogue old.scorer.answer cursor c.requires.stands c.in-Ok-Some.row c.next.new.self old.scorer scorer
+    asks c.next.ensures.query c.in-Ok-Some.ensures.plan (rw c.scorer.ensures.value at c.in-Ok-Some.ensures.count) in
     rw (given-err c.from_residual.result c.in_err-put_row-in-Ok-Some.field-0.0 c.from_residual.ensures) (record {
-      puts = λ beside. Stepped-row catalogue answer cursor c.in-Ok-Some.row c.rank_of.result (Err c.in_err-put_row-in-Ok-Some.field-0.0)
-          (record beside { scorer = g.S.Scorer.state c.args.scorer.now; out = g.O.Sink.state c.args.out.now })
-          (record beside { scorer = g.S.Scorer.state c.next.new.scorer; out = g.O.Sink.state c.put_row.new.out }) (g.S.Scorer.state c.next.new.scorer)
-          (c.rank_of.ensures.rank catalogue answer c.in-Ok-Some.ensures.stands ∙ given.rank) asks
-          (c.in_err-put_row-in-Ok-Some.ensures (record beside { scorer = g.S.Scorer.state c.next.new.scorer }));
+      puts = rw (g.met.W.Outside.after_out, g.met.W.Outside.after_scorer) (
+          Stepped-row catalogue old.scorer.answer cursor c.in-Ok-Some.row c.rank_of.result (Err c.in_err-put_row-in-Ok-Some.field-0.0) old _ scorer
+          (c.rank_of.ensures.rank catalogue old.scorer.answer (rw c.scorer.ensures.value at c.in-Ok-Some.ensures.stands) ∙ given.rank) asks
+          (rw (c.out.ensures.value, g.met.W.Outside.after_scorer) at c.in_err-put_row-in-Ok-Some.ensures (record old { scorer = scorer })));
       more = λ e. absurd cc;
       count = tt;
       over = λ e. absurd cc;
@@ -85,21 +89,23 @@ returns-in_err-put_row-in-Ok-Some g c =
 pub returns-in_ok-put_row-in-Ok-Some : goal.returns-in_ok-put_row-in-Ok-Some
 returns-in_ok-put_row-in-Ok-Some g c =
     let catalogue = c.args.catalog.now in
-    let answer = (g.S.Scorer.state c.args.scorer.now).answer in
+    let old = g.W.Outside.state c.args.outside.now in
     let cursor = c.args.cursor.now in
-    let asks = rw c.in-Ok-Some.field-0-is at c.in-Ok-Some.ensures.asks in
-    let given = given-call catalogue answer cursor c.requires.stands c.in-Ok-Some.row c.next.new.self (g.S.Scorer.state c.args.scorer.now) (g.S.Scorer.state c.next.new.scorer)
-    asks c.next.ensures.query c.in-Ok-Some.ensures.plan c.in-Ok-Some.ensures.count in record {
-      puts = λ beside. Stepped-row catalogue answer cursor c.in-Ok-Some.row c.rank_of.result (Ok tt)
-          (record beside { scorer = g.S.Scorer.state c.args.scorer.now; out = g.O.Sink.state c.args.out.now })
-          (record beside { scorer = g.S.Scorer.state c.next.new.scorer; out = g.O.Sink.state c.put_row.new.out }) (g.S.Scorer.state c.next.new.scorer)
-          (c.rank_of.ensures.rank catalogue answer c.in-Ok-Some.ensures.stands ∙ given.rank) asks
-          (c.in_ok-put_row-in-Ok-Some.ensures (record beside { scorer = g.S.Scorer.state c.next.new.scorer }));
+    let scorer = g.W.Scorer.Scorer.state c.next.new.scorer in
+    let asks = rw (c.in-Ok-Some.field-0-is, c.scorer.ensures.value) at c.in-Ok-Some.ensures.asks in
+    let asked = rw c.scorer.ensures.value at c.in-Ok-Some.ensures.count in
+    let stands = rw c.scorer.ensures.value at c.in-Ok-Some.ensures.stands in
+    let given = given-call catalogue old.scorer.answer cursor c.requires.stands c.in-Ok-Some.row c.next.new.self old.scorer scorer
+    asks c.next.ensures.query c.in-Ok-Some.ensures.plan asked in record {
+      puts = rw (g.met.W.Outside.after_out, g.met.W.Outside.after_scorer) (
+          Stepped-row catalogue old.scorer.answer cursor c.in-Ok-Some.row c.rank_of.result (Ok tt) old _ scorer
+          (c.rank_of.ensures.rank catalogue old.scorer.answer stands ∙ given.rank) asks
+          (rw (c.out.ensures.value, g.met.W.Outside.after_scorer) at c.in_ok-put_row-in-Ok-Some.ensures (record old { scorer = scorer })));
       more = λ e. given.at;
-      count = record { query_is = c.next.ensures.query; plan_is = c.in-Ok-Some.ensures.plan; asks_are = c.in-Ok-Some.ensures.count };
+      count = record { query_is = c.next.ensures.query; plan_is = c.in-Ok-Some.ensures.plan; asks_are = asked };
       over = λ e. absurd cc;
-      stands = c.in-Ok-Some.ensures.stands;
+      stands = stands;
       left = λ e. given.left;
-      rank = λ e. subst (λ n. n ≤ 2 ^ 103) (c.rank_of.ensures.rank catalogue answer c.in-Ok-Some.ensures.stands ∙ given.rank) c.rank_of.ensures.limit;
+      rank = λ e. subst (λ n. n ≤ 2 ^ 103) (c.rank_of.ensures.rank catalogue old.scorer.answer stands ∙ given.rank) c.rank_of.ensures.limit;
       end = λ e. absurd cc;
     }

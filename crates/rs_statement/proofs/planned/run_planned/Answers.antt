@@ -1,5 +1,4 @@
 use Rattle.std.proofs.Common.{refl, subst, sym}
-use Rattle.rs_value.specs.Outside.{untold}
 use Rattle.rs_value.proofs.ResultFacts.{given-err}
 use Rattle.rs_syntax.specs.Syntax.{query_of}
 use Rattle.rs_bind.specs.Queries.{bound_query}
@@ -8,7 +7,6 @@ use Rattle.rs_exec.specs.Cursors.{StandsFor}
 use Rattle.rs_statement.specs.declared.evaluating.Evaluating.TheVariants.{Planned}
 use Rattle.rs_statement.specs.Planned.{plan_for, planned_step}
 use Rattle.rs_statement.specs.Statements.{bind_fault, or_bind_fault, query_step}
-use Rattle.rs_events.specs.Environment.{environment}
 use Rattle.rs_statement.proofs.LeftSteps.{Left-new, as_they_are}
 use Rattle.rs_statement.proofs.QuerySteps.{Gives-bound, Gives-unbound}
 use Rattle.rs_statement.proofs.SampleSteps.{Sampled-broken, Sampled-then}
@@ -16,44 +14,42 @@ use Rattle.rs_statement.proofs.StepFacts.{Stepped-refused}
 use Rattle.rs_statement.proofs.planned.run_planned.Goals as goal
 
 pub returns-in_err-query : goal.returns-in_err-query
-returns-in_err-query g c = λ beside. rw (given-err c.from_residual.result (bind_fault c.in_err-query.field-0.0) c.from_residual.ensures) (
-    Stepped-refused (query_step (Planned c.args.seed) (g.S.Scorer.state c.args.scorer.now).answer c.args.catalog.now)
+returns-in_err-query g c =
+    let old = g.W.Outside.state c.args.outside.now in
+    rw (given-err c.from_residual.result (bind_fault c.in_err-query.field-0.0) c.from_residual.ensures) (
+    Stepped-refused (query_step (Planned c.args.seed) old.scorer.answer c.args.catalog.now)
     (or_bind_fault (bound_query c.args.catalog.now (query_of c.args.select.now))) (bind_fault c.in_err-query.field-0.0) c.args.catalog.now
-    (record beside { scorer = g.S.Scorer.state c.args.scorer.now; out = g.O.Sink.state c.args.out.now }) (Gives-unbound _ _ _ c.in_err-query.ensures.gives refl))
+    old (Gives-unbound _ _ _ c.in_err-query.ensures.gives refl))
 
 pub start_planned-requires : goal.start_planned-requires
-start_planned-requires g c = record { formed = c.in_ok-query.ensures.formed; held = c.requires.held }
+start_planned-requires g c = record { formed = c.in_ok-query.ensures.formed; held = rw c.scorer.ensures.value c.requires.held }
 
 pub returns-in_err-cursor : goal.returns-in_err-cursor
-returns-in_err-cursor g c = λ beside.
-    let answer = (g.S.Scorer.state c.args.scorer.now).answer in
+returns-in_err-cursor g c =
+    let old = g.W.Outside.state c.args.outside.now in
+    let answer = old.scorer.answer in
     let catalogue = c.args.catalog.now in
-    rw (given-err c.from_residual-in_err-cursor.result c.in_err-cursor.field-0.0 c.from_residual-in_err-cursor.ensures) (
+    rw (given-err c.from_residual-in_err-cursor.result c.in_err-cursor.field-0.0 c.from_residual-in_err-cursor.ensures, g.met.W.Outside.after_scorer) (
     Sampled-broken catalogue c.args.seed (λ query. planned_step (world_of catalogue answer query) (plan_for answer catalogue c.args.seed query))
     (or_bind_fault (bound_query catalogue (query_of c.args.select.now))) c.in_ok-query.query (Gives-bound _ _ c.in_ok-query.ensures.gives)
-    (record beside { scorer = g.S.Scorer.state c.args.scorer.now; out = g.O.Sink.state c.args.out.now })
-    (record beside { scorer = g.S.Scorer.state c.start_planned.new.scorer; out = g.O.Sink.state c.args.out.now }) c.in_err-cursor.field-0.0
-    (c.in_err-cursor.ensures.calls (record beside { out = g.O.Sink.state c.args.out.now })))
+    old _ c.in_err-cursor.field-0.0 (rw c.scorer.ensures.value at c.in_err-cursor.ensures.calls old))
 
 pub put_all-put-requires : goal.put_all-put-requires
-put_all-put-requires g c =
-    let answer = (g.S.Scorer.state c.args.scorer.now).answer in
-    let at = environment (untold 0) (g.S.Scorer.state c.args.scorer.now) (g.O.Sink.state c.args.out.now) (g.O.Sink.state c.args.out.now) in
-    record {
-      stands = subst (λ answer. StandsFor c.args.catalog.now answer c.in_ok-cursor.cursor) (sym (c.in_ok-cursor.ensures.calls at).ran.keeps.scorer.answer)
-          c.in_ok-cursor.ensures.stands;
-    }
+put_all-put-requires g c = record {
+  stands = rw g.met.W.Outside.after_scorer (subst (λ answer. StandsFor c.args.catalog.now answer c.in_ok-cursor.cursor)
+      (sym (c.in_ok-cursor.ensures.calls (g.W.Outside.state c.args.outside.now)).ran.keeps.scorer.answer) c.in_ok-cursor.ensures.stands);
+}
 
 pub returns : goal.returns
-returns g c = λ beside.
-    let answer = (g.S.Scorer.state c.args.scorer.now).answer in
+returns g c =
+    let old = g.W.Outside.state c.args.outside.now in
+    let answer = old.scorer.answer in
     let catalogue = c.args.catalog.now in
     let query = c.in_ok-query.query in
-    let middle = record beside { scorer = g.S.Scorer.state c.start_planned.new.scorer; out = g.O.Sink.state c.args.out.now } in
-    let new = record beside { scorer = g.S.Scorer.state c.put_all-put.new.scorer; out = g.O.Sink.state c.put_all-put.new.out } in
-    let sampled = c.in_ok-cursor.ensures.calls (record beside { out = g.O.Sink.state c.args.out.now }) in
+    let middle = record old { scorer = g.W.Scorer.Scorer.state c.start_planned.new.scorer } in
+    let sampled = rw c.scorer.ensures.value at c.in_ok-cursor.ensures.calls old in
     Sampled-then catalogue c.args.seed (λ query. planned_step (world_of catalogue answer query) (plan_for answer catalogue c.args.seed query))
     (or_bind_fault (bound_query catalogue (query_of c.args.select.now))) query (Gives-bound _ _ c.in_ok-query.ensures.gives)
-    (record beside { scorer = g.S.Scorer.state c.args.scorer.now; out = g.O.Sink.state c.args.out.now }) new c.put_all-put.result middle sampled
-    (Left-new as_they_are (λ first rest. refl) catalogue answer query (plan_for answer catalogue c.args.seed query) c.in_ok-cursor.cursor c.put_all-put.result middle new
-    c.in_ok-cursor.ensures.starts sampled.ran.keeps.scorer.answer (c.put_all-put.ensures beside))
+    old _ c.put_all-put.result middle sampled
+    (Left-new as_they_are (λ first rest. refl) catalogue answer query (plan_for answer catalogue c.args.seed query) c.in_ok-cursor.cursor c.put_all-put.result middle _
+    (rw c.scorer.ensures.value at c.in_ok-cursor.ensures.starts) sampled.ran.keeps.scorer.answer (rw g.met.W.Outside.after_scorer at c.put_all-put.ensures))

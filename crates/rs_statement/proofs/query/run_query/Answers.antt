@@ -19,30 +19,35 @@ pub query_fault-requires : goal.query_fault-requires
 query_fault-requires g c = (c.in_ok-query.query, c.in-Err.ensures.names)
 
 pub returns-in_err-query : goal.returns-in_err-query
-returns-in_err-query g c = λ beside. rw (given-err c.from_residual.result (bind_fault c.in_err-query.field-0.0) c.from_residual.ensures) (Stepped-refused (query_step Plainly (g.S.Scorer.state c.args.scorer.now).answer c.args.catalog.now) (or_bind_fault (bound_query c.args.catalog.now (query_of c.args.select.now)))
-    (bind_fault c.in_err-query.field-0.0) c.args.catalog.now (record beside { scorer = g.S.Scorer.state c.args.scorer.now; out = g.O.Sink.state c.args.out.now })
-    (Gives-unbound _ _ _ c.in_err-query.ensures.gives refl))
+returns-in_err-query g c =
+    let old = g.W.Outside.state c.args.outside.now in
+    rw (given-err c.from_residual.result (bind_fault c.in_err-query.field-0.0) c.from_residual.ensures) (
+    Stepped-refused (query_step Plainly old.scorer.answer c.args.catalog.now) (or_bind_fault (bound_query c.args.catalog.now (query_of c.args.select.now)))
+    (bind_fault c.in_err-query.field-0.0) c.args.catalog.now old (Gives-unbound _ _ _ c.in_err-query.ensures.gives refl))
 
 pub returns-in-Err : goal.returns-in-Err
-returns-in-Err g c = λ beside.
-    Stepped-bound (query_step Plainly (g.S.Scorer.state c.args.scorer.now).answer c.args.catalog.now) (or_bind_fault (bound_query c.args.catalog.now (query_of c.args.select.now)))
-    c.in_ok-query.query c.args.catalog.now _ (record beside { scorer = g.S.Scorer.state c.args.scorer.now; out = g.O.Sink.state c.args.out.now })
-    (record beside { scorer = g.S.Scorer.state c.answer_plainly-answered.new.scorer; out = g.O.Sink.state c.args.out.now })
-    (Gives-bound _ _ c.in_ok-query.ensures.gives)
-    (Stepped-unasked answer_lines (query_outcome c.args.catalog.now) plain.Memory (evaluation_of (g.S.Scorer.state c.args.scorer.now).answer c.args.catalog.now c.in_ok-query.query (all_rows c.args.catalog.now c.in_ok-query.query))
-    c.args.catalog.now (record beside { scorer = g.S.Scorer.state c.args.scorer.now; out = g.O.Sink.state c.args.out.now }) (g.S.Scorer.state c.answer_plainly-answered.new.scorer) (query_fault c.args.catalog.now)
-    c.in-Err.why c.query_fault.result refl refl refl (Probes-questions plain_faults (query_fault c.args.catalog.now) c.args.catalog.now (λ number. refl) _) c.in-Err.ensures.evaluates c.query_fault.ensures)
+returns-in-Err g c =
+    let old = g.W.Outside.state c.args.outside.now in
+    let catalogue = c.args.catalog.now in
+    let query = c.in_ok-query.query in
+    rw g.met.W.Outside.after_scorer (
+    Stepped-bound (query_step Plainly old.scorer.answer catalogue) (or_bind_fault (bound_query catalogue (query_of c.args.select.now)))
+    query catalogue _ old _ (Gives-bound _ _ c.in_ok-query.ensures.gives)
+    (Stepped-unasked answer_lines (query_outcome catalogue) plain.Memory (evaluation_of old.scorer.answer catalogue query (all_rows catalogue query))
+    catalogue old (g.W.Scorer.Scorer.state c.answer_plainly-answered.new.scorer) (query_fault catalogue)
+    c.in-Err.why c.query_fault.result refl refl refl (Probes-questions plain_faults (query_fault catalogue) catalogue (λ number. refl) _)
+    (rw c.scorer.ensures.value at c.in-Err.ensures.evaluates) c.query_fault.ensures))
 
 pub returns : goal.returns
-returns g c = λ beside.
-    Stepped-bound (query_step Plainly (g.S.Scorer.state c.args.scorer.now).answer c.args.catalog.now) (or_bind_fault (bound_query c.args.catalog.now (query_of c.args.select.now)))
-    c.in_ok-query.query c.args.catalog.now _ (record beside { scorer = g.S.Scorer.state c.args.scorer.now; out = g.O.Sink.state c.args.out.now })
-    (record beside { scorer = g.S.Scorer.state c.answer_plainly-answered.new.scorer; out = g.O.Sink.state c.put_rows.new.out })
-    (Gives-bound _ _ c.in_ok-query.ensures.gives)
-    (Stepped-asked answer_lines (query_outcome c.args.catalog.now) plain.Memory (evaluation_of (g.S.Scorer.state c.args.scorer.now).answer c.args.catalog.now c.in_ok-query.query (all_rows c.args.catalog.now c.in_ok-query.query))
-    c.args.catalog.now (record beside { scorer = g.S.Scorer.state c.args.scorer.now; out = g.O.Sink.state c.args.out.now }) (g.S.Scorer.state c.answer_plainly-answered.new.scorer)
-    c.in-Ok.rows.items c.put_rows.result (record beside { scorer = g.S.Scorer.state c.answer_plainly-answered.new.scorer; out = g.O.Sink.state c.put_rows.new.out }) refl
-    c.in-Ok.ensures.evaluates
-    (subst (λ rows. Ran (lines_run (rank_lines 1 rows)) c.put_rows.result (record beside { scorer = g.S.Scorer.state c.answer_plainly-answered.new.scorer; out = g.O.Sink.state c.args.out.now })
-    (record beside { scorer = g.S.Scorer.state c.answer_plainly-answered.new.scorer; out = g.O.Sink.state c.put_rows.new.out }))
-    c.deref.ensures.value (c.put_rows.ensures (record beside { scorer = g.S.Scorer.state c.answer_plainly-answered.new.scorer }))))
+returns g c =
+    let old = g.W.Outside.state c.args.outside.now in
+    let scorer = g.W.Scorer.Scorer.state c.answer_plainly-answered.new.scorer in
+    let catalogue = c.args.catalog.now in
+    let query = c.in_ok-query.query in
+    rw (g.met.W.Outside.after_out, g.met.W.Outside.after_scorer) (
+    Stepped-bound (query_step Plainly old.scorer.answer catalogue) (or_bind_fault (bound_query catalogue (query_of c.args.select.now)))
+    query catalogue _ old _ (Gives-bound _ _ c.in_ok-query.ensures.gives)
+    (Stepped-asked answer_lines (query_outcome catalogue) plain.Memory (evaluation_of old.scorer.answer catalogue query (all_rows catalogue query))
+    catalogue old scorer c.in-Ok.rows.items c.put_rows.result _ refl (rw c.scorer.ensures.value at c.in-Ok.ensures.evaluates)
+    (subst (λ rows. Ran (lines_run (rank_lines 1 rows)) c.put_rows.result (record old { scorer = scorer }) (record old { scorer = scorer; out = g.W.Out.Sink.state c.put_rows.new.out }))
+    c.deref.ensures.value (rw (c.out.ensures.value, g.met.W.Outside.after_scorer) at c.put_rows.ensures (record old { scorer = scorer })))))

@@ -1,25 +1,16 @@
-use Rattle.std.proofs.Common.{◌≡◌, refl, subst, sym}
+use Rattle.std.proofs.Common.{◌≡◌, refl}
 use Rattle.rs_syntax.specs.Syntax.{query_of}
-use Rattle.rs_statement.specs.Parts.Steps.{Stepped}
 use Rattle.rs_statement.specs.Statements.{analyze_step, explain_outcome}
 use Rattle.rs_statement.specs.declared.evaluating.Evaluating.TheVariants.{Plainly}
 use Rattle.rs_events.proofs.SteppedFacts.{Stepped-still}
 use Rattle.rs_statement.proofs.select.run_analyze.Goals as goal
 
 pub returns-in-Plainly : goal.returns-in-Plainly
-returns-in-Plainly g c = λ beside.
+returns-in-Plainly g c =
     let query = query_of c.args.select.now in
-    let answer = (g.S.Scorer.state c.args.scorer.now).answer in
-    let at = record beside { scorer = g.S.Scorer.state c.args.scorer.now; out = g.O.Sink.state c.args.out.now } in
-    subst (λ evaluating. Stepped (λ step. step ≡ analyze_step evaluating answer c.args.catalog.now query) c.args.catalog.now c.explain_query.result at at) (sym c.in-Plainly.is)
-    (Stepped-still (λ step. step ≡ analyze_step Plainly answer c.args.catalog.now query) (explain_outcome c.args.catalog.now query) c.args.catalog.now c.explain_query.result at refl
-    c.explain_query.ensures)
+    let old = g.W.Outside.state c.args.outside.now in
+    rw c.in-Plainly.is (Stepped-still (λ step. step ≡ analyze_step Plainly old.scorer.answer c.args.catalog.now query) (explain_outcome c.args.catalog.now query)
+    c.args.catalog.now c.explain_query.result old refl c.explain_query.ensures)
 
 pub returns-in-Planned : goal.returns-in-Planned
-returns-in-Planned g c = λ beside.
-    let query = query_of c.args.select.now in
-    let answer = (g.S.Scorer.state c.args.scorer.now).answer in
-    let old = record beside { scorer = g.S.Scorer.state c.args.scorer.now; out = g.O.Sink.state c.args.out.now } in
-    let new = record beside { scorer = g.S.Scorer.state c.analyze_planned.new.scorer; out = g.O.Sink.state c.analyze_planned.new.out } in
-    subst (λ evaluating. Stepped (λ step. step ≡ analyze_step evaluating answer c.args.catalog.now query) c.args.catalog.now c.analyze_planned.result old new) (sym c.in-Planned.is)
-    (c.analyze_planned.ensures beside)
+returns-in-Planned g c = rw c.in-Planned.is c.analyze_planned.ensures

@@ -21,23 +21,23 @@ counted count result fits e = e ∙ ap (λ n. count_of (n, count.1)) (to_z-of_z 
 
 pub returns-in_err-count : goal.returns-in_err-count
 returns-in_err-count g c =
-    let answer = (g.S.Scorer.state c.args.scorer.now).answer in
+    let old = g.W.Outside.state c.args.outside.now in
     let state = state_of c.args.catalog.now c.args.session.now.cursors.entries in
     rw (given-err c.from_residual.result (bind_fault c.in_err-count.field-0.0) c.from_residual.ensures) (record {
-      puts = λ beside. Stepped-refused (fetched_step answer state) (fetched_cursor state c.args.count.now c.args.name.now) (bind_fault c.in_err-count.field-0.0) state
-          (record beside { scorer = g.S.Scorer.state c.args.scorer.now; out = g.O.Sink.state c.args.out.now })
+      puts = Stepped-refused (fetched_step old.scorer.answer state) (fetched_cursor state c.args.count.now c.args.name.now) (bind_fault c.in_err-count.field-0.0) state old
           (fetched-refused state c.args.count.now c.args.name.now c.in_err-count.field-0.0 (counted c.args.count.now (Err c.in_err-count.field-0.0) (search rules) c.in_err-count.ensures));
       asked = tt;
     })
 
 pub fetch_rows-requires : goal.fetch_rows-requires
 fetch_rows-requires g c =
-    asked-found (g.S.Scorer.state c.args.scorer.now).answer c.args.catalog.now (is_key c.args.name.now.text) c.args.session.now.cursors.entries c.in-Some.held.now c.requires
+    asked-found (g.W.Outside.state c.args.outside.now).scorer.answer c.args.catalog.now (is_key c.args.name.now.text) c.args.session.now.cursors.entries c.in-Some.held.now c.requires
     (sym c.in-Some.ensures.value)
 
 pub returns-in-Some : goal.returns-in-Some
 returns-in-Some g c =
-    let answer = (g.S.Scorer.state c.args.scorer.now).answer in
+    let old = g.W.Outside.state c.args.outside.now in
+    let answer = old.scorer.answer in
     let catalogue = c.args.catalog.now in
     let entries = c.args.session.now.cursors.entries in
     let state = state_of catalogue entries in
@@ -48,28 +48,24 @@ returns-in-Some g c =
     let written = (c.get_mut.follows.lender after).entries in
     let set = (c.get_mut.follows.holds after).0 in
     let found = sym c.in-Some.ensures.value in record {
-      puts = λ beside.
-          let old = record beside { scorer = g.S.Scorer.state c.args.scorer.now; out = g.O.Sink.state c.args.out.now } in
-          let new = record beside { scorer = g.S.Scorer.state c.fetch_rows.new.scorer; out = g.O.Sink.state c.fetch_rows.new.out } in
-          Stepped-bound (fetched_step answer state) (fetched_cursor state c.args.count.now name) (open_cursor (name.text, before), count) (state_of catalogue written) c.fetch_rows.result old new
+      puts = Stepped-bound (fetched_step answer state) (fetched_cursor state c.args.count.now name) (open_cursor (name.text, before), count) (state_of catalogue written) c.fetch_rows.result old _
           (fetched-known state c.args.count.now name count (open_cursor (name.text, before)) (counted c.args.count.now (Ok count) (search rules) c.in_ok-count.ensures) (named-some name.text entries before found))
-          (Fetched-rows answer catalogue entries written name.text count c.fetch_rows.result old new before
+          (Fetched-rows answer catalogue entries written name.text count c.fetch_rows.result old _ before
           (fetched-cursors name.text (next_of catalogue answer before count) entries written before after c.fetch_rows.result c.get_mut.ensures.unique found set c.fetch_rows.ensures.source
           c.fetch_rows.ensures.count)
-          (c.fetch_rows.ensures.puts beside));
+          c.fetch_rows.ensures.puts);
       asked = if-ok-map c.fetch_rows.result (CanBeAsked answer catalogue after) (CanAllBeAsked answer catalogue written)
           (λ one. subst (CanAllBeAsked answer catalogue) (sym set) (asked-set answer catalogue (is_key name.text) entries after c.requires one)) c.fetch_rows.ensures.asked;
     }
 
 pub returns-in-None : goal.returns-in-None
 returns-in-None g c =
-    let answer = (g.S.Scorer.state c.args.scorer.now).answer in
+    let old = g.W.Outside.state c.args.outside.now in
     let catalogue = c.args.catalog.now in
     let entries = c.args.session.now.cursors.entries in
     let state = state_of catalogue entries in
     let name = c.args.name.now in record {
-      puts = λ beside. Stepped-refused (fetched_step answer state) (fetched_cursor state c.args.count.now name) c.session_fault.result (state_of catalogue (c.get_mut.follows.lender-at-none).entries)
-          (record beside { scorer = g.S.Scorer.state c.args.scorer.now; out = g.O.Sink.state c.args.out.now })
+      puts = Stepped-refused (fetched_step old.scorer.answer state) (fetched_cursor state c.args.count.now name) c.session_fault.result (state_of catalogue (c.get_mut.follows.lender-at-none).entries) old
           (fetched-unknown state c.args.count.now name c.in_ok-count.count c.session_fault.result (counted c.args.count.now (Ok c.in_ok-count.count) (search rules) c.in_ok-count.ensures) (named-none name.text entries (sym c.in-None.ensures.value))
           c.session_fault.ensures);
       asked = tt;

@@ -16,16 +16,14 @@ fetch_asked-requires g c = rw c.in-Asked.is at c.requires
 
 pub returns-in-Asked : goal.returns-in-Asked
 returns-in-Asked g c =
-    let answer = (g.S.Scorer.state c.args.scorer.now).answer in
+    let answer = (g.W.Outside.state c.args.outside.now).scorer.answer in
     let catalogue = c.args.catalog.now in
     let count = c.args.count in
     let cursor = c.in-Asked.cursor in
     let next = c.fetch_asked.new.cursor in
     let result = c.fetch_asked.result in
     let asks = next_of_cursor catalogue answer cursor count in record {
-      puts = λ beside. subst (λ kept. Stepped (λ step. step ≡ rows_step catalogue answer kept count) catalogue result
-          (record beside { scorer = g.S.Scorer.state c.args.scorer.now; out = g.O.Sink.state c.args.out.now })
-          (record beside { scorer = g.S.Scorer.state c.fetch_asked.new.scorer; out = g.O.Sink.state c.fetch_asked.new.out })) (sym c.in-Asked.is) (c.fetch_asked.ensures.puts beside);
+      puts = rw c.in-Asked.is c.fetch_asked.ensures.puts;
       source = if-ok-map result (IsAskedMore cursor asks next) (source_of (held.Asked next) ≡ source_of c.args.held.now)
           (λ more. subst (λ kept. source_of (held.Asked next) ≡ source_of kept) (sym c.in-Asked.is) (λ i. ByPlan (more.query_is i) (more.plan_is i))) c.fetch_asked.ensures.count;
       count = if-ok-map result (IsAskedMore cursor asks next) (asks_of next ≡ asked_of c.args.held.now + next_of catalogue answer c.args.held.now count)
@@ -38,7 +36,8 @@ fetch_ready-requires g c = subst (λ rows. c.in-Ready.given ≤ length rows) (sy
 
 pub returns-in-Ready : goal.returns-in-Ready
 returns-in-Ready g c =
-    let answer = (g.S.Scorer.state c.args.scorer.now).answer in
+    let old = g.W.Outside.state c.args.outside.now in
+    let answer = old.scorer.answer in
     let catalogue = c.args.catalog.now in
     let count = c.args.count in
     let rows = c.in-Ready.rows in
@@ -47,13 +46,11 @@ returns-in-Ready g c =
     let result = c.fetch_ready.result in
     let within : given ≤ length rows.items = rw c.in-Ready.is at c.requires in
     let more = subst (λ slice. IfOk result (λ _. next ≡ given + next_rows slice given count)) c.deref.ensures.value c.fetch_ready.ensures.count in record {
-      puts = λ beside.
-          let old = record beside { scorer = g.S.Scorer.state c.args.scorer.now; out = g.O.Sink.state c.args.out.now } in
-          let new = record beside { scorer = g.S.Scorer.state c.args.scorer.now; out = g.O.Sink.state c.fetch_ready.new.out } in
-          subst (λ kept. Stepped (λ step. step ≡ rows_step catalogue answer kept count) catalogue result old new) (sym c.in-Ready.is)
-          (Stepped-lines (rank_lines (suc given) (take (next_rows rows.items given count) (drop given rows.items))) catalogue result old new
+      puts =
+          let new = record old { out = g.W.Out.Sink.state c.fetch_ready.new.out } in
+          rw (c.in-Ready.is, g.met.W.Outside.after_out) (Stepped-lines (rank_lines (suc given) (take (next_rows rows.items given count) (drop given rows.items))) catalogue result old new
           (subst (λ slice. Ran (lines_run (rank_lines (suc given) (take (next_rows slice given count) (drop given slice)))) result old new) c.deref.ensures.value
-          (c.fetch_ready.ensures.puts (record beside { scorer = g.S.Scorer.state c.args.scorer.now }))));
+          (rw c.out.ensures.value at c.fetch_ready.ensures.puts old)));
       source = if-ok-map result (next ≡ given + next_rows rows.items given count) (source_of (held.Ready rows next) ≡ source_of c.args.held.now)
           (λ _. subst (λ kept. source_of (held.Ready rows next) ≡ source_of kept) (sym c.in-Ready.is) refl) more;
       count = if-ok-map result (next ≡ given + next_rows rows.items given count) (next ≡ asked_of c.args.held.now + next_of catalogue answer c.args.held.now count)
