@@ -4,7 +4,7 @@ ghost use Rattle.std.specs.Prelude.{◌≡◌, IfOk, false, is_err};
 ghost use Rattle.rs_expr.specs.MemScorer.{answered_score};
 ghost use Rattle.rs_query.specs.WellFormed.{IsQuery};
 ghost use Rattle.rs_exec.specs.Cursors.{CanGo};
-ghost use Rattle.rs_catalog.specs.Held.{IndexesHold};
+ghost use Rattle.rs_catalog.specs.IndexesHold.{IndexesHold};
 
 use crate::calls::tell_calls;
 use cases_lines::Fault;

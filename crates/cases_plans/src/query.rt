@@ -4,7 +4,7 @@ ghost use Rattle.rs_expr.specs.MemScorer.{answered_score};
 ghost use Rattle.rs_syntax.specs.Syntax.{query_of};
 ghost use Rattle.rs_syntax.specs.Written.{IsWrittenQuery};
 ghost use Rattle.rs_query.specs.WellFormed.{IsQuery};
-ghost use Rattle.rs_catalog.specs.Held.{IndexesHold};
+ghost use Rattle.rs_catalog.specs.IndexesHold.{IndexesHold};
 
 use crate::asks::tell_rows;
 use crate::cards::{tell_cards, tell_sample};

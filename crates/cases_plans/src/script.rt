@@ -8,7 +8,7 @@ ghost use Rattle.rs_catalog.specs.Catalog.{room_for};
 ghost use Rattle.rs_catalog.specs.Indexes.{IsIndex};
 ghost use Rattle.rs_catalog.specs.declared.room.What.TheVariants as what;
 ghost use Rattle.rs_expr.specs.MemScorer.{answered_score};
-ghost use Rattle.rs_catalog.specs.Held.{IndexesHold};
+ghost use Rattle.rs_catalog.specs.IndexesHold.{IndexesHold};
 
 use crate::calls::tell_calls;
 use crate::query::{Asked, tell_query};

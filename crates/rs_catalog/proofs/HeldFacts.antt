@@ -10,7 +10,7 @@ use Rattle.rs_expr.specs.Predicates.{PredicateDef}
 use Rattle.rs_expr.specs.Scoring.{Answering, ScorerState}
 use Rattle.rs_rank.specs.declared.scored_row.ScoredRow.{ScoredRow}
 use Rattle.rs_catalog.specs.Catalog.{CatalogDef, NamedTable, RankIndex, with_index, with_predicate, with_table}
-use Rattle.rs_catalog.specs.Held.{IndexesHold, IndexHolds}
+use Rattle.rs_catalog.specs.IndexesHold.{IndexesHold, IndexHolds}
 use Rattle.rs_catalog.specs.Indexes.{IsIndex, making, making_of}
 use Rattle.rs_catalog.specs.Making.{MakesIndex, catalogue_after}
 use Rattle.rs_catalog.specs.declared.index.IndexDef.{IndexDef}

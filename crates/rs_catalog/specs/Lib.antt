@@ -1,5 +1,5 @@
 pub mod Catalog
-pub mod Held
+pub mod IndexesHold
 pub mod Indexes
 pub mod Making
 pub mod Inside

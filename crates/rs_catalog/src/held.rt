@@ -6,7 +6,7 @@ ghost use Rattle.rs_expr.specs.Predicates.{PredicateDef};
 ghost use Rattle.rs_expr.specs.Scoring.{Answering, ScorerState};
 ghost use Rattle.rs_table.specs.Relation.{Relation};
 ghost use Rattle.rs_catalog.specs.Catalog.{CatalogDef, empty, with_predicate, with_table};
-ghost use Rattle.rs_catalog.specs.Held.{IndexesHold};
+ghost use Rattle.rs_catalog.specs.IndexesHold.{IndexesHold};
 ghost use Rattle.rs_catalog.specs.Indexes.{IsIndex, making};
 ghost use Rattle.rs_catalog.specs.Making.{MakesIndex};
 ghost use Rattle.rs_catalog.specs.declared.index.IndexDef.{IndexDef};

@@ -15,11 +15,11 @@ use Rattle.rs_exec.specs.Asked.{CanAsk, NodeAfter}
 use Rattle.rs_exec.specs.Asking.{exec_faults, next_row, world_of}
 use Rattle.rs_exec.specs.Cursors.{CursorState, StandsFor, answer_for, asks_of, is_over, next_answer, next_of, no_question, plan_of}
 use Rattle.rs_exec.specs.Nodes.{asked_in, number_in, tree_in}
-use Rattle.rs_exec.specs.Outputs.{CanPutOut}
+use Rattle.rs_exec.specs.OutputValues.{CanPutOut}
 use Rattle.rs_exec.specs.Standing.{Stands}
 use Rattle.rs_exec.specs.declared.fault.ExecFault.{ExecFault}
 use Rattle.rs_exec.specs.declared.fault.ExecFault.TheVariants.{Memory}
-use Rattle.rs_exec.specs.declared.node.Node.{Node}
+use Rattle.rs_exec.specs.declared.node.PlanNode.{PlanNode}
 use Rattle.rs_exec.proofs.CursorFacts.{cursor-after, cursor-can, first-block, next-fault, next-given}
 use Rattle.rs_exec.proofs.JoinCycleFacts.{node-number}
 use Rattle.rs_exec.proofs.PlacesFacts.{can-put_out, plan-entries, plan-part, row-placed}
@@ -40,7 +40,7 @@ module _ (catalogue : CatalogDef) (cursor : CursorState) (old : ScorerState) (st
   pub root-stands : Stands (world_of catalogue old.answer cursor.query) (number_in cursor.root) cursor.root
   root-stands = subst (λ n. Stands w n cursor.root) (sym root-number) stands.nodes
 
-  pub root-after : is_over (world_of catalogue old.answer cursor.query) (plan_of cursor) (asks_of cursor) ≡ false → (root : Node)
+  pub root-after : is_over (world_of catalogue old.answer cursor.query) (plan_of cursor) (asks_of cursor) ≡ false → (root : PlanNode)
       → NodeAfter (world_of catalogue old.answer cursor.query) (number_in cursor.root) (tree_in cursor.root) (asked_in cursor.root) root
       → StandsFor catalogue old.answer (record cursor { root = root })
   root-after more root after =

@@ -20,7 +20,7 @@ use Rattle.rs_rank.specs.declared.ids.Ids.{Ids}
 use Rattle.rs_value.specs.declared.value.Value.{Value}
 use Rattle.rs_plan.specs.Lists.{World, row_under, weights_in}
 use Rattle.rs_query.specs.Blocks.{block_in}
-use Rattle.rs_exec.specs.Outputs.{values_for}
+use Rattle.rs_exec.specs.OutputValues.{values_for}
 
 -- the place of an item that passes a test
 record Passes {X : Type 0} (p : X → Bool) (xs : List X) : Type 0 where

@@ -10,9 +10,9 @@ use Rattle.rs_plan.specs.Trees.{Distinct, JoinOperator, Rank, SetOperator}
 use Rattle.rs_exec.specs.Cores.{kind_of}
 use Rattle.rs_exec.specs.declared.distinct.DistinctNode.{DistinctNode}
 use Rattle.rs_exec.specs.declared.join.JoinNode.{JoinNode}
-use Rattle.rs_exec.specs.declared.node.Node.{Node}
-use Rattle.rs_exec.specs.declared.node.Node.TheVariants as node
-use Rattle.rs_exec.specs.declared.node.Node.TheViews as view
+use Rattle.rs_exec.specs.declared.node.PlanNode.{PlanNode}
+use Rattle.rs_exec.specs.declared.node.PlanNode.TheVariants as node
+use Rattle.rs_exec.specs.declared.node.PlanNode.TheViews as view
 use Rattle.rs_exec.specs.declared.rank.RankNode.{RankNode}
 use Rattle.rs_exec.specs.declared.scan.IndexNode.{IndexNode}
 use Rattle.rs_exec.specs.declared.scan.TableNode.{TableNode}
@@ -24,7 +24,7 @@ use Rattle.rs_exec.specs.Standing.{Stands}
 both-lengths : {A B : Type 0} (xs ys : List A) (us vs : List B) → length xs ≡ length us → length ys ≡ length vs → length (xs ++ ys) ≡ length (us ++ vs)
 both-lengths xs ys us vs first second = length-append xs ys ∙ ap₂ (λ (n m : ℕ). n + m) first second ∙ sym (length-append us vs)
 
-pub counts-stand : (w : World) (number : ℕ) (n : Node) → Stands w number n → counts_in n ≡ counts w number (tree_in n) (asked_in n)
+pub counts-stand : (w : World) (number : ℕ) (n : PlanNode) → Stands w number n → counts_in n ≡ counts w number (tree_in n) (asked_in n)
 counts-stand w number (node.SeqScan head) is =
     ap (λ (n : TableNode). record { asked = n.tally.asked; gave = n.tally.gave; calls = 0; drawn = n.scan.drawn } ∷ []) is
 counts-stand w number (node.RankScan head) is =
@@ -50,7 +50,7 @@ counts-stand w number (node.Set' head p left q right) is =
     (counts-stand w 2 right is.3 ∙ ap (counts w 2 (tree_in right)) is.1.right_asked))
 
 -- a node has as many counts as its tree, whatever was asked
-pub counts-length : (w : World) (number : ℕ) (n : Node) (a : ℕ) → length (counts_in n) ≡ length (counts w number (tree_in n) a)
+pub counts-length : (w : World) (number : ℕ) (n : PlanNode) (a : ℕ) → length (counts_in n) ≡ length (counts w number (tree_in n) a)
 counts-length w number (node.SeqScan head) a = refl
 counts-length w number (node.RankScan head) a = refl
 counts-length w number (node.Rank' head p child) a = ap suc (counts-length w number child (asked_of w number (Rank head.term (tree_in child)) a Left))
@@ -81,21 +81,21 @@ at_or_past-behind own xs ys (suc place) rest e =
     at_or_past-append xs ys place ∙ ap (λ n. or_past (at_or_past xs n) ys) (sym same)
 
 -- the counts of an operator over two sides, where the place isn't its own
-two-counts : (self left right : Node) (own : Counts) (middle : Node) (place rest : ℕ) (found : Result Counts ℕ) → counts_in self ≡ own ∷ counts_in left ++ counts_in right
+two-counts : (self left right : PlanNode) (own : Counts) (middle : PlanNode) (place rest : ℕ) (found : Result Counts ℕ) → counts_in self ≡ own ∷ counts_in left ++ counts_in right
     → Err rest ≡ at_or_past (own ∷ []) place → middle ≡ left → found ≡ at_or_past (counts_in middle) rest → or_past found (counts_in right) ≡ at_or_past (counts_in self) place
 two-counts self left right own middle place rest found all next value found_is =
-    ap (λ (f : Result Counts ℕ). or_past f (counts_in right)) (found_is ∙ ap (λ (n : Node). at_or_past (counts_in n) rest) value)
+    ap (λ (f : Result Counts ℕ). or_past f (counts_in right)) (found_is ∙ ap (λ (n : PlanNode). at_or_past (counts_in n) rest) value)
     ∙ sym (at_or_past-behind own (counts_in left) (counts_in right) place rest next)
     ∙ ap (λ (rows : List Counts). at_or_past rows place) (sym all)
 
-pub join-counts : (self : Node) (head : JoinNode) (left right : Box Node Global) (own : Counts) (middle : Node) (place rest : ℕ) (found : Result Counts ℕ) → self ≡ view.Join head left right
+pub join-counts : (self : PlanNode) (head : JoinNode) (left right : Box PlanNode Global) (own : Counts) (middle : PlanNode) (place rest : ℕ) (found : Result Counts ℕ) → self ≡ view.Join head left right
     → own ≡ record { asked = head.tally.asked; gave = head.tally.gave; calls = 0; drawn = 0 } → Err rest ≡ at_or_past (own ∷ []) place → middle ≡ left.value
     → found ≡ at_or_past (counts_in middle) rest → or_past found (counts_in right.value) ≡ at_or_past (counts_in self) place
 join-counts self head left right own middle place rest found is own_is next value found_is =
     two-counts self left.value right.value own middle place rest found
     (ap counts_in is ∙ ap (λ (first : Counts). first ∷ counts_in left.value ++ counts_in right.value) (sym own_is)) next value found_is
 
-pub set-counts : (self : Node) (head : SetNode) (left right : Box Node Global) (own : Counts) (middle : Node) (place rest : ℕ) (found : Result Counts ℕ) → self ≡ view.Set head left right
+pub set-counts : (self : PlanNode) (head : SetNode) (left right : Box PlanNode Global) (own : Counts) (middle : PlanNode) (place rest : ℕ) (found : Result Counts ℕ) → self ≡ view.Set head left right
     → own ≡ record { asked = head.tally.asked; gave = head.tally.gave; calls = 0; drawn = 0 } → Err rest ≡ at_or_past (own ∷ []) place → middle ≡ left.value
     → found ≡ at_or_past (counts_in middle) rest → or_past found (counts_in right.value) ≡ at_or_past (counts_in self) place
 set-counts self head left right own middle place rest found is own_is next value found_is =

@@ -28,7 +28,7 @@ use Rattle.rs_exec.specs.declared.fault.ExecFault.TheVariants.{Memory}
 use Rattle.rs_exec.specs.Indexes.{PlanIndexesHold}
 use Rattle.rs_exec.specs.Nodes.{tree_in}
 use Rattle.rs_exec.specs.Starting.{IsQueryStart}
-use Rattle.rs_exec.specs.declared.node.Node.{Node}
+use Rattle.rs_exec.specs.declared.node.PlanNode.{PlanNode}
 use Rattle.rs_exec.proofs.PlacesFacts.{list-few-of, plan-part}
 use Rattle.rs_exec.proofs.SetStartFacts.{query-asked, query-stands, query-tree}
 
@@ -37,7 +37,7 @@ first-block (One block limit) = refl
 first-block (Set op left right limit) = inl refl
 
 -- a cursor whose nodes were made for a plan stands
-pub cursor-start : (catalogue : CatalogDef) (answer : Answering) (query : Query) (tree : PlanTree) (root : Node) → IsQuery catalogue query → IsPlan catalogue query tree
+pub cursor-start : (catalogue : CatalogDef) (answer : Answering) (query : Query) (tree : PlanTree) (root : PlanNode) → IsQuery catalogue query → IsPlan catalogue query tree
     → ((number : ℕ) → AllByRecursion (λ size. size ≤ 131072) (sizes_of catalogue (block_in query number))) → IsWeights (weights_of (block_in query 1))
     → PlanIndexesHold answer catalogue tree → IsQueryStart catalogue query tree root
     → StandsFor catalogue answer (record { query = query; root = root; failed = false })
@@ -78,7 +78,7 @@ cursor-can catalogue answer cursor stands more =
     }
 
 -- and stands after it
-pub cursor-after : (catalogue : CatalogDef) (answer : Answering) (cursor : CursorState) (root : Node) → StandsFor catalogue answer cursor
+pub cursor-after : (catalogue : CatalogDef) (answer : Answering) (cursor : CursorState) (root : PlanNode) → StandsFor catalogue answer cursor
     → CanAsk (world_of catalogue answer cursor.query) 1 (plan_of cursor) (asks_of cursor)
     → NodeAfter (world_of catalogue answer cursor.query) 1 (plan_of cursor) (asks_of cursor) root
     → StandsFor catalogue answer (record cursor { root = root })

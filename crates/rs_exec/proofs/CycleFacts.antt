@@ -31,9 +31,9 @@ use Rattle.rs_exec.specs.Nodes.{asked_in, number_in, tree_in}
 use Rattle.rs_exec.specs.Standing.{HeadStands, Stands, index_node_after, table_node_after, tally_after}
 use Rattle.rs_exec.specs.declared.fault.ExecFault.{ExecFault}
 use Rattle.rs_exec.specs.declared.fault.ExecFault.TheVariants.{Memory}
-use Rattle.rs_exec.specs.declared.node.Node.{Node}
-use Rattle.rs_exec.specs.declared.node.Node.TheVariants as node
-use Rattle.rs_exec.specs.declared.node.Node.TheViews as view
+use Rattle.rs_exec.specs.declared.node.PlanNode.{PlanNode}
+use Rattle.rs_exec.specs.declared.node.PlanNode.TheVariants as node
+use Rattle.rs_exec.specs.declared.node.PlanNode.TheViews as view
 use Rattle.rs_exec.specs.declared.rank.RankNode.{RankNode}
 use Rattle.rs_exec.specs.declared.scan.IndexNode.{IndexNode}
 use Rattle.rs_exec.specs.declared.scan.TableNode.{TableNode}
@@ -201,13 +201,13 @@ module _ (catalogue : CatalogDef) (answer : Answering) (query : Query) where
         (subst (λ (n : IndexNode). NodeAfter w number tree a (node.RankScan n)) (sym whole) (record { number_is = refl; tree_is = refl; asked_is = refl; stands = refl }))
 
 -- an operator and its input, held apart, as a node
-module _ (w : World) (self : Node) (head after : RankNode) (box : Box Node Global) (middle child : Node) (result : Result (Option RankRow) ExecFault) (old new : ScorerState) where
+module _ (w : World) (self : PlanNode) (head after : RankNode) (box : Box PlanNode Global) (middle child : PlanNode) (result : Result (Option RankRow) ExecFault) (old new : ScorerState) where
   pub rank-asked : self ≡ view.Rank head box → middle ≡ box.value
       → Asked w (number_in middle) (Rank head.term (tree_in middle)) head.tally.asked (RankAfter w (number_in middle) (Rank head.term (tree_in middle)) head.tally.asked after child) result old new
       → Asked w (number_in self) (tree_in self) (asked_in self) (NodeAfter w (number_in self) (tree_in self) (asked_in self) (view.Rank after (with_value box child))) result old new
   rank-asked is value asked =
-      let held = subst (λ (n : Node). Asked w (number_in n) (Rank head.term (tree_in n)) head.tally.asked (RankAfter w (number_in n) (Rank head.term (tree_in n)) head.tally.asked after child) result old new) value asked in
-      subst (λ (n : Node). Asked w (number_in n) (tree_in n) (asked_in n) (NodeAfter w (number_in n) (tree_in n) (asked_in n) (view.Rank after (with_value box child))) result old new) (sym is)
+      let held = subst (λ (n : PlanNode). Asked w (number_in n) (Rank head.term (tree_in n)) head.tally.asked (RankAfter w (number_in n) (Rank head.term (tree_in n)) head.tally.asked after child) result old new) value asked in
+      subst (λ (n : PlanNode). Asked w (number_in n) (tree_in n) (asked_in n) (NodeAfter w (number_in n) (tree_in n) (asked_in n) (view.Rank after (with_value box child))) result old new) (sym is)
       (record {
         inquires = held.inquires;
         leaves = λ ok. let left = held.leaves ok in record { number_is = left.number_is; tree_is = left.tree_is; asked_is = left.asked_is; stands = (left.operator, left.input) };
@@ -223,13 +223,13 @@ ask-failed w number tree a After result fault old new is inquires = record {
 
 -- during ask a + 1 of an operator, between two asks of its input: the input is of this number and this tree, and stands, and the
 -- operator stands between these asks
-pub record Turn (catalogue : CatalogDef) (query : Query) (number term : ℕ) (tree : PlanTree) (a : ℕ) (old : ScorerState) (head : RankNode) (child : Node) (now : ScorerState) : Type 0 where
+pub record Turn (catalogue : CatalogDef) (query : Query) (number term : ℕ) (tree : PlanTree) (a : ℕ) (old : ScorerState) (head : RankNode) (child : PlanNode) (now : ScorerState) : Type 0 where
   pub number_is : number_in child ≡ number
   pub tree_is : tree_in child ≡ tree
   pub stands : Stands (world_of catalogue old.answer query) (number_in child) child
   pub between : Between (world_of catalogue old.answer query) number term tree a (asked_in child) head old now
 
-module _ {catalogue : CatalogDef} {query : Query} {number term : ℕ} {tree : PlanTree} {a : ℕ} {old : ScorerState} {head : RankNode} {child : Node} {now : ScorerState}
+module _ {catalogue : CatalogDef} {query : Query} {number term : ℕ} {tree : PlanTree} {a : ℕ} {old : ScorerState} {head : RankNode} {child : PlanNode} {now : ScorerState}
     (turn : Turn catalogue query number term tree a old head child now) (can : CanAsk (world_of catalogue old.answer query) number (Rank term tree) a) where
   abbrev whole : World
   whole = world_of catalogue old.answer query
@@ -259,7 +259,7 @@ module _ {catalogue : CatalogDef} {query : Query} {number term : ℕ} {tree : Pl
         ask-failed whole number (Rank term tree) a After result fault old asked is
         (between-fault catalogue query number term tree a old can head (asked_in child) fault now asked turn.between need (same (Err fault) asked below))
 
-    module _ (next : Node)
+    module _ (next : PlanNode)
         (after : NodeAfter (world_of catalogue now.answer query) (number_in child) (tree_in child) (asked_in child) next) where
       -- fewer asks are left
       pub next-nearer : asked_of (world_of catalogue old.answer query) number (Rank term tree) (suc a) Left - asked_in next < asked_of (world_of catalogue old.answer query) number (Rank term tree) (suc a) Left - asked_in child
@@ -302,7 +302,7 @@ module _ {catalogue : CatalogDef} {query : Query} {number term : ℕ} {tree : Pl
       own result new taking = taking has.term (ap (λ k. slice_get (block_in query row.ids.block).terms (k - 1)) turn.between.term_is ∙ has.there)
 
       -- it was taken
-      pub row-kept : (taken : RankNode) (new : ScorerState) (next : Node)
+      pub row-kept : (taken : RankNode) (new : ScorerState) (next : PlanNode)
           → ((t : Term) → slice_get (block_in query row.ids.block).terms (head.term - 1) ≡ Some t → Inquires Memory (feeding asked.answer catalogue query row t head) (Ok taken) asked new)
           → NodeAfter (world_of catalogue now.answer query) (number_in child) (tree_in child) (asked_in child) next
           → Turn catalogue query number term tree a old taken next new
@@ -318,7 +318,7 @@ module _ {catalogue : CatalogDef} {query : Query} {number term : ℕ} {tree : Pl
           (between-own_fault catalogue query number term tree a old can head (asked_in child) fault now asked new row has.term has.there turn.between need (same (Ok (Some row)) asked below) (own (Err fault) new taking))
 
     -- its end is told
-    pub end-kept : (got : Option RankRow) → got ≡ None → (asked : ScorerState) (ended : RankNode) (next : Node) → ended ≡ record head { core = record head.core { ended = true } }
+    pub end-kept : (got : Option RankRow) → got ≡ None → (asked : ScorerState) (ended : RankNode) (next : PlanNode) → ended ≡ record head { core = record head.core { ended = true } }
         → Inquires Memory (next_row (world_of catalogue now.answer query) (number_in child) (tree_in child) (asked_in child)) (Ok got) now asked
         → NodeAfter (world_of catalogue now.answer query) (number_in child) (tree_in child) (asked_in child) next
         → Turn catalogue query number term tree a old ended next asked

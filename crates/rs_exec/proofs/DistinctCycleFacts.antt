@@ -17,25 +17,25 @@ use Rattle.rs_exec.specs.Asked.{Asked, CanAsk, DistinctAfter, NodeAfter}
 use Rattle.rs_exec.specs.Asking.{next_row, world_of}
 use Rattle.rs_exec.specs.Distincts.{DropsStand, distinct_node_after}
 use Rattle.rs_exec.specs.Nodes.{asked_in, number_in, tree_in}
-use Rattle.rs_exec.specs.Outputs.{CanPutOut, values_for}
+use Rattle.rs_exec.specs.OutputValues.{CanPutOut, values_for}
 use Rattle.rs_exec.specs.Standing.{Stands}
 use Rattle.rs_exec.specs.declared.distinct.DistinctNode.{DistinctNode}
 use Rattle.rs_exec.specs.declared.fault.ExecFault.{ExecFault}
 use Rattle.rs_exec.specs.declared.fault.ExecFault.TheVariants.{Memory}
-use Rattle.rs_exec.specs.declared.node.Node.{Node}
-use Rattle.rs_exec.specs.declared.node.Node.TheViews as view
+use Rattle.rs_exec.specs.declared.node.PlanNode.{PlanNode}
+use Rattle.rs_exec.specs.declared.node.PlanNode.TheViews as view
 use Rattle.rs_exec.specs.declared.tally.Tally.{Tally}
 use Rattle.rs_exec.proofs.CycleFacts.{ask-failed, tally-more}
 use Rattle.rs_exec.proofs.DistinctStepFacts.{DropsAsked, DropsBetween, drops-alive, drops-can, drops-dropped, drops-ended, drops-fault, drops-given, drops-inside, drops-puts, drops-start, drops-stopped}
 
 -- an operator and its input, held apart, as a node
-module _ (w : World) (self : Node) (head after : DistinctNode) (box : Box Node Global) (middle child : Node) (result : Result (Option RankRow) ExecFault) (old new : ScorerState) where
+module _ (w : World) (self : PlanNode) (head after : DistinctNode) (box : Box PlanNode Global) (middle child : PlanNode) (result : Result (Option RankRow) ExecFault) (old new : ScorerState) where
   pub distinct-asked : self ≡ view.Distinct head box → middle ≡ box.value
       → Asked w (number_in middle) (Distinct (tree_in middle)) head.tally.asked (DistinctAfter w (number_in middle) (Distinct (tree_in middle)) head.tally.asked after child) result old new
       → Asked w (number_in self) (tree_in self) (asked_in self) (NodeAfter w (number_in self) (tree_in self) (asked_in self) (view.Distinct after (with_value box child))) result old new
   distinct-asked is value asked =
-      let held = subst (λ (n : Node). Asked w (number_in n) (Distinct (tree_in n)) head.tally.asked (DistinctAfter w (number_in n) (Distinct (tree_in n)) head.tally.asked after child) result old new) value asked in
-      subst (λ (n : Node). Asked w (number_in n) (tree_in n) (asked_in n) (NodeAfter w (number_in n) (tree_in n) (asked_in n) (view.Distinct after (with_value box child))) result old new) (sym is)
+      let held = subst (λ (n : PlanNode). Asked w (number_in n) (Distinct (tree_in n)) head.tally.asked (DistinctAfter w (number_in n) (Distinct (tree_in n)) head.tally.asked after child) result old new) value asked in
+      subst (λ (n : PlanNode). Asked w (number_in n) (tree_in n) (asked_in n) (NodeAfter w (number_in n) (tree_in n) (asked_in n) (view.Distinct after (with_value box child))) result old new) (sym is)
       (record {
         inquires = held.inquires;
         leaves = λ ok. let left = held.leaves ok in record { number_is = left.number_is; tree_is = left.tree_is; asked_is = left.asked_is; stands = (left.operator, left.input) };
@@ -43,7 +43,7 @@ module _ (w : World) (self : Node) (head after : DistinctNode) (box : Box Node G
 
 -- during ask a + 1 of an operator, between two asks of its input: the input is of this number and this tree, and stands, and the
 -- operator stands between these asks
-pub record DropsTurn (catalogue : CatalogDef) (query : Query) (number : ℕ) (tree : PlanTree) (a : ℕ) (old : ScorerState) (head : DistinctNode) (child : Node) (now : ScorerState) : Type 0 where
+pub record DropsTurn (catalogue : CatalogDef) (query : Query) (number : ℕ) (tree : PlanTree) (a : ℕ) (old : ScorerState) (head : DistinctNode) (child : PlanNode) (now : ScorerState) : Type 0 where
   pub number_is : number_in child ≡ number
   pub tree_is : tree_in child ≡ tree
   pub stands : Stands (world_of catalogue old.answer query) (number_in child) child
@@ -52,7 +52,7 @@ pub record DropsTurn (catalogue : CatalogDef) (query : Query) (number : ℕ) (tr
   pub between : DropsBetween (world_of catalogue old.answer query) number tree a (asked_in child) head.core old now
 
 -- at its start
-pub drops_turn-start : (catalogue : CatalogDef) (query : Query) (head : DistinctNode) (child : Node) (old : ScorerState)
+pub drops_turn-start : (catalogue : CatalogDef) (query : Query) (head : DistinctNode) (child : PlanNode) (old : ScorerState)
     → CanAsk (world_of catalogue old.answer query) (number_in child) (Distinct (tree_in child)) head.tally.asked
     → DropsStand (world_of catalogue old.answer query) (number_in child) head (tree_in child) (asked_in child)
     → Stands (world_of catalogue old.answer query) (number_in child) child
@@ -81,7 +81,7 @@ fed-row b row given is = (elim b as (λ b. Some given ≡ (if b then None else S
   | false ↦ λ e. cc
 ]) is
 
-module _ {catalogue : CatalogDef} {query : Query} {number : ℕ} {tree : PlanTree} {a : ℕ} {old : ScorerState} {head : DistinctNode} {child : Node} {now : ScorerState}
+module _ {catalogue : CatalogDef} {query : Query} {number : ℕ} {tree : PlanTree} {a : ℕ} {old : ScorerState} {head : DistinctNode} {child : PlanNode} {now : ScorerState}
     (turn : DropsTurn catalogue query number tree a old head child now) (can : CanAsk (world_of catalogue old.answer query) number (Distinct tree) a) where
   abbrev whole : World
   whole = world_of catalogue old.answer query
@@ -120,7 +120,7 @@ module _ {catalogue : CatalogDef} {query : Query} {number : ℕ} {tree : PlanTre
       ask-failed whole number (Distinct tree) a After result fault old asked is
       (drops-fault catalogue query number tree a old can (asked_in child) head.core now turn.between fault asked (same (Err fault) asked below))
 
-  module _ (next : Node) (left : NodeAfter (world_of catalogue now.answer query) (number_in child) (tree_in child) (asked_in child) next) where
+  module _ (next : PlanNode) (left : NodeAfter (world_of catalogue now.answer query) (number_in child) (tree_in child) (asked_in child) next) where
     next-stands : Stands (world_of catalogue old.answer query) (number_in next) next
     next-stands =
         subst (λ n. Stands whole n next) (sym left.number_is)
@@ -170,7 +170,7 @@ module _ {catalogue : CatalogDef} {query : Query} {number : ℕ} {tree : PlanTre
     drops_turn-puts = drops-puts catalogue query number tree a old can (asked_in child) head.core now turn.between row asked below
 
     -- fewer rows are left
-    pub drops_turn-nearer : (next : Node) → NodeAfter (world_of catalogue now.answer query) (number_in child) (tree_in child) (asked_in child) next
+    pub drops_turn-nearer : (next : PlanNode) → NodeAfter (world_of catalogue now.answer query) (number_in child) (tree_in child) (asked_in child) next
         → suc (length (list_of (world_of catalogue old.answer query) number tree)) - asked_in next < suc (length (list_of (world_of catalogue old.answer query) number tree)) - asked_in child
     drops_turn-nearer next left =
         let is = left.asked_is in
@@ -188,7 +188,7 @@ module _ {catalogue : CatalogDef} {query : Query} {number : ℕ} {tree : PlanTre
         (is : fed ≡ record head {
           core = record head.core { lists = with_list (values_for catalogue query row) head.core.lists };
           tally = record head.tally { gave = if is_some given then head.tally.gave + 1 else head.tally.gave };
-        }) (next : Node) (left : NodeAfter (world_of catalogue now.answer query) (number_in child) (tree_in child) (asked_in child) next) where
+        }) (next : PlanNode) (left : NodeAfter (world_of catalogue now.answer query) (number_in child) (tree_in child) (asked_in child) next) where
       -- it is dropped
       pub drops_turn-dropped : is_some given ≡ false → DropsTurn catalogue query number tree a old fed next asked
       drops_turn-dropped none =
@@ -230,7 +230,7 @@ module _ {catalogue : CatalogDef} {query : Query} {number : ℕ} {tree : PlanTre
           given-is (Some r) e some = ap Some (fed-row (has_list (values_for catalogue query row) head.core.lists) row r e)
 
   -- the input has ended, and so has the operator
-  pub drops_turn-over : (got : Option RankRow) → got ≡ None → (asked : ScorerState) (next : Node)
+  pub drops_turn-over : (got : Option RankRow) → got ≡ None → (asked : ScorerState) (next : PlanNode)
       → Inquires Memory (next_row (world_of catalogue now.answer query) (number_in child) (tree_in child) (asked_in child)) (Ok got) now asked
       → NodeAfter (world_of catalogue now.answer query) (number_in child) (tree_in child) (asked_in child) next
       → Asked (world_of catalogue old.answer query) number (Distinct tree) a

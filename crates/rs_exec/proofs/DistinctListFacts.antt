@@ -31,7 +31,7 @@ use Rattle.rs_plan.specs.Lists.{World, ids_of, key_under, numbered_block, row_un
 use Rattle.rs_query.specs.Blocks.{block_in}
 use Rattle.rs_plan.specs.Plans.{IsPart}
 use Rattle.rs_plan.specs.Trees.{Distinct, PlanTree, terms}
-use Rattle.rs_exec.specs.Outputs.{output_row, outputs_in}
+use Rattle.rs_exec.specs.OutputValues.{output_row, outputs_in}
 use Rattle.rs_exec.proofs.AlikeFacts.{IsAlike, same-sums}
 use Rattle.rs_exec.proofs.ListFacts.{sources-rise}
 use Rattle.rs_exec.proofs.SourceFacts.{ids-rows, ids_in, sources-combinations}

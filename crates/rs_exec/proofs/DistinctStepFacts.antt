@@ -40,7 +40,7 @@ use Rattle.rs_plan.specs.Plans.{IsPart}
 use Rattle.rs_plan.specs.Trees.{Distinct, PlanTree, terms}
 use Rattle.rs_exec.specs.Asked.{CanAsk}
 use Rattle.rs_exec.specs.Asking.{exec_faults, next_row, world_of}
-use Rattle.rs_exec.specs.Outputs.{CanPutOut, output_row, outputs_in, values_for}
+use Rattle.rs_exec.specs.OutputValues.{CanPutOut, output_row, outputs_in, values_for}
 use Rattle.rs_exec.specs.declared.fault.ExecFault.{ExecFault}
 use Rattle.rs_exec.specs.declared.fault.ExecFault.TheVariants.{Memory}
 use Rattle.rs_exec.proofs.AloneFacts.{between, between-more, between-none, between-part, between-split}

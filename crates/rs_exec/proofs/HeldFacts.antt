@@ -1,7 +1,7 @@
 -- The indexes of each plan hold a scorer's answers where those of the catalogue do.
 use Rattle.rs_expr.specs.Scoring.{Answering}
 use Rattle.rs_catalog.specs.Catalog.{CatalogDef}
-use Rattle.rs_catalog.specs.Held.{IndexesHold, IndexHolds}
+use Rattle.rs_catalog.specs.IndexesHold.{IndexesHold, IndexHolds}
 use Rattle.rs_order.proofs.EachFacts.{each-slice_get}
 use Rattle.rs_plan.specs.Trees.{Distinct, JoinOperator, Rank, RankScan, SeqScan, SetOperator, PlanTree}
 use Rattle.rs_exec.specs.Indexes.{PlanIndexesHold}

@@ -47,7 +47,7 @@ use Rattle.rs_query.specs.Blocks.{block_in}
 use Rattle.rs_plan.specs.Plans.{IsPart}
 use Rattle.rs_plan.specs.Trees.{RankScan}
 use Rattle.rs_exec.specs.Drawing.{passes}
-use Rattle.rs_catalog.specs.Held.{Holds}
+use Rattle.rs_catalog.specs.IndexesHold.{Holds}
 use Rattle.rs_exec.proofs.DrawFacts.{place-row_of}
 use Rattle.rs_catalog.proofs.IndexForFacts.{IsIndexFor, index-for}
 use Rattle.rs_query.proofs.IndexTermFacts.{index-worth}

@@ -32,9 +32,9 @@ use Rattle.rs_exec.specs.declared.fault.ExecFault.{ExecFault}
 use Rattle.rs_exec.specs.declared.fault.ExecFault.TheVariants.{Memory}
 use Rattle.rs_exec.specs.declared.join.JoinNode.{JoinNode}
 use Rattle.rs_exec.specs.declared.join_core.JoinCore.{JoinCore}
-use Rattle.rs_exec.specs.declared.node.Node.{Node}
-use Rattle.rs_exec.specs.declared.node.Node.TheVariants as node
-use Rattle.rs_exec.specs.declared.node.Node.TheViews as view
+use Rattle.rs_exec.specs.declared.node.PlanNode.{PlanNode}
+use Rattle.rs_exec.specs.declared.node.PlanNode.TheVariants as node
+use Rattle.rs_exec.specs.declared.node.PlanNode.TheViews as view
 use Rattle.rs_exec.specs.declared.scan.IndexNode.{IndexNode}
 use Rattle.rs_exec.specs.declared.scan.TableNode.{TableNode}
 use Rattle.rs_exec.specs.declared.tally.Tally.{Tally}
@@ -46,7 +46,7 @@ use Rattle.rs_exec.proofs.SideFacts.{each-changed, fewer-left, on-both}
 use Rattle.rs_exec.proofs.StepFacts.{block-formed}
 
 -- a node that stands gives the rows of its block
-pub node-number : (w : World) (number : ℕ) (n : Node) → Stands w number n → number_in n ≡ number
+pub node-number : (w : World) (number : ℕ) (n : PlanNode) → Stands w number n → number_in n ≡ number
 node-number w number (node.SeqScan head) is = ap (λ (h : TableNode). h.block) is
 node-number w number (node.RankScan head) is = ap (λ (h : IndexNode). h.block) is
 node-number w number (node.Rank' head p child) is = node-number w number child is.1
@@ -55,7 +55,7 @@ node-number w number (node.Distinct' head p child) is = node-number w number chi
 node-number w number (node.Set' head p left q right) is = sym is.0
 
 -- a join and its sides, held apart, as a node
-module _ (w : World) (self : Node) (head after : JoinNode) (left_box right_box : Box Node Global) (left_middle right_middle left right : Node)
+module _ (w : World) (self : PlanNode) (head after : JoinNode) (left_box right_box : Box PlanNode Global) (left_middle right_middle left right : PlanNode)
     (result : Result (Option RankRow) ExecFault) (old new : ScorerState) where
   pub join-asked-node : self ≡ view.Join head left_box right_box → left_middle ≡ left_box.value → right_middle ≡ right_box.value
       → Asked w head.block (JoinOperator (kind_of head.core) (tree_in left_middle) (tree_in right_middle)) head.tally.asked
@@ -63,9 +63,9 @@ module _ (w : World) (self : Node) (head after : JoinNode) (left_box right_box :
       → Asked w (number_in self) (tree_in self) (asked_in self)
       (NodeAfter w (number_in self) (tree_in self) (asked_in self) (view.Join after (with_value left_box left) (with_value right_box right))) result old new
   join-asked-node is left_value right_value asked =
-      let held = subst₂ (λ (l r : Node). Asked w head.block (JoinOperator (kind_of head.core) (tree_in l) (tree_in r)) head.tally.asked
+      let held = subst₂ (λ (l r : PlanNode). Asked w head.block (JoinOperator (kind_of head.core) (tree_in l) (tree_in r)) head.tally.asked
       (JoinAfter w head.block (JoinOperator (kind_of head.core) (tree_in l) (tree_in r)) head.tally.asked after left right) result old new) left_value right_value asked in
-      subst (λ (n : Node). Asked w (number_in n) (tree_in n) (asked_in n)
+      subst (λ (n : PlanNode). Asked w (number_in n) (tree_in n) (asked_in n)
       (NodeAfter w (number_in n) (tree_in n) (asked_in n) (view.Join after (with_value left_box left) (with_value right_box right))) result old new) (sym is)
       (record {
         inquires = held.inquires;
@@ -76,7 +76,7 @@ module _ (w : World) (self : Node) (head after : JoinNode) (left_box right_box :
 
 -- during ask a + 1 of a join, between two asks of its sides: the sides are of this number and these trees, and stand, and the join
 -- stands between these asks
-pub record JoinTurn (catalogue : CatalogDef) (query : Query) (number : ℕ) (kind : JoinKind) (left right : PlanTree) (a : ℕ) (old : ScorerState) (head : JoinNode) (on_left on_right : Node) (now : ScorerState) : Type 0 where
+pub record JoinTurn (catalogue : CatalogDef) (query : Query) (number : ℕ) (kind : JoinKind) (left right : PlanTree) (a : ℕ) (old : ScorerState) (head : JoinNode) (on_left on_right : PlanNode) (now : ScorerState) : Type 0 where
   pub tree_is : (side : JoinSide) → tree_in (of_side on_left on_right side) ≡ of_side left right side
   pub stands : (side : JoinSide) → Stands (world_of catalogue old.answer query) number (of_side on_left on_right side)
   pub block_is : head.block ≡ number
@@ -88,7 +88,7 @@ pub record JoinTurn (catalogue : CatalogDef) (query : Query) (number : ℕ) (kin
   pub between : JoinBetween (world_of catalogue old.answer query) number left right a (asked_in on_left) (asked_in on_right) (joined_in head.core) old now
 
 -- at its start
-pub turn-start : (catalogue : CatalogDef) (query : Query) (head : JoinNode) (on_left on_right : Node) (old : ScorerState)
+pub turn-start : (catalogue : CatalogDef) (query : Query) (head : JoinNode) (on_left on_right : PlanNode) (old : ScorerState)
     → CanAsk (world_of catalogue old.answer query) head.block (JoinOperator (kind_of head.core) (tree_in on_left) (tree_in on_right)) head.tally.asked
     → JoinStands (world_of catalogue old.answer query) head.block head (tree_in on_left) (tree_in on_right) (asked_in on_left) (asked_in on_right)
     → Stands (world_of catalogue old.answer query) head.block on_left → Stands (world_of catalogue old.answer query) head.block on_right
@@ -121,7 +121,7 @@ turn-start catalogue query head on_left on_right old can stands left right tally
           (on-both (λ side. of_side (asked_in on_left) (asked_in on_right) side ≡ asked_of w head.block tree head.tally.asked side) stands.left_asked stands.right_asked);
     }
 
-module _ {catalogue : CatalogDef} {query : Query} {number : ℕ} {kind : JoinKind} {left right : PlanTree} {a : ℕ} {old : ScorerState} {head : JoinNode} {on_left on_right : Node} {now : ScorerState}
+module _ {catalogue : CatalogDef} {query : Query} {number : ℕ} {kind : JoinKind} {left right : PlanTree} {a : ℕ} {old : ScorerState} {head : JoinNode} {on_left on_right : PlanNode} {now : ScorerState}
     (turn : JoinTurn catalogue query number kind left right a old head on_left on_right now) (can : CanAsk (world_of catalogue old.answer query) number (JoinOperator kind left right) a) where
   abbrev whole : World
   whole = world_of catalogue old.answer query
@@ -186,7 +186,7 @@ module _ {catalogue : CatalogDef} {query : Query} {number : ℕ} {kind : JoinKin
 
   -- a side that is needed is asked once more
   module _ (side : JoinSide) (need : ask_of (joined_in head.core).ripple ≡ need_of side) where
-    abbrev own : Node
+    abbrev own : PlanNode
     own = of_side on_left on_right side
 
     own-number : number_in (of_side on_left on_right side) ≡ number
@@ -221,7 +221,7 @@ module _ {catalogue : CatalogDef} {query : Query} {number : ℕ} {kind : JoinKin
         ask-failed whole number (JoinOperator kind left right) a After result fault old asked is
         (side-fault catalogue query number kind left right a old can (asked_in on_left) (asked_in on_right) (joined_in head.core) now turn.between side need fault asked (own-same (Err fault) asked below))
 
-    module _ (next : Node) (after : NodeAfter (world_of catalogue now.answer query) (number_in (of_side on_left on_right side)) (tree_in (of_side on_left on_right side)) (asked_in (of_side on_left on_right side)) next) where
+    module _ (next : PlanNode) (after : NodeAfter (world_of catalogue now.answer query) (number_in (of_side on_left on_right side)) (tree_in (of_side on_left on_right side)) (asked_in (of_side on_left on_right side)) next) where
       next-asked : asked_in next ≡ suc (of_side (asked_in on_left) (asked_in on_right) side)
       next-asked = after.asked_is ∙ ap suc own-asked
 
@@ -283,7 +283,7 @@ module _ {catalogue : CatalogDef} {query : Query} {number : ℕ} {kind : JoinKin
       }
 
       -- the row is taken
-      pub turn-fed : (fed : JoinNode) (next : Node)
+      pub turn-fed : (fed : JoinNode) (next : PlanNode)
           → fed ≡ record head { core = core_with_row side catalogue (block_in query head.block) head.conditions row head.core }
           → NodeAfter (world_of catalogue now.answer query) (number_in (of_side on_left on_right side)) (tree_in (of_side on_left on_right side)) (asked_in (of_side on_left on_right side)) next
           → JoinTurn catalogue query number kind left right a old fed (of_side next on_left side) (of_side on_right next side) asked
@@ -312,7 +312,7 @@ module _ {catalogue : CatalogDef} {query : Query} {number : ℕ} {kind : JoinKin
     pub turn-ends : CanEnd (need_of side) (joined_in head.core).ripple
     turn-ends = record { alive = turn-alive; need = need }
 
-    pub turn-ended : (got : Option RankRow) → got ≡ None → (asked : ScorerState) (fed : JoinNode) (next : Node) → fed ≡ record head { core = core_with head.core (ended_of side (joined_in head.core).ripple) }
+    pub turn-ended : (got : Option RankRow) → got ≡ None → (asked : ScorerState) (fed : JoinNode) (next : PlanNode) → fed ≡ record head { core = core_with head.core (ended_of side (joined_in head.core).ripple) }
         → Inquires Memory (next_row (world_of catalogue now.answer query) (number_in (of_side on_left on_right side)) (tree_in (of_side on_left on_right side)) (asked_in (of_side on_left on_right side))) (Ok got) now asked
         → NodeAfter (world_of catalogue now.answer query) (number_in (of_side on_left on_right side)) (tree_in (of_side on_left on_right side)) (asked_in (of_side on_left on_right side)) next
         → JoinTurn catalogue query number kind left right a old fed (of_side next on_left side) (of_side on_right next side) asked

@@ -42,7 +42,7 @@ use Rattle.rs_catalog.proofs.JoinedFacts.{joined, slice_get-front}
 use Rattle.rs_plan.specs.Plans.{IsComplete, IsPart, IsPlan, IsRankScan, IsSetPlan}
 use Rattle.rs_plan.specs.Trees.{Distinct, JoinOperator, Rank, RankScan, SeqScan, SetOperator, PlanTree}
 use Rattle.rs_exec.specs.Covering.{CoversBlock, HasPredicate}
-use Rattle.rs_catalog.specs.Held.{Holds}
+use Rattle.rs_catalog.specs.IndexesHold.{Holds}
 use Rattle.rs_exec.specs.Indexes.{PlanIndexesHold}
 use Rattle.rs_exec.proofs.CoversFacts.{covers-block}
 

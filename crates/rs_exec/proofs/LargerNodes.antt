@@ -30,7 +30,7 @@ use Rattle.rs_plan.specs.Plans.{IsPart, IsRankScan}
 use Rattle.rs_plan.specs.Trees.{Distinct, Hash, JoinKind, JoinOperator, Nested, Rank, RankScan, SeqScan, SetOperator, PlanTree, entries, terms}
 use Rattle.rs_exec.specs.Asking.{world_of}
 use Rattle.rs_exec.specs.Distincts.{distinct_node_after}
-use Rattle.rs_exec.specs.Outputs.{output_row, outputs_in}
+use Rattle.rs_exec.specs.OutputValues.{output_row, outputs_in}
 use Rattle.rs_outputs.specs.Rows.{OutputRow, lists_of}
 use Rattle.rs_rank.specs.declared.answer.Answer.{Answer}
 use Rattle.rs_exec.specs.Cursors.{CursorState, StandsFor, asks_of, plan_of}
@@ -50,8 +50,8 @@ use Rattle.rs_exec.specs.SetNodes.{SetStands, operator_of, sides_for}
 use Rattle.rs_exec.specs.declared.set.SetNode.{SetNode}
 use Rattle.rs_exec.specs.Standing.{Stands, index_node_after, join_node_after, joined_from, rank_node_after, table_node_after}
 use Rattle.rs_exec.specs.declared.join_core.JoinCore.TheVariants as core
-use Rattle.rs_exec.specs.declared.node.Node.{Node}
-use Rattle.rs_exec.specs.declared.node.Node.TheVariants as node
+use Rattle.rs_exec.specs.declared.node.PlanNode.{PlanNode}
+use Rattle.rs_exec.specs.declared.node.PlanNode.TheVariants as node
 use Rattle.rs_exec.proofs.CoversFacts.{block-covered, covers}
 use Rattle.rs_catalog.proofs.JoinedFacts.{joined}
 use Rattle.rs_exec.proofs.LargerFacts.{base-same, combinations-same, indexes-larger, joins-same, left_values-same, outputs-same, plan-larger, query-larger, ranking-same, right_values-same, size-same, worths-same}
@@ -293,7 +293,7 @@ module _ (catalogue more : CatalogDef) (answer : Answering) (query : Query) (cov
         right_asked = is.right_asked ∙ sym (set_asked-same left right a Right);
       }
 
-  stands-larger : (number : ℕ) (n : Node) → IsPartOf catalogue query number (tree_in n) → Stands small number n → Stands large number n
+  stands-larger : (number : ℕ) (n : PlanNode) → IsPartOf catalogue query number (tree_in n) → Stands small number n → Stands large number n
   stands-larger number (node.SeqScan head) part is = is ∙ sym (table-same number head.entry head.tally.asked)
   stands-larger number (node.RankScan head) part is = is ∙ sym (index-same number head.entry head.term head.scan.index part head.tally.asked)
   stands-larger number (node.Rank' head p child) part is = (

@@ -18,7 +18,7 @@ use Rattle.rs_filter.specs.Matching.{IsView}
 use Rattle.rs_ripple.specs.Stands.{BeginsWith, schedule_of}
 use Rattle.rs_ripple.proofs.ScheduleFacts.{schedule_of-more}
 use Rattle.rs_exec.specs.Joining.{join_for}
-use Rattle.rs_exec.specs.Outputs.{outputs_in}
+use Rattle.rs_exec.specs.OutputValues.{outputs_in}
 use Rattle.rs_exec.specs.Parts.{IsPartOf}
 use Rattle.rs_exec.specs.SetNodes.{operator_of, sides_for}
 use Rattle.rs_setop.specs.Sides as setop

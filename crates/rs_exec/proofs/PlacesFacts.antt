@@ -33,7 +33,7 @@ use Rattle.rs_plan.specs.Plans.{IsPart, IsPlan, IsRank, IsSetPlan}
 use Rattle.rs_plan.specs.Trees.{Rank, SetOperator, PlanTree, entries, terms}
 use Rattle.rs_exec.specs.Asked.{HasBlock}
 use Rattle.rs_exec.specs.Asking.{world_of}
-use Rattle.rs_exec.specs.Outputs.{CanPutOut}
+use Rattle.rs_exec.specs.OutputValues.{CanPutOut}
 use Rattle.rs_exec.specs.Parts.{IsPartOf}
 use Rattle.rs_exec.proofs.BlockFacts.{block-formed, few-entries, same-counts, sizes-are, slice_get-none}
 use Rattle.rs_exec.proofs.FewFacts.{base-few, filter-less, length-firsts, sources-few}

@@ -14,7 +14,7 @@ use Rattle.rs_plan.specs.Lists.{World, numbered_block, list_of, sizes_in, weight
 use Rattle.rs_plan.specs.Plans.{IsPart}
 use Rattle.rs_plan.specs.Trees.{RankScan, SeqScan}
 use Rattle.rs_exec.specs.Drawing.{drawn_then, next_drawn, passes}
-use Rattle.rs_catalog.specs.Held.{Holds}
+use Rattle.rs_catalog.specs.IndexesHold.{Holds}
 use Rattle.rs_exec.proofs.DrawFacts.{drawn_for, drawn_for-index, drawn_for-most, drawn_for-table, first_of-drawn, place-row_of, through_first-drawn}
 use Rattle.rs_exec.proofs.IndexListFacts.{index-count, index-differ, index-list}
 use Rattle.rs_exec.proofs.StepFacts.{block-formed}

@@ -18,14 +18,14 @@ use Rattle.rs_plan.specs.Trees.{SetOperator, PlanTree}
 use Rattle.rs_exec.specs.Asked.{Asked, CanAsk, NodeAfter, SetAfter}
 use Rattle.rs_exec.specs.Asking.{next_row, world_of}
 use Rattle.rs_exec.specs.Nodes.{asked_in, number_in, tree_in}
-use Rattle.rs_exec.specs.Outputs.{CanPutOut, outputs_in, values_for}
+use Rattle.rs_exec.specs.OutputValues.{CanPutOut, outputs_in, values_for}
 use Rattle.rs_exec.specs.SetCores.{CoreStands, core_ask, is_spent, left_in, taken_from, terms_of_core, weights_of_core}
 use Rattle.rs_exec.specs.SetNodes.{SetStands, operator_of, sides_for}
 use Rattle.rs_exec.specs.Standing.{Stands}
 use Rattle.rs_exec.specs.declared.fault.ExecFault.{ExecFault}
 use Rattle.rs_exec.specs.declared.fault.ExecFault.TheVariants.{Memory}
-use Rattle.rs_exec.specs.declared.node.Node.{Node}
-use Rattle.rs_exec.specs.declared.node.Node.TheViews as view
+use Rattle.rs_exec.specs.declared.node.PlanNode.{PlanNode}
+use Rattle.rs_exec.specs.declared.node.PlanNode.TheViews as view
 use Rattle.rs_exec.specs.declared.set.SetNode.{SetNode}
 use Rattle.rs_exec.specs.declared.set_core.SetCore.{SetCore}
 use Rattle.rs_exec.specs.declared.tally.Tally.{Tally}
@@ -35,7 +35,7 @@ use Rattle.rs_exec.proofs.SetStepFacts.{SetAsked, SetBetween, set-alive, set-can
 use Rattle.rs_exec.proofs.SetCoreFacts.{side_ended, side_fed}
 
 -- a set operator and its sides, held apart, as a node
-module _ (w : World) (self : Node) (head after : SetNode) (left_box right_box : Box Node Global) (left_middle right_middle left right : Node)
+module _ (w : World) (self : PlanNode) (head after : SetNode) (left_box right_box : Box PlanNode Global) (left_middle right_middle left right : PlanNode)
     (result : Result (Option RankRow) ExecFault) (old new : ScorerState) where
   pub set-asked-node : self ≡ view.Set head left_box right_box → left_middle ≡ left_box.value → right_middle ≡ right_box.value
       → Asked w 1 (SetOperator (tree_in left_middle) (tree_in right_middle)) head.tally.asked
@@ -43,11 +43,11 @@ module _ (w : World) (self : Node) (head after : SetNode) (left_box right_box : 
       → Asked w (number_in self) (tree_in self) (asked_in self)
       (NodeAfter w (number_in self) (tree_in self) (asked_in self) (view.Set after (with_value left_box left) (with_value right_box right))) result old new
   set-asked-node is left_value right_value asked =
-      let first = subst (λ (n : Node). Asked w 1 (SetOperator (tree_in n) (tree_in right_middle)) head.tally.asked
+      let first = subst (λ (n : PlanNode). Asked w 1 (SetOperator (tree_in n) (tree_in right_middle)) head.tally.asked
       (SetAfter w (SetOperator (tree_in n) (tree_in right_middle)) head.tally.asked after left right) result old new) left_value asked in
-      let held = subst (λ (n : Node). Asked w 1 (SetOperator (tree_in left_box.value) (tree_in n)) head.tally.asked
+      let held = subst (λ (n : PlanNode). Asked w 1 (SetOperator (tree_in left_box.value) (tree_in n)) head.tally.asked
       (SetAfter w (SetOperator (tree_in left_box.value) (tree_in n)) head.tally.asked after left right) result old new) right_value first in
-      subst (λ (n : Node). Asked w (number_in n) (tree_in n) (asked_in n)
+      subst (λ (n : PlanNode). Asked w (number_in n) (tree_in n) (asked_in n)
       (NodeAfter w (number_in n) (tree_in n) (asked_in n) (view.Set after (with_value left_box left) (with_value right_box right))) result old new) (sym is)
       (record {
         inquires = held.inquires;
@@ -63,7 +63,7 @@ module _ (w : World) (self : Node) (head after : SetNode) (left_box right_box : 
 
 -- during ask a + 1 of a set operator, between two asks of its sides: the sides are of these trees, and stand, and the operator stands
 -- between these asks
-pub record SetTurn (catalogue : CatalogDef) (query : Query) (left right : PlanTree) (a : ℕ) (old : ScorerState) (head : SetNode) (on_left on_right : Node) (now : ScorerState) : Type 0 where
+pub record SetTurn (catalogue : CatalogDef) (query : Query) (left right : PlanTree) (a : ℕ) (old : ScorerState) (head : SetNode) (on_left on_right : PlanNode) (now : ScorerState) : Type 0 where
   pub left_tree : tree_in on_left ≡ left
   pub right_tree : tree_in on_right ≡ right
   pub left_stands : Stands (world_of catalogue old.answer query) 1 on_left
@@ -73,7 +73,7 @@ pub record SetTurn (catalogue : CatalogDef) (query : Query) (left right : PlanTr
   pub between : SetBetween (world_of catalogue old.answer query) left right a (asked_in on_left) (asked_in on_right) head.core old now
 
 -- at its start
-pub set_turn-start : (catalogue : CatalogDef) (query : Query) (head : SetNode) (on_left on_right : Node) (old : ScorerState)
+pub set_turn-start : (catalogue : CatalogDef) (query : Query) (head : SetNode) (on_left on_right : PlanNode) (old : ScorerState)
     → CanAsk (world_of catalogue old.answer query) 1 (SetOperator (tree_in on_left) (tree_in on_right)) head.tally.asked
     → SetStands (world_of catalogue old.answer query) head (tree_in on_left) (tree_in on_right) (asked_in on_left) (asked_in on_right)
     → Stands (world_of catalogue old.answer query) 1 on_left → Stands (world_of catalogue old.answer query) 2 on_right
@@ -98,21 +98,21 @@ set_turn-start catalogue query head on_left on_right old can stands left right t
 
 -- where a node of a side comes in the place of the one before: what holds of both sides, how often they were asked, and that fewer
 -- asks are left
-with_side : (P : JoinSide → Node → Type 0) (side : JoinSide) (next left right : Node) → P side next → P Left left → P Right right → P Left (of_side side next left) × P Right (of_side side right next)
+with_side : (P : JoinSide → PlanNode → Type 0) (side : JoinSide) (next left right : PlanNode) → P side next → P Left left → P Right right → P Left (of_side side next left) × P Right (of_side side right next)
 with_side P Left next left right new on_left on_right = (new, on_right)
 with_side P Right next left right new on_left on_right = (on_left, new)
 
-counts-then : (side : JoinSide) (left right next : Node) → asked_in next ≡ suc (of_side side (asked_in left) (asked_in right))
+counts-then : (side : JoinSide) (left right next : PlanNode) → asked_in next ≡ suc (of_side side (asked_in left) (asked_in right))
     → (of_side side (suc (asked_in left)) (asked_in left) ≡ asked_in (of_side side next left)) × (of_side side (asked_in right) (suc (asked_in right)) ≡ asked_in (of_side side right next))
 counts-then Left left right next is = (sym is, refl)
 counts-then Right left right next is = (refl, sym is)
 
-nearer : (side : JoinSide) (left right next : Node) (most : JoinSide → ℕ) → of_side side (asked_in left) (asked_in right) < most side → asked_in next ≡ suc (of_side side (asked_in left) (asked_in right))
+nearer : (side : JoinSide) (left right next : PlanNode) (most : JoinSide → ℕ) → of_side side (asked_in left) (asked_in right) < most side → asked_in next ≡ suc (of_side side (asked_in left) (asked_in right))
     → (most Left - asked_in (of_side side next left)) + (most Right - asked_in (of_side side right next)) < (most Left - asked_in left) + (most Right - asked_in right)
 nearer Left left right next most less is = omega arith
 nearer Right left right next most less is = omega arith
 
-module _ {catalogue : CatalogDef} {query : Query} {left right : PlanTree} {a : ℕ} {old : ScorerState} {head : SetNode} {on_left on_right : Node} {now : ScorerState}
+module _ {catalogue : CatalogDef} {query : Query} {left right : PlanTree} {a : ℕ} {old : ScorerState} {head : SetNode} {on_left on_right : PlanNode} {now : ScorerState}
     (turn : SetTurn catalogue query left right a old head on_left on_right now) (can : CanAsk (world_of catalogue old.answer query) 1 (SetOperator left right) a) where
   abbrev whole : World
   whole = world_of catalogue old.answer query
@@ -141,7 +141,7 @@ module _ {catalogue : CatalogDef} {query : Query} {left right : PlanTree} {a : �
   stands-of Right = turn.right_stands
 
   module _ (side : JoinSide) (need : core_ask head.core ≡ need_of side) where
-    abbrev on : Node
+    abbrev on : PlanNode
     on = of_side side on_left on_right
 
     abbrev asks : ℕ
@@ -175,7 +175,7 @@ module _ {catalogue : CatalogDef} {query : Query} {left right : PlanTree} {a : �
         ask-failed whole 1 (SetOperator left right) a After result fault old asked is
         (set-fault catalogue query left right a old can (asked_in on_left) (asked_in on_right) head.core now turn.between side need fault asked (same (Err fault) asked below))
 
-    module _ (next : Node) (after : NodeAfter (world_of catalogue now.answer query) (number_in on) (tree_in on) (asked_in on) next) where
+    module _ (next : PlanNode) (after : NodeAfter (world_of catalogue now.answer query) (number_in on) (tree_in on) (asked_in on) next) where
       one-more : asked_in next ≡ suc asks
       one-more = after.asked_is ∙ ap suc (sym (asked-of side))
 
@@ -191,7 +191,7 @@ module _ {catalogue : CatalogDef} {query : Query} {left right : PlanTree} {a : �
           → SetBetween (world_of catalogue old.answer query) left right a (of_side side (suc (asked_in on_left)) (asked_in on_left)) (of_side side (asked_in on_right) (suc (asked_in on_right))) core old new
           → SetTurn catalogue query left right a old fed (of_side side next on_left) (of_side side on_right next) new
       side-turn core fed new is between =
-          let P : JoinSide → Node → Type 0 = λ v n. (tree_in n ≡ of_side v left right) × Stands whole (of_side v 1 2) n in
+          let P : JoinSide → PlanNode → Type 0 = λ v n. (tree_in n ≡ of_side v left right) × Stands whole (of_side v 1 2) n in
           let moved : P side next = (
             after.tree_is ∙ tree-of side,
             subst (λ n. Stands whole n next) (after.number_is ∙ number-of side)
@@ -225,7 +225,7 @@ module _ {catalogue : CatalogDef} {query : Query} {left right : PlanTree} {a : �
       set_turn-sum = set-sum catalogue query left right a old can (asked_in on_left) (asked_in on_right) head.core now turn.between side need row asked below
 
       -- the row is taken
-      pub set_turn-fed : (fed : SetNode) (next : Node) → fed ≡ record head { core = side_fed side row (values_for catalogue query row) head.core }
+      pub set_turn-fed : (fed : SetNode) (next : PlanNode) → fed ≡ record head { core = side_fed side row (values_for catalogue query row) head.core }
           → NodeAfter (world_of catalogue now.answer query) (number_in on) (tree_in on) (asked_in on) next
           → SetTurn catalogue query left right a old fed (of_side side next on_left) (of_side side on_right next) asked
       set_turn-fed fed next is after =
@@ -238,7 +238,7 @@ module _ {catalogue : CatalogDef} {query : Query} {left right : PlanTree} {a : �
           ask-failed whole 1 (SetOperator left right) a After result Memory old asked is (set-stopped catalogue query left right a old can (asked_in on_left) (asked_in on_right) head.core now turn.between side need (Some row) asked below)
 
     -- its end is told
-    pub set_turn-ended : (got : Option RankRow) → got ≡ None → (asked : ScorerState) (fed : SetNode) (next : Node) → fed ≡ record head { core = side_ended side head.core }
+    pub set_turn-ended : (got : Option RankRow) → got ≡ None → (asked : ScorerState) (fed : SetNode) (next : PlanNode) → fed ≡ record head { core = side_ended side head.core }
         → Inquires Memory (next_row (world_of catalogue now.answer query) (number_in on) (tree_in on) (asked_in on)) (Ok got) now asked
         → NodeAfter (world_of catalogue now.answer query) (number_in on) (tree_in on) (asked_in on) next
         → SetTurn catalogue query left right a old fed (of_side side next on_left) (of_side side on_right next) asked

@@ -31,7 +31,7 @@ use Rattle.rs_setop.proofs.BaseFacts.{answers-sorted, sides-sorted}
 use Rattle.rs_plan.specs.Lists.{World, key_under, numbered_block, row_under, sizes_in, sources, weights_in}
 use Rattle.rs_plan.specs.Plans.{IsComplete}
 use Rattle.rs_plan.specs.Trees.{SetOperator, PlanTree, terms}
-use Rattle.rs_exec.specs.Outputs.{output_row, outputs_in}
+use Rattle.rs_exec.specs.OutputValues.{output_row, outputs_in}
 use Rattle.rs_exec.specs.SetNodes.{sides_for}
 use Rattle.rs_exec.proofs.AlikeFacts.{same-sums}
 use Rattle.rs_exec.proofs.DistinctListFacts.{Shows, map-filter, output-firsts, output_key, output_of, outputs-sorted, rows-show}

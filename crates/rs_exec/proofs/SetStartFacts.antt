@@ -17,13 +17,13 @@ use Rattle.rs_plan.specs.Plans.{IsPlan, IsSetPlan}
 use Rattle.rs_plan.specs.Trees.{Rank, SetOperator, PlanTree, terms}
 use Rattle.rs_exec.specs.Asking.{world_of}
 use Rattle.rs_exec.specs.Nodes.{asked_in, tree_in}
-use Rattle.rs_exec.specs.Outputs.{outputs_in}
+use Rattle.rs_exec.specs.OutputValues.{outputs_in}
 use Rattle.rs_exec.specs.SetCores.{CoreStands, new_core}
 use Rattle.rs_exec.specs.SetNodes.{SetStands, sides_for}
 use Rattle.rs_exec.specs.Standing.{HeadStands, Stands}
 use Rattle.rs_exec.specs.Starting.{IsQueryStart, IsSetStart, no_tally}
-use Rattle.rs_exec.specs.declared.node.Node.{Node}
-use Rattle.rs_exec.specs.declared.node.Node.TheVariants as node
+use Rattle.rs_exec.specs.declared.node.PlanNode.{PlanNode}
+use Rattle.rs_exec.specs.declared.node.PlanNode.TheVariants as node
 use Rattle.rs_exec.specs.declared.rank.RankNode.{RankNode}
 use Rattle.rs_exec.specs.declared.set.SetNode.{SetNode}
 use Rattle.rs_exec.proofs.BlockFacts.{few-entries, sizes-are}
@@ -32,24 +32,24 @@ use Rattle.rs_exec.proofs.SetStepFacts.{set-facts}
 use Rattle.rs_exec.proofs.StartFacts.{none-given, rank-none, start-asked, start-stands, start-tree}
 
 -- the nodes are of the tree that they were made for
-set-tree : (catalogue : CatalogDef) (op : SetOp) (left_block right_block : Block) (tree : PlanTree) (n : Node) → IsSetStart catalogue op left_block right_block tree n → tree_in n ≡ tree
+set-tree : (catalogue : CatalogDef) (op : SetOp) (left_block right_block : Block) (tree : PlanTree) (n : PlanNode) → IsSetStart catalogue op left_block right_block tree n → tree_in n ≡ tree
 set-tree catalogue op left_block right_block (Rank term child) (node.Rank' head p below) is =
     ap (λ (h : RankNode). Rank h.term (tree_in below)) is.0 ∙ ap (Rank term) (set-tree catalogue op left_block right_block child below is.1)
 set-tree catalogue op left_block right_block (SetOperator left right) (node.Set' head p l q r) is =
     ap₂ SetOperator (start-tree catalogue left_block 1 left l is.1) (start-tree catalogue right_block 2 right r is.2)
 set-tree catalogue op left_block right_block tree n is = absurd is
 
-pub query-tree : (catalogue : CatalogDef) (query : Query) (tree : PlanTree) (n : Node) → IsQueryStart catalogue query tree n → tree_in n ≡ tree
+pub query-tree : (catalogue : CatalogDef) (query : Query) (tree : PlanTree) (n : PlanNode) → IsQueryStart catalogue query tree n → tree_in n ≡ tree
 query-tree catalogue (One block limit) tree n is = start-tree catalogue block 1 tree n is
 query-tree catalogue (Set op left right limit) tree n is = set-tree catalogue op left right tree n is
 
 -- they were not asked
-set-unasked : (catalogue : CatalogDef) (op : SetOp) (left_block right_block : Block) (tree : PlanTree) (n : Node) → IsSetStart catalogue op left_block right_block tree n → asked_in n ≡ 0
+set-unasked : (catalogue : CatalogDef) (op : SetOp) (left_block right_block : Block) (tree : PlanTree) (n : PlanNode) → IsSetStart catalogue op left_block right_block tree n → asked_in n ≡ 0
 set-unasked catalogue op left_block right_block (Rank term child) (node.Rank' head p below) is = ap (λ (h : RankNode). h.tally.asked) is.0
 set-unasked catalogue op left_block right_block (SetOperator left right) (node.Set' head p l q r) is = ap (λ (h : SetNode). h.tally.asked) is.0
 set-unasked catalogue op left_block right_block tree n is = absurd is
 
-pub query-asked : (catalogue : CatalogDef) (query : Query) (tree : PlanTree) (n : Node) → IsQueryStart catalogue query tree n → asked_in n ≡ 0
+pub query-asked : (catalogue : CatalogDef) (query : Query) (tree : PlanTree) (n : PlanNode) → IsQueryStart catalogue query tree n → asked_in n ≡ 0
 query-asked catalogue (One block limit) tree n is = start-asked catalogue block 1 tree n is
 query-asked catalogue (Set op left right limit) tree n is = set-unasked catalogue op left right tree n is
 
@@ -62,7 +62,7 @@ module _ (catalogue : CatalogDef) (answer : Answering) (op : SetOp) (left_block 
   abbrev w : World
   w = world_of catalogue answer query
 
-  set-stands : (tree : PlanTree) (n : Node) → IsSetPlan catalogue left_block right_block tree → IsSetStart catalogue op left_block right_block tree n → Stands w 1 n
+  set-stands : (tree : PlanTree) (n : PlanNode) → IsSetPlan catalogue left_block right_block tree → IsSetStart catalogue op left_block right_block tree n → Stands w 1 n
   set-stands (Rank term child) (node.Rank' head p below) plan is =
       let tree = set-tree catalogue op left_block right_block child below is.1 in (
         subst (λ (h : RankNode). HeadStands w 1 h (tree_in below) (asked_in below)) (sym is.0) (record {
@@ -91,7 +91,7 @@ module _ (catalogue : CatalogDef) (answer : Answering) (op : SetOp) (left_block 
       )
   set-stands tree n plan is = absurd is
 
-pub query-stands : (catalogue : CatalogDef) (answer : Answering) (query : Query) (tree : PlanTree) (n : Node) → IsQuery catalogue query → IsWeights (weights_of (block_in query 1))
+pub query-stands : (catalogue : CatalogDef) (answer : Answering) (query : Query) (tree : PlanTree) (n : PlanNode) → IsQuery catalogue query → IsWeights (weights_of (block_in query 1))
     → IsPlan catalogue query tree → IsQueryStart catalogue query tree n
     → Stands (world_of catalogue answer query) 1 n
 query-stands catalogue answer (One block limit) tree n formed weights plan is =

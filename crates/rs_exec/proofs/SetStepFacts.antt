@@ -40,7 +40,7 @@ use Rattle.rs_plan.specs.Trees.{SetOperator, PlanTree, entries, terms}
 use Rattle.rs_exec.specs.Asked.{CanAsk, HasBlock}
 use Rattle.rs_exec.specs.Asking.{exec_faults, next_row, world_of}
 use Rattle.rs_exec.specs.Indexes.{PlanIndexesHold}
-use Rattle.rs_exec.specs.Outputs.{CanPutOut, output_row, outputs_in, values_for}
+use Rattle.rs_exec.specs.OutputValues.{CanPutOut, output_row, outputs_in, values_for}
 use Rattle.rs_exec.specs.Parts.{AreSides}
 use Rattle.rs_exec.specs.SetCores.{CoreStands, core_ask, is_spent, left_in, taken_from, terms_of_core, weights_of_core}
 use Rattle.rs_exec.specs.SetNodes.{operator_of, sides_for}

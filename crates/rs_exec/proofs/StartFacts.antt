@@ -26,8 +26,8 @@ use Rattle.rs_exec.specs.Starting.{IsStart, no_tally, new_table_node, new_index_
 use Rattle.rs_exec.specs.declared.distinct.DistinctNode.{DistinctNode}
 use Rattle.rs_exec.specs.declared.join.JoinNode.{JoinNode}
 use Rattle.rs_exec.specs.declared.join_core.JoinCore.{JoinCore}
-use Rattle.rs_exec.specs.declared.node.Node.{Node}
-use Rattle.rs_exec.specs.declared.node.Node.TheVariants as node
+use Rattle.rs_exec.specs.declared.node.PlanNode.{PlanNode}
+use Rattle.rs_exec.specs.declared.node.PlanNode.TheVariants as node
 use Rattle.rs_exec.specs.declared.rank.RankNode.{RankNode}
 use Rattle.rs_exec.specs.declared.scan.IndexNode.{IndexNode}
 use Rattle.rs_exec.specs.declared.scan.TableNode.{TableNode}
@@ -39,7 +39,7 @@ new-kind Nested weights left right = refl
 new-kind Hash weights left right = refl
 
 -- the nodes are of the tree that they were made for
-pub start-tree : (catalogue : CatalogDef) (block : Block) (number : ℕ) (tree : PlanTree) (n : Node) → IsStart catalogue block number tree n → tree_in n ≡ tree
+pub start-tree : (catalogue : CatalogDef) (block : Block) (number : ℕ) (tree : PlanTree) (n : PlanNode) → IsStart catalogue block number tree n → tree_in n ≡ tree
 start-tree catalogue block number (SeqScan entry) (node.SeqScan head) is = ap (λ (h : TableNode). SeqScan h.entry) is
 start-tree catalogue block number (RankScan entry term index) (node.RankScan head) is = ap (λ (h : IndexNode). RankScan h.entry h.term h.scan.index) is
 start-tree catalogue block number (Rank term child) (node.Rank' head p below) is =
@@ -52,7 +52,7 @@ start-tree catalogue block number (Distinct child) (node.Distinct' head p below)
 start-tree catalogue block number tree n is = absurd is
 
 -- they were not asked
-pub start-asked : (catalogue : CatalogDef) (block : Block) (number : ℕ) (tree : PlanTree) (n : Node) → IsStart catalogue block number tree n → asked_in n ≡ 0
+pub start-asked : (catalogue : CatalogDef) (block : Block) (number : ℕ) (tree : PlanTree) (n : PlanNode) → IsStart catalogue block number tree n → asked_in n ≡ 0
 start-asked catalogue block number (SeqScan entry) (node.SeqScan head) is = ap (λ (h : TableNode). h.tally.asked) is
 start-asked catalogue block number (RankScan entry term index) (node.RankScan head) is = ap (λ (h : IndexNode). h.tally.asked) is
 start-asked catalogue block number (Rank term child) (node.Rank' head p below) is = ap (λ (h : RankNode). h.tally.asked) is.0
@@ -139,7 +139,7 @@ module _ (w : World) (number : ℕ) (most : length (numbered_block w number).fro
 
   module _ (weights : weights_of (numbered_block w number) ≡ weights_in w) where
     -- a join of two sides that weren't asked
-    join-starts : (kind : JoinKind) (left right : PlanTree) (l r : Node) (head : JoinNode) → head ≡ new_join w (new_join_core kind (weights_of (numbered_block w number)) (side_for left) (side_for right)) number left right
+    join-starts : (kind : JoinKind) (left right : PlanTree) (l r : PlanNode) (head : JoinNode) → head ≡ new_join w (new_join_core kind (weights_of (numbered_block w number)) (side_for left) (side_for right)) number left right
         → tree_in l ≡ left → tree_in r ≡ right → asked_in l ≡ 0 → asked_in r ≡ 0 → JoinStands w number head (tree_in l) (tree_in r) (asked_in l) (asked_in r)
     join-starts kind left right l r head is on_left on_right left_asked right_asked =
         let same : head ≡ new_join w (new_join_core kind (weights_in w) (side_for (tree_in l)) (side_for (tree_in r))) number (tree_in l) (tree_in r) =
@@ -152,7 +152,7 @@ module _ (w : World) (number : ℕ) (most : length (numbered_block w number).fro
           right_asked = right_asked;
         })
 
-    pub start-stands : (tree : PlanTree) (n : Node) → IsPart w.catalogue (numbered_block w number) tree → IsStart w.catalogue (numbered_block w number) number tree n → Stands w number n
+    pub start-stands : (tree : PlanTree) (n : PlanNode) → IsPart w.catalogue (numbered_block w number) tree → IsStart w.catalogue (numbered_block w number) number tree n → Stands w number n
     start-stands (SeqScan entry) (node.SeqScan head) part is =
         subst (λ (h : TableNode). h ≡ table_node_after w number h.entry h.tally.asked) (sym is)
         (ap (new_table_node (numbered_block w number) number entry) (size-is entry part)

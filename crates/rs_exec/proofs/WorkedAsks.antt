@@ -27,7 +27,7 @@ use Rattle.rs_exec.specs.Cursors.{answers_of, call_of, is_over, next_answer, nex
 use Rattle.rs_exec.specs.Standing.{index_node_after, rank_node_after, table_node_after}
 use Rattle.rs_exec.specs.declared.fault.ExecFault.{ExecFault}
 use Rattle.rs_exec.specs.declared.fault.ExecFault.TheVariants.{BadScore, Broken, Probe}
-use Rattle.rs_exec.specs.declared.node.Node.TheVariants.{SeqScan as SeqScanNode}
+use Rattle.rs_exec.specs.declared.node.PlanNode.TheVariants.{SeqScan as SeqScanNode}
 
 abbrev int : ℕ → Value
 int n = value.Int (pos n)

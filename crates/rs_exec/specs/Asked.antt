@@ -15,7 +15,7 @@ use Rattle.rs_exec.specs.declared.distinct.DistinctNode.{DistinctNode}
 use Rattle.rs_exec.specs.declared.fault.ExecFault.{ExecFault}
 use Rattle.rs_exec.specs.declared.fault.ExecFault.TheVariants.{Memory}
 use Rattle.rs_exec.specs.declared.join.JoinNode.{JoinNode}
-use Rattle.rs_exec.specs.declared.node.Node.{Node}
+use Rattle.rs_exec.specs.declared.node.PlanNode.{PlanNode}
 use Rattle.rs_exec.specs.declared.rank.RankNode.{RankNode}
 use Rattle.rs_exec.specs.declared.set.SetNode.{SetNode}
 use Rattle.rs_exec.specs.Asking.{next_row}
@@ -45,14 +45,14 @@ pub record CanAsk (w : World) (number : ℕ) (tree : PlanTree) (asked : ℕ) : T
   pub few : length (list_of w number tree) ≤ 2 ^ 103
 
 -- what holds of a node after an ask that was answered: it is of the same tree and block, was asked once more, and stands
-pub record NodeAfter (w : World) (number : ℕ) (tree : PlanTree) (asked : ℕ) (node : Node) : Type 0 where
+pub record NodeAfter (w : World) (number : ℕ) (tree : PlanTree) (asked : ℕ) (node : PlanNode) : Type 0 where
   pub number_is : number_in node ≡ number
   pub tree_is : tree_in node ≡ tree
   pub asked_is : asked_in node ≡ suc asked
   pub stands : Stands w number node
 
 -- the same of a rank operator and its input, which are held apart
-pub record RankAfter (w : World) (number : ℕ) (tree : PlanTree) (asked : ℕ) (head : RankNode) (child : Node) : Type 0 where
+pub record RankAfter (w : World) (number : ℕ) (tree : PlanTree) (asked : ℕ) (head : RankNode) (child : PlanNode) : Type 0 where
   pub number_is : number_in child ≡ number
   pub tree_is : Rank head.term (tree_in child) ≡ tree
   pub asked_is : head.tally.asked ≡ suc asked
@@ -60,7 +60,7 @@ pub record RankAfter (w : World) (number : ℕ) (tree : PlanTree) (asked : ℕ) 
   pub input : Stands w number child
 
 -- the same of a join and its two sides
-pub record JoinAfter (w : World) (number : ℕ) (tree : PlanTree) (asked : ℕ) (head : JoinNode) (left right : Node) : Type 0 where
+pub record JoinAfter (w : World) (number : ℕ) (tree : PlanTree) (asked : ℕ) (head : JoinNode) (left right : PlanNode) : Type 0 where
   pub number_is : head.block ≡ number
   pub tree_is : JoinOperator (kind_of head.core) (tree_in left) (tree_in right) ≡ tree
   pub asked_is : head.tally.asked ≡ suc asked
@@ -69,7 +69,7 @@ pub record JoinAfter (w : World) (number : ℕ) (tree : PlanTree) (asked : ℕ) 
   pub right_side : Stands w number right
 
 -- the same of an operator that drops duplicates and its input
-pub record DistinctAfter (w : World) (number : ℕ) (tree : PlanTree) (asked : ℕ) (head : DistinctNode) (child : Node) : Type 0 where
+pub record DistinctAfter (w : World) (number : ℕ) (tree : PlanTree) (asked : ℕ) (head : DistinctNode) (child : PlanNode) : Type 0 where
   pub number_is : number_in child ≡ number
   pub tree_is : Distinct (tree_in child) ≡ tree
   pub asked_is : head.tally.asked ≡ suc asked
@@ -77,7 +77,7 @@ pub record DistinctAfter (w : World) (number : ℕ) (tree : PlanTree) (asked : �
   pub input : Stands w number child
 
 -- the same of a set operator and its sides
-pub record SetAfter (w : World) (tree : PlanTree) (asked : ℕ) (head : SetNode) (left right : Node) : Type 0 where
+pub record SetAfter (w : World) (tree : PlanTree) (asked : ℕ) (head : SetNode) (left right : PlanNode) : Type 0 where
   pub tree_is : SetOperator (tree_in left) (tree_in right) ≡ tree
   pub asked_is : head.tally.asked ≡ suc asked
   pub operator : SetStands w head (tree_in left) (tree_in right) (asked_in left) (asked_in right)
@@ -91,56 +91,56 @@ pub record Asked (w : World) (number : ℕ) (tree : PlanTree) (asked : ℕ) (Aft
   pub leaves : IsOk result → After
 
 -- a node can be asked once more, and what one ask of it did
-abbrev pub CanAskNode : World → Node → Type 0
+abbrev pub CanAskNode : World → PlanNode → Type 0
 CanAskNode w node = CanAsk w (number_in node) (tree_in node) (asked_in node)
 
-abbrev pub NodeAsked : World → Node → Node → Result (Option RankRow) ExecFault → ScorerState → ScorerState → Type 0
+abbrev pub NodeAsked : World → PlanNode → PlanNode → Result (Option RankRow) ExecFault → ScorerState → ScorerState → Type 0
 NodeAsked w node new = Asked w (number_in node) (tree_in node) (asked_in node) (NodeAfter w (number_in node) (tree_in node) (asked_in node) new)
 
 -- the same of a rank operator and its input, which are held apart
-abbrev pub CanAskRank : World → RankNode → Node → Type 0
+abbrev pub CanAskRank : World → RankNode → PlanNode → Type 0
 CanAskRank w head child = CanAsk w (number_in child) (Rank head.term (tree_in child)) head.tally.asked
 
-abbrev pub RankStands : World → RankNode → Node → Type 0
+abbrev pub RankStands : World → RankNode → PlanNode → Type 0
 RankStands w head child = HeadStands w (number_in child) head (tree_in child) (asked_in child)
 
-abbrev pub RankAsked : World → RankNode → Node → RankNode → Node → Result (Option RankRow) ExecFault → ScorerState → ScorerState → Type 0
+abbrev pub RankAsked : World → RankNode → PlanNode → RankNode → PlanNode → Result (Option RankRow) ExecFault → ScorerState → ScorerState → Type 0
 RankAsked w head child new new_child =
     Asked w (number_in child) (Rank head.term (tree_in child)) head.tally.asked
     (RankAfter w (number_in child) (Rank head.term (tree_in child)) head.tally.asked new new_child)
 
 -- of a join and its sides
-abbrev pub CanAskJoin : World → JoinNode → Node → Node → Type 0
+abbrev pub CanAskJoin : World → JoinNode → PlanNode → PlanNode → Type 0
 CanAskJoin w head left right = CanAsk w head.block (JoinOperator (kind_of head.core) (tree_in left) (tree_in right)) head.tally.asked
 
-abbrev pub JoinNodeStands : World → JoinNode → Node → Node → Type 0
+abbrev pub JoinNodeStands : World → JoinNode → PlanNode → PlanNode → Type 0
 JoinNodeStands w head left right = JoinStands w head.block head (tree_in left) (tree_in right) (asked_in left) (asked_in right)
 
-abbrev pub JoinAsked : World → JoinNode → Node → Node → JoinNode → Node → Node → Result (Option RankRow) ExecFault → ScorerState → ScorerState → Type 0
+abbrev pub JoinAsked : World → JoinNode → PlanNode → PlanNode → JoinNode → PlanNode → PlanNode → Result (Option RankRow) ExecFault → ScorerState → ScorerState → Type 0
 JoinAsked w head left right new new_left new_right =
     Asked w head.block (JoinOperator (kind_of head.core) (tree_in left) (tree_in right)) head.tally.asked
     (JoinAfter w head.block (JoinOperator (kind_of head.core) (tree_in left) (tree_in right)) head.tally.asked new new_left new_right)
 
 -- of an operator that drops duplicates and its input
-abbrev pub CanAskDistinct : World → DistinctNode → Node → Type 0
+abbrev pub CanAskDistinct : World → DistinctNode → PlanNode → Type 0
 CanAskDistinct w head child = CanAsk w (number_in child) (Distinct (tree_in child)) head.tally.asked
 
-abbrev pub DistinctStands : World → DistinctNode → Node → Type 0
+abbrev pub DistinctStands : World → DistinctNode → PlanNode → Type 0
 DistinctStands w head child = DropsStand w (number_in child) head (tree_in child) (asked_in child)
 
-abbrev pub DistinctAsked : World → DistinctNode → Node → DistinctNode → Node → Result (Option RankRow) ExecFault → ScorerState → ScorerState → Type 0
+abbrev pub DistinctAsked : World → DistinctNode → PlanNode → DistinctNode → PlanNode → Result (Option RankRow) ExecFault → ScorerState → ScorerState → Type 0
 DistinctAsked w head child new new_child =
     Asked w (number_in child) (Distinct (tree_in child)) head.tally.asked
     (DistinctAfter w (number_in child) (Distinct (tree_in child)) head.tally.asked new new_child)
 
 -- of a set operator and its sides
-abbrev pub CanAskSet : World → SetNode → Node → Node → Type 0
+abbrev pub CanAskSet : World → SetNode → PlanNode → PlanNode → Type 0
 CanAskSet w head left right = CanAsk w 1 (SetOperator (tree_in left) (tree_in right)) head.tally.asked
 
-abbrev pub SetNodeStands : World → SetNode → Node → Node → Type 0
+abbrev pub SetNodeStands : World → SetNode → PlanNode → PlanNode → Type 0
 SetNodeStands w head left right = SetStands w head (tree_in left) (tree_in right) (asked_in left) (asked_in right)
 
-abbrev pub SetAsked : World → SetNode → Node → Node → SetNode → Node → Node → Result (Option RankRow) ExecFault → ScorerState → ScorerState → Type 0
+abbrev pub SetAsked : World → SetNode → PlanNode → PlanNode → SetNode → PlanNode → PlanNode → Result (Option RankRow) ExecFault → ScorerState → ScorerState → Type 0
 SetAsked w head left right new new_left new_right =
     Asked w 1 (SetOperator (tree_in left) (tree_in right)) head.tally.asked
     (SetAfter w (SetOperator (tree_in left) (tree_in right)) head.tally.asked new new_left new_right)

@@ -21,7 +21,7 @@ use Rattle.rs_plan.specs.Plans.{IsPlan}
 use Rattle.rs_plan.specs.Trees.{PlanTree}
 use Rattle.rs_exec.specs.declared.fault.ExecFault.{ExecFault}
 use Rattle.rs_exec.specs.declared.fault.ExecFault.TheVariants.{Broken}
-use Rattle.rs_exec.specs.declared.node.Node.{Node}
+use Rattle.rs_exec.specs.declared.node.PlanNode.{PlanNode}
 use Rattle.rs_exec.specs.Asking.{exec_faults, world_of}
 use Rattle.rs_exec.specs.Indexes.{PlanIndexesHold}
 use Rattle.rs_exec.specs.Nodes.{asked_in, tree_in}
@@ -75,7 +75,7 @@ asks_after w tree n = if is_over w tree n then n else suc n
 -- a cursor: its query, the nodes of its plan, and whether a call of it failed
 pub record CursorState : Type 0 where
   pub query : Query
-  pub root : Node
+  pub root : PlanNode
   pub failed : Bool
 
 -- its plan, and how often that was asked

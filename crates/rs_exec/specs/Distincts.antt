@@ -6,7 +6,7 @@ use Rattle.rs_plan.specs.Counts.{asked_of, gave_of}
 use Rattle.rs_plan.specs.Lists.{World}
 use Rattle.rs_plan.specs.Trees.{Distinct, PlanTree}
 use Rattle.rs_exec.specs.declared.distinct.DistinctNode.{DistinctNode}
-use Rattle.rs_exec.specs.Outputs.{outputs_in}
+use Rattle.rs_exec.specs.OutputValues.{outputs_in}
 
 -- the output values of the rows that it drew: its input was asked as often as its answers take
 abbrev pub distinct_node_after : World → ℕ → PlanTree → ℕ → DistinctNode

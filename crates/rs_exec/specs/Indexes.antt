@@ -1,7 +1,7 @@
 -- The rank indexes of a plan hold the answers of a scorer.
 use Rattle.rs_expr.specs.Scoring.{Answering}
 use Rattle.rs_catalog.specs.Catalog.{CatalogDef}
-use Rattle.rs_catalog.specs.Held.{Holds}
+use Rattle.rs_catalog.specs.IndexesHold.{Holds}
 use Rattle.rs_plan.specs.Trees.{Distinct, JoinOperator, Rank, RankScan, SeqScan, SetOperator, PlanTree}
 
 -- each index that a tree scans does

@@ -9,7 +9,7 @@ pub mod Feeding
 pub mod Indexes
 pub mod Joining
 pub mod Nodes
-pub mod Outputs
+pub mod OutputValues
 pub mod Parts
 pub mod SetCores
 pub mod SetNodes

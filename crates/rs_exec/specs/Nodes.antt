@@ -3,12 +3,12 @@ use Rattle.std.specs.Prelude.{ℕ, zero, suc, List, [], ◌∷◌, ◌++◌, Res
 use Rattle.rs_plan.specs.declared.counts.Counts.{Counts}
 use Rattle.rs_plan.specs.Trees.{Distinct, JoinOperator, Rank, RankScan, SeqScan, SetOperator, PlanTree}
 use Rattle.rs_exec.specs.Cores.{kind_of}
-use Rattle.rs_exec.specs.declared.node.Node.{Node}
-use Rattle.rs_exec.specs.declared.node.Node.TheVariants as node
+use Rattle.rs_exec.specs.declared.node.PlanNode.{PlanNode}
+use Rattle.rs_exec.specs.declared.node.PlanNode.TheVariants as node
 use Rattle.rs_exec.specs.declared.tally.Tally.{Tally}
 
 -- the tree, without where its parts lie in memory
-abbrev pub tree_in : Node → PlanTree
+abbrev pub tree_in : PlanNode → PlanTree
 tree_in (node.SeqScan head) = SeqScan head.entry
 tree_in (node.RankScan head) = RankScan head.entry head.term head.scan.index
 tree_in (node.Rank' head p child) = Rank head.term (tree_in child)
@@ -17,7 +17,7 @@ tree_in (node.Distinct' head p child) = Distinct (tree_in child)
 tree_in (node.Set' head p left q right) = SetOperator (tree_in left) (tree_in right)
 
 -- the number of the block whose rows it gives; from a set operator on that of the first block
-abbrev pub number_in : Node → ℕ
+abbrev pub number_in : PlanNode → ℕ
 number_in (node.SeqScan head) = head.block
 number_in (node.RankScan head) = head.block
 number_in (node.Rank' head p child) = number_in child
@@ -26,7 +26,7 @@ number_in (node.Distinct' head p child) = number_in child
 number_in (node.Set' head p left q right) = 1
 
 -- how often it was asked, and how many rows it gave
-abbrev pub tally_in : Node → Tally
+abbrev pub tally_in : PlanNode → Tally
 tally_in (node.SeqScan head) = head.tally
 tally_in (node.RankScan head) = head.tally
 tally_in (node.Rank' head p child) = head.tally
@@ -34,11 +34,11 @@ tally_in (node.Join' head p left q right) = head.tally
 tally_in (node.Distinct' head p child) = head.tally
 tally_in (node.Set' head p left q right) = head.tally
 
-abbrev pub asked_in : Node → ℕ
+abbrev pub asked_in : PlanNode → ℕ
 asked_in n = (tally_in n).asked
 
 -- what it counts, and all below it, a node before its children, and the left one before the right one
-abbrev pub counts_in : Node → List Counts
+abbrev pub counts_in : PlanNode → List Counts
 counts_in (node.SeqScan head) = record { asked = head.tally.asked; gave = head.tally.gave; calls = 0; drawn = head.scan.drawn } ∷ []
 counts_in (node.RankScan head) = record { asked = head.tally.asked; gave = head.tally.gave; calls = 0; drawn = head.scan.drawn } ∷ []
 counts_in (node.Rank' head p child) =

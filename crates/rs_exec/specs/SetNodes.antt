@@ -15,7 +15,7 @@ use Rattle.rs_setop.specs.Sides.{Sides}
 use Rattle.rs_value.specs.declared.set_op.SetOp.{SetOp}
 use Rattle.rs_value.specs.declared.set_op.SetOp.TheVariants.{Except, Intersect, Union, UnionAll}
 use Rattle.rs_exec.specs.declared.set.SetNode.{SetNode}
-use Rattle.rs_exec.specs.Outputs.{outputs_in}
+use Rattle.rs_exec.specs.OutputValues.{outputs_in}
 use Rattle.rs_exec.specs.SetCores.{CoreStands}
 
 -- the operator of a query; one of one block has none

@@ -12,8 +12,8 @@ use Rattle.rs_filter.specs.Conditions.{conditions_of}
 use Rattle.rs_ripple.specs.After.{joined_after}
 use Rattle.rs_ripple.specs.Joined.{Joined}
 use Rattle.rs_exec.specs.declared.join.JoinNode.{JoinNode}
-use Rattle.rs_exec.specs.declared.node.Node.{Node}
-use Rattle.rs_exec.specs.declared.node.Node.TheVariants as node
+use Rattle.rs_exec.specs.declared.node.PlanNode.{PlanNode}
+use Rattle.rs_exec.specs.declared.node.PlanNode.TheVariants as node
 use Rattle.rs_exec.specs.declared.rank.RankNode.{RankNode}
 use Rattle.rs_exec.specs.declared.scan.IndexNode.{IndexNode}
 use Rattle.rs_exec.specs.declared.scan.TableNode.{TableNode}
@@ -111,7 +111,7 @@ pub record JoinStands (w : World) (number : ℕ) (head : JoinNode) (left right :
   pub right_asked : right_asks ≡ asked_of w number (JoinOperator (kind_of head.core) left right) head.tally.asked Right
 
 -- a node and all below it keep what the asks of the node give
-abbrev pub Stands : World → ℕ → Node → Type 0
+abbrev pub Stands : World → ℕ → PlanNode → Type 0
 Stands w number (node.SeqScan head) = head ≡ table_node_after w number head.entry head.tally.asked
 Stands w number (node.RankScan head) = head ≡ index_node_after w number head.entry head.term head.scan.index head.tally.asked
 Stands w number (node.Rank' head p child) = HeadStands w number head (tree_in child) (asked_in child) × Stands w number child

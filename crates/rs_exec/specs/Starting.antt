@@ -14,8 +14,8 @@ use Rattle.rs_scan.specs.Scans.{new_index_scan, new_table_scan}
 use Rattle.rs_plan.specs.Trees.{Distinct, JoinOperator, Rank, RankScan, SeqScan, SetOperator, PlanTree, entries, terms}
 use Rattle.rs_exec.specs.declared.distinct.DistinctNode.{DistinctNode}
 use Rattle.rs_exec.specs.declared.join.JoinNode.{JoinNode}
-use Rattle.rs_exec.specs.declared.node.Node.{Node}
-use Rattle.rs_exec.specs.declared.node.Node.TheVariants as node
+use Rattle.rs_exec.specs.declared.node.PlanNode.{PlanNode}
+use Rattle.rs_exec.specs.declared.node.PlanNode.TheVariants as node
 use Rattle.rs_exec.specs.declared.rank.RankNode.{RankNode}
 use Rattle.rs_exec.specs.declared.tally.Tally.{Tally}
 use Rattle.rs_exec.specs.declared.set.SetNode.{SetNode}
@@ -52,7 +52,7 @@ new_index_node block number entry term index weight rows = record {
 }
 
 -- the nodes of this tree, of a block of this number, before any ask
-abbrev pub IsStart : CatalogDef → Block → ℕ → PlanTree → Node → Type 0
+abbrev pub IsStart : CatalogDef → Block → ℕ → PlanTree → PlanNode → Type 0
 IsStart catalogue block number (SeqScan entry) (node.SeqScan head) =
     head ≡ new_table_node block number entry (size_of catalogue block entry)
 IsStart catalogue block number (RankScan entry term index) (node.RankScan head) =
@@ -74,7 +74,7 @@ IsStart catalogue block number (Distinct child) (node.Distinct' head p below) =
 IsStart catalogue block number tree nodes = ⊥
 
 -- the nodes of this tree, of a plan of a set query of these blocks, before any ask
-abbrev pub IsSetStart : CatalogDef → SetOp → Block → Block → PlanTree → Node → Type 0
+abbrev pub IsSetStart : CatalogDef → SetOp → Block → Block → PlanTree → PlanNode → Type 0
 IsSetStart catalogue op left_block right_block (Rank term child) (node.Rank' head p below) =
     (head ≡ record { core = new_mu (weights_of left_block) (terms child) term; term = term; args = tt; tally = no_tally; calls = 0 })
     × IsSetStart catalogue op left_block right_block child below
@@ -84,26 +84,26 @@ IsSetStart catalogue op left_block right_block (SetOperator left right) (node.Se
 IsSetStart catalogue op left_block right_block tree nodes = ⊥
 
 -- those of a plan of a query
-abbrev pub IsQueryStart : CatalogDef → Query → PlanTree → Node → Type 0
+abbrev pub IsQueryStart : CatalogDef → Query → PlanTree → PlanNode → Type 0
 IsQueryStart catalogue (One block limit) tree nodes = IsStart catalogue block 1 tree nodes
 IsQueryStart catalogue (Set op left right limit) tree nodes = IsSetStart catalogue op left right tree nodes
 
 -- an operator over these nodes
-abbrev pub IsRankOver : RankNode → Node → Node → Type 0
+abbrev pub IsRankOver : RankNode → PlanNode → PlanNode → Type 0
 IsRankOver head below (node.Rank' top p child) = (top ≡ head) × (child ≡ below)
 IsRankOver head below top = ⊥
 
 -- a join over these nodes
-abbrev pub IsJoinOver : JoinNode → Node → Node → Node → Type 0
+abbrev pub IsJoinOver : JoinNode → PlanNode → PlanNode → PlanNode → Type 0
 IsJoinOver head on_left on_right (node.Join' top p left q right) = (top ≡ head) × (left ≡ on_left) × (right ≡ on_right)
 IsJoinOver head on_left on_right top = ⊥
 
 -- an operator that drops duplicates over these nodes
-abbrev pub IsDistinctOver : DistinctNode → Node → Node → Type 0
+abbrev pub IsDistinctOver : DistinctNode → PlanNode → PlanNode → Type 0
 IsDistinctOver head below (node.Distinct' top p child) = (top ≡ head) × (child ≡ below)
 IsDistinctOver head below top = ⊥
 
 -- a set operator over these nodes
-abbrev pub IsSetOver : SetNode → Node → Node → Node → Type 0
+abbrev pub IsSetOver : SetNode → PlanNode → PlanNode → PlanNode → Type 0
 IsSetOver head on_left on_right (node.Set' top p left q right) = (top ≡ head) × (left ≡ on_left) × (right ≡ on_right)
 IsSetOver head on_left on_right top = ⊥

@@ -2,7 +2,7 @@
 
 ghost use Rattle.std.specs.Prelude.{◌≡◌, IfOk};
 ghost use Rattle.rs_query.specs.Blocks.{block_in};
-ghost use Rattle.rs_exec.specs.Outputs.{CanPutOut, values_for};
+ghost use Rattle.rs_exec.specs.OutputValues.{CanPutOut, values_for};
 
 use rs_catalog::Catalog;
 use rs_filter::project;

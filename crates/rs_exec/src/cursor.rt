@@ -10,11 +10,11 @@ ghost use Rattle.rs_query.specs.WellFormed.{IsQuery};
 ghost use Rattle.rs_exec.specs.Asking.{world_of};
 ghost use Rattle.rs_exec.specs.Cursors.{CanGo, IsNew, IsOver, StandsFor, asks_after, asks_of, call_of, is_limit, is_over, next_of, plan_of};
 ghost use Rattle.rs_exec.specs.Indexes.{PlanIndexesHold};
-ghost use Rattle.rs_exec.specs.Outputs.{CanPutOut, values_for};
+ghost use Rattle.rs_exec.specs.OutputValues.{CanPutOut, values_for};
 
 use crate::context::QueryContext;
 use crate::fault::ExecFault;
-use crate::node::Node;
+use crate::node::PlanNode;
 use rs_catalog::Catalog;
 use rs_expr::Scorer;
 use rs_plan::{Counts, Plan};
@@ -32,7 +32,7 @@ use std::marker::Model;
 pub struct Cursor {
     alloc: Global,
     query: Query,
-    root: Node,
+    root: PlanNode,
     // Whether a call of it failed.
     failed: bool,
 }
@@ -62,7 +62,7 @@ impl Cursor {
         ensures stands { (answer : Answering) → PlanIndexesHold answer catalog.now (tree_of plan.now) → IfOk result (StandsFor catalog.now answer) }
     {
         limits_hold(catalog, &query);
-        match Node::of_plan(alloc, catalog, &query, plan) {
+        match PlanNode::of_plan(alloc, catalog, &query, plan) {
             Ok(root) => Ok(Cursor {
                 alloc,
                 query,

@@ -6,12 +6,12 @@ ghost use Rattle.rs_outputs.specs.Seen.{with_list};
 ghost use Rattle.rs_exec.specs.Asked.{CanAskDistinct, DistinctAsked, DistinctStands};
 ghost use Rattle.rs_exec.specs.Asking.{world_in};
 ghost use Rattle.rs_exec.specs.Nodes.{number_in};
-ghost use Rattle.rs_exec.specs.Outputs.{CanPutOut, values_for};
+ghost use Rattle.rs_exec.specs.OutputValues.{CanPutOut, values_for};
 ghost use Rattle.rs_exec.specs.Standing.{Stands};
 
 use crate::context::QueryContext;
 use crate::fault::ExecFault;
-use crate::node::Node;
+use crate::node::PlanNode;
 use crate::tally::Tally;
 use rs_expr::Scorer;
 use rs_filter::DistinctCore;
@@ -74,7 +74,7 @@ impl DistinctNode {
 #[cycle(next)]
 pub(crate) fn next_distinct<S: Scorer>(
     head: &mut DistinctNode,
-    child: &mut Node,
+    child: &mut PlanNode,
     context: &QueryContext<'_>,
     scorer: &mut S,
 ) -> Result<Option<RankRow>, ExecFault>

@@ -8,7 +8,7 @@ ghost use Rattle.rs_plan.specs.Plans.{IsPart};
 ghost use Rattle.rs_plan.specs.Trees.{Distinct, PlanTree};
 ghost use Rattle.rs_query.specs.WellFormed.{IsQuery};
 ghost use Rattle.rs_rank.specs.Weights.{IsWeights};
-ghost use Rattle.rs_exec.specs.Outputs.{outputs_in};
+ghost use Rattle.rs_exec.specs.OutputValues.{outputs_in};
 
 /// The list of an operator that drops duplicates has the rows of its input's list, but of each list of output values the first
 /// row alone, in the same order.

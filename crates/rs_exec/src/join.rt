@@ -13,7 +13,7 @@ ghost use Rattle.rs_exec.specs.Standing.{Stands};
 use crate::context::QueryContext;
 use crate::fault::ExecFault;
 use crate::join_core::JoinCore;
-use crate::node::Node;
+use crate::node::PlanNode;
 use crate::tally::Tally;
 use rs_expr::Scorer;
 use rs_filter::JoinConditions;
@@ -149,8 +149,8 @@ impl JoinNode {
 #[cycle(next)]
 pub(crate) fn next_joined<S: Scorer>(
     head: &mut JoinNode,
-    left: &mut Node,
-    right: &mut Node,
+    left: &mut PlanNode,
+    right: &mut PlanNode,
     context: &QueryContext<'_>,
     scorer: &mut S,
 ) -> Result<Option<RankRow>, ExecFault>

@@ -18,16 +18,16 @@ use rs_rank::RankRow;
 
 /// A node of a plan that is executed, with all nodes below it.
 #[derive(Drop)]
-pub(crate) enum Node {
+pub(crate) enum PlanNode {
     SeqScan(TableNode),
     RankScan(IndexNode),
-    Rank(RankNode, Box<Node>),
-    Join(JoinNode, Box<Node>, Box<Node>),
-    Distinct(DistinctNode, Box<Node>),
-    Set(SetNode, Box<Node>, Box<Node>),
+    Rank(RankNode, Box<PlanNode>),
+    Join(JoinNode, Box<PlanNode>, Box<PlanNode>),
+    Distinct(DistinctNode, Box<PlanNode>),
+    Set(SetNode, Box<PlanNode>, Box<PlanNode>),
 }
 
-impl Node {
+impl PlanNode {
     /// The next row of the node's list. The nodes below are asked as often as it takes, and a rank operator calls the scorer
     /// for each row that comes from below.
     #[cycle(next)]
@@ -41,12 +41,14 @@ impl Node {
         ensures { NodeAsked (world_in context.now (S.state scorer.old)) self.old self.new result (S.state scorer.old) (S.state scorer.new) }
     {
         match self {
-            Node::SeqScan(head) => Ok(head.next(context)?),
-            Node::RankScan(head) => Ok(head.next(context)?),
-            Node::Rank(head, child) => next_ranked(head, child, context, scorer),
-            Node::Join(head, left, right) => { next_joined(head, left, right, context, scorer) }
-            Node::Distinct(head, child) => { next_distinct(head, child, context, scorer) }
-            Node::Set(head, left, right) => { next_combined(head, left, right, context, scorer) }
+            PlanNode::SeqScan(head) => Ok(head.next(context)?),
+            PlanNode::RankScan(head) => Ok(head.next(context)?),
+            PlanNode::Rank(head, child) => next_ranked(head, child, context, scorer),
+            PlanNode::Join(head, left, right) => { next_joined(head, left, right, context, scorer) }
+            PlanNode::Distinct(head, child) => { next_distinct(head, child, context, scorer) }
+            PlanNode::Set(head, left, right) => {
+                next_combined(head, left, right, context, scorer)
+            }
         }
     }
 
@@ -55,12 +57,12 @@ impl Node {
         ensures { result ≡ tally_in self.now }
     {
         match self {
-            Node::SeqScan(head) => head.tally,
-            Node::RankScan(head) => head.tally,
-            Node::Rank(head, _) => head.tally,
-            Node::Join(head, _, _) => head.tally,
-            Node::Distinct(head, _) => head.tally,
-            Node::Set(head, _, _) => head.tally,
+            PlanNode::SeqScan(head) => head.tally,
+            PlanNode::RankScan(head) => head.tally,
+            PlanNode::Rank(head, _) => head.tally,
+            PlanNode::Join(head, _, _) => head.tally,
+            PlanNode::Distinct(head, _) => head.tally,
+            PlanNode::Set(head, _, _) => head.tally,
         }
     }
 
@@ -80,24 +82,24 @@ impl Node {
         ensures { result ≡ at_or_past (counts_in self.now) place }
     {
         match self {
-            Node::SeqScan(head) => counts_or_next(place, head.counts()),
-            Node::RankScan(head) => counts_or_next(place, head.counts()),
-            Node::Rank(head, child) => match counts_or_next(place, head.counts()) {
+            PlanNode::SeqScan(head) => counts_or_next(place, head.counts()),
+            PlanNode::RankScan(head) => counts_or_next(place, head.counts()),
+            PlanNode::Rank(head, child) => match counts_or_next(place, head.counts()) {
                 Ok(counts) => Ok(counts),
                 Err(place) => child.counts_or_past(place),
             },
-            Node::Join(head, left, right) => match counts_or_next(place, head.counts()) {
+            PlanNode::Join(head, left, right) => match counts_or_next(place, head.counts()) {
                 Ok(counts) => Ok(counts),
                 Err(place) => match left.counts_or_past(place) {
                     Ok(counts) => Ok(counts),
                     Err(place) => right.counts_or_past(place),
                 },
             },
-            Node::Distinct(head, child) => match counts_or_next(place, head.counts()) {
+            PlanNode::Distinct(head, child) => match counts_or_next(place, head.counts()) {
                 Ok(counts) => Ok(counts),
                 Err(place) => child.counts_or_past(place),
             },
-            Node::Set(head, left, right) => match counts_or_next(place, head.counts()) {
+            PlanNode::Set(head, left, right) => match counts_or_next(place, head.counts()) {
                 Ok(counts) => Ok(counts),
                 Err(place) => match left.counts_or_past(place) {
                     Ok(counts) => Ok(counts),

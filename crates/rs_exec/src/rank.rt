@@ -19,7 +19,7 @@ ghost use Rattle.rs_exec.specs.Standing.{Stands};
 
 use crate::context::QueryContext;
 use crate::fault::ExecFault;
-use crate::node::Node;
+use crate::node::PlanNode;
 use crate::tally::Tally;
 use rs_expr::Scorer;
 use rs_mu::MuCore;
@@ -134,7 +134,7 @@ impl RankNode {
 #[cycle(next)]
 pub(crate) fn next_ranked<S: Scorer>(
     head: &mut RankNode,
-    child: &mut Node,
+    child: &mut PlanNode,
     context: &QueryContext<'_>,
     scorer: &mut S,
 ) -> Result<Option<RankRow>, ExecFault>

@@ -6,13 +6,13 @@ ghost use Rattle.rs_rank.specs.Weights.{IsWeights};
 ghost use Rattle.rs_rank.specs.declared.ask.JoinAsk.TheVariants.{NeedLeft, NeedRight};
 ghost use Rattle.rs_exec.specs.Asked.{CanAskSet, SetAsked, SetNodeStands};
 ghost use Rattle.rs_exec.specs.Asking.{world_in};
-ghost use Rattle.rs_exec.specs.Outputs.{CanPutOut, values_for};
+ghost use Rattle.rs_exec.specs.OutputValues.{CanPutOut, values_for};
 ghost use Rattle.rs_exec.specs.SetCores.{core_ask, is_spent, left_ended, left_fed, left_in, new_core, right_ended, right_fed, taken_from, terms_of_core, weights_of_core};
 ghost use Rattle.rs_exec.specs.Standing.{Stands};
 
 use crate::context::QueryContext;
 use crate::fault::ExecFault;
-use crate::node::Node;
+use crate::node::PlanNode;
 use crate::set_core::SetCore;
 use crate::tally::Tally;
 use rs_expr::Scorer;
@@ -124,8 +124,8 @@ impl SetNode {
 #[cycle(next)]
 pub(crate) fn next_combined<S: Scorer>(
     head: &mut SetNode,
-    left: &mut Node,
-    right: &mut Node,
+    left: &mut PlanNode,
+    right: &mut PlanNode,
     context: &QueryContext<'_>,
     scorer: &mut S,
 ) -> Result<Option<RankRow>, ExecFault>

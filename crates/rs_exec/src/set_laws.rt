@@ -12,7 +12,7 @@ ghost use Rattle.rs_query.specs.WellFormed.{IsQuery};
 ghost use Rattle.rs_rank.specs.Keys.{key_cmp};
 ghost use Rattle.rs_rank.specs.Weights.{IsWeights};
 ghost use Rattle.rs_setop.specs.Sides.{answers, schedule_of};
-ghost use Rattle.rs_exec.specs.Outputs.{outputs_in};
+ghost use Rattle.rs_exec.specs.OutputValues.{outputs_in};
 ghost use Rattle.rs_exec.specs.Parts.{IsPartOf};
 ghost use Rattle.rs_exec.specs.SetNodes.{operator_of, right_asks, sides_for};
 

@@ -13,7 +13,7 @@ ghost use Rattle.rs_exec.specs.Starting.{IsDistinctOver, IsJoinOver, IsQueryStar
 use crate::distinct::DistinctNode;
 use crate::join::JoinNode;
 use crate::join_core::JoinCore;
-use crate::node::Node;
+use crate::node::PlanNode;
 use crate::rank::RankNode;
 use crate::scan::{IndexNode, TableNode};
 use crate::set::SetNode;
@@ -27,22 +27,22 @@ use rs_scan::{RankScan, SeqScan};
 use rs_value::{Memory, SetOp};
 use std::alloc::Global;
 
-impl Node {
+impl PlanNode {
     /// The nodes of a plan of a query. Nothing is asked.
     pub(crate) fn of_plan(
         alloc: Global,
         catalog: &Catalog,
         query: &Query,
         plan: &Plan,
-    ) -> Result<Node, Memory>
+    ) -> Result<PlanNode, Memory>
         requires query { IsQuery catalog.now query.now }
         requires plan { IsPlan catalog.now query.now (tree_of plan.now) }
         ensures { IfOk result (IsQueryStart catalog.now query.now (tree_of plan.now)) }
     {
         match query {
-            Query::One(block, _) => Node::start(alloc, catalog, block, 1, plan),
+            Query::One(block, _) => PlanNode::start(alloc, catalog, block, 1, plan),
             Query::Set(op, left, right, _) => {
-                Node::start_set(alloc, catalog, *op, left, right, plan)
+                PlanNode::start_set(alloc, catalog, *op, left, right, plan)
             }
         }
     }
@@ -55,7 +55,7 @@ impl Node {
         left_block: &Block,
         right_block: &Block,
         plan: &Plan,
-    ) -> Result<Node, Memory>
+    ) -> Result<PlanNode, Memory>
         requires sides { AreSetSides catalog.now left_block.now right_block.now }
         requires plan { IsSetPlan catalog.now left_block.now right_block.now (tree_of plan.now) }
         ensures { IfOk result (IsSetStart catalog.now op left_block.now right_block.now (tree_of plan.now)) }
@@ -68,7 +68,14 @@ impl Node {
                 index: _,
             } => unreachable!(),
             Plan::Rank { term, child } => {
-                let below = Node::start_set(alloc, catalog, op, left_block, right_block, child)?;
+                let below = PlanNode::start_set(
+                    alloc,
+                    catalog,
+                    op,
+                    left_block,
+                    right_block,
+                    child,
+                )?;
                 let below = hold(alloc, below)?;
                 let weights = left_block.weights();
                 let head = RankNode::new(alloc, weights, child.signature().terms, *term);
@@ -81,8 +88,11 @@ impl Node {
             Plan::SetOperator { left, right } => {
                 let weights = left_block.weights();
                 let terms = left.signature().terms;
-                let on_left = hold(alloc, Node::start(alloc, catalog, left_block, 1, left)?)?;
-                let on_right = hold(alloc, Node::start(alloc, catalog, right_block, 2, right)?)?;
+                let on_left = hold(alloc, PlanNode::start(alloc, catalog, left_block, 1, left)?)?;
+                let on_right = hold(
+                    alloc,
+                    PlanNode::start(alloc, catalog, right_block, 2, right)?,
+                )?;
                 let head = SetNode::new(alloc, op, weights, terms);
                 Ok(set_over(head, on_left, on_right))
             }
@@ -96,7 +106,7 @@ impl Node {
         block: &Block,
         number: u8,
         plan: &Plan,
-    ) -> Result<Node, Memory>
+    ) -> Result<PlanNode, Memory>
         requires block { IsBlock catalog.now block.now }
         requires part { IsPart catalog.now block.now (tree_of plan.now) }
         ensures { IfOk result (IsStart catalog.now block.now number (tree_of plan.now)) }
@@ -107,7 +117,7 @@ impl Node {
                 let conjuncts = block.within(mask_of(*entry));
                 let scan = SeqScan::new(*entry, number, rows);
                 let head = TableNode::new(alloc, scan, number, *entry, conjuncts);
-                Ok(Node::SeqScan(head))
+                Ok(PlanNode::SeqScan(head))
             }
             Plan::RankScan { entry, term, index } => {
                 let weight = block.weights().weight[*term as usize - 1];
@@ -115,10 +125,13 @@ impl Node {
                 let conjuncts = block.within(mask_of(*entry));
                 let scan = RankScan::new(*index, *entry, number, weight, rows);
                 let head = IndexNode::new(alloc, scan, number, *entry, *term, conjuncts);
-                Ok(Node::RankScan(head))
+                Ok(PlanNode::RankScan(head))
             }
             Plan::Rank { term, child } => {
-                let below = hold(alloc, Node::start(alloc, catalog, block, number, child)?)?;
+                let below = hold(
+                    alloc,
+                    PlanNode::start(alloc, catalog, block, number, child)?,
+                )?;
                 let head = RankNode::new(alloc, block.weights(), child.signature().terms, *term);
                 Ok(over(head, below))
             }
@@ -133,14 +146,20 @@ impl Node {
                     left_side.mask,
                     right_side.mask,
                 )?;
-                let on_left = hold(alloc, Node::start(alloc, catalog, block, number, left)?)?;
-                let on_right = hold(alloc, Node::start(alloc, catalog, block, number, right)?)?;
+                let on_left = hold(alloc, PlanNode::start(alloc, catalog, block, number, left)?)?;
+                let on_right = hold(
+                    alloc,
+                    PlanNode::start(alloc, catalog, block, number, right)?,
+                )?;
                 let core = JoinCore::new(alloc, plan, weights, left_side, right_side);
                 let head = JoinNode::new(alloc, core, number, conditions);
                 Ok(join_over(head, on_left, on_right))
             }
             Plan::Distinct { child } => {
-                let below = hold(alloc, Node::start(alloc, catalog, block, number, child)?)?;
+                let below = hold(
+                    alloc,
+                    PlanNode::start(alloc, catalog, block, number, child)?,
+                )?;
                 Ok(distinct_over(DistinctNode::new(alloc), below))
             }
             Plan::SetOperator { left: _, right: _ } => unreachable!(),
@@ -149,31 +168,31 @@ impl Node {
 }
 
 /// A rank operator over its input.
-fn over(head: RankNode, below: Box<Node>) -> Node
+fn over(head: RankNode, below: Box<PlanNode>) -> PlanNode
     ensures { IsRankOver head below.value result }
 {
-    Node::Rank(head, below)
+    PlanNode::Rank(head, below)
 }
 
 /// An operator that drops duplicates over its input.
-fn distinct_over(head: DistinctNode, below: Box<Node>) -> Node
+fn distinct_over(head: DistinctNode, below: Box<PlanNode>) -> PlanNode
     ensures { IsDistinctOver head below.value result }
 {
-    Node::Distinct(head, below)
+    PlanNode::Distinct(head, below)
 }
 
 /// A node in memory of its own.
-fn hold(alloc: Global, node: Node) -> Result<Box<Node>, Memory>
+fn hold(alloc: Global, node: PlanNode) -> Result<Box<PlanNode>, Memory>
     ensures { IfOk result (λ held. held.value ≡ node) }
 {
     Ok(Box::new(alloc, node)?)
 }
 
 /// A set operator over its sides.
-fn set_over(head: SetNode, left: Box<Node>, right: Box<Node>) -> Node
+fn set_over(head: SetNode, left: Box<PlanNode>, right: Box<PlanNode>) -> PlanNode
     ensures { IsSetOver head left.value right.value result }
 {
-    Node::Set(head, left, right)
+    PlanNode::Set(head, left, right)
 }
 
 /// A side of a join.
@@ -189,8 +208,8 @@ fn side_of(plan: &Plan) -> Side
 }
 
 /// A join over its sides.
-fn join_over(head: JoinNode, left: Box<Node>, right: Box<Node>) -> Node
+fn join_over(head: JoinNode, left: Box<PlanNode>, right: Box<PlanNode>) -> PlanNode
     ensures { IsJoinOver head left.value right.value result }
 {
-    Node::Join(head, left, right)
+    PlanNode::Join(head, left, right)
 }

@@ -1,7 +1,7 @@
 ghost use Rattle.std.specs.Prelude.{IfOk};
 ghost use Rattle.rs_syntax.specs.Syntax.{command_of, commands_of};
 ghost use Rattle.rs_syntax.specs.Written.{AreWritten, IsWritten};
-ghost use Rattle.rs_catalog.specs.Held.{IndexesHold};
+ghost use Rattle.rs_catalog.specs.IndexesHold.{IndexesHold};
 ghost use Rattle.rs_statement.specs.Parts.Steps.{Runs, Stepped};
 ghost use Rattle.rs_events.specs.Events.{finds_in};
 ghost use Rattle.rs_statement.specs.Statements.{Does};

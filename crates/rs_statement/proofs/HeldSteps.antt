@@ -36,15 +36,15 @@ use Rattle.rs_plan.specs.Lists.{list_of_plan}
 use Rattle.rs_plan.specs.Trees.{PlanTree}
 use Rattle.rs_exec.specs.Asking.{world_of}
 use Rattle.rs_exec.specs.Cursors.{CursorState, StandsFor}
-use Rattle.rs_catalog.specs.Held.{IndexesHold}
+use Rattle.rs_catalog.specs.IndexesHold.{IndexesHold}
 use Rattle.rs_catalog.proofs.HeldFacts.{held-with_index, held-with_predicate, held-with_table}
 use Rattle.rs_statement.specs.declared.evaluating.Evaluating.{Evaluating}
 use Rattle.rs_statement.specs.declared.evaluating.Evaluating.TheVariants.{Planned, Plainly}
 use Rattle.rs_statement.specs.declared.fault.Fault.{Fault}
 use Rattle.rs_statement.specs.Content.{content_of, or_table_fault, table_limit}
 use Rattle.rs_statement.specs.Faults.{or_index_fault}
-use Rattle.rs_statement.specs.declared.session.Held.{Held}
-use Rattle.rs_statement.specs.declared.session.Held.TheVariants as held
+use Rattle.rs_statement.specs.declared.session.CursorRows.{CursorRows}
+use Rattle.rs_statement.specs.declared.session.CursorRows.TheVariants as held
 use Rattle.rs_statement.specs.Parts.Session.{CanAllBeAsked, CanBeAsked}
 use Rattle.rs_statement.specs.Planned.{ask_count, ask_step, asks_from, plan_for, planned_step}
 use Rattle.rs_events.specs.Events.{Finds}
@@ -183,11 +183,11 @@ held-step answer catalogue finds evaluating command step next held =
     (λ def ranking fits made. held-with_index catalogue answer def ranking fits made held) finds evaluating command step next
 
 -- where cursors go on to stand, so do all that are open
-asked-larger : (answer : Answering) (small large : CatalogDef) → ((cursor : CursorState) → StandsFor small answer cursor → StandsFor large answer cursor) → (entries : List (List ℕ × Held))
+asked-larger : (answer : Answering) (small large : CatalogDef) → ((cursor : CursorState) → StandsFor small answer cursor → StandsFor large answer cursor) → (entries : List (List ℕ × CursorRows))
     → CanAllBeAsked answer small entries → CanAllBeAsked answer large entries
 asked-larger answer small large stands [] all = tt
 asked-larger answer small large stands ((name, kept) ∷ entries) all = (one kept all.0, asked-larger answer small large stands entries all.1) where
-  one : (kept : Held) → CanBeAsked answer small kept → CanBeAsked answer large kept
+  one : (kept : CursorRows) → CanBeAsked answer small kept → CanBeAsked answer large kept
   one (held.Asked cursor) is = stands cursor is
   one (held.Ready rows given) is = is
 
@@ -198,7 +198,7 @@ pub record StandOn (answer : Answering) (catalogue : CatalogDef) : Type 0 where
   pub indexes : (cursor : CursorState) (def : IndexDef) (ranking : List ScoredRow) → StandsFor catalogue answer cursor → StandsFor (with_index def ranking catalogue) answer cursor
 
 pub asked-step : (answer : Answering) (catalogue : CatalogDef) (finds : Finds) (evaluating : Evaluating) (command : Command) (step : Step CatalogDef) (next : CatalogDef)
-    (entries : List (List ℕ × Held)) → StandOn answer catalogue → CanAllBeAsked answer catalogue entries → IsWritten command
+    (entries : List (List ℕ × CursorRows)) → StandOn answer catalogue → CanAllBeAsked answer catalogue entries → IsWritten command
     → Does finds answer evaluating catalogue command step → step.outcome ≡ Ok next → CanAllBeAsked answer next entries
 asked-step answer catalogue finds evaluating command step next entries on all =
     kept-step answer catalogue (λ c. CanAllBeAsked answer c entries) all

@@ -18,13 +18,13 @@ use Rattle.rs_catalog.specs.Catalog.{CatalogDef}
 use Rattle.rs_statement.specs.declared.fault.Fault.{Fault}
 use Rattle.rs_statement.specs.declared.fault.Fault.TheVariants.{Session}
 use Rattle.rs_statement.specs.declared.fault.SessionFault.TheVariants.{NameTaken, Unknown, Full}
-use Rattle.rs_statement.specs.declared.session.Held.{Held}
-use Rattle.rs_statement.specs.declared.session.Held.TheVariants as held
+use Rattle.rs_statement.specs.declared.session.CursorRows.{CursorRows}
+use Rattle.rs_statement.specs.declared.session.CursorRows.TheVariants as held
 use Rattle.rs_statement.specs.Parts.Session.{CanAllBeAsked, CanBeAsked, asked_of, cursors_of, open_cursor, source_of}
 use Rattle.rs_statement.specs.Session.{IsCursorOf, OpenCursor, asked_more, cursor_named, most_cursors, or_session_fault, room_for_cursor}
 
 abbrev Entries : Type 0
-Entries = List (List ℕ × Held)
+Entries = List (List ℕ × CursorRows)
 
 -- the test of a key is that of a name
 abbrev pub is_key : List ℕ → List ℕ → Bool
@@ -43,7 +43,7 @@ has_name-keys name entries = is_some-lookup (is_key name) entries ∙ any-same_n
 
 pub lookup-none : (name : List ℕ) (entries : Entries) → has_name name (keys_of entries) ≡ false → lookup (is_key name) entries ≡ None
 lookup-none name entries free = go (lookup (is_key name) entries) (has_name-keys name entries ∙ free) where
-  go : (found : Option Held) → is_some found ≡ false → found ≡ None
+  go : (found : Option CursorRows) → is_some found ≡ false → found ≡ None
   go None e = refl
   go (Some held) e = absurd cc
 
@@ -80,7 +80,7 @@ pub room-some : (name : List ℕ) (entries : Entries) → has_name name (keys_of
 room-some name entries free few = room-free name entries false free (not-eqb (length (keys_of entries)) most_cursors (λ e. few (sym (length-keys entries) ∙ e)))
 
 -- a name is looked up
-abbrev named_by : Bool → List ℕ × Held → Result OpenCursor Fault → Result OpenCursor Fault
+abbrev named_by : Bool → List ℕ × CursorRows → Result OpenCursor Fault → Result OpenCursor Fault
 named_by here entry rest = if here then Ok (open_cursor entry) else rest
 
 pub named-none : (name : List ℕ) (entries : Entries) → lookup (is_key name) entries ≡ None → cursor_named name (cursors_of entries) ≡ Err (Session Unknown name)
@@ -92,7 +92,7 @@ named-none name (entry ∷ entries) none =
       go rest true none = absurd cc
       go rest false none = rest none
 
-pub named-some : (name : List ℕ) (entries : Entries) (held : Held) → lookup (is_key name) entries ≡ Some held → cursor_named name (cursors_of entries) ≡ Ok (open_cursor (name, held))
+pub named-some : (name : List ℕ) (entries : Entries) (held : CursorRows) → lookup (is_key name) entries ≡ Some held → cursor_named name (cursors_of entries) ≡ Ok (open_cursor (name, held))
 named-some name [] held some = absurd cc
 named-some name (entry ∷ entries) held some =
     ap (λ b. named_by b entry (cursor_named name (cursors_of entries))) (sym (same_name name entry.0)) ∙ go (named-some name entries held) (is_key name entry.0) refl some where
@@ -106,18 +106,18 @@ named-some name (entry ∷ entries) held some =
       go rest false is some = rest some
 
 -- a new entry is the last cursor
-pub cursors-append : (entries : Entries) (name : List ℕ) (held : Held) → cursors_of (entries ++ (name, held) ∷ []) ≡ cursors_of entries ++ open_cursor (name, held) ∷ []
+pub cursors-append : (entries : Entries) (name : List ℕ) (held : CursorRows) → cursors_of (entries ++ (name, held) ∷ []) ≡ cursors_of entries ++ open_cursor (name, held) ∷ []
 cursors-append [] name held = refl
 cursors-append (entry ∷ entries) name held = ap (λ rest. open_cursor entry ∷ rest) (cursors-append entries name held)
 
 module _ (answer : Answering) (catalogue : CatalogDef) where
-  pub asked-append : (entries : Entries) (name : List ℕ) (held : Held) → CanAllBeAsked answer catalogue entries → CanBeAsked answer catalogue held
+  pub asked-append : (entries : Entries) (name : List ℕ) (held : CursorRows) → CanAllBeAsked answer catalogue entries → CanBeAsked answer catalogue held
       → CanAllBeAsked answer catalogue (entries ++ (name, held) ∷ [])
   asked-append [] name held all one = (one, tt)
   asked-append (entry ∷ entries) name held all one = (all.0, asked-append entries name held all.1 one)
 
   -- a cursor that can be asked is one of the catalogue: its query is well formed there
-  cursor-covered : (name : List ℕ) (held : Held) → CanBeAsked answer catalogue held → IsCursorOf catalogue (open_cursor (name, held))
+  cursor-covered : (name : List ℕ) (held : CursorRows) → CanBeAsked answer catalogue held → IsCursorOf catalogue (open_cursor (name, held))
   cursor-covered name (held.Asked cursor) stands = covers catalogue cursor.query stands.query
   cursor-covered name (held.Ready rows given) within = tt
 
@@ -127,7 +127,7 @@ module _ (answer : Answering) (catalogue : CatalogDef) where
 
   module _ (test : List ℕ → Bool) where
     -- the cursor that is found can be asked
-    pub asked-found : (entries : Entries) (held : Held) → CanAllBeAsked answer catalogue entries → lookup test entries ≡ Some held → CanBeAsked answer catalogue held
+    pub asked-found : (entries : Entries) (held : CursorRows) → CanAllBeAsked answer catalogue entries → lookup test entries ≡ Some held → CanBeAsked answer catalogue held
     asked-found [] held all some = absurd cc
     asked-found (entry ∷ entries) held all some = go (asked-found entries held all.1) (test entry.0) some where
       go : (lookup test entries ≡ Some held → CanBeAsked answer catalogue held) → (b : Bool) → cond b (Some entry.1) (lookup test entries) ≡ Some held → CanBeAsked answer catalogue held
@@ -143,7 +143,7 @@ module _ (answer : Answering) (catalogue : CatalogDef) where
       go rest false = (all.0, rest)
 
     -- with another value at a name, all can be asked where that can
-    pub asked-set : (entries : Entries) (held : Held) → CanAllBeAsked answer catalogue entries → CanBeAsked answer catalogue held → CanAllBeAsked answer catalogue (set_value test entries held)
+    pub asked-set : (entries : Entries) (held : CursorRows) → CanAllBeAsked answer catalogue entries → CanBeAsked answer catalogue held → CanAllBeAsked answer catalogue (set_value test entries held)
     asked-set [] held all one = tt
     asked-set (entry ∷ entries) held all one = go (asked-set entries held all.1 one) (test entry.0) where
       go : CanAllBeAsked answer catalogue (set_value test entries held) → (b : Bool) → CanAllBeAsked answer catalogue (cond b ((entry.0, held) ∷ entries) (entry ∷ set_value test entries held))
@@ -171,10 +171,10 @@ others-none name (entry ∷ entries) none = go (others-none name entries) (is_ke
 module _ (name : List ℕ) where
   module _ (asks : ℕ) where
     -- the cursors behind the first one, and whether that one was asked more
-    abbrev asked_by : Bool → List ℕ × Held → List OpenCursor → List OpenCursor
+    abbrev asked_by : Bool → List ℕ × CursorRows → List OpenCursor → List OpenCursor
     asked_by here entry rest = (if here then record (open_cursor entry) { asked = asked_of entry.1 + asks } else open_cursor entry) ∷ rest
 
-    asked-first : (entry : List ℕ × Held) (entries : Entries) (b : Bool) → is_key name entry.0 ≡ b
+    asked-first : (entry : List ℕ × CursorRows) (entries : Entries) (b : Bool) → is_key name entry.0 ≡ b
         → map (asked_more name asks) (cursors_of (entry ∷ entries)) ≡ asked_by b entry (map (asked_more name asks) (cursors_of entries))
     asked-first entry entries b is = ap (λ b. asked_by b entry (map (asked_more name asks) (cursors_of entries))) (sym (same_name name entry.0) ∙ is)
 
@@ -184,7 +184,7 @@ module _ (name : List ℕ) where
     asked-others (entry ∷ entries) others = asked-first entry entries false others.0 ∙ ap (λ rest. open_cursor entry ∷ rest) (asked-others entries others.1)
 
     -- where a cursor is found and was asked more, the cursor of its name was, and no other
-    pub cursors-set : (entries : Entries) (before after : Held) → IsDistinct (pointwise nat_eq) (keys_of entries)
+    pub cursors-set : (entries : Entries) (before after : CursorRows) → IsDistinct (pointwise nat_eq) (keys_of entries)
         → lookup (is_key name) entries ≡ Some before → source_of after ≡ source_of before → asked_of after ≡ asked_of before + asks
         → cursors_of (set_value (is_key name) entries after) ≡ map (asked_more name asks) (cursors_of entries)
     cursors-set [] before after distinct found source count = absurd cc
@@ -206,7 +206,7 @@ module _ (name : List ℕ) where
   abbrev without : List OpenCursor → List OpenCursor
   without cursors = filter (λ (c : OpenCursor). not (bytes_eq c.name name)) cursors
 
-  without-first : (entry : List ℕ × Held) (entries : Entries) (b : Bool) → is_key name entry.0 ≡ b
+  without-first : (entry : List ℕ × CursorRows) (entries : Entries) (b : Bool) → is_key name entry.0 ≡ b
       → without (cursors_of (entry ∷ entries)) ≡ cond (not b) (open_cursor entry ∷ without (cursors_of entries)) (without (cursors_of entries))
   without-first entry entries b is =
       ap (λ b. cond (not b) (open_cursor entry ∷ without (cursors_of entries)) (without (cursors_of entries))) (sym (same_name name entry.0) ∙ is)

@@ -24,8 +24,8 @@ use Rattle.rs_plan.specs.Trees.{PlanTree}
 use Rattle.rs_query.specs.declared.query.Query.{Query}
 use Rattle.rs_statement.specs.declared.fault.Fault.TheVariants.{Memory, Session}
 use Rattle.rs_statement.specs.declared.fault.SessionFault.TheVariants.{Unknown}
-use Rattle.rs_statement.specs.declared.session.Held.{Held}
-use Rattle.rs_statement.specs.declared.session.Held.TheVariants as held
+use Rattle.rs_statement.specs.declared.session.CursorRows.{CursorRows}
+use Rattle.rs_statement.specs.declared.session.CursorRows.TheVariants as held
 use Rattle.rs_statement.specs.Parts.Asks.{IsAt}
 use Rattle.rs_statement.specs.Parts.Session.{IsOfNoCursor, asked_of, cursors_of, next_of, next_of_cursor, open_cursor, rows_step, source_of, state_of, wanted_step}
 use Rattle.rs_statement.specs.Parts.Steps.{Ran, Stepped}
@@ -150,14 +150,14 @@ module _ (state : State) (count : ℤ × Span) (name : Name) where
   fetched-known wanted cursor e some = inl (sym (fetched-by wanted e ∙ ap (λ r. r >>= (λ cursor. Ok (cursor, wanted))) some))
 
 -- the cursors behind a FETCH
-pub fetched-cursors : (name : List ℕ) (asks : ℕ) (entries written : List (List ℕ × Held)) (before after : Held) (result : Result (Unit {0}) Fault) → IsDistinct (pointwise nat_eq) (keys_of entries)
+pub fetched-cursors : (name : List ℕ) (asks : ℕ) (entries written : List (List ℕ × CursorRows)) (before after : CursorRows) (result : Result (Unit {0}) Fault) → IsDistinct (pointwise nat_eq) (keys_of entries)
     → lookup (is_key name) entries ≡ Some before → written ≡ set_value (is_key name) entries after
     → IfOk result (λ _. source_of after ≡ source_of before) → IfOk result (λ _. asked_of after ≡ asked_of before + asks)
     → IfOk result (λ _. cursors_of written ≡ map (asked_more name asks) (cursors_of entries))
 fetched-cursors name asks entries written before after (Ok done) distinct found set source count = ap cursors_of set ∙ cursors-set name asks entries before after distinct found source count
 fetched-cursors name asks entries written before after (Err fault) distinct found set source count = tt
 
-module _ (answer : Answering) (catalogue : CatalogDef) (entries written : List (List ℕ × Held)) (name : List ℕ) (wanted : ℕ) (result : Result (Unit {0}) Fault) (old new : Environment) where
+module _ (answer : Answering) (catalogue : CatalogDef) (entries written : List (List ℕ × CursorRows)) (name : List ℕ) (wanted : ℕ) (result : Result (Unit {0}) Fault) (old new : Environment) where
   abbrev from : State
   from = state_of catalogue entries
 
@@ -166,7 +166,7 @@ module _ (answer : Answering) (catalogue : CatalogDef) (entries written : List (
       if-ok-map result (cursors_of written ≡ map (asked_more name asks) (cursors_of entries)) (with_asks name asks from ≡ state_of catalogue written) (λ e. λ i. record { catalogue = catalogue; cursors = sym e i }) same
 
   -- what was put of the rows of a cursor, as a FETCH
-  pub Fetched-rows : (kept : Held) → IfOk result (λ _. cursors_of written ≡ map (asked_more name (next_of catalogue answer kept wanted)) (cursors_of entries))
+  pub Fetched-rows : (kept : CursorRows) → IfOk result (λ _. cursors_of written ≡ map (asked_more name (next_of catalogue answer kept wanted)) (cursors_of entries))
       → Stepped (λ step. step ≡ rows_step catalogue answer kept wanted) catalogue result old new
       → Stepped (λ step. step ≡ fetched_from answer from name (asked_of kept) wanted (source_of kept)) (state_of catalogue written) result old new
   Fetched-rows (held.Asked cursor) same made =
@@ -180,12 +180,12 @@ module _ (answer : Answering) (catalogue : CatalogDef) (entries written : List (
       (asked-left asks same) (Stepped-lines _ (with_asks name asks from) result old new (subst (λ step. Ran (run_of step) result old new) made.does made.ran))
 
 -- CLOSE of a name
-module _ (catalogue : CatalogDef) (entries : List (List ℕ × Held)) (name : Name) where
+module _ (catalogue : CatalogDef) (entries : List (List ℕ × CursorRows)) (name : Name) where
   closed-by : (found : Result OpenCursor Fault) → cursor_named name.text (cursors_of entries) ≡ found
       → close_outcome (state_of catalogue entries) name ≡ (found >>= (λ cursor. Ok (without_cursor name.text (state_of catalogue entries))))
   closed-by found e = ap (λ r. r >>= (λ (cursor : OpenCursor). Ok (without_cursor name.text (state_of catalogue entries)))) e
 
-  pub closed-known : (kept : Held) (left : List (List ℕ × Held)) → lookup (is_key name.text) entries ≡ Some kept → left ≡ remove_entry (is_key name.text) entries
+  pub closed-known : (kept : CursorRows) (left : List (List ℕ × CursorRows)) → lookup (is_key name.text) entries ≡ Some kept → left ≡ remove_entry (is_key name.text) entries
       → lookup (is_key name.text) left ≡ None → close_outcome (state_of catalogue entries) name ≡ Ok (state_of catalogue left)
   closed-known kept left found removed none =
       closed-by (Ok (open_cursor (name.text, kept))) (named-some name.text entries kept found)
@@ -197,8 +197,8 @@ module _ (catalogue : CatalogDef) (entries : List (List ℕ × Held)) (name : Na
   closed-unknown told none (inr is) = inl is
 
 -- a cursor that was opened is the last one
-module _ (catalogue : CatalogDef) (entries after : List (List ℕ × Held)) (name : List ℕ) where
-  opened-last : (kept : Held) (cursor : OpenCursor) → after ≡ entries ++ (name, kept) ∷ [] → open_cursor (name, kept) ≡ cursor
+module _ (catalogue : CatalogDef) (entries after : List (List ℕ × CursorRows)) (name : List ℕ) where
+  opened-last : (kept : CursorRows) (cursor : OpenCursor) → after ≡ entries ++ (name, kept) ∷ [] → open_cursor (name, kept) ≡ cursor
       → state_of catalogue after ≡ record { catalogue = catalogue; cursors = cursors_of entries ++ cursor ∷ [] }
   opened-last kept cursor is same = λ i. record {
     catalogue = catalogue;
@@ -211,7 +211,7 @@ module _ (catalogue : CatalogDef) (entries after : List (List ℕ × Held)) (nam
       sym (opened-last (held.Asked cursor) (record { name = name; source = ByPlan query tree; asked = 0 }) is
       (λ i. record { name = name; source = ByPlan (at.query_is i) (at.plan_is i); asked = at.asks_are i }))
 
-  pub opened-ready : (kept : Held) → after ≡ entries ++ (name, kept) ∷ [] → asked_of kept ≡ 0 → with_cursor name (source_of kept) (state_of catalogue entries) ≡ state_of catalogue after
+  pub opened-ready : (kept : CursorRows) → after ≡ entries ++ (name, kept) ∷ [] → asked_of kept ≡ 0 → with_cursor name (source_of kept) (state_of catalogue entries) ≡ state_of catalogue after
   opened-ready kept is none = sym (opened-last kept (record { name = name; source = source_of kept; asked = 0 }) is (λ i. record { name = name; source = source_of kept; asked = none i }))
 
 -- a DECLARE by a plan whose query is bound, and whose sample was taken

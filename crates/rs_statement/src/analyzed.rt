@@ -15,7 +15,7 @@ ghost use Rattle.rs_enum.specs.QueryCards.{AreCards};
 ghost use Rattle.rs_enum.specs.Texts.{text_of};
 ghost use Rattle.rs_exec.specs.Asking.{world_of};
 ghost use Rattle.rs_exec.specs.Cursors.{StandsFor, asks_of, plan_of};
-ghost use Rattle.rs_catalog.specs.Held.{IndexesHold};
+ghost use Rattle.rs_catalog.specs.IndexesHold.{IndexesHold};
 ghost use Rattle.rs_statement.specs.Parts.Asks.{AskedForAll, AskedOnce, StandsSomewhere, call_step, left_of, most_asks, without_value};
 ghost use Rattle.rs_statement.specs.Parts.Steps.{Stepped};
 ghost use Rattle.rs_statement.specs.Planned.{asks_in_all, planned_step};

@@ -9,7 +9,7 @@ ghost use Rattle.rs_bind.specs.Queries.{bound_query};
 ghost use Rattle.rs_plan.specs.Counts.{gave_of};
 ghost use Rattle.rs_exec.specs.Asking.{world_of};
 ghost use Rattle.rs_exec.specs.Cursors.{IsOver, StandsFor, asks_after, asks_of, plan_of};
-ghost use Rattle.rs_catalog.specs.Held.{IndexesHold};
+ghost use Rattle.rs_catalog.specs.IndexesHold.{IndexesHold};
 ghost use Rattle.rs_statement.specs.Parts.Asks.{IsAt, NamesPredicate, StandsSomewhere, call_step, left_of, without_value};
 ghost use Rattle.rs_statement.specs.Parts.Steps.{Stepped};
 ghost use Rattle.rs_statement.specs.Planned.{ask_fault};

@@ -9,7 +9,7 @@ ghost use Rattle.rs_sample.specs.Kept.{cards_of};
 ghost use Rattle.rs_enum.specs.Least.{least_plan};
 ghost use Rattle.rs_enum.specs.QueryCards.{AreCards};
 ghost use Rattle.rs_exec.specs.Cursors.{StandsFor};
-ghost use Rattle.rs_catalog.specs.Held.{IndexesHold};
+ghost use Rattle.rs_catalog.specs.IndexesHold.{IndexesHold};
 ghost use Rattle.rs_statement.specs.Parts.Asks.{IsAt, NamesSampled, without_value};
 ghost use Rattle.rs_statement.specs.Parts.Steps.{Stepped};
 ghost use Rattle.rs_statement.specs.Planned.{cards_for, plan_for};

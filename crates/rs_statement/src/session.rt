@@ -9,7 +9,7 @@ ghost use Rattle.rs_syntax.specs.Written.{IsWrittenQuery};
 ghost use Rattle.rs_expr.specs.Scoring.{Answering};
 ghost use Rattle.rs_catalog.specs.Catalog.{CatalogDef, has_name};
 ghost use Rattle.rs_exec.specs.Cursors.{StandsFor};
-ghost use Rattle.rs_catalog.specs.Held.{IndexesHold};
+ghost use Rattle.rs_catalog.specs.IndexesHold.{IndexesHold};
 ghost use Rattle.rs_query.specs.WellFormed.{IsQuery};
 ghost use Rattle.rs_statement.specs.declared.evaluating.Evaluating.TheVariants.{Plainly, Planned};
 ghost use Rattle.rs_statement.specs.Lines.{rank_lines};
@@ -47,7 +47,7 @@ const MOST_CURSORS: usize = 64;
 
 /// What gives the rows of an open cursor.
 #[derive(Drop)]
-enum Held {
+enum CursorRows {
     /// A plan, which is asked for one row after another.
     Asked(Cursor),
     /// They stand ready, and this many of them were given.
@@ -57,7 +57,7 @@ enum Held {
 /// The open cursors of a script by name, in the order of their DECLARE.
 #[derive(Drop)]
 pub struct Session {
-    cursors: IndexMap<Text, Held>,
+    cursors: IndexMap<Text, CursorRows>,
 }
 
 impl Session {
@@ -130,7 +130,7 @@ fn declare_ready<S: Scorer>(
         Ok(rows) => rows,
         Err(why) => return Err(query_fault(catalog, why)),
     };
-    open(session, &name.text, Held::Ready { rows, given: 0 })?;
+    open(session, &name.text, CursorRows::Ready { rows, given: 0 })?;
     Ok(())
 }
 
@@ -156,7 +156,7 @@ fn declare_planned<S: Scorer>(
 {
     let query = declared_query(alloc, name, select, catalog, session)?;
     let cursor = start_planned(alloc, seed, catalog, query, scorer)?;
-    open(session, &name.text, Held::Asked(cursor))?;
+    open(session, &name.text, CursorRows::Asked(cursor))?;
     Ok(())
 }
 
@@ -203,7 +203,7 @@ fn session_fault(why: SessionFault, name: &Text) -> Fault
 }
 
 /// Makes a cursor the last one. Where there is no memory, none is opened.
-fn open(session: &mut Session, name: &Text, held: Held) -> Result<(), Memory>
+fn open(session: &mut Session, name: &Text, held: CursorRows) -> Result<(), Memory>
     requires { has_name name.now (keys session.old.cursors) ≡ false }
     ensures ok { OnOk result (held_in session.new ≡ held_in session.old ++ (name.now, held) ∷ []) }
     ensures err { OnErr result (held_in session.new ≡ held_in session.old) }
@@ -219,7 +219,7 @@ fn open(session: &mut Session, name: &Text, held: Held) -> Result<(), Memory>
 }
 
 /// Makes a cursor that has this name the last one. Where there is no memory, none is opened.
-fn insert(session: &mut Session, name: Text, held: Held) -> Result<(), Memory>
+fn insert(session: &mut Session, name: Text, held: CursorRows) -> Result<(), Memory>
     requires { has_name name (keys session.old.cursors) ≡ false }
     ensures ok { OnOk result (held_in session.new ≡ held_in session.old ++ (name, held) ∷ []) }
     ensures err { OnErr result (held_in session.new ≡ held_in session.old) }
@@ -264,7 +264,7 @@ fn fetch_rows<W: Outside>(
     alloc: Global,
     count: u32,
     catalog: &Catalog,
-    held: &mut Held,
+    held: &mut CursorRows,
     outside: &mut W,
 ) -> Result<(), Fault>
     requires { CanBeAsked (W.state outside.old).scorer.answer catalog.now held.old }
@@ -275,8 +275,8 @@ fn fetch_rows<W: Outside>(
     ensures asked { IfOk result (λ _. CanBeAsked (W.state outside.old).scorer.answer catalog.now held.new) }
 {
     match held {
-        Held::Asked(cursor) => fetch_asked(alloc, count, catalog, cursor, outside),
-        Held::Ready { rows, given } => fetch_ready(alloc, count, rows, given, outside.out()),
+        CursorRows::Asked(cursor) => fetch_asked(alloc, count, catalog, cursor, outside),
+        CursorRows::Ready { rows, given } => fetch_ready(alloc, count, rows, given, outside.out()),
     }
 }
 

@@ -13,7 +13,7 @@ use Rattle.rs_syntax.specs.Syntax as syntax
 use Rattle.rs_syntax.specs.Syntax.{Expression, Int, Text, Column, Neg, Arith, Abs, Case, Compare, Not}
 use Rattle.rs_syntax.specs.Trees.{starts_at, ends_at, span, span_of, kind_at, leaf_name, leaf_span, qualified}
 use Rattle.rs_syntax.specs.declared.node.Op.{Op}
-use Rattle.rs_syntax.specs.declared.parser.Fault.{Fault}
+use Rattle.rs_syntax.specs.declared.parser.ParserFault.{ParserFault}
 use Rattle.rs_syntax.specs.declared.parser.operators.Level.{Level}
 use Rattle.rs_syntax.specs.declared.parser.operators.Level.TheVariants.{Or, And, Sum, Product}
 use Rattle.rs_syntax.specs.declared.parser.operators.Operator.{Operator}
@@ -23,7 +23,7 @@ use Rattle.rs_syntax.proofs.Steps.{read-both, read-stop, read-more, read-rule, f
 -- a chain that begins at b stands at x with this expression
 pub record Chaining (p item : Part) (whole : Tree → Expression) (go : Expression → Tree → Expression) (b x : State) (left : Expression) : Type 0 where
   pub reads : (u : Tree) (a : State) → Read (Many item) x u a → Found (Seq p (Many item)) whole b a (go left u)
-  pub halts : (fault : Fault) (a : State) → Halts (Many item) x fault a → Halts (Seq p (Many item)) b fault a
+  pub halts : (fault : ParserFault) (a : State) → Halts (Many item) x fault a → Halts (Seq p (Many item)) b fault a
 
 -- the first operand was read
 pub Chaining-start : {p item : Part} {f whole : Tree → Expression} {go : Expression → Tree → Expression} {b x : State} {left : Expression} (h : Found p f b x left)
@@ -47,7 +47,7 @@ pub Chaining-end : {p item : Part} {whole : Tree → Expression} {go : Expressio
 Chaining-end {x = x} h o e = let whole = h.reads Nothing x (read-stop o) in found whole.read (whole.means ∙ e)
 
 -- the next one isn't read
-pub Chaining-halts : {p item : Part} {whole : Tree → Expression} {go : Expression → Tree → Expression} {b x a : State} {left : Expression} {fault : Fault}
+pub Chaining-halts : {p item : Part} {whole : Tree → Expression} {go : Expression → Tree → Expression} {b x a : State} {left : Expression} {fault : ParserFault}
     → Chaining p item whole go b x left → opens item x ≡ true → Halts item x fault a → Halts (Seq p (Many item)) b fault a
 Chaining-halts {a = a} {fault = fault} h o k = h.halts fault a (halts-item o k)
 
@@ -211,7 +211,7 @@ expr-more from {left = left} {right = right} {next = next} {at = at} h o k r e i
 pub expr-end : (from : ℕ) {b x : State} {left : Expression} → Ors from b x left → opens (word kinds.Or ⨟ Use conj) x ≡ false → Found (Use expr) expr_of b x left
 expr-end from {left = left} h o = let whole = Chaining-end h o (ors-end from left) in found (read-rule whole.read) whole.means
 
-pub expr-halts : (from : ℕ) {b x a : State} {left : Expression} {fault : Fault} → Ors from b x left → opens (word kinds.Or ⨟ Use conj) x ≡ true → Halts (word kinds.Or ⨟ Use conj) x fault a → Halts (Use expr) b fault a
+pub expr-halts : (from : ℕ) {b x a : State} {left : Expression} {fault : ParserFault} → Ors from b x left → opens (word kinds.Or ⨟ Use conj) x ≡ true → Halts (word kinds.Or ⨟ Use conj) x fault a → Halts (Use expr) b fault a
 expr-halts from h o k = halts-rule (Chaining-halts h o k)
 
 -- conj: neg { AND neg }
@@ -231,7 +231,7 @@ conj-more from {left = left} {right = right} {next = next} {at = at} h o k r e i
 pub conj-end : (from : ℕ) {b x : State} {left : Expression} → Ands from b x left → opens (word kinds.And ⨟ Use neg) x ≡ false → Found (Use conj) conj_of b x left
 conj-end from {left = left} h o = let whole = Chaining-end h o (ands-end from left) in found (read-rule whole.read) whole.means
 
-pub conj-halts : (from : ℕ) {b x a : State} {left : Expression} {fault : Fault} → Ands from b x left → opens (word kinds.And ⨟ Use neg) x ≡ true → Halts (word kinds.And ⨟ Use neg) x fault a → Halts (Use conj) b fault a
+pub conj-halts : (from : ℕ) {b x a : State} {left : Expression} {fault : ParserFault} → Ands from b x left → opens (word kinds.And ⨟ Use neg) x ≡ true → Halts (word kinds.And ⨟ Use neg) x fault a → Halts (Use conj) b fault a
 conj-halts from h o k = halts-rule (Chaining-halts h o k)
 
 -- sum: prod { ( "+" | "-" ) prod }
@@ -252,7 +252,7 @@ sum-more from {left = left} {right = right} {next = next} {op = op} {at = at} h 
 pub sum-end : (from : ℕ) {b x : State} {left : Expression} → Sums from b x left → opens (One (kinds.Plus ∷ kinds.Minus ∷ []) ⨟ Use prod) x ≡ false → Found (Use sum) sum_of b x left
 sum-end from {left = left} h o = let whole = Chaining-end h o (sums-end from left) in found (read-rule whole.read) whole.means
 
-pub sum-halts : (from : ℕ) {b x a : State} {left : Expression} {fault : Fault} → Sums from b x left → opens (One (kinds.Plus ∷ kinds.Minus ∷ []) ⨟ Use prod) x ≡ true → Halts (One (kinds.Plus ∷ kinds.Minus ∷ []) ⨟ Use prod) x fault a → Halts (Use sum) b fault a
+pub sum-halts : (from : ℕ) {b x a : State} {left : Expression} {fault : ParserFault} → Sums from b x left → opens (One (kinds.Plus ∷ kinds.Minus ∷ []) ⨟ Use prod) x ≡ true → Halts (One (kinds.Plus ∷ kinds.Minus ∷ []) ⨟ Use prod) x fault a → Halts (Use sum) b fault a
 sum-halts from h o k = halts-rule (Chaining-halts h o k)
 
 -- prod: sign { ( "*" | "/" ) sign }
@@ -273,7 +273,7 @@ prod-more from {left = left} {right = right} {next = next} {op = op} {at = at} h
 pub prod-end : (from : ℕ) {b x : State} {left : Expression} → Prods from b x left → opens (One (kinds.Star ∷ kinds.Slash ∷ []) ⨟ Use sign) x ≡ false → Found (Use prod) prod_of b x left
 prod-end from {left = left} h o = let whole = Chaining-end h o (prods-end from left) in found (read-rule whole.read) whole.means
 
-pub prod-halts : (from : ℕ) {b x a : State} {left : Expression} {fault : Fault} → Prods from b x left → opens (One (kinds.Star ∷ kinds.Slash ∷ []) ⨟ Use sign) x ≡ true → Halts (One (kinds.Star ∷ kinds.Slash ∷ []) ⨟ Use sign) x fault a → Halts (Use prod) b fault a
+pub prod-halts : (from : ℕ) {b x a : State} {left : Expression} {fault : ParserFault} → Prods from b x left → opens (One (kinds.Star ∷ kinds.Slash ∷ []) ⨟ Use sign) x ≡ true → Halts (One (kinds.Star ∷ kinds.Slash ∷ []) ⨟ Use sign) x fault a → Halts (Use prod) b fault a
 prod-halts from h o k = halts-rule (Chaining-halts h o k)
 
 -- the four as one, by their level
@@ -307,7 +307,7 @@ chain-end And from h o = conj-end from h.chaining o
 chain-end Sum from h o = sum-end from h.chaining o
 chain-end Product from h o = prod-end from h.chaining o
 
-pub chain-halts : (level : Level) (from : ℕ) {b x a : State} {left : Expression} {fault : Fault} → Chained level from b x left → next_is (operators level) x.rest ≡ true
+pub chain-halts : (level : Level) (from : ℕ) {b x a : State} {left : Expression} {fault : ParserFault} → Chained level from b x left → next_is (operators level) x.rest ≡ true
     → Halts (One (operators level) ⨟ Use (operand_rule level)) x fault a → Halts (Use (rule_at level)) b fault a
 chain-halts Or from h o k = expr-halts from h.chaining o k
 chain-halts And from h o k = conj-halts from h.chaining o k
@@ -315,7 +315,7 @@ chain-halts Sum from h o k = sum-halts from h.chaining o k
 chain-halts Product from h o k = prod-halts from h.chaining o k
 
 -- the first operand isn't read
-pub chain-halts-first : (level : Level) {b a : State} {fault : Fault} → Halts (Use (operand_rule level)) b fault a → Halts (Use (rule_at level)) b fault a
+pub chain-halts-first : (level : Level) {b a : State} {fault : ParserFault} → Halts (Use (operand_rule level)) b fault a → Halts (Use (rule_at level)) b fault a
 chain-halts-first Or k = halts-rule (halts-first k)
 chain-halts-first And k = halts-rule (halts-first k)
 chain-halts-first Sum k = halts-rule (halts-first k)

@@ -19,7 +19,7 @@ use Rattle.rs_syntax.specs.Reads.{Found, Halts, Reads}
 use Rattle.rs_syntax.specs.Syntax.{Expression, Neg, Case, Compare, Not, expression_of}
 use Rattle.rs_syntax.specs.Trees.{ends_at, span, leaf_span}
 use Rattle.rs_syntax.specs.declared.node.Node as node
-use Rattle.rs_syntax.specs.declared.parser.Fault.{Fault}
+use Rattle.rs_syntax.specs.declared.parser.ParserFault.{ParserFault}
 use Rattle.rs_syntax.specs.declared.parser.cases.When.{When}
 use Rattle.rs_syntax.proofs.Chains.{neg_of-this, neg_of-that, comp_of-this, comp_of-that, sign_of-this, sign_of-that, case_of-node, condition_of-node, result_of-node, cases-list}
 use Rattle.rs_syntax.proofs.Spans.{read-starts, read-ends, counted-left, token-left, quiet-left, is_quiet}
@@ -29,7 +29,7 @@ use Rattle.rs_syntax.proofs.Operands.{before}
 -- WHEN parts that begin at b stand at x with these read
 pub record Repeating (b x : State) (made : List Branch) : Type 0 where
   pub reads : (u : Tree) (a : State) → Read (Many (Use when)) x u a → Found (Many (Use when)) whens_of b a (made ++ whens_of u)
-  pub halts : (fault : Fault) (a : State) → Halts (Many (Use when)) x fault a → Halts (Many (Use when)) b fault a
+  pub halts : (fault : ParserFault) (a : State) → Halts (Many (Use when)) x fault a → Halts (Many (Use when)) b fault a
 
 -- none was read yet
 pub Repeating-start : (b : State) → Repeating b b []
@@ -49,7 +49,7 @@ pub Repeating-end : {b x : State} {made : List Branch} → Repeating b x made �
 Repeating-end {x = x} {made = made} h o = let whole = h.reads Nothing x (read-stop o) in found whole.read (whole.means ∙ append-nil made)
 
 -- the next one isn't read
-pub Repeating-halts : {b x a : State} {made : List Branch} {fault : Fault} → Repeating b x made → opens (Use when) x ≡ true → Halts (Use when) x fault a → Halts (Many (Use when)) b fault a
+pub Repeating-halts : {b x a : State} {made : List Branch} {fault : ParserFault} → Repeating b x made → opens (Use when) x ≡ true → Halts (Use when) x fault a → Halts (Many (Use when)) b fault a
 Repeating-halts {a = a} {fault = fault} h o k = h.halts fault a (halts-item o k)
 
 pub Repeating-push : {b x y : State} (before after : List When) (part : When) → after ≡ before ++ part ∷ [] → Repeating b x (map when_view before) → opens (Use when) x ≡ true
@@ -93,11 +93,11 @@ when-less {b = b} {a = a} h = go h.tree h.read
 
 -- neg
 
-pub neg-that : (b a : State) (r : Result node.Node Fault) → opens (word kinds.Not ⨟ Use neg) b ≡ false → Reads (Use comp) comp_of expression_of b a r → Reads (Use neg) neg_of expression_of b a r
+pub neg-that : (b a : State) (r : Result node.Node ParserFault) → opens (word kinds.Not ⨟ Use neg) b ≡ false → Reads (Use comp) comp_of expression_of b a r → Reads (Use neg) neg_of expression_of b a r
 neg-that b a (Ok v) o h = found (read-rule (read-that o h.read)) (neg_of-that h.tree ∙ h.means)
 neg-that b a (Err f) o h = halts-rule (halts-that o h)
 
-pub neg-this : (from : ℕ) (r : Result node.Node Fault) {b x a : State} {part : Expression} {at place : Span} → from ≡ start_of b.rest → opens (word kinds.Not ⨟ Use neg) b ≡ true
+pub neg-this : (from : ℕ) (r : Result node.Node ParserFault) {b x a : State} {part : Expression} {at place : Span} → from ≡ start_of b.rest → opens (word kinds.Not ⨟ Use neg) b ≡ true
     → Found (word kinds.Not) leaf_span b x place → Found (Use neg) neg_of x a part → at ≡ span from a.last → Makes (Not part at) r → Reads (Use neg) neg_of expression_of b a r
 neg-this from (Ok v) e o k h is made =
     let starts = read-starts k.read refl in
@@ -111,7 +111,7 @@ neg-this from (Err f) e o k h is made = halts-made made
 pub comp-that : {b a : State} {left : Expression} → Found (Use sum) sum_of b a left → opens (One comparisons ⨟ Use sum) a ≡ false → Found (Use comp) comp_of b a left
 comp-that h o = found (read-rule (read-both h.read (read-not o))) (comp_of-that h.tree Nothing ∙ h.means)
 
-pub comp-this : (from : ℕ) (r : Result node.Node Fault) {b x y a : State} {left right : Expression} {rel : Rel} {at : Span} → from ≡ start_of b.rest → Found (Use sum) sum_of b x left
+pub comp-this : (from : ℕ) (r : Result node.Node ParserFault) {b x y a : State} {left right : Expression} {rel : Rel} {at : Span} → from ≡ start_of b.rest → Found (Use sum) sum_of b x left
     → opens (One comparisons ⨟ Use sum) x ≡ true → Found (One comparisons) rel_of x y rel → Found (Use sum) sum_of y a right → at ≡ span from a.last
     → Makes (Compare rel left right at) r → Reads (Use comp) comp_of expression_of b a r
 comp-this from (Ok v) e h o k i is made =
@@ -125,11 +125,11 @@ comp-this from (Err f) e h o k i is made = halts-made made
 
 -- sign
 
-pub sign-that : (b a : State) (r : Result node.Node Fault) → opens (word kinds.Minus ⨟ Use sign) b ≡ false → Reads (Use base) base_of expression_of b a r → Reads (Use sign) sign_of expression_of b a r
+pub sign-that : (b a : State) (r : Result node.Node ParserFault) → opens (word kinds.Minus ⨟ Use sign) b ≡ false → Reads (Use base) base_of expression_of b a r → Reads (Use sign) sign_of expression_of b a r
 sign-that b a (Ok v) o h = found (read-rule (read-that o h.read)) (sign_of-that h.tree ∙ h.means)
 sign-that b a (Err f) o h = halts-rule (halts-that o h)
 
-pub sign-this : (from : ℕ) (r : Result node.Node Fault) {b x a : State} {part : Expression} {at place : Span} → from ≡ start_of b.rest → opens (word kinds.Minus ⨟ Use sign) b ≡ true
+pub sign-this : (from : ℕ) (r : Result node.Node ParserFault) {b x a : State} {part : Expression} {at place : Span} → from ≡ start_of b.rest → opens (word kinds.Minus ⨟ Use sign) b ≡ true
     → Found (word kinds.Minus) leaf_span b x place → Found (Use sign) sign_of x a part → at ≡ span from a.last → Makes (Neg part at) r → Reads (Use sign) sign_of expression_of b a r
 sign-this from (Ok v) e o k h is made =
     let starts = read-starts k.read refl in
@@ -140,7 +140,7 @@ sign-this from (Err f) e o k h is made = halts-made made
 
 -- case
 
-pub case-found : (from : ℕ) (r : Result node.Node Fault) {b x y z v a : State} {first : Branch} {others : List Branch} {otherwise : Expression} {at one two : Span} → from ≡ start_of b.rest
+pub case-found : (from : ℕ) (r : Result node.Node ParserFault) {b x y z v a : State} {first : Branch} {others : List Branch} {otherwise : Expression} {at one two : Span} → from ≡ start_of b.rest
     → Found (word kinds.Case) leaf_span b x one → Found (Use when) when_of x y first → Found (Many (Use when)) whens_of y z others → Found (word kinds.Else) leaf_span z v two
     → Found (Use expr ⨟ word kinds.End) first_expr_of v a otherwise → at ≡ span from a.last → Makes (Case first.condition first.outcome (cases_in at.end others otherwise) at) r → Reads (Use case) case_of expression_of b a r
 case-found from (Ok q) {a = a} {first = first} {others = others} {otherwise = otherwise} {at = at} e k f os i h is made =

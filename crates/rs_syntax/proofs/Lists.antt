@@ -7,13 +7,13 @@ use Rattle.rs_grammar.specs.Reading.{State, Read, opens, nullable}
 use Rattle.rs_grammar.proofs.Derivation.{Read-split, Read-some}
 use Rattle.rs_syntax.specs.Reads.{Found, Halts}
 use Rattle.rs_syntax.specs.Trees.{listed, items_of, last}
-use Rattle.rs_syntax.specs.declared.parser.Fault.{Fault}
+use Rattle.rs_syntax.specs.declared.parser.ParserFault.{ParserFault}
 use Rattle.rs_syntax.proofs.Steps.{found, read-both, read-stop, read-more, halts-then, halts-item, halts-later}
 
 -- a list that begins at b stands at x with these items
 pub record Listing {A : Type 0} (p item : Part) (f : Tree → A) (b x : State) (made : List A) : Type 0 where
   pub reads : (u : Tree) (a : State) → Read (Many item) x u a → Found (Seq p (Many item)) (listed f) b a (made ++ map (λ v. f (last 1 v)) (items_of u))
-  pub halts : (fault : Fault) (a : State) → Halts (Many item) x fault a → Halts (Seq p (Many item)) b fault a
+  pub halts : (fault : ParserFault) (a : State) → Halts (Many item) x fault a → Halts (Seq p (Many item)) b fault a
 
 -- the first item was read
 pub Listing-start : {A : Type 0} {p item : Part} {f : Tree → A} {b x : State} {value : A} → Found p f b x value → Listing p item f b x (value ∷ [])
@@ -38,7 +38,7 @@ Listing-end {p = p} {item = item} {f = f} {b = b} {x = x} {made = made} h o =
     let all = h.reads Nothing x (read-stop o) in found all.read (all.means ∙ append-nil made)
 
 -- the next one isn't read
-pub Listing-halts : {A : Type 0} {p item : Part} {f : Tree → A} {b x a : State} {made : List A} {fault : Fault} → Listing p item f b x made → opens item x ≡ true
+pub Listing-halts : {A : Type 0} {p item : Part} {f : Tree → A} {b x a : State} {made : List A} {fault : ParserFault} → Listing p item f b x made → opens item x ≡ true
     → Halts item x fault a → Halts (Seq p (Many item)) b fault a
 Listing-halts {a = a} {fault = fault} h o k = h.halts fault a (halts-item o k)
 

@@ -18,8 +18,8 @@ use Rattle.rs_syntax.specs.Syntax.{Expression, Int, Text, Column, Abs, expressio
 use Rattle.rs_syntax.specs.Trees.{starts_at, ends_at, span, span_of, kind_at, leaf, leaf_name, leaf_number, leaf_text, leaf_span, qualified}
 use Rattle.rs_syntax.specs.declared.name.ColRef.{ColRef}
 use Rattle.rs_syntax.specs.declared.node.Node as node
-use Rattle.rs_syntax.specs.declared.parser.Fault.{Fault}
-use Rattle.rs_syntax.specs.declared.parser.Fault.TheVariants.{Expected}
+use Rattle.rs_syntax.specs.declared.parser.ParserFault.{ParserFault}
+use Rattle.rs_syntax.specs.declared.parser.ParserFault.TheVariants.{Expected}
 use Rattle.rs_syntax.specs.declared.parser.expressions.Word.TheVariants as called
 use Rattle.rs_syntax.proofs.Chains.{base_of-number, base_of-literal, base_of-plain, base_of-absolute, base_of-extreme, base_of-brackets, base_of-case, absolute_of-this, absolute_of-that, extreme_in-this, extreme_in-that, brackets_of-node}
 use Rattle.rs_syntax.proofs.Spans.{read-ends, counted-left, token-left, not-others}
@@ -51,7 +51,7 @@ pub record Other (b : State) : Type 0 where
 pub base-plain : {b a : State} {column : ColRef} → Other b → opens (Use plain) b ≡ true → Found (Use plain) column_in b a column → Found (Use base) base_of b a (Column column)
 base-plain n o h = found (read-rule (read-that n.number (read-that n.literal (read-this o h.read)))) (base_of-plain h.tree ∙ ap Column h.means)
 
-pub halts-plain : {b a : State} {fault : Fault} → Other b → opens (Use plain) b ≡ true → Halts (Use plain) b fault a → Halts (Use base) b fault a
+pub halts-plain : {b a : State} {fault : ParserFault} → Other b → opens (Use plain) b ≡ true → Halts (Use plain) b fault a → Halts (Use base) b fault a
 halts-plain n o h = halts-rule (halts-that n.number (halts-that n.literal (halts-this o h)))
 
 -- no operand begins there
@@ -71,7 +71,7 @@ begun {b = b} some n l p o = record {
   plain = next-others some plain_names b.rest p o;
 }
 
-pub base-absolute : (b a : State) (r : Result node.Node Fault) → opens (Use absolute) b ≡ true → Reads (Use absolute) absolute_of expression_of b a r → Reads (Use base) base_of expression_of b a r
+pub base-absolute : (b a : State) (r : Result node.Node ParserFault) → opens (Use absolute) b ≡ true → Reads (Use absolute) absolute_of expression_of b a r → Reads (Use base) base_of expression_of b a r
 base-absolute b a (Ok v) o h =
     let n : Begun b = begun (kinds.Abs ∷ []) refl refl refl o in
     found (read-rule (read-that n.other.number (read-that n.other.literal (read-that n.plain (read-this o h.read))))) (base_of-absolute h.tree ∙ h.means)
@@ -79,7 +79,7 @@ base-absolute b a (Err f) o h =
     let n : Begun b = begun (kinds.Abs ∷ []) refl refl refl o in
     halts-rule (halts-that n.other.number (halts-that n.other.literal (halts-that n.plain (halts-this o h))))
 
-pub base-extreme : (b a : State) (r : Result node.Node Fault) → opens (Use absolute) b ≡ false → opens (Use extreme) b ≡ true → Reads (Use extreme) extreme_in expression_of b a r
+pub base-extreme : (b a : State) (r : Result node.Node ParserFault) → opens (Use absolute) b ≡ false → opens (Use extreme) b ≡ true → Reads (Use extreme) extreme_in expression_of b a r
     → Reads (Use base) base_of expression_of b a r
 base-extreme b a (Ok v) q o h =
     let n : Begun b = begun (kinds.Max ∷ kinds.Min ∷ []) refl refl refl o in
@@ -88,7 +88,7 @@ base-extreme b a (Err f) q o h =
     let n : Begun b = begun (kinds.Max ∷ kinds.Min ∷ []) refl refl refl o in
     halts-rule (halts-that n.other.number (halts-that n.other.literal (halts-that n.plain (halts-that q (halts-this o h)))))
 
-pub base-brackets : (b a : State) (r : Result node.Node Fault) → opens (Use absolute) b ≡ false → opens (Use extreme) b ≡ false → opens (Use brackets) b ≡ true
+pub base-brackets : (b a : State) (r : Result node.Node ParserFault) → opens (Use absolute) b ≡ false → opens (Use extreme) b ≡ false → opens (Use brackets) b ≡ true
     → Reads (Use brackets) brackets_of expression_of b a r → Reads (Use base) base_of expression_of b a r
 base-brackets b a (Ok v) q s o h =
     let n : Begun b = begun (kinds.OpenBracket ∷ []) refl refl refl o in
@@ -97,7 +97,7 @@ base-brackets b a (Err f) q s o h =
     let n : Begun b = begun (kinds.OpenBracket ∷ []) refl refl refl o in
     halts-rule (halts-that n.other.number (halts-that n.other.literal (halts-that n.plain (halts-that q (halts-that s (halts-this o h))))))
 
-pub base-case : (b a : State) (r : Result node.Node Fault) → opens (Use absolute) b ≡ false → opens (Use extreme) b ≡ false → opens (Use brackets) b ≡ false → opens (Use case) b ≡ true
+pub base-case : (b a : State) (r : Result node.Node ParserFault) → opens (Use absolute) b ≡ false → opens (Use extreme) b ≡ false → opens (Use brackets) b ≡ false → opens (Use case) b ≡ true
     → Reads (Use case) case_of expression_of b a r → Reads (Use base) base_of expression_of b a r
 base-case b a (Ok v) q s e o h =
     let n : Begun b = begun (kinds.Case ∷ []) refl refl refl o in
@@ -131,7 +131,7 @@ pair-fails : (p q r : Part) (b a : State) (c : Cause) → Fails (Seq p q) b c a 
 pair-fails p q r b a c (reading.Fails.first _ _ _ _ _ k) = reading.Fails.first p (Seq q r) c b a k
 pair-fails p q r b a c (reading.Fails.second _ _ t _ _ x _ s k) = reading.Fails.second p (Seq q r) t c b x a s (reading.Fails.first q r c x a k)
 
-pub halts-pair : {p q r : Part} {b a : State} {fault : Fault} → Halts (Seq p q) b fault a → Halts (Seq p (Seq q r)) b fault a
+pub halts-pair : {p q r : Part} {b a : State} {fault : ParserFault} → Halts (Seq p q) b fault a → Halts (Seq p (Seq q r)) b fault a
 halts-pair {p = p} {q = q} {r = r} {b = b} {a = a} h = halts-as (pair-fails p q r b a) h
 
 -- a function's name and the bracket behind it, or a column that is called so
@@ -197,11 +197,11 @@ word-fails some q b a c (reading.Fails.second _ _ t _ _ x _ s (reading.Fails.thi
 word-fails some q b a c (reading.Fails.second _ _ t _ _ x _ s (reading.Fails.that _ _ _ _ _ o k)) =
     reading.Fails.second (One some) ((word kinds.OpenBracket ⨟ q) ∣ column_behind) t c b x a s (reading.Fails.that (word kinds.OpenBracket ⨟ q) column_behind c x a o k)
 
-pub halts-word : {some : List TokenKind} {q : Part} {b a : State} {fault : Fault} → Halts (word_part some) b fault a → Halts (function_part some q) b fault a
+pub halts-word : {some : List TokenKind} {q : Part} {b a : State} {fault : ParserFault} → Halts (word_part some) b fault a → Halts (function_part some q) b fault a
 halts-word {some = some} {q = q} {b = b} {a = a} h = halts-as (word-fails some q b a) h
 
 -- what stands behind the bracket isn't read
-pub halts-called : {some : List TokenKind} {q : Part} {b x a : State} {kind : TokenKind} {from : ℕ} {fault : Fault} → Found (word_part some) word_of b x (called.Function kind from) → Halts q x fault a
+pub halts-called : {some : List TokenKind} {q : Part} {b x a : State} {kind : TokenKind} {from : ℕ} {fault : ParserFault} → Found (word_part some) word_of b x (called.Function kind from) → Halts q x fault a
     → Halts (function_part some q) b fault a
 halts-called f h = let k = called-in f in halts-then k.read (halts-this k.opened (halts-then k.behind h))
 
@@ -221,7 +221,7 @@ absolute-column h =
     let n = named-in h in
     found (read-rule (read-both n.read (read-that n.closed n.behind))) (absolute_of-that n.first n.rest ∙ ap Column n.means)
 
-pub absolute-function : (r : Result node.Node Fault) {b x a : State} {kind : TokenKind} {from : ℕ} {part : Expression} {at : Span} → Found (word_part (kinds.Abs ∷ [])) word_of b x (called.Function kind from)
+pub absolute-function : (r : Result node.Node ParserFault) {b x a : State} {kind : TokenKind} {from : ℕ} {part : Expression} {at : Span} → Found (word_part (kinds.Abs ∷ [])) word_of b x (called.Function kind from)
     → Found (Use expr ⨟ word kinds.CloseBracket) first_expr_of x a part → at ≡ span from a.last → Makes (Abs part at) r → Reads (Use absolute) absolute_of expression_of b a r
 absolute-function (Ok v) f h is made =
     let k = called-in f in
@@ -240,7 +240,7 @@ extreme-column h =
     let n = named-in h in
     found (read-rule (read-both n.read (read-that n.closed n.behind))) (extreme_in-that n.first n.rest ∙ ap Column n.means)
 
-pub extreme-function : (r : Result node.Node Fault) {b x y a : State} {kind : TokenKind} {from : ℕ} {one two : Expression} {at : Span}
+pub extreme-function : (r : Result node.Node ParserFault) {b x y a : State} {kind : TokenKind} {from : ℕ} {one two : Expression} {at : Span}
     → Found (word_part (kinds.Min ∷ kinds.Max ∷ [])) word_of b x (called.Function kind from) → Found (Use expr ⨟ word kinds.Comma) first_expr_of x y one
     → Found (Use expr ⨟ word kinds.CloseBracket) first_expr_of y a two → at ≡ span from a.last → Makes (extreme_of kind one two at) r → Reads (Use extreme) extreme_in expression_of b a r
 extreme-function (Ok v) {a = a} {kind = kind} {one = one} {two = two} {at = at} f g h is made =
@@ -257,7 +257,7 @@ extreme-function (Err q) f g h is made = halts-made made
 
 -- brackets
 
-pub brackets-behind : (b x a : State) (r : Result node.Node Fault) {place : Span} → Found (word kinds.OpenBracket) leaf_span b x place
+pub brackets-behind : (b x a : State) (r : Result node.Node ParserFault) {place : Span} → Found (word kinds.OpenBracket) leaf_span b x place
     → Reads (Use expr ⨟ word kinds.CloseBracket) first_expr_of expression_of x a r → Reads (Use brackets) brackets_of expression_of b a r
 brackets-behind b x a (Ok v) i h =
     let e = before h in

@@ -22,7 +22,7 @@ use Rattle.rs_syntax.specs.Statements.{script_of}
 use Rattle.rs_syntax.specs.Syntax.{Command}
 use Rattle.rs_syntax.specs.declared.fault.SyntaxFault.{SyntaxFault}
 use Rattle.rs_syntax.specs.declared.fault.SyntaxFault.TheVariants as fault
-use Rattle.rs_syntax.specs.declared.parser.Fault.TheVariants as parser
+use Rattle.rs_syntax.specs.declared.parser.ParserFault.TheVariants as parser
 
 -- tokens parse to one list of statements at most
 pub Parses-one : (text : List ℕ) (tokens : List Token) (a b : List Command) → Parses text tokens a → Parses text tokens b → a ≡ b

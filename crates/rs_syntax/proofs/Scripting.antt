@@ -9,28 +9,28 @@ use Rattle.rs_grammar.proofs.Derivation.{Read-split}
 use Rattle.rs_syntax.specs.Reads.{Found, Halts, Reads}
 use Rattle.rs_syntax.specs.Statements.{script_of, statement_of, statements_of}
 use Rattle.rs_syntax.specs.Syntax.{Command, command_of, commands_of}
-use Rattle.rs_syntax.specs.declared.parser.Fault.{Fault}
+use Rattle.rs_syntax.specs.declared.parser.ParserFault.{ParserFault}
 use Rattle.rs_syntax.specs.declared.statement.Statement.{Statement}
 use Rattle.rs_syntax.proofs.Steps.{read-both, read-this, read-that, read-not, read-rule, found, halts-first, halts-then, halts-this, halts-that, halts-rule}
 
 -- what a call gives, it gives for a part around what it reads
 
-pub goes_rule : {A V : Type 0} (r : Rule) (meaning : Tree → A) (view : V → A) (b a : State) (result : Result V Fault) → Reads (rule r) (λ t. meaning (Node t)) view b a result
+pub goes_rule : {A V : Type 0} (r : Rule) (meaning : Tree → A) (view : V → A) (b a : State) (result : Result V ParserFault) → Reads (rule r) (λ t. meaning (Node t)) view b a result
     → Reads (Use r) meaning view b a result
 goes_rule r meaning view b a (Ok value) h = found (read-rule h.read) h.means
 goes_rule r meaning view b a (Err fault) h = halts-rule h
 
-pub goes_this : {A V : Type 0} (p q : Part) (meaning : Tree → A) (view : V → A) (b a : State) (result : Result V Fault) → opens p b ≡ true → Reads p (λ t. meaning (This t)) view b a result
+pub goes_this : {A V : Type 0} (p q : Part) (meaning : Tree → A) (view : V → A) (b a : State) (result : Result V ParserFault) → opens p b ≡ true → Reads p (λ t. meaning (This t)) view b a result
     → Reads (Either p q) meaning view b a result
 goes_this p q meaning view b a (Ok value) o h = found (read-this o h.read) h.means
 goes_this p q meaning view b a (Err fault) o h = halts-this o h
 
-pub goes_that : {A V : Type 0} (p q : Part) (meaning : Tree → A) (view : V → A) (b a : State) (result : Result V Fault) → opens p b ≡ false → Reads q (λ t. meaning (That t)) view b a result
+pub goes_that : {A V : Type 0} (p q : Part) (meaning : Tree → A) (view : V → A) (b a : State) (result : Result V ParserFault) → opens p b ≡ false → Reads q (λ t. meaning (That t)) view b a result
     → Reads (Either p q) meaning view b a result
 goes_that p q meaning view b a (Ok value) o h = found (read-that o h.read) h.means
 goes_that p q meaning view b a (Err fault) o h = halts-that o h
 
-pub goes_then : {A V : Type 0} {p : Part} (q : Part) (meaning : Tree → A) (view : V → A) {t : Tree} {b x : State} (a : State) (result : Result V Fault) → Read p b t x → Reads q (λ u. meaning (Pair t u)) view x a result
+pub goes_then : {A V : Type 0} {p : Part} (q : Part) (meaning : Tree → A) (view : V → A) {t : Tree} {b x : State} (a : State) (result : Result V ParserFault) → Read p b t x → Reads q (λ u. meaning (Pair t u)) view x a result
     → Reads (Seq p q) meaning view b a result
 goes_then q meaning view a (Ok value) r h = found (read-both r h.read) h.means
 goes_then q meaning view a (Err fault) r h = halts-then r h
@@ -38,7 +38,7 @@ goes_then q meaning view a (Err fault) r h = halts-then r h
 -- a script that begins at b stands at x with these statements
 pub record Scripting (b x : State) (made : List Command) : Type 0 where
   pub reads : (t : Tree) (a : State) → Read script x t a → Found script script_of b a (made ++ script_of t)
-  pub halts : (fault : Fault) (a : State) → Halts script x fault a → Halts script b fault a
+  pub halts : (fault : ParserFault) (a : State) → Halts script x fault a → Halts script b fault a
 
 -- nothing was read
 pub Scripting-start : (b : State) → Scripting b b []
@@ -75,11 +75,11 @@ Scripting-last {b = b} {x = x} {y = y} {u = u} value done h o r e behind =
     found whole.read (whole.means ∙ ap (λ v. commands_of done ++ v ∷ []) e ∙ sym (map-append command_of done (value ∷ [])))
 
 -- the next statement isn't read
-pub Scripting-halts : {b x a : State} {made : List Command} {fault : Fault} → Scripting b x made → opens (Use statement) x ≡ true → Halts (Use statement) x fault a → Halts script b fault a
+pub Scripting-halts : {b x a : State} {made : List Command} {fault : ParserFault} → Scripting b x made → opens (Use statement) x ≡ true → Halts (Use statement) x fault a → Halts script b fault a
 Scripting-halts {a = a} {fault = fault} h o k = h.halts fault a (halts-this o (halts-rule (halts-first k)))
 
 -- the `;` behind it isn't read
-pub Scripting-halts_behind : {b x y a : State} {made : List Command} {u : Tree} {fault : Fault} → Scripting b x made → opens (Use statement) x ≡ true
+pub Scripting-halts_behind : {b x y a : State} {made : List Command} {u : Tree} {fault : ParserFault} → Scripting b x made → opens (Use statement) x ≡ true
     → Read (Use statement) x u y → next_is (Semicolon ∷ []) y.rest ≡ true → Halts (word Semicolon) y fault a → Halts script b fault a
 Scripting-halts_behind {a = a} {fault = fault} h o r behind k = h.halts fault a (halts-this o (halts-rule (halts-then r (halts-this behind (halts-first k)))))
 

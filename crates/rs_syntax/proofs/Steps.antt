@@ -4,8 +4,8 @@ use Rattle.rs_grammar.specs.Grammar.{Rule, Part, Empty, Seq, Either, Many, Use, 
 use Rattle.rs_grammar.specs.Reading as reading
 use Rattle.rs_grammar.specs.Reading.{State, Read, Cause, Fails, opens}
 use Rattle.rs_syntax.specs.Reads.{Found, Halts, Reads}
-use Rattle.rs_syntax.specs.declared.parser.Fault.{Fault}
-use Rattle.rs_syntax.specs.declared.parser.Fault.TheVariants.{Expected, TooDeep, Memory}
+use Rattle.rs_syntax.specs.declared.parser.ParserFault.{ParserFault}
+use Rattle.rs_syntax.specs.declared.parser.ParserFault.TheVariants.{Expected, TooDeep, Memory}
 
 -- what was read
 
@@ -37,37 +37,37 @@ found {t = t} r e = record { tree = t; read = r; means = e }
 
 -- where the reader fails
 
-pub halts-first : {p q : Part} {b a : State} {f : Fault} → Halts p b f a → Halts (Seq p q) b f a
+pub halts-first : {p q : Part} {b a : State} {f : ParserFault} → Halts p b f a → Halts (Seq p q) b f a
 halts-first {p = p} {q = q} {b = b} {a = a} {f = Expected} h = record { fails = reading.Fails.first p q reading.Expected b a h.fails }
 halts-first {p = p} {q = q} {b = b} {a = a} {f = TooDeep} h = record { fails = reading.Fails.first p q reading.TooDeep b a h.fails }
 halts-first {p = p} {q = q} {b = b} {a = a} {f = Memory} h = record { fails = tt }
 
-pub halts-then : {p q : Part} {t : Tree} {b x a : State} {f : Fault} → Read p b t x → Halts q x f a → Halts (Seq p q) b f a
+pub halts-then : {p q : Part} {t : Tree} {b x a : State} {f : ParserFault} → Read p b t x → Halts q x f a → Halts (Seq p q) b f a
 halts-then {p = p} {q = q} {t = t} {b = b} {x = x} {a = a} {f = Expected} r h = record { fails = reading.Fails.second p q t reading.Expected b x a r h.fails }
 halts-then {p = p} {q = q} {t = t} {b = b} {x = x} {a = a} {f = TooDeep} r h = record { fails = reading.Fails.second p q t reading.TooDeep b x a r h.fails }
 halts-then {p = p} {q = q} {t = t} {b = b} {x = x} {a = a} {f = Memory} r h = record { fails = tt }
 
-pub halts-this : {p q : Part} {b a : State} {f : Fault} → opens p b ≡ true → Halts p b f a → Halts (Either p q) b f a
+pub halts-this : {p q : Part} {b a : State} {f : ParserFault} → opens p b ≡ true → Halts p b f a → Halts (Either p q) b f a
 halts-this {p = p} {q = q} {b = b} {a = a} {f = Expected} o h = record { fails = reading.Fails.this p q reading.Expected b a o h.fails }
 halts-this {p = p} {q = q} {b = b} {a = a} {f = TooDeep} o h = record { fails = reading.Fails.this p q reading.TooDeep b a o h.fails }
 halts-this {p = p} {q = q} {b = b} {a = a} {f = Memory} o h = record { fails = tt }
 
-pub halts-that : {p q : Part} {b a : State} {f : Fault} → opens p b ≡ false → Halts q b f a → Halts (Either p q) b f a
+pub halts-that : {p q : Part} {b a : State} {f : ParserFault} → opens p b ≡ false → Halts q b f a → Halts (Either p q) b f a
 halts-that {p = p} {q = q} {b = b} {a = a} {f = Expected} o h = record { fails = reading.Fails.that p q reading.Expected b a o h.fails }
 halts-that {p = p} {q = q} {b = b} {a = a} {f = TooDeep} o h = record { fails = reading.Fails.that p q reading.TooDeep b a o h.fails }
 halts-that {p = p} {q = q} {b = b} {a = a} {f = Memory} o h = record { fails = tt }
 
-pub halts-item : {p : Part} {b a : State} {f : Fault} → opens p b ≡ true → Halts p b f a → Halts (Many p) b f a
+pub halts-item : {p : Part} {b a : State} {f : ParserFault} → opens p b ≡ true → Halts p b f a → Halts (Many p) b f a
 halts-item {p = p} {b = b} {a = a} {f = Expected} o h = record { fails = reading.Fails.item p reading.Expected b a o h.fails }
 halts-item {p = p} {b = b} {a = a} {f = TooDeep} o h = record { fails = reading.Fails.item p reading.TooDeep b a o h.fails }
 halts-item {p = p} {b = b} {a = a} {f = Memory} o h = record { fails = tt }
 
-pub halts-later : {p : Part} {t : Tree} {b x a : State} {f : Fault} → opens p b ≡ true → Read p b t x → Halts (Many p) x f a → Halts (Many p) b f a
+pub halts-later : {p : Part} {t : Tree} {b x a : State} {f : ParserFault} → opens p b ≡ true → Read p b t x → Halts (Many p) x f a → Halts (Many p) b f a
 halts-later {p = p} {t = t} {b = b} {x = x} {a = a} {f = Expected} o r h = record { fails = reading.Fails.later p t reading.Expected b x a o r h.fails }
 halts-later {p = p} {t = t} {b = b} {x = x} {a = a} {f = TooDeep} o r h = record { fails = reading.Fails.later p t reading.TooDeep b x a o r h.fails }
 halts-later {p = p} {t = t} {b = b} {x = x} {a = a} {f = Memory} o r h = record { fails = tt }
 
-pub halts-rule : {r : Rule} {b a : State} {f : Fault} → Halts (rule r) b f a → Halts (Use r) b f a
+pub halts-rule : {r : Rule} {b a : State} {f : ParserFault} → Halts (rule r) b f a → Halts (Use r) b f a
 halts-rule {r = r} {b = b} {a = a} {f = Expected} h = record { fails = reading.Fails.by_rule r reading.Expected b a h.fails }
 halts-rule {r = r} {b = b} {a = a} {f = TooDeep} h = record { fails = reading.Fails.by_rule r reading.TooDeep b a h.fails }
 halts-rule {r = r} {b = b} {a = a} {f = Memory} h = record { fails = tt }
@@ -77,15 +77,15 @@ pub halts-memory : {p : Part} {b a : State} → Halts p b Memory a
 halts-memory = record { fails = tt }
 
 -- a fault goes on unchanged
-pub goes_on : {A V : Type 0} {p : Part} (meaning : Tree → A) (view : V → A) {b a : State} {f : Fault} {result : Result V Fault} → result ≡ Err f → Halts p b f a → Reads p meaning view b a result
+pub goes_on : {A V : Type 0} {p : Part} (meaning : Tree → A) (view : V → A) {b a : State} {f : ParserFault} {result : Result V ParserFault} → result ≡ Err f → Halts p b f a → Reads p meaning view b a result
 goes_on meaning view e h = rw e h
 
 -- a node wasn't made for want of memory
-pub halts-made : {p : Part} {b a : State} {fault : Fault} → fault ≡ Memory → Halts p b fault a
+pub halts-made : {p : Part} {b a : State} {fault : ParserFault} → fault ≡ Memory → Halts p b fault a
 halts-made e = rw e halts-memory
 
 -- another part fails wherever this one does
-pub halts-as : {p q : Part} {b a : State} {f : Fault} → ((c : Cause) → Fails p b c a → Fails q b c a) → Halts p b f a → Halts q b f a
+pub halts-as : {p q : Part} {b a : State} {f : ParserFault} → ((c : Cause) → Fails p b c a → Fails q b c a) → Halts p b f a → Halts q b f a
 halts-as {f = Expected} go h = record { fails = go reading.Expected h.fails }
 halts-as {f = TooDeep} go h = record { fails = go reading.TooDeep h.fails }
 halts-as {f = Memory} go h = record { fails = tt }

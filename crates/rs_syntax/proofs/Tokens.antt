@@ -11,7 +11,7 @@ use Rattle.rs_grammar.specs.declared.kind.TokenKind.{TokenKind}
 use Rattle.rs_grammar.specs.declared.lexeme.Lexeme.{Lexeme}
 use Rattle.rs_syntax.specs.Numbers.{IsNumber, AreNumbers}
 use Rattle.rs_syntax.specs.Reads.{Found, Halts}
-use Rattle.rs_syntax.specs.declared.parser.Fault.TheVariants.{Expected, TooDeep}
+use Rattle.rs_syntax.specs.declared.parser.ParserFault.TheVariants.{Expected, TooDeep}
 use Rattle.rs_syntax.specs.Trees.{leaf}
 
 -- what is left in reverse has this token at its front

@@ -54,7 +54,7 @@ impl Model for Parser {
 
 /// Why the parser can't go on at the next token.
 #[derive(Clone, Copy, Debug)]
-pub enum Fault {
+pub enum ParserFault {
     /// No such token may stand there.
     Expected,
     /// It is one more token that counts towards the depth than a statement may have.

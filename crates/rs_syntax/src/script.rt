@@ -10,7 +10,7 @@ ghost use Rattle.rs_syntax.specs.Written.{AreWritten};
 ghost use Rattle.rs_syntax.specs.declared.fault.SyntaxFault.{SyntaxFault};
 
 use crate::fault::SyntaxFault;
-use crate::parser::{Fault, Parser};
+use crate::parser::{Parser, ParserFault};
 use crate::statement::Statement;
 use rs_grammar::{Lexeme, TokenKind, lexemes};
 use rs_lex::Token;
@@ -44,9 +44,9 @@ pub fn parse(alloc: Global, script: &Text, tokens: &[Token]) -> Result<Vec<State
     let mut parser = Parser::new(lexemes);
     let statements = match parser.script(alloc) {
         Ok(statements) => statements,
-        Err(Fault::Expected) => return Err(refusal(&parser, more, script, false)),
-        Err(Fault::TooDeep) => return Err(refusal(&parser, more, script, true)),
-        Err(Fault::Memory) => return Err(SyntaxFault::Memory),
+        Err(ParserFault::Expected) => return Err(refusal(&parser, more, script, false)),
+        Err(ParserFault::TooDeep) => return Err(refusal(&parser, more, script, true)),
+        Err(ParserFault::Memory) => return Err(SyntaxFault::Memory),
     };
     if !parser.is_done() {
         return Err(refusal(&parser, more, script, false));

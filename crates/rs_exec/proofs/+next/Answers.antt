@@ -8,8 +8,8 @@ use Rattle.rs_exec.specs.Asking.{world_of}
 use Rattle.rs_exec.specs.Nodes.{asked_in, number_in, tree_in}
 use Rattle.rs_exec.specs.Standing.{Stands}
 use Rattle.rs_exec.specs.declared.fault.ExecFault.TheVariants.{Memory}
-use Rattle.rs_exec.specs.declared.node.Node.{Node}
-use Rattle.rs_exec.specs.declared.node.Node.TheVariants as node
+use Rattle.rs_exec.specs.declared.node.PlanNode.{PlanNode}
+use Rattle.rs_exec.specs.declared.node.PlanNode.TheVariants as node
 use Rattle.rs_exec.proofs.CycleFacts.{end-kept, given, height, index-entry, index-gave, index-view, input-can, input-failed, input-stands, next-nearer, rank-asked, row-can, row-failed, row-kept, still-stopped, table-entry, table-gave}
 use Rattle.rs_exec.proofs.DistinctCycleFacts.{distinct-asked, drops_turn-can, drops_turn-dropped, drops_turn-failed, drops_turn-given, drops_turn-over, drops_turn-puts, drops_turn-stands, drops_turn-start, drops_turn-stopped}
 use Rattle.rs_exec.proofs.JoinCycleFacts.{join-asked-node, turn-can, turn-ended, turn-failed, turn-fed, turn-given, turn-nearer, turn-over, turn-stands, turn-start, turn-stopped, turn-takes}
@@ -17,68 +17,68 @@ use Rattle.rs_exec.proofs.SetCycleFacts.{set-asked-node, set_turn-alive, set_tur
 use Rattle.rs_exec.proofs.StepFacts.{Between, between-start}
 use Rattle.rs_exec.proofs.+next.Goals as goal
 
-pub node::Node::next-next-requires-clause-entry : goal.node::Node::next-next-requires-clause-entry
-node::Node::next-next-requires-clause-entry g t c =
+pub node::PlanNode::next-next-requires-clause-entry : goal.node::PlanNode::next-next-requires-clause-entry
+node::PlanNode::next-next-requires-clause-entry g t c =
     let answer = (g.S.Scorer.state c.args.scorer.now).answer in
-    let can = subst (λ (n : Node). CanAsk (world_of c.args.context.now.catalog.now answer c.args.context.now.query.now) (number_in n) (tree_in n) (asked_in n)) c.in-SeqScan.is c.requires.can in
-    let stands = subst (λ (n : Node). Stands (world_of c.args.context.now.catalog.now answer c.args.context.now.query.now) (number_in n) n) c.in-SeqScan.is c.requires.stands in
+    let can = subst (λ (n : PlanNode). CanAsk (world_of c.args.context.now.catalog.now answer c.args.context.now.query.now) (number_in n) (tree_in n) (asked_in n)) c.in-SeqScan.is c.requires.can in
+    let stands = subst (λ (n : PlanNode). Stands (world_of c.args.context.now.catalog.now answer c.args.context.now.query.now) (number_in n) n) c.in-SeqScan.is c.requires.stands in
     table-entry c.args.context.now.catalog.now answer c.args.context.now.query.now c.in-SeqScan.head can stands
 
-pub node::Node::next-returns-in_err-next-in-SeqScan : goal.node::Node::next-returns-in_err-next-in-SeqScan
-node::Node::next-returns-in_err-next-in-SeqScan g t c =
+pub node::PlanNode::next-returns-in_err-next-in-SeqScan : goal.node::PlanNode::next-returns-in_err-next-in-SeqScan
+node::PlanNode::next-returns-in_err-next-in-SeqScan g t c =
     let old = g.S.Scorer.state c.args.scorer.now in
     let w = world_of c.args.context.now.catalog.now old.answer c.args.context.now.query.now in
     let self = c.args.self.now in
-    still-stopped w (number_in self) (tree_in self) (asked_in self) (ap (λ (n : Node). questions_of_ask w (number_in n) (tree_in n) (suc (asked_in n))) c.in-SeqScan.is)
+    still-stopped w (number_in self) (tree_in self) (asked_in self) (ap (λ (n : PlanNode). questions_of_ask w (number_in n) (tree_in n) (suc (asked_in n))) c.in-SeqScan.is)
     (NodeAfter w (number_in self) (tree_in self) (asked_in self) (node.SeqScan c.next.new.self)) old refl c.from_residual.result
     (given-err c.from_residual.result Memory c.from_residual.ensures)
 
-pub node::Node::next-next-requires-in-RankScan-clause-entry : goal.node::Node::next-next-requires-in-RankScan-clause-entry
-node::Node::next-next-requires-in-RankScan-clause-entry g t c =
+pub node::PlanNode::next-next-requires-in-RankScan-clause-entry : goal.node::PlanNode::next-next-requires-in-RankScan-clause-entry
+node::PlanNode::next-next-requires-in-RankScan-clause-entry g t c =
     let answer = (g.S.Scorer.state c.args.scorer.now).answer in
-    let can = subst (λ (n : Node). CanAsk (world_of c.args.context.now.catalog.now answer c.args.context.now.query.now) (number_in n) (tree_in n) (asked_in n)) c.in-RankScan.is c.requires.can in
-    let stands = subst (λ (n : Node). Stands (world_of c.args.context.now.catalog.now answer c.args.context.now.query.now) (number_in n) n) c.in-RankScan.is c.requires.stands in
+    let can = subst (λ (n : PlanNode). CanAsk (world_of c.args.context.now.catalog.now answer c.args.context.now.query.now) (number_in n) (tree_in n) (asked_in n)) c.in-RankScan.is c.requires.can in
+    let stands = subst (λ (n : PlanNode). Stands (world_of c.args.context.now.catalog.now answer c.args.context.now.query.now) (number_in n) n) c.in-RankScan.is c.requires.stands in
     index-entry c.args.context.now.catalog.now answer c.args.context.now.query.now c.in-RankScan.head can stands
 
-pub node::Node::next-next-requires-in-RankScan-clause-view : goal.node::Node::next-next-requires-in-RankScan-clause-view
-node::Node::next-next-requires-in-RankScan-clause-view g t c =
+pub node::PlanNode::next-next-requires-in-RankScan-clause-view : goal.node::PlanNode::next-next-requires-in-RankScan-clause-view
+node::PlanNode::next-next-requires-in-RankScan-clause-view g t c =
     let answer = (g.S.Scorer.state c.args.scorer.now).answer in
-    let can = subst (λ (n : Node). CanAsk (world_of c.args.context.now.catalog.now answer c.args.context.now.query.now) (number_in n) (tree_in n) (asked_in n)) c.in-RankScan.is c.requires.can in
-    let stands = subst (λ (n : Node). Stands (world_of c.args.context.now.catalog.now answer c.args.context.now.query.now) (number_in n) n) c.in-RankScan.is c.requires.stands in
+    let can = subst (λ (n : PlanNode). CanAsk (world_of c.args.context.now.catalog.now answer c.args.context.now.query.now) (number_in n) (tree_in n) (asked_in n)) c.in-RankScan.is c.requires.can in
+    let stands = subst (λ (n : PlanNode). Stands (world_of c.args.context.now.catalog.now answer c.args.context.now.query.now) (number_in n) n) c.in-RankScan.is c.requires.stands in
     index-view c.args.context.now.catalog.now answer c.args.context.now.query.now c.in-RankScan.head can stands
 
-pub node::Node::next-returns-in_err-next-in-RankScan : goal.node::Node::next-returns-in_err-next-in-RankScan
-node::Node::next-returns-in_err-next-in-RankScan g t c =
+pub node::PlanNode::next-returns-in_err-next-in-RankScan : goal.node::PlanNode::next-returns-in_err-next-in-RankScan
+node::PlanNode::next-returns-in_err-next-in-RankScan g t c =
     let old = g.S.Scorer.state c.args.scorer.now in
     let w = world_of c.args.context.now.catalog.now old.answer c.args.context.now.query.now in
     let self = c.args.self.now in
-    still-stopped w (number_in self) (tree_in self) (asked_in self) (ap (λ (n : Node). questions_of_ask w (number_in n) (tree_in n) (suc (asked_in n))) c.in-RankScan.is)
+    still-stopped w (number_in self) (tree_in self) (asked_in self) (ap (λ (n : PlanNode). questions_of_ask w (number_in n) (tree_in n) (suc (asked_in n))) c.in-RankScan.is)
     (NodeAfter w (number_in self) (tree_in self) (asked_in self) (node.RankScan c.next-in-RankScan.new.self)) old refl c.from_residual-in_err-next-in-RankScan.result
     (given-err c.from_residual-in_err-next-in-RankScan.result Memory c.from_residual-in_err-next-in-RankScan.ensures)
 
-pub node::Node::next-returns-in_ok-next-in-SeqScan : goal.node::Node::next-returns-in_ok-next-in-SeqScan
-node::Node::next-returns-in_ok-next-in-SeqScan g t c =
+pub node::PlanNode::next-returns-in_ok-next-in-SeqScan : goal.node::PlanNode::next-returns-in_ok-next-in-SeqScan
+node::PlanNode::next-returns-in_ok-next-in-SeqScan g t c =
     let old = g.S.Scorer.state c.args.scorer.now in
     let w = world_of c.args.context.now.catalog.now old.answer c.args.context.now.query.now in
-    let can = subst (λ (n : Node). CanAsk (world_of c.args.context.now.catalog.now old.answer c.args.context.now.query.now) (number_in n) (tree_in n) (asked_in n)) c.in-SeqScan.is c.requires.can in
-    let stands = subst (λ (n : Node). Stands w (number_in n) n) c.in-SeqScan.is c.requires.stands in
+    let can = subst (λ (n : PlanNode). CanAsk (world_of c.args.context.now.catalog.now old.answer c.args.context.now.query.now) (number_in n) (tree_in n) (asked_in n)) c.in-SeqScan.is c.requires.can in
+    let stands = subst (λ (n : PlanNode). Stands w (number_in n) n) c.in-SeqScan.is c.requires.stands in
     let row = c.in_ok-next-in-SeqScan.field-0 in
-    subst (λ (n : Node). Asked w (number_in n) (tree_in n) (asked_in n) (NodeAfter w (number_in n) (tree_in n) (asked_in n) (node.SeqScan c.next.new.self)) (Ok row) old old) (sym c.in-SeqScan.is)
+    subst (λ (n : PlanNode). Asked w (number_in n) (tree_in n) (asked_in n) (NodeAfter w (number_in n) (tree_in n) (asked_in n) (node.SeqScan c.next.new.self)) (Ok row) old old) (sym c.in-SeqScan.is)
     (table-gave c.args.context.now.catalog.now old.answer c.args.context.now.query.now old refl c.in-SeqScan.head c.next.new.self can stands row c.in_ok-next-in-SeqScan.ensures.row c.in_ok-next-in-SeqScan.ensures.after)
 
-pub node::Node::next-returns-in_ok-next-in-RankScan : goal.node::Node::next-returns-in_ok-next-in-RankScan
-node::Node::next-returns-in_ok-next-in-RankScan g t c =
+pub node::PlanNode::next-returns-in_ok-next-in-RankScan : goal.node::PlanNode::next-returns-in_ok-next-in-RankScan
+node::PlanNode::next-returns-in_ok-next-in-RankScan g t c =
     let old = g.S.Scorer.state c.args.scorer.now in
     let w = world_of c.args.context.now.catalog.now old.answer c.args.context.now.query.now in
-    let can = subst (λ (n : Node). CanAsk (world_of c.args.context.now.catalog.now old.answer c.args.context.now.query.now) (number_in n) (tree_in n) (asked_in n)) c.in-RankScan.is c.requires.can in
-    let stands = subst (λ (n : Node). Stands w (number_in n) n) c.in-RankScan.is c.requires.stands in
+    let can = subst (λ (n : PlanNode). CanAsk (world_of c.args.context.now.catalog.now old.answer c.args.context.now.query.now) (number_in n) (tree_in n) (asked_in n)) c.in-RankScan.is c.requires.can in
+    let stands = subst (λ (n : PlanNode). Stands w (number_in n) n) c.in-RankScan.is c.requires.stands in
     let row = c.in_ok-next-in-RankScan.field-0 in
-    subst (λ (n : Node). Asked w (number_in n) (tree_in n) (asked_in n) (NodeAfter w (number_in n) (tree_in n) (asked_in n) (node.RankScan c.next-in-RankScan.new.self)) (Ok row) old old) (sym c.in-RankScan.is)
+    subst (λ (n : PlanNode). Asked w (number_in n) (tree_in n) (asked_in n) (NodeAfter w (number_in n) (tree_in n) (asked_in n) (node.RankScan c.next-in-RankScan.new.self)) (Ok row) old old) (sym c.in-RankScan.is)
     (index-gave c.args.context.now.catalog.now old.answer c.args.context.now.query.now old refl c.in-RankScan.head c.next-in-RankScan.new.self can stands row
     c.in_ok-next-in-RankScan.ensures.row c.in_ok-next-in-RankScan.ensures.after)
 
-pub node::Node::next-returns-in-Rank : goal.node::Node::next-returns-in-Rank
-node::Node::next-returns-in-Rank g t c =
+pub node::PlanNode::next-returns-in-Rank : goal.node::PlanNode::next-returns-in-Rank
+node::PlanNode::next-returns-in-Rank g t c =
     let old = g.S.Scorer.state c.args.scorer.now in
     rank-asked (world_of c.args.context.now.catalog.now old.answer c.args.context.now.query.now) c.args.self.now c.in-Rank.head c.next_ranked.new.head c.in-Rank.child c.deref_mut.result.now c.next_ranked.new.child
     c.next_ranked.result old (g.S.Scorer.state c.next_ranked.new.scorer) c.in-Rank.is c.deref_mut.ensures.value c.next_ranked.ensures
@@ -148,8 +148,8 @@ pub rank::next_ranked-returns : goal.rank::next_ranked-returns
 rank::next_ranked-returns g t c =
     given c.loop-child.invariant c.requires.can c.give.new.self c.give.result (c.needs.ensures.rests c.loop-child-test.false) c.give.ensures.row c.give.ensures.after
 
-pub node::Node::next-returns-in-Join : goal.node::Node::next-returns-in-Join
-node::Node::next-returns-in-Join g t c =
+pub node::PlanNode::next-returns-in-Join : goal.node::PlanNode::next-returns-in-Join
+node::PlanNode::next-returns-in-Join g t c =
     let old = g.S.Scorer.state c.args.scorer.now in
     join-asked-node (world_of c.args.context.now.catalog.now old.answer c.args.context.now.query.now) c.args.self.now c.in-Join.head c.next_joined.new.head c.in-Join.left c.in-Join.right
     c.deref_mut-in-Join.result.now c.deref_mut-in-Join-2.result.now c.next_joined.new.left c.next_joined.new.right
@@ -247,8 +247,8 @@ join::next_joined-returns-in-Ready g t c =
 pub join::next_joined-returns-in-End : goal.join::next_joined-returns-in-End
 join::next_joined-returns-in-End g t c = turn-over c.loop-left.invariant c.requires.can (sym c.in-End.ensures)
 
-pub node::Node::next-returns-in-Distinct : goal.node::Node::next-returns-in-Distinct
-node::Node::next-returns-in-Distinct g t c =
+pub node::PlanNode::next-returns-in-Distinct : goal.node::PlanNode::next-returns-in-Distinct
+node::PlanNode::next-returns-in-Distinct g t c =
     let old = g.S.Scorer.state c.args.scorer.now in
     distinct-asked (world_of c.args.context.now.catalog.now old.answer c.args.context.now.query.now) c.args.self.now c.in-Distinct.head c.next_distinct.new.head c.in-Distinct.child c.deref_mut-in-Distinct.result.now c.next_distinct.new.child
     c.next_distinct.result old (g.S.Scorer.state c.next_distinct.new.scorer) c.in-Distinct.is c.deref_mut-in-Distinct.ensures.value c.next_distinct.ensures
@@ -295,8 +295,8 @@ distinct::next_distinct-returns g t c =
     drops_turn-over c.loop-row.invariant c.requires.can c.in_ok-row.field-0 c.in_default.is (g.S.Scorer.state c.next.new.scorer) c.next.new.self
     c.in_ok-row.ensures.inquires (c.in_ok-row.ensures.leaves refl)
 
-pub node::Node::next-returns-in-Set : goal.node::Node::next-returns-in-Set
-node::Node::next-returns-in-Set g t c =
+pub node::PlanNode::next-returns-in-Set : goal.node::PlanNode::next-returns-in-Set
+node::PlanNode::next-returns-in-Set g t c =
     let old = g.S.Scorer.state c.args.scorer.now in
     set-asked-node (world_of c.args.context.now.catalog.now old.answer c.args.context.now.query.now) c.args.self.now c.in-Set.head c.next_combined.new.head c.in-Set.left c.in-Set.right
     c.deref_mut-in-Set.result.now c.deref_mut-in-Set-2.result.now c.next_combined.new.left c.next_combined.new.right

@@ -13,8 +13,8 @@ use Rattle.rs_exec.proofs.SetCycleFacts.{SetTurn}
 use Rattle.rs_exec.proofs.+next.Given as goal
 
 -- each call goes one node down
-abbrev pub decreases-node::Node::next : goal.decreases-node::Node::next
-decreases-node::Node::next g l = 2 * height (tree_in l.self.now)
+abbrev pub decreases-node::PlanNode::next : goal.decreases-node::PlanNode::next
+decreases-node::PlanNode::next g l = 2 * height (tree_in l.self.now)
 
 abbrev pub decreases-rank::next_ranked : goal.decreases-rank::next_ranked
 decreases-rank::next_ranked g l = 2 * height (tree_in l.child.now) + 1

@@ -11,7 +11,7 @@ ghost use Rattle.rs_syntax.specs.Trees.{colref_of, if_there, listed};
 
 use crate::name::{ColRef, Name};
 use crate::node::Node;
-use crate::parser::{Fault, Parser};
+use crate::parser::{Parser, ParserFault};
 use crate::select::{BlockSyn, Items, Select};
 use rs_grammar::TokenKind;
 use rs_lex::Span;
@@ -20,7 +20,7 @@ use std::alloc::Global;
 
 impl Parser {
     /// `block [ set_operator block ] ORDER BY terms [ DESC ] [ LIMIT number ]`
-    pub fn select(&mut self, alloc: Global) -> Result<Select, Fault>
+    pub fn select(&mut self, alloc: Global) -> Result<Select, ParserFault>
         ensures { Reads (Use select) select_of query_of self.old self.new result }
     {
         let left = self.block(alloc)?;
@@ -35,7 +35,7 @@ impl Parser {
     }
 
     /// `[ set_operator block ]`
-    fn right(&mut self, alloc: Global) -> Result<Option<(SetOp, BlockSyn)>, Fault>
+    fn right(&mut self, alloc: Global) -> Result<Option<(SetOp, BlockSyn)>, ParserFault>
         ensures { Reads (optional (Use set_operator ⨟ Use block)) (if_there right_of) (λ r. option_map syntax.right_of r) self.old self.new result }
     {
         if !self.at_any(&[TokenKind::Except, TokenKind::Intersect, TokenKind::Union]) {
@@ -47,7 +47,7 @@ impl Parser {
     }
 
     /// `UNION [ ALL ] | INTERSECT | EXCEPT`
-    fn set_operator(&mut self) -> Result<SetOp, Fault>
+    fn set_operator(&mut self) -> Result<SetOp, ParserFault>
         ensures { Reads (Use set_operator) set_operator_of (λ o. o) self.old self.new result }
     {
         if self.at(TokenKind::Union) {
@@ -68,7 +68,7 @@ impl Parser {
     }
 
     /// A word and a number, where the word stands there: `[ LIMIT number ]` or `[ COST number ]`.
-    pub fn numbered(&mut self, kind: TokenKind) -> Result<Option<(i64, Span)>, Fault>
+    pub fn numbered(&mut self, kind: TokenKind) -> Result<Option<(i64, Span)>, ParserFault>
         ensures { Reads (optional (word kind ⨟ word Number)) (if_there limit_of) (λ n. n) self.old self.new result }
     {
         if !self.at(kind) {
@@ -80,7 +80,7 @@ impl Parser {
     }
 
     /// `SELECT [ DISTINCT ] items FROM entries [ WHERE expr ]`
-    fn block(&mut self, alloc: Global) -> Result<BlockSyn, Fault>
+    fn block(&mut self, alloc: Global) -> Result<BlockSyn, ParserFault>
         ensures { Reads (Use block) block_of syntax.block_of self.old self.new result }
     {
         self.expect(TokenKind::Select)?;
@@ -98,7 +98,7 @@ impl Parser {
     }
 
     /// `[ WHERE expr ]`
-    fn filter(&mut self, alloc: Global) -> Result<Option<Node>, Fault>
+    fn filter(&mut self, alloc: Global) -> Result<Option<Node>, ParserFault>
         ensures { Reads (optional (word Where ⨟ Use expr)) (if_there filter_of) (λ f. option_map expression_of f) self.old self.new result }
     {
         if !self.at(TokenKind::Where) {
@@ -110,7 +110,7 @@ impl Parser {
     }
 
     /// `"*" | colref { "," colref }`
-    fn items(&mut self, alloc: Global) -> Result<Items, Fault>
+    fn items(&mut self, alloc: Global) -> Result<Items, ParserFault>
         ensures { Reads (Use items) select_items_of (λ i. i) self.old self.new result }
     {
         if self.at(TokenKind::Star) {
@@ -122,7 +122,7 @@ impl Parser {
     }
 
     /// `colref { "," colref }`
-    fn colrefs(&mut self, alloc: Global) -> Result<List<ColRef>, Fault>
+    fn colrefs(&mut self, alloc: Global) -> Result<List<ColRef>, ParserFault>
         ensures { Reads (Use colref ⨟ Many (word Comma ⨟ Use colref)) (listed colref_of) (λ c. c) self.old self.new result }
     {
         let mut columns = Vec::new(alloc);
@@ -135,7 +135,7 @@ impl Parser {
     }
 
     /// `entry { "," entry }`
-    fn entries(&mut self, alloc: Global) -> Result<List<(Name, Option<Name>)>, Fault>
+    fn entries(&mut self, alloc: Global) -> Result<List<(Name, Option<Name>)>, ParserFault>
         ensures { Reads (Use entries) entries_of (λ e. e) self.old self.new result }
     {
         let mut entries = Vec::new(alloc);
@@ -148,7 +148,7 @@ impl Parser {
     }
 
     /// `name [ [ AS ] name ]`
-    fn entry(&mut self) -> Result<(Name, Option<Name>), Fault>
+    fn entry(&mut self) -> Result<(Name, Option<Name>), ParserFault>
         ensures { Reads (Use entry) entry_of (λ e. e) self.old self.new result }
     {
         let table = self.name()?;
@@ -157,7 +157,7 @@ impl Parser {
     }
 
     /// `[ [ AS ] name ]`
-    fn alias(&mut self) -> Result<Option<Name>, Fault>
+    fn alias(&mut self) -> Result<Option<Name>, ParserFault>
         ensures { Reads (optional (optional (word As) ⨟ name_part)) (if_there alias_of) (λ a. a) self.old self.new result }
     {
         if !self.at(TokenKind::As) && !self.at_name() {

@@ -10,7 +10,7 @@ ghost use Rattle.rs_syntax.specs.Syntax.{Case, expression_of};
 use crate::node::Node;
 use crate::parser::nodes::case;
 use crate::parser::operators::Level;
-use crate::parser::{Fault, Parser};
+use crate::parser::{Parser, ParserFault};
 use rs_grammar::TokenKind;
 use rs_lex::Span;
 use std::alloc::Global;
@@ -26,7 +26,7 @@ pub struct When {
 impl Parser {
     /// `CASE when { when } ELSE expr END`
     #[cycle(expr)]
-    pub fn case(&mut self, alloc: Global) -> Result<Node, Fault>
+    pub fn case(&mut self, alloc: Global) -> Result<Node, ParserFault>
         ensures { Reads (Use case) case_of expression_of self.old self.new result }
     {
         let from = self.start();
@@ -41,7 +41,7 @@ impl Parser {
 
     /// `{ when }`
     #[cycle(expr)]
-    fn whens(&mut self, alloc: Global) -> Result<Vec<When>, Fault>
+    fn whens(&mut self, alloc: Global) -> Result<Vec<When>, ParserFault>
         ensures { Reads (Many (Use when)) whens_of (λ parts. map when_view parts.items) self.old self.new result }
     {
         let mut parts = Vec::new(alloc);
@@ -54,7 +54,7 @@ impl Parser {
 
     /// `WHEN expr THEN expr`
     #[cycle(expr)]
-    fn when(&mut self, alloc: Global) -> Result<When, Fault>
+    fn when(&mut self, alloc: Global) -> Result<When, ParserFault>
         ensures { Reads (Use when) when_of when_view self.old self.new result }
     {
         let from = self.start();
@@ -76,7 +76,7 @@ fn cases(
     others: Vec<When>,
     otherwise: Node,
     at: Span,
-) -> Result<Node, Fault>
+) -> Result<Node, ParserFault>
     ensures { Makes (Case (expression_of first.condition) (expression_of first.outcome) (cases_in at.end (map when_view others.items) (expression_of otherwise)) at) result }
 {
     let rest = or_drop!(fold_cases(alloc, others, otherwise, at.end), first);
@@ -84,7 +84,12 @@ fn cases(
 }
 
 /// The WHEN parts up to a place, each with the next one as its rest, and the ELSE part as that of the last one.
-fn fold_cases(alloc: Global, mut parts: Vec<When>, otherwise: Node, to: u32) -> Result<Node, Fault>
+fn fold_cases(
+    alloc: Global,
+    mut parts: Vec<When>,
+    otherwise: Node,
+    to: u32,
+) -> Result<Node, ParserFault>
     ensures { Makes (cases_in to (map when_view parts.items) (expression_of otherwise)) result }
 {
     let mut rest = otherwise;

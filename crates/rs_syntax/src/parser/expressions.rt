@@ -15,7 +15,7 @@ use crate::name::{ColRef, Name};
 use crate::node::Node;
 use crate::parser::nodes::{abs, compare, extreme, join, neg, not};
 use crate::parser::operators::{COMPARISONS, Level};
-use crate::parser::{Fault, Parser};
+use crate::parser::{Parser, ParserFault};
 use rs_grammar::{Lexeme, TokenKind};
 use rs_lex::Span;
 use std::alloc::Global;
@@ -30,7 +30,7 @@ enum Word {
 
 impl Parser {
     /// `conj { OR conj }`
-    pub fn expr(&mut self, alloc: Global) -> Result<Node, Fault>
+    pub fn expr(&mut self, alloc: Global) -> Result<Node, ParserFault>
         ensures { Reads (Use expr) expr_of expression_of self.old self.new result }
     {
         self.chain(alloc, Level::Or)
@@ -39,7 +39,7 @@ impl Parser {
     /// What the operators of a level join: `conj { OR conj }`, `neg { AND neg }`, `prod { ( "+" | "-" ) prod }` or
     /// `sign { ( "*" | "/" ) sign }`.
     #[cycle(expr)]
-    pub fn chain(&mut self, alloc: Global, level: Level) -> Result<Node, Fault>
+    pub fn chain(&mut self, alloc: Global, level: Level) -> Result<Node, ParserFault>
         ensures { Reads (Use (rule_at level)) (chain_of level) expression_of self.old self.new result }
     {
         let from = self.start();
@@ -55,7 +55,7 @@ impl Parser {
 
     /// What stands at each side of an operator of a level: `conj`, `neg`, `prod` or `sign`.
     #[cycle(expr)]
-    fn operand(&mut self, alloc: Global, level: Level) -> Result<Node, Fault>
+    fn operand(&mut self, alloc: Global, level: Level) -> Result<Node, ParserFault>
         ensures { Reads (Use (operand_rule level)) (operand_of level) expression_of self.old self.new result }
     {
         match level {
@@ -68,7 +68,7 @@ impl Parser {
 
     /// `NOT neg | comp`
     #[cycle(expr)]
-    fn neg(&mut self, alloc: Global) -> Result<Node, Fault>
+    fn neg(&mut self, alloc: Global) -> Result<Node, ParserFault>
         ensures { Reads (Use neg) neg_of expression_of self.old self.new result }
     {
         if !self.at(TokenKind::Not) {
@@ -83,7 +83,7 @@ impl Parser {
 
     /// `sum [ comparison sum ]`
     #[cycle(expr)]
-    fn comp(&mut self, alloc: Global) -> Result<Node, Fault>
+    fn comp(&mut self, alloc: Global) -> Result<Node, ParserFault>
         ensures { Reads (Use comp) comp_of expression_of self.old self.new result }
     {
         let from = self.start();
@@ -99,7 +99,7 @@ impl Parser {
 
     /// `"-" sign | base`
     #[cycle(expr)]
-    fn sign(&mut self, alloc: Global) -> Result<Node, Fault>
+    fn sign(&mut self, alloc: Global) -> Result<Node, ParserFault>
         ensures { Reads (Use sign) sign_of expression_of self.old self.new result }
     {
         if !self.at(TokenKind::Minus) {
@@ -114,7 +114,7 @@ impl Parser {
 
     /// `number | literal | plain | absolute | extreme | brackets | case`
     #[cycle(expr)]
-    fn base(&mut self, alloc: Global) -> Result<Node, Fault>
+    fn base(&mut self, alloc: Global) -> Result<Node, ParserFault>
         ensures { Reads (Use base) base_of expression_of self.old self.new result }
     {
         if self.at(TokenKind::Abs) {
@@ -133,7 +133,7 @@ impl Parser {
     }
 
     /// `number | literal | plain`, where none of the other operands begins.
-    fn simple(&mut self) -> Result<Node, Fault>
+    fn simple(&mut self) -> Result<Node, ParserFault>
         requires absolute { next_is (Abs ∷ []) self.old.rest ≡ false }
         requires extreme { next_is (Max ∷ Min ∷ []) self.old.rest ≡ false }
         requires brackets { next_is (OpenBracket ∷ []) self.old.rest ≡ false }
@@ -152,11 +152,11 @@ impl Parser {
             let column = self.plain()?;
             return Ok(Node::Column(column));
         }
-        Err(Fault::Expected)
+        Err(ParserFault::Expected)
     }
 
     /// A column whose name is no function's: `name [ "." name ]`.
-    fn plain(&mut self) -> Result<ColRef, Fault>
+    fn plain(&mut self) -> Result<ColRef, ParserFault>
         ensures { Reads (Use plain) column_in (λ c. c) self.old self.new result }
     {
         let first = self.plain_name()?;
@@ -165,7 +165,7 @@ impl Parser {
 
     /// `ABS "(" expr ")"`, or the column `abs`.
     #[cycle(expr)]
-    fn absolute(&mut self, alloc: Global) -> Result<Node, Fault>
+    fn absolute(&mut self, alloc: Global) -> Result<Node, ParserFault>
         ensures { Reads (Use absolute) absolute_of expression_of self.old self.new result }
     {
         let word = self.word(&[TokenKind::Abs])?;
@@ -181,7 +181,7 @@ impl Parser {
 
     /// `( MIN | MAX ) "(" expr "," expr ")"`, or the column `min` or `max`.
     #[cycle(expr)]
-    fn extreme(&mut self, alloc: Global) -> Result<Node, Fault>
+    fn extreme(&mut self, alloc: Global) -> Result<Node, ParserFault>
         ensures { Reads (Use extreme) extreme_in expression_of self.old self.new result }
     {
         let word = self.word(&[TokenKind::Min, TokenKind::Max])?;
@@ -198,7 +198,7 @@ impl Parser {
 
     /// `"(" expr ")"`
     #[cycle(expr)]
-    fn brackets(&mut self, alloc: Global) -> Result<Node, Fault>
+    fn brackets(&mut self, alloc: Global) -> Result<Node, ParserFault>
         ensures { Reads (Use brackets) brackets_of expression_of self.old self.new result }
     {
         self.expect(TokenKind::OpenBracket)?;
@@ -207,7 +207,11 @@ impl Parser {
 
     /// An expression, and a token of this kind behind it.
     #[cycle(expr)]
-    pub(crate) fn expr_before(&mut self, alloc: Global, kind: TokenKind) -> Result<Node, Fault>
+    pub(crate) fn expr_before(
+        &mut self,
+        alloc: Global,
+        kind: TokenKind,
+    ) -> Result<Node, ParserFault>
         ensures { Reads (Use expr ⨟ word kind) first_expr_of expression_of self.old self.new result }
     {
         let node = self.chain(alloc, Level::Or)?;
@@ -216,7 +220,7 @@ impl Parser {
     }
 
     /// A word that is a function's name, and the bracket behind it, or a column that is called so.
-    fn word(&mut self, kinds: &[TokenKind]) -> Result<Word, Fault>
+    fn word(&mut self, kinds: &[TokenKind]) -> Result<Word, ParserFault>
         ensures { Reads (One kinds.now ⨟ (word OpenBracket ∣ optional (word Dot ⨟ name_part))) word_of (λ w. w) self.old self.new result }
     {
         let accepted = self.at_any(kinds);

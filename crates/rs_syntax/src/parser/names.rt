@@ -6,14 +6,14 @@ ghost use Rattle.rs_syntax.specs.Statements.{column_of, columns_of, data_type_of
 ghost use Rattle.rs_syntax.specs.Trees.{colref_of, qualified};
 
 use crate::name::{ColRef, Name};
-use crate::parser::{Fault, Parser};
+use crate::parser::{Parser, ParserFault};
 use rs_grammar::TokenKind;
 use rs_value::{Kind as ValueKind, List};
 use std::alloc::Global;
 
 impl Parser {
     /// A column: `name [ "." name ]`.
-    pub(crate) fn colref(&mut self) -> Result<ColRef, Fault>
+    pub(crate) fn colref(&mut self) -> Result<ColRef, ParserFault>
         ensures { Reads (Use colref) colref_of (λ c. c) self.old self.new result }
     {
         let first = self.name()?;
@@ -21,7 +21,7 @@ impl Parser {
     }
 
     /// What may stand behind a name that is a column or its alias: `[ "." name ]`.
-    pub(crate) fn qualify(&mut self, first: Name) -> Result<ColRef, Fault>
+    pub(crate) fn qualify(&mut self, first: Name) -> Result<ColRef, ParserFault>
         ensures { Reads (optional (word Dot ⨟ name_part)) (qualified first) (λ c. c) self.old self.new result }
     {
         if !self.at(TokenKind::Dot) {
@@ -39,7 +39,7 @@ impl Parser {
     }
 
     /// The columns of a table, or the parameters of a predicate: `column { "," column }`.
-    pub fn columns(&mut self, alloc: Global) -> Result<List<(Name, ValueKind)>, Fault>
+    pub fn columns(&mut self, alloc: Global) -> Result<List<(Name, ValueKind)>, ParserFault>
         ensures { Reads (Use columns) columns_of (λ c. c) self.old self.new result }
     {
         let mut columns = Vec::new(alloc);
@@ -52,7 +52,7 @@ impl Parser {
     }
 
     /// `name ( INT | INTEGER | TEXT )`
-    fn column(&mut self) -> Result<(Name, ValueKind), Fault>
+    fn column(&mut self) -> Result<(Name, ValueKind), ParserFault>
         ensures { Reads (Use column) column_of (λ c. c) self.old self.new result }
     {
         let name = self.name()?;
@@ -61,7 +61,7 @@ impl Parser {
     }
 
     /// `INT | INTEGER | TEXT`
-    fn data_type(&mut self) -> Result<ValueKind, Fault>
+    fn data_type(&mut self) -> Result<ValueKind, ParserFault>
         ensures { Reads (One (Int ∷ Integer ∷ Text ∷ [])) data_type_of (λ kind. kind) self.old self.new result }
     {
         let kind = self.any_of(&[TokenKind::Int, TokenKind::Integer, TokenKind::Text])?;

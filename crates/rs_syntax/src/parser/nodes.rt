@@ -3,29 +3,29 @@ ghost use Rattle.rs_syntax.specs.Expressions.{extreme_of};
 ghost use Rattle.rs_syntax.specs.Levels.{joined};
 ghost use Rattle.rs_syntax.specs.Makes.{Makes};
 ghost use Rattle.rs_syntax.specs.Syntax.{Abs, Case, Compare, Neg, Not, expression_of};
-ghost use Rattle.rs_syntax.specs.declared.parser.Fault.TheVariants.{Memory};
+ghost use Rattle.rs_syntax.specs.declared.parser.ParserFault.TheVariants.{Memory};
 
 use crate::node::Node;
-use crate::parser::Fault;
+use crate::parser::ParserFault;
 use crate::parser::operators::Operator;
 use rs_grammar::TokenKind;
 use rs_lex::Span;
 use rs_value::Rel;
 use std::alloc::{AllocFailed, Global};
 
-impl<T: Drop> From<AllocFailed<T>> for Fault {
+impl<T: Drop> From<AllocFailed<T>> for ParserFault {
     ghost use Rattle.std.specs.Prelude.{◌≡◌};
-    ghost use Rattle.rs_syntax.specs.declared.parser.Fault.TheVariants.{Memory};
+    ghost use Rattle.rs_syntax.specs.declared.parser.ParserFault.TheVariants.{Memory};
 
     ghost from_gives = { λ _ fault. fault ≡ Memory };
 
-    fn from(_: AllocFailed<T>) -> Fault {
-        Fault::Memory
+    fn from(_: AllocFailed<T>) -> ParserFault {
+        ParserFault::Memory
     }
 }
 
 /// Each of two nodes in a box.
-fn boxes(alloc: Global, left: Node, right: Node) -> Result<(Box<Node>, Box<Node>), Fault>
+fn boxes(alloc: Global, left: Node, right: Node) -> Result<(Box<Node>, Box<Node>), ParserFault>
     ensures left { IfOk result (λ made. made.0.value ≡ left) }
     ensures right { IfOk result (λ made. made.1.value ≡ right) }
     ensures memory { IfErr result (λ fault. fault ≡ Memory) }
@@ -35,26 +35,26 @@ fn boxes(alloc: Global, left: Node, right: Node) -> Result<(Box<Node>, Box<Node>
         Err(failed) => {
             drop(failed);
             drop(right);
-            return Err(Fault::Memory);
+            return Err(ParserFault::Memory);
         }
     };
     let right = Box::new(alloc, right)?;
     Ok((left, right))
 }
 
-pub fn neg(alloc: Global, part: Node, at: Span) -> Result<Node, Fault>
+pub fn neg(alloc: Global, part: Node, at: Span) -> Result<Node, ParserFault>
     ensures { Makes (Neg (expression_of part) at) result }
 {
     Ok(Node::Neg(Box::new(alloc, part)?, at))
 }
 
-pub fn not(alloc: Global, part: Node, at: Span) -> Result<Node, Fault>
+pub fn not(alloc: Global, part: Node, at: Span) -> Result<Node, ParserFault>
     ensures { Makes (Not (expression_of part) at) result }
 {
     Ok(Node::Not(Box::new(alloc, part)?, at))
 }
 
-pub fn abs(alloc: Global, part: Node, at: Span) -> Result<Node, Fault>
+pub fn abs(alloc: Global, part: Node, at: Span) -> Result<Node, ParserFault>
     ensures { Makes (Abs (expression_of part) at) result }
 {
     Ok(Node::Abs(Box::new(alloc, part)?, at))
@@ -67,7 +67,7 @@ pub fn join(
     left: Node,
     right: Node,
     at: Span,
-) -> Result<Node, Fault>
+) -> Result<Node, ParserFault>
     ensures { Makes (joined operator (expression_of left) (expression_of right) at) result }
 {
     let (left, right) = boxes(alloc, left, right)?;
@@ -78,7 +78,13 @@ pub fn join(
     }
 }
 
-pub fn compare(alloc: Global, rel: Rel, left: Node, right: Node, at: Span) -> Result<Node, Fault>
+pub fn compare(
+    alloc: Global,
+    rel: Rel,
+    left: Node,
+    right: Node,
+    at: Span,
+) -> Result<Node, ParserFault>
     ensures { Makes (Compare rel (expression_of left) (expression_of right) at) result }
 {
     let (left, right) = boxes(alloc, left, right)?;
@@ -92,7 +98,7 @@ pub(crate) fn extreme(
     first: Node,
     second: Node,
     at: Span,
-) -> Result<Node, Fault>
+) -> Result<Node, ParserFault>
     ensures { Makes (extreme_of word (expression_of first) (expression_of second) at) result }
 {
     let (first, second) = boxes(alloc, first, second)?;
@@ -108,7 +114,7 @@ pub fn case(
     outcome: Node,
     rest: Node,
     at: Span,
-) -> Result<Node, Fault>
+) -> Result<Node, ParserFault>
     ensures { Makes (Case (expression_of condition) (expression_of outcome) (expression_of rest) at) result }
 {
     let (condition, outcome) = or_drop!(boxes(alloc, condition, outcome), rest);

@@ -9,7 +9,7 @@ ghost use Rattle.rs_syntax.specs.Levels.{operator_of, operators};
 ghost use Rattle.rs_syntax.specs.Reads.{Reads};
 
 use crate::node::Op;
-use crate::parser::{Fault, Parser};
+use crate::parser::{Parser, ParserFault};
 use rs_grammar::TokenKind;
 use rs_value::Rel;
 
@@ -44,7 +44,7 @@ impl Parser {
     }
 
     /// An operator of this level.
-    pub fn operator(&mut self, level: Level) -> Result<Operator, Fault>
+    pub fn operator(&mut self, level: Level) -> Result<Operator, ParserFault>
         ensures { Reads (One (operators level)) (operator_of level) (λ o. o) self.old self.new result }
     {
         match level {
@@ -68,7 +68,7 @@ impl Parser {
     }
 
     /// `"+" | "-"`
-    fn adding(&mut self) -> Result<Op, Fault>
+    fn adding(&mut self) -> Result<Op, ParserFault>
         ensures { Reads (One (Plus ∷ Minus ∷ [])) adding_of (λ op. op) self.old self.new result }
     {
         let kind = self.any_of(&[TokenKind::Plus, TokenKind::Minus])?;
@@ -80,7 +80,7 @@ impl Parser {
     }
 
     /// `"*" | "/"`
-    fn multiplying(&mut self) -> Result<Op, Fault>
+    fn multiplying(&mut self) -> Result<Op, ParserFault>
         ensures { Reads (One (Star ∷ Slash ∷ [])) multiplying_of (λ op. op) self.old self.new result }
     {
         let kind = self.any_of(&[TokenKind::Star, TokenKind::Slash])?;
@@ -92,7 +92,7 @@ impl Parser {
     }
 
     /// `"=" | "<>" | "<" | "<=" | ">" | ">="`
-    pub fn comparison(&mut self) -> Result<Rel, Fault>
+    pub fn comparison(&mut self) -> Result<Rel, ParserFault>
         ensures { Reads (One comparisons) rel_of (λ rel. rel) self.old self.new result }
     {
         let kind = self.any_of(&COMPARISONS)?;

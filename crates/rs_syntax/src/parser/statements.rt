@@ -4,14 +4,14 @@ ghost use Rattle.rs_syntax.specs.Reads.{Reads};
 ghost use Rattle.rs_syntax.specs.Statements.{close_of, create_of, create_predicate_of, create_rank_index_of, create_table_of, declare_of, explain_of, fetch_of, script_of, statement_of};
 ghost use Rattle.rs_syntax.specs.Syntax.{command_of, commands_of};
 
-use crate::parser::{Fault, Parser};
+use crate::parser::{Parser, ParserFault};
 use crate::statement::Statement;
 use rs_grammar::TokenKind;
 use std::alloc::Global;
 
 impl Parser {
     /// `{ statement ";" } [ statement ]`
-    pub fn script(&mut self, alloc: Global) -> Result<Vec<Statement>, Fault>
+    pub fn script(&mut self, alloc: Global) -> Result<Vec<Statement>, ParserFault>
         ensures { Reads script script_of (λ s. commands_of s.items) self.old self.new result }
     {
         let mut statements = Vec::new(alloc);
@@ -26,7 +26,7 @@ impl Parser {
     }
 
     /// `create | select | declare | fetch | close | explain`
-    fn statement(&mut self, alloc: Global) -> Result<Statement, Fault>
+    fn statement(&mut self, alloc: Global) -> Result<Statement, ParserFault>
         ensures { Reads (Use statement) statement_of command_of self.old self.new result }
     {
         if self.at(TokenKind::Create) {
@@ -48,7 +48,7 @@ impl Parser {
     }
 
     /// `CREATE ( create_table | create_predicate | create_rank_index )`
-    fn create(&mut self, alloc: Global) -> Result<Statement, Fault>
+    fn create(&mut self, alloc: Global) -> Result<Statement, ParserFault>
         ensures { Reads (Use create) create_of command_of self.old self.new result }
     {
         self.expect(TokenKind::Create)?;
@@ -62,7 +62,7 @@ impl Parser {
     }
 
     /// `TABLE name "(" columns ")" FROM literal`
-    fn create_table(&mut self, alloc: Global) -> Result<Statement, Fault>
+    fn create_table(&mut self, alloc: Global) -> Result<Statement, ParserFault>
         ensures { Reads (Use create_table) create_table_of command_of self.old self.new result }
     {
         self.expect(TokenKind::Table)?;
@@ -80,7 +80,7 @@ impl Parser {
     }
 
     /// `PREDICATE name "(" columns ")" MAX number [ COST number ] AS expr`
-    fn create_predicate(&mut self, alloc: Global) -> Result<Statement, Fault>
+    fn create_predicate(&mut self, alloc: Global) -> Result<Statement, ParserFault>
         ensures { Reads (Use create_predicate) create_predicate_of command_of self.old self.new result }
     {
         self.expect(TokenKind::Predicate)?;
@@ -103,7 +103,7 @@ impl Parser {
     }
 
     /// `RANK INDEX name ON name "(" name "(" args ")" ")"`
-    fn create_rank_index(&mut self, alloc: Global) -> Result<Statement, Fault>
+    fn create_rank_index(&mut self, alloc: Global) -> Result<Statement, ParserFault>
         ensures { Reads (Use create_rank_index) create_rank_index_of command_of self.old self.new result }
     {
         self.expect(TokenKind::Rank)?;
@@ -141,7 +141,7 @@ impl Parser {
     }
 
     /// `DECLARE name CURSOR FOR select`
-    fn declare(&mut self, alloc: Global) -> Result<Statement, Fault>
+    fn declare(&mut self, alloc: Global) -> Result<Statement, ParserFault>
         ensures { Reads (Use declare) declare_of command_of self.old self.new result }
     {
         self.expect(TokenKind::Declare)?;
@@ -153,7 +153,7 @@ impl Parser {
     }
 
     /// `FETCH number FROM name`
-    fn fetch(&mut self) -> Result<Statement, Fault>
+    fn fetch(&mut self) -> Result<Statement, ParserFault>
         ensures { Reads (Use fetch) fetch_of command_of self.old self.new result }
     {
         self.expect(TokenKind::Fetch)?;
@@ -164,7 +164,7 @@ impl Parser {
     }
 
     /// `CLOSE name`
-    fn close(&mut self) -> Result<Statement, Fault>
+    fn close(&mut self) -> Result<Statement, ParserFault>
         ensures { Reads (Use close) close_of command_of self.old self.new result }
     {
         self.expect(TokenKind::Close)?;
@@ -173,7 +173,7 @@ impl Parser {
     }
 
     /// `EXPLAIN [ ANALYZE ] select`
-    fn explain(&mut self, alloc: Global) -> Result<Statement, Fault>
+    fn explain(&mut self, alloc: Global) -> Result<Statement, ParserFault>
         ensures { Reads (Use explain) explain_of command_of self.old self.new result }
     {
         self.expect(TokenKind::Explain)?;

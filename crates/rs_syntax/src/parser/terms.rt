@@ -6,7 +6,7 @@ ghost use Rattle.rs_syntax.specs.Statements.{arg_of, args_of, signed_number_of, 
 ghost use Rattle.rs_syntax.specs.Trees.{if_there, leaf_number, weight_in};
 
 use crate::name::Arg;
-use crate::parser::{Fault, Parser};
+use crate::parser::{Parser, ParserFault};
 use crate::select::TermSyn;
 use rs_grammar::TokenKind;
 use rs_lex::Span;
@@ -15,7 +15,7 @@ use std::alloc::Global;
 
 impl Parser {
     /// `term { "+" term }`
-    pub fn terms(&mut self, alloc: Global) -> Result<List<TermSyn>, Fault>
+    pub fn terms(&mut self, alloc: Global) -> Result<List<TermSyn>, ParserFault>
         ensures { Reads (Use terms) terms_of (λ t. t) self.old self.new result }
     {
         let mut terms = Vec::new(alloc);
@@ -28,7 +28,7 @@ impl Parser {
     }
 
     /// `[ number "*" ] name "(" args ")"`
-    fn term(&mut self, alloc: Global) -> Result<TermSyn, Fault>
+    fn term(&mut self, alloc: Global) -> Result<TermSyn, ParserFault>
         ensures { Reads (Use term) term_of (λ t. t) self.old self.new result }
     {
         let from = self.start();
@@ -51,7 +51,7 @@ impl Parser {
     }
 
     /// `[ number "*" ]`
-    fn weight(&mut self) -> Result<Option<(i64, Span)>, Fault>
+    fn weight(&mut self) -> Result<Option<(i64, Span)>, ParserFault>
         ensures { Reads (optional (word Number ⨟ word Star)) (if_there weight_in) (λ w. w) self.old self.new result }
     {
         if !self.at(TokenKind::Number) {
@@ -63,7 +63,7 @@ impl Parser {
     }
 
     /// `arg { "," arg }`
-    pub fn args(&mut self, alloc: Global) -> Result<List<Arg>, Fault>
+    pub fn args(&mut self, alloc: Global) -> Result<List<Arg>, ParserFault>
         ensures { Reads (Use args) args_of (λ a. a) self.old self.new result }
     {
         let mut args = Vec::new(alloc);
@@ -76,7 +76,7 @@ impl Parser {
     }
 
     /// `colref | [ "-" ] number | literal`
-    fn arg(&mut self) -> Result<Arg, Fault>
+    fn arg(&mut self) -> Result<Arg, ParserFault>
         ensures { Reads (Use arg) arg_of (λ a. a) self.old self.new result }
     {
         if self.at_name() {
@@ -91,7 +91,7 @@ impl Parser {
     }
 
     /// `[ "-" ] number`
-    fn signed_number(&mut self) -> Result<(i64, Span), Fault>
+    fn signed_number(&mut self) -> Result<(i64, Span), ParserFault>
         ensures { Reads (optional (word Minus) ⨟ word Number) signed_number_of (λ n. n) self.old self.new result }
     {
         let from = self.start();

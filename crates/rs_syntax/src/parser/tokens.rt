@@ -10,7 +10,7 @@ ghost use Rattle.rs_syntax.specs.Reads.{Reads};
 ghost use Rattle.rs_syntax.specs.Trees.{span, is_there, kind_at, leaf, leaf_name, leaf_number, leaf_span, leaf_text};
 
 use crate::name::Name;
-use crate::parser::{Fault, Parser};
+use crate::parser::{Parser, ParserFault};
 use rs_grammar::{Lexeme, TokenKind};
 use rs_lex::Span;
 use rs_value::Text;
@@ -108,21 +108,21 @@ impl Parser {
     }
 
     /// Takes the next token, if it is one that may stand there.
-    pub fn take(&mut self, accepted: bool) -> Result<Lexeme, Fault>
+    pub fn take(&mut self, accepted: bool) -> Result<Lexeme, ParserFault>
         ensures reads { (kinds : List TokenKind) → accepted ≡ next_is kinds self.old.rest → Reads (One kinds) leaf (λ l. l) self.old self.new result }
         ensures in_range { IfOk result (λ l. IsNumber l.number) }
     {
         if !accepted {
-            return Err(Fault::Expected);
+            return Err(ParserFault::Expected);
         }
         let Some(next) = self.reversed.last() else {
-            return Err(Fault::Expected);
+            return Err(ParserFault::Expected);
         };
         let Some(left) = left_behind(next.kind, self.left) else {
-            return Err(Fault::TooDeep);
+            return Err(ParserFault::TooDeep);
         };
         let Some(lexeme) = self.reversed.pop() else {
-            return Err(Fault::Expected);
+            return Err(ParserFault::Expected);
         };
         self.left = left;
         self.last = lexeme.at.end;
@@ -130,7 +130,7 @@ impl Parser {
     }
 
     /// Takes a token of this kind, and says where it stands.
-    pub(crate) fn expect(&mut self, kind: TokenKind) -> Result<Span, Fault>
+    pub(crate) fn expect(&mut self, kind: TokenKind) -> Result<Span, ParserFault>
         ensures { Reads (word kind) leaf_span (λ at. at) self.old self.new result }
     {
         let accepted = self.at(kind);
@@ -139,7 +139,7 @@ impl Parser {
     }
 
     /// Takes a token of this kind if it stands there, and says whether it did.
-    pub(crate) fn accept(&mut self, kind: TokenKind) -> Result<bool, Fault>
+    pub(crate) fn accept(&mut self, kind: TokenKind) -> Result<bool, ParserFault>
         ensures { Reads (optional (word kind)) is_there (λ there. there) self.old self.new result }
     {
         if !self.at(kind) {
@@ -150,7 +150,7 @@ impl Parser {
     }
 
     /// Takes a token of one of these kinds.
-    pub(crate) fn any_of(&mut self, kinds: &[TokenKind]) -> Result<TokenKind, Fault>
+    pub(crate) fn any_of(&mut self, kinds: &[TokenKind]) -> Result<TokenKind, ParserFault>
         ensures { Reads (One kinds.now) kind_at (λ kind. kind) self.old self.new result }
     {
         let accepted = self.at_any(kinds);
@@ -158,7 +158,7 @@ impl Parser {
         Ok(lexeme.kind)
     }
 
-    pub fn name(&mut self) -> Result<Name, Fault>
+    pub fn name(&mut self) -> Result<Name, ParserFault>
         ensures { Reads name_part leaf_name (λ name. name) self.old self.new result }
     {
         let accepted = self.at_name();
@@ -167,7 +167,7 @@ impl Parser {
     }
 
     /// A name that is no function's.
-    pub(crate) fn plain_name(&mut self) -> Result<Name, Fault>
+    pub(crate) fn plain_name(&mut self) -> Result<Name, ParserFault>
         ensures { Reads (One plain_names) leaf_name (λ name. name) self.old self.new result }
     {
         let accepted = self.at_plain_name();
@@ -175,7 +175,7 @@ impl Parser {
         Ok(Name { text, at })
     }
 
-    pub fn number(&mut self) -> Result<(i64, Span), Fault>
+    pub fn number(&mut self) -> Result<(i64, Span), ParserFault>
         ensures reads { Reads (word Number) leaf_number (λ number. number) self.old self.new result }
         ensures in_range { IfOk result (λ number. IsNumber number.0) }
     {
@@ -184,7 +184,7 @@ impl Parser {
         Ok((lexeme.number, lexeme.at))
     }
 
-    pub fn literal(&mut self) -> Result<(Text, Span), Fault>
+    pub fn literal(&mut self) -> Result<(Text, Span), ParserFault>
         ensures { Reads (word Literal) leaf_text (λ text. text) self.old self.new result }
     {
         let accepted = self.at(TokenKind::Literal);

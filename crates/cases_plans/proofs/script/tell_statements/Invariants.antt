@@ -1,5 +1,5 @@
 use Rattle.rs_expr.specs.MemScorer.{answered_score}
-use Rattle.rs_catalog.specs.Held.{IndexesHold}
+use Rattle.rs_catalog.specs.IndexesHold.{IndexesHold}
 use Rattle.cases_plans.proofs.script.tell_statements.Given as goal
 
 -- all indexes hold the answers of the scorer

@@ -1,5 +1,5 @@
 use Rattle.rs_syntax.specs.Syntax.{command_of, query_of}
-use Rattle.rs_catalog.specs.Held.{IndexesHold}
+use Rattle.rs_catalog.specs.IndexesHold.{IndexesHold}
 use Rattle.rs_statement.specs.Parts.Session.{CanAllBeAsked, held_in, state_of}
 use Rattle.rs_events.specs.Events.{finds_in}
 use Rattle.rs_statement.specs.Session.{DoesInSession, close_outcome, declare_step, fetch_step}

@@ -1,7 +1,7 @@
 use Rattle.std.proofs.Common.{◌≡◌, refl, sym, subst, suc, ◌+◌, drop, arith}
 use Rattle.std.specs.Prelude.{Err, Ok}
 use Rattle.rs_syntax.specs.Syntax.{command_of, commands_of}
-use Rattle.rs_catalog.specs.Held.{IndexesHold}
+use Rattle.rs_catalog.specs.IndexesHold.{IndexesHold}
 use Rattle.rs_events.specs.Events.{finds_in}
 use Rattle.rs_statement.specs.Parts.Session.{CanAllBeAsked, cursors_of, held_in, state_of}
 use Rattle.rs_statement.specs.Session.{DoesInSession, nothing}

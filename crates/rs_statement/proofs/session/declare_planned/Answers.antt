@@ -9,7 +9,7 @@ use Rattle.rs_events.specs.Sequence.{still}
 use Rattle.rs_statement.specs.Session.{ByPlan, declared_query, opened_step, with_cursor}
 use Rattle.rs_statement.specs.declared.evaluating.Evaluating.TheVariants.{Planned}
 use Rattle.rs_statement.specs.declared.fault.Fault.TheVariants.{Memory}
-use Rattle.rs_statement.specs.declared.session.Held.TheVariants as held
+use Rattle.rs_statement.specs.declared.session.CursorRows.TheVariants as held
 use Rattle.rs_statement.proofs.SessionFacts.{asked-append}
 use Rattle.rs_statement.proofs.SessionSteps.{Opened-cut, Opened-planned, opened-planned}
 use Rattle.rs_events.proofs.SoFar.{Stepped-broken}

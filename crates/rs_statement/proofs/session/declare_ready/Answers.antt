@@ -11,7 +11,7 @@ use Rattle.rs_statement.specs.Session.{Ready, declared_query, opened_step, ready
 use Rattle.rs_statement.specs.Statements.{query_fault}
 use Rattle.rs_statement.specs.declared.evaluating.Evaluating.TheVariants.{Plainly}
 use Rattle.rs_statement.specs.declared.fault.Fault.TheVariants.{Memory}
-use Rattle.rs_statement.specs.declared.session.Held.TheVariants as held
+use Rattle.rs_statement.specs.declared.session.CursorRows.TheVariants as held
 use Rattle.rs_events.proofs.InquirySteps.{Stepped-asked, Stepped-unasked}
 use Rattle.rs_statement.proofs.QuerySteps.{Probes-questions}
 use Rattle.rs_events.proofs.RanFacts.{HasDone-none, Ran-all, Ran-first}

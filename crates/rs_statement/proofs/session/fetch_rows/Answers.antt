@@ -6,7 +6,7 @@ use Rattle.rs_statement.specs.Parts.Session.{IsAskedMore, asked_of, next_of, nex
 use Rattle.rs_statement.specs.Parts.Steps.{Ran, Stepped}
 use Rattle.rs_events.specs.Run.{lines_run}
 use Rattle.rs_statement.specs.Session.{ByPlan, next_rows}
-use Rattle.rs_statement.specs.declared.session.Held.TheVariants as held
+use Rattle.rs_statement.specs.declared.session.CursorRows.TheVariants as held
 use Rattle.rs_statement.proofs.SessionSteps.{if-ok-map}
 use Rattle.rs_events.proofs.SteppedFacts.{Stepped-lines}
 use Rattle.rs_statement.proofs.session.fetch_rows.Goals as goal

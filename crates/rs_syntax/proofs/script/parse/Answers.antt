@@ -5,7 +5,7 @@ use Rattle.rs_syntax.specs.Reads.{Halts, Found}
 use Rattle.rs_syntax.specs.Scripts.{Refuses, lexemes_of}
 use Rattle.rs_syntax.specs.Statements.{script_of}
 use Rattle.rs_syntax.specs.Syntax.{commands_of}
-use Rattle.rs_syntax.specs.declared.parser.Fault.TheVariants.{Expected, TooDeep}
+use Rattle.rs_syntax.specs.declared.parser.ParserFault.TheVariants.{Expected, TooDeep}
 use Rattle.rs_syntax.proofs.Numbers.{AreNumbers-lexemes, AreNumbers-take}
 use Rattle.rs_syntax.proofs.ScriptFacts.{Given, Given-made, begin, begin-made, rest_of, none-behind, some-behind, Refuses-one, IsSound-not_refused, Halts-refused, Halts-too_deep, Read-refused, Read-too_many_refused, Read-parses, Read-sound, Read-one}
 use Rattle.rs_grammar.proofs.LexemeFacts.{IsFront-whole}

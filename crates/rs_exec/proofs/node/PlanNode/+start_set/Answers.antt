@@ -7,7 +7,7 @@ use Rattle.rs_plan.specs.Trees.{Rank, SetOperator}
 use Rattle.rs_plan.specs.declared.plan.Plan.{Plan}
 use Rattle.rs_exec.proofs.BlockFacts.{light-terms}
 use Rattle.rs_exec.proofs.SetPlanFacts.{set-numbers}
-use Rattle.rs_exec.proofs.node.Node.+start_set.Goals as goal
+use Rattle.rs_exec.proofs.node.PlanNode.+start_set.Goals as goal
 
 pub signature-requires : goal.signature-requires
 signature-requires t c =

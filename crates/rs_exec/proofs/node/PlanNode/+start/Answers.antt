@@ -20,11 +20,11 @@ use Rattle.rs_exec.specs.Cores.{new_join_core}
 use Rattle.rs_exec.specs.Joining.{side_for}
 use Rattle.rs_exec.specs.Starting.{IsJoinOver, IsStart, no_tally}
 use Rattle.rs_exec.specs.declared.join.JoinNode.{JoinNode}
-use Rattle.rs_exec.specs.declared.node.Node.{Node}
-use Rattle.rs_exec.specs.declared.node.Node.TheVariants as node
+use Rattle.rs_exec.specs.declared.node.PlanNode.{PlanNode}
+use Rattle.rs_exec.specs.declared.node.PlanNode.TheVariants as node
 use Rattle.rs_exec.proofs.BlockFacts.{light-terms}
 use Rattle.rs_exec.proofs.PartMaskFacts.{can-join}
-use Rattle.rs_exec.proofs.node.Node.+start.Goals as goal
+use Rattle.rs_exec.proofs.node.PlanNode.+start.Goals as goal
 
 -- what is a part of a plan of a block has the numbers of entries and terms
 numbers : (catalogue : CatalogDef) (block : Block) (tree : PlanTree) → IsBlock catalogue block → IsPart catalogue block tree → HasNumbers tree
@@ -85,7 +85,7 @@ new-core-requires t c =
     c.requires.block part.0 part.1 part.2 c.weights-weights.ensures.limits))
 
 -- a join over the nodes of its sides
-join-start : (catalogue : CatalogDef) (block : Block) (number : ℕ) (kind : JoinKind) (left right : PlanTree) (head : JoinNode) (on_left on_right all : Node) → IsJoinOver head on_left on_right all
+join-start : (catalogue : CatalogDef) (block : Block) (number : ℕ) (kind : JoinKind) (left right : PlanTree) (head : JoinNode) (on_left on_right all : PlanNode) → IsJoinOver head on_left on_right all
     → head ≡ record {
       core = new_join_core kind (weights_of block) (side_for left) (side_for right);
       block = number;
@@ -112,5 +112,5 @@ returns-in_ok-on_right-in-HashJoin t c =
     (join-start catalogue block c.args.number join.kind l r c.new-head-in-HashJoin.result c.in_ok-on_left-in-HashJoin.on_left.value c.in_ok-on_right-in-HashJoin.on_right.value
     c.join_over.result c.join_over.ensures
     (c.new-head-in-HashJoin.ensures ∙ (λ i. record { core = core i; block = c.args.number; conditions = conditions i; cells = tt; tally = no_tally }))
-    (subst₂ (λ (plan : Plan) (n : Node). IsStart catalogue block c.args.number (tree_of plan) n) c.deref-in-HashJoin-3.ensures (sym c.in_ok-on_left-in-HashJoin.ensures) c.in_ok-start-in-HashJoin.ensures)
-    (subst₂ (λ (plan : Plan) (n : Node). IsStart catalogue block c.args.number (tree_of plan) n) c.deref-in-HashJoin-4.ensures (sym c.in_ok-on_right-in-HashJoin.ensures) c.in_ok-start-in-HashJoin-2.ensures))
+    (subst₂ (λ (plan : Plan) (n : PlanNode). IsStart catalogue block c.args.number (tree_of plan) n) c.deref-in-HashJoin-3.ensures (sym c.in_ok-on_left-in-HashJoin.ensures) c.in_ok-start-in-HashJoin.ensures)
+    (subst₂ (λ (plan : Plan) (n : PlanNode). IsStart catalogue block c.args.number (tree_of plan) n) c.deref-in-HashJoin-4.ensures (sym c.in_ok-on_right-in-HashJoin.ensures) c.in_ok-start-in-HashJoin-2.ensures))
