@@ -66,7 +66,7 @@ asked_text-told-requires g c =
       query = c.in_ok-query.ensures.formed;
       cards = c.in-Ok.ensures.own;
       plan = c.in-Ok-choose_plan.ensures.plan;
-      held = rw (c.scorer-told.ensures.value, g.met.W.Outside.after_scorer, sampled.ran.keeps.scorer.answer) c.requires.held;
+      held = rw (c.scorer-2.ensures.value, g.met.W.Outside.after_scorer, sampled.ran.keeps.scorer.answer) c.requires.held;
     }
 
 -- what was asked and told, over the answers that the scorer had at first and by the plan of the query
@@ -86,7 +86,7 @@ returns-in_err-text g c =
     (Gives-bound _ _ c.in_ok-query.ensures.gives) old new (Err fault) middle sampled
     (Stepped-broken (silent (planned_step (world_of catalogue answer query) (plan_for answer catalogue c.args.seed query))) (analyzed_lines answer catalogue c.args.seed query) fault catalogue catalogue middle new
     (same-asks catalogue query answer middle.scorer.answer (plan_for answer catalogue c.args.seed query) (tree_of c.in-Ok-choose_plan.plan) (Err fault) middle new
-    sampled.ran.keeps.scorer.answer tree (rw (c.scorer-told.ensures.value, g.met.W.Outside.after_scorer) at c.in_err-text.ensures.asks old))))
+    sampled.ran.keeps.scorer.answer tree (rw (c.scorer-2.ensures.value, g.met.W.Outside.after_scorer) at c.in_err-text.ensures.asks old))))
 
 pub returns : goal.returns
 returns g c =
@@ -108,7 +108,7 @@ returns g c =
     let tree = c.in-Ok-choose_plan.ensures.tree cards alike in
     let counts : List Counts = counts_of_plan (world_of catalogue here query) own (asks_in_all (world_of catalogue here query) own) in
     let text : c.deref.result.now ≡ text_of catalogue query cards plan (Some (counts_of_plan w plan (asks_in_all w plan))) =
-    c.deref.ensures.value ∙ (rw (c.scorer-told.ensures.value, g.met.W.Outside.after_scorer) at c.in_ok-text.ensures.text)
+    c.deref.ensures.value ∙ (rw (c.scorer-2.ensures.value, g.met.W.Outside.after_scorer) at c.in_ok-text.ensures.text)
     ∙ c.cards_decide_the_text.ensures catalogue query (cards_of c.in-Ok.cards) cards own (Some counts) c.in_ok-query.ensures.formed c.in-Ok.ensures.own
     alike c.in-Ok-choose_plan.ensures.plan
     ∙ ap (λ a. text_of catalogue query cards own (Some (counts_of_plan (world_of catalogue a query) own (asks_in_all (world_of catalogue a query) own)))) same
@@ -117,6 +117,6 @@ returns g c =
     Sampled-then catalogue c.args.seed (analyzing answer catalogue c.args.seed) (or_bind_fault (bound_query catalogue (query_of c.args.select.now))) query
     (Gives-bound _ _ c.in_ok-query.ensures.gives) old new c.put_text.result middle sampled
     (Stepped-then (silent (planned_step w plan)) (analyzed_lines answer catalogue c.args.seed query) catalogue catalogue c.put_text.result middle asked new
-    (same-asks catalogue query answer here plan own (Ok tt) middle asked same tree (rw (c.scorer-told.ensures.value, g.met.W.Outside.after_scorer) at c.in_ok-text.ensures.asks old))
+    (same-asks catalogue query answer here plan own (Ok tt) middle asked same tree (rw (c.scorer-2.ensures.value, g.met.W.Outside.after_scorer) at c.in_ok-text.ensures.asks old))
     (Stepped-lines (text_of catalogue query cards plan (Some (counts_of_plan w plan (asks_in_all w plan))) ∷ []) catalogue c.put_text.result asked new
     (subst (λ t. Ran (lines_run (t ∷ [])) c.put_text.result asked new) text (rw (c.out.ensures.value, g.met.W.Outside.after_scorer) at c.put_text.ensures asked)))))
