@@ -81,7 +81,7 @@ returns-in_err-text g c =
     let new = record old { scorer = g.W.Scorer.Scorer.state c.asked_text-told.new.scorer } in
     let sampled = rw c.scorer.ensures.value at c.in-Ok.ensures.calls old in
     let tree = c.in-Ok-choose_plan.ensures.tree (cards_for answer catalogue c.args.seed query) (rw c.scorer.ensures.value at c.in-Ok.ensures.cards) in
-    rw (given-err c.from_residual-in_err-text.result fault c.from_residual-in_err-text.ensures, g.met.W.Outside.after_scorer) (
+    rw (given-err c.from_residual-in_err-text.result fault c.from_residual-in_err-text.ensures, g.met.W.Outside.after_scorer, g.met.W.Outside.after_scorer) (
     Sampled-then catalogue c.args.seed (analyzing answer catalogue c.args.seed) (or_bind_fault (bound_query catalogue (query_of c.args.select.now))) query
     (Gives-bound _ _ c.in_ok-query.ensures.gives) old new (Err fault) middle sampled
     (Stepped-broken (silent (planned_step (world_of catalogue answer query) (plan_for answer catalogue c.args.seed query))) (analyzed_lines answer catalogue c.args.seed query) fault catalogue catalogue middle new
@@ -113,10 +113,10 @@ returns g c =
     alike c.in-Ok-choose_plan.ensures.plan
     ∙ ap (λ a. text_of catalogue query cards own (Some (counts_of_plan (world_of catalogue a query) own (asks_in_all (world_of catalogue a query) own)))) same
     ∙ ap (λ t. text_of catalogue query cards t (Some (counts_of_plan w t (asks_in_all w t)))) tree in
-    rw (g.met.W.Outside.after_out, g.met.W.Outside.after_scorer) (
+    rw (g.met.W.Outside.after_out, g.met.W.Outside.after_scorer, g.met.W.Outside.after_scorer) (
     Sampled-then catalogue c.args.seed (analyzing answer catalogue c.args.seed) (or_bind_fault (bound_query catalogue (query_of c.args.select.now))) query
     (Gives-bound _ _ c.in_ok-query.ensures.gives) old new c.put_text.result middle sampled
     (Stepped-then (silent (planned_step w plan)) (analyzed_lines answer catalogue c.args.seed query) catalogue catalogue c.put_text.result middle asked new
     (same-asks catalogue query answer here plan own (Ok tt) middle asked same tree (rw (c.scorer-2.ensures.value, g.met.W.Outside.after_scorer) at c.in_ok-text.ensures.asks old))
     (Stepped-lines (text_of catalogue query cards plan (Some (counts_of_plan w plan (asks_in_all w plan))) ∷ []) catalogue c.put_text.result asked new
-    (subst (λ t. Ran (lines_run (t ∷ [])) c.put_text.result asked new) text (rw (c.out.ensures.value, g.met.W.Outside.after_scorer) at c.put_text.ensures asked)))))
+    (subst (λ t. Ran (lines_run (t ∷ [])) c.put_text.result asked new) text (rw (c.out.ensures.value, g.met.W.Outside.after_scorer, g.met.W.Outside.after_scorer) at c.put_text.ensures asked)))))
