@@ -8,7 +8,7 @@ use Rattle.rs_lex.specs.Spelling.{Spells, most_tokens}
 use Rattle.rs_lex.specs.declared.fault.LexFault.{LexFault}
 use Rattle.rs_lex.specs.declared.fault.LexFault.TheVariants as lex
 use Rattle.rs_lex.specs.declared.token.Token.{Token}
-use Rattle.rs_expr.specs.Scoring.{Answering}
+use Rattle.rs_expr.specs.Scoring.{Answering, ScorerState}
 use Rattle.rs_syntax.specs.Scripts.{IsSound, Parses, Refuses}
 use Rattle.rs_syntax.specs.Syntax.{Command}
 use Rattle.rs_syntax.specs.declared.fault.SyntaxFault.{SyntaxFault}
@@ -30,7 +30,7 @@ use Rattle.rs_statement.specs.Session.{DoesInSession, State, StatementsRun, noth
 use Rattle.rs_run.specs.Words.{RunScript}
 use Rattle.rs_events.specs.Environment.{Environment}
 use Rattle.rs_events.proofs.FetchFacts.{Ran-unfetched, fetched-ok}
-use Rattle.rs_events.proofs.RanFacts.{HasDone-none, Ran-all, Ran-behind, Ran-first}
+use Rattle.rs_events.proofs.RanFacts.{HasDone-none, Ran-all, Ran-behind, Ran-first, Runs-apart}
 use Rattle.rs_statement.proofs.StatementFacts.{DoesInSession-finds, finds-after}
 use Rattle.rs_run.proofs.EachFacts.{each_script, finds_in-has}
 
@@ -158,3 +158,10 @@ module _ (answer : Answering) (evaluating : Evaluating) (name : List ℕ) (envir
             script text.run text.is);
         ran = Ran-behind (Fetch name ∷ []) text.run result environment (record environment { files = files }) new source.has text.ran;
       }
+
+-- a run told of a caller's own objects, which are those that it left, beside a standard error of its own
+pub Runs-of : (of : Run → Type 0) (result : Result (Unit {0}) Fault) (old new beside : Environment) (files : Outside FilesTold) (scorer : ScorerState) (out : Outside (List (List ℕ)))
+    → files ≡ new.files → scorer ≡ new.scorer → out ≡ new.out → Runs of result old new
+    → Runs of result (record beside { files = old.files; scorer = old.scorer; out = old.out }) (record beside { files = files; scorer = scorer; out = out })
+Runs-of of result old new beside files scorer out same_files same_scorer same_out ran =
+    rw (same_files, same_scorer, same_out) (Runs-apart of result old new beside.err beside.references ran)
