@@ -7,13 +7,14 @@ ghost use Rattle.rs_syntax.specs.Written.{AreWritten, IsWritten};
 
 use crate::queries::{tell_combinations, tell_plain};
 use crate::show::{show_count, show_index, show_predicate, show_query, show_table};
-use cases_lines::{Fault, cut_word, number_of, text_of};
+use cases_lines::{Fault, count_of, cut_word, number_of, text_of};
 use cases_scripts::{make, statements_of};
 use rs_bind::{bind, bind_count, bind_index, bind_predicate, bind_table};
 use rs_catalog::Catalog;
 use rs_query::Query;
 use rs_syntax::Statement;
 use std::alloc::Global;
+use std::hash::RandomState;
 
 /// Binds the only statement of a script, and tells what came of it.
 pub fn tell_bound(alloc: Global, catalog: &Catalog, script: &[u8]) -> Result<String, Fault> {
@@ -23,10 +24,15 @@ pub fn tell_bound(alloc: Global, catalog: &Catalog, script: &[u8]) -> Result<Str
     told
 }
 
-/// The same, and the statement joins the catalogue.
-pub fn tell_joined(alloc: Global, catalog: &mut Catalog, script: &[u8]) -> Result<String, Fault> {
+/// The same, and the statement joins the catalogue. Texts of its table are hashed by the keys.
+pub fn tell_joined(
+    alloc: Global,
+    hash_keys: RandomState,
+    catalog: &mut Catalog,
+    script: &[u8],
+) -> Result<String, Fault> {
     let statements = statements_of(alloc, &text_of(alloc, script)?)?;
-    let told = make_statement(alloc, catalog, &statements);
+    let told = make_statement(alloc, hash_keys, catalog, &statements);
     drop(statements);
     told
 }
@@ -34,8 +40,8 @@ pub fn tell_joined(alloc: Global, catalog: &mut Catalog, script: &[u8]) -> Resul
 /// What is asked of a query.
 #[derive(Clone, Copy)]
 pub enum Asked {
-    /// Its combinations of rows.
-    Rows,
+    /// Its combinations that have a row behind the first so many of its table. Behind none is every row.
+    Rows(u32),
     /// Its answers, where the call of this number fails, counted from 1.
     Answers(u64),
 }
@@ -44,6 +50,12 @@ pub enum Asked {
 pub fn tell_failing(alloc: Global, catalog: &Catalog, words: &[u8]) -> Result<String, Fault> {
     let (number, script) = cut_word(words);
     tell_query(alloc, catalog, Asked::Answers(number_of(number)?), script)
+}
+
+/// The combinations of a query that have a row behind the first so many of its table: `NUMBER QUERY`.
+pub fn tell_fresh(alloc: Global, catalog: &Catalog, words: &[u8]) -> Result<String, Fault> {
+    let (number, script) = cut_word(words);
+    tell_query(alloc, catalog, Asked::Rows(count_of(number)?), script)
 }
 
 /// Binds the query that is the only statement of a script, and tells what is asked of it.
@@ -68,7 +80,7 @@ fn tell_asked(
     requires { IsQuery catalog.now query.now }
 {
     match asked {
-        Asked::Rows => tell_combinations(alloc, catalog, query),
+        Asked::Rows(old) => tell_combinations(alloc, catalog, query, old),
         Asked::Answers(failing) => tell_plain(alloc, catalog, query, failing),
     }
 }
@@ -116,6 +128,7 @@ fn tell_statement(
 
 fn make_statement(
     alloc: Global,
+    hash_keys: RandomState,
     catalog: &mut Catalog,
     statements: &[Statement],
 ) -> Result<String, Fault>
@@ -125,7 +138,7 @@ fn make_statement(
     if statements.len() != 1 {
         return Err(Fault::Form);
     }
-    make(alloc, catalog, &statements[0])?;
+    make(alloc, hash_keys, catalog, &statements[0])?;
     Ok(told)
 }
 

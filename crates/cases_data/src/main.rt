@@ -42,7 +42,8 @@
 //! - `make STATEMENT`: it is bound, and the table or predicate joins a catalogue of its own, which `new` leaves as it is. The
 //!   statements and queries of the lines behind it are of this catalogue. The text behind FROM is not the name of a table's
 //!   file here, but what is in the file.
-//! - `rows QUERY`: the combinations of rows of a query of one block.
+//! - `rows QUERY`: the combinations of rows of a query of one block. `fresh N QUERY`: those that have a row behind the first N
+//!   of its table.
 //! - `plain QUERY`: its answers or the fault that stops it, and the calls of the scorer. An answer is its block, its mask,
 //!   its rows, its score and its values. `failing N QUERY`: the same, where the Nth call fails.
 //! - a comment that begins with `#`, or nothing.
@@ -72,6 +73,7 @@ use line::Data;
 use ranks::laws_hold_of_rows;
 use rs_bind::{queries_are_typed_by_rules, statements_are_typed_by_rules};
 use rs_typing::expressions_are_typed_by_rules;
+use std::hash::RandomState;
 use std::process::ExitCode;
 
 fn main(rt: HostRuntime) -> ExitCode {
@@ -82,5 +84,8 @@ fn main(rt: HostRuntime) -> ExitCode {
     expressions_are_typed_by_rules();
     queries_are_typed_by_rules();
     statements_are_typed_by_rules();
-    answer_lines(&rt, &mut Data::new(rt.alloc()))
+    match RandomState::new(&rt) {
+        Ok(hash_keys) => answer_lines(&rt, &mut Data::new(rt.alloc(), hash_keys)),
+        Err(_) => ExitCode::FAILURE,
+    }
 }

@@ -16,21 +16,33 @@ use cases_lines::Fault;
 use cases_scripts::{bind_fault, make};
 use rs_bind::bind_index;
 use rs_catalog::{Catalog, IndexDef, IndexFault, What};
+use rs_enum::Grid;
 use rs_expr::{Call, MemScorer};
 use rs_syntax::Statement;
 use std::alloc::Global;
+use std::hash::RandomState;
 
 /// Makes what the statements say, up to the first query, and tells what is asked of that one.
 pub fn tell_script(
     alloc: Global,
+    hash_keys: RandomState,
     statements: &[Statement],
     asked: &Asked,
     scorer: &mut MemScorer,
+    grid: &mut Grid,
 ) -> Result<String, Fault>
     requires { AreWritten (commands_of statements.now) }
 {
     let mut catalog = Catalog::new(alloc);
-    let told = tell_statements(alloc, statements, asked, &mut catalog, scorer);
+    let told = tell_statements(
+        alloc,
+        hash_keys,
+        statements,
+        asked,
+        &mut catalog,
+        scorer,
+        grid,
+    );
     drop(catalog);
     told
 }
@@ -38,19 +50,21 @@ pub fn tell_script(
 /// Adds to a catalogue what the statements make, up to the first query, and tells what is asked of that one.
 fn tell_statements(
     alloc: Global,
+    hash_keys: RandomState,
     statements: &[Statement],
     asked: &Asked,
     catalog: &mut Catalog,
     scorer: &mut MemScorer,
+    grid: &mut Grid,
 ) -> Result<String, Fault>
     requires written { AreWritten (commands_of statements.now) }
     requires held { IndexesHold (answered_score scorer.old) catalog.old }
 {
     for statement in statements {
         if let Statement::Query(select) = statement {
-            return tell_query(alloc, catalog, select, asked, scorer);
+            return tell_query(alloc, catalog, select, asked, scorer, grid);
         }
-        if let Some(fault) = join(alloc, catalog, statement, scorer)? {
+        if let Some(fault) = join(alloc, hash_keys, catalog, statement, scorer)? {
             return tell_index_fault(alloc, fault, scorer.calls());
         }
     }
@@ -60,6 +74,7 @@ fn tell_statements(
 /// Makes the table, the predicate or the index of a statement. Where the index can't be made, it answers why.
 fn join(
     alloc: Global,
+    hash_keys: RandomState,
     catalog: &mut Catalog,
     statement: &Statement,
     scorer: &mut MemScorer,
@@ -71,7 +86,7 @@ fn join(
     match statement {
         Statement::CreateRankIndex { .. } => make_index(alloc, catalog, statement, scorer),
         _ => {
-            make(alloc, catalog, statement)?;
+            make(alloc, hash_keys, catalog, statement)?;
             Ok(None)
         }
     }

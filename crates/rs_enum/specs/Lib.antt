@@ -2,8 +2,11 @@ pub mod AllPlans
 pub mod Bounds
 pub mod Candidates
 pub mod Costs
+pub mod Firsts
 pub mod Given
+pub mod Grids
 pub mod Least
+pub mod LeastCosts
 pub mod Made
 pub mod Places
 pub mod QueryCards

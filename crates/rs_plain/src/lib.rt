@@ -6,7 +6,9 @@
 mod answer;
 mod fault;
 mod laws;
+mod outputs;
 mod rows;
+mod scored;
 mod sets;
 
 pub use answer::answer_plainly;

@@ -1,22 +1,25 @@
-ghost use Rattle.std.specs.Prelude.{◌≡◌, map};
-ghost use Rattle.std.specs.List.{AllByRecursion, flat_map};
+//! The rows of queries that compare rows by their output values. So these are made of all combinations, before the order and
+//! the limit.
+
+ghost use Rattle.std.specs.Prelude.{map};
 ghost use Rattle.rs_expr.specs.InOrder.{Inquires};
-ghost use Rattle.rs_query.specs.Answers.{base_of, answer_row, rows_of, score_of};
+ghost use Rattle.rs_query.specs.Answers.{answer_row, base_of, rows_of};
 ghost use Rattle.rs_query.specs.Combinations.{all_combinations};
 ghost use Rattle.rs_query.specs.Questions.{asking};
-ghost use Rattle.rs_query.specs.Tables.{HasRows, all_entries, sizes_of};
+ghost use Rattle.rs_query.specs.Tables.{sizes_of};
 ghost use Rattle.rs_query.specs.Views.{all_rows};
 ghost use Rattle.rs_query.specs.WellFormed.{IsBlock, IsQuery};
-ghost use Rattle.rs_plain.specs.Plain.{block_questions, plain_faults, questions_of, row_questions};
+ghost use Rattle.rs_plain.specs.Plain.{block_questions, plain_faults, questions_of};
 ghost use Rattle.rs_plain.specs.Results.{as_list};
 
 use crate::fault::PlainFault;
+use crate::outputs::block_answers;
+use crate::scored::scored_block;
 use crate::sets::{first_rows, set_rows};
 use rs_catalog::Catalog;
 use rs_expr::Scorer;
-use rs_query::{Block, KeptList, Query};
-use rs_rank::{Answer, Ids};
-use rs_value::List;
+use rs_query::{Block, Query};
+use rs_rank::Answer;
 use std::alloc::Global;
 
 /// The rows of a query, each with its score, before they are put into order.
@@ -77,86 +80,6 @@ fn block_rows<S: Scorer>(
         (map (answer_row (S.state scorer.old).answer catalog.now block.now number) (all_combinations catalog.now block.now)))
         (as_list result) (S.state scorer.old) (S.state scorer.new) }
 {
-    let combinations = block.combinations(alloc, catalog)?;
-    scored_rows(alloc, catalog, block, number, &combinations, scorer)
-}
-
-/// Some combinations of a block of this number, each with its score and its output values.
-fn scored_rows<S: Scorer>(
-    alloc: Global,
-    catalog: &Catalog,
-    block: &Block,
-    number: u8,
-    combinations: &[[u32; 6]],
-    scorer: &mut S,
-) -> Result<Vec<Answer>, PlainFault>
-    requires block { IsBlock catalog.now block.now }
-    requires rows { AllByRecursion (HasRows catalog.now block.now (all_entries block.now)) combinations.now }
-    ensures { Inquires PlainFault.Memory
-        (asking plain_faults (S.state scorer.old).answer catalog.now (flat_map (row_questions number block.now) combinations.now)
-        (map (answer_row (S.state scorer.old).answer catalog.now block.now number) combinations.now))
-        (as_list result) (S.state scorer.old) (S.state scorer.new) }
-{
-    let mut answers = Vec::new(alloc);
-    let mut args = KeptList::new(alloc);
-    for rows in combinations {
-        let ids = Ids {
-            block: number,
-            mask: block.all_entries(),
-            rows: *rows,
-        };
-        let answer = row_for(alloc, catalog, block, &ids, &mut args, scorer)?;
-        answers.push(answer)?;
-    }
-    Ok(answers)
-}
-
-/// A combination of all entries as a row of the answer.
-fn row_for<S: Scorer>(
-    alloc: Global,
-    catalog: &Catalog,
-    block: &Block,
-    ids: &Ids,
-    args: &mut KeptList,
-    scorer: &mut S,
-) -> Result<Answer, PlainFault>
-    requires block { IsBlock catalog.now block.now }
-    requires all { ids.now.mask ≡ all_entries block.now }
-    requires rows { HasRows catalog.now block.now (all_entries block.now) ids.now.rows }
-    ensures { Inquires PlainFault.Memory
-        (asking plain_faults (S.state scorer.old).answer catalog.now (row_questions ids.now.block block.now ids.now.rows)
-        (answer_row (S.state scorer.old).answer catalog.now block.now ids.now.block ids.now.rows))
-        result (S.state scorer.old) (S.state scorer.new) }
-{
-    let score = score_for(catalog, block, ids, args, scorer)?;
-    let values = block.outputs(alloc, catalog, ids)?;
-    Ok(Answer {
-        ids: *ids,
-        score,
-        values: List::of(values),
-    })
-}
-
-/// The score of a combination of all entries: the sum of weight times worth over the terms, which are asked in order.
-fn score_for<S: Scorer>(
-    catalog: &Catalog,
-    block: &Block,
-    ids: &Ids,
-    args: &mut KeptList,
-    scorer: &mut S,
-) -> Result<u64, PlainFault>
-    requires block { IsBlock catalog.now block.now }
-    requires all { ids.now.mask ≡ all_entries block.now }
-    requires rows { HasRows catalog.now block.now (all_entries block.now) ids.now.rows }
-    ensures { Inquires PlainFault.Memory
-        (asking plain_faults (S.state scorer.old).answer catalog.now (row_questions ids.now.block block.now ids.now.rows)
-        (score_of (S.state scorer.old).answer catalog.now block.now ids.now.rows block.now.terms))
-        result (S.state scorer.old) (S.state scorer.new) }
-{
-    let mut score = 0;
-    for (index, term) in block.terms.items().iter().enumerate() {
-        let worth = block.ask(catalog, index as u8 + 1, ids, args, scorer)?;
-        score += u64::from(term.weight) * u64::from(worth);
-    }
-    Ok(score)
+    let scored = scored_block(alloc, catalog, block, number, scorer)?;
+    Ok(block_answers(alloc, catalog, block, &scored)?)
 }

@@ -1,11 +1,11 @@
 -- There are few choices among the samples of a block.
-use Rattle.std.proofs.Common.{ℕ, zero, suc, ◌≡◌, ◌∙◌, ◌-◌, ◌/◌, ◌%◌, ◌^◌, ◌<◌, ◌≤◌, Bool, true, false, cond, eqb, List, [], ◌∷◌, length, map, refl, ap, arith}
+use Rattle.std.proofs.Common.{ℕ, zero, suc, ◌≡◌, ◌∙◌, ◌-◌, ◌/◌, ◌%◌, ◌^◌, ◌<◌, ◌≤◌, Bool, true, false, cond, eqb, List, [], ◌∷◌, length, map, refl, ap, arith, pow_mono}
 use Rattle.std.specs.Int.Bits.{bit_and}
 use Rattle.std.specs.List.{AllByRecursion}
 use Rattle.std.proofs.lemmas.Bool.{eqb-true}
 use Rattle.std.proofs.lemmas.Nat.{and_le_r, mul-le}
 use Rattle.std.proofs.Math.Nat.{pow-suc, pow-zero}
-use Rattle.rs_order.proofs.EachFacts.{each-weaker}
+use Rattle.rs_order.proofs.EachFacts.{each-map, each-weaker}
 use Rattle.rs_catalog.specs.Catalog.{CatalogDef}
 use Rattle.rs_query.specs.Meaning.{is_inside}
 use Rattle.rs_query.specs.Tables.{all_entries}
@@ -101,6 +101,11 @@ module _ (n : ℕ) (sizes : List ℕ) (samples : List (List ℕ)) (some : 1 ≤ 
   pub samples-small : AllByRecursion (λ (sample : List ℕ). length sample ≤ 256) samples
   samples-small = small (most_sampled n) samples sizes (most-few n some few) are
 
+  pub sampled-wide : AllByRecursion (λ size. size ≤ 131072) (map length samples)
+  sampled-wide =
+      each-map (λ size. size ≤ 131072) length samples
+      (each-weaker (λ (sample : List ℕ). length sample ≤ 256) (λ (sample : List ℕ). length sample ≤ 131072) (λ sample few. omega arith) samples samples-small)
+
 -- as many combinations of a mask as there are at most in the tables
 pub product-less : (most mask : ℕ) (sizes : List ℕ) (samples : List (List ℕ)) → AreSamples most sizes samples → product_inside mask (map length samples) ≤ product_inside mask sizes
 product-less most mask [] [] are = omega arith
@@ -129,3 +134,7 @@ pub terms-less : (catalogue : CatalogDef) (block : Block) → IsBlock catalogue 
 terms-less catalogue block formed =
     each-weaker (λ (t : Term). is_inside t.entries (all_entries block) ≡ true) (λ (t : Term). t.entries < 2 ^ length block.from)
     (λ t is. inside-less (length block.from) t.entries is) block.terms (terms-inside catalogue block formed)
+
+-- a mask of the entries of a block is a small number
+pub mask-small : (entries mask : ℕ) → entries ≤ 6 → mask < 2 ^ entries → mask < 64
+mask-small entries mask few below = let most : 2 ^ entries ≤ 2 ^ 6 = pow_mono few in omega arith

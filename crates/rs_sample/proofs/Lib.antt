@@ -6,6 +6,7 @@ mod ChoiceFacts
 mod CountFacts
 mod DrawFacts
 mod EachFacts
+mod EarlyFacts
 mod EstimateFacts
 mod FewFacts
 mod FindFacts
@@ -20,5 +21,6 @@ mod QuotientFacts
 mod ReachFacts
 mod SixFacts
 mod TakeFacts
+mod TruthFacts
 mod WorkedCards
 mod WorkedSamples

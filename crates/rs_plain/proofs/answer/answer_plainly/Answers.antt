@@ -2,11 +2,11 @@ use Rattle.std.proofs.Common.{List, ◌∙◌, [], refl, sym, ap, append-nil}
 use Rattle.rs_rank.specs.Stable.{stable}
 use Rattle.rs_rank.specs.declared.answer.Answer.{Answer}
 use Rattle.rs_expr.specs.Scoring.{Answering}
-use Rattle.rs_query.specs.Answers.{cut, rows_of}
+use Rattle.rs_query.specs.Answers.{answer_of, cut, rows_of}
 use Rattle.rs_query.specs.Views.{all_rows}
 use Rattle.rs_plain.specs.Plain.{plain_faults, questions_of}
 use Rattle.rs_plain.specs.declared.fault.PlainFault.TheVariants.{Memory}
-use Rattle.rs_plain.proofs.NameFacts.{named-err, named-memory}
+use Rattle.rs_plain.proofs.NameFacts.{named-any, named-err, named-memory}
 use Rattle.rs_query.proofs.QuestionFacts.{AllAsked-none, Ended-behind, Gave-ok, Failed-behind, Stopped-behind}
 use Rattle.rs_value.proofs.ResultFacts.{given-err}
 use Rattle.rs_plain.proofs.RowFacts.{given-items}
@@ -54,3 +54,10 @@ returns-clause-evaluates g c =
     Ended-behind plain_faults Memory c.args.catalog.now {A = List Answer} questions questions _ c.cut.new.rows.items old new refl
     (c.cut.ensures ∙ ap (cut c.limit_of.result) (c.in_ok-sort_stably.ensures.ok ∙ ap (stable (λ (row : Answer). row.score)) gave.is_value)
     ∙ ap (λ limit. cut limit (stable (λ (row : Answer). row.score) rows)) c.limit_of.ensures) gave.asked
+
+pub returns-then-keeps_duplicates-clause-names : goal.returns-then-keeps_duplicates-clause-names
+returns-then-keeps_duplicates-clause-names g c =
+    let view = all_rows c.args.catalog.now c.args.query.now in
+    let old = g.S.Scorer.state c.args.scorer.now in
+    named-any c.args.catalog.now c.args.query.now view (answer_of old.answer c.args.catalog.now c.args.query.now view) c.answer_with_duplicates.result
+    old (g.S.Scorer.state c.answer_with_duplicates.new.scorer) c.requires c.answer_with_duplicates.ensures
