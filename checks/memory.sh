@@ -5,7 +5,7 @@
 # Before that it counts the allocations of runs over a table of 1,000 rows that print more or fewer rows, or call the scorer
 # more or less often: a printed row takes its values alone, and a call with numbers none.
 # A join by a hash and a union are executed by the program cases_plans, whichever plan `run` would choose. That program
-# tells its input line by line, and names the line at which there is no memory.
+# tells its input line by line, and names the line at which there is no memory, if it had begun with one.
 # Scripts may be named: checks/memory.sh NAME.., and with none all are run.
 # The programs are crates/ranksql/out/ranksql and crates/cases_plans/out/cases_plans, or those that the variables RANKSQL and
 # PLAN_CASES name. A C compiler is needed: the allocations fail by a small library in front of the system's.
@@ -239,7 +239,7 @@ are_whole_lines() {
 is_right() {
     case $1.$2 in
         *.0) cmp -s out "$1.wanted" && cmp -s err nothing ;;
-        hashed.1 | united.1) are_whole_lines "$1" && grep -qx 'line [12]: there is no memory' err ;;
+        hashed.1 | united.1) are_whole_lines "$1" && grep -qxE '(line [12]: )?there is no memory' err ;;
         hashed.3 | united.3) are_whole_lines "$1" && grep -qx "line [12]: the line can't be read" err ;;
         *.1) are_whole_lines "$1" && cmp -s err memory ;;
         *) false ;;

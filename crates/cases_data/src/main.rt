@@ -67,7 +67,7 @@ mod scans;
 mod show;
 mod sizes;
 
-use cases_lines::answer_lines;
+use cases_lines::{answer_lines, no_memory};
 use laws::{laws_hold_of_keys, laws_hold_of_numbers, laws_hold_of_pairs};
 use line::Data;
 use ranks::laws_hold_of_rows;
@@ -86,6 +86,6 @@ fn main(rt: HostRuntime) -> ExitCode {
     statements_are_typed_by_rules();
     match RandomState::new(&rt) {
         Ok(hash_keys) => answer_lines(&rt, &mut Data::new(rt.alloc(), hash_keys)),
-        Err(_) => ExitCode::FAILURE,
+        Err(_) => no_memory(&rt),
     }
 }

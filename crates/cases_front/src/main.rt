@@ -43,7 +43,7 @@ mod tables;
 mod usable;
 mod values;
 
-use cases_lines::answer_lines;
+use cases_lines::{answer_lines, no_memory};
 use line::Front;
 use rs_expr::values_stay_within_widths;
 use rs_lex::{
@@ -58,7 +58,7 @@ fn main(rt: HostRuntime) -> ExitCode {
     values_stay_within_widths();
     match RandomState::new(&rt) {
         Ok(hash_keys) => answer_lines(&rt, &mut Front::new(rt.alloc(), hash_keys)),
-        Err(_) => ExitCode::FAILURE,
+        Err(_) => no_memory(&rt),
     }
 }
 

@@ -14,7 +14,7 @@ mod words;
 
 pub use escape::{bytes_of, print_call, print_escaped, read_escaped, read_times, text_of};
 pub use fault::Fault;
-pub use lines::{Cases, answer_lines};
+pub use lines::{Cases, answer_lines, no_memory};
 pub use words::{
     columns_of, count_of, cut_at, cut_word, number_of, numbers_of, small_number_of, value_of,
 };

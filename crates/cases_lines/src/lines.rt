@@ -12,6 +12,14 @@ pub trait Cases {
     fn answer(&mut self, alloc: Global, line: &[u8]) -> Result<String, Fault>;
 }
 
+/// Tells that there was no memory before the first line was read, or, which is told the same, that the system had no random
+/// bytes for the keys of hashes. It is the status that the program ends with.
+pub fn no_memory(rt: &impl Eprint) -> ExitCode {
+    let text = Fault::Memory.text();
+    let _ = eprintln!(rt; "{text}");
+    ExitCode::from(Fault::Memory.status())
+}
+
 /// Answers the lines of standard input, up to the first one that has a fault, which is told with its number, counted
 /// from 1.
 pub fn answer_lines<C: Cases>(

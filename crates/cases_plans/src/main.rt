@@ -50,7 +50,7 @@ mod query;
 mod script;
 mod time;
 
-use cases_lines::answer_lines;
+use cases_lines::{answer_lines, no_memory};
 use line::Planning;
 use rs_catalog::indexes_go_on_to_hold_answers;
 use rs_enum::{
@@ -79,10 +79,10 @@ fn main(rt: HostRuntime) -> ExitCode {
     indexes_go_on_to_hold_answers();
     indexes_of_plans_hold_answers();
     let Ok(hash_keys) = RandomState::new(&rt) else {
-        return ExitCode::FAILURE;
+        return no_memory(&rt);
     };
     match Planning::new(rt.alloc(), hash_keys) {
         Ok(mut planning) => answer_lines(&rt, &mut planning),
-        Err(Memory) => ExitCode::FAILURE,
+        Err(Memory) => no_memory(&rt),
     }
 }

@@ -25,7 +25,7 @@ mod fakes;
 mod line;
 mod told;
 
-use cases_lines::answer_lines;
+use cases_lines::{answer_lines, no_memory};
 use fakes::Fakes;
 use rs_run::{one_run, plain_and_run_agree};
 use std::hash::RandomState;
@@ -36,6 +36,6 @@ fn main(rt: HostRuntime) -> ExitCode {
     plain_and_run_agree();
     match RandomState::new(&rt) {
         Ok(hash_keys) => answer_lines(&rt, &mut Fakes::new(rt.alloc(), hash_keys)),
-        Err(_) => ExitCode::FAILURE,
+        Err(_) => no_memory(&rt),
     }
 }
