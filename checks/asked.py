@@ -6,6 +6,7 @@ The programs are crates/ranksql_ask/out/ranksql_ask and crates/ranksql/out/ranks
 RANKSQL name.
 """
 
+import collections
 import csv
 import os
 import pathlib
@@ -13,6 +14,7 @@ import subprocess
 import sys
 import tempfile
 import threading
+import time
 
 ROOT = pathlib.Path(__file__).resolve().parent.parent
 ASK = os.environ.get("RANKSQL_ASK", str(ROOT / "crates/ranksql_ask/out/ranksql_ask"))
@@ -165,6 +167,77 @@ def try_answers(folder, wanted):
         got = run(folder, ["run", "s.sql", "1"], lambda record, form=form: form(true_score(int(record[1]))))
         check(f"answers with {name}", got[:2] == (0, wanted), got)
 
+    def late(record):
+        time.sleep(0.02)
+        return with_true(record)
+
+    fresh(folder, "0")
+    got = run(folder, ["run", "s.sql", "1"], late)
+    check("answers that come late", got[:2] == (0, wanted), got)
+
+
+def try_crashes(folder, wanted):
+    """The program is killed while a question waits for its answer, again and again. No start asks what was answered before."""
+    fresh(folder, "0")
+    seen = []
+    for place in range(200):
+        waits = threading.Event()
+
+        def answer(record):
+            seen.append(tuple(record))
+            if len(seen) % 3 == 0:
+                waits.set()
+                return Last(b"")
+            return with_true(record)
+
+        asked_here, asked_there = os.pipe()
+        told_there, told_here = os.pipe()
+        answerer = Answerer(answer)
+        # The pipes are kept open here, so that it waits and doesn't see their ends.
+        keep = os.dup(told_here)
+        thread = threading.Thread(target=answerer.serve, args=(asked_here, told_here))
+        process = subprocess.Popen(
+            [ASK, "near", "scores.csv", f"/dev/fd/{asked_there}", f"/dev/fd/{told_there}", "run", "s.sql", "1"],
+            cwd=folder, pass_fds=(asked_there, told_there), stdout=subprocess.PIPE, stderr=subprocess.DEVNULL)
+        os.close(asked_there)
+        os.close(told_there)
+        thread.start()
+        while process.poll() is None and not waits.is_set():
+            time.sleep(0.002)
+        crashed = waits.is_set()
+        if crashed:
+            process.kill()
+        out = process.communicate(timeout=100)[0].decode()
+        thread.join()
+        os.close(keep)
+        if not crashed:
+            break
+        if not wanted.startswith(out):
+            check(f"crash {place}: the rows begin those of a whole run", False, out)
+            return
+    asked = collections.Counter(seen)
+    kept = (folder / "scores.csv").read_text().splitlines()
+    check(f"{place} crashes between a question and its answer", place > 2 and (process.returncode, out) == (0, wanted), (process.returncode, out))
+    check("        what was answered is asked no more", len(seen) - place == len(asked) == len(kept), (len(seen), place, len(asked), len(kept)))
+
+
+def try_example():
+    """The example over its films: the rows are those of `plain` over a script whose formula is the service's number."""
+    with tempfile.TemporaryDirectory() as name:
+        scores = pathlib.Path(name) / "scores.csv"
+        words = [sys.executable, "examples/asked/ask.py", ASK, str(scores)]
+        first = subprocess.run(words, cwd=ROOT, env={**os.environ, "DELAY": "0"}, capture_output=True, text=True, timeout=600)
+        lines = first.stdout.splitlines()
+        paid = len(scores.read_text().splitlines())
+        check("the example", first.returncode == 0 and len(lines) == 11 and lines[-1].startswith(f"status 0: {paid} answers for "), first)
+        check("        its first row comes before the last answer", int(lines[0].split()[2]) < paid, lines)
+        budget = subprocess.run(words[:3] + [str(pathlib.Path(name) / "few.csv")], cwd=ROOT, env={**os.environ, "DELAY": "0", "BUDGET": "5"},
+            capture_output=True, text=True, timeout=600)
+        check("        it stops at a budget", budget.returncode == 0 and "status 8: 5 answers for " in budget.stdout, budget)
+        again = subprocess.run(words, cwd=ROOT, env={**os.environ, "DELAY": "0"}, capture_output=True, text=True, timeout=600)
+        check("        and a second start pays for nothing", [line.split("answers", 1)[1] for line in again.stdout.splitlines()[:-1]]
+            == [line.split("answers", 1)[1] for line in lines[:-1]] and "status 0: 0 answers for " in again.stdout, again)
+
 
 def try_files(folder):
     fresh(folder, "0")
@@ -196,7 +269,9 @@ def main():
         try_guesses(folder, wanted)
         try_missing(folder, wanted)
         try_answers(folder, wanted)
+        try_crashes(folder, wanted)
         try_files(folder)
+    try_example()
     return 1 if failures else 0
 
 

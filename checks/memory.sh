@@ -7,15 +7,18 @@
 # tested on takes none either.
 # A join by a hash and a union are executed by the program cases_plans, whichever plan `run` would choose. That program
 # tells its input line by line, and names the line at which there is no memory, if it had begun with one.
+# The program ranksql_ask runs a script whose scores it is told by a file. What it was told it has to keep, whole line by line.
 # Scripts may be named: checks/memory.sh NAME.., and with none all are run.
-# The programs are crates/ranksql/out/ranksql and crates/cases_plans/out/cases_plans, or those that the variables RANKSQL and
-# PLAN_CASES name. A C compiler is needed: the allocations fail by a small library in front of the system's.
+# The programs are crates/ranksql/out/ranksql, crates/cases_plans/out/cases_plans and crates/ranksql_ask/out/ranksql_ask, or those
+# that the variables RANKSQL, PLAN_CASES and RANKSQL_ASK name. A C compiler is needed: the allocations fail by a small library in
+# front of the system's.
 set -u -o pipefail
 export LC_ALL=C
 
 root=$(cd "$(dirname "$0")/.." && pwd -P)
 program=${RANKSQL:-$root/crates/ranksql/out/ranksql}
 cases=${PLAN_CASES:-$root/crates/cases_plans/out/cases_plans}
+ask=${RANKSQL_ASK:-$root/crates/ranksql_ask/out/ranksql_ask}
 if [ ! -x "$program" ]; then
     echo "there is no program $program: ./ranksql builds it" >&2
     exit 1
@@ -215,6 +218,16 @@ cat united.sql - >united.wanted <<'LINES'
   none
   counts 5 4 4 0, 5 4 0 0, 4 3 0 3, 4 3 0 3; limit None
 LINES
+cat >asked.sql <<'SQL'
+CREATE TABLE t (x INT, y INT) FROM 't.csv';
+CREATE PREDICATE p (v INT) MAX 10 AS v;
+CREATE PREDICATE q (v INT, s TEXT) MAX 10 COST 1000 AS v;
+CREATE RANK INDEX px ON t (p(x));
+SELECT x FROM t ORDER BY p(x) + q(y, 'a') LIMIT 2;
+SQL
+printf '1,17,8\n2,13,10\n' >asked.wanted
+printf '3\n9\n1\n10\n' >answers
+printf 'q,3,a,3\nq,9,a,9\nq,1,a,1\nq,10,a,10\n' >kept
 : >nothing
 printf 'memory\n' >memory
 
@@ -225,7 +238,9 @@ run() {
     case $1 in
         plan | first | tables | forms | nested | cursors | rows | index | calls) words=("$program" run "$1.sql" 1) ;;
         hashed | united) words=("$cases") input=$1.sql ;;
+        asked) words=("$ask" q scores /dev/null answers run asked.sql 1) ;;
     esac
+    rm -f scores
     timeout 60 env LD_PRELOAD="$work/refuse.so" REFUSE_FIRST="$2" ${3:+REFUSE_ALL=1} REFUSE_COUNT="$work/count" \
         "${words[@]}" >out 2>err <"$input"
 }
@@ -235,10 +250,17 @@ are_whole_lines() {
     cmp -s out <(head -n "$(wc -l <out)" "$1.wanted")
 }
 
+# Whether the file of known scores is whole lines from the head of those that are to be kept.
+keeps_scores() {
+    [ ! -e scores ] || cmp -s scores <(head -n "$(wc -l <scores)" kept)
+}
+
 # Whether the run did all, or lacked memory and told so.
 # is_right NAME STATUS
 is_right() {
     case $1.$2 in
+        asked.0) cmp -s out asked.wanted && cmp -s scores kept && grep -qx 'calls=[0-9]* questions=4 known=0' err ;;
+        asked.1) are_whole_lines asked && keeps_scores && [ "$(head -n 1 err)" = memory ] ;;
         *.0) cmp -s out "$1.wanted" && cmp -s err nothing ;;
         hashed.1 | united.1) are_whole_lines "$1" && grep -qxE '(line [12]: )?there is no memory' err ;;
         hashed.3 | united.3) are_whole_lines "$1" && grep -qx "line [12]: the line can't be read" err ;;
@@ -370,6 +392,13 @@ elif [ -x "$cases" ]; then
     names+=(hashed united)
 else
     echo "there is no program $cases: the join by a hash and the union are left out"
+fi
+if [ $# -eq 0 ]; then
+    if [ -x "$ask" ]; then
+        names+=(asked)
+    else
+        echo "there is no program $ask: the script whose scores are asked for is left out"
+    fi
 fi
 for name in "${names[@]}"; do
     try_each "$name"

@@ -1,5 +1,5 @@
 -- One run over the scores that are known.
-use Rattle.std.specs.Prelude.{ℕ, ◌≡◌, List, Option, Some, None}
+use Rattle.std.specs.Prelude.{ℕ, ℤ, ◌≡◌, List, Option, Some, None}
 use Rattle.rs_value.specs.Outside.{Outside}
 use Rattle.rs_outside.specs.Files.{FilesTold}
 use Rattle.rs_outside.specs.MemSink.{no_pieces, sink_state}
@@ -17,7 +17,7 @@ use Rattle.rs_ask.specs.declared.pass.Pass.{Pass}
 -- a question whose score isn't known
 abbrev pub unless_known : Known → List (List ℕ) → Option (List (List ℕ))
 unless_known known question = unless (score_of question known) where
-  unless : Option _ → Option (List (List ℕ))
+  unless : Option ℤ → Option (List (List ℕ))
   unless (Some score) = None
   unless None = Some question
 
