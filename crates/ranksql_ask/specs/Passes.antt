@@ -1,5 +1,5 @@
 -- One run over the scores that are known.
-use Rattle.std.specs.Prelude.{ℕ, ℤ, ◌≡◌, List, Option, Some, None}
+use Rattle.std.specs.Prelude.{ℕ, ℤ, ◌≡◌, Bool, true, false, List, Option, Some, None}
 use Rattle.rs_value.specs.Outside.{Outside}
 use Rattle.rs_outside.specs.Files.{FilesTold}
 use Rattle.rs_outside.specs.MemSink.{no_pieces, sink_state}
@@ -26,11 +26,17 @@ abbrev pub missing_in : Known → Status → Option (List (List ℕ)) → Option
 missing_in known status.Probe (Some question) = unless_known known question
 missing_in known _ _ = None
 
+-- whether this is the status of want of memory
+abbrev pub is_memory : Status → Bool
+is_memory status.Memory = true
+is_memory _ = false
+
 -- one run of the script of this name over what is known, with its queries evaluated so, into memory: its status, what it put, how many calls it made, and the question of its last call, where that one failed and its score isn't known
 pub record IsPass (name : List ℕ) (evaluating : Evaluating) (known : Known) (pass : Pass) (old new : Outside FilesTold) : Type 0 where
   pub status : Status
   pub scorer : TableScorerState
   pub number : pass.status ≡ exit_status_of status
+  pub lacked : pass.lacked_memory ≡ is_memory status
   pub ran : FormRunsTo (Some (RunScript name evaluating)) status
       (environment old (table_state (new_scorer known)) (sink_state no_pieces) (sink_state no_pieces))
       (environment new (table_state scorer) (sink_state pass.out) (sink_state pass.err))

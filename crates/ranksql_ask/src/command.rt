@@ -67,8 +67,14 @@ fn obey<S: Files + Drop, F: Read + Write + Drop, O: Sink, E: Sink>(
 /// Puts the line of the last run, and the line with the counts.
 fn tell_end<E: Sink>(alloc: Global, asked: Asked, before: usize, err: &mut E) -> u8 {
     let pass = asked.pass;
-    if !pass.err.bytes().is_empty() {
-        let _ = err.put(pass.err.bytes());
+    // Where there was no memory a run may not have kept its line.
+    let line: &[u8] = if pass.lacked_memory {
+        b"memory\n"
+    } else {
+        pass.err.bytes()
+    };
+    if !line.is_empty() {
+        let _ = err.put(line);
     }
     let calls = pass.calls;
     let unanswered = u64::from(pass.missing.is_some());

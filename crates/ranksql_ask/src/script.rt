@@ -1,7 +1,7 @@
 ghost use Rattle.std.specs.Prelude.{◌≡◌, IfSome, None};
 ghost use Rattle.rs_scores.specs.Known.{score_of};
 ghost use Rattle.rs_scores.specs.KnownFiles.{known_state};
-ghost use Rattle.ranksql_ask.specs.Passes.{IsPass, missing_in};
+ghost use Rattle.ranksql_ask.specs.Passes.{IsPass, is_memory, missing_in};
 
 use crate::words::Asking;
 use rs_ask::{Pass, Rerun};
@@ -31,6 +31,13 @@ fn missing_in(known: &KnownScores, status: Status, question: Option<Question>) -
     }
 }
 
+/// Whether this is the status of want of memory.
+fn is_memory(status: Status) -> bool
+    ensures { result ≡ is_memory status }
+{
+    matches!(status, Status::Memory)
+}
+
 impl<'a, F: Files> Rerun for Script<'a, F> {
     ghost ran = { λ old known pass new. IsPass old.asking.script.now old.asking.evaluating known pass (known_state (F.state old.files.files)) (known_state (F.state new.files.files)) };
 
@@ -56,6 +63,7 @@ impl<'a, F: Files> Rerun for Script<'a, F> {
             out,
             err,
             status: status.number(),
+            lacked_memory: is_memory(status),
             calls,
             missing,
         }

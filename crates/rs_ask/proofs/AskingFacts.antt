@@ -130,13 +130,13 @@ StopsAfter-asking ran pass why answers old known new knows all before channel th
   questions = PutsAndPart-then (question_lines going.entries) (option_map question_line pass.missing) before.channel.questions channel.questions then.questions going.questions stops.questions;
   answers = (channel.answers, going.read);
   kept = (stops.kept.0, PutsAndPart-then (known_lines going.entries) stops.kept.0 before.channel.scores channel.scores then.scores going.kept stops.kept.1);
-  rows = (concat pass.out.pieces, going.rows, StopsAt-whole why (concat pass.out.pieces) stops.not_differs);
+  rows = (concat pass.out.pieces, going.rows, StopsAt-whole why pass.lacked_memory (concat pass.out.pieces) stops.not_differs);
 }
 
 -- it is stopped while it puts the first rows
 pub StopsAfter-first : {R : Type 0} (ran : R → Known → Pass → R → Type 0) (pass : Pass) (why : Stop) (old : R) (known : Known) (new : R) (channel : ChannelState) (out rest : Pieces)
     → ran old known pass new
-    → (fresh : List ℕ) × PutsBytes fresh out rest × StopsAt why fresh (concat pass.out.pieces)
+    → (fresh : List ℕ) × PutsBytes fresh out rest × StopsAt why pass.lacked_memory fresh (concat pass.out.pieces)
     → StopsAfter ran why old known new known (record { channel = channel; out = out }) (record { channel = channel; out = rest })
 StopsAfter-first ran pass why old known new channel out rest did put = record {
   entries = [];
@@ -153,7 +153,7 @@ pub StopsAfter-rows : {R : Type 0} (ran : R → Known → Pass → R → Type 0)
     (before : AskingState) (channel then : ChannelState) (out rest : Pieces)
     → Going ran pass answers old known new knows before (record { channel = channel; out = out })
     → Answered pass.missing knows all channel then → ran new all next last
-    → (fresh : List ℕ) × PutsBytes fresh out rest × StopsAt why (concat pass.out.pieces ++ fresh) (concat next.out.pieces)
+    → (fresh : List ℕ) × PutsBytes fresh out rest × StopsAt why next.lacked_memory (concat pass.out.pieces ++ fresh) (concat next.out.pieces)
     → StopsAfter ran why old known last all before (record { channel = then; out = rest })
 StopsAfter-rows ran pass next why answers old known new knows last all before channel then out rest going answered did put = record {
   entries = going.entries ++ answered.entry ∷ [];

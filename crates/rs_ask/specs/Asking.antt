@@ -104,7 +104,7 @@ pub record StopsAfter {R : Type 0} (ran : R → Known → Pass → R → Type 0)
   pub questions : PutsAndPart (question_lines entries) (option_map question_line pass.missing) before.channel.questions after.channel.questions
   pub answers : (left : Option (List ℕ)) × ReadsScores entries before.channel.answers left
   pub kept : (line : Option (List ℕ)) × PutsAndPart (known_lines entries) line before.channel.scores after.channel.scores
-  pub rows : (bytes : List ℕ) × PutsBytes bytes before.out after.out × StopsAt stop bytes (concat pass.out.pieces)
+  pub rows : (bytes : List ℕ) × PutsBytes bytes before.out after.out × StopsAt stop pass.lacked_memory bytes (concat pass.out.pieces)
 
 -- a question was asked, and its answer read, kept and learned
 pub record Answered (missing : Option (List (List ℕ))) (known new : Known) (before after : ChannelState) : Type 0 where

@@ -1,5 +1,5 @@
 -- What stops the asking.
-use Rattle.std.specs.Prelude.{ℕ, List}
+use Rattle.std.specs.Prelude.{ℕ, ◌≡◌, ◌⊎◌, Bool, true, false, List}
 use Rattle.rs_outside.specs.Sink.{IsPrefix}
 use Rattle.rs_outside.specs.declared.sink.SinkFault.{SinkFault}
 use Rattle.rs_outside.specs.declared.sink.SinkFault.TheVariants as sink
@@ -11,8 +11,8 @@ abbrev pub stop_of : SinkFault → Stop
 stop_of sink.Failed = stop.Write
 stop_of sink.Memory = stop.Memory
 
--- what had been put of a run that puts this much in all: it differs exactly where that is no beginning of it
-abbrev pub StopsAt : Stop → List ℕ → List ℕ → Type 0
-StopsAt stop.Differs put whole = ¬ IsPrefix put whole
-StopsAt stop.Write put whole = IsPrefix put whole
-StopsAt stop.Memory put whole = IsPrefix put whole
+-- what had been put of a run that puts this much in all, and that may have lacked memory: it differs exactly where that is no beginning of it, though the run had memory
+abbrev pub StopsAt : Stop → Bool → List ℕ → List ℕ → Type 0
+StopsAt stop.Differs lacked put whole = (lacked ≡ false) × (¬ IsPrefix put whole)
+StopsAt stop.Write lacked put whole = IsPrefix put whole
+StopsAt stop.Memory lacked put whole = IsPrefix put whole ⊎ (lacked ≡ true)

@@ -32,7 +32,7 @@ pub fn ask_and_run<R: Rerun, Q: Sink, A: Read, K: Sink, O: Sink>(
     let before = known.len();
     let mut answers = 0;
     let mut pass = runs.rerun(alloc, known);
-    if let Err(stop) = put_new(b"", pass.out.bytes(), out) {
+    if let Err(stop) = put_new(b"", pass.out.bytes(), pass.lacked_memory, out) {
         drop(pass);
         return Err(stop);
     }
@@ -47,7 +47,7 @@ pub fn ask_and_run<R: Rerun, Q: Sink, A: Read, K: Sink, O: Sink>(
         }
         answers = known.len() - before;
         let next = runs.rerun(alloc, known);
-        let put = put_new(pass.out.bytes(), next.out.bytes(), out);
+        let put = put_new(pass.out.bytes(), next.out.bytes(), next.lacked_memory, out);
         drop(pass);
         if let Err(stop) = put {
             drop(next);

@@ -6,12 +6,14 @@ use rs_scores::{KnownScores, Question};
 use std::alloc::Global;
 
 /// What one run over some known scores left: what it put, the line of its fault, its exit status, how many calls of the scorer
-/// it made, and the question of its last call, where that one failed because its score isn't known.
+/// it made, and the question of its last call, where that one failed because its score isn't known. A run that lacked memory may
+/// have put less than a run before it.
 #[derive(Drop)]
 pub struct Pass {
     pub out: MemSink,
     pub err: MemSink,
     pub status: u8,
+    pub lacked_memory: bool,
     pub calls: u64,
     pub missing: Option<Question>,
 }

@@ -5,12 +5,21 @@ ghost use Rattle.rs_ask.specs.Stops.{StopsAt};
 use crate::stop::Stop;
 use rs_outside::Sink;
 
-/// Puts what a run put beyond what was put before. Where the run doesn't begin with that, nothing is put.
-pub(crate) fn put_new<O: Sink>(shown: &[u8], all: &[u8], out: &mut O) -> Result<(), Stop>
+/// Puts what a run put beyond what was put before. Where the run doesn't begin with that, nothing is put; that isn't told of a run
+/// that lacked memory, since it ended before its time.
+pub(crate) fn put_new<O: Sink>(
+    shown: &[u8],
+    all: &[u8],
+    lacked_memory: bool,
+    out: &mut O,
+) -> Result<(), Stop>
     ensures ok { OnOk result ((new : List ℕ) × (all.now ≡ shown.now ++ new) × PutsBytes new (O.state out.old) (O.state out.new)) }
-    ensures err { IfErr result (λ stop. (new : List ℕ) × PutsBytes new (O.state out.old) (O.state out.new) × StopsAt stop (shown.now ++ new) all.now) }
+    ensures err { IfErr result (λ stop. (new : List ℕ) × PutsBytes new (O.state out.old) (O.state out.new) × StopsAt stop lacked_memory (shown.now ++ new) all.now) }
 {
     let Some(new) = all.strip_prefix(shown) else {
+        if lacked_memory {
+            return Err(Stop::Memory);
+        }
         return Err(Stop::Differs);
     };
     if new.is_empty() {

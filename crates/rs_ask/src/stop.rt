@@ -4,7 +4,7 @@ use rs_value::Memory;
 /// What stops it beside the end of a run.
 #[derive(Clone, Copy, Debug, PartialEq, Eq)]
 pub enum Stop {
-    /// A run over more scores didn't begin with what was put already.
+    /// A run over more scores didn't begin with what was put already, though it had memory.
     Differs,
     /// A put of rows, or of a score that is to be kept, failed.
     Write,

@@ -20,10 +20,10 @@ struct Case {
     scores: &'static [u8],
 }
 
-const CASES: [Case; 7] = [
+const CASES: [Case; 9] = [
     // Nothing is missing.
     Case {
-        runs: &[(b"a\n", -1)],
+        runs: &[(b"a\n", -1, false)],
         answers: b"9\n",
         ended: Ok((0, false)),
         out: b"a\n",
@@ -32,7 +32,7 @@ const CASES: [Case; 7] = [
     },
     // Two scores are missing, and each run goes on where the one before it ended.
     Case {
-        runs: &[(b"", 5), (b"a\n", 6), (b"a\nb\n", -1)],
+        runs: &[(b"", 5, false), (b"a\n", 6, false), (b"a\nb\n", -1, false)],
         answers: b"70\n-1\r\n",
         ended: Ok((2, false)),
         out: b"a\nb\n",
@@ -41,7 +41,7 @@ const CASES: [Case; 7] = [
     },
     // The answers end.
     Case {
-        runs: &[(b"", 5), (b"a\n", 6)],
+        runs: &[(b"", 5, false), (b"a\n", 6, false)],
         answers: b"70\n",
         ended: Ok((1, true)),
         out: b"a\n",
@@ -50,7 +50,7 @@ const CASES: [Case; 7] = [
     },
     // An answer is no number.
     Case {
-        runs: &[(b"a\n", 5)],
+        runs: &[(b"a\n", 5, false)],
         answers: b"x\n",
         ended: Ok((0, true)),
         out: b"a\n",
@@ -59,7 +59,7 @@ const CASES: [Case; 7] = [
     },
     // A run puts less than was put already.
     Case {
-        runs: &[(b"a\n", 5), (b"", -1)],
+        runs: &[(b"a\n", 5, false), (b"", -1, false)],
         answers: b"70\n",
         ended: Err(Stop::Differs),
         out: b"a\n",
@@ -68,16 +68,34 @@ const CASES: [Case; 7] = [
     },
     // A run puts something else.
     Case {
-        runs: &[(b"a\n", 5), (b"b\nc\n", -1)],
+        runs: &[(b"a\n", 5, false), (b"b\nc\n", -1, false)],
         answers: b"70\n",
         ended: Err(Stop::Differs),
         out: b"a\n",
         questions: b"near,5\n",
         scores: b"near,5,70\n",
     },
+    // A run lacks memory before it has put what was put already.
+    Case {
+        runs: &[(b"a\n", 5, false), (b"", -1, true)],
+        answers: b"70\n",
+        ended: Err(Stop::Memory),
+        out: b"a\n",
+        questions: b"near,5\n",
+        scores: b"near,5,70\n",
+    },
+    // A run lacks memory behind a row that wasn't put yet.
+    Case {
+        runs: &[(b"a\n", 5, false), (b"a\nb\n", -1, true)],
+        answers: b"70\n",
+        ended: Ok((1, false)),
+        out: b"a\nb\n",
+        questions: b"near,5\n",
+        scores: b"near,5,70\n",
+    },
     // A run that misses a score that is known by then says so no more, and is the last.
     Case {
-        runs: &[(b"", 5), (b"a\n", 5)],
+        runs: &[(b"", 5, false), (b"a\n", 5, false)],
         answers: b"70\n80\n",
         ended: Ok((1, false)),
         out: b"a\n",

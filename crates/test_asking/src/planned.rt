@@ -9,8 +9,9 @@ use rs_scores::{KnownScores, Question};
 use rs_value::{Memory, Text, Value};
 use std::alloc::Global;
 
-/// A run: what it puts, and the number for which it misses the score of `near`. A number below 0 is missed by none.
-pub(crate) type Planned = (&'static [u8], i64);
+/// A run: what it puts, the number for which it misses the score of `near`, and whether it lacks memory behind what it puts. A
+/// number below 0 is missed by none.
+pub(crate) type Planned = (&'static [u8], i64, bool);
 
 /// Runs that are planned, and how many were made. Behind the last one there is an empty one that misses nothing.
 #[derive(Drop)]
@@ -53,9 +54,9 @@ impl Rerun for PlannedRuns {
     fn rerun(&mut self, alloc: Global, known: &KnownScores) -> Pass
         ensures missing { IfSome result.missing (λ question. score_of question known.now ≡ None) }
     {
-        let (bytes, number): Planned = match self.runs.get(self.made) {
+        let (bytes, number, lacked_memory): Planned = match self.runs.get(self.made) {
             Some(planned) => *planned,
-            None => (b"", -1),
+            None => (b"", -1, false),
         };
         self.made = self.made.saturating_add(1);
         let out = match sink_with(alloc, bytes) {
@@ -66,6 +67,7 @@ impl Rerun for PlannedRuns {
             out,
             err: MemSink::new(alloc),
             status: 8,
+            lacked_memory,
             calls: self.made as u64,
             missing: missing(alloc, known, number),
         }

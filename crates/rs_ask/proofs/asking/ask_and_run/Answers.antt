@@ -10,7 +10,7 @@ returns-in-Err-clause-err g c =
     StopsAfter-first g.R.Rerun.ran c.rerun-pass.result c.in-Err.stop c.args.runs.now c.args.known.now c.rerun-pass.new.self
     (record { questions = g.Q.Sink.state c.args.channel.now.questions; answers = g.A.Read.remaining c.args.channel.now.answers; scores = g.K.Sink.state c.args.channel.now.scores }) (g.O.Sink.state c.args.out.now) (g.O.Sink.state c.put_new.new.out)
     c.rerun-pass.ensures.ran
-    (subst (λ all. (fresh : List ℕ) × PutsBytes fresh (g.O.Sink.state c.args.out.now) (g.O.Sink.state c.put_new.new.out) × StopsAt c.in-Err.stop fresh all) c.bytes.ensures c.in-Err.ensures.err)
+    (subst (λ all. (fresh : List ℕ) × PutsBytes fresh (g.O.Sink.state c.args.out.now) (g.O.Sink.state c.put_new.new.out) × StopsAt c.in-Err.stop c.rerun-pass.result.lacked_memory fresh all) c.bytes.ensures c.in-Err.ensures.err)
 
 pub loop-pass-init : goal.loop-pass-init
 loop-pass-init g c =
@@ -58,8 +58,8 @@ returns-in-Err-put-clause-err g c =
     (record { questions = g.Q.Sink.state c.loop-pass.channel.questions; answers = g.A.Read.remaining c.loop-pass.channel.answers; scores = g.K.Sink.state c.loop-pass.channel.scores })
     (record { questions = g.Q.Sink.state c.ask.new.channel.questions; answers = g.A.Read.remaining c.ask.new.channel.answers; scores = g.K.Sink.state c.ask.new.channel.scores })
     (g.O.Sink.state c.loop-pass.out) (g.O.Sink.state c.put_new-put.new.out) c.loop-pass.invariant.going answered c.rerun-next.ensures.ran
-    (subst (λ all. (fresh : List ℕ) × PutsBytes fresh (g.O.Sink.state c.loop-pass.out) (g.O.Sink.state c.put_new-put.new.out) × StopsAt c.in-Err-put.stop (concat c.loop-pass.pass.out.pieces ++ fresh) all) c.bytes-in-loop-pass-2.ensures
-    (subst (λ shown. (fresh : List ℕ) × PutsBytes fresh (g.O.Sink.state c.loop-pass.out) (g.O.Sink.state c.put_new-put.new.out) × StopsAt c.in-Err-put.stop (shown ++ fresh) c.bytes-in-loop-pass-2.result.now) c.bytes-in-loop-pass.ensures
+    (subst (λ all. (fresh : List ℕ) × PutsBytes fresh (g.O.Sink.state c.loop-pass.out) (g.O.Sink.state c.put_new-put.new.out) × StopsAt c.in-Err-put.stop c.rerun-next.result.lacked_memory (concat c.loop-pass.pass.out.pieces ++ fresh) all) c.bytes-in-loop-pass-2.ensures
+    (subst (λ shown. (fresh : List ℕ) × PutsBytes fresh (g.O.Sink.state c.loop-pass.out) (g.O.Sink.state c.put_new-put.new.out) × StopsAt c.in-Err-put.stop c.rerun-next.result.lacked_memory (shown ++ fresh) c.bytes-in-loop-pass-2.result.now) c.bytes-in-loop-pass.ensures
     c.in-Err-put.ensures.err))
 
 pub loop-pass-preserved : goal.loop-pass-preserved

@@ -6,12 +6,15 @@ use Rattle.std.specs.Prelude.{length}
 use Rattle.rs_ask.specs.Asking.{PutsBytes}
 use Rattle.rs_ask.specs.Stops.{StopsAt}
 use Rattle.rs_ask.specs.declared.stop.Stop.{Stop}
-use Rattle.rs_ask.proofs.PutFacts.{PutsBytes-differs, PutsBytes-fault, PutsBytes-none, PutsBytes-one}
+use Rattle.rs_ask.proofs.PutFacts.{PutsBytes-differs, PutsBytes-fault, PutsBytes-lacked, PutsBytes-none, PutsBytes-one}
 use Rattle.rs_ask.proofs.rows.put_new.Goals as goal
+
+pub returns-then-lacked_memory-clause-err : goal.returns-then-lacked_memory-clause-err
+returns-then-lacked_memory-clause-err g c = PutsBytes-lacked c.args.shown.now c.args.all.now c.args.lacked_memory (g.O.Sink.state c.args.out.now) c.if-lacked_memory.true
 
 pub returns-in_default-clause-err : goal.returns-in_default-clause-err
 returns-in_default-clause-err g c =
-    PutsBytes-differs c.args.shown.now c.args.all.now (g.O.Sink.state c.args.out.now)
+    PutsBytes-differs c.args.shown.now c.args.all.now c.args.lacked_memory (g.O.Sink.state c.args.out.now) c.if-lacked_memory.false
     (strip_prefix_is Decides-eqb c.args.all.now c.args.shown.now None c.in_default.ensures.cases)
 
 pub returns-then-is_empty-clause-ok : goal.returns-then-is_empty-clause-ok
@@ -31,6 +34,6 @@ returns-in-Ok-clause-ok g c = (
 
 pub returns-in-Err-clause-err : goal.returns-in-Err-clause-err
 returns-in-Err-clause-err g c =
-    subst (λ (why : Stop). (new : List ℕ) × PutsBytes new (g.O.Sink.state c.args.out.now) (g.O.Sink.state c.put.new.self) × StopsAt why (c.args.shown.now ++ new) c.args.all.now) (sym c.from.ensures)
-    (PutsBytes-fault c.args.shown.now c.in-Some.new.now c.args.all.now c.in-Err.fault (g.O.Sink.state c.args.out.now) (g.O.Sink.state c.put.new.self)
+    subst (λ (why : Stop). (new : List ℕ) × PutsBytes new (g.O.Sink.state c.args.out.now) (g.O.Sink.state c.put.new.self) × StopsAt why c.args.lacked_memory (c.args.shown.now ++ new) c.args.all.now) (sym c.from.ensures)
+    (PutsBytes-fault c.args.shown.now c.in-Some.new.now c.args.all.now c.in-Err.fault c.args.lacked_memory (g.O.Sink.state c.args.out.now) (g.O.Sink.state c.put.new.self)
     (strip_prefix_is Decides-eqb c.args.all.now c.args.shown.now (Some c.in-Some.new) c.in-Some.ensures.cases) c.in-Err.ensures.puts)
