@@ -67,14 +67,11 @@ fn obey<S: Files + Drop, F: Read + Write + Drop, O: Sink, E: Sink>(
 /// Puts the line of the last run, and the line with the counts.
 fn tell_end<E: Sink>(alloc: Global, asked: Asked, before: usize, err: &mut E) -> u8 {
     let pass = asked.pass;
-    // Where there was no memory a run may not have kept its line.
-    let line: &[u8] = if pass.lacked_memory {
-        b"memory\n"
-    } else {
-        pass.err.bytes()
-    };
-    if !line.is_empty() {
-        let _ = err.put(line);
+    if pass.lacked_memory {
+        // The run may not have kept its line.
+        let _ = err.put(b"memory\n");
+    } else if !pass.err.bytes().is_empty() {
+        let _ = err.put(pass.err.bytes());
     }
     let calls = pass.calls;
     let unanswered = u64::from(pass.missing.is_some());
