@@ -4,6 +4,7 @@ use cases_lines::{Fault, read_escaped, read_times};
 use rs_expr::MemScorer;
 use rs_outside::{MemFiles, MemSink};
 use rs_run::{Evaluating, Sampling, Status, run, run_file};
+use rs_table::TablesRead;
 use rs_value::{Memory, Text};
 use std::alloc::Global;
 use std::hash::RandomState;
@@ -119,7 +120,10 @@ impl Fakes {
             ..
         } = self;
         let evaluating = Evaluating::Planned(Sampling::ByGuesses(seed));
-        Ok(run_file(alloc, evaluating, script, files, scorer, out, err))
+        let tables = &mut TablesRead;
+        Ok(run_file(
+            alloc, evaluating, script, tables, files, scorer, out, err,
+        ))
     }
 
     /// Makes the files of the next run.

@@ -7,13 +7,14 @@ use crate::words::Asking;
 use rs_ask::{Pass, Rerun};
 use rs_outside::{Files, MemSink};
 use rs_run::{Status, run_file};
-use rs_scores::{KnownFiles, KnownScores, Question, TableScorer};
+use rs_scores::{KnownFiles, KnownScores, KnownTables, Question, TableScorer};
 use std::alloc::Global;
 
-/// What is run again and again, and the files that it fetches, which are the same in each run.
+/// What is run again and again, the tables that were read, and the files that it fetches, which are the same in each run.
 #[derive(Drop)]
 pub struct Script<'a, F> {
     pub asking: Asking<'a>,
+    pub tables: KnownTables,
     pub files: KnownFiles<F>,
 }
 
@@ -52,6 +53,7 @@ impl<'a, F: Files> Rerun for Script<'a, F> {
             alloc,
             self.asking.evaluating,
             self.asking.script,
+            &mut self.tables,
             &mut self.files,
             &mut scorer,
             &mut out,

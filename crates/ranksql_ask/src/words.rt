@@ -1,10 +1,10 @@
 ghost use Rattle.std.specs.Prelude.{◌≡◌, option_map};
-ghost use Rattle.rs_run.specs.Words.{number_word, plain_form};
+ghost use Rattle.rs_run.specs.Words.{plain_form};
 ghost use Rattle.ranksql_ask.specs.Words.{asking_form, guessing_form};
 ghost use Rattle.ranksql_ask.specs.Parts.Asking.{form_of_asking};
 
-use rs_run::{Evaluating, Sampling};
-use rs_value::{Text, decimal_of};
+use rs_run::{Evaluating, Sampling, number_word};
+use rs_value::Text;
 
 /// The script that is run, and how its queries are evaluated.
 #[derive(Clone, Copy)]
@@ -49,17 +49,7 @@ fn guessing(words: &[Text]) -> Option<Asking<'_>>
     if word.as_str() != "run" {
         return None;
     }
-    let seed = seed_of(seed)?;
+    let seed = number_word(seed, 0, u64::MAX)?;
     let evaluating = Evaluating::Planned(Sampling::ByGuesses(seed));
     Some(Asking { script, evaluating })
-}
-
-/// A seed of the command line: 1 to 20 decimal digits.
-fn seed_of(word: &Text) -> Option<u64>
-    ensures { result ≡ number_word 0 18446744073709551615 word.now }
-{
-    if word.bytes().len() > 20 {
-        return None;
-    }
-    decimal_of(word.bytes(), u64::MAX)
 }

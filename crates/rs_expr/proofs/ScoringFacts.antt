@@ -1,5 +1,5 @@
 -- Calls of a scorer, one after another.
-use Rattle.std.proofs.Common.{ℕ, ◌≡◌, ◌∙◌, ◌+◌, ◌-◌, ◌++◌, List, [], ◌∷◌, refl, sym, ap, append_assoc, append-nil}
+use Rattle.std.proofs.Common.{ℕ, ◌≡◌, ◌∙◌, ◌++◌, List, [], ◌∷◌, refl, sym, ap, append_assoc, append-nil}
 use Rattle.std.specs.Prelude.{ℤ, Option, Some, None, option_map, Result, Ok, Err}
 use Rattle.rs_value.specs.Faults.{raised}
 use Rattle.rs_value.specs.Outside.{Counts}

@@ -23,4 +23,4 @@ pub use mem_scorer::MemScorer;
 pub use predicate::Predicate;
 pub use rs_value::Rel;
 pub use score::score_within;
-pub use scorer::{Call, Scorer, ScorerFault};
+pub use scorer::{Call, Scorer, ScorerFault, formula_value};

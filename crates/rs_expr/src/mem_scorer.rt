@@ -56,8 +56,8 @@ fn copied_values(alloc: Global, values: &[Value]) -> Result<List<Value>, Memory>
 }
 
 impl Call {
-    /// The call of a predicate of this name with these arguments, which are copied.
-    fn copy(alloc: Global, predicate: &Text, args: &[Value]) -> Result<Call, Memory>
+    /// The call of the predicate of this name with these arguments, which are copied.
+    pub fn copy(alloc: Global, predicate: &Text, args: &[Value]) -> Result<Call, Memory>
         ensures { IfOk result (λ call. call ≡ record { predicate = predicate.now; args = args.now }) }
     {
         Ok(Call {

@@ -40,7 +40,7 @@ pub trait Scorer {
 }
 
 /// The value of a predicate's formula for these arguments, which have the kinds of its parameters.
-pub(crate) fn formula_value(predicate: &Predicate, args: &[Value]) -> i128
+pub fn formula_value(predicate: &Predicate, args: &[Value]) -> i128
     requires { all_fit predicate.now.params args.now ≡ true }
     ensures { result ≡ value_of predicate.now.formula args.now }
 {

@@ -20,6 +20,7 @@ use crate::words::{CommandLine, command_line_of};
 use rs_expr::Scorer;
 use rs_outside::{Files, Sink};
 use rs_statement::{Evaluating, Fault};
+use rs_table::{TableReader, TablesRead};
 use rs_value::Text;
 use std::alloc::Global;
 
@@ -64,11 +65,13 @@ pub fn run<F: Files, S: Scorer, O: Sink, E: Sink>(
 }
 
 /// Does what the script of a name says, with its queries evaluated so: what `run` does for the words `plain SCRIPT` and
-/// `run SCRIPT SEED`. Beside these, it may choose plans by guesses, for which `run` has no word.
-pub fn run_file<F: Files, S: Scorer, O: Sink, E: Sink>(
+/// `run SCRIPT SEED`. Beside these, it may choose plans by guesses, for which `run` has no word; and `tables` may know tables
+/// that were read before.
+pub fn run_file<T: TableReader, F: Files, S: Scorer, O: Sink, E: Sink>(
     alloc: Global,
     evaluating: Evaluating,
     script: &Text,
+    tables: &mut T,
     files: &mut F,
     scorer: &mut S,
     out: &mut O,
@@ -85,7 +88,7 @@ pub fn run_file<F: Files, S: Scorer, O: Sink, E: Sink>(
         (environment (F.state files.old) (S.state scorer.old) (O.state out.old) (E.state err.old))
         (environment (F.state files.new) (S.state scorer.new) (O.state out.new) (E.state err.new)) }
 {
-    match run_script(alloc, evaluating, script, files, scorer, out) {
+    match run_script(alloc, evaluating, script, tables, files, scorer, out) {
         Ok(()) => Status::Done,
         Err(fault) => {
             let fault = RunFault::Statement(fault);
@@ -138,7 +141,8 @@ fn obey<F: Files, S: Scorer, O: Sink>(
             out,
         ),
         CommandLine::RunScript(script, evaluating) => {
-            run_script(alloc, evaluating, script, files, scorer, out)
+            let tables = &mut TablesRead;
+            run_script(alloc, evaluating, script, tables, files, scorer, out)
         }
         CommandLine::RunGenerated(number, rows) => {
             run_generated(alloc, files.hash_keys(), number, rows, scorer, out)

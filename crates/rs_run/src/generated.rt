@@ -11,6 +11,7 @@ use rs_expr::Scorer;
 use rs_gen::generate;
 use rs_outside::Sink;
 use rs_statement::{Evaluating, Fault, Sampling};
+use rs_table::TablesRead;
 use rs_value::{Memory, Text};
 use std::alloc::Global;
 use std::hash::RandomState;
@@ -32,7 +33,15 @@ pub fn run_generated<S: Scorer, O: Sink>(
     let name = script_name(alloc)?;
     let mut files = generate(alloc, hash_keys, number, rows)?;
     let evaluating = Evaluating::Planned(Sampling::ByScores(number as u64));
-    run_script(alloc, evaluating, &name, &mut files, scorer, out)
+    run_script(
+        alloc,
+        evaluating,
+        &name,
+        &mut TablesRead,
+        &mut files,
+        scorer,
+        out,
+    )
 }
 
 /// The name of the generated script.

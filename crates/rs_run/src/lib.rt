@@ -20,3 +20,4 @@ pub use fault::RunFault;
 pub use laws::{cursors_keep_their_rows, one_run, plain_and_run_agree, words_have_a_run};
 pub use rs_statement::{Evaluating, Fault, Sampling, ScriptFault, SessionFault};
 pub use status::Status;
+pub use words::number_word;

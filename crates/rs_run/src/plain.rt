@@ -17,17 +17,19 @@ use rs_lex::{MOST_BYTES, tokens};
 use rs_outside::{Files, Sink};
 use rs_statement::{Evaluating, Fault, ScriptFault, fetch_file};
 use rs_syntax::parse;
+use rs_table::TableReader;
 use rs_value::{Text, TextFault};
 use std::alloc::Global;
 
 /// The bytes EF BB BF, of which one may stand at the start of a file.
 const BYTE_ORDER_MARK: &[u8] = b"\xEF\xBB\xBF";
 
-/// Does what a script says, statement by statement, up to the first fault.
-pub fn run_script<F: Files, S: Scorer, O: Sink>(
+/// Does what a script says, statement by statement, up to the first fault. Its tables are read by `tables`.
+pub fn run_script<T: TableReader, F: Files, S: Scorer, O: Sink>(
     alloc: Global,
     evaluating: Evaluating,
     name: &Text,
+    tables: &mut T,
     files: &mut F,
     scorer: &mut S,
     out: &mut O,
@@ -39,7 +41,7 @@ pub fn run_script<F: Files, S: Scorer, O: Sink>(
 {
     let script = fetch_script(alloc, name, files)?;
     let mut host = Objects { files, scorer, out };
-    run_text(alloc, evaluating, &script, &mut host)
+    run_text(alloc, evaluating, &script, tables, &mut host)
 }
 
 /// Fetches the text of a script, without the byte order mark at its start.
@@ -75,10 +77,11 @@ fn without_mark(bytes: &[u8]) -> &[u8]
 }
 
 /// Does what the text of a script says.
-fn run_text<W: Host>(
+fn run_text<T: TableReader, W: Host>(
     alloc: Global,
     evaluating: Evaluating,
     script: &Text,
+    tables: &mut T,
     host: &mut W,
 ) -> Result<(), Fault>
     requires { length script.now ≤ 1048576 }
@@ -88,5 +91,5 @@ fn run_text<W: Host>(
 {
     let tokens = tokens(alloc, script)?;
     let statements = parse(alloc, script, &tokens)?;
-    run_statements(alloc, evaluating, &statements, host)
+    run_statements(alloc, evaluating, &statements, tables, host)
 }

@@ -16,13 +16,15 @@ use rs_statement::{
     fetch, release, run_analyze, run_explain, run_select,
 };
 use rs_syntax::Statement;
+use rs_table::TableReader;
 use std::alloc::Global;
 
 /// Runs the statements of a script one after another, up to the first fault, over an empty catalogue and without a cursor.
-pub fn run_statements<W: Host>(
+pub fn run_statements<T: TableReader, W: Host>(
     alloc: Global,
     evaluating: Evaluating,
     statements: &[Statement],
+    tables: &mut T,
     host: &mut W,
 ) -> Result<(), Fault>
     requires written { AreWritten (commands_of statements.now) }
@@ -38,6 +40,7 @@ pub fn run_statements<W: Host>(
             statement,
             &mut catalog,
             &mut session,
+            tables,
             host,
         ) {
             Ok(()) => {}
@@ -52,12 +55,13 @@ pub fn run_statements<W: Host>(
 }
 
 /// Runs a statement.
-fn run_statement<W: Host>(
+fn run_statement<T: TableReader, W: Host>(
     alloc: Global,
     evaluating: Evaluating,
     statement: &Statement,
     catalog: &mut Catalog,
     session: &mut Session,
+    tables: &mut T,
     host: &mut W,
 ) -> Result<(), Fault>
     requires written { IsWritten (command_of statement.now) }
@@ -84,17 +88,18 @@ fn run_statement<W: Host>(
         Statement::Close { name } => close(name, session),
         _ => {
             cursors_stand_in_larger_catalogues();
-            run_without_cursor(alloc, evaluating, statement, catalog, host)
+            run_without_cursor(alloc, evaluating, statement, catalog, tables, host)
         }
     }
 }
 
 /// Runs a statement that concerns no cursor.
-fn run_without_cursor<W: Host>(
+fn run_without_cursor<T: TableReader, W: Host>(
     alloc: Global,
     evaluating: Evaluating,
     statement: &Statement,
     catalog: &mut Catalog,
+    tables: &mut T,
     host: &mut W,
 ) -> Result<(), Fault>
     requires form { IsOfNoCursor (command_of statement.now) }
@@ -109,7 +114,7 @@ fn run_without_cursor<W: Host>(
             name,
             columns,
             file,
-        } => create_table(alloc, name, columns.items(), file, catalog, host.files()),
+        } => create_table(alloc, name, columns.items(), file, catalog, tables, host.files()),
         Statement::CreatePredicate { name, .. } => create_predicate(
             alloc, name, statement, catalog,
         ),

@@ -116,7 +116,7 @@ fn gen_command(words: &[Text]) -> Option<CommandLine<'_>>
 }
 
 /// A number of the command line: 1 to 20 decimal digits, that write a number from `least` to `most`.
-fn number_word(word: &Text, least: u64, most: u64) -> Option<u64>
+pub fn number_word(word: &Text, least: u64, most: u64) -> Option<u64>
     ensures { result ≡ number_word least most word.now }
 {
     if word.bytes().len() > 20 {

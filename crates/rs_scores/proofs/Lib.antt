@@ -1,3 +1,4 @@
+pub mod KnownTablesFacts
 pub mod QuestionFacts
 pub mod KnownFacts
 pub mod TableFacts

@@ -3,3 +3,4 @@ pub mod Known
 pub mod TableScorer
 pub mod Reading
 pub mod KnownFiles
+pub mod KnownTables

@@ -3,14 +3,13 @@ ghost use Rattle.rs_value.specs.Answer.{Gives};
 ghost use Rattle.rs_value.specs.Faults.{raised};
 ghost use Rattle.rs_value.specs.Outside.{Counts};
 ghost use Rattle.rs_value.specs.Value.{all_fit};
-ghost use Rattle.rs_expr.specs.Meaning.{value_of};
 ghost use Rattle.rs_expr.specs.Scoring.{Answers, call_of, calls_after, count_after};
 ghost use Rattle.rs_scores.specs.TableScorer.{after_score, answer_of, answered_score, missing_for, missing_last, new_scorer, score_answer, table_state};
 
 use crate::known::KnownScores;
 use crate::question::Question;
-use rs_expr::{Call, FormulaScorer, Predicate, Scorer, ScorerFault};
-use rs_value::{List, Memory, Text, Value};
+use rs_expr::{Call, Predicate, Scorer, ScorerFault, formula_value};
+use rs_value::{Memory, Text, Value};
 use std::alloc::Global;
 use std::marker::Model;
 
@@ -53,38 +52,6 @@ impl<'a> Model for TableScorer<'a> {
       missing = s.missing;
       faults = s.faults;
     }) };
-}
-
-/// Equal values, in the same order.
-fn copied_values(alloc: Global, values: &[Value]) -> Result<List<Value>, Memory>
-    ensures { IfOk result (λ copies. copies ≡ values.now) }
-{
-    let mut copies = Vec::new(alloc);
-    for value in values {
-        copies.push(value.copy()?)?;
-    }
-    Ok(List::of(copies))
-}
-
-/// The call of the predicate of this name with these arguments, which are copied.
-fn copied_call(alloc: Global, predicate: &Text, args: &[Value]) -> Result<Call, Memory>
-    ensures { IfOk result (λ call. call ≡ record { predicate = predicate.now; args = args.now }) }
-{
-    Ok(Call {
-        predicate: predicate.copy()?,
-        args: copied_values(alloc, args)?,
-    })
-}
-
-/// The value of a predicate's formula for these arguments.
-fn formula_value(predicate: &Predicate, args: &[Value]) -> i128
-    requires { all_fit predicate.now.params args.now ≡ true }
-    ensures { result ≡ value_of predicate.now.formula args.now }
-{
-    match FormulaScorer::new().score(predicate, args) {
-        Ok(value) => value,
-        Err(_) => unreachable!(),
-    }
 }
 
 /// What is answered for a call of a predicate with these arguments.
@@ -170,7 +137,7 @@ impl<'a> TableScorer<'a> {
         }) }
         ensures err { OnErr result (self.new ≡ self.old) }
     {
-        let call = copied_call(*self.calls.allocator(), predicate, args)?;
+        let call = Call::copy(*self.calls.allocator(), predicate, args)?;
         self.calls.push(call)?;
         self.count = self.count.saturating_add(1);
         self.faults = faults_after(missing.is_some(), self.faults);

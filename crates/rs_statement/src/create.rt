@@ -23,7 +23,7 @@ use rs_catalog::{Catalog, IndexDef, What};
 use rs_expr::{Predicate, Scorer};
 use rs_outside::Files;
 use rs_syntax::{Name, Statement};
-use rs_table::{Schema, TABLE_LIMIT, Table};
+use rs_table::{Schema, TABLE_LIMIT, Table, TableReader};
 use rs_value::{Kind, Text};
 use std::alloc::Global;
 
@@ -57,28 +57,30 @@ fn table_schema(
 }
 
 /// The table in a file.
-fn read_table<F: Files>(
+fn read_table<F: Files, T: TableReader>(
     alloc: Global,
     file: &Text,
     schema: Schema,
+    tables: &mut T,
     files: &mut F,
 ) -> Result<Table, Fault>
     ensures { FetchesFile file.now result (IsReadTable file.now schema) (F.state files.old) (F.state files.new) }
 {
     let bytes = fetch_file(alloc, file, TABLE_LIMIT, files)?;
-    match Table::read(alloc, files.hash_keys(), schema, &bytes) {
+    match tables.read_table(alloc, files.hash_keys(), schema, &bytes) {
         Ok(table) => Ok(table),
         Err(why) => Err(table_fault(file, why)),
     }
 }
 
 /// Makes a table of a file. Names and types count first, then whether there is room for the name.
-pub fn create_table<F: Files>(
+pub fn create_table<F: Files, T: TableReader>(
     alloc: Global,
     name: &Name,
     columns: &[(Name, Kind)],
     file: &Text,
     catalog: &mut Catalog,
+    tables: &mut T,
     files: &mut F,
 ) -> Result<(), Fault>
     requires { 1 ≤ length columns.now }
@@ -87,7 +89,7 @@ pub fn create_table<F: Files>(
         catalog.new result (record beside { files = F.state files.old }) (record beside { files = F.state files.new }) }
 {
     let schema = table_schema(alloc, name, columns, catalog)?;
-    let table = read_table(alloc, file, schema, files)?;
+    let table = read_table(alloc, file, schema, tables, files)?;
     let name = name.text.copy()?;
     catalog.add_table(name, table)?;
     Ok(())

@@ -1,3 +1,4 @@
+pub mod CopyFacts
 pub mod FieldFacts
 pub mod HeaderFacts
 pub mod NumberFacts

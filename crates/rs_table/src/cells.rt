@@ -1,4 +1,4 @@
-ghost use Rattle.std.specs.Prelude.{◌≡◌, ◌+◌, ◌<◌, ◌≤◌, ◌^◌, ◌∷◌, ◌++◌, [], OnOk, Some, length, slice_get, List, ℕ};
+ghost use Rattle.std.specs.Prelude.{◌≡◌, ◌+◌, ◌<◌, ◌≤◌, ◌^◌, ◌∷◌, ◌++◌, [], IfOk, OnOk, Some, length, slice_get, List, ℕ};
 ghost use Rattle.rs_value.specs.Value.{kind_of};
 ghost use Rattle.rs_value.specs.declared.kind.Kind.TheVariants as kind;
 ghost use Rattle.rs_value.specs.declared.value.Value.TheVariants as value;
@@ -80,6 +80,25 @@ impl Cells {
                 Value::Text(text) => texts.push(text),
                 Value::Int(_) => unreachable!(),
             },
+        }
+    }
+
+    /// The same cells.
+    pub fn copy(&self) -> Result<Cells, Memory>
+        ensures kind { IfOk result (λ copy. copy.kind ≡ self.now.kind) }
+        ensures cells { IfOk result (λ copy. copy.cells ≡ self.now.cells) }
+    {
+        match &self.kept {
+            Kept::Ints(numbers) => {
+                let mut copies = Vec::new(*numbers.allocator());
+                copies.extend_from_slice(numbers.as_slice())?;
+                Ok(Cells {
+                    kept: Kept::Ints(copies),
+                })
+            }
+            Kept::Texts(texts) => Ok(Cells {
+                kept: Kept::Texts(texts.copy()?),
+            }),
         }
     }
 

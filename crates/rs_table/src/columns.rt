@@ -101,6 +101,18 @@ impl Columns {
         Ok(())
     }
 
+    /// The same rows.
+    pub fn copy(&self) -> Result<Columns, Memory>
+        ensures kinds { IfOk result (λ copy. copy.kinds ≡ self.now.kinds) }
+        ensures rows { IfOk result (λ copy. copy.rows ≡ self.now.rows) }
+    {
+        let columns = copied_columns(*self.columns.allocator(), self.columns.as_slice())?;
+        Ok(Columns {
+            columns,
+            len: self.len,
+        })
+    }
+
     /// The cell of a row and a column.
     pub fn cell(&self, row: usize, column: usize) -> Cell<'_>
         requires row_in { row < length self.now.rows }
@@ -144,6 +156,18 @@ fn empty_columns(
         made.push(Cells::new(alloc, hash_keys, column.1))?;
     }
     Ok(made)
+}
+
+/// The same columns.
+fn copied_columns(alloc: Global, columns: &[Cells]) -> Result<Vec<Cells>, Memory>
+    ensures kinds { IfOk result (λ copies. kinds_in copies.items ≡ kinds_in columns.now) }
+    ensures cells { IfOk result (λ copies. cells_in copies.items ≡ cells_in columns.now) }
+{
+    let mut copies = Vec::with_capacity(alloc, columns.len())?;
+    for column in columns {
+        copies.push(column.copy()?)?;
+    }
+    Ok(copies)
 }
 
 /// Makes room for a number of further cells in each column.

@@ -10,6 +10,7 @@ mod cells;
 mod columns;
 mod fault;
 mod field;
+mod reader;
 mod records;
 mod schema;
 mod table;
@@ -17,6 +18,7 @@ mod texts;
 
 pub use cell::Cell;
 pub use fault::TableFault;
+pub use reader::{TableReader, TablesRead};
 pub use schema::{MOST_COLUMNS, Schema};
 pub use table::{MOST_ROWS, Table};
 

@@ -9,7 +9,7 @@ use crate::fault::TableFault;
 use crate::field::{field_at, text_at};
 use crate::records::Records;
 use csv::ByteRecord;
-use rs_value::{Kind, Text};
+use rs_value::{Kind, Memory, Text};
 use std::alloc::Global;
 use std::marker::Model;
 
@@ -67,6 +67,17 @@ impl Schema {
     {
         let place = place_in(self.columns.as_slice(), name)?;
         Some(place as u8)
+    }
+
+    /// The same columns.
+    pub fn copy(&self) -> Result<Schema, Memory>
+        ensures { IfOk result (λ copy. copy ≡ self.now) }
+    {
+        let mut columns = Vec::new(*self.columns.allocator());
+        for column in &self.columns {
+            columns.push((column.0.copy()?, column.1))?;
+        }
+        Ok(Schema { columns })
     }
 
     /// The columns in order.

@@ -70,6 +70,15 @@ impl Table {
         Ok(Table { schema, rows })
     }
 
+    /// The same table.
+    pub fn copy(&self) -> Result<Table, Memory>
+        ensures { IfOk result (λ copy. copy ≡ self.now) }
+    {
+        let schema = self.schema.copy()?;
+        let rows = self.rows.copy()?;
+        Ok(Table { schema, rows })
+    }
+
     /// The columns.
     pub fn schema(&self) -> &Schema
         ensures value { result.now ≡ self.now.schema }

@@ -1,4 +1,4 @@
-ghost use Rattle.std.specs.Prelude.{◌≡◌, ◌+◌, ◌<◌, ◌≤◌, ◌^◌, ◌∷◌, ◌++◌, [], OnOk, length, slice_index_or};
+ghost use Rattle.std.specs.Prelude.{◌≡◌, ◌+◌, ◌<◌, ◌≤◌, ◌^◌, ◌∷◌, ◌++◌, [], IfOk, OnOk, length, slice_index_or};
 ghost use Rattle.rs_table.specs.Texts.{text_number};
 
 use indexmap::IndexSet;
@@ -61,6 +61,16 @@ impl Texts {
         }
     }
 
+    /// The same texts, with the same numbers.
+    pub fn copy(&self) -> Result<Texts, Memory>
+        ensures { IfOk result (λ copy. copy.texts ≡ self.now.texts) }
+    {
+        let kept = copied_set(&self.kept)?;
+        let mut numbers = Vec::new(*self.numbers.allocator());
+        numbers.extend_from_slice(self.numbers.as_slice())?;
+        Ok(Texts { kept, numbers })
+    }
+
     /// The text at a place, which counts from 0.
     pub fn get(&self, place: usize) -> &Text
         requires { place < length self.now.texts }
@@ -76,4 +86,16 @@ impl Texts {
     {
         self.numbers[place]
     }
+}
+
+/// The same texts in the same order, hashed by the same keys.
+fn copied_set(texts: &IndexSet<Text, RandomState>) -> Result<IndexSet<Text, RandomState>, Memory>
+    ensures { IfOk result (λ copy. copy.keys ≡ texts.now.keys) }
+{
+    let mut copy =
+        IndexSet::with_capacity_and_hasher(*texts.allocator(), texts.len(), *texts.hasher())?;
+    for number in 0..texts.len() {
+        copy.insert(texts[number].copy()?)?;
+    }
+    Ok(copy)
 }

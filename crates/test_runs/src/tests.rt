@@ -4,6 +4,7 @@
 use rs_expr::{Call, MemScorer};
 use rs_outside::{MemFiles, MemSink};
 use rs_run::{Evaluating, Sampling, Status, run, run_file};
+use rs_table::TablesRead;
 use rs_value::{Memory, Text};
 use std::alloc::Global;
 use std::hash::RandomState;
@@ -221,6 +222,7 @@ fn end_of(alloc: Global, hash_keys: RandomState, case: &Case) -> Result<Ended, M
             alloc,
             evaluating,
             &script,
+            &mut TablesRead,
             &mut files,
             &mut scorer,
             &mut out,

@@ -1,5 +1,5 @@
-//! Tests of known scores: files of them, the lines that are written of them, a scorer over them, and files that are fetched
-//! once.
+//! Tests of known scores: files of them, the lines that are written of them, a scorer over them, files that are fetched once, and
+//! tables that are read once.
 //!
 //! They show what no clause says: that calls succeed where there is ample memory, and that they mean what a user would
 //! expect. The expected values are worked out by hand from the definitions, as Python's `csv` reads and writes records.
@@ -13,3 +13,5 @@ mod lines;
 mod read;
 #[cfg(test)]
 mod scorer;
+#[cfg(test)]
+mod tables_read;

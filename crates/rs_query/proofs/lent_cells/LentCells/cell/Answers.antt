@@ -1,10 +1,9 @@
 -- The column at the place is one of the block, and its entry has a row.
-use Rattle.std.proofs.Common.{ℕ, ◌≡◌, ◌∙◌, true, Some, sym, ap, subst}
+use Rattle.std.proofs.Common.{◌≡◌, ◌∙◌, true, Some, sym, ap, subst}
 use Rattle.std.specs.Prelude.{slice_get}
 use Rattle.rs_table.specs.Lent.{shown}
-use Rattle.rs_value.specs.Value.{fits}
 use Rattle.rs_query.specs.Lent.{Lent, lent_has, lent_values}
-use Rattle.rs_query.proofs.LentFacts.{at-column, at-kind, at-row, at-value, at-within}
+use Rattle.rs_query.proofs.LentFacts.{at-column, at-kind, at-row, at-value}
 use Rattle.rs_query.proofs.lent_cells.LentCells.cell.Goals as goal
 
 pub cell-requires-clause-column : goal.cell-requires-clause-column
