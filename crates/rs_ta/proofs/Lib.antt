@@ -1,0 +1,13 @@
+pub mod AdvanceFacts
+pub mod DepthFacts
+pub mod LookupFacts
+pub mod MemFacts
+pub mod NumberFacts
+pub mod PressFacts
+pub mod RankedFacts
+pub mod RoundFacts
+pub mod ScanFacts
+pub mod SeeFacts
+pub mod SeenFacts
+pub mod SightFacts
+pub mod Worked

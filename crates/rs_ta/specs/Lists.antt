@@ -1,0 +1,85 @@
+-- Ranked lists of the rows of one table, as contracts see them, and how often each was accessed. Lists and rows count from 1.
+use Rattle.std.specs.Prelude.{ℕ, ◌≡◌, ◌⊎◌, ◌<◌, ◌≤◌, ◌-◌, ◌^◌, ◌==◌, List, [], ◌∷◌, length, Option, Some, None, option_map, slice_get, slice_index_or, if◌then◌else◌}
+use Rattle.std.specs.List.{AllByRecursion}
+use Rattle.rs_rank.specs.declared.scored_row.ScoredRow.{ScoredRow}
+use Rattle.rs_value.specs.Faults.{raised}
+
+-- an entry comes before another one: its score is greater, or they are equal and its row is an earlier one
+abbrev pub EntryPrecedes : ScoredRow → ScoredRow → Type 0
+EntryPrecedes a b = (b.score < a.score) ⊎ ((a.score ≡ b.score) × (a.row < b.row))
+
+-- each entry comes before all behind it
+abbrev pub EntriesInOrder : List ScoredRow → Type 0
+EntriesInOrder [] = Unit {0}
+EntriesInOrder (a ∷ rest) = AllByRecursion (EntryPrecedes a) rest × EntriesInOrder rest
+
+-- no row stands twice
+abbrev pub RowsDiffer : List ScoredRow → Type 0
+RowsDiffer [] = Unit {0}
+RowsDiffer (a ∷ rest) = AllByRecursion (λ b. a.row ≡ b.row → ⊥) rest × RowsDiffer rest
+
+-- a row of a table of this many
+pub record IsRow (rows row : ℕ) : Type 0 where
+  pub some : 1 ≤ row
+  pub within : row ≤ rows
+
+-- a list has each of this many rows once, by score, the greatest first, then by number
+pub record IsRanked (rows : ℕ) (list : List ScoredRow) : Type 0 where
+  pub all : length list ≡ rows
+  pub each : AllByRecursion (λ e. IsRow rows e.row) list
+  pub differ : RowsDiffer list
+  pub ordered : EntriesInOrder list
+
+-- how many rows the lists have
+abbrev pub rows_in : List (List ScoredRow) → ℕ
+rows_in [] = 0
+rows_in (list ∷ rest) = length list
+
+-- one to eight ranked lists of the same rows
+pub record AreRanked (lists : List (List ScoredRow)) : Type 0 where
+  pub least : 1 ≤ length lists
+  pub most : length lists ≤ 8
+  pub few : rows_in lists < 2 ^ 32
+  pub each : AllByRecursion (IsRanked (rows_in lists)) lists
+
+-- the number of one of the lists
+pub record IsList (lists : List (List ScoredRow)) (number : ℕ) : Type 0 where
+  pub some : 1 ≤ number
+  pub within : number ≤ length lists
+
+-- the list of this number
+abbrev pub list_at : List (List ScoredRow) → ℕ → List ScoredRow
+list_at lists number = slice_index_or lists (number - 1) []
+
+-- the score of a row in a list, and 0 where it isn't in it
+abbrev pub score_of : ℕ → List ScoredRow → ℕ
+score_of row [] = 0
+score_of row (e ∷ rest) = if e.row == row then e.score else score_of row rest
+
+-- the lists, and of each number how many sorted and how many random accesses its list had; a count stands still at 2^64 - 1
+pub record ListsState : Type 0 where
+  pub lists : List (List ScoredRow)
+  pub sorted_count : ℕ → ℕ
+  pub random_count : ℕ → ℕ
+
+-- the score and the row of an entry
+abbrev pub pair_of : ScoredRow → ℕ × ℕ
+pair_of e = (e.score, e.row)
+
+-- what the next sorted access of a list gives: the place behind those that it gave
+abbrev pub next_entry : ListsState → ℕ → Option (ℕ × ℕ)
+next_entry state list = option_map pair_of (slice_get (list_at state.lists list) (state.sorted_count list))
+
+-- each list's count is as before
+abbrev pub AreSame : List (List ScoredRow) → (ℕ → ℕ) → (ℕ → ℕ) → Type 0
+AreSame lists old new = (number : ℕ) → IsList lists number → new number ≡ old number
+
+-- the count of one list is raised by one, and each other is as before
+abbrev pub IsRaisedAt : List (List ScoredRow) → ℕ → (ℕ → ℕ) → (ℕ → ℕ) → Type 0
+IsRaisedAt lists list old new =
+    (number : ℕ) → IsList lists number → new number ≡ (if number == list then raised (old number) else old number)
+
+-- a sorted access is counted where it gave an entry
+abbrev pub AreCounted : List (List ScoredRow) → ℕ → Option (ℕ × ℕ) → (ℕ → ℕ) → (ℕ → ℕ) → Type 0
+AreCounted lists list None old new = AreSame lists old new
+AreCounted lists list (Some entry) old new = IsRaisedAt lists list old new

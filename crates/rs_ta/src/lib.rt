@@ -1,0 +1,23 @@
+//! The threshold scan over ranked lists of the rows of one table: the threshold algorithm of Fagin, Lotem and Naor (Optimal
+//! aggregation algorithms for middleware, PODS 2001), with sorted and random accesses, each counted.
+//!
+//! Its promise: a scan gives the rows for which a test holds by falling sums, and makes exactly the accesses that the answers take:
+//! how deep it goes into each list, and which rows it looks up, is defined over the finished lists alone.
+#![tactic(auto)]
+
+mod access_counts;
+mod laws;
+mod lists;
+mod lookup;
+mod mem_lists;
+mod round;
+mod row_test;
+mod scan;
+mod seen_rows;
+mod terms;
+
+pub use laws::{depths_grow, new_scan_stands, thresholds_and_answers_rise};
+pub use lists::Lists;
+pub use mem_lists::MemLists;
+pub use row_test::RowTest;
+pub use scan::ThresholdScan;

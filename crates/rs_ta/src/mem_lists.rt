@@ -1,0 +1,94 @@
+ghost use Rattle.std.specs.Prelude.{◌≡◌, [], ◌∷◌, ◌-◌, ◌^◌, map, min, slice_get, sum};
+ghost use Rattle.rs_ta.specs.Lists.{AreRanked, score_of};
+ghost use Rattle.rs_ta.specs.MemLists.{entry_of, lists_state, scored_lists};
+
+use crate::access_counts::{raise, sum_of};
+use crate::lists::Lists;
+use std::marker::Model;
+
+/// Lists in memory, of scores and rows.
+#[derive(Debug, Drop)]
+pub struct MemLists {
+    lists: Vec<Vec<(u32, u32)>>,
+    sorted: [u64; 8],
+    random: [u64; 8],
+}
+
+impl Model for MemLists {
+    ghost use Rattle.rs_ta.specs.Lists.{AreRanked};
+    ghost use Rattle.rs_ta.specs.MemLists.{MemListsState, scored_lists};
+
+    ghost Value = { MemListsState };
+
+    ghost view = { λ m. record { lists = scored_lists m.lists.items; sorted = m.sorted; random = m.random } };
+
+    ghost invariant = { λ m. AreRanked (scored_lists m.lists.items) };
+}
+
+impl MemLists {
+    /// The lists, of which none was accessed. It takes no memory.
+    pub fn new(lists: Vec<Vec<(u32, u32)>>) -> MemLists
+        requires { AreRanked (scored_lists lists.items) }
+        ensures { result ≡ record {
+          lists = scored_lists lists.items;
+          sorted = 0 ∷ 0 ∷ 0 ∷ 0 ∷ 0 ∷ 0 ∷ 0 ∷ 0 ∷ [];
+          random = 0 ∷ 0 ∷ 0 ∷ 0 ∷ 0 ∷ 0 ∷ 0 ∷ 0 ∷ [];
+        } }
+    {
+        MemLists {
+            lists,
+            sorted: [0; 8],
+            random: [0; 8],
+        }
+    }
+
+    /// The sums of the sorted and of the random accesses of all lists. A sum that passes 2^64 - 1 is given as that.
+    pub fn counts(&self) -> (u64, u64)
+        ensures sorted { result.0 ≡ min (sum self.now.sorted) (2 ^ 64 - 1) }
+        ensures random { result.1 ≡ min (sum self.now.random) (2 ^ 64 - 1) }
+    {
+        (sum_of(&self.sorted), sum_of(&self.random))
+    }
+}
+
+impl Lists for MemLists {
+    ghost state = { lists_state };
+
+    fn lists(&self) -> u8 {
+        self.lists.len() as u8
+    }
+
+    fn sorted(&mut self, list: u8) -> Option<(u32, u32)> {
+        let place = self.sorted[usize::from(list - 1)];
+        let entry = entry_at(&self.lists[usize::from(list - 1)], place);
+        if entry.is_some() {
+            raise(&mut self.sorted, list);
+        }
+        entry
+    }
+
+    fn random(&mut self, list: u8, row: u32) -> u32 {
+        raise(&mut self.random, list);
+        score_in(&self.lists[usize::from(list - 1)], row)
+    }
+}
+
+/// The entry at a place, counted from 0.
+fn entry_at(list: &[(u32, u32)], place: u64) -> Option<(u32, u32)>
+    ensures { result ≡ slice_get list.now place }
+{
+    list.get(place as usize).copied()
+}
+
+/// The score of a row, or 0 where it isn't there.
+#[tactic(auto, using(crate::proofs::MemFacts::score_steps))]
+fn score_in(list: &[(u32, u32)], row: u32) -> u32
+    ensures { result ≡ score_of row (map entry_of list.now) }
+{
+    for (score, other) in list {
+        if *other == row {
+            return *score;
+        }
+    }
+    0
+}
