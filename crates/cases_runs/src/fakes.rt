@@ -121,9 +121,7 @@ impl Fakes {
         } = self;
         let evaluating = Evaluating::Planned(Sampling::ByGuesses(seed));
         let tables = &mut TablesRead;
-        Ok(run_file(
-            alloc, evaluating, script, tables, files, scorer, out, err,
-        ))
+        Ok(run_file(alloc, evaluating, script, tables, files, scorer, out, err))
     }
 
     /// Makes the files of the next run.

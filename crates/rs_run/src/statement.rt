@@ -114,7 +114,10 @@ fn run_without_cursor<T: TableReader, W: Host>(
             name,
             columns,
             file,
-        } => create_table(alloc, name, columns.items(), file, catalog, tables, host.files()),
+        } => {
+            let columns = columns.items();
+            create_table(alloc, name, columns, file, catalog, tables, host.files())
+        }
         Statement::CreatePredicate { name, .. } => create_predicate(
             alloc, name, statement, catalog,
         ),

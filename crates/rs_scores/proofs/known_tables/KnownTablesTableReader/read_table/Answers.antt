@@ -1,5 +1,5 @@
 -- A table that was read of the same bytes is theirs.
-use Rattle.std.proofs.Common.{◌≡◌, ◌∙◌, ap, inl, sym, subst}
+use Rattle.std.proofs.Common.{◌∙◌, ap, inl, sym, subst}
 use Rattle.std.specs.Prelude.{Ok, option_map}
 use Rattle.rs_scores.specs.KnownTables.{IsTableRead, TableRead}
 use Rattle.rs_scores.proofs.KnownTablesFacts.{read-is}
