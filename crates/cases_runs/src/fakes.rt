@@ -3,8 +3,7 @@
 use cases_lines::{Fault, read_escaped, read_times};
 use rs_expr::MemScorer;
 use rs_outside::{MemFiles, MemSink};
-use rs_run::{Evaluating, Sampling, Status, run, run_file};
-use rs_table::TablesRead;
+use rs_run::{Evaluating, Readers, Sampling, Status, run, run_file};
 use rs_value::{Memory, Text};
 use std::alloc::Global;
 use std::hash::RandomState;
@@ -120,8 +119,8 @@ impl Fakes {
             ..
         } = self;
         let evaluating = Evaluating::Planned(Sampling::ByGuesses(seed));
-        let tables = &mut TablesRead;
-        Ok(run_file(alloc, evaluating, script, tables, files, scorer, out, err))
+        let readers = &mut Readers::new();
+        Ok(run_file(alloc, evaluating, script, readers, files, scorer, out, err))
     }
 
     /// Makes the files of the next run.

@@ -4,7 +4,7 @@ use crate::script::Script;
 use crate::words::asking_of;
 use rs_ask::{Asked, Stop, ask_and_run};
 use rs_outside::{DirFiles, Files, Sink};
-use rs_run::Status;
+use rs_run::{KnownScript, Readers, Status};
 use rs_scores::{KnownFiles, KnownTables};
 use rs_value::{Memory, Text};
 use std::alloc::Global;
@@ -35,7 +35,10 @@ pub fn command<R: std::rt::Files, O: Sink, E: Sink>(
         Ok(prepared) => {
             let script = Script {
                 asking,
-                tables: KnownTables::new(alloc),
+                readers: Readers {
+                    script: KnownScript::new(),
+                    tables: KnownTables::new(alloc),
+                },
                 files: KnownFiles::new(alloc, DirFiles::new(rt, hash_keys)),
             };
             obey(alloc, prepared, script, out, err)

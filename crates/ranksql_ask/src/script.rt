@@ -6,15 +6,15 @@ ghost use Rattle.ranksql_ask.specs.Passes.{IsPass, is_memory, missing_in};
 use crate::words::Asking;
 use rs_ask::{Pass, Rerun};
 use rs_outside::{Files, MemSink};
-use rs_run::{Status, run_file};
+use rs_run::{Readers, Status, run_file};
 use rs_scores::{KnownFiles, KnownScores, KnownTables, Question, TableScorer};
 use std::alloc::Global;
 
-/// What is run again and again, the tables that were read, and the files that it fetches, which are the same in each run.
+/// What is run again and again, what was read of it, and the files that it fetches, which are the same in each run.
 #[derive(Drop)]
 pub struct Script<'a, F> {
     pub asking: Asking<'a>,
-    pub tables: KnownTables,
+    pub readers: Readers<KnownTables>,
     pub files: KnownFiles<F>,
 }
 
@@ -53,7 +53,7 @@ impl<'a, F: Files> Rerun for Script<'a, F> {
             alloc,
             self.asking.evaluating,
             self.asking.script,
-            &mut self.tables,
+            &mut self.readers,
             &mut self.files,
             &mut scorer,
             &mut out,

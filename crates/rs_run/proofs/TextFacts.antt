@@ -1,6 +1,6 @@
 -- What the text of a script did, from what the lexer, the parser and the statements did; and what its file did.
 use Rattle.std.proofs.Common.{ℕ, ◌≡◌, ◌≤◌, List, [], ◌∷◌, refl, sym, ap, subst, inl, inr}
-use Rattle.std.specs.Prelude.{Option, Result, Ok, Err, IsErr, IsErrAnd, length, ◌⊎◌}
+use Rattle.std.specs.Prelude.{IfErr, Option, Result, Ok, Err, IsErr, IsErrAnd, length, ◌⊎◌}
 use Rattle.rs_value.specs.Outside.{Outside}
 use Rattle.rs_outside.specs.Files.{FilesTold}
 use Rattle.rs_lex.specs.Spelling as spelling
@@ -19,7 +19,8 @@ use Rattle.rs_statement.specs.Faults.{lex_fault, parse_fault}
 use Rattle.rs_events.specs.Fetching.{FetchFails, Fetched, NotFetched}
 use Rattle.rs_statement.specs.Parts.Steps.{FetchesFile, Ran, Runs}
 use Rattle.rs_run.specs.Parts.Read.{IsSource}
-use Rattle.rs_run.specs.Plain.{HasTokens, TextRuns, read, runs, unlexed, unparsed, unread}
+use Rattle.rs_run.specs.Parts.Script.{IsRefused}
+use Rattle.rs_run.specs.Plain.{HasStatements, HasTokens, TextRuns, read, runs, unlexed, unparsed, unread}
 use Rattle.rs_events.specs.Events.{Event, Fetch, Finds, finds_in}
 use Rattle.rs_statement.specs.Steps.{Run, statement_faults}
 use Rattle.rs_events.specs.Run.{behind, fails}
@@ -65,31 +66,42 @@ Text-fails statements script each fault environment (inr memory) = record {
   ran = subst (λ fault. Ran each.0 (Err fault) environment environment) (sym memory) (Ran-first each.0 environment);
 }
 
-pub Text-unlexed : (statements : List Command → Run → Type 0) (script : List ℕ) → ((run : Run) × TextRuns statements script run) → (why : LexFault) (result : Result (Unit {0}) Fault)
-    (environment : Environment) → IsErr result × IsErrAnd result (λ fault. fault ≡ lex_fault why) → (why ≡ lex.Memory) ⊎ spelling.RefusesBytes 0 0 script why
-    → Runs (TextRuns statements script) result environment environment
-Text-unlexed statements script each why (Ok done) environment err refused = absurd err.1
-Text-unlexed statements script each why (Err fault) environment err refused =
-    subst (λ fault. Runs (TextRuns statements script) (Err fault) environment environment) (sym err.1)
-    (Text-fails statements script each (lex_fault why) environment (unlexed-runs statements script why refused))
+-- so no statements are made of it, whatever they do
+either : {A B : Type 0} → A ⊎ B → B ⊎ A
+either (inl a) = inr a
+either (inr b) = inl b
 
-pub Text-unparsed : (statements : List Command → Run → Type 0) (script : List ℕ) → ((run : Run) × TextRuns statements script run) → (tokens : List Token) (why : SyntaxFault)
-    (result : Result (Unit {0}) Fault) (environment : Environment) → IsErr result × IsErrAnd result (λ fault. fault ≡ parse_fault why) → HasTokens script tokens
-    → (why ≡ syntax.Memory) ⊎ Refuses script tokens why → Runs (TextRuns statements script) result environment environment
-Text-unparsed statements script each tokens why (Ok done) environment err lexed refused = absurd err.1
-Text-unparsed statements script each tokens why (Err fault) environment err lexed refused =
-    subst (λ fault. Runs (TextRuns statements script) (Err fault) environment environment) (sym err.1)
-    (Text-fails statements script each (parse_fault why) environment (unparsed-runs statements script tokens why lexed refused))
+pub refused-unlexed : {A : Type 0} (script : List ℕ) (why : LexFault) (result : Result A Fault) → IsErr result × IsErrAnd result (λ fault. fault ≡ lex_fault why)
+    → (why ≡ lex.Memory) ⊎ spelling.RefusesBytes 0 0 script why → IfErr result (λ fault. (fault ≡ Memory) ⊎ IsRefused script fault)
+refused-unlexed script why (Ok a) err refused = absurd err.1
+refused-unlexed script why (Err fault) err refused =
+    subst (λ f. (f ≡ Memory) ⊎ IsRefused script f) (sym err.1) (either (unlexed-runs (λ commands run. ⊥) script why refused))
 
--- the tokens parse, and the statements were run
-pub Text-runs : (statements : List Command → Run → Type 0) (script : List ℕ) (tokens : List Token) (commands : List Command) (result : Result (Unit {0}) Fault) (old new : Environment)
-    → HasTokens script tokens → Parses script tokens commands → IsSound script tokens → Runs (statements commands) result old new
-    → Runs (TextRuns statements script) result old new
-Text-runs statements script tokens commands result old new lexed parsed sound ran = record {
-  run = ran.run;
-  is = runs commands ran.run (record { tokens = tokens; lexed = lexed; parsed = parsed; sound = sound }) ran.is;
-  ran = ran.ran;
-}
+pub refused-unparsed : {A : Type 0} (script : List ℕ) (tokens : List Token) (why : SyntaxFault) (result : Result A Fault) → IsErr result × IsErrAnd result (λ fault. fault ≡ parse_fault why)
+    → HasTokens script tokens → (why ≡ syntax.Memory) ⊎ Refuses script tokens why → IfErr result (λ fault. (fault ≡ Memory) ⊎ IsRefused script fault)
+refused-unparsed script tokens why (Ok a) err lexed refused = absurd err.1
+refused-unparsed script tokens why (Err fault) err lexed refused =
+    subst (λ f. (f ≡ Memory) ⊎ IsRefused script f) (sym err.1) (either (unparsed-runs (λ commands run. ⊥) script tokens why lexed refused))
+
+TextRuns-turn : (a b : List Command → Run → Type 0) → ((commands : List Command) (run : Run) → a commands run → b commands run) → (script : List ℕ) (run : Run)
+    → TextRuns a script run → TextRuns b script run
+TextRuns-turn a b turn script _ (unlexed fault refuses) = unlexed fault refuses
+TextRuns-turn a b turn script _ (unparsed tokens fault lexed refuses) = unparsed tokens fault lexed refuses
+TextRuns-turn a b turn script run (runs commands _ made is) = runs commands run made (turn commands run is)
+
+-- the text is refused
+pub Text-refused : (statements : List Command → Run → Type 0) (script : List ℕ) → ((run : Run) × TextRuns statements script run) → (why : Fault) (result : Result (Unit {0}) Fault)
+    (environment : Environment) → IsErr result × IsErrAnd result (λ fault. fault ≡ why) → (why ≡ Memory) ⊎ IsRefused script why → Runs (TextRuns statements script) result environment environment
+Text-refused statements script each why (Ok done) environment err refused = absurd err.1
+Text-refused statements script each why (Err fault) environment err refused =
+    subst (λ fault. Runs (TextRuns statements script) (Err fault) environment environment) (sym err.1)
+    (Text-fails statements script each why environment
+    (elim refused [ inl memory ↦ inr memory | inr is ↦ inl (TextRuns-turn (λ commands run. ⊥) statements (λ commands run none. absurd none) script (fails why) is) ]))
+
+-- statements are made of it, and they were run
+pub Text-made : (statements : List Command → Run → Type 0) (script : List ℕ) (commands : List Command) (result : Result (Unit {0}) Fault) (old new : Environment)
+    → HasStatements script commands → Runs (statements commands) result old new → Runs (TextRuns statements script) result old new
+Text-made statements script commands result old new made ran = record { run = ran.run; is = runs commands ran.run made ran.is; ran = ran.ran }
 
 -- the tokens of the script, as the slice that is parsed
 pub HasTokens-slice : (script : List ℕ) (made slice : List Token) → Spells 0 script made → length made ≤ most_tokens → slice ≡ made → HasTokens script slice
@@ -109,12 +121,6 @@ RunOf-finds a b more answer evaluating state (command ∷ rest) run is = (
       → RunsOn (λ next more. RunOf (DoesInSession a answer evaluating) next rest more) events outcome run → RunsOn (λ next more. RunOf (DoesInSession b answer evaluating) next rest more) events outcome run
   on events (Err fault) turn r = r
   on events (Ok next) turn r = (r.0, turn next r.0 r.1, r.2)
-
-TextRuns-turn : (a b : List Command → Run → Type 0) → ((commands : List Command) (run : Run) → a commands run → b commands run) → (script : List ℕ) (run : Run)
-    → TextRuns a script run → TextRuns b script run
-TextRuns-turn a b turn script _ (unlexed fault refuses) = unlexed fault refuses
-TextRuns-turn a b turn script _ (unparsed tokens fault lexed refuses) = unparsed tokens fault lexed refuses
-TextRuns-turn a b turn script run (runs commands _ made is) = runs commands run made (turn commands run is)
 
 -- the run of a script over what a fetch found
 module _ (answer : Answering) (evaluating : Evaluating) (name : List ℕ) (environment : Environment) (files : Outside FilesTold) where

@@ -1,3 +1,4 @@
 -- Definitions that serve the contracts of private functions alone.
 pub mod CommandLine
 pub mod Read
+pub mod Script

@@ -13,6 +13,7 @@ ghost use Rattle.rs_run.specs.Words.{RunGenerated, RunScript, form_of};
 use crate::fault::RunFault;
 use crate::generated::run_generated;
 use crate::plain::run_script;
+use crate::readers::Readers;
 use crate::report::report;
 use crate::status::Status;
 use crate::top::top;
@@ -20,7 +21,7 @@ use crate::words::{CommandLine, command_line_of};
 use rs_expr::Scorer;
 use rs_outside::{Files, Sink};
 use rs_statement::{Evaluating, Fault};
-use rs_table::{TableReader, TablesRead};
+use rs_table::TableReader;
 use rs_value::Text;
 use std::alloc::Global;
 
@@ -65,13 +66,13 @@ pub fn run<F: Files, S: Scorer, O: Sink, E: Sink>(
 }
 
 /// Does what the script of a name says, with its queries evaluated so: what `run` does for the words `plain SCRIPT` and
-/// `run SCRIPT SEED`. Beside these, it may choose plans by guesses, for which `run` has no word; and `tables` may know tables
-/// that were read before.
+/// `run SCRIPT SEED`. Beside these, it may choose plans by guesses, for which `run` has no word; and the readers may know what
+/// was read before.
 pub fn run_file<T: TableReader, F: Files, S: Scorer, O: Sink, E: Sink>(
     alloc: Global,
     evaluating: Evaluating,
     script: &Text,
-    tables: &mut T,
+    readers: &mut Readers<T>,
     files: &mut F,
     scorer: &mut S,
     out: &mut O,
@@ -88,7 +89,7 @@ pub fn run_file<T: TableReader, F: Files, S: Scorer, O: Sink, E: Sink>(
         (environment (F.state files.old) (S.state scorer.old) (O.state out.old) (E.state err.old))
         (environment (F.state files.new) (S.state scorer.new) (O.state out.new) (E.state err.new)) }
 {
-    match run_script(alloc, evaluating, script, tables, files, scorer, out) {
+    match run_script(alloc, evaluating, script, readers, files, scorer, out) {
         Ok(()) => Status::Done,
         Err(fault) => {
             let fault = RunFault::Statement(fault);
@@ -141,8 +142,8 @@ fn obey<F: Files, S: Scorer, O: Sink>(
             out,
         ),
         CommandLine::RunScript(script, evaluating) => {
-            let tables = &mut TablesRead;
-            run_script(alloc, evaluating, script, tables, files, scorer, out)
+            let readers = &mut Readers::new();
+            run_script(alloc, evaluating, script, readers, files, scorer, out)
         }
         CommandLine::RunGenerated(number, rows) => {
             run_generated(alloc, files.hash_keys(), number, rows, scorer, out)

@@ -7,11 +7,11 @@ ghost use Rattle.rs_run.specs.Words.{RunGenerated};
 ghost use Rattle.rs_events.specs.Environment.{Environment};
 
 use crate::plain::run_script;
+use crate::readers::Readers;
 use rs_expr::Scorer;
 use rs_gen::generate;
 use rs_outside::Sink;
 use rs_statement::{Evaluating, Fault, Sampling};
-use rs_table::TablesRead;
 use rs_value::{Memory, Text};
 use std::alloc::Global;
 use std::hash::RandomState;
@@ -37,7 +37,7 @@ pub fn run_generated<S: Scorer, O: Sink>(
         alloc,
         evaluating,
         &name,
-        &mut TablesRead,
+        &mut Readers::new(),
         &mut files,
         scorer,
         out,

@@ -7,8 +7,10 @@
 mod command;
 mod fault;
 mod generated;
+mod known_script;
 mod laws;
 mod plain;
+mod readers;
 mod report;
 mod statement;
 mod status;
@@ -17,7 +19,9 @@ mod words;
 
 pub use command::{run, run_file};
 pub use fault::RunFault;
+pub use known_script::KnownScript;
 pub use laws::{cursors_keep_their_rows, one_run, plain_and_run_agree, words_have_a_run};
+pub use readers::Readers;
 pub use rs_statement::{Evaluating, Fault, Sampling, ScriptFault, SessionFault};
 pub use status::Status;
 pub use words::number_word;

@@ -10,13 +10,13 @@ ghost use Rattle.rs_statement.specs.Session.{StatementsRun};
 ghost use Rattle.rs_run.specs.Words.{RunScript};
 ghost use Rattle.rs_events.specs.Environment.{Environment};
 
+use crate::readers::Readers;
 use crate::statement::run_statements;
 use rs_events::{Host, Objects};
 use rs_expr::Scorer;
-use rs_lex::{MOST_BYTES, tokens};
+use rs_lex::MOST_BYTES;
 use rs_outside::{Files, Sink};
 use rs_statement::{Evaluating, Fault, ScriptFault, fetch_file};
-use rs_syntax::parse;
 use rs_table::TableReader;
 use rs_value::{Text, TextFault};
 use std::alloc::Global;
@@ -24,12 +24,12 @@ use std::alloc::Global;
 /// The bytes EF BB BF, of which one may stand at the start of a file.
 const BYTE_ORDER_MARK: &[u8] = b"\xEF\xBB\xBF";
 
-/// Does what a script says, statement by statement, up to the first fault. Its tables are read by `tables`.
+/// Does what a script says, statement by statement, up to the first fault. It and its tables are read by these readers.
 pub fn run_script<T: TableReader, F: Files, S: Scorer, O: Sink>(
     alloc: Global,
     evaluating: Evaluating,
     name: &Text,
-    tables: &mut T,
+    readers: &mut Readers<T>,
     files: &mut F,
     scorer: &mut S,
     out: &mut O,
@@ -41,7 +41,7 @@ pub fn run_script<T: TableReader, F: Files, S: Scorer, O: Sink>(
 {
     let script = fetch_script(alloc, name, files)?;
     let mut host = Objects { files, scorer, out };
-    run_text(alloc, evaluating, &script, tables, &mut host)
+    run_text(alloc, evaluating, script, readers, &mut host)
 }
 
 /// Fetches the text of a script, without the byte order mark at its start.
@@ -80,16 +80,15 @@ fn without_mark(bytes: &[u8]) -> &[u8]
 fn run_text<T: TableReader, W: Host>(
     alloc: Global,
     evaluating: Evaluating,
-    script: &Text,
-    tables: &mut T,
+    script: Text,
+    readers: &mut Readers<T>,
     host: &mut W,
 ) -> Result<(), Fault>
-    requires { length script.now ≤ 1048576 }
+    requires { length script ≤ 1048576 }
     ensures { Runs
-        (TextRuns (StatementsRun (finds_in (W.state host.old).files.told) (W.state host.old).scorer.answer evaluating) script.now) result
+        (TextRuns (StatementsRun (finds_in (W.state host.old).files.told) (W.state host.old).scorer.answer evaluating) script) result
         (W.state host.old) (W.state host.new) }
 {
-    let tokens = tokens(alloc, script)?;
-    let statements = parse(alloc, script, &tokens)?;
-    run_statements(alloc, evaluating, &statements, tables, host)
+    let statements = readers.script.statements(alloc, script)?;
+    run_statements(alloc, evaluating, statements, &mut readers.tables, host)
 }

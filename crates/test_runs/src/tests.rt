@@ -3,8 +3,7 @@
 
 use rs_expr::{Call, MemScorer};
 use rs_outside::{MemFiles, MemSink};
-use rs_run::{Evaluating, Sampling, Status, run, run_file};
-use rs_table::TablesRead;
+use rs_run::{Evaluating, Readers, Sampling, Status, run, run_file};
 use rs_value::{Memory, Text};
 use std::alloc::Global;
 use std::hash::RandomState;
@@ -222,7 +221,7 @@ fn end_of(alloc: Global, hash_keys: RandomState, case: &Case) -> Result<Ended, M
             alloc,
             evaluating,
             &script,
-            &mut TablesRead,
+            &mut Readers::new(),
             &mut files,
             &mut scorer,
             &mut out,
