@@ -1,7 +1,7 @@
 ghost use Rattle.std.specs.Prelude.{◌≤◌, IfOk, length};
 
 use crate::fault::AskFault;
-use rs_ask::Channel;
+use rs_ask::{Channel, ReadAnswers};
 use rs_events::fetch_file;
 use rs_outside::{DirFiles, FetchFault, Files, OutSink};
 use rs_run::Fault;
@@ -15,7 +15,7 @@ use std::hash::RandomState;
 #[derive(Drop)]
 pub struct Prepared<F> {
     pub known: KnownScores,
-    pub channel: Channel<OutSink<F>, F, OutSink<F>>,
+    pub channel: Channel<OutSink<F>, ReadAnswers<F>, OutSink<F>>,
 }
 
 /// Reads the known scores and opens the other files: first the questions and then the answers, as the two ends of pipes are
@@ -100,13 +100,13 @@ fn open_channel<R: std::rt::Files>(
     scores: &Text,
     questions: &Text,
     answers: &Text,
-) -> Result<Channel<OutSink<R::File>, R::File, OutSink<R::File>>, AskFault> {
+) -> Result<Channel<OutSink<R::File>, ReadAnswers<R::File>, OutSink<R::File>>, AskFault> {
     let questions = open_end(rt, questions, false)?;
     let answers = open_answers(rt, answers)?;
     let scores = open_end(rt, scores, true)?;
     Ok(Channel {
         questions: OutSink::new(questions),
-        answers,
+        answers: ReadAnswers::new(answers),
         scores: OutSink::new(scores),
     })
 }

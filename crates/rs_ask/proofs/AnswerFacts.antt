@@ -1,39 +1,26 @@
 -- Answers, one after another.
-use Rattle.std.proofs.Common.{◌≡◌, ◌≤◌, ◌∙◌, ℕ, ℤ, true, false, arith, cond, List, [], ◌∷◌, ◌++◌, length, Option, Some, None, ap, append-nil, eqb, refl, subst, sym, take}
-use Rattle.std.specs.Io.KnownBytes.{Consumes}
-use Rattle.std.specs.List.{concat}
-use Rattle.std.specs.Prelude.{IfSome, map}
+use Rattle.std.proofs.Common.{◌≡◌, ◌≤◌, ◌∙◌, ℕ, ℤ, ◌+◌, Bool, true, false, arith, cond, List, [], ◌∷◌, ◌++◌, length, length-append, min, Ok, Option, Some, None, ap, append-nil, append_assoc, eqb, ltb, not, refl, subst, sym, take, ◌||◌}
+use Rattle.std.specs.Io.KnownBytes.{Consumes, IsAtEnd}
+use Rattle.std.specs.List.{list_any}
+use Rattle.std.proofs.lemmas.Bool.{le-ltb, lt-ltb, ne_eqb, or_from, true≢false}
 use Rattle.std.proofs.lemmas.Bool.Decides.{Decides-eqb}
-use Rattle.std.proofs.lemmas.List.{map-append, take_all}
-use Rattle.std.proofs.lemmas.List.Folds.{concat-append}
+use Rattle.std.proofs.lemmas.List.{take_all, take_at}
+use Rattle.std.proofs.lemmas.List.Folds.{list_any-append}
+use Rattle.std.proofs.Math.Seq.{take-append-add}
 use Rattle.rs_outside.proofs.StreamFacts.{Consumes-then}
 use Rattle.rs_scores.specs.declared.known_score.KnownScore.{KnownScore}
-use Rattle.rs_ask.specs.Answers.{HasNoEnd, ReadsNumber, ReadsScores, answer_in, ended, without_return}
+use Rattle.rs_ask.specs.declared.answers.ReadFault.{ReadFault}
+use Rattle.rs_ask.specs.Answers.{ReadsAnswer, ReadsByte, ReadsScores, answer_bytes, answer_in, line_length, next_answer, without_return}
 
--- no answer was read
-pub ReadsScores-none : (left : Option (List ℕ)) → ReadsScores [] left left
-ReadsScores-none left = record { lines = []; numbers = refl; consumed = nothing left } where
-  nothing : (left : Option (List ℕ)) → Consumes left left []
-  nothing None = tt
-  nothing (Some bytes) = refl
+-- no byte of a line is a line feed
+abbrev pub HasNoEnd : List ℕ → Type 0
+HasNoEnd line = list_any (λ (byte : ℕ). eqb byte 10) line ≡ false
 
 -- answers, and then one more
-pub ReadsScores-more : (entries : List KnownScore) (entry : KnownScore) (old middle new : Option (List ℕ)) → ReadsScores entries old middle → ReadsNumber entry.score middle new
-    → ReadsScores (entries ++ entry ∷ []) old new
-ReadsScores-more entries entry old middle new reads last = record {
-  lines = reads.lines ++ last.line ∷ [];
-  numbers =
-      map-append answer_in reads.lines (last.line ∷ [])
-      ∙ ap (λ numbers. numbers ++ answer_in last.line ∷ []) reads.numbers
-      ∙ ap (λ number. map (λ (e : KnownScore). Some e.score) entries ++ number ∷ []) last.is
-      ∙ sym (map-append (λ (e : KnownScore). Some e.score) entries (entry ∷ []));
-  consumed =
-      subst (Consumes old new)
-      (ap (λ bytes. concat (map ended reads.lines) ++ bytes) (sym (append-nil (ended last.line)))
-      ∙ sym (concat-append (map ended reads.lines) (ended last.line ∷ []))
-      ∙ ap concat (sym (map-append ended reads.lines (last.line ∷ []))))
-      (Consumes-then old middle new (concat (map ended reads.lines)) (ended last.line) reads.consumed last.consumed);
-}
+pub ReadsScores-more : (entries more : List KnownScore) (old middle new : Option (List ℕ)) → ReadsScores entries old middle → ReadsScores more middle new → ReadsScores (entries ++ more) old new
+ReadsScores-more [] more old middle new none reads = subst (λ (from : Option (List ℕ)). ReadsScores more from new) none reads
+ReadsScores-more (entry ∷ entries) more old middle new first reads =
+    (first.0, first.1, ReadsScores-more entries more first.0 middle new first.2 reads)
 
 -- a line that doesn't end in a carriage return stays as it is
 pub without_return-other : (line : List ℕ) → ((front : List ℕ) → line ≡ front ++ 13 ∷ [] → ⊥) → without_return line ≡ line
@@ -55,16 +42,91 @@ without_return-push (first ∷ next ∷ rest) byte =
     ap (λ more. first ∷ more) (without_return-push (next ∷ rest) byte)
     ∙ (elim (eqb byte 13) as (λ b. first ∷ cond b (next ∷ rest) (next ∷ rest ++ byte ∷ []) ≡ cond b (first ∷ next ∷ rest) (first ∷ next ∷ rest ++ byte ∷ [])) [ true ↦ refl | false ↦ refl ])
 
--- the number of a line that is as long as one may be
-pub ReadsNumber-whole : (line : List ℕ) (len byte : ℕ) (old middle new : Option (List ℕ)) (result : Option ℤ) → length line ≡ 64 → 64 ≤ len → HasNoEnd (take len line) → Consumes old middle (take len line)
-    → Consumes middle new (byte ∷ []) → byte ≡ 10 → result ≡ answer_in line → IfSome result (λ score. ReadsNumber score old new)
-ReadsNumber-whole line len byte old middle new None whole past one first last ten is = tt
-ReadsNumber-whole line len byte old middle new (Some score) whole past one first last ten is =
-    let all : take len line ≡ line = take_all len line (omega (arith, whole, past)) in
-    record {
-      line = line;
-      one = subst HasNoEnd all one;
-      short = omega (arith, whole);
-      is = sym is;
-      consumed = Consumes-then old middle new line (10 ∷ []) (subst (Consumes old middle) all first) (subst (λ (b : ℕ). Consumes middle new (b ∷ [])) ten last);
-    }
+-- what one read took
+pub byte_read : (next : Option ℕ) (byte : ℕ) (old new : Option (List ℕ)) → next ≡ Some byte → ReadsByte {E = ReadFault} (Ok next) old new → Consumes old new (byte ∷ [])
+byte_read next byte old new is reads = subst (λ (n : Option ℕ). ReadsByte {E = ReadFault} (Ok n) old new) is reads
+
+pub end_read : (next : Option ℕ) (old new : Option (List ℕ)) → next ≡ None → ReadsByte {E = ReadFault} (Ok next) old new → Consumes old new [] × IsAtEnd new
+end_read next old new is reads = subst (λ (n : Option ℕ). ReadsByte {E = ReadFault} (Ok n) old new) is reads
+
+-- bytes behind a line that isn't ended
+line_length-append : (line rest : List ℕ) → HasNoEnd line → line_length (line ++ rest) ≡ length line + line_length rest
+line_length-append [] rest none = omega arith
+line_length-append (byte ∷ line) rest none =
+    (elim (eqb byte 10) as (λ b. (b || list_any (λ (byte : ℕ). eqb byte 10) line) ≡ false → cond (not b) (1 + line_length (line ++ rest)) 0 ≡ length (byte ∷ line) + line_length rest) [
+      | true ↦ λ e. absurd (true≢false e)
+      | false ↦ λ e. omega (arith, line_length-append line rest e)
+    ]) none
+
+-- what a choice gives
+cond-true : {X : Type 0} (b : Bool) (x y : X) → b ≡ true → cond b x y ≡ x
+cond-true true x y e = refl
+cond-true false x y e = absurd (true≢false (sym e))
+
+cond-false : {X : Type 0} (b : Bool) (x y : X) → b ≡ false → cond b x y ≡ y
+cond-false true x y e = absurd (true≢false e)
+cond-false false x y e = refl
+
+-- a line that is ended is the next one
+next-ended : (line rest : List ℕ) → HasNoEnd line → length line ≤ 64 → (next_answer (line ++ 10 ∷ rest) ≡ answer_in line) × (answer_bytes (line ++ 10 ∷ rest) ≡ line ++ 10 ∷ [])
+next-ended line rest none short =
+    let at : line_length (line ++ 10 ∷ rest) ≡ length line = omega (arith, line_length-append line (10 ∷ rest) none) in
+    let long : length (line ++ 10 ∷ rest) ≡ length line + length (10 ∷ rest) = length-append line (10 ∷ rest) in (
+      cond-true (ltb (line_length (line ++ 10 ∷ rest)) (min 65 (length (line ++ 10 ∷ rest)))) (answer_in (take (line_length (line ++ 10 ∷ rest)) (line ++ 10 ∷ rest))) None (lt-ltb _ _ (omega arith))
+          ∙ ap (λ n. answer_in (take n (line ++ 10 ∷ rest))) at
+          ∙ ap answer_in (take_at line (10 ∷ rest) (length line) refl),
+      ap (λ n. take n (line ++ 10 ∷ rest)) (omega arith) ∙ take-append-add line (10 ∷ rest) 1,
+    )
+
+-- bytes that aren't ended have no next line
+next-end : (line : List ℕ) → HasNoEnd line → length line ≤ 64 → (next_answer line ≡ None) × (answer_bytes line ≡ line)
+next-end line none short =
+    let at : line_length line ≡ length line = ap line_length (sym (append-nil line)) ∙ line_length-append line [] none ∙ omega arith in (
+      cond-false (ltb (line_length line) (min 65 (length line))) (answer_in (take (line_length line) line)) None (le-ltb _ _ (omega arith)),
+      take_all (min 65 (line_length line + 1)) line (omega arith),
+    )
+
+-- nor has a line that is longer than one may be
+next-long : (line rest : List ℕ) → HasNoEnd line → length line ≡ 65 → (next_answer (line ++ rest) ≡ None) × (answer_bytes (line ++ rest) ≡ line)
+next-long line rest none long =
+    let at : line_length (line ++ rest) ≡ length line + line_length rest = line_length-append line rest none in (
+      cond-false (ltb (line_length (line ++ rest)) (min 65 (length (line ++ rest)))) (answer_in (take (line_length (line ++ rest)) (line ++ rest))) None (le-ltb _ _ (omega arith)),
+      ap (λ n. take n (line ++ rest)) (omega arith) ∙ take_at line rest (length line) refl,
+    )
+
+-- bytes that were taken are those of the next answer, whatever stands behind them
+ReadsAnswer-taken : (answer : Option ℤ) (taken : List ℕ) (old new : Option (List ℕ)) → Consumes old new taken
+    → ((rest : List ℕ) → (next_answer (taken ++ rest) ≡ answer) × (answer_bytes (taken ++ rest) ≡ taken)) → ReadsAnswer answer old new
+ReadsAnswer-taken answer taken None new consumed is = record { left = taken; known = tt; is = sym (ap next_answer (sym (append-nil taken)) ∙ (is []).0); consumed = tt }
+ReadsAnswer-taken answer taken (Some bytes) None consumed is = absurd consumed
+ReadsAnswer-taken answer taken (Some bytes) (Some rest) consumed is =
+    record { left = taken ++ rest; known = consumed; is = sym (is rest).0; consumed = consumed ∙ ap (λ front. front ++ rest) (sym (is rest).1) }
+
+-- an ended line was read
+pub ReadsAnswer-ended : (line : List ℕ) (byte : ℕ) (old middle new : Option (List ℕ)) (answer : Option ℤ) → HasNoEnd line → length line ≤ 64 → Consumes old middle line → Consumes middle new (byte ∷ []) → byte ≡ 10
+    → answer ≡ answer_in line → ReadsAnswer answer old new
+ReadsAnswer-ended line byte old middle new answer none short first last ten is =
+    ReadsAnswer-taken answer (line ++ 10 ∷ []) old new (Consumes-then old middle new line (10 ∷ []) first (subst (λ (b : ℕ). Consumes middle new (b ∷ [])) ten last)) (λ rest. (
+      ap next_answer (append_assoc line (10 ∷ []) rest) ∙ (next-ended line rest none short).0 ∙ sym is,
+      ap answer_bytes (append_assoc line (10 ∷ []) rest) ∙ (next-ended line rest none short).1,
+    ))
+
+-- a line was read that is too long
+pub ReadsAnswer-long : (line : List ℕ) (byte : ℕ) (old middle new : Option (List ℕ)) → HasNoEnd line → length line ≡ 64 → Consumes old middle line → Consumes middle new (byte ∷ []) → (byte ≡ 10 → ⊥) → ReadsAnswer None old new
+ReadsAnswer-long line byte old middle new none long first last other =
+    ReadsAnswer-taken None (line ++ byte ∷ []) old new (Consumes-then old middle new line (byte ∷ []) first last)
+    (λ rest. next-long (line ++ byte ∷ []) rest (list_any-append (λ (b : ℕ). eqb b 10) line (byte ∷ []) ∙ or_from _ _ none (or_from _ _ (ne_eqb byte 10 other) refl)) (length-append line (byte ∷ []) ∙ omega (arith, long)))
+
+-- bytes were read to their end
+pub ReadsAnswer-end : (line : List ℕ) (old middle new : Option (List ℕ)) → HasNoEnd line → length line ≤ 64 → Consumes old middle line → Consumes middle new [] → IsAtEnd new → ReadsAnswer None old new
+ReadsAnswer-end line old middle new none short first last end =
+    at_end old new (subst (Consumes old new) (append-nil line) (Consumes-then old middle new line [] first last)) end where
+      at_end : (old new : Option (List ℕ)) → Consumes old new line → IsAtEnd new → ReadsAnswer None old new
+      at_end None new consumed end = record { left = line; known = tt; is = sym (next-end line none short).0; consumed = tt }
+      at_end (Some bytes) None consumed end = absurd consumed
+      at_end (Some bytes) (Some rest) consumed end = record {
+        left = line;
+        known = consumed ∙ ap (λ behind. line ++ behind) end ∙ append-nil line;
+        is = sym (next-end line none short).0;
+        consumed = consumed ∙ ap (λ front. front ++ rest) (sym (next-end line none short).1);
+      }

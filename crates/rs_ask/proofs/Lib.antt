@@ -1,3 +1,4 @@
 pub mod PutFacts
 pub mod AnswerFacts
 pub mod AskingFacts
+mod Worked

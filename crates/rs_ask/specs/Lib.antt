@@ -1,3 +1,4 @@
 pub mod Answers
+pub mod ReadAnswers
 pub mod Stops
 pub mod Asking

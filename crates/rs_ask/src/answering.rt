@@ -1,20 +1,21 @@
-ghost use Rattle.std.specs.Prelude.{◌≡◌, ◌≢◌, ◌∷◌, [], ◌+◌, IfErr, IfOk, IfSome, List, MatchOption, None, OnErr, OnOk, Option, Some, length, option_map, ℕ};
+ghost use Rattle.std.specs.Prelude.{◌≡◌, ◌≢◌, ◌∷◌, [], ◌+◌, IfErr, IfOk, IfSome, MatchOption, None, OnErr, OnOk, Some, length};
 ghost use Rattle.std.specs.Bool.{MatchBool};
+ghost use Rattle.rs_value.specs.Outside.{Faulted, Keeps};
 ghost use Rattle.rs_scores.specs.Known.{score_of};
-ghost use Rattle.rs_ask.specs.Answers.{ReadsNumber};
-ghost use Rattle.rs_ask.specs.Asking.{Answered, AskStops, Learns, NotAnswered, PutsAll, PutsAndPart, known_line, question_line};
+ghost use Rattle.rs_ask.specs.Answers.{ReadsAnswer};
+ghost use Rattle.rs_ask.specs.Asking.{Answered, AskStops, HasNoAnswer, Learns, NotAnswered, PutsAll, PutsAndPart, channel_state, known_line, question_line};
 
 use crate::answer::read_answer;
+use crate::answers::Answers;
 use crate::channel::Channel;
 use crate::stop::Stop;
 use rs_outside::{Sink, SinkFault};
 use rs_scores::{KnownScore, KnownScores, Question};
 use std::alloc::Global;
-use std::io::Read;
 
 /// Asks for the score of the question that is missing, reads the answer, keeps it, and adds it to the table. Says whether there was
 /// a question with an answer.
-pub(crate) fn ask<Q: Sink, A: Read, K: Sink>(
+pub(crate) fn ask<Q: Sink, A: Answers, K: Sink>(
     alloc: Global,
     missing: &Option<Question>,
     known: &mut KnownScores,
@@ -22,15 +23,10 @@ pub(crate) fn ask<Q: Sink, A: Read, K: Sink>(
 ) -> Result<bool, Stop>
     requires { IfSome missing.now (λ question. score_of question known.old ≡ None) }
     ensures ok { IfOk result (λ answered. MatchBool answered
-        (Answered missing.now known.old known.new
-        (record { questions = Q.state channel.old.questions; answers = A.remaining channel.old.answers; scores = K.state channel.old.scores })
-        (record { questions = Q.state channel.new.questions; answers = A.remaining channel.new.answers; scores = K.state channel.new.scores }))
-        (NotAnswered missing.now known.old known.new
-        (record { questions = Q.state channel.old.questions; answers = A.remaining channel.old.answers; scores = K.state channel.old.scores })
-        (record { questions = Q.state channel.new.questions; answers = A.remaining channel.new.answers; scores = K.state channel.new.scores }))) }
+        (Answered missing.now known.old known.new (channel_state Q.state A.state K.state channel.old) (channel_state Q.state A.state K.state channel.new))
+        (NotAnswered missing.now known.old known.new (channel_state Q.state A.state K.state channel.old) (channel_state Q.state A.state K.state channel.new))) }
     ensures err { IfErr result (λ stop. AskStops missing.now stop known.old known.new
-        (record { questions = Q.state channel.old.questions; answers = A.remaining channel.old.answers; scores = K.state channel.old.scores })
-        (record { questions = Q.state channel.new.questions; answers = A.remaining channel.new.answers; scores = K.state channel.new.scores })) }
+        (channel_state Q.state A.state K.state channel.old) (channel_state Q.state A.state K.state channel.new)) }
 {
     let Some(question) = missing else {
         return Ok(false);
@@ -52,17 +48,20 @@ pub(crate) fn ask<Q: Sink, A: Read, K: Sink>(
 }
 
 /// Asks a question, and reads its answer, where there is one.
-fn answer_to<Q: Sink, A: Read>(
+fn answer_to<Q: Sink, A: Answers>(
     alloc: Global,
     question: &Question,
     questions: &mut Q,
     answers: &mut A,
 ) -> Result<Option<i64>, Stop>
-    ensures answered { IfOk result (λ answer. IfSome answer (λ score.
-        PutsAll (question_line question.now ∷ []) (Q.state questions.old) (Q.state questions.new)
-        × ReadsNumber score (A.remaining answers.old) (A.remaining answers.new))) }
+    ensures ok { IfOk result (λ answer. MatchOption answer
+        (HasNoAnswer question.now (Q.state questions.old) (Q.state questions.new) (A.state answers.old) (A.state answers.new))
+        (λ score. PutsAll (question_line question.now ∷ []) (Q.state questions.old) (Q.state questions.new)
+        × ReadsAnswer (Some score) (A.state answers.old).told (A.state answers.new).told)) }
+    ensures err { IfErr result (λ stop. (stop ≡ Stop.Memory) × (A.state answers.new ≡ A.state answers.old)) }
     ensures asked { PutsAndPart [] (Some (question_line question.now)) (Q.state questions.old) (Q.state questions.new) }
-    ensures err { IfErr result (λ stop. stop ≡ Stop.Memory) }
+    ensures asks { Keeps (Q.state questions.old) (Q.state questions.new) }
+    ensures reads { Keeps (A.state answers.old) (A.state answers.new) }
 {
     let line = question.line(alloc)?;
     match questions.put(&line) {
@@ -86,7 +85,9 @@ fn keep<K: Sink>(
     ensures kept { OnOk result (PutsAll (known_line entry ∷ []) (K.state scores.old) (K.state scores.new)) }
     ensures same { OnErr result (known.new ≡ known.old) }
     ensures not_differs { IfErr result (λ stop. stop ≢ Stop.Differs) }
+    ensures write { IfErr result (λ stop. stop ≡ Stop.Write → Faulted (K.state scores.old) (K.state scores.new)) }
     ensures part { PutsAndPart [] (Some (known_line entry)) (K.state scores.old) (K.state scores.new) }
+    ensures keeps { Keeps (K.state scores.old) (K.state scores.new) }
 {
     let line = entry.line(alloc)?;
     scores.put(&line)?;

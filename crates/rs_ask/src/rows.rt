@@ -1,4 +1,5 @@
 ghost use Rattle.std.specs.Prelude.{◌≡◌, ◌++◌, IfErr, List, OnOk, ℕ};
+ghost use Rattle.rs_value.specs.Outside.{Faulted, Keeps};
 ghost use Rattle.rs_ask.specs.Asking.{PutsBytes};
 ghost use Rattle.rs_ask.specs.Stops.{StopsAt};
 
@@ -15,6 +16,8 @@ pub(crate) fn put_new<O: Sink>(
 ) -> Result<(), Stop>
     ensures ok { OnOk result ((new : List ℕ) × (all.now ≡ shown.now ++ new) × PutsBytes new (O.state out.old) (O.state out.new)) }
     ensures err { IfErr result (λ stop. (new : List ℕ) × PutsBytes new (O.state out.old) (O.state out.new) × StopsAt stop lacked_memory (shown.now ++ new) all.now) }
+    ensures write { IfErr result (λ stop. stop ≡ Stop.Write → Faulted (O.state out.old) (O.state out.new)) }
+    ensures keeps { Keeps (O.state out.old) (O.state out.new) }
 {
     let Some(new) = all.strip_prefix(shown) else {
         if lacked_memory {

@@ -9,4 +9,6 @@ mod answers;
 #[cfg(test)]
 mod asked;
 #[cfg(test)]
+mod failing;
+#[cfg(test)]
 mod planned;

@@ -1,4 +1,5 @@
-use Rattle.std.proofs.Common.{◌∙◌, [], Some, subst}
+use Rattle.std.proofs.Common.{◌∙◌, [], Err, Some, ap, inl, refl, subst}
+use Rattle.rs_value.proofs.OutsideFacts.{Faulted-one}
 use Rattle.rs_ask.specs.Asking.{PutsAndPart}
 use Rattle.rs_ask.proofs.PutFacts.{PutsAndPart-put}
 use Rattle.rs_ask.proofs.answering.answer_to.Goals as goal
@@ -12,3 +13,14 @@ pub returns-in-Err-Failed-clause-asked : goal.returns-in-Err-Failed-clause-asked
 returns-in-Err-Failed-clause-asked g c =
     subst (λ line. PutsAndPart [] (Some line) (g.Q.Sink.state c.args.questions.now) (g.Q.Sink.state c.put.new.self)) (c.deref.ensures.value ∙ c.in_ok-line.ensures)
     (PutsAndPart-put c.deref.result.now c.put.result (g.Q.Sink.state c.args.questions.now) (g.Q.Sink.state c.put.new.self) c.put.ensures.puts)
+
+pub returns-in-Err-Failed-clause-ok : goal.returns-in-Err-Failed-clause-ok
+returns-in-Err-Failed-clause-ok g c = inl (
+  record {
+    part =
+        subst (λ line. PutsAndPart [] (Some line) (g.Q.Sink.state c.args.questions.now) (g.Q.Sink.state c.put.new.self)) (c.deref.ensures.value ∙ c.in_ok-line.ensures)
+        (PutsAndPart-put c.deref.result.now c.put.result (g.Q.Sink.state c.args.questions.now) (g.Q.Sink.state c.put.new.self) c.put.ensures.puts);
+    faulted = Faulted-one (g.Q.Sink.state c.args.questions.now) (g.Q.Sink.state c.put.new.self) c.put.ensures.counts (c.in-Err-Failed.is ∙ ap Err c.in-Err-Failed.field-0-is);
+  },
+  refl,
+)
