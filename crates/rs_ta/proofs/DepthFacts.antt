@@ -25,7 +25,8 @@ use Rattle.rs_rank.specs.declared.scored_row.ScoredRow.{ScoredRow}
 use Rattle.rs_rank.specs.Keys.{key_cmp}
 use Rattle.rs_rank.proofs.OrderFacts.{key_cmp-total}
 use Rattle.rs_ta.specs.Depths.{ScanInput, Sight, answers, answers_among, depth, entry_at, row_key, row_of, rows_shown, sights, threshold, thresholds}
-use Rattle.rs_ta.specs.Lists.{AreRanked, EntryPrecedes, IsRanked, IsRow, rows_in, score_of}
+use Rattle.rs_catalog.specs.Indexes.{EntryPrecedes}
+use Rattle.rs_ta.specs.Lists.{AreRanked, IsRanked, IsRow, rows_in, score_of}
 use Rattle.rs_ta.specs.Scans.{HaveWeights, IsEntry}
 use Rattle.rs_ta.proofs.NumberFacts.{AreApart, In-numbers_from, In-numbers_from-back, apart-filter, apart-numbers_from, cases-In, length-numbers_from}
 use Rattle.rs_ta.proofs.PressFacts.{press-row, press-thresholds, tied-row}

@@ -1,5 +1,10 @@
 pub mod AdvanceFacts
+pub mod AnswerFacts
+pub mod BlockTestFacts
+pub mod CountFacts
 pub mod DepthFacts
+pub mod EligibleFacts
+pub mod IndexListFacts
 pub mod LookupFacts
 pub mod MemFacts
 pub mod NumberFacts
@@ -10,4 +15,5 @@ pub mod ScanFacts
 pub mod SeeFacts
 pub mod SeenFacts
 pub mod SightFacts
+pub mod TermFacts
 pub mod Worked

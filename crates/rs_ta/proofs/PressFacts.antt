@@ -15,7 +15,7 @@ use Rattle.rs_rank.specs.declared.scored_row.ScoredRow.{ScoredRow}
 use Rattle.rs_rank.specs.Keys.{ids_cmp, key_cmp}
 use Rattle.rs_rank.proofs.OrderFacts.{IsTied-parts}
 use Rattle.rs_ta.specs.Depths.{greatest, ids_at, weighted_sum}
-use Rattle.rs_ta.specs.Lists.{EntryPrecedes}
+use Rattle.rs_catalog.specs.Indexes.{EntryPrecedes}
 use Rattle.rs_ta.specs.Scans.{IsEntry}
 
 -- no row yet

@@ -6,7 +6,8 @@ use Rattle.rs_order.specs.Climbing.{In}
 use Rattle.rs_order.proofs.EachFacts.{each-get_or, each-map}
 use Rattle.rs_rank.specs.declared.scored_row.ScoredRow.{ScoredRow}
 use Rattle.rs_ta.specs.Depths.{entry_at}
-use Rattle.rs_ta.specs.Lists.{EntriesInOrder, EntryPrecedes, IsRanked, IsRow, RowsDiffer, score_of}
+use Rattle.rs_catalog.specs.Indexes.{EntriesInOrder, EntryPrecedes, RowsDiffer}
+use Rattle.rs_ta.specs.Lists.{IsRanked, IsRow, score_of}
 use Rattle.rs_ta.proofs.NumberFacts.{AreApart, all-apart}
 
 abbrev no_entry : ScoredRow

@@ -1,4 +1,7 @@
+pub mod BlockTests
 pub mod Depths
+pub mod Eligible
+pub mod IndexLists
 pub mod Lists
 pub mod Lookups
 pub mod MemLists

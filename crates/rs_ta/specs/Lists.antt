@@ -1,22 +1,10 @@
 -- Ranked lists of the rows of one table, as contracts see them, and how often each was accessed. Lists and rows count from 1.
-use Rattle.std.specs.Prelude.{ℕ, ◌≡◌, ◌⊎◌, ◌<◌, ◌≤◌, ◌-◌, ◌^◌, ◌==◌, List, [], ◌∷◌, length, Option, Some, None, option_map, slice_get, slice_index_or, if◌then◌else◌}
+use Rattle.std.specs.Prelude.{ℕ, ◌≡◌, ◌<◌, ◌≤◌, ◌-◌, ◌^◌, ◌==◌, List, [], ◌∷◌, length, map, sum, Option, Some, None, option_map, slice_get, slice_index, slice_index_or, if◌then◌else◌}
 use Rattle.std.specs.List.{AllByRecursion}
+use Rattle.rs_order.specs.Schedule.{numbers_from}
 use Rattle.rs_rank.specs.declared.scored_row.ScoredRow.{ScoredRow}
+use Rattle.rs_catalog.specs.Indexes.{EntriesInOrder, RowsDiffer}
 use Rattle.rs_value.specs.Faults.{raised}
-
--- an entry comes before another one: its score is greater, or they are equal and its row is an earlier one
-abbrev pub EntryPrecedes : ScoredRow → ScoredRow → Type 0
-EntryPrecedes a b = (b.score < a.score) ⊎ ((a.score ≡ b.score) × (a.row < b.row))
-
--- each entry comes before all behind it
-abbrev pub EntriesInOrder : List ScoredRow → Type 0
-EntriesInOrder [] = Unit {0}
-EntriesInOrder (a ∷ rest) = AllByRecursion (EntryPrecedes a) rest × EntriesInOrder rest
-
--- no row stands twice
-abbrev pub RowsDiffer : List ScoredRow → Type 0
-RowsDiffer [] = Unit {0}
-RowsDiffer (a ∷ rest) = AllByRecursion (λ b. a.row ≡ b.row → ⊥) rest × RowsDiffer rest
 
 -- a row of a table of this many
 pub record IsRow (rows row : ℕ) : Type 0 where
@@ -83,3 +71,11 @@ IsRaisedAt lists list old new =
 abbrev pub AreCounted : List (List ScoredRow) → ℕ → Option (ℕ × ℕ) → (ℕ → ℕ) → (ℕ → ℕ) → Type 0
 AreCounted lists list None old new = AreSame lists old new
 AreCounted lists list (Some entry) old new = IsRaisedAt lists list old new
+
+-- the sum of the counts of this many lists
+abbrev pub total : ℕ → (ℕ → ℕ) → ℕ
+total lists count = sum (map count (numbers_from 1 lists))
+
+-- the count of a list, of counts that stand in the order of the lists
+abbrev pub count_in : List ℕ → ℕ → ℕ
+count_in counts list = slice_index counts (list - 1)

@@ -1,9 +1,9 @@
 -- Lists in memory: what they hold, and what contracts see of them.
-use Rattle.std.specs.Prelude.{ℕ, ◌-◌, List, map, slice_index}
+use Rattle.std.specs.Prelude.{ℕ, List, map}
 use Rattle.std.specs.declared.vec.Vec.{Vec}
 use Rattle.std.specs.declared.alloc.Global.{Global}
 use Rattle.rs_rank.specs.declared.scored_row.ScoredRow.{ScoredRow}
-use Rattle.rs_ta.specs.Lists.{ListsState}
+use Rattle.rs_ta.specs.Lists.{ListsState, count_in}
 
 -- the lists, and how many sorted and how many random accesses each had, of at most eight
 pub record MemListsState : Type 0 where
@@ -23,6 +23,6 @@ scored_lists lists = map (λ list. map entry_of list.items) lists
 abbrev pub lists_state : MemListsState → ListsState
 lists_state state = record {
   lists = state.lists;
-  sorted_count = λ list. slice_index state.sorted (list - 1);
-  random_count = λ list. slice_index state.random (list - 1);
+  sorted_count = count_in state.sorted;
+  random_count = count_in state.random;
 }

@@ -2,10 +2,15 @@
 //! aggregation algorithms for middleware, PODS 2001), with sorted and random accesses, each counted.
 //!
 //! Its promise: a scan gives the rows for which a test holds by falling sums, and makes exactly the accesses that the answers take:
-//! how deep it goes into each list, and which rows it looks up, is defined over the finished lists alone.
+//! how deep it goes into each list, and which rows it looks up, is defined over the finished lists alone. Over the rank indexes of an
+//! eligible block its rows are the answer of the block.
 #![tactic(auto)]
 
 mod access_counts;
+mod block_laws;
+mod block_test;
+mod eligible;
+mod index_lists;
 mod laws;
 mod lists;
 mod lookup;
@@ -16,6 +21,10 @@ mod scan;
 mod seen_rows;
 mod terms;
 
+pub use block_laws::{eligible_blocks_can_be_scanned, threshold_scans_give_the_answer};
+pub use block_test::BlockTest;
+pub use eligible::eligible_indexes;
+pub use index_lists::IndexLists;
 pub use laws::{depths_grow, new_scan_stands, thresholds_and_answers_rise};
 pub use lists::Lists;
 pub use mem_lists::MemLists;

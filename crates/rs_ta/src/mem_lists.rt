@@ -1,5 +1,5 @@
-ghost use Rattle.std.specs.Prelude.{◌≡◌, [], ◌∷◌, ◌-◌, ◌^◌, map, min, slice_get, sum};
-ghost use Rattle.rs_ta.specs.Lists.{AreRanked, score_of};
+ghost use Rattle.std.specs.Prelude.{◌≡◌, [], ◌∷◌, ◌-◌, ◌^◌, length, map, min, slice_get};
+ghost use Rattle.rs_ta.specs.Lists.{AreRanked, score_of, total};
 ghost use Rattle.rs_ta.specs.MemLists.{entry_of, lists_state, scored_lists};
 
 use crate::access_counts::{raise, sum_of};
@@ -44,10 +44,11 @@ impl MemLists {
 
     /// The sums of the sorted and of the random accesses of all lists. A sum that passes 2^64 - 1 is given as that.
     pub fn counts(&self) -> (u64, u64)
-        ensures sorted { result.0 ≡ min (sum self.now.sorted) (2 ^ 64 - 1) }
-        ensures random { result.1 ≡ min (sum self.now.random) (2 ^ 64 - 1) }
+        ensures sorted { result.0 ≡ min (total (length self.now.lists) (lists_state self.now).sorted_count) (2 ^ 64 - 1) }
+        ensures random { result.1 ≡ min (total (length self.now.lists) (lists_state self.now).random_count) (2 ^ 64 - 1) }
     {
-        (sum_of(&self.sorted), sum_of(&self.random))
+        let lists = self.lists.len();
+        (sum_of(&self.sorted, lists), sum_of(&self.random, lists))
     }
 }
 
