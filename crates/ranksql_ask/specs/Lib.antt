@@ -1,3 +1,5 @@
+pub mod AskFaults
+pub mod Endings
 pub mod Passes
 pub mod Words
 pub mod Parts

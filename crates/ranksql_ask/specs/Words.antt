@@ -14,3 +14,8 @@ guessing_form _ = None
 -- the words `plain SCRIPT` or `run SCRIPT SEED`
 abbrev pub asking_form : List (List ℕ) → Option Form
 asking_form words = first_some (plain_form words) (guessing_form words)
+
+-- what words ask for: NAMES SCORES QUESTIONS ANSWERS, and such words behind them
+abbrev pub command_form : List (List ℕ) → Option Form
+command_form (names ∷ scores ∷ questions ∷ answers ∷ rest) = asking_form rest
+command_form _ = None

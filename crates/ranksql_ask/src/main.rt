@@ -1,8 +1,9 @@
 //! The program `ranksql_ask`. It runs the words of `ranksql` over scores that are known, asks a process of the user's for each
 //! score that is missing, and runs them again.
 //!
-//! Its promise: each run is a run of rs_run over a lawful scorer, and rs_ask's promise of questions and rows is of these runs.
-//! That the files of the system are opened where the words say is only tested.
+//! Its promise: each run is a run of rs_run over a lawful scorer, and rs_ask's promise of questions and rows is of these runs;
+//! the lines on standard error and the status are as defined for what they end with. That the files of the system are opened
+//! where the words say is only tested.
 #![tactic(auto)]
 
 mod command;

@@ -1,4 +1,5 @@
-ghost use Rattle.std.specs.Prelude.{◌≤◌, IfOk, length};
+ghost use Rattle.std.specs.Prelude.{◌≡◌, ◌≢◌, ◌≤◌, ◌⊎◌, IfErr, IfOk, length};
+ghost use Rattle.ranksql_ask.specs.AskFaults.{refused_fault};
 
 use crate::fault::AskFault;
 use rs_ask::{Channel, ReadAnswers};
@@ -28,7 +29,9 @@ pub fn prepare<R: std::rt::Files>(
     scores: &Text,
     questions: &Text,
     answers: &Text,
-) -> Result<Prepared<R::File>, AskFault> {
+) -> Result<Prepared<R::File>, AskFault>
+    ensures { IfErr result (λ fault. fault ≢ AskFault.Usage) }
+{
     let known = read_known(alloc, &mut DirFiles::new(rt, hash_keys), names, scores)?;
     let channel = open_channel(rt, scores, questions, answers)?;
     Ok(Prepared { known, channel })
@@ -40,7 +43,9 @@ fn read_known<F: Files>(
     files: &mut F,
     names: &Text,
     scores: &Text,
-) -> Result<KnownScores, AskFault> {
+) -> Result<KnownScores, AskFault>
+    ensures { IfErr result (λ fault. fault ≢ AskFault.Usage) }
+{
     let bytes = match bytes_of(alloc, files, scores) {
         Ok(bytes) => bytes,
         Err(why) => return Err(unread(scores, why)),
@@ -49,7 +54,7 @@ fn read_known<F: Files>(
         Ok(asked) => asked,
         Err(Memory) => {
             drop(bytes);
-            return Err(AskFault::Outside(Fault::Memory));
+            return Err(AskFault::from(Fault::Memory));
         }
     };
     match read_scores(alloc, asked, &bytes) {
@@ -70,10 +75,16 @@ fn bytes_of<F: Files>(alloc: Global, files: &mut F, scores: &Text) -> Result<Vec
 }
 
 /// The fault of a file that holds no known scores.
-fn refused(name: &Text, why: KnownFault) -> AskFault {
-    match name.copy() {
-        Ok(name) => AskFault::Scores(name, why),
-        Err(Memory) => AskFault::Outside(Fault::Memory),
+fn refused(name: &Text, why: KnownFault) -> AskFault
+    ensures value { (result ≡ refused_fault name.now why) ⊎ (result ≡ refused_fault name.now KnownFault.Memory) }
+    ensures not_usage { result ≢ AskFault.Usage }
+{
+    match why {
+        KnownFault::Memory => AskFault::from(Fault::Memory),
+        why => match name.copy() {
+            Ok(name) => AskFault::Scores(name, why),
+            Err(Memory) => AskFault::from(Fault::Memory),
+        },
     }
 }
 
@@ -87,10 +98,12 @@ fn names_in(alloc: Global, word: &Text) -> Result<Vec<Text>, Memory> {
 }
 
 /// The fault of a file that couldn't be read.
-fn unread(name: &Text, why: FetchFault) -> AskFault {
+fn unread(name: &Text, why: FetchFault) -> AskFault
+    ensures { result ≢ AskFault.Usage }
+{
     match name.copy() {
-        Ok(name) => AskFault::Outside(Fault::Read { name, why }),
-        Err(Memory) => AskFault::Outside(Fault::Memory),
+        Ok(name) => AskFault::from(Fault::Read { name, why }),
+        Err(Memory) => AskFault::from(Fault::Memory),
     }
 }
 
@@ -100,7 +113,9 @@ fn open_channel<R: std::rt::Files>(
     scores: &Text,
     questions: &Text,
     answers: &Text,
-) -> Result<Channel<OutSink<R::File>, ReadAnswers<R::File>, OutSink<R::File>>, AskFault> {
+) -> Result<Channel<OutSink<R::File>, ReadAnswers<R::File>, OutSink<R::File>>, AskFault>
+    ensures { IfErr result (λ fault. fault ≢ AskFault.Usage) }
+{
     let questions = open_end(rt, questions, false)?;
     let answers = open_answers(rt, answers)?;
     let scores = open_end(rt, scores, true)?;
@@ -112,19 +127,23 @@ fn open_channel<R: std::rt::Files>(
 }
 
 /// Opens a file behind whose end is written.
-fn open_end<R: std::rt::Files>(rt: &R, name: &Text, create: bool) -> Result<R::File, AskFault> {
+fn open_end<R: std::rt::Files>(rt: &R, name: &Text, create: bool) -> Result<R::File, AskFault>
+    ensures { IfErr result (λ fault. fault ≢ AskFault.Usage) }
+{
     match OpenOptions::new()
         .append(true)
         .create(create)
         .open(rt, name.as_str())
     {
         Ok(file) => Ok(file),
-        Err(_) => Err(AskFault::Outside(Fault::Write)),
+        Err(_) => Err(AskFault::from(Fault::Write)),
     }
 }
 
 /// Opens the file of answers.
-fn open_answers<R: std::rt::Files>(rt: &R, name: &Text) -> Result<R::File, AskFault> {
+fn open_answers<R: std::rt::Files>(rt: &R, name: &Text) -> Result<R::File, AskFault>
+    ensures { IfErr result (λ fault. fault ≢ AskFault.Usage) }
+{
     match OpenOptions::new().read(true).open(rt, name.as_str()) {
         Ok(file) => Ok(file),
         Err(_) => Err(unread(name, FetchFault::Failed)),
