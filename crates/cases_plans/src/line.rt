@@ -137,6 +137,7 @@ impl Cases for Planning {
             b"counted" => self.tell_counted(alloc, first, script),
             b"costs" => self.tell_costs(alloc, first, script),
             b"ask" => self.tell_asks(alloc, first, script),
+            b"scan" => self.tell(alloc, &Asked::Scan(count_of(first)?), script),
             b"calls" => self.tell(alloc, &Asked::Calls(number_of(first)?), script),
             b"cards" => self.tell(alloc, &Asked::Cards(number_of(first)?), script),
             b"time" => self.tell_time(alloc, first, script),

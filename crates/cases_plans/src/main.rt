@@ -1,5 +1,5 @@
 //! Plans, executes and samples the queries that the lines of standard input ask for. Such lines are the tests of `rs_enum` and
-//! `rs_exec`, and tests of `rs_plan` and `rs_sample`; `bench/join.sh` and `bench/sample.sh` measure by some of them.
+//! `rs_exec`, and tests of `rs_plan`, `rs_sample` and `rs_ta`; `bench/join.sh` and `bench/sample.sh` measure by some of them.
 //!
 //! Each line is printed as it is, and what it asks for behind it. A line is one of these, its words with one space between:
 //! - `front SCRIPT`: this comes in front of the scripts behind this line, behind what earlier such lines said. `front`
@@ -17,6 +17,7 @@
 //!   the least cost of the plans without Distinct of each of these signatures, or `none`. A signature is `BLOCK:ENTRIES:TERMS`, with
 //!   a comma between two.
 //! - `ask PLAN COUNT SCRIPT`: the first query is asked for a row this many times, by this plan.
+//! - `scan COUNT SCRIPT`: the first query is asked for a row this many times, by a threshold scan over its rank indexes.
 //! - `calls SEED SCRIPT`: a sample is taken of the first query by this seed. The calls are told, those of the indexes first.
 //! - `cards SEED SCRIPT`: the same, and the estimates are told.
 //! - `time TAKES ASKS SCRIPT`: samples are taken this many times, by the seeds from 0 on, and behind each all estimates are asked for
@@ -33,6 +34,9 @@
 //! score and its values; `none`; or the fault; and behind it the calls that this ask made, in order. The last line has the
 //! counts of each node, in the order of COUNTS above, and the query's LIMIT. It is left out where an ask had a fault.
 //!
+//! Of each ask of `scan` one line is told: the number of the row and its sum, or `none`; and behind it how deep the scan is by then, and
+//! how many sorted and how many random accesses it made. Where the query isn't eligible `not eligible` is told alone.
+//!
 //! The estimates of `cards` have a line for each block and each mask of its entries, `BLOCK MASK: ESTIMATE..`, with one
 //! estimate for each mask of the terms that read these entries alone, from mask 0 on; and a line for each term that reads one
 //! entry, `BLOCK index ENTRY TERM: ESTIMATE`. The number of calls comes behind them.
@@ -47,6 +51,7 @@ mod least;
 mod line;
 mod plan;
 mod query;
+mod scans;
 mod script;
 mod time;
 

@@ -10,6 +10,7 @@ use crate::asks::tell_rows;
 use crate::cards::{tell_cards, tell_sample};
 use crate::costs::{Sought, tell_costs};
 use crate::least::tell_least;
+use crate::scans::tell_scan;
 use crate::time::tell_time;
 use cases_lines::Fault;
 use cases_scripts::bind_fault;
@@ -33,6 +34,8 @@ pub enum Asked {
     Costs(u64, Vec<Sought>),
     /// The rows that this plan gives, asked for this many times.
     Rows(Plan, u32),
+    /// The rows that a threshold scan gives, asked for this many times.
+    Scan(u32),
     /// The calls of a sample by this seed.
     Calls(u64),
     /// The estimates of a sample by this seed.
@@ -82,6 +85,7 @@ fn tell_bound(
         Asked::Rows(plan, count) => {
             return tell_rows(alloc, catalog, query, plan, *count, scorer);
         }
+        Asked::Scan(count) => tell_scan(alloc, catalog, &query, *count),
         Asked::Calls(seed) => tell_sample(alloc, catalog, &query, *seed, scorer),
         Asked::Cards(seed) => tell_cards(alloc, catalog, &query, *seed, scorer),
         Asked::Time { takes, asks } => tell_time(alloc, catalog, &query, *takes, *asks),
