@@ -1,6 +1,6 @@
 -- What the text of a script did, from what the lexer, the parser and the statements did; and what its file did.
 use Rattle.std.proofs.Common.{ℕ, ◌≡◌, ◌≤◌, List, [], ◌∷◌, refl, sym, ap, subst, inl, inr}
-use Rattle.std.specs.Prelude.{IfErr, Option, Result, Ok, Err, IsErr, IsErrAnd, length, ◌⊎◌}
+use Rattle.std.specs.Prelude.{IfErr, Option, Some, None, option_map, Result, Ok, Err, IsErr, IsErrAnd, length, ◌⊎◌}
 use Rattle.rs_value.specs.Outside.{Outside}
 use Rattle.rs_outside.specs.Files.{FilesTold}
 use Rattle.rs_lex.specs.Spelling as spelling
@@ -10,7 +10,8 @@ use Rattle.rs_lex.specs.declared.fault.LexFault.TheVariants as lex
 use Rattle.rs_lex.specs.declared.token.Token.{Token}
 use Rattle.rs_expr.specs.Scoring.{Answering, ScorerState}
 use Rattle.rs_syntax.specs.Scripts.{IsSound, Parses, Refuses}
-use Rattle.rs_syntax.specs.Syntax.{Command}
+use Rattle.rs_syntax.specs.Syntax.{Command, commands_of}
+use Rattle.rs_syntax.specs.declared.statement.Statement.{Statement}
 use Rattle.rs_syntax.specs.declared.fault.SyntaxFault.{SyntaxFault}
 use Rattle.rs_syntax.specs.declared.fault.SyntaxFault.TheVariants as syntax
 use Rattle.rs_statement.specs.declared.fault.Fault.{Fault}
@@ -19,7 +20,7 @@ use Rattle.rs_statement.specs.Faults.{lex_fault, parse_fault}
 use Rattle.rs_events.specs.Fetching.{FetchFails, Fetched, NotFetched}
 use Rattle.rs_statement.specs.Parts.Steps.{FetchesFile, Ran, Runs}
 use Rattle.rs_run.specs.Parts.Read.{IsSource}
-use Rattle.rs_run.specs.Parts.Script.{IsRefused}
+use Rattle.rs_run.specs.Parts.Script.{IsRefused, IsScriptRead, ScriptRead}
 use Rattle.rs_run.specs.Plain.{HasStatements, HasTokens, TextRuns, read, runs, unlexed, unparsed, unread}
 use Rattle.rs_events.specs.Events.{Event, Fetch, Finds, finds_in}
 use Rattle.rs_statement.specs.Steps.{Run, statement_faults}
@@ -102,6 +103,14 @@ Text-refused statements script each why (Err fault) environment err refused =
 pub Text-made : (statements : List Command → Run → Type 0) (script : List ℕ) (commands : List Command) (result : Result (Unit {0}) Fault) (old new : Environment)
     → HasStatements script commands → Runs (statements commands) result old new → Runs (TextRuns statements script) result old new
 Text-made statements script commands result old new made ran = record { run = ran.run; is = runs commands ran.run made ran.is; ran = ran.ran }
+
+-- a script that was read is made of its statements
+pub script-made : (read : Option ScriptRead) (text : List ℕ) (statements : List Statement) → option_map (λ (r : ScriptRead). r.text) read ≡ Some text
+    → ((r : ScriptRead) → read ≡ Some r → statements ≡ r.statements) → ((r : ScriptRead) → read ≡ Some r → IsScriptRead r) → HasStatements text (commands_of statements)
+script-made None text statements is same made = cc
+script-made (Some r) text statements is same made =
+    let own : r.text ≡ text = cc in
+    subst (λ t. HasStatements t (commands_of statements)) own (subst (λ all. HasStatements r.text (commands_of all)) (sym (same r refl)) (made r refl).made)
 
 -- the tokens of the script, as the slice that is parsed
 pub HasTokens-slice : (script : List ℕ) (made slice : List Token) → Spells 0 script made → length made ≤ most_tokens → slice ≡ made → HasTokens script slice

@@ -1,8 +1,5 @@
-ghost use Rattle.std.specs.Prelude.{◌≡◌, ◌≤◌, ◌⊎◌, ◌↔◌, IfErr, IfOk, IsTrue, None, Some, length, option_map};
-ghost use Rattle.rs_syntax.specs.Syntax.{commands_of};
-ghost use Rattle.rs_syntax.specs.Written.{AreWritten};
-ghost use Rattle.rs_run.specs.Parts.Script.{IsRefused, ScriptRead};
-ghost use Rattle.rs_run.specs.Plain.{HasStatements};
+ghost use Rattle.std.specs.Prelude.{◌≡◌, ◌≤◌, ◌⊎◌, ◌↔◌, IfErr, IfOk, IsTrue, None, OnErr, OnOk, Some, length, option_map};
+ghost use Rattle.rs_run.specs.Parts.Script.{IsRefused, IsScriptRead, ScriptRead};
 
 use rs_lex::tokens;
 use rs_statement::Fault;
@@ -56,22 +53,31 @@ impl KnownScript {
         KnownScript { read: None }
     }
 
-    /// The statements of a script of this text, which is kept.
-    pub(crate) fn statements(&mut self, alloc: Global, text: Text) -> Result<&[Statement], Fault>
+    /// Reads a script of this text, unless it is the one that was read last.
+    pub(crate) fn read(&mut self, alloc: Global, text: Text) -> Result<(), Fault>
         requires { length text ≤ 1048576 }
-        ensures made { IfOk result (λ statements. HasStatements text (commands_of statements.now)) }
-        ensures written { IfOk result (λ statements. AreWritten (commands_of statements.now)) }
+        ensures read { OnOk result (option_map (λ read. read.text) self.new ≡ Some text) }
         ensures refused { IfErr result (λ fault. (fault ≡ Fault.Memory) ⊎ IsRefused text fault) }
+        ensures same { OnErr result (self.new ≡ self.old) }
 
         // What was read is read no more.
-        ensures known { (read : ScriptRead) → self.old ≡ Some read → read.text ≡ text → self.new ≡ self.old }
+        ensures known { option_map (λ read. read.text) self.old ≡ Some text → self.new ≡ self.old }
     {
-        if !self.has(&text) {
-            self.read = Some(read_script(alloc, text)?);
+        if self.has(&text) {
+            return Ok(());
         }
+        self.read = Some(read_script(alloc, text)?);
+        Ok(())
+    }
+
+    /// The statements of the script that was read last. There are none where none was read.
+    pub(crate) fn statements(&self) -> &[Statement]
+        ensures statements { (read : ScriptRead) → self.now ≡ Some read → result.now ≡ read.statements }
+        ensures made { (read : ScriptRead) → self.now ≡ Some read → IsScriptRead read }
+    {
         match &self.read {
-            Some(read) => Ok(read.statements.as_slice()),
-            None => unreachable!(),
+            Some(read) => read.statements.as_slice(),
+            None => &[],
         }
     }
 

@@ -89,6 +89,7 @@ fn run_text<T: TableReader, W: Host>(
         (TextRuns (StatementsRun (finds_in (W.state host.old).files.told) (W.state host.old).scorer.answer evaluating) script) result
         (W.state host.old) (W.state host.new) }
 {
-    let statements = readers.script.statements(alloc, script)?;
+    readers.script.read(alloc, script)?;
+    let statements = readers.script.statements();
     run_statements(alloc, evaluating, statements, &mut readers.tables, host)
 }

@@ -13,7 +13,7 @@ returns-in-CreateTable g c =
     rw g.met.W.Host.after_files (
     Stepped-map _ (Does finds old.scorer.answer c.args.evaluating c.args.catalog.now (command_of c.args.statement.now)) c.create_table.new.catalog c.create_table.result old _
     (Does-table finds old.scorer.answer c.args.evaluating c.args.catalog.now c.args.statement.now c.in-CreateTable.name c.in-CreateTable.columns c.deref.result.now c.in-CreateTable.file c.in-CreateTable.is
-    (c.deref.ensures.value ∙ c.items.ensures))
+    (c.deref.ensures.value ∙ c.items-columns.ensures))
     (rw c.files.ensures.value at c.create_table.ensures old))
 
 pub returns-in-CreateRankIndex : goal.returns-in-CreateRankIndex
