@@ -8,10 +8,8 @@ use Rattle.rs_lex.specs.Spelling.{RefusesBytes, Spells, most_tokens}
 use Rattle.rs_lex.specs.declared.fault.LexFault.{LexFault}
 use Rattle.rs_lex.specs.declared.token.Token.{Token}
 use Rattle.rs_lex.proofs.EachFacts.{script-is_lexed}
-use Rattle.rs_syntax.specs.Scripts.{IsSound, Parses, Refuses}
 use Rattle.rs_syntax.specs.Syntax.{Ask, Close, Command, CreatePredicate, CreateRankIndex, CreateTable, Declare, Explain, ExplainAnalyze}
 use Rattle.rs_syntax.specs.Syntax as syntax
-use Rattle.rs_syntax.specs.declared.fault.SyntaxFault.{SyntaxFault}
 use Rattle.rs_syntax.specs.declared.name.Name.{Name}
 use Rattle.rs_syntax.proofs.EachFacts.{IsParsed, each_is_parsed}
 use Rattle.rs_expr.specs.Scoring.{Answering}
@@ -23,7 +21,7 @@ use Rattle.rs_events.specs.Events.{Event, Fetch, Finds, finds_in, found_in}
 use Rattle.rs_events.specs.Run.{behind, fails, fetch_then, with_fault}
 use Rattle.rs_events.specs.Sequence.{RunOf, RunsOn, still}
 use Rattle.rs_statement.specs.Session.{DoesInSession, State, StatementsRun, beside_cursors, close_outcome, declare_step, fetch_step, nothing}
-use Rattle.rs_statement.specs.Statements.{Does, DoesTable, analyze_step, explain_step, index_step, predicate_outcome, refused_or, select_step, table_step, with_room}
+use Rattle.rs_statement.specs.Statements.{DoesTable, analyze_step, explain_step, index_step, predicate_outcome, refused_or, select_step, table_step, with_room}
 use Rattle.rs_statement.specs.Steps.{Run, Step}
 use Rattle.rs_statement.specs.declared.evaluating.Evaluating.{Evaluating}
 use Rattle.rs_statement.specs.declared.evaluating.Evaluating.TheVariants.{Planned}

@@ -1,13 +1,12 @@
 -- The faults that the definition of a run can end with: never that a put failed or a call of the scorer, and Usage only where the words are of no form.
-use Rattle.std.proofs.Common.{ℕ, ◌≡◌, List, Some, None, refl, sym, subst, inl, inr}
-use Rattle.std.specs.Prelude.{Option, option_map, Result, Ok, Err, unwrap_or, ◌⊎◌}
+use Rattle.std.proofs.Common.{ℕ, ◌≡◌, List, Some, None, refl, sym, subst}
+use Rattle.std.specs.Prelude.{Option, option_map, Result, Ok, Err, unwrap_or}
 use Rattle.rs_value.specs.Text.{text_of}
 use Rattle.rs_value.specs.declared.text.TextFault.{TextFault}
 use Rattle.rs_value.specs.declared.text.TextFault.TheVariants as text
 use Rattle.rs_gen.specs.Files.{script_name}
 use Rattle.rs_table.specs.Column.{place_of}
 use Rattle.rs_statement.specs.declared.fault.Fault.{Fault}
-use Rattle.rs_statement.specs.declared.fault.Fault.TheVariants.{Memory}
 use Rattle.rs_run.specs.declared.fault.RunFault.{RunFault}
 use Rattle.rs_run.specs.declared.fault.RunFault.TheVariants.{Statement, Usage}
 use Rattle.rs_run.specs.Faults.{WordsRun}

@@ -18,7 +18,7 @@ use Rattle.rs_events.specs.HaltFaults.{TellAs}
 use Rattle.rs_events.specs.Running as running
 use Rattle.rs_run.specs.Running.{IsRun, IsRunOf, OfForm}
 use Rattle.rs_events.specs.Environment.{Environment}
-use Rattle.rs_statement.specs.Steps.{Run, statement_faults}
+use Rattle.rs_statement.specs.Steps.{statement_faults}
 use Rattle.rs_run.specs.declared.fault.RunFault.TheVariants.{Statement, Usage}
 use Rattle.rs_run.specs.Faults.{run_faults}
 use Rattle.rs_statement.specs.Parts.Steps.{FetchesFile, Ran, Runs}

@@ -1,5 +1,5 @@
 -- What the text of a script did, from what the lexer, the parser and the statements did; and what its file did.
-use Rattle.std.proofs.Common.{ℕ, ◌≡◌, ◌≤◌, List, [], ◌∷◌, refl, sym, ap, subst, inl, inr}
+use Rattle.std.proofs.Common.{ℕ, ◌≡◌, ◌≤◌, List, [], ◌∷◌, refl, sym, subst, inl, inr}
 use Rattle.std.specs.Prelude.{IfErr, Option, Some, None, option_map, Result, Ok, Err, IsErr, IsErrAnd, length, ◌⊎◌}
 use Rattle.rs_value.specs.Outside.{Outside}
 use Rattle.rs_outside.specs.Files.{FilesTold}
@@ -9,7 +9,7 @@ use Rattle.rs_lex.specs.declared.fault.LexFault.{LexFault}
 use Rattle.rs_lex.specs.declared.fault.LexFault.TheVariants as lex
 use Rattle.rs_lex.specs.declared.token.Token.{Token}
 use Rattle.rs_expr.specs.Scoring.{Answering, ScorerState}
-use Rattle.rs_syntax.specs.Scripts.{IsSound, Parses, Refuses}
+use Rattle.rs_syntax.specs.Scripts.{Refuses}
 use Rattle.rs_syntax.specs.Syntax.{Command, commands_of}
 use Rattle.rs_syntax.specs.declared.statement.Statement.{Statement}
 use Rattle.rs_syntax.specs.declared.fault.SyntaxFault.{SyntaxFault}

@@ -1,9 +1,4 @@
-use Rattle.std.proofs.Common.{◌≡◌, refl, sym, subst}
-use Rattle.rs_events.specs.Environment.{Environment}
-use Rattle.rs_events.specs.Events.{finds_in}
-use Rattle.rs_statement.specs.Parts.Steps.{Runs}
-use Rattle.rs_run.specs.Parts.CommandLine.{form_of_command_line, words_of}
-use Rattle.rs_run.specs.Words.{RunGenerated, RunScript, Top}
+use Rattle.std.proofs.Common.{refl}
 use Rattle.rs_run.proofs.command.obey.Goals as goal
 
 pub returns-in-Top : goal.returns-in-Top
