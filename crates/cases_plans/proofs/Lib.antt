@@ -1,3 +1,4 @@
 pub mod CursorFacts
 mod ReadFacts
 mod ShapeFacts
+mod ScanFacts

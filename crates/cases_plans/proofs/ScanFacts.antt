@@ -1,0 +1,28 @@
+-- The indexes of a block that can be scanned.
+use Rattle.std.proofs.Common.{ℕ, zero, suc, ◌≡◌, List, [], ◌∷◌, refl}
+use Rattle.std.specs.Prelude.{slice_index}
+use Rattle.std.specs.List.{AllByRecursion}
+use Rattle.rs_order.proofs.EachFacts.{each-slice_get}
+use Rattle.rs_expr.specs.Scoring.{Answering}
+use Rattle.rs_catalog.specs.Catalog.{CatalogDef}
+use Rattle.rs_catalog.specs.IndexesHold.{Holds, IndexHolds, IndexesHold}
+
+-- each of some indexes holds the scorer's answers, where all of the catalogue do
+pub held-indexes : (answer : Answering) (catalogue : CatalogDef) (indexes : List ℕ) → IndexesHold answer catalogue → AllByRecursion (Holds answer catalogue) indexes
+held-indexes answer catalogue [] held = tt
+held-indexes answer catalogue (index ∷ indexes) held = (
+  λ found there. (each-slice_get (IndexHolds answer catalogue) catalogue.indexes index found held there).holds,
+  held-indexes answer catalogue indexes held,
+)
+
+-- no list had an access at first
+pub none-at : (n : ℕ) → slice_index (0 ∷ 0 ∷ 0 ∷ 0 ∷ 0 ∷ 0 ∷ 0 ∷ 0 ∷ []) n ≡ 0
+none-at zero = refl
+none-at (suc zero) = refl
+none-at (suc (suc zero)) = refl
+none-at (suc (suc (suc zero))) = refl
+none-at (suc (suc (suc (suc zero)))) = refl
+none-at (suc (suc (suc (suc (suc zero))))) = refl
+none-at (suc (suc (suc (suc (suc (suc zero)))))) = refl
+none-at (suc (suc (suc (suc (suc (suc (suc zero))))))) = refl
+none-at (suc (suc (suc (suc (suc (suc (suc (suc n)))))))) = refl
