@@ -1,12 +1,13 @@
 -- The words behind the four files.
-use Rattle.std.proofs.Common.{ℕ, ◌≡◌, ◌≤◌, ◌-◌, List, [], ◌∷◌, length, drop, take, sym, ap, arith, inl, inr}
+use Rattle.std.proofs.Common.{ℕ, ◌≡◌, ◌≤◌, ◌-◌, List, [], ◌∷◌, ◌∙◌, length, drop, take, sym, ap, subst, arith, inl, inr}
 use Rattle.std.proofs.lemmas.List.{take_all}
 use Rattle.std.specs.Prelude.{Some}
 use Rattle.rs_run.specs.Words.{Form}
 use Rattle.rs_scores.specs.Known.{Known}
-use Rattle.rs_ask.specs.Asking.{AskingState}
+use Rattle.rs_ask.specs.Asking.{AskingState, LearnsAll}
+use Rattle.rs_scores.specs.declared.known_score.KnownScore.{KnownScore}
 use Rattle.rs_ask.specs.declared.pass.Pass.{Pass}
-use Rattle.ranksql_ask.specs.Endings.{Commands, ErrorLines, Obeys}
+use Rattle.ranksql_ask.specs.Endings.{Commands, ErrorLines, IsPassOf, Obeys}
 use Rattle.ranksql_ask.specs.Words.{asking_form, command_form}
 
 pub command-rest : (words : List (List ℕ)) → 4 ≤ length words → command_form words ≡ asking_form (take (length words - 4) (drop 4 words))
@@ -17,8 +18,24 @@ command-rest (names ∷ scores ∷ questions ∷ []) few = absurd (omega arith)
 command-rest (names ∷ scores ∷ questions ∷ answers ∷ rest) few =
     sym (ap asking_form (take_all (length (names ∷ scores ∷ questions ∷ answers ∷ rest) - 4) rest (omega arith)))
 
--- runs that were made end with one of them, or are stopped
-pub Commands-obeyed : {R : Type 0} (ran : R → Known → Pass → R → Type 0) (form : Form) (answer : ℕ) (old : R) (known : Known) (new : R) (knows : Known) (before after : AskingState) (err told : ErrorLines)
-    → Obeys ran answer old known new knows before after err told → Commands (Some form) answer before.out after.out err told
-Commands-obeyed ran form answer old known new knows before after err told (inl ended) = inr (inl (ended.0, length known.scores, ended.1.rows, ended.2))
-Commands-obeyed ran form answer old known new knows before after err told (inr stopped) = inr (inr (stopped.0, stopped.2))
+-- what a script of these words does when it is run again and again: each run is one of the words, and the words stay
+module _ {R : Type 0} (form_in : R → Form) (ran : R → Known → Pass → R → Type 0)
+    (each : (old : R) (known : Known) (pass : Pass) (new : R) → ran old known pass new → IsPassOf (form_in old) pass × (form_in new ≡ form_in old)) where
+  stays : (entries : List KnownScore) (old : R) (known : Known) (new : R) (knows : Known) → LearnsAll ran entries old known new knows → form_in new ≡ form_in old
+  stays [] old known new knows learned = ap form_in learned.0
+  stays (entry ∷ rest) old known new knows learned =
+      stays rest learned.0 learned.1 new knows learned.3 ∙ (each old known learned.2.pass learned.0 learned.2.did).1
+
+  -- so runs that were made end with one of them, or are stopped
+  pub Commands-obeyed : (answer : ℕ) (old : R) (known : Known) (new : R) (knows : Known) (before after : AskingState) (err told : ErrorLines)
+      → Obeys ran answer old known new knows before after err told → Commands (Some (form_in old)) answer before.out after.out err told
+  Commands-obeyed answer old known new knows before after err told (inl ended) =
+      let runs = ended.1.runs in
+      inr (inl (record {
+        asked = ended.0;
+        known = length known.scores;
+        pass = subst (λ form. IsPassOf form ended.0.pass) (stays ended.1.entries old known runs.before knows runs.learned) (each runs.before knows ended.0.pass new runs.did).0;
+        put = ended.1.rows;
+        tells = ended.2;
+      }))
+  Commands-obeyed answer old known new knows before after err told (inr stopped) = inr (inr (stopped.0, stopped.2))

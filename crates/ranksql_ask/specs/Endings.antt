@@ -5,6 +5,7 @@ use Rattle.std.specs.List.{concat}
 use Rattle.rs_value.specs.Outside.{Keeps, Outside}
 use Rattle.rs_run.specs.Outcome.{PutsLine, PutsNothing}
 use Rattle.rs_run.specs.Status.{exit_status_of}
+use Rattle.rs_outside.specs.Files.{FilesTold}
 use Rattle.rs_run.specs.Words.{Form}
 use Rattle.rs_scores.specs.Known.{Known}
 use Rattle.rs_ask.specs.Asking.{AskingState, Ends, PutsBytes, StopsAfter}
@@ -13,6 +14,7 @@ use Rattle.rs_ask.specs.declared.pass.Pass.{Pass}
 use Rattle.rs_ask.specs.declared.stop.Stop.{Stop}
 use Rattle.rs_ask.specs.declared.stop.Stop.TheVariants.{Differs, Memory, Write}
 use Rattle.ranksql_ask.specs.AskFaults.{ask_line, ask_status}
+use Rattle.ranksql_ask.specs.Passes.{IsPass}
 use Rattle.ranksql_ask.specs.declared.fault.AskFault.{AskFault}
 use Rattle.ranksql_ask.specs.declared.fault.AskFault.TheVariants.{Usage}
 
@@ -76,14 +78,21 @@ Obeys ran answer old known new knows before after err told =
 abbrev pub Refuses : AskFault → ℕ → Outside (List (List ℕ)) → Outside (List (List ℕ)) → ErrorLines → ErrorLines → Type 0
 Refuses fault answer out rows err told = (rows ≡ out) × Tells (ask_line fault ∷ []) (exit_status_of (ask_status fault)) answer err told
 
--- all that was put on standard output is what a run put, and its end was told
-abbrev pub Runs : ℕ → Outside (List (List ℕ)) → Outside (List (List ℕ)) → ErrorLines → ErrorLines → Type 0
-Runs answer out rows err told =
-    (asked : Asked) × (known : ℕ) × PutsBytes (concat asked.pass.out.pieces) out rows × Tells (end_lines asked known) asked.pass.status answer err told
+-- what a run of words of this form left, over some scores and some files
+abbrev pub IsPassOf : Form → Pass → Type 0
+IsPassOf form pass = (known : Known) × (old : Outside FilesTold) × (new : Outside FilesTold) × IsPass form known pass old new
+
+-- all that was put on standard output is what a run of words of this form put, and its end was told
+pub record Runs (form : Form) (answer : ℕ) (out rows : Outside (List (List ℕ))) (err told : ErrorLines) : Type 0 where
+  pub asked : Asked
+  pub known : ℕ
+  pub pass : IsPassOf form asked.pass
+  pub put : PutsBytes (concat asked.pass.out.pieces) out rows
+  pub tells : Tells (end_lines asked known) asked.pass.status answer err told
 
 -- words of no form are refused. Other words are refused for what is outside, or runs are made; these end with one of them, or are stopped
 abbrev pub Commands : Option Form → ℕ → Outside (List (List ℕ)) → Outside (List (List ℕ)) → ErrorLines → ErrorLines → Type 0
 Commands None answer out rows err told = Refuses Usage answer out rows err told
 Commands (Some form) answer out rows err told =
     ((fault : AskFault) × (fault ≢ Usage) × Refuses fault answer out rows err told)
-    ⊎ (Runs answer out rows err told ⊎ ((stop : Stop) × Tells (stop_line stop ∷ []) (stop_status stop) answer err told))
+    ⊎ (Runs form answer out rows err told ⊎ ((stop : Stop) × Tells (stop_line stop ∷ []) (stop_status stop) answer err told))

@@ -8,8 +8,7 @@ use Rattle.rs_run.specs.Outcome.{FormRunsTo}
 use Rattle.rs_run.specs.Status.{exit_status_of}
 use Rattle.rs_run.specs.declared.status.Status.{Status}
 use Rattle.rs_run.specs.declared.status.Status.TheVariants as status
-use Rattle.rs_run.specs.Words.{RunScript}
-use Rattle.rs_statement.specs.declared.evaluating.Evaluating.{Evaluating}
+use Rattle.rs_run.specs.Words.{Form}
 use Rattle.rs_scores.specs.Known.{Known, score_of}
 use Rattle.rs_scores.specs.TableScorer.{IsTableScorer, TableScorerState, new_scorer, table_state}
 use Rattle.rs_ask.specs.declared.pass.Pass.{Pass}
@@ -31,13 +30,13 @@ abbrev pub is_memory : Status → Bool
 is_memory status.Memory = true
 is_memory _ = false
 
--- one run of the script of this name over what is known, with its queries evaluated so, into memory: its status, what it put, how many calls it made, and the question of its last call, where that one failed and its score isn't known
-pub record IsPass (name : List ℕ) (evaluating : Evaluating) (known : Known) (pass : Pass) (old new : Outside FilesTold) : Type 0 where
+-- one run of what words of this form ask for over what is known, into memory: its status, what it put, how many calls it made, and the question of its last call, where that one failed and its score isn't known
+pub record IsPass (form : Form) (known : Known) (pass : Pass) (old new : Outside FilesTold) : Type 0 where
   pub status : Status
   pub scorer : TableScorerState
   pub number : pass.status ≡ exit_status_of status
   pub lacked : pass.lacked_memory ≡ is_memory status
-  pub ran : FormRunsTo (Some (RunScript name evaluating)) status
+  pub ran : FormRunsTo (Some form) status
       (environment old (table_state (new_scorer known)) (sink_state no_pieces) (sink_state no_pieces))
       (environment new (table_state scorer) (sink_state pass.out) (sink_state pass.err))
   pub lawful : IsTableScorer scorer

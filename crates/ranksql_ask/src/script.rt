@@ -1,6 +1,7 @@
 ghost use Rattle.std.specs.Prelude.{◌≡◌, IfSome, None};
 ghost use Rattle.rs_scores.specs.Known.{score_of};
 ghost use Rattle.rs_scores.specs.KnownFiles.{known_state};
+ghost use Rattle.ranksql_ask.specs.Parts.Asking.{form_of_asking};
 ghost use Rattle.ranksql_ask.specs.Passes.{IsPass, is_memory, missing_in};
 
 use crate::words::Asking;
@@ -40,10 +41,12 @@ fn is_memory(status: Status) -> bool
 }
 
 impl<'a, F: Files> Rerun for Script<'a, F> {
-    ghost ran = { λ old known pass new. IsPass old.asking.script.now old.asking.evaluating known pass (known_state (F.state old.files.files)) (known_state (F.state new.files.files)) };
+    ghost ran = { λ old known pass new. IsPass (form_of_asking old.asking) known pass (known_state (F.state old.files.files)) (known_state (F.state new.files.files))
+        × (new.asking ≡ old.asking) };
 
     fn rerun(&mut self, alloc: Global, known: &KnownScores) -> Pass
-        ensures ran { IsPass self.old.asking.script.now self.old.asking.evaluating known.now result (known_state (F.state self.old.files.files)) (known_state (F.state self.new.files.files)) }
+        ensures ran { IsPass (form_of_asking self.old.asking) known.now result (known_state (F.state self.old.files.files)) (known_state (F.state self.new.files.files))
+            × (self.new.asking ≡ self.old.asking) }
         ensures missing { IfSome result.missing (λ question. score_of question known.now ≡ None) }
     {
         let mut scorer = TableScorer::new(alloc, known);

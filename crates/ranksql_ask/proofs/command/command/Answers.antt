@@ -13,4 +13,5 @@ returns-in-Ok g c =
     let form : command_form c.args.words.now ≡ Some (form_of_asking c.in-Some.asking) =
     command-rest c.args.words.now c.in-len4-up.len_at_least ∙ sym c.asking_of.ensures ∙ ap (option_map form_of_asking) c.in-Some.is in
     subst (λ (form : Option Form). Commands form c.obey.result (g.O.Sink.state c.args.out.now) (g.O.Sink.state c.obey.new.out) (g.E.Sink.state c.args.err.now) (g.E.Sink.state c.obey.new.err)) (sym form)
-    (Commands-obeyed _ (form_of_asking c.in-Some.asking) c.obey.result _ _ _ _ _ _ (g.E.Sink.state c.args.err.now) (g.E.Sink.state c.obey.new.err) c.obey.ensures)
+    (Commands-obeyed (λ script. form_of_asking script.asking) _ (λ old known pass new did. ((known, _, _, did.0), ap form_of_asking did.1)) c.obey.result _ _ _ _ _ _
+    (g.E.Sink.state c.args.err.now) (g.E.Sink.state c.obey.new.err) c.obey.ensures)
