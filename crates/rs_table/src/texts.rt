@@ -92,8 +92,11 @@ impl Texts {
 fn copied_set(texts: &IndexSet<Text, RandomState>) -> Result<IndexSet<Text, RandomState>, Memory>
     ensures { IfOk result (λ copy. copy.keys ≡ texts.now.keys) }
 {
-    let mut copy =
-        IndexSet::with_capacity_and_hasher(*texts.allocator(), texts.len(), *texts.hasher())?;
+    let mut copy = IndexSet::with_capacity_and_hasher(
+        *texts.allocator(),
+        texts.len(),
+        *texts.hasher(),
+    )?;
     for number in 0..texts.len() {
         copy.insert(texts[number].copy()?)?;
     }
