@@ -11,7 +11,7 @@ use crate::fault::PlainFault;
 use crate::outputs::query_answers;
 use crate::rows::query_rows;
 use crate::scored::scored_query;
-use rs_catalog::Catalog;
+use rs_catalog::Snapshot;
 use rs_expr::Scorer;
 use rs_query::{Query, limit_of};
 use rs_rank::{Answer, sort_stably};
@@ -23,7 +23,7 @@ use std::alloc::Global;
 /// the first fault.
 pub fn answer_plainly<S: Scorer>(
     alloc: Global,
-    catalog: &Catalog,
+    catalog: &Snapshot<'_>,
     query: &Query,
     scorer: &mut S,
 ) -> Result<Vec<Answer>, PlainFault>
@@ -60,7 +60,7 @@ fn keeps_duplicates(query: &Query) -> bool
 /// answer alone.
 fn answer_with_duplicates<S: Scorer>(
     alloc: Global,
-    catalog: &Catalog,
+    catalog: &Snapshot<'_>,
     query: &Query,
     scorer: &mut S,
 ) -> Result<Vec<Answer>, PlainFault>

@@ -12,7 +12,7 @@ use crate::fault::SampleFault;
 use crate::sample::sample_block;
 use rand_core::SeedableRng;
 use rand_pcg::Pcg32;
-use rs_catalog::Catalog;
+use rs_catalog::Snapshot;
 use rs_expr::Scorer;
 use rs_query::Query;
 use std::alloc::Global;
@@ -32,7 +32,7 @@ impl Cards {
     /// one.
     pub fn take<S: Scorer>(
         alloc: Global,
-        catalog: &Catalog,
+        catalog: &Snapshot<'_>,
         query: &Query,
         seed: u64,
         scorer: &mut S,
