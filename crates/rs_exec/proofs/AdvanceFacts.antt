@@ -13,7 +13,7 @@ use Rattle.rs_plan.specs.Lists.{World, list_of, list_of_plan}
 use Rattle.rs_query.specs.Blocks.{block_in}
 use Rattle.rs_exec.specs.Asked.{CanAsk, NodeAfter}
 use Rattle.rs_exec.specs.Asking.{exec_faults, next_row, world_of}
-use Rattle.rs_exec.specs.Cursors.{ExecutionState, StandsOver, answer_for, asks_of, is_over, next_answer, next_of, no_question, plan_of}
+use Rattle.rs_exec.specs.Cursors.{CursorState, StandsFor, answer_for, asks_of, is_over, next_answer, next_of, no_question, plan_of}
 use Rattle.rs_exec.specs.Nodes.{asked_in, number_in, tree_in}
 use Rattle.rs_exec.specs.OutputValues.{CanPutOut}
 use Rattle.rs_exec.specs.Standing.{Stands}
@@ -24,7 +24,7 @@ use Rattle.rs_exec.proofs.CursorFacts.{cursor-after, cursor-can, first-block, ne
 use Rattle.rs_exec.proofs.TurnFacts.{node-number}
 use Rattle.rs_exec.proofs.PlacesFacts.{can-put_out, plan-entries, plan-part, row-placed}
 
-module _ (catalogue : CatalogDef) (cursor : ExecutionState) (old : ScorerState) (stands : StandsOver catalogue old.answer cursor) where
+module _ (catalogue : CatalogDef) (cursor : CursorState) (old : ScorerState) (stands : StandsFor catalogue old.answer cursor) where
   abbrev w : World
   w = world_of catalogue old.answer cursor.query
 
@@ -42,7 +42,7 @@ module _ (catalogue : CatalogDef) (cursor : ExecutionState) (old : ScorerState) 
 
   pub root-after : is_over (world_of catalogue old.answer cursor.query) (plan_of cursor) (asks_of cursor) ≡ false → (root : PlanNode)
       → NodeAfter (world_of catalogue old.answer cursor.query) (number_in cursor.root) (tree_in cursor.root) (asked_in cursor.root) root
-      → StandsOver catalogue old.answer (record cursor { root = root })
+      → StandsFor catalogue old.answer (record cursor { root = root })
   root-after more root after =
       cursor-after catalogue old.answer cursor root stands (cursor-can catalogue old.answer cursor stands more)
       (subst (λ n. NodeAfter w n (tree_in cursor.root) (asked_in cursor.root) root) root-number after)

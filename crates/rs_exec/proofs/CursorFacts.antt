@@ -22,7 +22,7 @@ use Rattle.rs_plan.specs.Trees.{PlanTree}
 use Rattle.rs_plan.specs.Plans.{IsPlan}
 use Rattle.rs_exec.specs.Asked.{CanAsk, HasBlock, NodeAfter}
 use Rattle.rs_exec.specs.Asking.{exec_faults, next_row, world_of}
-use Rattle.rs_exec.specs.Cursors.{ExecutionState, StandsOver, answer_for, asks_of, is_limit, is_over, next_answer, plan_of}
+use Rattle.rs_exec.specs.Cursors.{CursorState, StandsFor, answer_for, asks_of, is_limit, is_over, next_answer, plan_of}
 use Rattle.rs_exec.specs.declared.fault.ExecFault.{ExecFault}
 use Rattle.rs_exec.specs.declared.fault.ExecFault.TheVariants.{Memory}
 use Rattle.rs_exec.specs.Indexes.{PlanIndexesHold}
@@ -40,7 +40,7 @@ first-block (Set op left right limit) = inl refl
 pub cursor-start : (catalogue : CatalogDef) (answer : Answering) (query : Query) (tree : PlanTree) (root : PlanNode) → IsQuery catalogue query → IsPlan catalogue query tree
     → ((number : ℕ) → AllByRecursion (λ size. size ≤ 131072) (sizes_of catalogue (block_in query number))) → IsWeights (weights_of (block_in query 1))
     → PlanIndexesHold answer catalogue tree → IsQueryStart catalogue query tree root
-    → StandsOver catalogue answer (record { query = query; root = root; failed = false })
+    → StandsFor catalogue answer (record { query = query; root = root; failed = false })
 cursor-start catalogue answer query tree root formed plan tables weights indexes is =
     let w = world_of catalogue answer query in
     let same = query-tree catalogue query tree root is in
@@ -57,7 +57,7 @@ cursor-start catalogue answer query tree root formed plan tables weights indexes
     }
 
 -- a cursor that stands and isn't over can ask its plan once more
-pub cursor-can : (catalogue : CatalogDef) (answer : Answering) (cursor : ExecutionState) → StandsOver catalogue answer cursor
+pub cursor-can : (catalogue : CatalogDef) (answer : Answering) (cursor : CursorState) → StandsFor catalogue answer cursor
     → is_over (world_of catalogue answer cursor.query) (plan_of cursor) (asks_of cursor) ≡ false
     → CanAsk (world_of catalogue answer cursor.query) 1 (plan_of cursor) (asks_of cursor)
 cursor-can catalogue answer cursor stands more =
@@ -78,10 +78,10 @@ cursor-can catalogue answer cursor stands more =
     }
 
 -- and stands after it
-pub cursor-after : (catalogue : CatalogDef) (answer : Answering) (cursor : ExecutionState) (root : PlanNode) → StandsOver catalogue answer cursor
+pub cursor-after : (catalogue : CatalogDef) (answer : Answering) (cursor : CursorState) (root : PlanNode) → StandsFor catalogue answer cursor
     → CanAsk (world_of catalogue answer cursor.query) 1 (plan_of cursor) (asks_of cursor)
     → NodeAfter (world_of catalogue answer cursor.query) 1 (plan_of cursor) (asks_of cursor) root
-    → StandsOver catalogue answer (record cursor { root = root })
+    → StandsFor catalogue answer (record cursor { root = root })
 cursor-after catalogue answer cursor root stands can after =
     let w = world_of catalogue answer cursor.query in
     let more = can.more in

@@ -33,7 +33,7 @@ use Rattle.rs_exec.specs.Distincts.{distinct_node_after}
 use Rattle.rs_exec.specs.OutputValues.{output_row, outputs_in}
 use Rattle.rs_outputs.specs.Rows.{OutputRow, lists_of}
 use Rattle.rs_rank.specs.declared.answer.Answer.{Answer}
-use Rattle.rs_exec.specs.Cursors.{ExecutionState, StandsOver, asks_of, plan_of}
+use Rattle.rs_exec.specs.Cursors.{CursorState, StandsFor, asks_of, plan_of}
 use Rattle.rs_rank.specs.Merging.{merge_key}
 use Rattle.rs_rank.specs.Turns.{join_schedule}
 use Rattle.rs_ripple.specs.After.{joined_after}
@@ -326,7 +326,7 @@ module _ (catalogue more : CatalogDef) (answer : Answering) (query : Query) (cov
         stands-larger 2 right (part-of catalogue query 2 (tree_in right) parts.1) is.3,
       )
 
-pub cursor-larger : (catalogue more : CatalogDef) (answer : Answering) (cursor : ExecutionState) → StandsOver catalogue answer cursor → StandsOver (joined catalogue more) answer cursor
+pub cursor-larger : (catalogue more : CatalogDef) (answer : Answering) (cursor : CursorState) → StandsFor catalogue answer cursor → StandsFor (joined catalogue more) answer cursor
 cursor-larger catalogue more answer cursor stands =
     let query = cursor.query in
     let tree = plan_of cursor in

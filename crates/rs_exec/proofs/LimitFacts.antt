@@ -16,7 +16,7 @@ use Rattle.rs_plan.specs.Lists.{World, list_of}
 use Rattle.rs_plan.specs.Trees.{Distinct, JoinOperator, Rank, RankScan, SeqScan, SetOperator, PlanTree}
 use Rattle.rs_exec.specs.Asked.{HasBlock}
 use Rattle.rs_exec.specs.Asking.{world_of}
-use Rattle.rs_exec.specs.Cursors.{ExecutionState, StandsOver, asks_of, plan_of}
+use Rattle.rs_exec.specs.Cursors.{CursorState, StandsFor, asks_of, plan_of}
 use Rattle.rs_exec.specs.Parts.{IsPartOf}
 use Rattle.rs_exec.proofs.BlockFacts.{block-formed, sizes-are}
 use Rattle.rs_exec.proofs.CursorFacts.{first-block}
@@ -106,7 +106,7 @@ module _ (catalogue : CatalogDef) (answer : Answering) (query : Query) (formed :
       (counts-limited 2 right (asked_of w number tree a Right) (child-held catalogue answer query number tree Right is) (child-few number tree a Right is))
 
 -- so are those of a cursor that stands: it asked its plan at most once more than the plan's list has rows
-pub cursor-limited : (catalogue : CatalogDef) (answer : Answering) (cursor : ExecutionState) → StandsOver catalogue answer cursor
+pub cursor-limited : (catalogue : CatalogDef) (answer : Answering) (cursor : CursorState) → StandsFor catalogue answer cursor
     → AllByRecursion AreWithinLimits (counts_of_plan (world_of catalogue answer cursor.query) (plan_of cursor) (asks_of cursor))
 cursor-limited catalogue answer cursor stands =
     let part = plan-part catalogue cursor.query (plan_of cursor) stands.plan in

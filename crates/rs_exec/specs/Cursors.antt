@@ -7,7 +7,6 @@ use Rattle.rs_rank.specs.declared.answer.Answer.{Answer}
 use Rattle.rs_rank.specs.declared.row.RankRow.{RankRow}
 use Rattle.rs_rank.specs.Weights.{IsWeights}
 use Rattle.rs_catalog.specs.Catalog.{CatalogDef}
-use Rattle.rs_catalog.specs.Snapshot.{HaveRows, snapshot}
 use Rattle.rs_query.specs.Answers.{limit_of, weights_of}
 use Rattle.rs_query.specs.Meaning.{outputs_of}
 use Rattle.rs_query.specs.Questions.{asking}
@@ -73,64 +72,47 @@ next_of w tree n = if is_over w tree n then no_question (Ok None) else next_answ
 abbrev pub asks_after : World → PlanTree → ℕ → ℕ
 asks_after w tree n = if is_over w tree n then n else suc n
 
--- the execution of a plan: its query, the nodes of its plan, and whether a call of it failed
-pub record ExecutionState : Type 0 where
+-- a cursor: its query, the nodes of its plan, and whether a call of it failed
+pub record CursorState : Type 0 where
   pub query : Query
   pub root : PlanNode
   pub failed : Bool
 
 -- its plan, and how often that was asked
-abbrev pub plan_of : ExecutionState → PlanTree
-plan_of execution = tree_in execution.root
+abbrev pub plan_of : CursorState → PlanTree
+plan_of cursor = tree_in cursor.root
 
-abbrev pub asks_of : ExecutionState → ℕ
-asks_of execution = asked_in execution.root
+abbrev pub asks_of : CursorState → ℕ
+asks_of cursor = asked_in cursor.root
 
--- an execution at its start
-pub record IsNew (query : Query) (tree : PlanTree) (execution : ExecutionState) : Type 0 where
-  pub query_is : execution.query ≡ query
-  pub plan_is : plan_of execution ≡ tree
-  pub unasked : asks_of execution ≡ 0
-  pub sound : execution.failed ≡ false
+-- a cursor at its start
+pub record IsNew (query : Query) (tree : PlanTree) (cursor : CursorState) : Type 0 where
+  pub query_is : cursor.query ≡ query
+  pub plan_is : plan_of cursor ≡ tree
+  pub unasked : asks_of cursor ≡ 0
+  pub sound : cursor.failed ≡ false
 
--- an execution stands for a catalogue and a scorer of these answers: its query and its plan are those of the catalogue, the indexes of
+-- a cursor stands for a catalogue and a scorer of these answers: its query and its plan are those of the catalogue, the indexes of
 -- its plan hold the answers, its tables and weights are within their limits, and all that it keeps is what this many asks give
-pub record StandsOver (catalogue : CatalogDef) (answer : Answering) (execution : ExecutionState) : Type 0 where
-  pub sound : execution.failed ≡ false
-  pub query : IsQuery catalogue execution.query
-  pub plan : IsPlan catalogue execution.query (plan_of execution)
-  pub indexes : PlanIndexesHold answer catalogue (plan_of execution)
-  pub tables : (number : ℕ) → AllByRecursion (λ size. size ≤ 131072) (sizes_of catalogue (block_in execution.query number))
-  pub weights : IsWeights (weights_of (block_in execution.query 1))
-  pub nodes : Stands (world_of catalogue answer execution.query) 1 execution.root
-  pub asks : asks_of execution ≤ suc (length (list_of_plan (world_of catalogue answer execution.query) (plan_of execution)))
+pub record StandsFor (catalogue : CatalogDef) (answer : Answering) (cursor : CursorState) : Type 0 where
+  pub sound : cursor.failed ≡ false
+  pub query : IsQuery catalogue cursor.query
+  pub plan : IsPlan catalogue cursor.query (plan_of cursor)
+  pub indexes : PlanIndexesHold answer catalogue (plan_of cursor)
+  pub tables : (number : ℕ) → AllByRecursion (λ size. size ≤ 131072) (sizes_of catalogue (block_in cursor.query number))
+  pub weights : IsWeights (weights_of (block_in cursor.query 1))
+  pub nodes : Stands (world_of catalogue answer cursor.query) 1 cursor.root
+  pub asks : asks_of cursor ≤ suc (length (list_of_plan (world_of catalogue answer cursor.query) (plan_of cursor)))
 
 -- it stands, or a call of it failed
-abbrev pub CanGo : CatalogDef → Answering → ExecutionState → Type 0
-CanGo catalogue answer execution = execution.failed ≡ false → StandsOver catalogue answer execution
+abbrev pub CanGo : CatalogDef → Answering → CursorState → Type 0
+CanGo catalogue answer cursor = cursor.failed ≡ false → StandsFor catalogue answer cursor
 
--- what a call of a execution is that failed already, or didn't
-abbrev pub call_of : CatalogDef → Answering → ExecutionState → Inquiry (Option Answer) ExecFault
-call_of catalogue answer execution =
-    if execution.failed then no_question (Err Broken) else next_of (world_of catalogue answer execution.query) (plan_of execution) (asks_of execution)
+-- what a call of a cursor is that failed already, or didn't
+abbrev pub call_of : CatalogDef → Answering → CursorState → Inquiry (Option Answer) ExecFault
+call_of catalogue answer cursor =
+    if cursor.failed then no_question (Err Broken) else next_of (world_of catalogue answer cursor.query) (plan_of cursor) (asks_of cursor)
 
 -- nothing is left to be asked
-abbrev pub IsOver : CatalogDef → Answering → ExecutionState → Type 0
-IsOver catalogue answer execution = (execution.failed ≡ false) × (is_over (world_of catalogue answer execution.query) (plan_of execution) (asks_of execution) ≡ true)
-
--- a cursor: the execution of a plan, and how many rows each table had at its start
-pub record CursorState : Type 0 where
-  pub sizes : List ℕ
-  pub execution : ExecutionState
-
--- what a cursor sees of a catalogue: the first rows of each table, as many as it had at the start of the cursor, and their entries in each index
-abbrev pub seen_by : CursorState → CatalogDef → CatalogDef
-seen_by cursor catalogue = snapshot cursor.sizes catalogue
-
-abbrev pub world_seen : CatalogDef → Answering → CursorState → World
-world_seen catalogue answer cursor = world_of (seen_by cursor catalogue) answer cursor.execution.query
-
--- a cursor stands for a catalogue and a scorer of these answers: the tables have the rows that it sees, and its execution stands for what it sees
-pub record StandsFor (catalogue : CatalogDef) (answer : Answering) (cursor : CursorState) : Type 0 where
-  pub rows : HaveRows cursor.sizes catalogue.tables
-  pub stands : StandsOver (seen_by cursor catalogue) answer cursor.execution
+abbrev pub IsOver : CatalogDef → Answering → CursorState → Type 0
+IsOver catalogue answer cursor = (cursor.failed ≡ false) × (is_over (world_of catalogue answer cursor.query) (plan_of cursor) (asks_of cursor) ≡ true)

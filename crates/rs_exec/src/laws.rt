@@ -14,6 +14,7 @@ ghost use Rattle.rs_table.specs.Relation.{Relation};
 ghost use Rattle.rs_catalog.specs.Catalog.{CatalogDef, with_index, with_predicate, with_table};
 ghost use Rattle.rs_catalog.specs.Growing.{CanJoin, GrowsBy};
 ghost use Rattle.rs_catalog.specs.IndexesHold.{IndexesHold};
+ghost use Rattle.rs_catalog.specs.Snapshot.{HaveRows, snapshot};
 ghost use Rattle.rs_catalog.specs.declared.growth.GrowFault.{GrowFault};
 ghost use Rattle.rs_catalog.specs.declared.index.IndexDef.{IndexDef};
 ghost use Rattle.rs_query.specs.Answers.{answer_of, cut, limit_of, rows_of};
@@ -54,8 +55,8 @@ pub fn rows_give_the_parts_in_turn()
         → flat_map (part_of_plan w tree) (numbers_from 1 n) ≡ calls_of_plan w tree n }
 {}
 
-/// What joins the catalogue changes nothing for a cursor that stands: a table, a predicate, an index, or rows of a table whose indexes
-/// hold the scorer's answers.
+/// What joins the catalogue changes nothing for a cursor that stands for what was seen of it: a table, a predicate, an index; or rows,
+/// where it is seen by the snapshot of its tables' sizes.
 pub fn cursors_stand_in_larger_catalogues()
     ensures tables { (catalogue : CatalogDef) (answer : Answering) (cursor : CursorState) (name : List ℕ) (table : Relation)
         → StandsFor catalogue answer cursor → StandsFor (with_table name table catalogue) answer cursor }
@@ -63,9 +64,10 @@ pub fn cursors_stand_in_larger_catalogues()
         → StandsFor catalogue answer cursor → StandsFor (with_predicate predicate catalogue) answer cursor }
     ensures indexes { (catalogue : CatalogDef) (answer : Answering) (cursor : CursorState) (def : IndexDef) (ranking : List ScoredRow)
         → StandsFor catalogue answer cursor → StandsFor (with_index def ranking catalogue) answer cursor }
-    ensures rows { (catalogue new : CatalogDef) (answer : Answering) (cursor : CursorState) (table : ℕ) (rows : List (List Value)) (result : Result (Unit {0}) GrowFault) (before after : ScorerState)
-        → CanJoin catalogue table rows → IndexesHold before.answer catalogue → GrowsBy table rows catalogue new result before after
-        → StandsFor catalogue answer cursor → StandsFor new answer cursor }
+    ensures rows { (sizes : List ℕ) (catalogue new : CatalogDef) (answer : Answering) (cursor : CursorState) (table : ℕ) (rows : List (List Value))
+        (result : Result (Unit {0}) GrowFault) (before after : ScorerState)
+        → CanJoin catalogue table rows → HaveRows sizes catalogue.tables → IndexesHold before.answer catalogue → GrowsBy table rows catalogue new result before after
+        → StandsFor (snapshot sizes catalogue) answer cursor → StandsFor (snapshot sizes new) answer cursor }
 {
     snapshots_stay();
 }

@@ -9,7 +9,6 @@ mod context;
 mod cursor;
 mod distinct;
 mod distinct_laws;
-mod execution;
 mod fault;
 mod held;
 mod join;

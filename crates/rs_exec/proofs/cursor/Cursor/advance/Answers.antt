@@ -4,39 +4,39 @@ use Rattle.std.specs.Prelude.{option_map}
 use Rattle.rs_expr.specs.InOrder.{Inquires}
 use Rattle.rs_value.proofs.ResultFacts.{given-err}
 use Rattle.rs_exec.specs.Asking.{world_of}
-use Rattle.rs_exec.specs.Cursors.{ExecutionState, StandsOver, answer_for, asks_of, is_over, next_of, plan_of}
+use Rattle.rs_exec.specs.Cursors.{CursorState, StandsFor, answer_for, asks_of, is_over, next_of, plan_of}
 use Rattle.rs_exec.specs.declared.fault.ExecFault.TheVariants.{Memory}
 use Rattle.rs_exec.proofs.AdvanceFacts.{advance-failed, advance-gave, advance-stopped, advance-there, root-after, root-can, root-stands, row-puts}
-use Rattle.rs_exec.proofs.execution.Execution.advance.Goals as goal
-use Rattle.rs_exec.proofs.execution.Execution.advance.Goals.{in-Some+in_ok-answer_for-in-Some, in-None}
+use Rattle.rs_exec.proofs.cursor.Cursor.advance.Goals as goal
+use Rattle.rs_exec.proofs.cursor.Cursor.advance.Goals.{in-Some+in_ok-answer_for-in-Some, in-None}
 
 pub next-requires-clause-can : goal.next-requires-clause-can
 next-requires-clause-can g c =
     let old = g.S.Scorer.state c.args.scorer.now in
     let catalogue = c.args.catalog.now in
-    let cursor : ExecutionState = record { query = c.self.inside.query; root = c.self.inside.root; failed = c.self.inside.failed } in
-    let stands = subst (StandsOver catalogue old.answer) (sym c.self.view_is) c.requires in
+    let cursor : CursorState = record { query = c.self.inside.query; root = c.self.inside.root; failed = c.self.inside.failed } in
+    let stands = subst (StandsFor catalogue old.answer) (sym c.self.view_is) c.requires in
     let more = sym (c.is_over.ensures catalogue old.answer c.requires) ∙ c.if-is_over.false in
     root-can catalogue cursor old stands
-    (ap (λ (k : ExecutionState). is_over (world_of catalogue old.answer k.query) (plan_of k) (asks_of k)) c.self.view_is ∙ more)
+    (ap (λ (k : CursorState). is_over (world_of catalogue old.answer k.query) (plan_of k) (asks_of k)) c.self.view_is ∙ more)
 
 pub next-requires-clause-stands : goal.next-requires-clause-stands
 next-requires-clause-stands g c =
     let old = g.S.Scorer.state c.args.scorer.now in
     root-stands c.args.catalog.now (record { query = c.self.inside.query; root = c.self.inside.root; failed = c.self.inside.failed }) old
-    (subst (StandsOver c.args.catalog.now old.answer) (sym c.self.view_is) c.requires)
+    (subst (StandsFor c.args.catalog.now old.answer) (sym c.self.view_is) c.requires)
 
 pub returns-in_err-row-clause-asks : goal.returns-in_err-row-clause-asks
 returns-in_err-row-clause-asks g c =
     let old = g.S.Scorer.state c.args.scorer.now in
     let new = g.S.Scorer.state c.next.new.scorer in
     let catalogue = c.args.catalog.now in
-    let cursor : ExecutionState = record { query = c.self.inside.query; root = c.self.inside.root; failed = c.self.inside.failed } in
-    let stands = subst (StandsOver catalogue old.answer) (sym c.self.view_is) c.requires in
+    let cursor : CursorState = record { query = c.self.inside.query; root = c.self.inside.root; failed = c.self.inside.failed } in
+    let stands = subst (StandsFor catalogue old.answer) (sym c.self.view_is) c.requires in
     let more = sym (c.is_over.ensures catalogue old.answer c.requires) ∙ c.if-is_over.false in
-    subst (λ (k : ExecutionState). Inquires Memory (next_of (world_of catalogue old.answer k.query) (plan_of k) (asks_of k)) c.from_residual.result old new) c.self.view_is
+    subst (λ (k : CursorState). Inquires Memory (next_of (world_of catalogue old.answer k.query) (plan_of k) (asks_of k)) c.from_residual.result old new) c.self.view_is
     (advance-failed catalogue cursor old stands new
-    (ap (λ (k : ExecutionState). is_over (world_of catalogue old.answer k.query) (plan_of k) (asks_of k)) c.self.view_is ∙ more)
+    (ap (λ (k : CursorState). is_over (world_of catalogue old.answer k.query) (plan_of k) (asks_of k)) c.self.view_is ∙ more)
     c.in_err-row.field-0.0 c.from_residual.result (given-err c.from_residual.result c.in_err-row.field-0.0 c.from_residual.ensures) c.in_err-row.ensures.inquires)
 
 pub answer_for-requires : goal.answer_for-requires
@@ -44,9 +44,9 @@ answer_for-requires g c =
     let old = g.S.Scorer.state c.args.scorer.now in
     let new = g.S.Scorer.state c.next.new.scorer in
     let catalogue = c.args.catalog.now in
-    let cursor : ExecutionState = record { query = c.self.inside.query; root = c.self.inside.root; failed = c.self.inside.failed } in
-    let stands = subst (StandsOver catalogue old.answer) (sym c.self.view_is) c.requires in
-    let more = ap (λ (k : ExecutionState). is_over (world_of catalogue old.answer k.query) (plan_of k) (asks_of k)) c.self.view_is
+    let cursor : CursorState = record { query = c.self.inside.query; root = c.self.inside.root; failed = c.self.inside.failed } in
+    let stands = subst (StandsFor catalogue old.answer) (sym c.self.view_is) c.requires in
+    let more = ap (λ (k : CursorState). is_over (world_of catalogue old.answer k.query) (plan_of k) (asks_of k)) c.self.view_is
     ∙ sym (c.is_over.ensures catalogue old.answer c.requires) ∙ c.if-is_over.false in
     let there = advance-there catalogue cursor old stands new more c.in_ok-row.field-0 c.in_ok-row.ensures.inquires ∙ c.in-Some.is in
     row-puts catalogue cursor old stands c.in-Some.row there
@@ -56,12 +56,12 @@ returns-in_err-answer_for-in-Some-clause-asks g c =
     let old = g.S.Scorer.state c.args.scorer.now in
     let new = g.S.Scorer.state c.next.new.scorer in
     let catalogue = c.args.catalog.now in
-    let cursor : ExecutionState = record { query = c.self.inside.query; root = c.self.inside.root; failed = c.self.inside.failed } in
-    let stands = subst (StandsOver catalogue old.answer) (sym c.self.view_is) c.requires in
-    let more = ap (λ (k : ExecutionState). is_over (world_of catalogue old.answer k.query) (plan_of k) (asks_of k)) c.self.view_is
+    let cursor : CursorState = record { query = c.self.inside.query; root = c.self.inside.root; failed = c.self.inside.failed } in
+    let stands = subst (StandsFor catalogue old.answer) (sym c.self.view_is) c.requires in
+    let more = ap (λ (k : CursorState). is_over (world_of catalogue old.answer k.query) (plan_of k) (asks_of k)) c.self.view_is
     ∙ sym (c.is_over.ensures catalogue old.answer c.requires) ∙ c.if-is_over.false in
     let result = c.from_residual-in_err-answer_for-in-Some.result in
-    subst (λ (k : ExecutionState). Inquires Memory (next_of (world_of catalogue old.answer k.query) (plan_of k) (asks_of k)) result old new) c.self.view_is
+    subst (λ (k : CursorState). Inquires Memory (next_of (world_of catalogue old.answer k.query) (plan_of k) (asks_of k)) result old new) c.self.view_is
     (advance-stopped catalogue cursor old stands new more c.in_ok-row.field-0 c.in_ok-row.ensures.inquires result
     (given-err result Memory c.from_residual-in_err-answer_for-in-Some.ensures))
 
@@ -70,12 +70,12 @@ returns-clause-asks g c =
     let old = g.S.Scorer.state c.args.scorer.now in
     let new = g.S.Scorer.state c.next.new.scorer in
     let catalogue = c.args.catalog.now in
-    let cursor : ExecutionState = record { query = c.self.inside.query; root = c.self.inside.root; failed = c.self.inside.failed } in
-    let stands = subst (StandsOver catalogue old.answer) (sym c.self.view_is) c.requires in
-    let more = ap (λ (k : ExecutionState). is_over (world_of catalogue old.answer k.query) (plan_of k) (asks_of k)) c.self.view_is
+    let cursor : CursorState = record { query = c.self.inside.query; root = c.self.inside.root; failed = c.self.inside.failed } in
+    let stands = subst (StandsFor catalogue old.answer) (sym c.self.view_is) c.requires in
+    let more = ap (λ (k : CursorState). is_over (world_of catalogue old.answer k.query) (plan_of k) (asks_of k)) c.self.view_is
     ∙ sym (c.is_over.ensures catalogue old.answer c.requires) ∙ c.if-is_over.false in
     let w = world_of catalogue old.answer cursor.query in
-    subst (λ (k : ExecutionState). Inquires Memory (next_of (world_of catalogue old.answer k.query) (plan_of k) (asks_of k)) c.match-branch-2.result old new) c.self.view_is
+    subst (λ (k : CursorState). Inquires Memory (next_of (world_of catalogue old.answer k.query) (plan_of k) (asks_of k)) c.match-branch-2.result old new) c.self.view_is
     (elim c.match-branch-2.branch [
       | in-Some+in_ok-answer_for-in-Some b ↦ rw b.result-is (advance-gave catalogue cursor old stands new more c.in_ok-row.field-0 c.in_ok-row.ensures.inquires _
           (ap Some b.in_ok-answer_for-in-Some.ensures ∙ sym (ap (option_map (answer_for w)) b.in-Some.is)))
@@ -87,9 +87,9 @@ returns-clause-stands g c =
     let old = g.S.Scorer.state c.args.scorer.now in
     let new = g.S.Scorer.state c.next.new.scorer in
     let catalogue = c.args.catalog.now in
-    let cursor : ExecutionState = record { query = c.self.inside.query; root = c.self.inside.root; failed = c.self.inside.failed } in
-    let stands = subst (StandsOver catalogue old.answer) (sym c.self.view_is) c.requires in
-    let more = ap (λ (k : ExecutionState). is_over (world_of catalogue old.answer k.query) (plan_of k) (asks_of k)) c.self.view_is
+    let cursor : CursorState = record { query = c.self.inside.query; root = c.self.inside.root; failed = c.self.inside.failed } in
+    let stands = subst (StandsFor catalogue old.answer) (sym c.self.view_is) c.requires in
+    let more = ap (λ (k : CursorState). is_over (world_of catalogue old.answer k.query) (plan_of k) (asks_of k)) c.self.view_is
     ∙ sym (c.is_over.ensures catalogue old.answer c.requires) ∙ c.if-is_over.false in
     let after = root-after catalogue cursor old stands more c.next.new.self (c.in_ok-row.ensures.leaves refl) in
     elim c.match-branch-2.branch [

@@ -2,7 +2,7 @@ use Rattle.std.proofs.Common.{refl}
 use Rattle.rs_plan.specs.Shapes.{tree_of}
 use Rattle.rs_exec.proofs.CursorFacts.{cursor-start}
 use Rattle.rs_exec.proofs.SetStartFacts.{query-asked, query-tree}
-use Rattle.rs_exec.proofs.execution.Execution.start.Goals as goal
+use Rattle.rs_exec.proofs.cursor.Cursor.start.Goals as goal
 
 pub returns-in-Ok-clause-new : goal.returns-in-Ok-clause-new
 returns-in-Ok-clause-new c = record {

@@ -10,7 +10,7 @@ use Rattle.rs_plain.proofs.NameFacts.{named-any, named-err, named-memory}
 use Rattle.rs_query.proofs.QuestionFacts.{AllAsked-none, Ended-behind, Gave-ok, Failed-behind, Stopped-behind}
 use Rattle.rs_value.proofs.ResultFacts.{given-err}
 use Rattle.rs_plain.proofs.RowFacts.{given-items}
-use Rattle.rs_plain.proofs.answer.answer_plainly.Goals as goal
+use Rattle.rs_plain.proofs.answer.answer_over.Goals as goal
 
 pub returns-in_err-rows-clause-names : goal.returns-in_err-rows-clause-names
 returns-in_err-rows-clause-names g c =

@@ -16,8 +16,8 @@ use Rattle.rs_sample.specs.declared.fault.SampleFault.TheVariants.{Memory}
 use Rattle.rs_sample.proofs.NameFacts.{names-asks}
 use Rattle.rs_sample.proofs.QueryFacts.{both-ended, both_rows, first-faulted, first-stopped, left-enough, second-faulted, second-stopped, words-left}
 use Rattle.rs_value.proofs.ResultFacts.{given-err}
-use Rattle.rs_sample.proofs.cards.Cards.take.Goals.{in-One+in_ok-first-in-One+in_ok-push-in-One, in-Set+in_ok-first-in-Set+in_ok-push-in-Set+in_ok-second-in-Set+in_ok-push-in-Set-2}
-use Rattle.rs_sample.proofs.cards.Cards.take.Goals as goal
+use Rattle.rs_sample.proofs.cards.Cards.take_over.Goals.{in-One+in_ok-first-in-One+in_ok-push-in-One, in-Set+in_ok-first-in-Set+in_ok-push-in-Set+in_ok-second-in-Set+in_ok-push-in-Set-2}
+use Rattle.rs_sample.proofs.cards.Cards.take_over.Goals as goal
 
 pub returns-in_err-first-in-One-clause-asks : goal.returns-in_err-first-in-One-clause-asks
 returns-in_err-first-in-One-clause-asks g c =
