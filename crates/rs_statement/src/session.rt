@@ -29,7 +29,7 @@ use crate::query::query_fault;
 use crate::sampling::Sampling;
 use indexmap::IndexMap;
 use rs_bind::{bind, bind_count};
-use rs_catalog::Catalog;
+use rs_catalog::{Catalog, Snapshot};
 use rs_events::Host;
 use rs_exec::Cursor;
 use rs_expr::Scorer;
@@ -49,8 +49,8 @@ const MOST_CURSORS: usize = 64;
 /// What gives the rows of an open cursor.
 #[derive(Drop)]
 enum CursorRows {
-    /// A plan, which is asked for one row after another.
-    Asked(Cursor),
+    /// A plan, which is asked for one row after another, over the tables with as many rows as each had at the DECLARE.
+    Asked { cursor: Cursor, sizes: Vec<u32> },
     /// They stand ready, and this many of them were given.
     Ready { rows: Vec<Answer>, given: usize },
 }
@@ -157,7 +157,13 @@ fn declare_planned<S: Scorer>(
 {
     let query = declared_query(alloc, name, select, catalog, session)?;
     let cursor = start_planned(alloc, sampling, catalog, query, scorer)?;
-    open(session, &name.text, CursorRows::Asked(cursor))?;
+    match catalog.sizes(alloc) {
+        Ok(sizes) => open(session, &name.text, CursorRows::Asked { cursor, sizes })?,
+        Err(Memory) => {
+            drop(cursor);
+            return Err(Fault::Memory);
+        }
+    }
     Ok(())
 }
 
@@ -276,7 +282,10 @@ fn fetch_rows<W: Host>(
     ensures asked { IfOk result (λ _. CanBeAsked (W.state host.old).scorer.answer catalog.now held.new) }
 {
     match held {
-        CursorRows::Asked(cursor) => fetch_asked(alloc, count, catalog, cursor, host),
+        CursorRows::Asked { cursor, sizes } => {
+            let seen = Snapshot::of(catalog, sizes.as_slice());
+            fetch_asked(alloc, count, &seen, cursor, host)
+        }
         CursorRows::Ready { rows, given } => fetch_ready(alloc, count, rows, given, host.out()),
     }
 }
@@ -285,7 +294,7 @@ fn fetch_rows<W: Host>(
 fn fetch_asked<W: Host>(
     alloc: Global,
     count: u32,
-    catalog: &Catalog,
+    catalog: &Snapshot<'_>,
     cursor: &mut Cursor,
     host: &mut W,
 ) -> Result<(), Fault>
