@@ -3,8 +3,8 @@ use Rattle.std.proofs.Common.{ℕ, zero, suc, ◌≡◌, ◌∙◌, ◌+◌, ◌
 use Rattle.std.specs.Prelude.{◌⊎◌, ◌==◌, Option, Some, None, Result, Ok, Err, option_map, slice_get, unwrap_or}
 use Rattle.std.specs.List.{AllByRecursion}
 use Rattle.std.proofs.lemmas.Bool.{eqb-false, eqb-true}
-use Rattle.std.proofs.lemmas.List.{map-append, take-append-le, take_all}
-use Rattle.std.proofs.lemmas.Option.{slice_get-map}
+use Rattle.std.proofs.lemmas.List.{map-append, take-append-le, take_all, take_more}
+use Rattle.std.proofs.lemmas.Option.{get_or_from_slice_get, slice_get-map, slice_get_within}
 use Rattle.rs_value.specs.declared.value.Value.{Value}
 use Rattle.rs_table.specs.FirstRows.{first_rows}
 use Rattle.rs_table.specs.Relation.{Relation}
@@ -219,3 +219,21 @@ snapshot-holds sizes answer catalogue held =
             holds = ap (λ (rs : List (List Value)). (making_of answer predicate index.def.args rs).outcome) (rows_for-snapshot sizes catalogue index.def)
                 ∙ making-first answer predicate index.def.args (rows_for catalogue index.def) index.ranking (size_at sizes index.def.table) holds.holds;
           }
+
+-- the size of a table
+size-at : (tables : List NamedTable) (number : ℕ) (table : Relation) → option_map (λ (t : NamedTable). t.table) (slice_get tables number) ≡ Some table
+    → slice_get (map (λ (named : NamedTable). length named.table.rows) tables) number ≡ Some (length table.rows)
+size-at [] number table there = cc
+size-at (named ∷ tables) zero table there =
+    let same : named.table ≡ table = cc in
+    ap (λ (t : Relation). Some (length t.rows)) same
+size-at (named ∷ tables) (suc number) table there = size-at tables number table there
+
+-- one size more
+pub sizes-more : (tables : List NamedTable) (number : ℕ) (table : Relation) → option_map (λ (t : NamedTable). t.table) (slice_get tables number) ≡ Some table
+    → take (number + 1) (map (λ (named : NamedTable). length named.table.rows) tables) ≡ take number (map (λ (named : NamedTable). length named.table.rows) tables) ++ length table.rows ∷ []
+sizes-more tables number table there =
+    let sizes = map (λ (named : NamedTable). length named.table.rows) tables in
+    let at = size-at tables number table there in
+    take_more sizes number 0 (slice_get_within sizes number (length table.rows) at)
+    ∙ ap (λ (n : ℕ). take number sizes ++ n ∷ []) (get_or_from_slice_get sizes number (length table.rows) 0 at)

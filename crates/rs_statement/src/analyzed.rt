@@ -128,7 +128,11 @@ fn told_text<S: Scorer>(
 }
 
 /// Asks for the rows of a cursor that are left, and drops them.
-fn ask_all<S: Scorer>(catalog: &Snapshot<'_>, cursor: &mut Cursor, scorer: &mut S) -> Result<(), Fault>
+fn ask_all<S: Scorer>(
+    catalog: &Snapshot<'_>,
+    cursor: &mut Cursor,
+    scorer: &mut S,
+) -> Result<(), Fault>
     requires { StandsFor catalog.now (S.state scorer.old).answer cursor.old }
     ensures asks { (beside : Environment) → Stepped (λ step. step ≡ silent (left_of catalog.now (S.state scorer.old).answer cursor.old)) catalog.now result
         (record beside { scorer = S.state scorer.old }) (record beside { scorer = S.state scorer.new }) }

@@ -13,7 +13,7 @@ ghost use Rattle.rs_catalog.specs.IndexesHold.{IndexesHold};
 ghost use Rattle.rs_query.specs.WellFormed.{IsQuery};
 ghost use Rattle.rs_statement.specs.declared.evaluating.Evaluating.TheVariants.{Plainly, Planned};
 ghost use Rattle.rs_statement.specs.Lines.{rank_lines};
-ghost use Rattle.rs_statement.specs.Parts.Session.{CanAllBeAsked, CanBeAsked, IsAskedMore, asked_of, cursors_of, held_in, next_of, next_of_cursor, rows_step, source_of, state_of, wanted_step};
+ghost use Rattle.rs_statement.specs.Parts.Session.{CanAllBeAsked, CanBeAsked, IsAskedMore, asked_of, cursors_of, held_in, next_of, next_of_cursor, rows_step, seen_by, source_of, state_of, wanted_step};
 ghost use Rattle.rs_statement.specs.Parts.Steps.{Leaves, Ran, Stepped};
 ghost use Rattle.rs_events.specs.Run.{lines_run};
 ghost use Rattle.rs_statement.specs.Session.{IsCursorOf, close_outcome, declare_step, declared_query, fetch_step, fetched_from, next_rows, opened_step, room_for_cursor};
@@ -276,7 +276,7 @@ fn fetch_rows<W: Host>(
 ) -> Result<(), Fault>
     requires { CanBeAsked (W.state host.old).scorer.answer catalog.now held.old }
     ensures puts { Stepped
-        (λ step. step ≡ rows_step catalog.now (W.state host.old).scorer.answer held.old count) catalog.now result (W.state host.old) (W.state host.new) }
+        (λ step. step ≡ rows_step catalog.now (W.state host.old).scorer.answer held.old count) (seen_by held.old catalog.now) result (W.state host.old) (W.state host.new) }
     ensures source { IfOk result (λ _. source_of held.new ≡ source_of held.old) }
     ensures count { IfOk result (λ _. asked_of held.new ≡ asked_of held.old + next_of catalog.now (W.state host.old).scorer.answer held.old count) }
     ensures asked { IfOk result (λ _. CanBeAsked (W.state host.old).scorer.answer catalog.now held.new) }
