@@ -23,8 +23,11 @@ impl<'a> Model for Snapshot<'a> {
     ghost use Rattle.std.specs.Prelude.{IfSome, option_map};
     ghost use Rattle.rs_catalog.specs.Catalog.{CatalogDef};
     ghost use Rattle.rs_catalog.specs.Snapshot.{HaveRows, seen_of};
+    ghost use Rattle.rs_catalog.specs.Stored.{catalogue_code};
 
     ghost Value = { CatalogDef };
+
+    ghost coded = { catalogue_code };
 
     ghost view = { λ s. seen_of (option_map (λ sizes. sizes.now) s.sizes) s.catalog.now };
 

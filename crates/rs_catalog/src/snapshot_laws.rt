@@ -38,6 +38,6 @@ pub fn snapshots_stay()
 
 /// The indexes of a snapshot hold the answers that those of its catalogue do.
 pub fn snapshots_hold_answers()
-    ensures { (sizes : List ℕ) (answer : Answering) (catalogue : CatalogDef) → HaveRows sizes catalogue.tables → IndexesHold answer catalogue
+    ensures { (sizes : List ℕ) (answer : Answering) (catalogue : CatalogDef) → IndexesHold answer catalogue
         → IndexesHold answer (snapshot sizes catalogue) }
 {}
