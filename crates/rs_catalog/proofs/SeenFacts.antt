@@ -1,22 +1,28 @@
 -- What is seen of a catalogue: its tables, and its indexes with their entries.
-use Rattle.std.proofs.Common.{ℕ, ◌≡◌, ◌∙◌, ◌<◌, ◌≤◌, List, [], length, take, refl, sym, ap, subst, arith}
+use Rattle.std.proofs.Common.{Bor, ℕ, ◌≡◌, ◌∙◌, ◌<◌, ◌≤◌, List, [], ◌∷◌, length, take, refl, sym, ap, subst, arith}
 use Rattle.std.specs.Prelude.{IfSome, Option, Some, None, option_map, slice_get, unwrap_or}
-use Rattle.std.proofs.lemmas.List.{length-take-le, take_all}
+use Rattle.std.specs.List.{AllByRecursion}
+use Rattle.std.proofs.lemmas.List.{length-take, length-take-le, take_all}
 use Rattle.std.proofs.lemmas.Option.{slice_get-map}
 use Rattle.rs_table.specs.FirstRows.{first_rows}
 use Rattle.rs_table.specs.Relation.{Relation}
-use Rattle.rs_rank.specs.declared.scored_row.ScoredRow.{ScoredRow}
+use Rattle.rs_expr.specs.Predicates.{PredicateDef}
 use Rattle.rs_catalog.specs.After.{entries_within}
 use Rattle.rs_catalog.specs.Catalog.{CatalogDef, NamedTable, RankIndex}
 use Rattle.rs_catalog.specs.Indexes.{IsIndex, IsRanking, predicate_for, ranking_at, rows_for}
-use Rattle.rs_catalog.specs.Snapshot.{HaveRows, index_at, seen_of, size_at, snapshot}
+use Rattle.rs_catalog.specs.Snapshot.{HaveRows, index_at, seen_of, size_at, snapshot, tables_at}
 use Rattle.rs_catalog.specs.declared.index.IndexDef.{IndexDef}
+use Rattle.rs_catalog.proofs.JoinRowsFacts.{item_at}
 use Rattle.rs_catalog.proofs.SnapshotFacts.{length-tables_at, rows_for-snapshot, size_at-few, slice_get-tables_at}
 use Rattle.rs_catalog.proofs.WithinFacts.{IsRanking-within, within-all}
 
 -- the tables have the rows that are seen
 abbrev pub HaveSeen : Option (List ℕ) → CatalogDef → Type 0
 HaveSeen sizes catalogue = IfSome sizes (λ sizes. HaveRows sizes catalogue.tables)
+
+pub HaveSeen-borrowed : (sizes : Option (Bor (List ℕ))) (catalogue : CatalogDef) → IfSome sizes (λ (s : Bor (List ℕ)). HaveRows s.now catalogue.tables) → HaveSeen (option_map (λ (s : Bor (List ℕ)). s.now) sizes) catalogue
+HaveSeen-borrowed (Some sizes) catalogue have = have
+HaveSeen-borrowed None catalogue have = tt
 
 -- how many rows are seen of a table
 abbrev pub size_seen : Option (List ℕ) → ℕ → Relation → ℕ
@@ -61,6 +67,37 @@ rows-seen sizes catalogue place table have is = go (slice_get (seen_of sizes cat
       let one : named.table ≡ first_rows (size_seen sizes place table) table = cc in
       ap (λ (t : Relation). Some (length t.rows)) one ∙ ap (λ n. Some n) (length-take-le (size_seen sizes place table) table.rows (size_seen-few sizes catalogue place table have is))
   go None same = cc
+
+pub size_at-seen : (sizes : List ℕ) (catalogue : CatalogDef) (place : ℕ) → HaveRows sizes catalogue.tables → place < length catalogue.tables
+    → option_map (λ (t : NamedTable). length t.table.rows) (slice_get (tables_at sizes catalogue.tables) place) ≡ Some (size_at sizes place)
+size_at-seen sizes catalogue place have within =
+    let at = item_at catalogue.tables place within in
+    rows-seen (Some sizes) catalogue place at.item.table have (ap (option_map (λ (t : NamedTable). t.table)) at.there)
+
+pub size-borrowed : (sizes : Option (Bor (List ℕ))) (given : Bor (List ℕ)) (catalogue : CatalogDef) (place : ℕ) → sizes ≡ Some given → IfSome sizes (λ (s : Bor (List ℕ)). HaveRows s.now catalogue.tables)
+    → place < length (seen_of (option_map (λ (s : Bor (List ℕ)). s.now) sizes) catalogue).tables
+    → option_map (λ (t : NamedTable). length t.table.rows) (slice_get (seen_of (option_map (λ (s : Bor (List ℕ)). s.now) sizes) catalogue).tables place) ≡ Some (size_at given.now place)
+size-borrowed (Some sizes) given catalogue place is have within =
+    let same : sizes ≡ given = cc in
+    size_at-seen sizes.now catalogue place have (omega (arith, length-tables_at sizes.now catalogue.tables)) ∙ ap (λ (s : Bor (List ℕ)). Some (size_at s.now place)) same
+size-borrowed None given catalogue place is have within = cc
+
+-- no more rows are seen than a table may have
+few-tables_at : (most : ℕ) (sizes : List ℕ) (tables : List NamedTable) → AllByRecursion (λ (t : NamedTable). length t.table.rows ≤ most) tables
+    → AllByRecursion (λ (t : NamedTable). length t.table.rows ≤ most) (tables_at sizes tables)
+few-tables_at most sizes [] all = tt
+few-tables_at most [] (named ∷ tables) all = (omega arith, few-tables_at most [] tables all.1)
+few-tables_at most (count ∷ sizes) (named ∷ tables) all = (omega (arith, all.0, length-take count named.table.rows), few-tables_at most sizes tables all.1)
+
+pub few_rows-seen : (sizes : Option (List ℕ)) (catalogue : CatalogDef) (most : ℕ) → AllByRecursion (λ (t : NamedTable). length t.table.rows ≤ most) catalogue.tables
+    → AllByRecursion (λ (t : NamedTable). length t.table.rows ≤ most) (seen_of sizes catalogue).tables
+few_rows-seen None catalogue most all = all
+few_rows-seen (Some sizes) catalogue most all = few-tables_at most sizes catalogue.tables all
+
+-- predicates are seen as they are
+pub predicates-seen : (sizes : Option (List ℕ)) (catalogue : CatalogDef) → (seen_of sizes catalogue).predicates ≡ catalogue.predicates
+predicates-seen None catalogue = refl
+predicates-seen (Some sizes) catalogue = refl
 
 -- an index is one of what is seen
 pub IsIndex-seen : (sizes : Option (List ℕ)) (catalogue : CatalogDef) (def : IndexDef) → IsIndex catalogue def → IsIndex (seen_of sizes catalogue) def
@@ -111,10 +148,14 @@ module _ (sizes : Option (List ℕ)) (catalogue : CatalogDef) (number : ℕ) (de
         omega (arith, few, ap length (rows_for-snapshot sizes catalogue def), length-take-le (size_at sizes def.table) (rows_for catalogue def) few)
 
   -- they are a ranking of them
-  pub IsRanking-seen : IsRanking (length (rows_for (seen_of sizes catalogue) def)) (predicate_for catalogue def).max (ranking_at (seen_of sizes catalogue) number)
+  pub IsRanking-seen : IsRanking (length (rows_for (seen_of sizes catalogue) def)) (predicate_for (seen_of sizes catalogue) def).max (ranking_at (seen_of sizes catalogue) number)
   IsRanking-seen =
-      subst (IsRanking (length (rows_for (seen_of sizes catalogue) def)) (predicate_for catalogue def).max) (sym ranking-seen)
-      (IsRanking-within (length (rows_for (seen_of sizes catalogue) def)) (length (rows_for catalogue def)) (predicate_for catalogue def).max (ranking_at catalogue number) few-seen ranking)
+      let rows = length (rows_for (seen_of sizes catalogue) def) in
+      let max : (predicate_for catalogue def).max ≡ (predicate_for (seen_of sizes catalogue) def).max =
+      ap (λ (predicates : List PredicateDef). (predicate_for (record catalogue { predicates = predicates }) def).max) (sym (predicates-seen sizes catalogue)) in
+      subst (λ most. IsRanking rows most (ranking_at (seen_of sizes catalogue) number)) max
+      (subst (IsRanking rows (predicate_for catalogue def).max) (sym ranking-seen)
+      (IsRanking-within rows (length (rows_for catalogue def)) (predicate_for catalogue def).max (ranking_at catalogue number) few-seen ranking))
 
   -- those of so many rows, where that is how many rows are seen of its table
   pub entries-seen : (rows : ℕ) → option_map (λ (t : NamedTable). length t.table.rows) (slice_get (seen_of sizes catalogue).tables def.table) ≡ Some rows
