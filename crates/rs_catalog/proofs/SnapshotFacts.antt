@@ -1,5 +1,5 @@
 -- Snapshots of catalogues: what they show, and that they stay as the catalogue grows.
-use Rattle.std.proofs.Common.{ℕ, zero, suc, ◌≡◌, ◌∙◌, ◌+◌, ◌<◌, ◌≤◌, ◌++◌, Bool, true, false, List, [], ◌∷◌, length, length-append, map, take, refl, sym, ap, subst, inl, inr, arith}
+use Rattle.std.proofs.Common.{ℕ, zero, suc, ◌≡◌, ◌∙◌, ◌+◌, ◌≤◌, ◌++◌, Bool, true, false, List, [], ◌∷◌, length, length-append, map, take, refl, sym, ap, subst, inl, inr, arith}
 use Rattle.std.specs.Prelude.{◌⊎◌, ◌==◌, Option, Some, None, Result, Ok, Err, option_map, slice_get, unwrap_or}
 use Rattle.std.specs.List.{AllByRecursion}
 use Rattle.std.proofs.lemmas.Bool.{eqb-false, eqb-true}
@@ -9,13 +9,12 @@ use Rattle.rs_value.specs.declared.value.Value.{Value}
 use Rattle.rs_table.specs.FirstRows.{first_rows}
 use Rattle.rs_table.specs.Relation.{Relation}
 use Rattle.rs_expr.specs.InOrder.{Inquiry, InquiryEnds, InquiryFails, InquiryStops}
-use Rattle.rs_expr.specs.Predicates.{PredicateDef}
 use Rattle.rs_expr.specs.Scoring.{Answering, ScorerState}
 use Rattle.rs_order.proofs.EachFacts.{each-map, each-weaker}
 use Rattle.rs_rank.specs.declared.scored_row.ScoredRow.{ScoredRow}
 use Rattle.rs_catalog.specs.After.{entries_within}
 use Rattle.rs_catalog.specs.Catalog.{CatalogDef, NamedTable, RankIndex, with_index, with_table}
-use Rattle.rs_catalog.specs.Growing.{CanJoin, GrowsBy, catalogue_grown, growing, growing_index, in_turn, scorings_new, with_entries, with_rows_in}
+use Rattle.rs_catalog.specs.Growing.{GrowsBy, catalogue_grown, growing, growing_index, in_turn, scorings_new, with_entries, with_rows_in}
 use Rattle.rs_catalog.specs.IndexesHold.{IndexHolds, IndexesHold}
 use Rattle.rs_catalog.specs.Indexes.{IsRanking, args_in, making_of, predicate_for, rows_for}
 use Rattle.rs_catalog.specs.Snapshot.{HaveRows, index_at, size_at, sizes_in, snapshot, tables_at}
@@ -93,15 +92,16 @@ map-same f [] all = refl
 map-same f (x ∷ xs) all = λ i. all.0 i ∷ map-same f xs all.1 i
 
 -- a snapshot of all rows is the catalogue
+index_at-all : (answer : Answering) (catalogue : CatalogDef) (index : RankIndex) → IndexHolds answer catalogue index → index_at (sizes_in catalogue) index ≡ index
+index_at-all answer catalogue index held =
+    ap (λ (ranking : List ScoredRow). record index { ranking = ranking })
+    (ap (λ count. entries_within count index.ranking) (size_at-all catalogue index.def)
+    ∙ within-all index.ranking (length (rows_for catalogue index.def)) (predicate_for catalogue index.def).max (ranking-held answer catalogue index held).each)
+
 pub snapshot-all : (answer : Answering) (catalogue : CatalogDef) → IndexesHold answer catalogue → snapshot (sizes_in catalogue) catalogue ≡ catalogue
 snapshot-all answer catalogue held =
-    let same : (index : RankIndex) → IndexHolds answer catalogue index → index_at (sizes_in catalogue) index ≡ index = λ index holds.
-        let max = (predicate_for catalogue index.def).max in
-        ap (λ (ranking : List ScoredRow). record index { ranking = ranking })
-        (ap (λ count. entries_within count index.ranking) (size_at-all catalogue index.def)
-        ∙ within-all index.ranking (length (rows_for catalogue index.def)) max (ranking-held answer catalogue index holds).each) in
-    let indexes = map-same (index_at (sizes_in catalogue)) catalogue.indexes
-        (each-weaker (IndexHolds answer catalogue) (λ (index : RankIndex). index_at (sizes_in catalogue) index ≡ index) same catalogue.indexes held) in
+    let each = each-weaker (IndexHolds answer catalogue) (λ (index : RankIndex). index_at (sizes_in catalogue) index ≡ index) (index_at-all answer catalogue) catalogue.indexes held in
+    let indexes = map-same (index_at (sizes_in catalogue)) catalogue.indexes each in
     λ i. record { tables = tables_at-all catalogue.tables i; predicates = catalogue.predicates; indexes = indexes i }
 
 -- a table joins
@@ -199,7 +199,7 @@ snapshot-grown sizes catalogue new table rows result before after have held grow
       go (Ok indexes) (inl (inl ends)) =
           let tables = tables_at-with_rows sizes table rows catalogue.tables have in
           let same = in_turn-map (growing_index before.answer catalogue table rows) (IndexHolds before.answer catalogue) (index_at sizes) (index_at sizes)
-              (index_at-grown sizes before.answer catalogue table rows have) 0 catalogue.indexes indexes held (sym ends.gives) in
+          (index_at-grown sizes before.answer catalogue table rows have) 0 catalogue.indexes indexes held (sym ends.gives) in
           λ i. record { tables = tables i; predicates = catalogue.predicates; indexes = same i }
       go (Ok indexes) (inl (inr fails)) = let gives = fails.gives in cc
       go (Ok indexes) (inr stops) = let gives = stops.gives in cc

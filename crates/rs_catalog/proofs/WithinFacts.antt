@@ -12,7 +12,7 @@ use Rattle.rs_table.specs.Appended.{appended}
 use Rattle.rs_expr.specs.Predicates.{PredicateDef}
 use Rattle.rs_expr.specs.Scores.{is_score}
 use Rattle.rs_expr.specs.Scoring.{Answering}
-use Rattle.rs_order.proofs.EachFacts.{each-filter, each-weaker}
+use Rattle.rs_order.proofs.EachFacts.{each-filter}
 use Rattle.rs_rank.specs.Stable.{stable}
 use Rattle.rs_rank.specs.declared.scored_row.ScoredRow.{ScoredRow}
 use Rattle.rs_rank.proofs.StableFacts.{Falls, Falls-stable, Falls-unique, of_score, of_score-stable}
@@ -39,13 +39,14 @@ Falls-filter test (entry ∷ rest) falls =
 filter-stable : (test : ScoredRow → Bool) (entries : List ScoredRow) → filter test (stable score entries) ≡ stable score (filter test entries)
 filter-stable test entries =
     Falls-unique score (filter test (stable score entries)) (stable score (filter test entries))
-    (Falls-filter test (stable score entries) (Falls-stable score entries))
-    (Falls-stable score (filter test entries))
-    (λ (entry : ScoredRow).
-        filter-swapped (λ (later : ScoredRow). eqb later.score entry.score) test (stable score entries)
-        ∙ ap (filter test) (of_score-stable score entry.score entries)
-        ∙ filter-swapped test (λ (later : ScoredRow). eqb later.score entry.score) entries
-        ∙ sym (of_score-stable score entry.score (filter test entries)))
+    (Falls-filter test (stable score entries) (Falls-stable score entries)) (Falls-stable score (filter test entries)) of_each where
+      of_each : (entry : ScoredRow) → of_score score entry.score (filter test (stable score entries)) ≡ of_score score entry.score (stable score (filter test entries))
+      of_each entry =
+          let same : ScoredRow → Bool = λ other. eqb other.score entry.score in
+          filter-swapped same test (stable score entries)
+          ∙ ap (filter test) (of_score-stable score entry.score entries)
+          ∙ filter-swapped test same entries
+          ∙ sym (of_score-stable score entry.score (filter test entries))
 
 -- entries of later rows
 pub within-later : (entries : List ScoredRow) (row count : ℕ) → Numbered row entries → count < row → entries_within count entries ≡ []

@@ -1,7 +1,7 @@
 //! The catalogue of a session: its tables, ranking predicates and rank indexes.
 //!
 //! Its promise: tables, predicates and rank indexes are found by name; making an index, and rows that join its table, make
-//! exactly their calls, and its rows are in order; and after a fault nothing has joined.
+//! exactly their calls, and its rows are in order; after a fault nothing has joined; and a snapshot stays as its catalogue grows.
 #![tactic(auto)]
 
 mod after;

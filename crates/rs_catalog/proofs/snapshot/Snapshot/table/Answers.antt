@@ -1,5 +1,5 @@
 -- A table of a snapshot is its first rows.
-use Rattle.std.proofs.Common.{◌≡◌, ◌∙◌, ◌<◌, ◌≤◌, ℕ, Bor, List, length, ap, sym, subst, arith}
+use Rattle.std.proofs.Common.{◌≡◌, ◌∙◌, ◌<◌, ◌≤◌, ℕ, Bor, List, length, ap, sym, subst}
 use Rattle.std.specs.Prelude.{Option, Some, option_map, slice_get}
 use Rattle.rs_table.specs.FirstRows.{first_rows}
 use Rattle.rs_table.specs.Relation.{Relation}
