@@ -68,7 +68,7 @@ rows-seen sizes catalogue place table have is = go (slice_get (seen_of sizes cat
       ap (λ (t : Relation). Some (length t.rows)) one ∙ ap (λ n. Some n) (length-take-le (size_seen sizes place table) table.rows (size_seen-few sizes catalogue place table have is))
   go None same = cc
 
-pub size_at-seen : (sizes : List ℕ) (catalogue : CatalogDef) (place : ℕ) → HaveRows sizes catalogue.tables → place < length catalogue.tables
+size_at-seen : (sizes : List ℕ) (catalogue : CatalogDef) (place : ℕ) → HaveRows sizes catalogue.tables → place < length catalogue.tables
     → option_map (λ (t : NamedTable). length t.table.rows) (slice_get (tables_at sizes catalogue.tables) place) ≡ Some (size_at sizes place)
 size_at-seen sizes catalogue place have within =
     let at = item_at catalogue.tables place within in
@@ -110,14 +110,7 @@ IsIndex-seen (Some sizes) catalogue def is = record {
   fits = is.fits;
 }
 
--- what is seen of an index
-pub index-seen : (sizes : Option (List ℕ)) (catalogue : CatalogDef) (number : ℕ) → option_map (λ (i : RankIndex). i.def) (slice_get (seen_of sizes catalogue).indexes number) ≡ option_map (λ (i : RankIndex). i.def) (slice_get catalogue.indexes number)
-index-seen None catalogue number = refl
-index-seen (Some sizes) catalogue number = ap (option_map (λ (i : RankIndex). i.def)) (slice_get-map (index_at sizes) catalogue.indexes number) ∙ go (slice_get catalogue.indexes number) where
-  go : (found : Option RankIndex) → option_map (λ (i : RankIndex). i.def) (option_map (index_at sizes) found) ≡ option_map (λ (i : RankIndex). i.def) found
-  go (Some index) = refl
-  go None = refl
-
+-- the entries of an index, as a snapshot has them
 ranking_at-snapshot : (sizes : List ℕ) (catalogue : CatalogDef) (number : ℕ) (def : IndexDef) → option_map (λ (i : RankIndex). i.def) (slice_get catalogue.indexes number) ≡ Some def
     → ranking_at (snapshot sizes catalogue) number ≡ entries_within (size_at sizes def.table) (ranking_at catalogue number)
 ranking_at-snapshot sizes catalogue number def is =
@@ -139,6 +132,7 @@ module _ (sizes : Option (List ℕ)) (catalogue : CatalogDef) (number : ℕ) (de
         ∙ ap (λ count. entries_within count (ranking_at catalogue number))
         (sym (ap length (rows_for-snapshot sizes catalogue def) ∙ length-take-le (size_at sizes def.table) (rows_for catalogue def) (size_at-few sizes catalogue.tables def.table have)))
 
+  -- no more rows are seen than there are
   few-seen : length (rows_for (seen_of sizes catalogue) def) ≤ length (rows_for catalogue def)
   few-seen = go sizes have where
     go : (sizes : Option (List ℕ)) → HaveSeen sizes catalogue → length (rows_for (seen_of sizes catalogue) def) ≤ length (rows_for catalogue def)

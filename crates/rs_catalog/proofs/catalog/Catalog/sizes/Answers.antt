@@ -1,5 +1,5 @@
 -- The size of the next table joins.
-use Rattle.std.proofs.Common.{◌≡◌, ◌∙◌, ◌++◌, ◌∷◌, [], ap, length, sym, List, ℕ}
+use Rattle.std.proofs.Common.{◌∙◌, ◌++◌, ◌∷◌, [], ap, length, sym, List, ℕ}
 use Rattle.rs_catalog.proofs.SnapshotFacts.{sizes-more}
 use Rattle.rs_catalog.proofs.catalog.Catalog.sizes.Goals as goal
 
