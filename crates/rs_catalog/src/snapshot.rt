@@ -14,6 +14,7 @@ use std::marker::Model;
 
 /// A catalogue as it is, or as it was when its tables had so many rows. Rows that join later are in none of its tables and indexes;
 /// tables that join later have no rows in it.
+#[derive(Drop)]
 pub struct Snapshot<'a> {
     catalog: &'a Catalog,
     sizes: Option<&'a [u32]>,

@@ -7,9 +7,9 @@ use Rattle.rs_expr.specs.InOrder.{Inquires}
 use Rattle.rs_expr.specs.Scoring.{Answering, ScorerState}
 use Rattle.rs_rank.specs.declared.row.RankRow.{RankRow}
 use Rattle.rs_catalog.specs.Catalog.{CatalogDef, NamedTable, RankIndex}
-use Rattle.rs_catalog.specs.Indexes.{rows_for}
+use Rattle.rs_catalog.specs.Indexes.{ranking_at, rows_for}
 use Rattle.rs_catalog.specs.declared.index.IndexDef.{IndexDef}
-use Rattle.rs_scan.specs.Scans.{rows_of_index, rows_of_table, scan_at}
+use Rattle.rs_scan.specs.Scans.{last_at, rows_of_index, rows_of_table, scan_at}
 use Rattle.rs_query.specs.Questions.{asking}
 use Rattle.rs_query.specs.declared.query.Query.{Query}
 use Rattle.rs_query.proofs.QuestionFacts.{AllAsked-none, Ended-behind}
@@ -114,6 +114,12 @@ module _ (catalogue : CatalogDef) (answer : Answering) (query : Query) where
       (option_and_then (λ (from : ℕ × List ℕ). option_map (λ (t : NamedTable). t.table) (slice_get catalogue.tables from.0)) o)) 0) part.from
       ∙ size-rows (slice_get catalogue.tables part.table)
       ∙ ap (λ n. length (unwrap_or (option_map (λ (t : NamedTable). t.table.rows) (slice_get catalogue.tables n)) [])) (sym found.table_is ∙ ap (λ (d : IndexDef). d.table) same)
+
+  -- it stands behind the entry that it drew last
+  pub index-last : (head : IndexNode) → head ≡ index_node_after (world_of catalogue answer query) head.block head.entry head.term head.scan.index head.tally.asked
+      → head.scan.last ≡ last_at (ranking_at catalogue head.scan.index) head.scan.drawn
+  index-last head keeps =
+      ap (λ (h : IndexNode). h.scan.last) keeps ∙ sym (ap (λ (h : IndexNode). last_at (ranking_at catalogue head.scan.index) h.scan.drawn) keeps)
 
   -- a scan of a table after one ask more
   abbrev table_then : Option RankRow → TableNode → TableNode

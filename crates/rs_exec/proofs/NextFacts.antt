@@ -226,6 +226,13 @@ index_asked catalogue old drawn = record old {
   tally = record old.tally { asked = old.tally.asked + 1 };
 }
 
+-- before the first draw
+pub index-begins : (catalogue : CatalogDef) (old : IndexNode) (tally : Tally) → old.scan.last ≡ last_at (ranking_at catalogue old.scan.index) old.scan.drawn
+    → tally ≡ record old.tally { asked = old.tally.asked + 1 } → record old { tally = tally } ≡ index_asked catalogue old old.scan.drawn
+index-begins catalogue old tally last asked =
+    ap (λ (t : Tally). record old { tally = t }) asked
+    ∙ ap (λ (kept : Option (ℕ × ℕ)). record old { scan = record old.scan { last = kept }; tally = record old.tally { asked = old.tally.asked + 1 } }) last
+
 module _ (catalogue : CatalogDef) (old loop : IndexNode) (is : loop ≡ index_asked catalogue old loop.scan.drawn) where
   -- it is of the same rows
   pub index-place : (row : Option RankRow) → row ≡ slice_get (rows_of_index catalogue loop.scan) loop.scan.drawn → slice_get (rows_of_index catalogue old.scan) loop.scan.drawn ≡ row

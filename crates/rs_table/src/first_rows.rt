@@ -16,6 +16,7 @@ use rs_value::Text;
 use std::marker::Model;
 
 /// The first rows of a table: the table as it was when it had so many. Rows that join it later are none of them.
+#[derive(Drop)]
 pub struct FirstRows<'a> {
     table: &'a Table,
     len: u32,
