@@ -18,7 +18,7 @@ mod PlaceFacts
 mod RankingFacts
 mod SameArguments
 mod SeenFacts
-mod SnapshotFacts
+pub mod SnapshotFacts
 pub mod ScoreFacts
 mod WithinFacts
 mod WorkedGrowth

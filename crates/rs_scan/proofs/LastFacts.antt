@@ -1,14 +1,19 @@
 -- What comes behind the entry of an index that was drawn last: the entries that weren't drawn.
-use Rattle.std.proofs.Common.{ℕ, ◌≡◌, ◌∙◌, ◌+◌, ◌<◌, ◌≤◌, ◌&&◌, ◌||◌, true, false, nat_lt, eqb, zero, suc, List, [], ◌∷◌, length, drop, min, refl, sym, ap, arith}
+use Rattle.std.proofs.Common.{ℕ, ◌≡◌, ◌∙◌, ◌+◌, ◌-◌, ◌<◌, ◌≤◌, ◌&&◌, ◌||◌, true, false, nat_lt, eqb, zero, suc, List, [], ◌∷◌, length, drop, get_or, min, refl, sym, ap, subst, arith}
 use Rattle.std.specs.Prelude.{◌⊎◌, Option, Some, None, option_map, slice_get}
 use Rattle.std.specs.List.{AllByRecursion, filter}
 use Rattle.std.proofs.lemmas.Bool.{cond-false, cond-true}
 use Rattle.std.proofs.lemmas.Bool.Decides.{nat_tests}
+use Rattle.std.proofs.lemmas.List.{get_or-set_same}
+use Rattle.std.proofs.lemmas.Option.{slice_get-map, slice_get_past}
 use Rattle.rs_rank.specs.declared.scored_row.ScoredRow.{ScoredRow}
 use Rattle.rs_catalog.specs.After.{first_entry, is_behind}
-use Rattle.rs_catalog.specs.Indexes.{EntriesInOrder, EntryPrecedes, IsIndexEntry, IsRanking}
+use Rattle.rs_catalog.specs.Catalog.{CatalogDef, RankIndex}
+use Rattle.rs_catalog.specs.Indexes.{EntriesInOrder, EntryPrecedes, IsIndexEntry, IsRanking, predicate_for, ranking_at, rows_for}
+use Rattle.rs_catalog.specs.declared.index.IndexDef.{IndexDef}
 use Rattle.rs_catalog.proofs.AfterFacts.{filter-none}
-use Rattle.rs_scan.specs.Scans.{last_at}
+use Rattle.rs_scan.specs.Scans.{IndexScan, IsEntryNumber, IsOfAllRows, entries_in, entry_row, index_rows, last_at, rows_of_index, scan_at, scored}
+use Rattle.rs_scan.proofs.IndexFacts.{entries_in-ranking, index-count}
 
 -- an entry as it is kept of a scan
 abbrev kept : ScoredRow → Option (ℕ × ℕ)
@@ -108,3 +113,54 @@ module _ (size max : ℕ) (ranking : List ScoredRow) (is : IsRanking size max ra
       let most = at-none ranking drawn (sym (next last found was gives) ∙ none) in
       let all = is.all in
       omega arith
+
+-- the row of an entry has the entry's number
+pub number-scored : (block entry number sum : ℕ) → IsEntryNumber entry → get_or (entry_row block entry number sum).ids.rows (entry - 1) 0 ≡ number
+number-scored block entry number sum is =
+    let least = is.least in
+    let most = is.most in
+    get_or-set_same (0 ∷ 0 ∷ 0 ∷ 0 ∷ 0 ∷ 0 ∷ []) (entry - 1) number 0 (omega arith)
+
+-- a scan of an index, and what is found behind the entry that it drew last
+module _ (catalogue : CatalogDef) (scan : IndexScan) (def : IndexDef) (found : Option (ℕ × ℕ)) (within : scan.drawn ≤ scan.rows) (view : IsOfAllRows catalogue scan)
+    (value : option_map (λ (i : RankIndex). i.def) (slice_get catalogue.indexes scan.index) ≡ Some def)
+    (ranked : IsRanking (length (rows_for catalogue def)) (predicate_for catalogue def).max (ranking_at catalogue scan.index))
+    (was : scan.last ≡ last_at (ranking_at catalogue scan.index) scan.drawn)
+    (gives : found ≡ first_entry (filter (is_behind scan.last) (ranking_at catalogue scan.index))) where
+  is : IsRanking scan.rows (predicate_for catalogue def).max (ranking_at catalogue scan.index)
+  is = subst (λ size. IsRanking size (predicate_for catalogue def).max (ranking_at catalogue scan.index)) (sym (view def value)) ranked
+
+  pub scan-found : (score row : ℕ) → found ≡ Some (score, row) → IsNext (ranking_at catalogue scan.index) scan.rows scan.drawn score row
+  scan-found score row is_found =
+      IsNext-found scan.rows (predicate_for catalogue def).max (ranking_at catalogue scan.index) is scan.drawn within scan.last found score row was gives is_found
+
+  pub scan-over : found ≡ None → scan.drawn ≡ scan.rows
+  scan-over none = all-drawn scan.rows (predicate_for catalogue def).max (ranking_at catalogue scan.index) is scan.drawn within scan.last found was gives none
+
+  -- the row that is given
+  pub row-found : (score row : ℕ) → found ≡ Some (score, row)
+      → slice_get (rows_of_index catalogue scan) scan.drawn ≡ Some (scored scan.block scan.entry scan.weight (record { score = score; row = row }))
+  row-found score row is_found =
+      slice_get-map (scored scan.block scan.entry scan.weight) (entries_in scan.rows (ranking_at catalogue scan.index)) scan.drawn
+      ∙ ap (option_map (scored scan.block scan.entry scan.weight))
+      (ap (λ entries. slice_get entries scan.drawn) (entries_in-ranking scan.rows (predicate_for catalogue def).max (ranking_at catalogue scan.index) is) ∙ (scan-found score row is_found).there)
+
+  pub row-over : found ≡ None → slice_get (rows_of_index catalogue scan) scan.drawn ≡ None
+  row-over none =
+      let count = index-count scan.block scan.entry scan.weight scan.rows (predicate_for catalogue def).max (ranking_at catalogue scan.index) is in
+      let end = scan-over none in
+      slice_get_past (index_rows scan.block scan.entry scan.weight scan.rows (ranking_at catalogue scan.index)) scan.drawn (omega (arith, count, end))
+
+  -- where the scan stands then
+  pub after-found : (score row : ℕ) → found ≡ Some (score, row)
+      → record scan { drawn = scan.drawn + 1; last = Some (score, row) } ≡ scan_at catalogue (min (scan.drawn + 1) scan.rows) scan
+  after-found score row is_found =
+      let next = scan-found score row is_found in
+      ap (λ (kept : Option (ℕ × ℕ)). record scan { drawn = scan.drawn + 1; last = kept }) next.last
+      ∙ ap (λ n. scan_at catalogue n scan) (sym next.count)
+
+  pub after-over : found ≡ None → scan ≡ scan_at catalogue (min (scan.drawn + 1) scan.rows) scan
+  after-over none =
+      let end = scan-over none in
+      let count : scan.drawn ≡ min (scan.drawn + 1) scan.rows = omega (arith, end) in
+      ap (λ (kept : Option (ℕ × ℕ)). record scan { last = kept }) was ∙ ap (λ n. scan_at catalogue n scan) count
