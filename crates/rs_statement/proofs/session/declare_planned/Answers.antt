@@ -4,6 +4,7 @@ use Rattle.rs_value.proofs.ResultFacts.{given-err}
 use Rattle.rs_syntax.specs.Syntax.{query_of}
 use Rattle.rs_catalog.specs.Catalog.{CatalogDef}
 use Rattle.rs_catalog.specs.Snapshot.{HaveRows, sizes_in, snapshot}
+use Rattle.rs_catalog.proofs.SnapshotFacts.{HaveRows-all, snapshot-all}
 use Rattle.rs_exec.specs.Cursors.{StandsFor}
 use Rattle.rs_statement.specs.Parts.Session.{CanAllBeAsked, state_of}
 use Rattle.rs_statement.specs.Planned.{plan_for}
@@ -85,7 +86,7 @@ returns g c =
     let cursor = c.in_ok-cursor.cursor in
     let left = c.open.new.session.cursors.entries in
     let sizes = c.in-Ok.sizes in
-    let sizes_are = c.in-Ok.ensures.value in
+    let sizes_are = c.in-Ok.ensures in
     let at = c.in_ok-cursor.ensures.starts in
     let opened = c.in_ok-open-in-Ok.ensures.ok in record {
       opens = λ beside. Opened-planned answer c.args.sampling name state (query_of c.args.select.now) query (state_of catalogue left)
@@ -95,7 +96,7 @@ returns g c =
           (λ i. ByPlan (at.query_is i) (at.plan_is i) (sizes_are i)) at.asks_are);
       asked = subst (CanAllBeAsked answer catalogue) (sym opened)
           (asked-append answer catalogue entries name.text (held.Asked cursor sizes) c.requires.asked
-          (subst (λ (s : List ℕ). HaveRows s catalogue.tables) (sym sizes_are) c.sizes.ensures.rows,
+          (subst (λ (s : List ℕ). HaveRows s catalogue.tables) (sym sizes_are) (HaveRows-all catalogue.tables),
           subst (λ (s : List ℕ). StandsFor (snapshot s catalogue) answer cursor) (sym sizes_are)
-          (subst (λ (seen : CatalogDef). StandsFor seen answer cursor) (sym c.sizes.ensures.whole) c.in_ok-cursor.ensures.stands)));
+          (subst (λ (seen : CatalogDef). StandsFor seen answer cursor) (sym (snapshot-all answer catalogue c.requires.held)) c.in_ok-cursor.ensures.stands)));
     }
