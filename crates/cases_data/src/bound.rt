@@ -10,7 +10,7 @@ use crate::show::{show_count, show_index, show_predicate, show_query, show_table
 use cases_lines::{Fault, count_of, cut_word, number_of, text_of};
 use cases_scripts::{make, statements_of};
 use rs_bind::{bind, bind_count, bind_index, bind_predicate, bind_table};
-use rs_catalog::Catalog;
+use rs_catalog::{Catalog, Snapshot};
 use rs_query::Query;
 use rs_syntax::Statement;
 use std::alloc::Global;
@@ -80,7 +80,7 @@ fn tell_asked(
     requires { IsQuery catalog.now query.now }
 {
     match asked {
-        Asked::Rows(old) => tell_combinations(alloc, catalog, query, old),
+        Asked::Rows(old) => tell_combinations(alloc, &Snapshot::current(catalog), query, old),
         Asked::Answers(failing) => tell_plain(alloc, catalog, query, failing),
     }
 }

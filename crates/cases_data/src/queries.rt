@@ -3,7 +3,7 @@
 ghost use Rattle.rs_query.specs.WellFormed.{IsBlock, IsQuery};
 
 use cases_lines::{Fault, print_call};
-use rs_catalog::Catalog;
+use rs_catalog::{Catalog, Snapshot};
 use rs_expr::{Call, MemScorer};
 use rs_plain::{PlainFault, answer_plainly};
 use rs_query::{Block, Query};
@@ -14,7 +14,7 @@ use std::alloc::{AllocError, Global};
 /// The combinations of rows of a query of one block that have a row behind the first so many of its table.
 pub fn tell_combinations(
     alloc: Global,
-    catalog: &Catalog,
+    catalog: &Snapshot<'_>,
     query: &Query,
     old: u32,
 ) -> Result<String, Fault>
@@ -28,7 +28,7 @@ pub fn tell_combinations(
 
 fn combinations(
     alloc: Global,
-    catalog: &Catalog,
+    catalog: &Snapshot<'_>,
     block: &Block,
     old: u32,
 ) -> Result<Vec<[u32; 6]>, Memory>

@@ -1,11 +1,12 @@
 //! What is asked of scans.
 
 ghost use Rattle.std.specs.Prelude.{◌≡◌, ◌≤◌, ◌<◌, length};
-ghost use Rattle.rs_scan.specs.Scans.{IsOfAllRows};
+ghost use Rattle.rs_catalog.specs.Indexes.{ranking_at};
+ghost use Rattle.rs_scan.specs.Scans.{IsOfAllRows, last_at};
 
 use crate::indexes::number_in;
 use cases_lines::{Fault, count_of, cut_word, small_number_of};
-use rs_catalog::{Catalog, What};
+use rs_catalog::{Catalog, Snapshot, What};
 use rs_rank::RankRow;
 use rs_scan::{RankScan, SeqScan};
 use std::alloc::{AllocError, Global};
@@ -73,11 +74,11 @@ pub fn tell_index_scan(
     let weight = count_of(weight)?;
     let drawing = drawing_of(words)?;
     let index = number_in(alloc, catalog, What::Index, name)?;
-    Ok(tell_ranking(catalog, index, weight, drawing, told)?)
+    Ok(tell_ranking(&Snapshot::current(catalog), index, weight, drawing, told)?)
 }
 
 fn tell_ranking(
-    catalog: &Catalog,
+    catalog: &Snapshot<'_>,
     index: u8,
     weight: u32,
     drawing: Drawing,
@@ -93,13 +94,14 @@ fn tell_ranking(
 
 /// Draws this many rows, and tells each.
 fn draw(
-    catalog: &Catalog,
+    catalog: &Snapshot<'_>,
     scan: &mut RankScan,
     count: u32,
     told: &mut String,
 ) -> Result<(), AllocError>
     requires index { scan.old.index < length catalog.now.indexes }
     requires view { IsOfAllRows catalog.now scan.old }
+    requires last { scan.old.last ≡ last_at (ranking_at catalog.now scan.old.index) scan.old.drawn }
 {
     for _ in 0..count {
         tell_row(scan.next(catalog), told)?;

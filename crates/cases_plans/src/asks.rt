@@ -8,7 +8,7 @@ ghost use Rattle.rs_catalog.specs.IndexesHold.{IndexesHold};
 
 use crate::calls::tell_calls;
 use cases_lines::Fault;
-use rs_catalog::Catalog;
+use rs_catalog::{Catalog, Snapshot};
 use rs_exec::{Cursor, ExecFault};
 use rs_expr::{Call, MemScorer};
 use rs_plan::{Counts, Plan};
@@ -32,8 +32,9 @@ pub fn tell_rows(
         drop(query);
         return Ok(format!(in alloc; "  invalid\n")?);
     }
-    let mut cursor = Cursor::start(alloc, catalog, query, plan)?;
-    let told = tell_cursor(alloc, catalog, &mut cursor, count, scorer);
+    let seen = Snapshot::current(catalog);
+    let mut cursor = Cursor::start(alloc, &seen, query, plan)?;
+    let told = tell_cursor(alloc, &seen, &mut cursor, count, scorer);
     drop(cursor);
     told
 }
@@ -41,7 +42,7 @@ pub fn tell_rows(
 /// Asks a new cursor this many times, and tells what each ask gave, and what the nodes of its plan count.
 fn tell_cursor(
     alloc: Global,
-    catalog: &Catalog,
+    catalog: &Snapshot<'_>,
     cursor: &mut Cursor,
     count: u32,
     scorer: &mut MemScorer,
@@ -58,7 +59,7 @@ fn tell_cursor(
 
 /// Tells what each of this many asks gave. It answers whether the last one had a fault.
 fn tell_asks(
-    catalog: &Catalog,
+    catalog: &Snapshot<'_>,
     cursor: &mut Cursor,
     count: u32,
     scorer: &mut MemScorer,
@@ -77,7 +78,7 @@ fn tell_asks(
 
 /// Tells what one ask gave, and the calls that it made. It answers whether it had a fault.
 fn tell_ask(
-    catalog: &Catalog,
+    catalog: &Snapshot<'_>,
     cursor: &mut Cursor,
     scorer: &mut MemScorer,
     told: &mut String,
@@ -96,7 +97,7 @@ fn tell_ask(
 
 /// One ask. Behind it the cursor can be asked again.
 fn ask(
-    catalog: &Catalog,
+    catalog: &Snapshot<'_>,
     cursor: &mut Cursor,
     scorer: &mut MemScorer,
 ) -> Result<Option<Answer>, ExecFault>

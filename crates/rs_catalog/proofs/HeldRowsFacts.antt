@@ -23,7 +23,7 @@ use Rattle.rs_catalog.specs.declared.growth.GrowFault.TheVariants.{BadScore, Mem
 use Rattle.rs_catalog.specs.declared.index.BoundArg.{BoundArg}
 use Rattle.rs_catalog.specs.declared.index.IndexFault.{IndexFault}
 use Rattle.rs_catalog.proofs.GrowAtFacts.{growing_index-other, growing_index-own}
-use Rattle.rs_catalog.proofs.InTurnFacts.{in_turn-err, in_turn-ok}
+use Rattle.rs_catalog.proofs.InTurnFacts.{Parts-in_turn, in_turn-err, in_turn-ok}
 use Rattle.rs_catalog.proofs.JoinRowsFacts.{with_rows_in-other, with_rows_in-own}
 use Rattle.rs_catalog.proofs.MoreFacts.{put_all-append}
 use Rattle.rs_catalog.proofs.RankingFacts.{score, sorted-from}
@@ -33,19 +33,9 @@ use Rattle.rs_catalog.proofs.ScoreFacts.{appended-appended, appended-nil, entry_
 in_turn-each : {X A : Type 0} (ask : ℕ → X → Inquiry A GrowFault) (P : X → Type 0) (Q : A → Type 0) → ((n : ℕ) (x : X) (a : A) → P x → (ask n x).outcome ≡ Ok a → Q a)
     → (n : ℕ) (xs : List X) (all : List A) → AllByRecursion P xs → (in_turn ask n xs).outcome ≡ Ok all → AllByRecursion Q all
 in_turn-each {X} {A} ask P Q step n [] all each e = let none : all ≡ [] = cc in subst (AllByRecursion Q) (sym none) tt
-in_turn-each {X} {A} ask P Q step n (x ∷ xs) all each e = go (ask n x).outcome refl (in_turn ask (n + 1) xs).outcome refl (λ others. in_turn-each ask P Q step (n + 1) xs others each.1) where
-  go : (first : Result A GrowFault) → (ask n x).outcome ≡ first → (rest : Result (List A) GrowFault) → (in_turn ask (n + 1) xs).outcome ≡ rest
-      → ((others : List A) → (in_turn ask (n + 1) xs).outcome ≡ Ok others → AllByRecursion Q others) → AllByRecursion Q all
-  go (Ok a) first_is (Ok others) rest_is later =
-      let whole : appended (a ∷ []) (Ok others) ≡ Ok all =
-      ap (appended (a ∷ [])) (sym rest_is) ∙ ap (λ (inquiry : Inquiry (List A) GrowFault). inquiry.outcome) (sym (in_turn-ok ask n x xs a first_is)) ∙ e in
-      let same : a ∷ others ≡ all = cc in
-      subst (AllByRecursion Q) same (step n x a each.0 first_is, later others rest_is)
-  go (Ok a) first_is (Err fault) rest_is later =
-      absurd (let whole : appended (a ∷ []) (Err fault) ≡ Ok all =
-      ap (appended (a ∷ [])) (sym rest_is) ∙ ap (λ (inquiry : Inquiry (List A) GrowFault). inquiry.outcome) (sym (in_turn-ok ask n x xs a first_is)) ∙ e in cc)
-  go (Err fault) first_is rest rest_is later =
-      absurd (let bad : Err fault ≡ Ok all = ap (λ (inquiry : Inquiry (List A) GrowFault). inquiry.outcome) (sym (in_turn-err ask n x xs fault first_is)) ∙ e in cc)
+in_turn-each ask P Q step n (x ∷ xs) all each e =
+    let parts = Parts-in_turn ask n x xs all e in
+    subst (AllByRecursion Q) parts.all_are (step n x parts.first each.0 parts.first_is, in_turn-each ask P Q step (n + 1) xs parts.others each.1 parts.others_are)
 
 -- a stable order of a stable order is the same, and rows that are put behind it are put into it
 stable-again : (entries : List ScoredRow) → stable score (stable score entries) ≡ stable score entries
@@ -117,12 +107,12 @@ module _ (answer : Answering) (number : ℕ) (predicate : PredicateDef) (args : 
         ap (λ (inquiry : Inquiry (List ScoredRow) GrowFault). inquiry.outcome) (sym (in_turn-err ask n values rows (BadScore number n (f values) predicate.max) (ask-bad n values is))) ∙ e in cc)
 
 -- what was finished comes of an outcome
-record IsFinished {A B : Type 0} (finish : A → B) (inquiry : Inquiry A GrowFault) (made : B) : Type 0 where
-  from : A
-  outcome_is : inquiry.outcome ≡ Ok from
-  made_is : finish from ≡ made
+pub record IsFinished {A B : Type 0} (finish : A → B) (inquiry : Inquiry A GrowFault) (made : B) : Type 0 where
+  pub from : A
+  pub outcome_is : inquiry.outcome ≡ Ok from
+  pub made_is : finish from ≡ made
 
-IsFinished-from : {A B : Type 0} (finish : A → B) (inquiry : Inquiry A GrowFault) (made : B) → (finished finish inquiry).outcome ≡ Ok made → IsFinished finish inquiry made
+pub IsFinished-from : {A B : Type 0} (finish : A → B) (inquiry : Inquiry A GrowFault) (made : B) → (finished finish inquiry).outcome ≡ Ok made → IsFinished finish inquiry made
 IsFinished-from {A} {B} finish inquiry made e = go inquiry.outcome refl e where
   go : (outcome : Result A GrowFault) → inquiry.outcome ≡ outcome → (finished finish (record { requests = inquiry.requests; outcome = outcome })).outcome ≡ Ok made → IsFinished finish inquiry made
   go (Ok a) is same = record { from = a; outcome_is = is; made_is = let both : Ok (finish a) ≡ Ok made = same in cc }

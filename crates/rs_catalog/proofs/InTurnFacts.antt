@@ -59,6 +59,27 @@ module _ {X A : Type 0} (ask : ℕ → X → Inquiry A GrowFault) where
     go (Ok b) e = cc
     go (Err other) e = let same : other ≡ fault = cc in ap (λ f. record { requests = (ask n x).requests; outcome = Err f }) same
 
+  -- what comes of the first item, and of those behind it
+  pub record Parts (n : ℕ) (x : X) (xs : List X) (all : List A) : Type 0 where
+    pub first : A
+    pub others : List A
+    pub first_is : (ask n x).outcome ≡ Ok first
+    pub others_are : (in_turn ask (n + 1) xs).outcome ≡ Ok others
+    pub all_are : first ∷ others ≡ all
+
+  pub Parts-in_turn : (n : ℕ) (x : X) (xs : List X) (all : List A) → (in_turn ask n (x ∷ xs)).outcome ≡ Ok all → Parts n x xs all
+  Parts-in_turn n x xs all e = go (ask n x).outcome refl (in_turn ask (n + 1) xs).outcome refl where
+    go : (first : Result A GrowFault) → (ask n x).outcome ≡ first → (rest : Result (List A) GrowFault) → (in_turn ask (n + 1) xs).outcome ≡ rest → Parts n x xs all
+    go (Ok a) first_is rest rest_is =
+        let whole : appended (a ∷ []) rest ≡ Ok all =
+        ap (appended (a ∷ [])) (sym rest_is) ∙ ap (λ (inquiry : Inquiry (List A) GrowFault). inquiry.outcome) (sym (in_turn-ok n x xs a first_is)) ∙ e in
+        with_rest a first_is rest rest_is whole where
+          with_rest : (a : A) → (ask n x).outcome ≡ Ok a → (rest : Result (List A) GrowFault) → (in_turn ask (n + 1) xs).outcome ≡ rest → appended (a ∷ []) rest ≡ Ok all → Parts n x xs all
+          with_rest a first_is (Ok others) rest_is whole = record { first = a; others = others; first_is = first_is; others_are = rest_is; all_are = let same : a ∷ others ≡ all = cc in same }
+          with_rest a first_is (Err fault) rest_is whole = absurd (let bad : Err fault ≡ Ok all = whole in cc)
+    go (Err fault) first_is rest rest_is =
+        absurd (let bad : Err fault ≡ Ok all = ap (λ (inquiry : Inquiry (List A) GrowFault). inquiry.outcome) (sym (in_turn-err n x xs fault first_is)) ∙ e in cc)
+
   -- where no item's inquiry has a fault of its own, neither has the whole
   pub IsFree-in_turn : ((n : ℕ) (x : X) → IsFree (ask n x)) → (n : ℕ) (xs : List X) → IsFree (in_turn ask n xs)
   IsFree-in_turn free n [] none = refl

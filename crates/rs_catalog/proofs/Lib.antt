@@ -17,7 +17,10 @@ mod NewRowFacts
 mod PlaceFacts
 mod RankingFacts
 mod SameArguments
+mod SeenFacts
+pub mod SnapshotFacts
 pub mod ScoreFacts
+mod WithinFacts
 mod WorkedGrowth
 mod WorkedRankings
 mod WorkedCatalogue

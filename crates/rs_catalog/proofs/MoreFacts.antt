@@ -79,7 +79,7 @@ unfolding Falls
 Falls-ordered [] ordered = tt
 Falls-ordered (first ∷ rest) ordered = (each-weaker (EntryPrecedes first) (λ e. e.score ≤ first.score) (score-EntryPrecedes first) rest ordered.0, Falls-ordered rest ordered.1)
 
-stable-ordered : (entries : List ScoredRow) → EntriesInOrder entries → stable score entries ≡ entries
+pub stable-ordered : (entries : List ScoredRow) → EntriesInOrder entries → stable score entries ≡ entries
 stable-ordered entries ordered = Falls-unique score (stable score entries) entries (Falls-stable score entries) (Falls-ordered entries ordered) (λ row. of_score-stable score row.score entries)
 
 -- rows are put in, and others behind them

@@ -126,12 +126,12 @@ score_of-score max (pos n) e = (leb-true n max e, refl)
 score_of-score max (negsuc n) e = cc
 
 -- what is read behind some entries
-record IsBehind {A E : Type 0} (first : List A) (rest : Result (List A) E) (all : List A) : Type 0 where
-  others : List A
-  rest_is : rest ≡ Ok others
-  all_is : all ≡ first ++ others
+pub record IsBehind {A E : Type 0} (first : List A) (rest : Result (List A) E) (all : List A) : Type 0 where
+  pub others : List A
+  pub rest_is : rest ≡ Ok others
+  pub all_is : all ≡ first ++ others
 
-behind-ok : {A E : Type 0} (first : List A) (rest : Result (List A) E) (all : List A) → appended first rest ≡ Ok all → IsBehind first rest all
+pub behind-ok : {A E : Type 0} (first : List A) (rest : Result (List A) E) (all : List A) → appended first rest ≡ Ok all → IsBehind first rest all
 behind-ok first (Ok others) all e = record { others = others; rest_is = refl; all_is = cc }
 behind-ok first (Err fault) all e = cc
 
@@ -152,10 +152,10 @@ module _ (answer : List Value → ℤ) (max : ℕ) where
     pub own : pos entry.score ≡ answer (row_at rows entry.row)
 
   -- entries of rows behind others
-  record AreMade (done rest : List (List Value)) (entries : List ScoredRow) : Type 0 where
-    all : length entries ≡ length rest
-    numbered : Numbered (length done + 1) entries
-    each : AllByRecursion (IsMade (done ++ rest)) entries
+  pub record AreMade (done rest : List (List Value)) (entries : List ScoredRow) : Type 0 where
+    pub all : length entries ≡ length rest
+    pub numbered : Numbered (length done + 1) entries
+    pub each : AllByRecursion (IsMade (done ++ rest)) entries
 
   -- the entry of a row behind others
   IsMade-behind : (done : List (List Value)) (values : List Value) (rest : List (List Value)) → is_score max (answer values) ≡ true
@@ -167,7 +167,7 @@ module _ (answer : List Value → ℤ) (max : ℕ) where
         own = own.1 ∙ ap answer (sym (row_at-behind done values rest));
       }
 
-  AreMade-scored : (rest done : List (List Value)) (entries : List ScoredRow) → scored_from answer max (length done + 1) rest ≡ Ok entries → AreMade done rest entries
+  pub AreMade-scored : (rest done : List (List Value)) (entries : List ScoredRow) → scored_from answer max (length done + 1) rest ≡ Ok entries → AreMade done rest entries
   AreMade-scored [] done entries e = let none : entries ≡ [] = cc in rw none (record { all = refl; numbered = tt; each = tt })
   AreMade-scored (values ∷ rest) done entries e = go (is_score max (answer values)) refl (AreMade-scored rest (done ++ values ∷ [])) where
     go : (b : Bool) → is_score max (answer values) ≡ b

@@ -12,8 +12,9 @@ use Rattle.rs_expr.specs.declared.scorer.Call.{Call}
 use Rattle.rs_rank.specs.declared.scored_row.ScoredRow.{ScoredRow}
 use Rattle.rs_catalog.specs.After.{entry_after}
 use Rattle.rs_catalog.specs.Catalog.{CatalogDef, RankIndex}
-use Rattle.rs_catalog.specs.Growing.{growing}
+use Rattle.rs_catalog.specs.Growing.{growing, grown}
 use Rattle.rs_catalog.specs.Indexes.{score_in}
+use Rattle.rs_catalog.specs.Snapshot.{sizes_in, snapshot}
 use Rattle.rs_catalog.specs.declared.growth.GrowFault.{GrowFault}
 use Rattle.rs_catalog.specs.declared.growth.GrowFault.TheVariants.{BadScore}
 use Rattle.rs_catalog.specs.declared.index.BoundArg.TheVariants as arg
@@ -118,3 +119,26 @@ score_of_new = refl
 
 score_of_none : score_in 7 joined ≡ None
 score_of_none = refl
+
+-- the catalogue with the two rows
+abbrev larger : CatalogDef
+larger = grown 0 (row 9 10 ∷ row 8 1 ∷ []) (by_x joined ∷ by_y (entry 10 4 ∷ entry 10 5 ∷ entry 9 2 ∷ entry 3 1 ∷ entry 1 3 ∷ entry 1 6 ∷ []) ∷ []) catalogue
+
+-- with its first four rows it is as it was before they joined
+as_before : snapshot (4 ∷ []) larger ≡ catalogue
+as_before = refl
+
+-- with two and with five
+two_of_six : (snapshot (2 ∷ []) larger).indexes ≡ by_x (entry 10 1 ∷ entry 8 2 ∷ []) ∷ by_y (entry 9 2 ∷ entry 3 1 ∷ []) ∷ []
+two_of_six = refl
+
+five_of_six : (snapshot (5 ∷ []) larger).indexes
+    ≡ by_x (entry 10 1 ∷ entry 9 5 ∷ entry 8 2 ∷ entry 5 3 ∷ entry 2 4 ∷ []) ∷ by_y (entry 10 4 ∷ entry 10 5 ∷ entry 9 2 ∷ entry 3 1 ∷ entry 1 3 ∷ []) ∷ []
+five_of_six = refl
+
+-- with no number for the table it has no rows
+no_number : snapshot [] larger ≡ snapshot (0 ∷ []) larger
+no_number = refl
+
+no_rows : sizes_in (snapshot [] larger) ≡ 0 ∷ []
+no_rows = refl

@@ -1,6 +1,7 @@
 pub mod Catalog
 pub mod IndexesHold
 pub mod After
+pub mod Snapshot
 pub mod Growing
 pub mod Grown
 pub mod Indexes

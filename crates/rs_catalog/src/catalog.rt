@@ -9,6 +9,7 @@ ghost use Rattle.rs_catalog.specs.Growing.{CanJoin, GrowsBy, growing, growing_in
 ghost use Rattle.rs_catalog.specs.Grown.{AreGrown, IsGrown, as_renewed, as_renewed_or_same, renewed_at, renewed_entries, with_rows_at};
 ghost use Rattle.rs_catalog.specs.Indexes.{IsIndexEntry, IsIndex, IsRanking, index_of, making, predicate_for, ranking_at, rows_for, score_in};
 ghost use Rattle.rs_catalog.specs.Making.{MakesIndex};
+ghost use Rattle.rs_catalog.specs.Snapshot.{sizes_in};
 ghost use Rattle.rs_catalog.specs.declared.room.What.{What as Lists};
 ghost use Rattle.rs_catalog.specs.declared.room.What.TheVariants as what;
 
@@ -227,6 +228,17 @@ impl Catalog {
     {
         // What always holds of a catalogue is known where a field of it is used.
         let _ = &self.tables;
+    }
+
+    /// How many rows each table has, in the order of making.
+    pub fn sizes(&self, alloc: Global) -> Result<Vec<u32>, Memory>
+        ensures { IfOk result (λ sizes. sizes.items ≡ sizes_in self.now) }
+    {
+        let mut sizes = Vec::new(alloc);
+        for number in 0..self.tables.len() {
+            sizes.push(self.table(number as u8).len())?;
+        }
+        Ok(sizes)
     }
 
     /// The table of this number.

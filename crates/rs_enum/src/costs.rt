@@ -15,7 +15,7 @@ ghost use Rattle.rs_enum.specs.Given.{AreBelow, AreBelowSet, CanPlan, IsPartCost
 ghost use Rattle.rs_enum.specs.QueryCards.{AreCards, IsBlockNumber, cards_at};
 
 use crate::planning::Planning;
-use rs_catalog::Catalog;
+use rs_catalog::{Catalog, Snapshot};
 use rs_plan::{Plan, Signature};
 use rs_query::{Block, Query, block_in, size_of};
 use rs_sample::Cards;
@@ -325,7 +325,7 @@ pub(crate) fn table_rows(catalog: &Catalog, block: &Block, entry: u8) -> u128
     ensures value { result ≡ size_of catalog.now block.now entry }
     ensures most { result ≤ 131072 }
 {
-    size_of(catalog, block, entry) as u128
+    size_of(&Snapshot::current(catalog), block, entry) as u128
 }
 
 /// What a call of the predicate of a term costs.

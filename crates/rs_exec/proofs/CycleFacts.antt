@@ -7,9 +7,9 @@ use Rattle.rs_expr.specs.InOrder.{Inquires}
 use Rattle.rs_expr.specs.Scoring.{Answering, ScorerState}
 use Rattle.rs_rank.specs.declared.row.RankRow.{RankRow}
 use Rattle.rs_catalog.specs.Catalog.{CatalogDef, NamedTable, RankIndex}
-use Rattle.rs_catalog.specs.Indexes.{rows_for}
+use Rattle.rs_catalog.specs.Indexes.{ranking_at, rows_for}
 use Rattle.rs_catalog.specs.declared.index.IndexDef.{IndexDef}
-use Rattle.rs_scan.specs.Scans.{rows_of_index, rows_of_table}
+use Rattle.rs_scan.specs.Scans.{last_at, rows_of_index, rows_of_table, scan_at}
 use Rattle.rs_query.specs.Questions.{asking}
 use Rattle.rs_query.specs.declared.query.Query.{Query}
 use Rattle.rs_query.proofs.QuestionFacts.{AllAsked-none, Ended-behind}
@@ -115,6 +115,12 @@ module _ (catalogue : CatalogDef) (answer : Answering) (query : Query) where
       ∙ size-rows (slice_get catalogue.tables part.table)
       ∙ ap (λ n. length (unwrap_or (option_map (λ (t : NamedTable). t.table.rows) (slice_get catalogue.tables n)) [])) (sym found.table_is ∙ ap (λ (d : IndexDef). d.table) same)
 
+  -- it stands behind the entry that it drew last
+  pub index-last : (head : IndexNode) → head ≡ index_node_after (world_of catalogue answer query) head.block head.entry head.term head.scan.index head.tally.asked
+      → head.scan.last ≡ last_at (ranking_at catalogue head.scan.index) head.scan.drawn
+  index-last head keeps =
+      ap (λ (h : IndexNode). h.scan.last) keeps ∙ sym (ap (λ (h : IndexNode). last_at (ranking_at catalogue head.scan.index) h.scan.drawn) keeps)
+
   -- a scan of a table after one ask more
   abbrev table_then : Option RankRow → TableNode → TableNode
   table_then row head = record head {
@@ -150,14 +156,14 @@ module _ (catalogue : CatalogDef) (answer : Answering) (query : Query) where
   -- a scan of an index after one ask more
   abbrev index_then : Option RankRow → IndexNode → IndexNode
   index_then row head = record head {
-    scan = record head.scan { drawn = drawn_then (passes catalogue query) (rows_of_index catalogue head.scan) head.scan.drawn };
+    scan = scan_at catalogue (drawn_then (passes catalogue query) (rows_of_index catalogue head.scan) head.scan.drawn) head.scan;
     tally = tally_with row head.tally;
   }
 
   module _ (old : ScorerState) (same : answer ≡ old.answer) (head new : IndexNode) (can : CanAsk (world_of catalogue answer query) head.block (RankScan head.entry head.term head.scan.index) head.tally.asked)
       (keeps : head ≡ index_node_after (world_of catalogue answer query) head.block head.entry head.term head.scan.index head.tally.asked) where
     pub index-gave : (row : Option RankRow) → row ≡ next_drawn (passes catalogue query) (rows_of_index catalogue head.scan) head.scan.drawn
-        → new ≡ record head { scan = record head.scan { drawn = drawn_then (passes catalogue query) (rows_of_index catalogue head.scan) head.scan.drawn }; tally = tally_with row head.tally }
+        → new ≡ record head { scan = scan_at catalogue (drawn_then (passes catalogue query) (rows_of_index catalogue head.scan) head.scan.drawn) head.scan; tally = tally_with row head.tally }
         → Asked (world_of catalogue answer query) head.block (RankScan head.entry head.term head.scan.index) head.tally.asked
         (NodeAfter (world_of catalogue answer query) head.block (RankScan head.entry head.term head.scan.index) head.tally.asked (node.RankScan new)) (Ok row) old old
     index-gave row given after =
@@ -173,7 +179,7 @@ module _ (catalogue : CatalogDef) (answer : Answering) (query : Query) where
         ∙ index-next w number entry term index can.formed can.part can.indexes sizes a in
         let whole : new ≡ index_node_after w number entry term index (suc a) =
         after ∙ ap (index_then row) keeps
-        ∙ ap (λ (drawn : ℕ). record (index_node_after w number entry term index a) { scan = record (index_node_after w number entry term index a).scan { drawn = drawn }; tally = tally_with row (tally_after w number tree a) })
+        ∙ ap (λ (drawn : ℕ). record (index_node_after w number entry term index a) { scan = scan_at catalogue drawn (index_node_after w number entry term index a).scan; tally = tally_with row (tally_after w number tree a) })
         (index-then w number entry term index can.formed can.part can.indexes sizes a)
         ∙ ap (λ (tally : Tally). record (index_node_after w number entry term index (suc a)) { tally = tally }) (tally-next w number tree a row is) in
         still-gave w number tree a refl (NodeAfter w number tree a (node.RankScan new)) old same row is

@@ -17,6 +17,7 @@ use Rattle.rs_rank.specs.declared.scored_row.ScoredRow.{ScoredRow}
 use Rattle.rs_expr.specs.Scoring.{Answering}
 use Rattle.rs_mu.specs.Stands.{state_after}
 use Rattle.rs_catalog.specs.Catalog.{CatalogDef}
+use Rattle.rs_scan.specs.Scans.{last_at}
 use Rattle.rs_query.specs.Answers.{rows_of, set_base}
 use Rattle.rs_query.specs.Views.{all_rows}
 use Rattle.rs_query.specs.declared.block.Block.{Block}
@@ -200,6 +201,8 @@ module _ (catalogue more : CatalogDef) (answer : Answering) (query : Query) (cov
           rows = size_at-same number entry i;
           drawn = drawn_to (place_in_index (filter (λ (e : ScoredRow). nat_le e.row (size_at-same number entry i)) (ranking i)) entry) (size_at-same number entry i)
               (list-same number (RankScan entry term index) i) a;
+          last = last_at (ranking i) (drawn_to (place_in_index (filter (λ (e : ScoredRow). nat_le e.row (size_at-same number entry i)) (ranking i)) entry) (size_at-same number entry i)
+              (list-same number (RankScan entry term index) i) a);
         };
         block = number;
         entry = entry;

@@ -20,7 +20,7 @@ use Rattle.rs_query.specs.declared.block.Block.{Block}
 use Rattle.rs_query.specs.declared.query.Query.{Query}
 use Rattle.rs_query.proofs.ExtendFacts.{HasRows-choice}
 use Rattle.rs_query.proofs.WithinFacts.{AreInside-within, all_hold-within}
-use Rattle.rs_scan.specs.Scans.{IndexScan, IsOfAllRows, TableScan, entries_in, entry_row, rows_of_index, rows_of_table, scored}
+use Rattle.rs_scan.specs.Scans.{IndexScan, IsOfAllRows, TableScan, entries_in, entry_row, last_at, rows_of_index, rows_of_table, scan_at, scored}
 use Rattle.rs_scan.proofs.ScanFacts.{length-rows_from, slice_get-rows_from}
 use Rattle.rs_query.specs.Blocks.{block_in}
 use Rattle.rs_exec.specs.Drawing.{ScansEntry, entry_conjuncts, drawn_then, next_drawn, passes, tally_with}
@@ -220,19 +220,30 @@ module _ (old loop : TableNode) (is : loop ≡ table_asked old loop.scan.drawn) 
       ∙ ap (λ (node : TableNode). record node { tally = tally_with (Some row) old.tally }) (table-ended scan n last drew at_last)
 
 -- the same of a scan of an index
-abbrev pub index_asked : IndexNode → ℕ → IndexNode
-index_asked old drawn = record old {
-  scan = record old.scan { drawn = drawn };
+abbrev pub index_asked : CatalogDef → IndexNode → ℕ → IndexNode
+index_asked catalogue old drawn = record old {
+  scan = scan_at catalogue drawn old.scan;
   tally = record old.tally { asked = old.tally.asked + 1 };
 }
 
-module _ (catalogue : CatalogDef) (old loop : IndexNode) (is : loop ≡ index_asked old loop.scan.drawn) where
+-- before the first draw
+pub index-begins : (catalogue : CatalogDef) (old : IndexNode) (tally : Tally) → old.scan.last ≡ last_at (ranking_at catalogue old.scan.index) old.scan.drawn
+    → tally ≡ record old.tally { asked = old.tally.asked + 1 } → record old { tally = tally } ≡ index_asked catalogue old old.scan.drawn
+index-begins catalogue old tally last asked =
+    ap (λ (t : Tally). record old { tally = t }) asked
+    ∙ ap (λ (kept : Option (ℕ × ℕ)). record old { scan = record old.scan { last = kept }; tally = record old.tally { asked = old.tally.asked + 1 } }) last
+
+module _ (catalogue : CatalogDef) (old loop : IndexNode) (is : loop ≡ index_asked catalogue old loop.scan.drawn) where
   -- it is of the same rows
   pub index-place : (row : Option RankRow) → row ≡ slice_get (rows_of_index catalogue loop.scan) loop.scan.drawn → slice_get (rows_of_index catalogue old.scan) loop.scan.drawn ≡ row
   index-place row there = sym (there ∙ ap (λ (node : IndexNode). slice_get (rows_of_index catalogue node.scan) loop.scan.drawn) is)
 
   pub index-there : old.scan.index < length catalogue.indexes → loop.scan.index < length catalogue.indexes
   index-there within = let same = ap (λ (node : IndexNode). node.scan.index) is in omega arith
+
+  pub index-last : loop.scan.last ≡ last_at (ranking_at catalogue loop.scan.index) loop.scan.drawn
+  index-last =
+      ap (λ (node : IndexNode). node.scan.last) is ∙ sym (ap (λ (node : IndexNode). last_at (ranking_at catalogue node.scan.index) loop.scan.drawn) is)
 
   pub index-view : IsOfAllRows catalogue old.scan → IsOfAllRows catalogue loop.scan
   index-view all = subst (λ (node : IndexNode). IsOfAllRows catalogue node.scan) (sym is) all
@@ -272,42 +283,42 @@ module _ (catalogue : CatalogDef) (old loop : IndexNode) (is : loop ≡ index_as
 
   -- a draw goes to the next row, and at the end stays there
   pub index-drew : (scan : IndexScan) → loop.scan.drawn ≤ loop.scan.rows → (loop.scan.drawn ≡ loop.scan.rows → ⊥)
-      → scan ≡ record loop.scan { drawn = min (loop.scan.drawn + 1) loop.scan.rows } → scan ≡ record loop.scan { drawn = loop.scan.drawn + 1 }
+      → scan ≡ scan_at catalogue (min (loop.scan.drawn + 1) loop.scan.rows) loop.scan → scan ≡ scan_at catalogue (loop.scan.drawn + 1) loop.scan
   index-drew scan most more after =
       let within : loop.scan.drawn < loop.scan.rows = omega arith in
       let one : min (loop.scan.drawn + 1) loop.scan.rows ≡ loop.scan.drawn + 1 = omega arith in
-      after ∙ ap (λ n. record loop.scan { drawn = n }) one
+      after ∙ ap (λ n. scan_at catalogue n loop.scan) one
 
   pub index-stayed : (scan : IndexScan) → loop.scan.drawn ≡ loop.scan.rows
-      → scan ≡ record loop.scan { drawn = min (loop.scan.drawn + 1) loop.scan.rows } → scan ≡ record loop.scan { drawn = loop.scan.drawn }
+      → scan ≡ scan_at catalogue (min (loop.scan.drawn + 1) loop.scan.rows) loop.scan → scan ≡ scan_at catalogue loop.scan.drawn loop.scan
   index-stayed scan end after =
       let none : min (loop.scan.drawn + 1) loop.scan.rows ≡ loop.scan.drawn = omega arith in
-      after ∙ ap (λ n. record loop.scan { drawn = n }) none
+      after ∙ ap (λ n. scan_at catalogue n loop.scan) none
 
   -- so it goes on
-  pub index-goes_on : (scan : IndexScan) (n : ℕ) → scan ≡ record loop.scan { drawn = n } → record loop { scan = scan } ≡ index_asked old scan.drawn
+  pub index-goes_on : (scan : IndexScan) (n : ℕ) → scan ≡ scan_at catalogue n loop.scan → record loop { scan = scan } ≡ index_asked catalogue old scan.drawn
   index-goes_on scan n drew =
-      let same : scan ≡ record old.scan { drawn = n } = drew ∙ ap (λ (node : IndexNode). record node.scan { drawn = n }) is in
+      let same : scan ≡ scan_at catalogue n old.scan = drew ∙ ap (λ (node : IndexNode). scan_at catalogue n node.scan) is in
       ap (λ (s : IndexScan). record loop { scan = s }) same
-      ∙ ap (λ (node : IndexNode). record node { scan = record old.scan { drawn = n } }) is
-      ∙ sym (ap (λ (s : IndexScan). index_asked old s.drawn) same)
+      ∙ ap (λ (node : IndexNode). record node { scan = scan_at catalogue n old.scan }) is
+      ∙ sym (ap (λ (s : IndexScan). index_asked catalogue old s.drawn) same)
 
   pub index-nearer : (scan : IndexScan) → loop.scan.drawn ≤ loop.scan.rows → (loop.scan.drawn ≡ loop.scan.rows → ⊥)
-      → scan ≡ record loop.scan { drawn = loop.scan.drawn + 1 } → scan.rows - scan.drawn < loop.scan.rows - loop.scan.drawn
+      → scan ≡ scan_at catalogue (loop.scan.drawn + 1) loop.scan → scan.rows - scan.drawn < loop.scan.rows - loop.scan.drawn
   index-nearer scan most more drew =
       let rows = ap (λ (s : IndexScan). s.rows) drew in
       let drawn = ap (λ (s : IndexScan). s.drawn) drew in
       omega arith
 
   -- at the end no row is given
-  pub index-ended : (scan : IndexScan) (n last : ℕ) → scan ≡ record loop.scan { drawn = n } → n ≡ last
-      → record loop { scan = scan } ≡ record old { scan = record old.scan { drawn = last }; tally = tally_with None old.tally }
+  pub index-ended : (scan : IndexScan) (n last : ℕ) → scan ≡ scan_at catalogue n loop.scan → n ≡ last
+      → record loop { scan = scan } ≡ record old { scan = scan_at catalogue last old.scan; tally = tally_with None old.tally }
   index-ended scan n last drew at_last =
-      index-goes_on scan n drew ∙ ap (index_asked old) (ap (λ (s : IndexScan). s.drawn) drew ∙ at_last)
+      index-goes_on scan n drew ∙ ap (index_asked catalogue old) (ap (λ (s : IndexScan). s.drawn) drew ∙ at_last)
 
   -- and before it one is
-  pub index-gave : (scan : IndexScan) (tally : Tally) (row : RankRow) (n last : ℕ) → scan ≡ record loop.scan { drawn = n } → tally ≡ record loop.tally { gave = loop.tally.gave + 1 } → n ≡ last
-      → record loop { scan = scan; tally = tally } ≡ record old { scan = record old.scan { drawn = last }; tally = tally_with (Some row) old.tally }
+  pub index-gave : (scan : IndexScan) (tally : Tally) (row : RankRow) (n last : ℕ) → scan ≡ scan_at catalogue n loop.scan → tally ≡ record loop.tally { gave = loop.tally.gave + 1 } → n ≡ last
+      → record loop { scan = scan; tally = tally } ≡ record old { scan = scan_at catalogue last old.scan; tally = tally_with (Some row) old.tally }
   index-gave scan tally row n last drew gave at_last =
       ap (λ (t : Tally). record loop { scan = scan; tally = t }) (gave ∙ ap (λ (node : IndexNode). record node.tally { gave = node.tally.gave + 1 }) is)
       ∙ ap (λ (node : IndexNode). record node { tally = tally_with (Some row) old.tally }) (index-ended scan n last drew at_last)

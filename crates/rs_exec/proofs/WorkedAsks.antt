@@ -173,7 +173,7 @@ scan_at_the_end = refl
 
 -- the same of a scan of the index
 index_after_three : index_node_after four 1 1 1 0 3 ≡ record {
-  scan = record { index = 0; entry = 1; block = 1; weight = 1; rows = 4; drawn = 3 };
+  scan = record { index = 0; entry = 1; block = 1; weight = 1; rows = 4; drawn = 3; last = Some (5, 3) };
   block = 1;
   entry = 1;
   term = 1;

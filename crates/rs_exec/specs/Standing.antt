@@ -9,6 +9,8 @@ use Rattle.rs_plan.specs.Counts.{asked_of, drawn_of, gave_of, size_at}
 use Rattle.rs_plan.specs.Lists.{World, list_of, numbered_block, weights_in, worths}
 use Rattle.rs_plan.specs.Trees.{JoinKind, JoinOperator, Rank, RankScan, SeqScan, PlanTree, entries, terms}
 use Rattle.rs_filter.specs.Conditions.{conditions_of}
+use Rattle.rs_catalog.specs.Indexes.{ranking_at}
+use Rattle.rs_scan.specs.Scans.{last_at}
 use Rattle.rs_ripple.specs.After.{joined_after}
 use Rattle.rs_ripple.specs.Joined.{Joined}
 use Rattle.rs_exec.specs.declared.join.JoinNode.{JoinNode}
@@ -49,6 +51,7 @@ index_node_after w number entry term index a = record {
     weight = slice_index (weights_in w).weight (term - 1);
     rows = size_at w number entry;
     drawn = drawn_of w number (RankScan entry term index) a;
+    last = last_at (ranking_at w.catalogue index) (drawn_of w number (RankScan entry term index) a);
   };
   block = number;
   entry = entry;

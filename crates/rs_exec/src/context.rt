@@ -4,19 +4,19 @@ ghost use Rattle.std.specs.Prelude.{◌≡◌, IfOk};
 ghost use Rattle.rs_query.specs.Blocks.{block_in};
 ghost use Rattle.rs_exec.specs.OutputValues.{CanPutOut, values_for};
 
-use rs_catalog::Catalog;
+use rs_catalog::Snapshot;
 use rs_filter::project;
 use rs_query::{Block, Query, block_in};
 use rs_rank::RankRow;
 use rs_value::{Memory, Value};
 use std::alloc::Global;
 
-/// What the nodes of one query share: the query, the catalogue as it is now, and where memory comes from. Its nodes see all rows of
-/// its tables.
+/// What the nodes of one query share: the query, what is seen of the catalogue, and where memory comes from. Its nodes see all rows
+/// of its tables there.
 #[derive(Clone, Copy)]
 pub(crate) struct QueryContext<'a> {
     pub(crate) alloc: Global,
-    pub(crate) catalog: &'a Catalog,
+    pub(crate) catalog: &'a Snapshot<'a>,
     pub(crate) query: &'a Query,
 }
 

@@ -15,7 +15,7 @@ ghost use Rattle.rs_exec.specs.OutputValues.{CanPutOut, values_for};
 use crate::context::QueryContext;
 use crate::fault::ExecFault;
 use crate::node::PlanNode;
-use rs_catalog::Catalog;
+use rs_catalog::Snapshot;
 use rs_expr::Scorer;
 use rs_plan::{Counts, Plan};
 use rs_query::{Query, limit_of, limits_hold};
@@ -26,8 +26,8 @@ use std::marker::Model;
 
 /// A query whose rows are given one after another, by a plan.
 ///
-/// It keeps its plan's state between two calls, so whoever holds it may stop at any row. It sees the catalogue anew at each
-/// call: what joins the catalogue in between changes nothing for it.
+/// It keeps its plan's state between two calls, so whoever holds it may stop at any row. It is asked over a snapshot of the catalogue,
+/// which is to show the same rows at each call: what joins the catalogue in between then changes nothing for it.
 #[derive(Drop)]
 pub struct Cursor {
     alloc: Global,
@@ -52,7 +52,7 @@ impl Cursor {
     /// A cursor over a plan of the query. No row is asked for yet.
     pub fn start(
         alloc: Global,
-        catalog: &Catalog,
+        catalog: &Snapshot<'_>,
         query: Query,
         plan: &Plan,
     ) -> Result<Cursor, Memory>
@@ -81,7 +81,7 @@ impl Cursor {
     /// fault each further call answers `Broken`.
     pub fn next<S: Scorer>(
         &mut self,
-        catalog: &Catalog,
+        catalog: &Snapshot<'_>,
         scorer: &mut S,
     ) -> Result<Option<Answer>, ExecFault>
         requires { CanGo catalog.now (S.state scorer.old).answer self.old }
@@ -124,7 +124,7 @@ impl Cursor {
     /// The next row, of a cursor that didn't fail.
     fn advance<S: Scorer>(
         &mut self,
-        catalog: &Catalog,
+        catalog: &Snapshot<'_>,
         scorer: &mut S,
     ) -> Result<Option<Answer>, ExecFault>
         requires { StandsFor catalog.now (S.state scorer.old).answer self.old }

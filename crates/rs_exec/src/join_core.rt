@@ -8,7 +8,7 @@ ghost use Rattle.rs_rank.specs.declared.ask.JoinAsk.TheVariants.{NeedLeft, NeedR
 ghost use Rattle.rs_ripple.specs.Ripple.{CanEnd, CanJoin, ask_of, left_ended, left_for, right_ended, taken_for};
 ghost use Rattle.rs_exec.specs.Cores.{CanTake, core_with, core_with_row, joined_in, new_join_core};
 
-use rs_catalog::Catalog;
+use rs_catalog::Snapshot;
 use rs_filter::{BlockMatch, JoinConditions, left_values, right_values};
 use rs_hrjn::Hrjn;
 use rs_nrjn::Nrjn;
@@ -64,7 +64,7 @@ impl JoinCore {
         &mut self,
         row: RankRow,
         alloc: Global,
-        catalog: &Catalog,
+        catalog: &Snapshot<'_>,
         block: &Block,
         conditions: &JoinConditions,
     ) -> Result<(), Memory>
@@ -86,7 +86,7 @@ impl JoinCore {
         &mut self,
         row: RankRow,
         alloc: Global,
-        catalog: &Catalog,
+        catalog: &Snapshot<'_>,
         block: &Block,
         conditions: &JoinConditions,
     ) -> Result<(), Memory>

@@ -1,16 +1,21 @@
 //! What the rows of a plan are, and when a cursor goes on to stand: laws that hold of every scorer, catalogue and query. The
 //! functions compute nothing; each is called for its contract.
 
-ghost use Rattle.std.specs.Prelude.{◌≡◌, ℕ, List};
+ghost use Rattle.std.specs.Prelude.{◌≡◌, ℕ, List, Result};
 ghost use Rattle.std.specs.List.{flat_map};
 ghost use Rattle.rs_order.specs.Schedule.{numbers_from};
 ghost use Rattle.rs_expr.specs.Predicates.{PredicateDef};
-ghost use Rattle.rs_expr.specs.Scoring.{Answering};
+ghost use Rattle.rs_expr.specs.Scoring.{Answering, ScorerState};
+ghost use Rattle.rs_value.specs.declared.value.Value.{Value};
 ghost use Rattle.rs_rank.specs.Stable.{stable};
 ghost use Rattle.rs_rank.specs.Weights.{IsWeights};
 ghost use Rattle.rs_rank.specs.declared.scored_row.ScoredRow.{ScoredRow};
 ghost use Rattle.rs_table.specs.Relation.{Relation};
 ghost use Rattle.rs_catalog.specs.Catalog.{CatalogDef, with_index, with_predicate, with_table};
+ghost use Rattle.rs_catalog.specs.Growing.{CanJoin, GrowsBy};
+ghost use Rattle.rs_catalog.specs.IndexesHold.{IndexesHold};
+ghost use Rattle.rs_catalog.specs.Snapshot.{HaveRows, snapshot};
+ghost use Rattle.rs_catalog.specs.declared.growth.GrowFault.{GrowFault};
 ghost use Rattle.rs_catalog.specs.declared.index.IndexDef.{IndexDef};
 ghost use Rattle.rs_query.specs.Answers.{answer_of, cut, limit_of, rows_of};
 ghost use Rattle.rs_query.specs.Tables.{sizes_of};
@@ -24,6 +29,8 @@ ghost use Rattle.rs_exec.specs.Covering.{Covers};
 ghost use Rattle.rs_exec.specs.Cursors.{CursorState, HasFewTerms, SameAsks, StandsFor, answers_of};
 ghost use Rattle.rs_exec.specs.Asking.{world_of};
 ghost use Rattle.rs_query.specs.declared.query.Query.{Query};
+
+use rs_catalog::snapshots_stay;
 
 /// The rows of a plan are those of the query in the stable order of their scores. Cut to LIMIT they are its answer.
 pub fn plans_give_the_answer()
@@ -48,7 +55,8 @@ pub fn rows_give_the_parts_in_turn()
         → flat_map (part_of_plan w tree) (numbers_from 1 n) ≡ calls_of_plan w tree n }
 {}
 
-/// What joins the catalogue changes nothing for a cursor that stands.
+/// What joins the catalogue changes nothing for a cursor that stands for what was seen of it: a table, a predicate, an index; or rows,
+/// where it is seen by the snapshot of its tables' sizes.
 pub fn cursors_stand_in_larger_catalogues()
     ensures tables { (catalogue : CatalogDef) (answer : Answering) (cursor : CursorState) (name : List ℕ) (table : Relation)
         → StandsFor catalogue answer cursor → StandsFor (with_table name table catalogue) answer cursor }
@@ -56,7 +64,13 @@ pub fn cursors_stand_in_larger_catalogues()
         → StandsFor catalogue answer cursor → StandsFor (with_predicate predicate catalogue) answer cursor }
     ensures indexes { (catalogue : CatalogDef) (answer : Answering) (cursor : CursorState) (def : IndexDef) (ranking : List ScoredRow)
         → StandsFor catalogue answer cursor → StandsFor (with_index def ranking catalogue) answer cursor }
-{}
+    ensures rows { (sizes : List ℕ) (catalogue new : CatalogDef) (answer : Answering) (cursor : CursorState) (table : ℕ) (rows : List (List Value))
+        (result : Result (Unit {0}) GrowFault) (before after : ScorerState)
+        → CanJoin catalogue table rows → HaveRows sizes catalogue.tables → IndexesHold before.answer catalogue → GrowsBy table rows catalogue new result before after
+        → StandsFor (snapshot sizes catalogue) answer cursor → StandsFor (snapshot sizes new) answer cursor }
+{
+    snapshots_stay();
+}
 
 /// What joins the catalogue changes nothing of what the asks of a plan give, and of the calls that they make, where the catalogue has
 /// the tables of the query's FROM entries and the predicates of its terms.

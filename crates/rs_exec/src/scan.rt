@@ -1,7 +1,8 @@
 //! Scans as nodes: they draw until a row satisfies the conjuncts that speak of its entry alone.
 
 ghost use Rattle.std.specs.Prelude.{◌≡◌, ◌<◌, length};
-ghost use Rattle.rs_scan.specs.Scans.{IsOfAllRows, rows_of_index, rows_of_table};
+ghost use Rattle.rs_catalog.specs.Indexes.{ranking_at};
+ghost use Rattle.rs_scan.specs.Scans.{IsOfAllRows, last_at, rows_of_index, rows_of_table, scan_at};
 ghost use Rattle.rs_exec.specs.Drawing.{IsSmall, ScansEntry, drawn_then, next_drawn, passes, tally_with};
 
 use crate::context::QueryContext;
@@ -122,10 +123,11 @@ impl IndexNode {
         requires same_block { self.old.scan.block ≡ self.old.block }
         requires index { self.old.scan.index < length context.now.catalog.now.indexes }
         requires view { IsOfAllRows context.now.catalog.now self.old.scan }
+        requires last { self.old.scan.last ≡ last_at (ranking_at context.now.catalog.now self.old.scan.index) self.old.scan.drawn }
         requires small { IsSmall self.old.tally }
         ensures row { result ≡ next_drawn (passes context.now.catalog.now context.now.query.now) (rows_of_index context.now.catalog.now self.old.scan) self.old.scan.drawn }
         ensures after { self.new ≡ record self.old {
-          scan = record self.old.scan { drawn = drawn_then (passes context.now.catalog.now context.now.query.now) (rows_of_index context.now.catalog.now self.old.scan) self.old.scan.drawn };
+          scan = scan_at context.now.catalog.now (drawn_then (passes context.now.catalog.now context.now.query.now) (rows_of_index context.now.catalog.now self.old.scan) self.old.scan.drawn) self.old.scan;
           tally = tally_with result self.old.tally;
         } }
     {

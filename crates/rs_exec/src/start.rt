@@ -17,7 +17,7 @@ use crate::node::PlanNode;
 use crate::rank::RankNode;
 use crate::scan::{IndexNode, TableNode};
 use crate::set::SetNode;
-use rs_catalog::Catalog;
+use rs_catalog::Snapshot;
 use rs_filter::JoinConditions;
 use rs_plan::Plan;
 use rs_query::{Block, Query, size_of};
@@ -31,7 +31,7 @@ impl PlanNode {
     /// The nodes of a plan of a query. Nothing is asked.
     pub(crate) fn of_plan(
         alloc: Global,
-        catalog: &Catalog,
+        catalog: &Snapshot<'_>,
         query: &Query,
         plan: &Plan,
     ) -> Result<PlanNode, Memory>
@@ -50,7 +50,7 @@ impl PlanNode {
     /// The nodes of a plan of a set query of these blocks, or of what stands below a rank operator in one.
     fn start_set(
         alloc: Global,
-        catalog: &Catalog,
+        catalog: &Snapshot<'_>,
         op: SetOp,
         left_block: &Block,
         right_block: &Block,
@@ -102,7 +102,7 @@ impl PlanNode {
     /// The nodes of a part of a plan of a block, which has this number. Nothing is asked.
     pub(crate) fn start(
         alloc: Global,
-        catalog: &Catalog,
+        catalog: &Snapshot<'_>,
         block: &Block,
         number: u8,
         plan: &Plan,

@@ -5,7 +5,7 @@ ghost use Rattle.rs_filter.specs.Matching.{joins, new_matching};
 
 use crate::choice::is_choice;
 use crate::conditions::JoinConditions;
-use rs_catalog::Catalog;
+use rs_catalog::Snapshot;
 use rs_query::Block;
 use rs_rank::{Matcher, RankRow};
 use rs_value::Memory;
@@ -15,7 +15,7 @@ use std::marker::Model;
 /// are left speak of entries of both, and are looked at here.
 #[derive(Drop)]
 pub struct BlockMatch<'a> {
-    catalog: &'a Catalog,
+    catalog: &'a Snapshot<'a>,
     block: &'a Block,
     conditions: &'a JoinConditions,
     calls: u64,
@@ -45,7 +45,7 @@ impl<'a> Model for BlockMatch<'a> {
 impl<'a> BlockMatch<'a> {
     /// What matches rows of the block by these conditions.
     pub fn new(
-        catalog: &'a Catalog,
+        catalog: &'a Snapshot<'a>,
         block: &'a Block,
         conditions: &'a JoinConditions,
     ) -> BlockMatch<'a>

@@ -4,7 +4,7 @@ ghost use Rattle.rs_filter.specs.Matching.{conjuncts_across};
 ghost use Rattle.rs_query.specs.WellFormed.{IsBlock};
 
 use crate::join_values::{equated_across, is_equi_join};
-use rs_catalog::Catalog;
+use rs_catalog::Snapshot;
 use rs_query::{Block, sizes_of};
 use rs_rank::union;
 use rs_value::{List, Memory};
@@ -31,7 +31,7 @@ impl JoinConditions {
     /// Those of a join of sides that have the entries of these masks.
     pub fn new(
         alloc: Global,
-        catalog: &Catalog,
+        catalog: &Snapshot<'_>,
         block: &Block,
         left: u8,
         right: u8,
@@ -54,7 +54,7 @@ impl JoinConditions {
 /// The columns that conjuncts equate across the sides, in the order of the conjuncts.
 fn equated_columns(
     alloc: Global,
-    catalog: &Catalog,
+    catalog: &Snapshot<'_>,
     block: &Block,
     left: u8,
     right: u8,

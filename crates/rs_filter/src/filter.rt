@@ -3,7 +3,7 @@ ghost use Rattle.rs_query.specs.Meaning.{AreInside, all_hold, is_inside, outputs
 ghost use Rattle.rs_query.specs.Tables.{HasRows};
 ghost use Rattle.rs_query.specs.WellFormed.{IsBlock, entries_mask};
 
-use rs_catalog::Catalog;
+use rs_catalog::Snapshot;
 use rs_query::Block;
 use rs_rank::RankRow;
 use rs_value::{Memory, Value};
@@ -11,7 +11,7 @@ use std::alloc::Global;
 
 /// Whether every conjunct in a mask holds of a row. The first conjunct has the lowest bit, and the row has all entries of which
 /// these conjuncts speak. It takes no memory.
-pub fn passes(catalog: &Catalog, block: &Block, conjuncts: u32, row: &RankRow) -> bool
+pub fn passes(catalog: &Snapshot<'_>, block: &Block, conjuncts: u32, row: &RankRow) -> bool
     requires block { IsBlock catalog.now block.now }
     requires inside { AreInside conjuncts row.now.ids.mask block.now.conjuncts }
     requires rows { HasRows catalog.now block.now row.now.ids.mask row.now.ids.rows }
@@ -23,7 +23,7 @@ pub fn passes(catalog: &Catalog, block: &Block, conjuncts: u32, row: &RankRow) -
 /// The values of the output columns of a row, which has all entries of these columns.
 pub fn project(
     alloc: Global,
-    catalog: &Catalog,
+    catalog: &Snapshot<'_>,
     block: &Block,
     row: &RankRow,
 ) -> Result<Vec<Value>, Memory>

@@ -9,7 +9,7 @@ ghost use Rattle.rs_filter.specs.JoinValues.{equated_across, in_sides, is_equi, 
 ghost use Rattle.rs_filter.specs.Matching.{is_across};
 
 use crate::conditions::JoinConditions;
-use rs_catalog::Catalog;
+use rs_catalog::Snapshot;
 use rs_query::{Block, Conjunct, is_inside};
 use rs_rank::{Ids, has_number, union};
 use rs_value::{Memory, Value};
@@ -25,7 +25,7 @@ enum Side {
 /// The join values of a row of the left side of a join by these conditions, in the order of the conjuncts.
 pub fn left_values(
     alloc: Global,
-    catalog: &Catalog,
+    catalog: &Snapshot<'_>,
     block: &Block,
     conditions: &JoinConditions,
     ids: &Ids,
@@ -41,7 +41,7 @@ pub fn left_values(
 /// The join values of a row of the right side of a join by these conditions, in the order of the conjuncts.
 pub fn right_values(
     alloc: Global,
-    catalog: &Catalog,
+    catalog: &Snapshot<'_>,
     block: &Block,
     conditions: &JoinConditions,
     ids: &Ids,
@@ -57,7 +57,7 @@ pub fn right_values(
 /// Those of a row of either side.
 fn side_values(
     alloc: Global,
-    catalog: &Catalog,
+    catalog: &Snapshot<'_>,
     block: &Block,
     conditions: &JoinConditions,
     side: Side,
@@ -89,7 +89,7 @@ fn own_column(side: Side, pair: &((u8, u8), (u8, u8))) -> (u8, u8)
 
 /// Whether each conjunct that speaks of both sides equates a column of the one with a column of the other. Then rows of the two
 /// sides that have equal join values match, and a join that looks among these alone need not ask whether they do.
-pub(crate) fn is_equi_join(catalog: &Catalog, block: &Block, left: u8, right: u8) -> bool
+pub(crate) fn is_equi_join(catalog: &Snapshot<'_>, block: &Block, left: u8, right: u8) -> bool
     requires block { IsBlock catalog.now block.now }
     ensures { result ≡ is_equi left right block.now.conjuncts }
 {
@@ -104,7 +104,7 @@ pub(crate) fn is_equi_join(catalog: &Catalog, block: &Block, left: u8, right: u8
 
 /// The columns that a conjunct equates, that of the left side first, where it speaks of both sides.
 pub(crate) fn equated_across(
-    catalog: &Catalog,
+    catalog: &Snapshot<'_>,
     block: &Block,
     conjunct: &Conjunct,
     left: u8,

@@ -11,7 +11,7 @@ use crate::fault::PlainFault;
 use crate::outputs::query_answers;
 use crate::rows::query_rows;
 use crate::scored::scored_query;
-use rs_catalog::Catalog;
+use rs_catalog::{Catalog, Snapshot};
 use rs_expr::Scorer;
 use rs_query::{Query, limit_of};
 use rs_rank::{Answer, sort_stably};
@@ -34,6 +34,22 @@ pub fn answer_plainly<S: Scorer>(
         (as_list result) (S.state scorer.old) (S.state scorer.new) }
 
     // A bad or failed call is one of a term of the query.
+    ensures names { IfErr result (NamesCalled catalog.now query.now) }
+{
+    answer_over(alloc, &Snapshot::current(catalog), query, scorer)
+}
+
+/// The answer of a query over what is seen of a catalogue.
+fn answer_over<S: Scorer>(
+    alloc: Global,
+    catalog: &Snapshot<'_>,
+    query: &Query,
+    scorer: &mut S,
+) -> Result<Vec<Answer>, PlainFault>
+    requires { IsQuery catalog.now query.now }
+    ensures evaluates { Inquires PlainFault.Memory
+        (evaluation_of (S.state scorer.old).answer catalog.now query.now (all_rows catalog.now query.now))
+        (as_list result) (S.state scorer.old) (S.state scorer.new) }
     ensures names { IfErr result (NamesCalled catalog.now query.now) }
 {
     if keeps_duplicates(query) {
@@ -60,7 +76,7 @@ fn keeps_duplicates(query: &Query) -> bool
 /// answer alone.
 fn answer_with_duplicates<S: Scorer>(
     alloc: Global,
-    catalog: &Catalog,
+    catalog: &Snapshot<'_>,
     query: &Query,
     scorer: &mut S,
 ) -> Result<Vec<Answer>, PlainFault>

@@ -5,7 +5,7 @@ ghost use Rattle.std.specs.List.{AllByRecursion};
 ghost use Rattle.rs_query.specs.WellFormed.{IsBlock, IsQuery};
 ghost use Rattle.rs_plain.specs.Keeping.{IsWhole, IsWholeIn, answer_for, answer_in};
 
-use rs_catalog::Catalog;
+use rs_catalog::Snapshot;
 use rs_query::{Block, Query, block_in};
 use rs_rank::{Answer, RankRow};
 use rs_value::{List, Memory};
@@ -14,7 +14,7 @@ use std::alloc::Global;
 /// The rows that scored combinations of a query make.
 pub(crate) fn query_answers(
     alloc: Global,
-    catalog: &Catalog,
+    catalog: &Snapshot<'_>,
     query: &Query,
     scored: &[RankRow],
 ) -> Result<Vec<Answer>, Memory>
@@ -33,7 +33,7 @@ pub(crate) fn query_answers(
 /// The rows that scored combinations of a block make.
 pub(crate) fn block_answers(
     alloc: Global,
-    catalog: &Catalog,
+    catalog: &Snapshot<'_>,
     block: &Block,
     scored: &[RankRow],
 ) -> Result<Vec<Answer>, Memory>
@@ -52,7 +52,7 @@ pub(crate) fn block_answers(
 /// The row that a scored combination of a block makes.
 fn answer_for(
     alloc: Global,
-    catalog: &Catalog,
+    catalog: &Snapshot<'_>,
     block: &Block,
     row: &RankRow,
 ) -> Result<Answer, Memory>

@@ -16,7 +16,7 @@ use crate::fault::PlainFault;
 use crate::outputs::block_answers;
 use crate::scored::scored_block;
 use crate::sets::{first_rows, set_rows};
-use rs_catalog::Catalog;
+use rs_catalog::Snapshot;
 use rs_expr::Scorer;
 use rs_query::{Block, Query};
 use rs_rank::Answer;
@@ -25,7 +25,7 @@ use std::alloc::Global;
 /// The rows of a query, each with its score, before they are put into order.
 pub(crate) fn query_rows<S: Scorer>(
     alloc: Global,
-    catalog: &Catalog,
+    catalog: &Snapshot<'_>,
     query: &Query,
     scorer: &mut S,
 ) -> Result<Vec<Answer>, PlainFault>
@@ -48,7 +48,7 @@ pub(crate) fn query_rows<S: Scorer>(
 /// The rows of a block of this number: with DISTINCT the first one of each list of output values.
 fn base_rows<S: Scorer>(
     alloc: Global,
-    catalog: &Catalog,
+    catalog: &Snapshot<'_>,
     block: &Block,
     number: u8,
     scorer: &mut S,
@@ -69,7 +69,7 @@ fn base_rows<S: Scorer>(
 /// All combinations of a block of this number, each with its score and its output values.
 fn block_rows<S: Scorer>(
     alloc: Global,
-    catalog: &Catalog,
+    catalog: &Snapshot<'_>,
     block: &Block,
     number: u8,
     scorer: &mut S,

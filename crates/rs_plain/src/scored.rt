@@ -14,7 +14,7 @@ ghost use Rattle.rs_plain.specs.Results.{as_list};
 
 use crate::fault::PlainFault;
 use crate::sets::append_rows;
-use rs_catalog::Catalog;
+use rs_catalog::Snapshot;
 use rs_expr::Scorer;
 use rs_query::{Block, KeptList, Query};
 use rs_rank::{Ids, RankRow};
@@ -24,7 +24,7 @@ use std::alloc::Global;
 /// answer are known.
 pub(crate) fn scored_query<S: Scorer>(
     alloc: Global,
-    catalog: &Catalog,
+    catalog: &Snapshot<'_>,
     query: &Query,
     scorer: &mut S,
 ) -> Result<Vec<RankRow>, PlainFault>
@@ -47,7 +47,7 @@ pub(crate) fn scored_query<S: Scorer>(
 /// All combinations of a block of this number, each with its score.
 pub(crate) fn scored_block<S: Scorer>(
     alloc: Global,
-    catalog: &Catalog,
+    catalog: &Snapshot<'_>,
     block: &Block,
     number: u8,
     scorer: &mut S,
@@ -65,7 +65,7 @@ pub(crate) fn scored_block<S: Scorer>(
 /// Some combinations of a block of this number, each with its score.
 fn scored_rows<S: Scorer>(
     alloc: Global,
-    catalog: &Catalog,
+    catalog: &Snapshot<'_>,
     block: &Block,
     number: u8,
     combinations: &[[u32; 6]],
@@ -94,7 +94,7 @@ fn scored_rows<S: Scorer>(
 
 /// The score of a combination of all entries: the sum of weight times worth over the terms, which are asked in order.
 fn score_for<S: Scorer>(
-    catalog: &Catalog,
+    catalog: &Snapshot<'_>,
     block: &Block,
     ids: &Ids,
     args: &mut KeptList,

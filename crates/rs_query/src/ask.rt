@@ -11,7 +11,7 @@ ghost use Rattle.rs_query.specs.declared.term.Term.{Term as BoundTerm};
 use crate::block::Block;
 use crate::kept::KeptList;
 use crate::term::Term;
-use rs_catalog::Catalog;
+use rs_catalog::Snapshot;
 use rs_expr::{Scorer, ScorerFault, score_within};
 use rs_rank::Ids;
 use rs_value::Memory;
@@ -50,7 +50,7 @@ impl Block {
     /// arguments in a list that is kept from call to call.
     pub fn ask<S: Scorer>(
         &self,
-        catalog: &Catalog,
+        catalog: &Snapshot<'_>,
         number: u8,
         ids: &Ids,
         args: &mut KeptList,

@@ -16,16 +16,16 @@ ghost use Rattle.rs_value.specs.declared.value.Value.TheVariants as value;
 use crate::block::Block;
 use crate::conjunct::Conjunct;
 use crate::lent_cells::LentCells;
-use rs_catalog::{BoundArg, Catalog};
+use rs_catalog::{BoundArg, Snapshot};
 use rs_rank::Ids;
-use rs_table::{Cell, Table};
+use rs_table::{Cell, FirstRows};
 use rs_value::{Memory, Text, Value};
 use std::alloc::Global;
 
 impl Block {
     /// Whether every conjunct in a mask holds of these rows. The first conjunct has the lowest bit. It takes no memory: what the
     /// conjuncts look at is compared where it stands.
-    pub fn holds(&self, catalog: &Catalog, conjuncts: u32, ids: &Ids) -> bool
+    pub fn holds(&self, catalog: &Snapshot<'_>, conjuncts: u32, ids: &Ids) -> bool
         requires block { IsBlock catalog.now self.now }
         requires inside { AreInside conjuncts ids.now.mask self.now.conjuncts }
         requires rows { HasRows catalog.now self.now ids.now.mask ids.now.rows }
@@ -47,7 +47,7 @@ impl Block {
     /// grown. After an error it holds some of the arguments.
     pub fn args(
         &self,
-        catalog: &Catalog,
+        catalog: &Snapshot<'_>,
         term: u8,
         ids: &Ids,
         args: &mut Vec<Value>,
@@ -68,7 +68,12 @@ impl Block {
     }
 
     /// The values of the output columns for these rows.
-    pub fn outputs(&self, alloc: Global, catalog: &Catalog, ids: &Ids) -> Result<Vec<Value>, Memory>
+    pub fn outputs(
+        &self,
+        alloc: Global,
+        catalog: &Snapshot<'_>,
+        ids: &Ids,
+    ) -> Result<Vec<Value>, Memory>
         requires block { IsBlock catalog.now self.now }
         requires inside { is_inside (entries_mask self.now.items) ids.now.mask ≡ true }
         requires rows { HasRows catalog.now self.now ids.now.mask ids.now.rows }
@@ -82,7 +87,7 @@ impl Block {
 
     /// Whether a conjunct of the block holds of these rows. Columns of two entries that it equates are compared at once, without a
     /// walk through the condition.
-    fn conjunct_holds(&self, catalog: &Catalog, conjunct: &Conjunct, ids: &Ids) -> bool
+    fn conjunct_holds(&self, catalog: &Snapshot<'_>, conjunct: &Conjunct, ids: &Ids) -> bool
         requires block { IsBlock catalog.now self.now }
         requires conjunct { IsConjunct catalog.now self.now conjunct.now }
         requires inside { is_inside conjunct.now.entries ids.now.mask ≡ true }
@@ -99,7 +104,7 @@ impl Block {
     /// Makes a list that of the values of columns for these rows, each of its column's kind.
     fn cells_of(
         &self,
-        catalog: &Catalog,
+        catalog: &Snapshot<'_>,
         columns: &[(u8, u8)],
         ids: &Ids,
         cells: &mut Vec<Value>,
@@ -122,7 +127,7 @@ impl Block {
     /// Makes a list that of the values of arguments for these rows.
     fn args_of(
         &self,
-        catalog: &Catalog,
+        catalog: &Snapshot<'_>,
         args: &[BoundArg],
         ids: &Ids,
         values: &mut Vec<Value>,
@@ -145,7 +150,7 @@ impl Block {
     /// Appends the value of an argument for these rows.
     fn push_arg(
         &self,
-        catalog: &Catalog,
+        catalog: &Snapshot<'_>,
         arg: &BoundArg,
         ids: &Ids,
         values: &mut Vec<Value>,
@@ -170,7 +175,7 @@ impl Block {
     /// list, and takes no memory where the list has room.
     pub fn push_cell(
         &self,
-        catalog: &Catalog,
+        catalog: &Snapshot<'_>,
         column: (u8, u8),
         rows: &[u32; 6],
         values: &mut Vec<Value>,
@@ -188,7 +193,7 @@ impl Block {
     /// The cell of a column for these rows, of the column's kind.
     pub(crate) fn cell<'a>(
         &self,
-        catalog: &'a Catalog,
+        catalog: &Snapshot<'a>,
         column: (u8, u8),
         rows: &[u32; 6],
     ) -> Cell<'a>
@@ -203,11 +208,11 @@ impl Block {
     }
 
     /// The table of an entry.
-    pub(crate) fn table<'a>(&self, catalog: &'a Catalog, entry: u8) -> &'a Table
+    pub(crate) fn table<'a>(&self, catalog: &Snapshot<'a>, entry: u8) -> FirstRows<'a>
         requires block { IsBlock catalog.now self.now }
         requires least { 1 ≤ entry }
         requires most { entry ≤ length self.now.from }
-        ensures { entry_table catalog.now self.now entry ≡ Some result.now }
+        ensures { entry_table catalog.now self.now entry ≡ Some result }
     {
         catalog.table(self.from.items()[entry as usize - 1].0)
     }

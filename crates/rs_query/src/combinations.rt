@@ -11,7 +11,7 @@ ghost use Rattle.rs_query.specs.WellFormed.{IsBlock};
 use crate::block::Block;
 use crate::sizes::size_of;
 use crate::step::Step;
-use rs_catalog::Catalog;
+use rs_catalog::Snapshot;
 use rs_rank::{Ids, mask_of, union};
 use rs_value::Memory;
 use std::alloc::Global;
@@ -20,7 +20,11 @@ impl Block {
     /// The combinations of all entries of which every conjunct holds, in lexicographic order: for each entry the number of
     /// its row, counted from 1, and 0 past the last entry. At an entry that an equality ties to entries before it in the search only
     /// the rows of equal cells are looked at, so the time is that of a join and not of the product.
-    pub fn combinations(&self, alloc: Global, catalog: &Catalog) -> Result<Vec<[u32; 6]>, Memory>
+    pub fn combinations(
+        &self,
+        alloc: Global,
+        catalog: &Snapshot<'_>,
+    ) -> Result<Vec<[u32; 6]>, Memory>
         requires { IsBlock catalog.now self.now }
         ensures value { IfOk result (λ rows. rows.items ≡ all_combinations catalog.now self.now) }
         ensures each { IfOk result (λ rows. AllByRecursion (HasRows catalog.now self.now (all_entries self.now)) rows.items) }
@@ -33,7 +37,7 @@ impl Block {
     pub fn fresh(
         &self,
         alloc: Global,
-        catalog: &Catalog,
+        catalog: &Snapshot<'_>,
         old: &[u32; 6],
     ) -> Result<Vec<[u32; 6]>, Memory>
         requires { IsBlock catalog.now self.now }
@@ -50,7 +54,7 @@ impl Block {
     fn find_all(
         &self,
         alloc: Global,
-        catalog: &Catalog,
+        catalog: &Snapshot<'_>,
         old: &[u32; 6],
         found: &mut Vec<[u32; 6]>,
     ) -> Result<(), Memory>
@@ -71,7 +75,7 @@ impl Block {
     }
 
     /// Whether the conditions without columns hold.
-    fn holds_of_all(&self, catalog: &Catalog) -> bool
+    fn holds_of_all(&self, catalog: &Snapshot<'_>) -> bool
         requires { IsBlock catalog.now self.now }
         ensures { result ≡ satisfies catalog.now self.now 0 (replicate 6 0) }
     {
@@ -87,7 +91,7 @@ impl Block {
     fn find(
         &self,
         alloc: Global,
-        catalog: &Catalog,
+        catalog: &Snapshot<'_>,
         pivot: u8,
         old: &[u32; 6],
         found: &mut Vec<[u32; 6]>,
@@ -108,7 +112,7 @@ impl Block {
     /// Finds the combinations that have these rows at the entries in a mask, and go on by these steps.
     fn extend(
         &self,
-        catalog: &Catalog,
+        catalog: &Snapshot<'_>,
         steps: &[Step],
         mask: u8,
         rows: [u32; 6],

@@ -10,7 +10,7 @@ ghost use Rattle.rs_value.specs.declared.value.Value.TheVariants as value;
 
 use crate::block::Block;
 use crate::equal_rows::EqualRows;
-use rs_catalog::Catalog;
+use rs_catalog::Snapshot;
 use rs_table::Cell;
 use rs_value::{Kind, Memory, Text};
 use std::alloc::Global;
@@ -20,7 +20,7 @@ impl Block {
     pub(crate) fn equal_rows(
         &self,
         alloc: Global,
-        catalog: &Catalog,
+        catalog: &Snapshot<'_>,
         left: (u8, u8),
         right: (u8, u8),
     ) -> Result<EqualRows, Memory>
@@ -45,7 +45,7 @@ impl Block {
     }
 
     /// The kind of a column.
-    fn kind(&self, catalog: &Catalog, column: (u8, u8)) -> Kind
+    fn kind(&self, catalog: &Snapshot<'_>, column: (u8, u8)) -> Kind
         requires block { IsBlock catalog.now self.now }
         requires column { IsColumn catalog.now self.now column }
         ensures { column_kind catalog.now self.now column ≡ Some result }
@@ -57,7 +57,7 @@ impl Block {
     fn numbers(
         &self,
         alloc: Global,
-        catalog: &Catalog,
+        catalog: &Snapshot<'_>,
         column: (u8, u8),
     ) -> Result<Vec<i64>, Memory>
         requires block { IsBlock catalog.now self.now }
@@ -81,7 +81,7 @@ impl Block {
     fn texts<'a>(
         &self,
         alloc: Global,
-        catalog: &'a Catalog,
+        catalog: &Snapshot<'a>,
         column: (u8, u8),
     ) -> Result<Vec<&'a Text>, Memory>
         requires block { IsBlock catalog.now self.now }

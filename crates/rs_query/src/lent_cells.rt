@@ -7,7 +7,7 @@ ghost use Rattle.rs_value.specs.Value.{fits};
 ghost use Rattle.rs_value.specs.declared.kind.Kind.{Kind as ValueKind};
 
 use crate::block::Block;
-use rs_catalog::Catalog;
+use rs_catalog::Snapshot;
 use rs_expr::Arguments;
 use rs_table::Cell;
 use std::marker::Model;
@@ -15,7 +15,7 @@ use std::marker::Model;
 /// The cells of columns for rows, as arguments. They are lent where they stand, so that no row that is tested takes memory.
 #[derive(Drop)]
 pub(crate) struct LentCells<'a> {
-    catalog: &'a Catalog,
+    catalog: &'a Snapshot<'a>,
     block: &'a Block,
     columns: &'a [(u8, u8)],
     rows: &'a [u32; 6],
@@ -46,7 +46,7 @@ impl<'a> Model for LentCells<'a> {
 impl<'a> LentCells<'a> {
     /// The cells of these columns for these rows.
     pub fn of(
-        catalog: &'a Catalog,
+        catalog: &'a Snapshot<'a>,
         block: &'a Block,
         columns: &'a [(u8, u8)],
         rows: &'a [u32; 6],

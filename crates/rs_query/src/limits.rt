@@ -7,11 +7,11 @@ ghost use Rattle.rs_query.specs.Tables.{sizes_of};
 ghost use Rattle.rs_query.specs.WellFormed.{IsQuery};
 
 use crate::query::Query;
-use rs_catalog::Catalog;
+use rs_catalog::Snapshot;
 
 /// No table of a query has more rows than a table may have, and weights and maxima are within their limits. It computes nothing; it
 /// is called for its contract.
-pub fn limits_hold(catalog: &Catalog, query: &Query)
+pub fn limits_hold(catalog: &Snapshot<'_>, query: &Query)
     requires { IsQuery catalog.now query.now }
     ensures rows { (number : ℕ) → AllByRecursion (λ size. size ≤ 131072) (sizes_of catalog.now (block_in query.now number)) }
     ensures weights { IsWeights (weights_of (block_in query.now 1)) }

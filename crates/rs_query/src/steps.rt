@@ -12,7 +12,7 @@ use crate::block::Block;
 use crate::conjunct::Conjunct;
 use crate::sizes::size_of;
 use crate::step::{Step, Tie};
-use rs_catalog::Catalog;
+use rs_catalog::Snapshot;
 use rs_rank::{has_number, mask_of, union};
 use rs_value::Memory;
 use std::alloc::Global;
@@ -23,7 +23,7 @@ impl Block {
     pub(crate) fn steps(
         &self,
         alloc: Global,
-        catalog: &Catalog,
+        catalog: &Snapshot<'_>,
         pivot: u8,
         old: &[u32; 6],
     ) -> Result<Vec<Step>, Memory>
@@ -71,7 +71,7 @@ impl Block {
     fn step(
         &self,
         alloc: Global,
-        catalog: &Catalog,
+        catalog: &Snapshot<'_>,
         mask: u8,
         entry: u8,
         pivot: u8,
@@ -106,7 +106,7 @@ impl Block {
     fn tie(
         &self,
         alloc: Global,
-        catalog: &Catalog,
+        catalog: &Snapshot<'_>,
         mask: u8,
         entry: u8,
     ) -> Result<Option<Tie>, Memory>

@@ -13,7 +13,7 @@ ghost use Rattle.rs_sample.specs.Samples.{AreBlockSamples};
 
 use crate::choices::choices;
 use crate::fault::SampleFault;
-use rs_catalog::Catalog;
+use rs_catalog::Snapshot;
 use rs_expr::Scorer;
 use rs_query::{AskFault, Block, KeptList};
 use rs_rank::Ids;
@@ -23,7 +23,7 @@ use std::alloc::Global;
 /// What each term of the block of this number is worth on each choice among the samples of its entries.
 pub(crate) fn ask_terms<S: Scorer>(
     alloc: Global,
-    catalog: &Catalog,
+    catalog: &Snapshot<'_>,
     block: &Block,
     number: u8,
     samples: &[List<u32>],
@@ -58,7 +58,7 @@ pub(crate) fn ask_terms<S: Scorer>(
 /// What a term, counted from 1, is worth on each of these choices of rows of its entries. The scorer is called once for each.
 fn ask_choices<S: Scorer>(
     alloc: Global,
-    catalog: &Catalog,
+    catalog: &Snapshot<'_>,
     block: &Block,
     number: u8,
     term: u8,
@@ -92,7 +92,7 @@ fn ask_choices<S: Scorer>(
 /// What a term, counted from 1, is worth for the rows of its entries. The scorer is called once, with its arguments in a list
 /// that is kept from call to call.
 fn ask_term<S: Scorer>(
-    catalog: &Catalog,
+    catalog: &Snapshot<'_>,
     block: &Block,
     number: u8,
     ids: &Ids,

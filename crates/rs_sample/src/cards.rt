@@ -12,7 +12,7 @@ use crate::fault::SampleFault;
 use crate::sample::sample_block;
 use rand_core::SeedableRng;
 use rand_pcg::Pcg32;
-use rs_catalog::Catalog;
+use rs_catalog::{Catalog, Snapshot};
 use rs_expr::Scorer;
 use rs_query::Query;
 use std::alloc::Global;
@@ -33,6 +33,25 @@ impl Cards {
     pub fn take<S: Scorer>(
         alloc: Global,
         catalog: &Catalog,
+        query: &Query,
+        seed: u64,
+        scorer: &mut S,
+    ) -> Result<Cards, SampleFault>
+        requires { IsQuery catalog.now query.now }
+        ensures asks { Inquires SampleFault.Memory
+            (asking_all catalog.now (questions_of query.now (all_rows catalog.now query.now) seed) done)
+            (done_of result) (S.state scorer.old) (S.state scorer.new) }
+        ensures cards { IfOk result (λ cards. AllSayTheSame (cards_of cards)
+            (query_cards (S.state scorer.old).answer catalog.now query.now (all_rows catalog.now query.now) seed)) }
+        ensures names_predicate { IfErr result (NamesPredicate catalog.now) }
+    {
+        Cards::take_over(alloc, &Snapshot::current(catalog), query, seed, scorer)
+    }
+
+    /// Takes a sample of each table of a query, of the rows that are seen of it.
+    fn take_over<S: Scorer>(
+        alloc: Global,
+        catalog: &Snapshot<'_>,
         query: &Query,
         seed: u64,
         scorer: &mut S,

@@ -32,7 +32,7 @@ use crate::fault::SampleFault;
 use crate::index::index_estimates;
 use crate::truths::evaluate_conjuncts;
 use rand_pcg::Pcg32;
-use rs_catalog::Catalog;
+use rs_catalog::Snapshot;
 use rs_expr::Scorer;
 use rs_query::{Block, sizes_of};
 use rs_value::{List, Memory};
@@ -42,7 +42,7 @@ use std::alloc::Global;
 /// what is expected of the block.
 pub(crate) fn sample_block<S: Scorer>(
     alloc: Global,
-    catalog: &Catalog,
+    catalog: &Snapshot<'_>,
     block: &Block,
     number: u8,
     limit: Option<u32>,
@@ -73,7 +73,7 @@ pub(crate) fn sample_block<S: Scorer>(
 /// What is expected of a block, of these worths of its terms on the choices among the samples.
 fn estimate_block(
     alloc: Global,
-    catalog: &Catalog,
+    catalog: &Snapshot<'_>,
     block: &Block,
     sizes: &[u32; 6],
     samples: &[List<u32>],

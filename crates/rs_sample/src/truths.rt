@@ -10,7 +10,7 @@ ghost use Rattle.rs_sample.specs.Finding.{truths_by_conjunct};
 ghost use Rattle.rs_sample.specs.Samples.{AreBlockSamples};
 
 use crate::choices::choices;
-use rs_catalog::Catalog;
+use rs_catalog::Snapshot;
 use rs_query::Block;
 use rs_rank::Ids;
 use rs_value::{List, Memory};
@@ -19,7 +19,7 @@ use std::alloc::Global;
 /// Whether each conjunct of a block holds of each choice among the samples of its entries.
 pub(crate) fn evaluate_conjuncts(
     alloc: Global,
-    catalog: &Catalog,
+    catalog: &Snapshot<'_>,
     block: &Block,
     samples: &[List<u32>],
 ) -> Result<Vec<List<bool>>, Memory>
@@ -39,7 +39,7 @@ pub(crate) fn evaluate_conjuncts(
 /// Whether the conjunct at a place, counted from 0, holds of each of these choices of rows of its entries.
 fn evaluate_conjunct(
     alloc: Global,
-    catalog: &Catalog,
+    catalog: &Snapshot<'_>,
     block: &Block,
     place: u8,
     choices: &[[u32; 6]],

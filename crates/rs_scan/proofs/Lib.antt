@@ -1,3 +1,4 @@
 pub mod IndexFacts
+mod LastFacts
 pub mod ScanFacts
 mod WorkedScans

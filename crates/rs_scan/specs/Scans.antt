@@ -1,5 +1,5 @@
 -- The rows that scans give, and what a scan keeps. A view is the first rows of a table, up to a number.
-use Rattle.std.specs.Prelude.{ℕ, zero, suc, ◌≡◌, ◌≤◌, ◌-◌, ◌*◌, nat_le, List, [], ◌∷◌, length, map, Some, option_map, slice_get, slice_set}
+use Rattle.std.specs.Prelude.{ℕ, zero, suc, ◌≡◌, ◌≤◌, ◌-◌, ◌*◌, nat_le, List, [], ◌∷◌, length, map, Option, Some, None, option_map, slice_get, slice_set}
 use Rattle.std.specs.List.{filter}
 use Rattle.rs_rank.specs.declared.row.RankRow.{RankRow}
 use Rattle.rs_rank.specs.declared.scored_row.ScoredRow.{ScoredRow}
@@ -43,7 +43,7 @@ pub record TableScan : Type 0 where
   pub rows : ℕ
   pub drawn : ℕ
 
--- a scan of a rank index: the same, with the number of the index and the weight of its term
+-- a scan of a rank index: the same, with the number of the index, the weight of its term, and the score and the row of the entry that it drew last
 pub record IndexScan : Type 0 where
   pub index : ℕ
   pub entry : ℕ
@@ -51,6 +51,7 @@ pub record IndexScan : Type 0 where
   pub weight : ℕ
   pub rows : ℕ
   pub drawn : ℕ
+  pub last : Option (ℕ × ℕ)
 
 -- all rows that a scan gives
 abbrev pub rows_of_table : TableScan → List RankRow
@@ -64,7 +65,16 @@ abbrev pub new_table_scan : ℕ → ℕ → ℕ → TableScan
 new_table_scan entry block rows = record { entry = entry; block = block; rows = rows; drawn = 0 }
 
 abbrev pub new_index_scan : ℕ → ℕ → ℕ → ℕ → ℕ → IndexScan
-new_index_scan index entry block weight rows = record { index = index; entry = entry; block = block; weight = weight; rows = rows; drawn = 0 }
+new_index_scan index entry block weight rows = record { index = index; entry = entry; block = block; weight = weight; rows = rows; drawn = 0; last = None }
+
+-- the score and the row of the entry of an index that was drawn last
+abbrev pub last_at : List ScoredRow → ℕ → Option (ℕ × ℕ)
+last_at ranking zero = None
+last_at ranking (suc n) = option_map (λ e. (e.score, e.row)) (slice_get ranking n)
+
+-- a scan of an index when it has drawn so many
+abbrev pub scan_at : CatalogDef → ℕ → IndexScan → IndexScan
+scan_at catalogue drawn scan = record scan { drawn = drawn; last = last_at (ranking_at catalogue scan.index) drawn }
 
 -- a number of one of six entries
 pub record IsEntryNumber (entry : ℕ) : Type 0 where

@@ -1,8 +1,9 @@
 ghost use Rattle.std.specs.Prelude.{◌≡◌, ◌≤◌, ◌<◌, ◌+◌, ◌-◌, ◌*◌, ◌↔◌, IfSome, None, length, min, slice_get, slice_index};
-ghost use Rattle.rs_scan.specs.Scans.{IsOfAllRows, new_index_scan, rows_of_index};
+ghost use Rattle.rs_catalog.specs.Indexes.{ranking_at};
+ghost use Rattle.rs_scan.specs.Scans.{IsOfAllRows, last_at, new_index_scan, rows_of_index, scan_at};
 
 use crate::row::row_of;
-use rs_catalog::Catalog;
+use rs_catalog::Snapshot;
 use rs_rank::RankRow;
 use std::marker::Model;
 
@@ -16,6 +17,7 @@ pub struct RankScan {
     weight: u32,
     rows: u32,
     drawn: u32,
+    last: Option<(u32, u32)>,
 }
 
 impl Model for RankScan {
@@ -30,6 +32,7 @@ impl Model for RankScan {
       weight = s.weight;
       rows = s.rows;
       drawn = s.drawn;
+      last = s.last;
     } };
 
     ghost invariant = { λ s. IsScan s.entry s.rows s.drawn };
@@ -50,27 +53,28 @@ impl RankScan {
             weight,
             rows,
             drawn: 0,
+            last: None,
         }
     }
 
-    /// The next row of the view, with the number of a row of the table. Today the view has to be all rows of the index's
-    /// table. It takes no memory.
-    pub fn next(&mut self, catalog: &Catalog) -> Option<RankRow>
+    /// The next row of the view, with the number of a row of the table. The view has to be all rows of the index's table in what
+    /// is seen of the catalogue. The scan goes on behind the entry that it drew last, so rows that join the index don't move it. It
+    /// takes no memory.
+    pub fn next(&mut self, catalog: &Snapshot<'_>) -> Option<RankRow>
         requires index { self.old.index < length catalog.now.indexes }
         requires view { IsOfAllRows catalog.now self.old }
+        requires last { self.old.last ≡ last_at (ranking_at catalog.now self.old.index) self.old.drawn }
         ensures row { result ≡ slice_get (rows_of_index catalog.now self.old) self.old.drawn }
         ensures number { IfSome result (λ row. 1 ≤ slice_index row.ids.rows (self.old.entry - 1)) }
         ensures end { (result ≡ None) ↔ (self.old.drawn ≡ self.old.rows) }
         ensures most { self.old.drawn ≤ self.old.rows }
-        ensures after { self.new ≡ record self.old { drawn = min (self.old.drawn + 1) self.old.rows } }
+        ensures after { self.new ≡ scan_at catalog.now (min (self.old.drawn + 1) self.old.rows) self.old }
     {
         // Its ranking has each row of the table once, so no entry lies outside the view.
         let _ = catalog.index(self.index);
-        if self.drawn == self.rows {
-            return None;
-        }
+        let (score, row) = catalog.index_after(self.index, self.last)?;
         self.drawn += 1;
-        let (score, row) = catalog.index_row(self.index, self.drawn);
+        self.last = Some((score, row));
         let sum = share(self.weight, score);
         Some(row_of(self.block, self.entry, row, sum))
     }

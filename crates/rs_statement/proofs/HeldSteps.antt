@@ -7,9 +7,11 @@ use Rattle.rs_expr.specs.Scoring.{Answering}
 use Rattle.rs_rank.specs.declared.answer.Answer.{Answer}
 use Rattle.rs_rank.specs.declared.scored_row.ScoredRow.{ScoredRow}
 use Rattle.rs_table.specs.Column.{Column}
+use Rattle.rs_table.specs.FirstRows.{first_rows}
 use Rattle.rs_table.specs.Reading.{table_of}
 use Rattle.rs_table.specs.Relation.{Relation}
 use Rattle.rs_expr.specs.Predicates.{PredicateDef}
+use Rattle.rs_catalog.specs.After.{entries_within}
 use Rattle.rs_catalog.specs.Catalog.{CatalogDef, room_for, with_index, with_predicate, with_table}
 use Rattle.rs_catalog.specs.Indexes.{IsIndex, making, predicate_for}
 use Rattle.rs_catalog.specs.declared.index.IndexDef.{IndexDef}
@@ -37,7 +39,9 @@ use Rattle.rs_plan.specs.Trees.{PlanTree}
 use Rattle.rs_exec.specs.Asking.{world_of}
 use Rattle.rs_exec.specs.Cursors.{CursorState, StandsFor}
 use Rattle.rs_catalog.specs.IndexesHold.{IndexesHold}
+use Rattle.rs_catalog.specs.Snapshot.{HaveRows, size_at, snapshot}
 use Rattle.rs_catalog.proofs.HeldFacts.{held-with_index, held-with_predicate, held-with_table}
+use Rattle.rs_catalog.proofs.SnapshotFacts.{HaveRows-push, snapshot-with_index, snapshot-with_table}
 use Rattle.rs_statement.specs.declared.sampling.Sampling.{Sampling}
 use Rattle.rs_statement.specs.declared.evaluating.Evaluating.{Evaluating}
 use Rattle.rs_statement.specs.declared.evaluating.Evaluating.TheVariants.{Planned, Plainly}
@@ -183,27 +187,33 @@ held-step answer catalogue finds evaluating command step next held =
     kept-step answer catalogue (IndexesHold answer) held (λ name table. held-with_table catalogue answer name table held) (λ predicate. held-with_predicate catalogue answer predicate held)
     (λ def ranking fits made. held-with_index catalogue answer def ranking fits made held) finds evaluating command step next
 
--- where cursors go on to stand, so do all that are open
-asked-larger : (answer : Answering) (small large : CatalogDef) → ((cursor : CursorState) → StandsFor small answer cursor → StandsFor large answer cursor) → (entries : List (List ℕ × CursorRows))
-    → CanAllBeAsked answer small entries → CanAllBeAsked answer large entries
-asked-larger answer small large stands [] all = tt
-asked-larger answer small large stands ((name, kept) ∷ entries) all = (one kept all.0, asked-larger answer small large stands entries all.1) where
+-- where cursors go on to stand for what they see, so do all that are open
+asked-larger : (answer : Answering) (small large : CatalogDef) → ((sizes : List ℕ) → HaveRows sizes small.tables → HaveRows sizes large.tables)
+    → ((sizes : List ℕ) (cursor : CursorState) → HaveRows sizes small.tables → StandsFor (snapshot sizes small) answer cursor → StandsFor (snapshot sizes large) answer cursor)
+    → (entries : List (List ℕ × CursorRows)) → CanAllBeAsked answer small entries → CanAllBeAsked answer large entries
+asked-larger answer small large have stands [] all = tt
+asked-larger answer small large have stands ((name, kept) ∷ entries) all = (one kept all.0, asked-larger answer small large have stands entries all.1) where
   one : (kept : CursorRows) → CanBeAsked answer small kept → CanBeAsked answer large kept
-  one (held.Asked cursor) is = stands cursor is
+  one (held.Asked cursor sizes) is = (have sizes.items is.0, stands sizes.items cursor is.0 is.1)
   one (held.Ready rows given) is = is
 
 -- a cursor that stands for a catalogue stands for what it becomes
-pub record StandOn (answer : Answering) (catalogue : CatalogDef) : Type 0 where
-  pub tables : (cursor : CursorState) (name : List ℕ) (table : Relation) → StandsFor catalogue answer cursor → StandsFor (with_table name table catalogue) answer cursor
-  pub predicates : (cursor : CursorState) (predicate : PredicateDef) → StandsFor catalogue answer cursor → StandsFor (with_predicate predicate catalogue) answer cursor
-  pub indexes : (cursor : CursorState) (def : IndexDef) (ranking : List ScoredRow) → StandsFor catalogue answer cursor → StandsFor (with_index def ranking catalogue) answer cursor
+pub record StandOn (answer : Answering) : Type 0 where
+  pub tables : (catalogue : CatalogDef) (cursor : CursorState) (name : List ℕ) (table : Relation) → StandsFor catalogue answer cursor → StandsFor (with_table name table catalogue) answer cursor
+  pub predicates : (catalogue : CatalogDef) (cursor : CursorState) (predicate : PredicateDef) → StandsFor catalogue answer cursor → StandsFor (with_predicate predicate catalogue) answer cursor
+  pub indexes : (catalogue : CatalogDef) (cursor : CursorState) (def : IndexDef) (ranking : List ScoredRow) → StandsFor catalogue answer cursor → StandsFor (with_index def ranking catalogue) answer cursor
 
 pub asked-step : (answer : Answering) (catalogue : CatalogDef) (finds : Finds) (evaluating : Evaluating) (command : Command) (step : Step CatalogDef) (next : CatalogDef)
-    (entries : List (List ℕ × CursorRows)) → StandOn answer catalogue → CanAllBeAsked answer catalogue entries → IsWritten command
+    (entries : List (List ℕ × CursorRows)) → StandOn answer → CanAllBeAsked answer catalogue entries → IsWritten command
     → Does finds answer evaluating catalogue command step → step.outcome ≡ Ok next → CanAllBeAsked answer next entries
 asked-step answer catalogue finds evaluating command step next entries on all =
     kept-step answer catalogue (λ c. CanAllBeAsked answer c entries) all
-    (λ name table. asked-larger answer catalogue (with_table name table catalogue) (λ cursor. on.tables cursor name table) entries all)
-    (λ predicate. asked-larger answer catalogue (with_predicate predicate catalogue) (λ cursor. on.predicates cursor predicate) entries all)
-    (λ def ranking fits made. asked-larger answer catalogue (with_index def ranking catalogue) (λ cursor. on.indexes cursor def ranking) entries all)
+    (λ name table. asked-larger answer catalogue (with_table name table catalogue) (λ sizes have. HaveRows-push sizes catalogue.tables (record { name = name; table = table }) have)
+    (λ sizes cursor have stands. subst (λ (seen : CatalogDef). StandsFor seen answer cursor) (sym (snapshot-with_table sizes catalogue name table have))
+    (on.tables (snapshot sizes catalogue) cursor name (first_rows 0 table) stands)) entries all)
+    (λ predicate. asked-larger answer catalogue (with_predicate predicate catalogue) (λ sizes have. have)
+    (λ sizes cursor have stands. on.predicates (snapshot sizes catalogue) cursor predicate stands) entries all)
+    (λ def ranking fits made. asked-larger answer catalogue (with_index def ranking catalogue) (λ sizes have. have)
+    (λ sizes cursor have stands. subst (λ (seen : CatalogDef). StandsFor seen answer cursor) (sym (snapshot-with_index sizes catalogue def ranking))
+    (on.indexes (snapshot sizes catalogue) cursor def (entries_within (size_at sizes def.table) ranking) stands)) entries all)
     finds evaluating command step next

@@ -5,6 +5,7 @@ use Rattle.rs_rank.specs.declared.answer.Answer.{Answer}
 use Rattle.rs_expr.specs.InOrder.{Inquiry}
 use Rattle.rs_expr.specs.Scoring.{Answering}
 use Rattle.rs_catalog.specs.Catalog.{CatalogDef}
+use Rattle.rs_catalog.specs.Snapshot.{snapshot}
 use Rattle.rs_query.specs.Answers.{limit_of}
 use Rattle.rs_query.specs.declared.query.Query.{Query}
 use Rattle.rs_plan.specs.Lists.{World}
@@ -57,20 +58,23 @@ module _ (larger catalogue : CatalogDef) (answer : Answering) (query : Query) (t
 
 -- the same of a FETCH of each cursor
 pub alike-fetched : (answer : Answering) (state next : State) (name : List ℕ) (asked wanted : ℕ) (source : Source)
-    → ((query : Query) (tree : PlanTree) → source ≡ ByPlan query tree → SameAsks (world_of next.catalogue answer query) (world_of state.catalogue answer query) tree)
+    → ((query : Query) (tree : PlanTree) (sizes : List ℕ) → source ≡ ByPlan query tree sizes
+    → SameAsks (world_of (snapshot sizes next.catalogue) answer query) (world_of (snapshot sizes state.catalogue) answer query) tree)
     → (fetched_from answer next name asked wanted source).events ≡ (fetched_from answer state name asked wanted source).events
-alike-fetched answer state next name asked wanted (ByPlan query tree) same =
-    let asks = same query tree refl in
-    let large = world_of next.catalogue answer query in
-    let small = world_of state.catalogue answer query in
+alike-fetched answer state next name asked wanted (ByPlan query tree sizes) same =
+    let asks = same query tree sizes refl in
+    let more = snapshot sizes next.catalogue in
+    let few = snapshot sizes state.catalogue in
+    let large = world_of more answer query in
+    let small = world_of few answer query in
     (alike-then (asks_from large tree asked (next_asks large tree asked wanted)) (asks_from small tree asked (next_asks small tree asked wanted))
     (still (Ok (with_asks name (next_asks large tree asked wanted) next))) (still (Ok (with_asks name (next_asks small tree asked wanted) state)))
-    (subst (λ count. Alike (asks_from large tree asked count) (asks_from small tree asked (next_asks small tree asked wanted))) (sym (next-same next.catalogue state.catalogue answer query tree asks asked wanted))
-    (alike-asks next.catalogue state.catalogue answer query tree asks asked (next_asks small tree asked wanted)))
+    (subst (λ count. Alike (asks_from large tree asked count) (asks_from small tree asked (next_asks small tree asked wanted))) (sym (next-same more few answer query tree asks asked wanted))
+    (alike-asks more few answer query tree asks asked (next_asks small tree asked wanted)))
     (record { events = refl; well = refl })).events
 alike-fetched answer state next name asked wanted (Ready rows) same = refl
 
--- of a cursor over a plan the catalogue covers its query
-pub IsCursorOf-plan : (catalogue : CatalogDef) (cursor : OpenCursor) (query : Query) (tree : PlanTree) → IsCursorOf catalogue cursor → cursor.source ≡ ByPlan query tree
-    → IsCursorOf catalogue (record cursor { source = ByPlan query tree })
-IsCursorOf-plan catalogue cursor query tree is e = subst (λ source. IsCursorOf catalogue (record cursor { source = source })) e is
+-- of a cursor over a plan, what it sees of the catalogue covers its query
+pub IsCursorOf-plan : (catalogue : CatalogDef) (cursor : OpenCursor) (query : Query) (tree : PlanTree) (sizes : List ℕ) → IsCursorOf catalogue cursor → cursor.source ≡ ByPlan query tree sizes
+    → IsCursorOf catalogue (record cursor { source = ByPlan query tree sizes })
+IsCursorOf-plan catalogue cursor query tree sizes is e = subst (λ source. IsCursorOf catalogue (record cursor { source = source })) e is

@@ -16,6 +16,7 @@ use Rattle.rs_syntax.specs.Syntax.{Command, CreateTable, CreatePredicate, Create
 use Rattle.rs_syntax.specs.Syntax as syntax
 use Rattle.rs_syntax.specs.declared.name.Name.{Name}
 use Rattle.rs_catalog.specs.Catalog.{CatalogDef, room_for, with_index, with_predicate, with_table}
+use Rattle.rs_catalog.specs.Snapshot.{snapshot}
 use Rattle.rs_catalog.specs.Indexes as indexes
 use Rattle.rs_catalog.specs.declared.index.IndexDef.{IndexDef}
 use Rattle.rs_catalog.specs.declared.index.IndexFault.{IndexFault}
@@ -322,8 +323,8 @@ Own-fetch answer state count name =
     (λ wanted. Own-then (cursor_named name.text state.cursors) (λ cursor. Ok (cursor, wanted)) (Own-named name.text state.cursors) (λ cursor. tt)))
     (λ wanted. fetches wanted.0.name wanted.0.asked wanted.1 wanted.0.source) where
       fetches : (own : List ℕ) (asked wanted : ℕ) (source : Source) → Own (fetched_from answer state own asked wanted source).outcome
-      fetches own asked wanted (ByPlan query tree) =
-          let w = world_of state.catalogue answer query in
+      fetches own asked wanted (ByPlan query tree sizes) =
+          let w = world_of (snapshot sizes state.catalogue) answer query in
           Own-then_step (asks_from w tree asked (next_asks w tree asked wanted)) (still (Ok (with_asks own (next_asks w tree asked wanted) state)))
           (Own-asks w tree asked (next_asks w tree asked wanted)) tt
       fetches own asked wanted (Ready rows) = tt

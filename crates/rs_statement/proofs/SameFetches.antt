@@ -11,10 +11,14 @@ use Rattle.std.proofs.lemmas.Cmp.{nat_list_eq_equiv}
 use Rattle.std.proofs.lemmas.List.{drop-take, length-take, take_all}
 use Rattle.rs_rank.specs.declared.answer.Answer.{Answer}
 use Rattle.rs_rank.specs.declared.scored_row.ScoredRow.{ScoredRow}
+use Rattle.rs_table.specs.FirstRows.{first_rows}
 use Rattle.rs_table.specs.Relation.{Relation}
 use Rattle.rs_expr.specs.Predicates.{PredicateDef}
 use Rattle.rs_expr.specs.Scoring.{Answering}
-use Rattle.rs_catalog.specs.Catalog.{CatalogDef, has_name, with_index, with_predicate, with_table}
+use Rattle.rs_catalog.specs.After.{entries_within}
+use Rattle.rs_catalog.specs.Catalog.{CatalogDef, NamedTable, has_name, with_index, with_predicate, with_table}
+use Rattle.rs_catalog.specs.Snapshot.{HaveRows, size_at, snapshot}
+use Rattle.rs_catalog.proofs.SnapshotFacts.{HaveRows-push, snapshot-with_index, snapshot-with_table}
 use Rattle.rs_catalog.specs.declared.index.IndexDef.{IndexDef}
 use Rattle.rs_catalog.specs.declared.room.RoomFault.TheVariants as room
 use Rattle.rs_query.specs.Answers.{cut, limit_of}
@@ -116,16 +120,18 @@ abbrev AreOthers : List ℕ → List OpenCursor → Type 0
 AreOthers name cursors = AllByRecursion (λ (c : OpenCursor). bytes_eq c.name name ≡ false) cursors
 
 module _ (answer : Answering) where
-  -- two cursors of one name over the same rows, by a plan of a query that the catalogue covers
+  -- two cursors of one name over the same rows, by a plan of a query that what is seen of the catalogue covers
   pub record Agree (catalogue : CatalogDef) (plain planned : OpenCursor) : Type 0 where
     pub name : plain.name ≡ planned.name
     pub query : Query
     pub tree : PlanTree
+    pub sizes : List ℕ
     pub rows : List Answer
     pub ready : plain.source ≡ Ready rows
-    pub by_plan : planned.source ≡ ByPlan query tree
-    pub covered : Covers catalogue query
-    pub same : rows ≡ cut (limit_of query) (answers_of (world_of catalogue answer query) tree)
+    pub by_plan : planned.source ≡ ByPlan query tree sizes
+    pub have : HaveRows sizes catalogue.tables
+    pub covered : Covers (snapshot sizes catalogue) query
+    pub same : rows ≡ cut (limit_of query) (answers_of (world_of (snapshot sizes catalogue) answer query) tree)
     pub given : plain.asked ≡ min planned.asked (length rows)
 
   -- two lists of cursors that agree one by one, no two of one name
@@ -275,18 +281,20 @@ module _ (answer : Answering) (catalogue : CatalogDef) where
 
   -- a FETCH of two that agree
   pub agree-fetched : (p q : OpenCursor) (wanted : ℕ) (agree : Agree answer catalogue p q) → (asks : ℕ)
-      → asks ≡ min wanted (ask_count (limit_of agree.query) (length (answers_of (world_of catalogue answer agree.query) agree.tree)) - q.asked)
+      → asks ≡ min wanted (ask_count (limit_of agree.query) (length (answers_of (world_of (snapshot agree.sizes catalogue) answer agree.query) agree.tree)) - q.asked)
       → Agree answer catalogue (record p { asked = p.asked + next_rows agree.rows p.asked wanted }) (record q { asked = q.asked + asks })
   agree-fetched p q wanted agree asks is = record {
     name = agree.name;
     query = agree.query;
     tree = agree.tree;
+    sizes = agree.sizes;
     rows = agree.rows;
     ready = agree.ready;
     by_plan = agree.by_plan;
+    have = agree.have;
     covered = agree.covered;
     same = agree.same;
-    given = (let all = answers_of (world_of catalogue answer agree.query) agree.tree in
+    given = (let all = answers_of (world_of (snapshot agree.sizes catalogue) answer agree.query) agree.tree in
         ap (λ given. given + next_rows agree.rows given wanted) agree.given
         ∙ ap (λ rows. min q.asked (length rows) + next_rows rows (min q.asked (length rows)) wanted) agree.same
         ∙ same-given (limit_of agree.query) all q.asked wanted
@@ -295,11 +303,11 @@ module _ (answer : Answering) (catalogue : CatalogDef) where
   }
 
   pub lines-fetched : (p q : OpenCursor) (wanted : ℕ) (agree : Agree answer catalogue p q) → (asks : ℕ)
-      → asks ≡ min wanted (ask_count (limit_of agree.query) (length (answers_of (world_of catalogue answer agree.query) agree.tree)) - q.asked)
+      → asks ≡ min wanted (ask_count (limit_of agree.query) (length (answers_of (world_of (snapshot agree.sizes catalogue) answer agree.query) agree.tree)) - q.asked)
       → rank_lines (suc p.asked) (take (next_rows agree.rows p.asked wanted) (drop p.asked agree.rows))
-      ≡ rank_lines (suc q.asked) (take asks (drop q.asked (answers_of (world_of catalogue answer agree.query) agree.tree)))
+      ≡ rank_lines (suc q.asked) (take asks (drop q.asked (answers_of (world_of (snapshot agree.sizes catalogue) answer agree.query) agree.tree)))
   lines-fetched p q wanted agree asks is =
-      let all = answers_of (world_of catalogue answer agree.query) agree.tree in
+      let all = answers_of (world_of (snapshot agree.sizes catalogue) answer agree.query) agree.tree in
       ap (λ given. rank_lines (suc given) (take (next_rows agree.rows given wanted) (drop given agree.rows))) agree.given
       ∙ ap (λ rows. rank_lines (suc (min q.asked (length rows))) (take (next_rows rows (min q.asked (length rows)) wanted) (drop (min q.asked (length rows)) rows))) agree.same
       ∙ same-lines (limit_of agree.query) all q.asked wanted
@@ -323,18 +331,22 @@ pub record AskTheSame : Type 0 where
 
 module _ (answer : Answering) (catalogue : CatalogDef) where
   -- so cursors that agree over a catalogue do over a larger one
-  module _ (large : CatalogDef) (covered : (query : Query) → Covers catalogue query → Covers large query)
-      (same : (query : Query) (tree : PlanTree) → Covers catalogue query → SameAsks (world_of large answer query) (world_of catalogue answer query) tree) where
+  module _ (large : CatalogDef) (have : (sizes : List ℕ) → HaveRows sizes catalogue.tables → HaveRows sizes large.tables)
+      (covered : (sizes : List ℕ) (query : Query) → HaveRows sizes catalogue.tables → Covers (snapshot sizes catalogue) query → Covers (snapshot sizes large) query)
+      (same : (sizes : List ℕ) (query : Query) (tree : PlanTree) → HaveRows sizes catalogue.tables → Covers (snapshot sizes catalogue) query
+      → SameAsks (world_of (snapshot sizes large) answer query) (world_of (snapshot sizes catalogue) answer query) tree) where
     agree-larger : (p q : OpenCursor) → Agree answer catalogue p q → Agree answer large p q
     agree-larger p q agree = record {
       name = agree.name;
       query = agree.query;
       tree = agree.tree;
+      sizes = agree.sizes;
       rows = agree.rows;
       ready = agree.ready;
       by_plan = agree.by_plan;
-      covered = covered agree.query agree.covered;
-      same = agree.same ∙ sym (ap (cut (limit_of agree.query)) (same agree.query agree.tree agree.covered).rows);
+      have = have agree.sizes agree.have;
+      covered = covered agree.sizes agree.query agree.have agree.covered;
+      same = agree.same ∙ sym (ap (cut (limit_of agree.query)) (same agree.sizes agree.query agree.tree agree.have agree.covered).rows);
       given = agree.given;
     }
 
@@ -348,17 +360,33 @@ module _ (answer : Answering) (catalogue : CatalogDef) where
   module _ (asks : AskTheSame) (ps qs : List OpenCursor) (all : AgreeAll answer catalogue ps qs) where
     pub all-with_table : (name : List ℕ) (table : Relation) → AgreeAll answer (with_table name table catalogue) ps qs
     all-with_table name table =
-        let large = with_table name table catalogue in
-        let more = length-append catalogue.tables (record { name = name; table = table } ∷ []) in
-        all-larger large (covers-larger catalogue large (omega arith) (omega arith)) (λ query tree. asks.tables catalogue answer query tree name table) ps qs all
+        all-larger (with_table name table catalogue) (λ sizes have. HaveRows-push sizes catalogue.tables (record { name = name; table = table }) have)
+        (λ sizes query have covered.
+        let seen = snapshot sizes catalogue in
+        let last : NamedTable = record { name = name; table = first_rows 0 table } in
+        let more = length-append seen.tables (last ∷ []) in
+        subst (λ (larger : CatalogDef). Covers larger query) (sym (snapshot-with_table sizes catalogue name table have))
+        (covers-larger seen (with_table name (first_rows 0 table) seen) (omega arith) (omega arith) query covered))
+        (λ sizes query tree have covered.
+        let seen = snapshot sizes catalogue in
+        subst (λ (larger : CatalogDef). SameAsks (world_of larger answer query) (world_of seen answer query) tree) (sym (snapshot-with_table sizes catalogue name table have))
+        (asks.tables seen answer query tree name (first_rows 0 table) covered)) ps qs all
 
     pub all-with_predicate : (predicate : PredicateDef) → AgreeAll answer (with_predicate predicate catalogue) ps qs
     all-with_predicate predicate =
-        let large = with_predicate predicate catalogue in
         let more = length-append catalogue.predicates (predicate ∷ []) in
-        all-larger large (covers-larger catalogue large (omega arith) (omega arith)) (λ query tree. asks.predicates catalogue answer query tree predicate) ps qs all
+        all-larger (with_predicate predicate catalogue) (λ sizes have. have)
+        (λ sizes query have covered. covers-larger (snapshot sizes catalogue) (with_predicate predicate (snapshot sizes catalogue)) (omega arith) (omega arith) query covered)
+        (λ sizes query tree have covered. asks.predicates (snapshot sizes catalogue) answer query tree predicate covered) ps qs all
 
     pub all-with_index : (def : IndexDef) (ranking : List ScoredRow) → AgreeAll answer (with_index def ranking catalogue) ps qs
     all-with_index def ranking =
-        let large = with_index def ranking catalogue in
-        all-larger large (covers-larger catalogue large (omega arith) (omega arith)) (λ query tree. asks.indexes catalogue answer query tree def ranking) ps qs all
+        all-larger (with_index def ranking catalogue) (λ sizes have. have)
+        (λ sizes query have covered.
+        let seen = snapshot sizes catalogue in
+        subst (λ (larger : CatalogDef). Covers larger query) (sym (snapshot-with_index sizes catalogue def ranking))
+        (covers-larger seen (with_index def (entries_within (size_at sizes def.table) ranking) seen) (omega arith) (omega arith) query covered))
+        (λ sizes query tree have covered.
+        let seen = snapshot sizes catalogue in
+        subst (λ (larger : CatalogDef). SameAsks (world_of larger answer query) (world_of seen answer query) tree) (sym (snapshot-with_index sizes catalogue def ranking))
+        (asks.indexes seen answer query tree def (entries_within (size_at sizes def.table) ranking) covered)) ps qs all

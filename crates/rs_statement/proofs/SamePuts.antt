@@ -11,6 +11,10 @@ use Rattle.rs_expr.specs.Scoring.{Answering}
 use Rattle.rs_value.specs.Results.{◌>>=◌}
 use Rattle.rs_lex.specs.declared.token.Span.{Span}
 use Rattle.rs_catalog.specs.Catalog.{CatalogDef, empty}
+use Rattle.rs_catalog.specs.IndexesHold.{IndexesHold}
+use Rattle.rs_catalog.specs.Snapshot.{sizes_in, snapshot}
+use Rattle.rs_catalog.proofs.SnapshotFacts.{HaveRows-all, snapshot-all}
+use Rattle.rs_exec.specs.Covering.{Covers}
 use Rattle.rs_syntax.specs.Syntax.{Command, CreateTable, CreatePredicate, CreateRankIndex, Ask, Declare, Fetch, Close, Explain, ExplainAnalyze}
 use Rattle.rs_syntax.specs.Syntax as syntax
 use Rattle.rs_syntax.specs.declared.name.Name.{Name}
@@ -42,7 +46,7 @@ use Rattle.rs_statement.specs.Sampled.{sample_inquiry, sample_step}
 use Rattle.rs_events.specs.Sequence.{RunOf, RunsOn, still, then_step}
 use Rattle.rs_statement.specs.Statements.{Does, IsNoExplain, answer_lines, evaluation_step, or_bind_fault, query_outcome, query_step, refused_or, select_step}
 use Rattle.rs_statement.specs.Session.{ByPlan, DoesInSession, OpenCursor, Ready, State, StatementsRun, asked_more, beside_cursors, close_outcome, cursor_named, declare_step, fetch_step, fetched_from, fetched_step, next_lines, next_rows, opened_step, ready_outcome, room_for_cursor, with_asks, with_cursor, without_cursor}
-use Rattle.rs_statement.proofs.HeldSteps.{Ok-then, kept-step}
+use Rattle.rs_statement.proofs.HeldSteps.{Ok-then, held-step, kept-step}
 use Rattle.rs_statement.proofs.OneStep.{Does-one}
 use Rattle.rs_events.proofs.OneRun.{OneFile}
 use Rattle.rs_statement.proofs.PlanSteps.{outcome-value, row-given}
@@ -189,30 +193,33 @@ module _ (give : GiveAnswers) (answer : Answering) where
       (subst (λ answers. ComeFirst (puts (planned_step w tree).events) (rank_lines 1 answers)) (give w tree (few-terms catalogue bound formed) plans) (first-planned w tree))
 
   -- and what a FETCH puts of a cursor by a plan comes first among the lines of the next rows of the answer
-  first-fetch : (state : State) (query : Query) (tree : PlanTree) (name : List ℕ) (asked wanted : ℕ) → HasFewTerms query → IsPlan state.catalogue query tree
-      → ComeFirst (puts (fetched_from answer state name asked wanted (ByPlan query tree)).events) (next_lines (answer_of answer state.catalogue query (all_rows state.catalogue query)) asked wanted)
-  first-fetch state query tree name asked wanted few plans =
-      let w = world_of state.catalogue answer query in
+  first-fetch : (state : State) (query : Query) (tree : PlanTree) (sizes : List ℕ) (name : List ℕ) (asked wanted : ℕ) → HasFewTerms query → IsPlan (snapshot sizes state.catalogue) query tree
+      → ComeFirst (puts (fetched_from answer state name asked wanted (ByPlan query tree sizes)).events)
+      (next_lines (answer_of answer (snapshot sizes state.catalogue) query (all_rows (snapshot sizes state.catalogue) query)) asked wanted)
+  first-fetch state query tree sizes name asked wanted few plans =
+      let seen = snapshot sizes state.catalogue in
+      let w = world_of seen answer query in
       let all = answers_of w tree in
       let asks = next_asks w tree asked wanted in
       let step = asks_from w tree asked asks in
       let asks_are : asks ≡ min wanted (ask_count (limit_of query) (length all) - asked) =
       ap (λ size. min wanted (ask_count (limit_of query) size - asked)) (sym (length-map (list_of_plan w tree) (answer_for w))) in
-      subst (λ lines. ComeFirst lines (next_lines (answer_of answer state.catalogue query (all_rows state.catalogue query)) asked wanted))
+      subst (λ lines. ComeFirst lines (next_lines (answer_of answer seen query (all_rows seen query)) asked wanted))
       (sym (puts-then_still step.events step.outcome (with_asks name asks state)))
       (subst (λ rows. ComeFirst (puts step.events) (next_lines rows asked wanted)) (give w tree few plans)
       (subst (ComeFirst (puts step.events)) (ap (λ n. rank_lines (suc asked) (take n (drop asked all))) asks_are ∙ sym (same-lines (limit_of query) all asked wanted))
       (first-asks w tree asked asks)))
 
 -- and what a FETCH of a cursor puts whose plan is the chosen one
-pub first-fetched : GiveAnswers → (answer : Answering) (sampling : Sampling) (state : State) (query : syntax.Query) (bound : Query) (name : List ℕ) (asked wanted : ℕ) → IsWrittenQuery query
-    → bound_query state.catalogue query ≡ Ok bound
-    → ComeFirst (puts (fetched_from answer state name asked wanted (ByPlan bound (plan_for answer state.catalogue sampling bound))).events)
-    (next_lines (answer_of answer state.catalogue bound (all_rows state.catalogue bound)) asked wanted)
-first-fetched give answer sampling state query bound name asked wanted written is =
-    let formed = unfiltered-formed state.catalogue query bound written is in
-    first-fetch give answer state bound (plan_for answer state.catalogue sampling bound) name asked wanted (few-terms state.catalogue bound formed)
-    (least-plan state.catalogue bound (cards_for answer state.catalogue sampling bound) formed)
+pub first-fetched : GiveAnswers → (answer : Answering) (sampling : Sampling) (state : State) (sizes : List ℕ) (query : syntax.Query) (bound : Query) (name : List ℕ) (asked wanted : ℕ)
+    → IsWrittenQuery query → bound_query (snapshot sizes state.catalogue) query ≡ Ok bound
+    → ComeFirst (puts (fetched_from answer state name asked wanted (ByPlan bound (plan_for answer (snapshot sizes state.catalogue) sampling bound) sizes)).events)
+    (next_lines (answer_of answer (snapshot sizes state.catalogue) bound (all_rows (snapshot sizes state.catalogue) bound)) asked wanted)
+first-fetched give answer sampling state sizes query bound name asked wanted written is =
+    let seen = snapshot sizes state.catalogue in
+    let formed = unfiltered-formed seen query bound written is in
+    first-fetch give answer state bound (plan_for answer seen sampling bound) sizes name asked wanted (few-terms seen bound formed)
+    (least-plan seen bound (cards_for answer seen sampling bound) formed)
 
 -- what the first of some events put comes first where what all of them put does
 pub first-of_part : (events done rest : List Event) (lines : List (List ℕ)) → events ≡ done ++ rest → ComeFirst (puts events) lines → ComeFirst (puts done) lines
@@ -302,8 +309,9 @@ module _ (give : GiveAnswers) (same : AskTheSame) (finds : Finds) (one : OneFile
     left_is : left ≡ record { catalogue = next; cursors = ps }
     right_is : right ≡ record { catalogue = next; cursors = qs }
     agree : AgreeAll answer next ps qs
+    held : IndexesHold answer next
 
-  module _ (catalogue : CatalogDef) (ps qs : List OpenCursor) (all : AgreeAll answer catalogue ps qs) (left right : State) where
+  module _ (catalogue : CatalogDef) (ps qs : List OpenCursor) (all : AgreeAll answer catalogue ps qs) (held : IndexesHold answer catalogue) (left right : State) where
     abbrev plain_state : State
     plain_state = record { catalogue = catalogue; cursors = ps }
 
@@ -330,6 +338,7 @@ module _ (give : GiveAnswers) (same : AskTheSame) (finds : Finds) (one : OneFile
           right_is = sym right_is ∙ ap planned_with (sym alike.states);
           agree = kept-step answer catalogue (λ c. AgreeAll answer c ps qs) all (all-with_table answer catalogue same ps qs all) (all-with_predicate answer catalogue same ps qs all)
               (λ def ranking fits made. all-with_index answer catalogue same ps qs all def ranking) finds Plainly command x first.0 written dx first.1;
+          held = held-step answer catalogue finds Plainly command x first.0 held written dx first.1;
         }
 
     -- a cursor that was opened both ways
@@ -347,10 +356,12 @@ module _ (give : GiveAnswers) (same : AskTheSame) (finds : Finds) (one : OneFile
           let rows_are : answer_of answer catalogue bound (all_rows catalogue bound) ≡ rows =
           outcome-value plain_faults answer catalogue (answer_of answer catalogue bound (all_rows catalogue bound)) rows (first_of (is_bad answer catalogue) (questions_of catalogue bound (all_rows catalogue bound))) given in
           let p : OpenCursor = record { name = name.text; source = Ready rows; asked = 0 } in
-          let q : OpenCursor = record { name = name.text; source = ByPlan bound tree; asked = 0 } in
+          let sizes = sizes_in catalogue in
+          let whole = snapshot-all answer catalogue held in
+          let q : OpenCursor = record { name = name.text; source = ByPlan bound tree sizes; asked = 0 } in
           let plain_left : with_cursor name.text (Ready rows) plain_state ≡ left = cc in
-          let planned_left : with_cursor name.text (ByPlan bound tree) planned_state ≡ right = (let own = lb in cc) in record {
-            lines = puts-inquiry (evaluation_of answer catalogue bound (all_rows catalogue bound)) [] ∙ sym (puts-behind sampling catalogue bound (still (Ok (with_cursor name.text (ByPlan bound tree) planned_state))));
+          let planned_left : with_cursor name.text (ByPlan bound tree sizes) planned_state ≡ right = (let own = lb in cc) in record {
+            lines = puts-inquiry (evaluation_of answer catalogue bound (all_rows catalogue bound)) [] ∙ sym (puts-behind sampling catalogue bound (still (Ok (with_cursor name.text (ByPlan bound tree sizes) planned_state))));
             next = catalogue;
             ps = ps ++ p ∷ [];
             qs = qs ++ q ∷ [];
@@ -360,13 +371,17 @@ module _ (give : GiveAnswers) (same : AskTheSame) (finds : Finds) (one : OneFile
               name = refl;
               query = bound;
               tree = tree;
+              sizes = sizes;
               rows = rows;
               ready = refl;
               by_plan = refl;
-              covered = covers-unfiltered catalogue bound formed;
-              same = sym rows_are ∙ sym (give (world_of catalogue answer bound) tree (few-terms catalogue bound formed) plans);
+              have = HaveRows-all catalogue.tables;
+              covered = subst (λ (seen : CatalogDef). Covers seen bound) (sym whole) (covers-unfiltered catalogue bound formed);
+              same = subst (λ (seen : CatalogDef). rows ≡ cut (limit_of bound) (answers_of (world_of seen answer bound) tree)) (sym whole)
+                  (sym rows_are ∙ sym (give (world_of catalogue answer bound) tree (few-terms catalogue bound formed) plans));
               given = (let none : 0 ≡ min 0 (length rows) = omega arith in none);
             }) (others-free name.text ps free) (others-free name.text qs also);
+            held = held;
           }
       go (Err fault) given e = absurd cc
 
@@ -388,7 +403,7 @@ module _ (give : GiveAnswers) (same : AskTheSame) (finds : Finds) (one : OneFile
     -- a FETCH of two cursors that agree
     module _ (name : List ℕ) (p q : OpenCursor) (wanted : ℕ) (np : cursor_named name ps ≡ Ok p) (nq : cursor_named name qs ≡ Ok q) (pair : Agree answer catalogue p q) where
       abbrev w : plan.World
-      w = world_of catalogue answer pair.query
+      w = world_of (snapshot pair.sizes catalogue) answer pair.query
 
       abbrev asks : ℕ
       asks = next_asks w pair.tree q.asked wanted
@@ -412,6 +427,7 @@ module _ (give : GiveAnswers) (same : AskTheSame) (finds : Finds) (one : OneFile
             left_is = sym plain_left;
             right_is = sym planned_left;
             agree = all-fetched answer catalogue name (next_rows pair.rows p.asked wanted) asks ps qs p q all np nq (agree-fetched answer catalogue p q wanted pair asks asks-are);
+            held = held;
           }
       asked-alike plain_left (Err fault) is e = absurd cc
 
@@ -452,6 +468,7 @@ module _ (give : GiveAnswers) (same : AskTheSame) (finds : Finds) (one : OneFile
           left_is = sym plain_left;
           right_is = sym planned_left;
           agree = all-closed answer catalogue name.text ps qs all;
+          held = held;
         }
 
     -- each statement
@@ -490,15 +507,15 @@ module _ (give : GiveAnswers) (same : AskTheSame) (finds : Finds) (one : OneFile
     go (Ok left) is on = record { left = left; leaves = is; more = on.0; is_more = on.1; is = on.2; well = sym (ap (λ (r : Run). r.fault) on.2) ∙ well }
     go (Err fault) is on = absurd (let ended = ap (λ (r : Run). r.fault) on in cc)
 
-  alike-runs : (catalogue : CatalogDef) (ps qs : List OpenCursor) (commands : List Command) (a b : Run) → AgreeAll answer catalogue ps qs → AreWritten commands → AllByRecursion IsNoExplain commands
+  alike-runs : (catalogue : CatalogDef) (ps qs : List OpenCursor) (commands : List Command) (a b : Run) → AgreeAll answer catalogue ps qs → IndexesHold answer catalogue → AreWritten commands → AllByRecursion IsNoExplain commands
       → RunOf (DoesInSession finds answer Plainly) (record { catalogue = catalogue; cursors = ps }) commands a
       → RunOf (DoesInSession finds answer (Planned sampling)) (record { catalogue = catalogue; cursors = qs }) commands b → a.fault ≡ None → b.fault ≡ None → puts a.events ≡ puts b.events
-  alike-runs catalogue ps qs [] a b all written of ra rb wa wb = ap (λ (r : Run). puts r.events) (ra ∙ sym rb)
-  alike-runs catalogue ps qs (command ∷ rest) a b all written of ra rb wa wb =
+  alike-runs catalogue ps qs [] a b all held written of ra rb wa wb = ap (λ (r : Run). puts r.events) (ra ∙ sym rb)
+  alike-runs catalogue ps qs (command ∷ rest) a b all held written of ra rb wa wb =
       let x = behind-well (λ next more. RunOf (DoesInSession finds answer Plainly) next rest more) ra.0 a ra.2 wa in
       let y = behind-well (λ next more. RunOf (DoesInSession finds answer (Planned sampling)) next rest more) rb.0 b rb.2 wb in
-      let first = alike-in_session catalogue ps qs all x.left y.left command ra.0 rb.0 written.0 of.0 ra.1 rb.1 x.leaves y.leaves in
-      let later = alike-runs first.next first.ps first.qs rest x.more y.more first.agree written.1 of.1
+      let first = alike-in_session catalogue ps qs all held x.left y.left command ra.0 rb.0 written.0 of.0 ra.1 rb.1 x.leaves y.leaves in
+      let later = alike-runs first.next first.ps first.qs rest x.more y.more first.agree first.held written.1 of.1
       (subst (λ next. RunOf (DoesInSession finds answer Plainly) next rest x.more) first.left_is x.is_more)
       (subst (λ next. RunOf (DoesInSession finds answer (Planned sampling)) next rest y.more) first.right_is y.is_more) x.well y.well in
       ap (λ (r : Run). puts r.events) x.is ∙ puts-append ra.0.events x.more.events
@@ -508,4 +525,4 @@ module _ (give : GiveAnswers) (same : AskTheSame) (finds : Finds) (one : OneFile
   -- from nothing on
   pub alike-statements : (commands : List Command) (a b : Run) → AreWritten commands → AllByRecursion IsNoExplain commands
       → StatementsRun finds answer Plainly commands a → StatementsRun finds answer (Planned sampling) commands b → a.fault ≡ None → b.fault ≡ None → puts a.events ≡ puts b.events
-  alike-statements commands a b written of = alike-runs empty [] [] commands a b tt written of
+  alike-statements commands a b written of = alike-runs empty [] [] commands a b tt tt written of

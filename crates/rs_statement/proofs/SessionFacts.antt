@@ -15,6 +15,7 @@ use Rattle.rs_catalog.specs.declared.room.RoomFault.TheVariants as room
 use Rattle.rs_expr.specs.Scoring.{Answering}
 use Rattle.rs_exec.proofs.CoversFacts.{covers}
 use Rattle.rs_catalog.specs.Catalog.{CatalogDef}
+use Rattle.rs_catalog.specs.Snapshot.{snapshot}
 use Rattle.rs_statement.specs.declared.fault.Fault.{Fault}
 use Rattle.rs_statement.specs.declared.fault.Fault.TheVariants.{Session}
 use Rattle.rs_statement.specs.declared.fault.SessionFault.TheVariants.{NameTaken, Unknown, Full}
@@ -116,9 +117,9 @@ module _ (answer : Answering) (catalogue : CatalogDef) where
   asked-append [] name held all one = (one, tt)
   asked-append (entry ∷ entries) name held all one = (all.0, asked-append entries name held all.1 one)
 
-  -- a cursor that can be asked is one of the catalogue: its query is well formed there
+  -- a cursor that can be asked is one of the catalogue: its query is well formed in what it sees
   cursor-covered : (name : List ℕ) (held : CursorRows) → CanBeAsked answer catalogue held → IsCursorOf catalogue (open_cursor (name, held))
-  cursor-covered name (held.Asked cursor) stands = covers catalogue cursor.query stands.query
+  cursor-covered name (held.Asked cursor sizes) asked = (asked.0, covers (snapshot sizes.items catalogue) cursor.query asked.1.query)
   cursor-covered name (held.Ready rows given) within = tt
 
   pub cursors-covered : (entries : Entries) → CanAllBeAsked answer catalogue entries → AllByRecursion (IsCursorOf catalogue) (cursors_of entries)

@@ -9,6 +9,7 @@ use Rattle.rs_value.specs.Results.{◌>>=◌}
 use Rattle.rs_lex.specs.declared.token.Span.{Span}
 use Rattle.rs_expr.specs.Scoring.{Answering}
 use Rattle.rs_catalog.specs.Catalog.{CatalogDef}
+use Rattle.rs_catalog.specs.Snapshot.{sizes_in, snapshot}
 use Rattle.rs_syntax.specs.Syntax as syntax
 use Rattle.rs_syntax.specs.Syntax.{Command, CreateTable, CreatePredicate, CreateRankIndex, Ask, Declare, Fetch, Close, Explain, ExplainAnalyze, command_of, query_of}
 use Rattle.rs_syntax.specs.declared.name.Name.{Name}
@@ -20,15 +21,13 @@ use Rattle.rs_statement.specs.declared.evaluating.Evaluating.{Evaluating}
 use Rattle.rs_statement.specs.declared.fault.Fault.{Fault}
 use Rattle.rs_bind.specs.Queries.{bound_query, count_of}
 use Rattle.rs_typing.specs.declared.fault.BindFault.{BindFault}
-use Rattle.rs_exec.specs.Cursors.{CursorState}
 use Rattle.rs_plan.specs.Trees.{PlanTree}
 use Rattle.rs_query.specs.declared.query.Query.{Query}
 use Rattle.rs_statement.specs.declared.fault.Fault.TheVariants.{Memory, Session}
 use Rattle.rs_statement.specs.declared.fault.SessionFault.TheVariants.{Unknown}
 use Rattle.rs_statement.specs.declared.session.CursorRows.{CursorRows}
 use Rattle.rs_statement.specs.declared.session.CursorRows.TheVariants as held
-use Rattle.rs_statement.specs.Parts.Asks.{IsAt}
-use Rattle.rs_statement.specs.Parts.Session.{IsOfNoCursor, asked_of, cursors_of, next_of, next_of_cursor, open_cursor, rows_step, source_of, state_of, wanted_step}
+use Rattle.rs_statement.specs.Parts.Session.{IsOfNoCursor, asked_of, cursors_of, next_of, next_of_cursor, open_cursor, rows_step, seen_by, source_of, state_of, wanted_step}
 use Rattle.rs_statement.specs.Parts.Steps.{Ran, Stepped}
 use Rattle.rs_events.specs.Sequence.{run_of, still, then_step}
 use Rattle.rs_statement.specs.Planned.{plan_for}
@@ -168,13 +167,14 @@ module _ (answer : Answering) (catalogue : CatalogDef) (entries written : List (
 
   -- what was put of the rows of a cursor, as a FETCH
   pub Fetched-rows : (kept : CursorRows) → IfOk result (λ _. cursors_of written ≡ map (asked_more name (next_of catalogue answer kept wanted)) (cursors_of entries))
-      → Stepped (λ step. step ≡ rows_step catalogue answer kept wanted) catalogue result old new
+      → Stepped (λ step. step ≡ rows_step catalogue answer kept wanted) (seen_by kept catalogue) result old new
       → Stepped (λ step. step ≡ fetched_from answer from name (asked_of kept) wanted (source_of kept)) (state_of catalogue written) result old new
-  Fetched-rows (held.Asked cursor) same made =
-      let asks = next_of_cursor catalogue answer cursor wanted in
-      let first = wanted_step catalogue answer cursor wanted in
+  Fetched-rows (held.Asked cursor sizes) same made =
+      let seen = snapshot sizes.items catalogue in
+      let asks = next_of_cursor seen answer cursor wanted in
+      let first = wanted_step seen answer cursor wanted in
       Stepped-left (λ step. step ≡ then_step first (still (Ok (with_asks name asks from)))) (with_asks name asks from) (state_of catalogue written) result old new
-      (asked-left asks same) (Stepped-leaves first catalogue (with_asks name asks from) result old new made)
+      (asked-left asks same) (Stepped-leaves first seen (with_asks name asks from) result old new made)
   Fetched-rows (held.Ready rows given) same made =
       let asks = next_rows rows.items given wanted in
       Stepped-left (λ step. step ≡ fetched_from answer from name given wanted (source_of (held.Ready rows given))) (with_asks name asks from) (state_of catalogue written) result old new
@@ -206,11 +206,10 @@ module _ (catalogue : CatalogDef) (entries after : List (List ℕ × CursorRows)
     cursors = (ap cursors_of is ∙ cursors-append entries name kept ∙ ap (λ last. cursors_of entries ++ last ∷ []) same) i;
   }
 
-  pub opened-planned : (cursor : CursorState) (query : Query) (tree : PlanTree) → after ≡ entries ++ (name, held.Asked cursor) ∷ [] → IsAt query tree 0 cursor
-      → with_cursor name (ByPlan query tree) (state_of catalogue entries) ≡ state_of catalogue after
-  opened-planned cursor query tree is at =
-      sym (opened-last (held.Asked cursor) (record { name = name; source = ByPlan query tree; asked = 0 }) is
-      (λ i. record { name = name; source = ByPlan (at.query_is i) (at.plan_is i); asked = at.asks_are i }))
+  pub opened-planned : (kept : CursorRows) (query : Query) (tree : PlanTree) (sizes : List ℕ) → after ≡ entries ++ (name, kept) ∷ [] → source_of kept ≡ ByPlan query tree sizes → asked_of kept ≡ 0
+      → with_cursor name (ByPlan query tree sizes) (state_of catalogue entries) ≡ state_of catalogue after
+  opened-planned kept query tree sizes is source none =
+      sym (opened-last kept (record { name = name; source = ByPlan query tree sizes; asked = 0 }) is (λ i. record { name = name; source = source i; asked = none i }))
 
   pub opened-ready : (kept : CursorRows) → after ≡ entries ++ (name, kept) ∷ [] → asked_of kept ≡ 0 → with_cursor name (source_of kept) (state_of catalogue entries) ≡ state_of catalogue after
   opened-ready kept is none = sym (opened-last kept (record { name = name; source = source_of kept; asked = 0 }) is (λ i. record { name = name; source = source_of kept; asked = none i }))
@@ -219,7 +218,7 @@ module _ (catalogue : CatalogDef) (entries after : List (List ℕ × CursorRows)
 module _ (answer : Answering) (sampling : Sampling) (name : Name) (state : State) (query : syntax.Query) (bound : Query) (left : State) (old new : Environment)
     (gives : Gives Memory (declared_query state name query) (Ok bound)) (sampled : Stepped (λ step. step ≡ sample_step state.catalogue sampling bound) state.catalogue (Ok tt) old new) where
   abbrev opened : State
-  opened = with_cursor name.text (ByPlan bound (plan_for answer state.catalogue sampling bound)) state
+  opened = with_cursor name.text (ByPlan bound (plan_for answer state.catalogue sampling bound) (sizes_in state.catalogue)) state
 
   abbrev Opens : Result (Unit {0}) Fault → Type 0
   Opens result = Stepped (λ step. step ≡ refused_or (opened_step (Planned sampling) answer name.text state) (declared_query state name query)) left result old new

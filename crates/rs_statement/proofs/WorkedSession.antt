@@ -96,12 +96,12 @@ named text = record { text = text; at = at 20 }
 abbrev indexed : PlanTree
 indexed = Rank 2 (RankScan 1 1 0)
 
--- the cursors k and d, which were asked this many times, over both terms and over q
+-- the cursors k and d, which were asked this many times, over both terms and over q, and see all four rows
 abbrev k : ℕ → OpenCursor
-k asked = record { name = codes "k"; source = ByPlan (both None) indexed; asked = asked }
+k asked = record { name = codes "k"; source = ByPlan (both None) indexed (4 ∷ []); asked = asked }
 
 abbrev d : ℕ → OpenCursor
-d asked = record { name = codes "d"; source = ByPlan second (Rank 1 (SeqScan 1)); asked = asked }
+d asked = record { name = codes "d"; source = ByPlan second (Rank 1 (SeqScan 1)) (4 ∷ []); asked = asked }
 
 abbrev state : List OpenCursor → State
 state cursors = record { catalogue = catalogue; cursors = cursors }
@@ -144,7 +144,7 @@ fetches_none = refl
 
 -- LIMIT holds over all its FETCHes
 abbrev limited : ℕ → OpenCursor
-limited asked = record { name = codes "k"; source = ByPlan (both (Some 1)) indexed; asked = asked }
+limited asked = record { name = codes "k"; source = ByPlan (both (Some 1)) indexed (4 ∷ []); asked = asked }
 
 fetches_up_to_limit : fetch_step answer (state (limited 0 ∷ [])) (pos 5, at 6) (named (codes "k")) ≡ record {
   events = Score (call (codes "q") 3) ∷ Score (call (codes "q") 9) ∷ Score (call (codes "q") 1) ∷ Put (codes "1,17,8\n") ∷ [];

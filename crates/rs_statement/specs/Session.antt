@@ -10,6 +10,7 @@ use Rattle.rs_syntax.specs.Syntax.{Command, Close, Declare, Fetch}
 use Rattle.rs_syntax.specs.Syntax as syntax
 use Rattle.rs_expr.specs.Scoring.{Answering}
 use Rattle.rs_catalog.specs.Catalog.{CatalogDef, empty, room_in}
+use Rattle.rs_catalog.specs.Snapshot.{HaveRows, sizes_in, snapshot}
 use Rattle.rs_catalog.specs.declared.room.RoomFault.{RoomFault}
 use Rattle.rs_catalog.specs.declared.room.RoomFault.TheVariants as room
 use Rattle.rs_bind.specs.Queries.{bound_query, count_of}
@@ -34,9 +35,10 @@ use Rattle.rs_statement.specs.Sampled.{sample_step}
 use Rattle.rs_events.specs.Sequence.{RunOf, inquiry_step, lines_step, still, then_step}
 use Rattle.rs_statement.specs.Statements.{Does, or_bind_fault, query_fault, refused_or}
 
--- what gives the rows of a cursor: a plan of its query, which is asked for them one after another; or they all stand ready
+-- what gives the rows of a cursor: a plan of its query, which is asked for them one after another, over the tables with as many rows as each had at the
+-- DECLARE; or they all stand ready
 pub data Source : Type 0 where
-  ByPlan : Query → PlanTree → Source
+  ByPlan : Query → PlanTree → List ℕ → Source
   Ready : List Answer → Source
 
 -- an open cursor: its name, what gives its rows, and how often it was asked. Of rows that stand ready, each one that is given is an ask
@@ -108,7 +110,7 @@ abbrev pub opened_step : Evaluating → Answering → List ℕ → State → Que
 opened_step Plainly answer name state query =
     inquiry_step (λ rows. []) (ready_outcome name state) (evaluation_of answer state.catalogue query (all_rows state.catalogue query))
 opened_step (Planned sampling) answer name state query =
-    then_step (sample_step state.catalogue sampling query) (still (Ok (with_cursor name (ByPlan query (plan_for answer state.catalogue sampling query)) state)))
+    then_step (sample_step state.catalogue sampling query) (still (Ok (with_cursor name (ByPlan query (plan_for answer state.catalogue sampling query) (sizes_in state.catalogue)) state)))
 
 abbrev pub declare_step : Evaluating → Answering → State → Name → syntax.Query → Step State
 declare_step evaluating answer state name query =
@@ -127,18 +129,18 @@ next_lines rows asked wanted =
 -- a FETCH goes on from the last ask of its cursor, and ranks go on too. It asks as often as it wants rows, but no more once LIMIT rows were given or an ask
 -- met the end
 abbrev pub fetched_from : Answering → State → List ℕ → ℕ → ℕ → Source → Step State
-fetched_from answer state name asked wanted (ByPlan query tree) =
-    let w = world_of state.catalogue answer query in
+fetched_from answer state name asked wanted (ByPlan query tree sizes) =
+    let w = world_of (snapshot sizes state.catalogue) answer query in
     then_step (asks_from w tree asked (next_asks w tree asked wanted)) (still (Ok (with_asks name (next_asks w tree asked wanted) state)))
 fetched_from answer state name asked wanted (Ready rows) =
     lines_step (rank_lines (suc asked) (take (next_rows rows asked wanted) (drop asked rows))) (with_asks name (next_rows rows asked wanted) state)
 
--- this catalogue has the tables and the predicates of a cursor's query, or the rows of the cursor stand ready. That its tree is a plan of the query isn't asked
--- for: what joins the catalogue changes nothing of the asks of any tree
+-- this catalogue has the rows that a cursor sees, and the tables and the predicates of its query, or the rows of the cursor stand ready. That its tree is a
+-- plan of the query isn't asked for: what joins the catalogue changes nothing of the asks of any tree
 abbrev pub IsCursorOf : CatalogDef → OpenCursor → Type 0
 IsCursorOf catalogue cursor = of cursor.source where
   of : Source → Type 0
-  of (ByPlan query tree) = Covers catalogue query
+  of (ByPlan query tree sizes) = HaveRows sizes catalogue.tables × Covers (snapshot sizes catalogue) query
   of (Ready rows) = Unit {0}
 
 -- of a cursor this many rows are wanted

@@ -28,7 +28,7 @@ use crate::planned::ask_fault;
 use crate::planning::{choose_plan, take_sample};
 use crate::sampling::Sampling;
 use rs_bind::bind;
-use rs_catalog::Catalog;
+use rs_catalog::{Catalog, Snapshot};
 use rs_enum::{cards_decide_the_text, explain};
 use rs_events::{Host, put_text};
 use rs_exec::Cursor;
@@ -98,7 +98,7 @@ fn asked_text<S: Scorer>(
         (Some (counts_of_plan (world_of catalog.now (S.state scorer.old).answer query) (tree_of plan.now)
         (asks_in_all (world_of catalog.now (S.state scorer.old).answer query) (tree_of plan.now))))) }
 {
-    let mut cursor = Cursor::start(alloc, catalog, query, plan)?;
+    let mut cursor = Cursor::start(alloc, &Snapshot::current(catalog), query, plan)?;
     let told = told_text(alloc, catalog, &mut cursor, cards, plan, scorer);
     drop(cursor);
     told
@@ -122,13 +122,17 @@ fn told_text<S: Scorer>(
         (Some (counts_of_plan (world_of catalog.now (S.state scorer.old).answer cursor.old.query) (plan_of cursor.old)
         (most_asks catalog.now (S.state scorer.old).answer cursor.old)))) }
 {
-    ask_all(catalog, cursor, scorer)?;
+    ask_all(&Snapshot::current(catalog), cursor, scorer)?;
     let counts = all_counts(alloc, cursor)?;
     Ok(explain(alloc, catalog, cursor.query(), cards, plan, Some(&counts))?)
 }
 
 /// Asks for the rows of a cursor that are left, and drops them.
-fn ask_all<S: Scorer>(catalog: &Catalog, cursor: &mut Cursor, scorer: &mut S) -> Result<(), Fault>
+fn ask_all<S: Scorer>(
+    catalog: &Snapshot<'_>,
+    cursor: &mut Cursor,
+    scorer: &mut S,
+) -> Result<(), Fault>
     requires { StandsFor catalog.now (S.state scorer.old).answer cursor.old }
     ensures asks { (beside : Environment) → Stepped (λ step. step ≡ silent (left_of catalog.now (S.state scorer.old).answer cursor.old)) catalog.now result
         (record beside { scorer = S.state scorer.old }) (record beside { scorer = S.state scorer.new }) }
@@ -141,7 +145,7 @@ fn ask_all<S: Scorer>(catalog: &Catalog, cursor: &mut Cursor, scorer: &mut S) ->
 
 /// Asks for the next row of a cursor, and drops it. Answers whether there was one.
 fn ask_next<S: Scorer>(
-    catalog: &Catalog,
+    catalog: &Snapshot<'_>,
     cursor: &mut Cursor,
     scorer: &mut S,
 ) -> Result<bool, Fault>

@@ -23,7 +23,7 @@ use crate::put::put_row;
 use crate::query::{bad_score, failed_call};
 use crate::sampling::Sampling;
 use rs_bind::bind;
-use rs_catalog::Catalog;
+use rs_catalog::{Catalog, Snapshot};
 use rs_events::Host;
 use rs_exec::{Cursor, ExecFault};
 use rs_lines::RowLines;
@@ -47,7 +47,7 @@ pub fn run_planned<W: Host>(
 {
     let query = bind(alloc, catalog, select)?;
     let mut cursor = start_planned(alloc, sampling, catalog, query, host.scorer())?;
-    let put = put_all(alloc, catalog, &mut cursor, host);
+    let put = put_all(alloc, &Snapshot::current(catalog), &mut cursor, host);
     drop(cursor);
     put
 }
@@ -55,7 +55,7 @@ pub fn run_planned<W: Host>(
 /// Puts the rows of a cursor that are left, each before the next one is asked for.
 fn put_all<W: Host>(
     alloc: Global,
-    catalog: &Catalog,
+    catalog: &Snapshot<'_>,
     cursor: &mut Cursor,
     host: &mut W,
 ) -> Result<(), Fault>
@@ -70,7 +70,7 @@ fn put_all<W: Host>(
 /// Asks for the next row of a cursor and puts it. Answers whether there was one.
 pub fn put_next<W: Host>(
     lines: &mut RowLines,
-    catalog: &Catalog,
+    catalog: &Snapshot<'_>,
     cursor: &mut Cursor,
     host: &mut W,
 ) -> Result<bool, Fault>
@@ -111,7 +111,7 @@ fn rank_of(cursor: &Cursor) -> u128
 }
 
 /// The fault of a cursor that gave no row, with the name of the predicate.
-pub fn ask_fault(catalog: &Catalog, why: ExecFault) -> Fault
+pub fn ask_fault(catalog: &Snapshot<'_>, why: ExecFault) -> Fault
     requires { NamesPredicate catalog.now why }
     ensures { (result ≡ ask_fault catalog.now why) ⊎ (result ≡ Fault.Memory) }
 {
@@ -121,8 +121,8 @@ pub fn ask_fault(catalog: &Catalog, why: ExecFault) -> Fault
             ids,
             got,
             max,
-        } => bad_score(catalog, predicate, ids.rows, got, max),
-        ExecFault::Probe { predicate } => failed_call(catalog, predicate),
+        } => bad_score(catalog.predicate(predicate), ids.rows, got, max),
+        ExecFault::Probe { predicate } => failed_call(catalog.predicate(predicate)),
         ExecFault::Memory => Fault::Memory,
         ExecFault::Broken => Fault::Memory,
     }

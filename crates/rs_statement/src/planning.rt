@@ -21,7 +21,7 @@ ghost use Rattle.rs_events.specs.Environment.{Environment};
 use crate::fault::Fault;
 use crate::query::failed_call;
 use crate::sampling::Sampling;
-use rs_catalog::Catalog;
+use rs_catalog::{Catalog, Snapshot};
 use rs_enum::{
     best, cards_decide_the_plan, sampled_cards_are_those_of_the_query, there_is_one_least_plan,
 };
@@ -102,7 +102,7 @@ fn sample_fault(catalog: &Catalog, why: SampleFault) -> Fault
     ensures { (result ≡ sample_fault catalog.now why) ⊎ (result ≡ Fault.Memory) }
 {
     match why {
-        SampleFault::Probe { predicate } => failed_call(catalog, predicate),
+        SampleFault::Probe { predicate } => failed_call(catalog.predicate(predicate)),
         SampleFault::Memory => Fault::Memory,
     }
 }
@@ -157,7 +157,7 @@ pub fn start_planned<S: Scorer>(
             return Err(Fault::Memory);
         }
     };
-    let started = Cursor::start(alloc, catalog, query, &plan);
+    let started = Cursor::start(alloc, &Snapshot::current(catalog), query, &plan);
     drop(plan);
     Ok(started?)
 }

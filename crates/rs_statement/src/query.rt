@@ -1,6 +1,5 @@
-ghost use Rattle.std.specs.Prelude.{◌≡◌, ◌⊎◌, ◌<◌, IfSome, length};
+ghost use Rattle.std.specs.Prelude.{◌≡◌, ◌⊎◌};
 ghost use Rattle.rs_syntax.specs.Syntax.{query_of};
-ghost use Rattle.rs_query.specs.Answers.{predicate_at};
 ghost use Rattle.rs_plain.specs.Results.{NamesCalled};
 ghost use Rattle.rs_query.specs.declared.query.Query.{Query};
 ghost use Rattle.rs_bind.specs.Queries.{bound_query};
@@ -14,9 +13,9 @@ use crate::put::put_rows;
 use rs_bind::bind;
 use rs_catalog::Catalog;
 use rs_events::Host;
+use rs_expr::Predicate;
 use rs_plain::{PlainFault, answer_plainly};
 use rs_syntax::Select;
-use rs_value::Text;
 use std::alloc::Global;
 
 /// Prints the rows of a query: makes all its calls, and then puts the rows, each as one line.
@@ -61,43 +60,33 @@ pub fn query_fault(catalog: &Catalog, why: PlainFault) -> Fault
             ids,
             got,
             max,
-        } => bad_score(catalog, predicate, ids.rows, got, max),
-        PlainFault::Probe { predicate } => failed_call(catalog, predicate),
+        } => bad_score(catalog.predicate(predicate), ids.rows, got, max),
+        PlainFault::Probe { predicate } => failed_call(catalog.predicate(predicate)),
         PlainFault::Memory => Fault::Memory,
     }
 }
 
 /// The fault of a number that is no score, with the name of the predicate.
-pub fn bad_score(catalog: &Catalog, predicate: u8, rows: [u32; 6], got: i128, max: u32) -> Fault
-    requires { predicate < length catalog.now.predicates }
-    ensures { (result ≡ Fault.BadScore (predicate_at catalog.now predicate).name rows got max) ⊎ (result ≡ Fault.Memory) }
+pub fn bad_score(predicate: &Predicate, rows: [u32; 6], got: i128, max: u32) -> Fault
+    ensures { (result ≡ Fault.BadScore predicate.now.name rows got max) ⊎ (result ≡ Fault.Memory) }
 {
-    match predicate_name(catalog, predicate) {
-        Some(predicate) => Fault::BadScore {
+    match predicate.name().copy() {
+        Ok(predicate) => Fault::BadScore {
             predicate,
             rows,
             got,
             max,
         },
-        None => Fault::Memory,
+        Err(_) => Fault::Memory,
     }
 }
 
 /// The fault of a call that failed, with the name of the predicate.
-pub fn failed_call(catalog: &Catalog, predicate: u8) -> Fault
-    requires { predicate < length catalog.now.predicates }
-    ensures { (result ≡ Fault.Probe (predicate_at catalog.now predicate).name) ⊎ (result ≡ Fault.Memory) }
+pub fn failed_call(predicate: &Predicate) -> Fault
+    ensures { (result ≡ Fault.Probe predicate.now.name) ⊎ (result ≡ Fault.Memory) }
 {
-    match predicate_name(catalog, predicate) {
-        Some(predicate) => Fault::Probe { predicate },
-        None => Fault::Memory,
+    match predicate.name().copy() {
+        Ok(predicate) => Fault::Probe { predicate },
+        Err(_) => Fault::Memory,
     }
-}
-
-/// A copy of the name of the predicate of this number. There is none where there is no memory for it.
-fn predicate_name(catalog: &Catalog, number: u8) -> Option<Text>
-    requires { number < length catalog.now.predicates }
-    ensures { IfSome result (λ name. name ≡ (predicate_at catalog.now number).name) }
-{
-    catalog.predicate(number).name().copy().ok()
 }

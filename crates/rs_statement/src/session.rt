@@ -13,7 +13,7 @@ ghost use Rattle.rs_catalog.specs.IndexesHold.{IndexesHold};
 ghost use Rattle.rs_query.specs.WellFormed.{IsQuery};
 ghost use Rattle.rs_statement.specs.declared.evaluating.Evaluating.TheVariants.{Plainly, Planned};
 ghost use Rattle.rs_statement.specs.Lines.{rank_lines};
-ghost use Rattle.rs_statement.specs.Parts.Session.{CanAllBeAsked, CanBeAsked, IsAskedMore, asked_of, cursors_of, held_in, next_of, next_of_cursor, rows_step, source_of, state_of, wanted_step};
+ghost use Rattle.rs_statement.specs.Parts.Session.{CanAllBeAsked, CanBeAsked, IsAskedMore, asked_of, cursors_of, held_in, next_of, next_of_cursor, rows_step, seen_by, source_of, state_of, wanted_step};
 ghost use Rattle.rs_statement.specs.Parts.Steps.{Leaves, Ran, Stepped};
 ghost use Rattle.rs_events.specs.Run.{lines_run};
 ghost use Rattle.rs_statement.specs.Session.{IsCursorOf, close_outcome, declare_step, declared_query, fetch_step, fetched_from, next_rows, opened_step, room_for_cursor};
@@ -29,7 +29,7 @@ use crate::query::query_fault;
 use crate::sampling::Sampling;
 use indexmap::IndexMap;
 use rs_bind::{bind, bind_count};
-use rs_catalog::Catalog;
+use rs_catalog::{Catalog, Snapshot};
 use rs_events::Host;
 use rs_exec::Cursor;
 use rs_expr::Scorer;
@@ -49,8 +49,8 @@ const MOST_CURSORS: usize = 64;
 /// What gives the rows of an open cursor.
 #[derive(Drop)]
 enum CursorRows {
-    /// A plan, which is asked for one row after another.
-    Asked(Cursor),
+    /// A plan, which is asked for one row after another, over the tables with as many rows as each had at the DECLARE.
+    Asked { cursor: Cursor, sizes: Vec<u32> },
     /// They stand ready, and this many of them were given.
     Ready { rows: Vec<Answer>, given: usize },
 }
@@ -157,7 +157,13 @@ fn declare_planned<S: Scorer>(
 {
     let query = declared_query(alloc, name, select, catalog, session)?;
     let cursor = start_planned(alloc, sampling, catalog, query, scorer)?;
-    open(session, &name.text, CursorRows::Asked(cursor))?;
+    match catalog.sizes(alloc) {
+        Ok(sizes) => open(session, &name.text, CursorRows::Asked { cursor, sizes })?,
+        Err(Memory) => {
+            drop(cursor);
+            return Err(Fault::Memory);
+        }
+    }
     Ok(())
 }
 
@@ -270,13 +276,16 @@ fn fetch_rows<W: Host>(
 ) -> Result<(), Fault>
     requires { CanBeAsked (W.state host.old).scorer.answer catalog.now held.old }
     ensures puts { Stepped
-        (λ step. step ≡ rows_step catalog.now (W.state host.old).scorer.answer held.old count) catalog.now result (W.state host.old) (W.state host.new) }
+        (λ step. step ≡ rows_step catalog.now (W.state host.old).scorer.answer held.old count) (seen_by held.old catalog.now) result (W.state host.old) (W.state host.new) }
     ensures source { IfOk result (λ _. source_of held.new ≡ source_of held.old) }
     ensures count { IfOk result (λ _. asked_of held.new ≡ asked_of held.old + next_of catalog.now (W.state host.old).scorer.answer held.old count) }
     ensures asked { IfOk result (λ _. CanBeAsked (W.state host.old).scorer.answer catalog.now held.new) }
 {
     match held {
-        CursorRows::Asked(cursor) => fetch_asked(alloc, count, catalog, cursor, host),
+        CursorRows::Asked { cursor, sizes } => {
+            let seen = Snapshot::of(catalog, sizes.as_slice());
+            fetch_asked(alloc, count, &seen, cursor, host)
+        }
         CursorRows::Ready { rows, given } => fetch_ready(alloc, count, rows, given, host.out()),
     }
 }
@@ -285,7 +294,7 @@ fn fetch_rows<W: Host>(
 fn fetch_asked<W: Host>(
     alloc: Global,
     count: u32,
-    catalog: &Catalog,
+    catalog: &Snapshot<'_>,
     cursor: &mut Cursor,
     host: &mut W,
 ) -> Result<(), Fault>

@@ -1,5 +1,6 @@
 pub mod CopyFacts
 pub mod FieldFacts
+pub mod FirstFacts
 pub mod HeaderFacts
 pub mod NumberFacts
 pub mod RecordsFacts

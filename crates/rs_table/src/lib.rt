@@ -10,6 +10,7 @@ mod cells;
 mod columns;
 mod fault;
 mod field;
+mod first_rows;
 mod reader;
 mod records;
 mod schema;
@@ -18,6 +19,7 @@ mod texts;
 
 pub use cell::Cell;
 pub use fault::TableFault;
+pub use first_rows::FirstRows;
 pub use reader::{TableReader, TablesRead};
 pub use schema::{MOST_COLUMNS, Schema};
 pub use table::{MOST_ROWS, Table};

@@ -6,7 +6,7 @@ ghost use Rattle.rs_query.specs.WellFormed.{IsBlock};
 ghost use Rattle.test_plans.specs.Pair.{HasPredicate, IsPair};
 
 use crate::query::{catalogue, formed_pair};
-use rs_catalog::Catalog;
+use rs_catalog::{Catalog, Snapshot};
 use rs_filter::{BlockMatch, JoinConditions, passes, project, sides_and_matches_are_combinations};
 use rs_query::Block;
 use rs_rank::{Ids, Matcher, RankRow};
@@ -28,7 +28,7 @@ fn row_of(mask: u8, rows: [u32; 6]) -> RankRow
 }
 
 /// A row of both entries.
-fn both_rows(rt: &impl Abort, catalog: &Catalog, block: &Block, left: u32, right: u32) -> RankRow
+fn both_rows(rt: &impl Abort, catalog: &Snapshot<'_>, block: &Block, left: u32, right: u32) -> RankRow
     requires tables { length catalog.now.tables ≡ 1 }
     requires pair { IsPair block.now }
     ensures mask { result.ids.mask ≡ 3 }
@@ -40,7 +40,7 @@ fn both_rows(rt: &impl Abort, catalog: &Catalog, block: &Block, left: u32, right
 }
 
 /// Asserts whether the condition holds of a row, and that without it each row passes.
-fn assert_passes(rt: &impl Abort, catalog: &Catalog, block: &Block, row: &RankRow, want: bool)
+fn assert_passes(rt: &impl Abort, catalog: &Snapshot<'_>, block: &Block, row: &RankRow, want: bool)
     requires pair { IsPair block.now }
     requires block { IsBlock catalog.now block.now }
     requires mask { row.now.ids.mask ≡ 3 }
@@ -63,7 +63,7 @@ fn is_int(values: &[Value], want: i64) -> bool {
 fn assert_value(
     rt: &impl Abort,
     alloc: Global,
-    catalog: &Catalog,
+    catalog: &Snapshot<'_>,
     block: &Block,
     row: &RankRow,
     want: i64,
@@ -84,7 +84,7 @@ const ROWS: [(u32, u32, bool, i64); 3] = [(1, 1, true, 4), (2, 1, false, 7), (3,
 fn assert_row(
     rt: &impl Abort,
     alloc: Global,
-    catalog: &Catalog,
+    catalog: &Snapshot<'_>,
     block: &Block,
     row: &(u32, u32, bool, i64),
 ) -> Result<(), Fail>
@@ -102,13 +102,13 @@ fn assert_rows(rt: &impl Abort, alloc: Global, catalog: &Catalog) -> Result<(), 
     requires predicate { HasPredicate catalog.now }
 {
     let block = formed_pair(rt, alloc, catalog, false)?;
-    assert_rows_of(rt, alloc, catalog, &block)
+    assert_rows_of(rt, alloc, &Snapshot::current(catalog), &block)
 }
 
 fn assert_rows_of(
     rt: &impl Abort,
     alloc: Global,
-    catalog: &Catalog,
+    catalog: &Snapshot<'_>,
     block: &Block,
 ) -> Result<(), Fail>
     requires tables { length catalog.now.tables ≡ 1 }
@@ -166,8 +166,19 @@ fn assert_pairs(rt: &impl Abort, alloc: Global, catalog: &Catalog) -> Result<(),
     requires predicate { HasPredicate catalog.now }
 {
     let block = formed_pair(rt, alloc, catalog, false)?;
-    let conditions = JoinConditions::new(alloc, catalog, &block, 1, 2)?;
-    let mut matcher = BlockMatch::new(catalog, &block, &conditions);
+    assert_pairs_of(rt, alloc, &Snapshot::current(catalog), &block)
+}
+
+fn assert_pairs_of(
+    rt: &impl Abort,
+    alloc: Global,
+    catalog: &Snapshot<'_>,
+    block: &Block,
+) -> Result<(), Fail>
+    requires { IsBlock catalog.now block.now }
+{
+    let conditions = JoinConditions::new(alloc, catalog, block, 1, 2)?;
+    let mut matcher = BlockMatch::new(catalog, block, &conditions);
     assert_matches(rt, &mut matcher)
 }
 

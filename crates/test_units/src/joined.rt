@@ -11,7 +11,7 @@ ghost use Rattle.test_units.specs.Joined.{IsJoin};
 ghost use Rattle.test_units.specs.Tables.{HasPredicate};
 
 use crate::tables::{catalogue, is_number, text};
-use rs_catalog::{BoundArg, Catalog};
+use rs_catalog::{BoundArg, Catalog, Snapshot};
 use rs_expr::{Cond, Expr};
 use rs_query::{Block, Conjunct, Term};
 use rs_rank::Ids;
@@ -118,7 +118,7 @@ fn assert_block(rt: &impl Abort, catalog: &Catalog, block: &Block)
 /// A row of each table.
 pub(crate) fn both_rows(
     rt: &impl Abort,
-    catalog: &Catalog,
+    catalog: &Snapshot<'_>,
     block: &Block,
     left: u32,
     right: u32,

@@ -8,7 +8,7 @@ ghost use Rattle.test_units.specs.Joined.{IsJoin};
 ghost use Rattle.test_units.specs.Tables.{HasPredicate};
 
 use crate::joined::{both_rows, formed_join, join, two_tables};
-use rs_catalog::Catalog;
+use rs_catalog::{Catalog, Snapshot};
 use rs_query::Block;
 use rs_rank::{Ids, Weights};
 use rs_value::Value;
@@ -39,7 +39,7 @@ fn are_numbers(values: &[Value], first: i64, second: i64) -> bool {
 fn assert_args(
     rt: &impl Abort,
     alloc: Global,
-    catalog: &Catalog,
+    catalog: &Snapshot<'_>,
     block: &Block,
     ids: &Ids,
     want: i64,
@@ -58,7 +58,7 @@ fn assert_args(
 fn assert_outputs(
     rt: &impl Abort,
     alloc: Global,
-    catalog: &Catalog,
+    catalog: &Snapshot<'_>,
     block: &Block,
     ids: &Ids,
     want: (i64, i64),
@@ -74,7 +74,7 @@ fn assert_outputs(
 }
 
 /// Asserts whether the condition holds of a row, and that without it each row passes.
-fn assert_holds(rt: &impl Abort, catalog: &Catalog, block: &Block, ids: &Ids, want: bool)
+fn assert_holds(rt: &impl Abort, catalog: &Snapshot<'_>, block: &Block, ids: &Ids, want: bool)
     requires join { IsJoin block.now }
     requires block { IsBlock catalog.now block.now }
     requires mask { ids.now.mask ≡ 3 }
@@ -88,7 +88,7 @@ fn assert_holds(rt: &impl Abort, catalog: &Catalog, block: &Block, ids: &Ids, wa
 fn assert_row(
     rt: &impl Abort,
     alloc: Global,
-    catalog: &Catalog,
+    catalog: &Snapshot<'_>,
     block: &Block,
     row: &(u32, u32, i64, i64),
 ) -> Result<(), Fail>
@@ -108,13 +108,13 @@ fn assert_rows(rt: &impl Abort, alloc: Global, catalog: &Catalog) -> Result<(), 
     requires predicate { HasPredicate (kind.Int ∷ kind.Int ∷ []) 100 catalog.now }
 {
     let block = formed_join(rt, alloc, catalog)?;
-    assert_rows_of(rt, alloc, catalog, &block)
+    assert_rows_of(rt, alloc, &Snapshot::current(catalog), &block)
 }
 
 fn assert_rows_of(
     rt: &impl Abort,
     alloc: Global,
-    catalog: &Catalog,
+    catalog: &Snapshot<'_>,
     block: &Block,
 ) -> Result<(), Fail>
     requires tables { length catalog.now.tables ≡ 2 }

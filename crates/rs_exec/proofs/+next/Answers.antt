@@ -9,7 +9,7 @@ use Rattle.rs_exec.specs.Standing.{Stands}
 use Rattle.rs_exec.specs.declared.fault.ExecFault.TheVariants.{Memory}
 use Rattle.rs_exec.specs.declared.node.PlanNode.{PlanNode}
 use Rattle.rs_exec.specs.declared.node.PlanNode.TheVariants as node
-use Rattle.rs_exec.proofs.CycleFacts.{height, index-entry, index-gave, index-view, table-entry, table-gave}
+use Rattle.rs_exec.proofs.CycleFacts.{height, index-entry, index-gave, index-last, index-view, table-entry, table-gave}
 use Rattle.rs_exec.proofs.DistinctCycleFacts.{distinct-asked, drops-dropped, drops-given, drops-next, drops-over, drops-puts, drops-start}
 use Rattle.rs_exec.proofs.JoinCycleFacts.{join-asked-node, join-ended, join-fed, join-given, join-next, join-over, join-start, join-takes}
 use Rattle.rs_exec.proofs.RankCycleFacts.{rank-asked, rank-ended, rank-fed, rank-given, rank-next, rank-own_failed, rank-start, rank-takes}
@@ -38,6 +38,12 @@ node::PlanNode::next-next-requires-in-RankScan-clause-view g t c =
     let can = subst (λ (n : PlanNode). CanAsk (world_of c.args.context.now.catalog.now answer c.args.context.now.query.now) (number_in n) (tree_in n) (asked_in n)) c.in-RankScan.is c.requires.can in
     let stands = subst (λ (n : PlanNode). Stands (world_of c.args.context.now.catalog.now answer c.args.context.now.query.now) (number_in n) n) c.in-RankScan.is c.requires.stands in
     index-view c.args.context.now.catalog.now answer c.args.context.now.query.now c.in-RankScan.head can stands
+
+pub node::PlanNode::next-next-requires-in-RankScan-clause-last : goal.node::PlanNode::next-next-requires-in-RankScan-clause-last
+node::PlanNode::next-next-requires-in-RankScan-clause-last g t c =
+    let answer = (g.S.Scorer.state c.args.scorer.now).answer in
+    let stands = subst (λ (n : PlanNode). Stands (world_of c.args.context.now.catalog.now answer c.args.context.now.query.now) (number_in n) n) c.in-RankScan.is c.requires.stands in
+    index-last c.args.context.now.catalog.now answer c.args.context.now.query.now c.in-RankScan.head stands
 
 pub node::PlanNode::next-returns-in-SeqScan : goal.node::PlanNode::next-returns-in-SeqScan
 node::PlanNode::next-returns-in-SeqScan g t c =

@@ -4,6 +4,7 @@ use Rattle.std.specs.List.{AllByRecursion}
 use Rattle.rs_syntax.specs.Syntax.{Close, Command, Declare, Fetch}
 use Rattle.rs_expr.specs.Scoring.{Answering}
 use Rattle.rs_catalog.specs.Catalog.{CatalogDef}
+use Rattle.rs_catalog.specs.Snapshot.{HaveRows, snapshot}
 use Rattle.rs_exec.specs.Asking.{world_of}
 use Rattle.rs_exec.specs.Cursors.{CursorState, StandsFor, asks_of, plan_of}
 use Rattle.rs_statement.specs.declared.session.CursorRows.{CursorRows}
@@ -22,11 +23,11 @@ held_in session = session.cursors.entries
 
 -- what gives the rows of a cursor, and how often it was asked
 abbrev pub source_of : CursorRows → Source
-source_of (held.Asked cursor) = ByPlan cursor.query (plan_of cursor)
+source_of (held.Asked cursor sizes) = ByPlan cursor.query (plan_of cursor) sizes.items
 source_of (held.Ready rows given) = Ready rows.items
 
 abbrev pub asked_of : CursorRows → ℕ
-asked_of (held.Asked cursor) = asks_of cursor
+asked_of (held.Asked cursor sizes) = asks_of cursor
 asked_of (held.Ready rows given) = given
 
 -- an open cursor by its name
@@ -40,9 +41,15 @@ cursors_of entries = map open_cursor entries
 abbrev pub state_of : CatalogDef → List (List ℕ × CursorRows) → State
 state_of catalogue entries = record { catalogue = catalogue; cursors = cursors_of entries }
 
--- a cursor can be asked: it stands for the catalogue and the scorer; and of rows that stand ready no more were given than there are
+-- what a cursor sees of a catalogue; rows that stand ready need none of it
+abbrev pub seen_by : CursorRows → CatalogDef → CatalogDef
+seen_by (held.Asked cursor sizes) catalogue = snapshot sizes.items catalogue
+seen_by (held.Ready rows given) catalogue = catalogue
+
+-- a cursor can be asked: the tables have the rows that it sees, and it stands for these and the scorer; and of rows that stand ready no more were given than
+-- there are
 abbrev pub CanBeAsked : Answering → CatalogDef → CursorRows → Type 0
-CanBeAsked answer catalogue (held.Asked cursor) = StandsFor catalogue answer cursor
+CanBeAsked answer catalogue (held.Asked cursor sizes) = HaveRows sizes.items catalogue.tables × StandsFor (snapshot sizes.items catalogue) answer cursor
 CanBeAsked answer catalogue (held.Ready rows given) = given ≤ length rows.items
 
 -- each open cursor can be asked. This holds between any two statements: what joins the catalogue changes nothing for a cursor that stands, and a FETCH leaves
@@ -60,11 +67,11 @@ wanted_step catalogue answer cursor wanted =
 
 -- the same of every cursor: of rows that stand ready, this many are put
 abbrev pub next_of : CatalogDef → Answering → CursorRows → ℕ → ℕ
-next_of catalogue answer (held.Asked cursor) wanted = next_of_cursor catalogue answer cursor wanted
+next_of catalogue answer (held.Asked cursor sizes) wanted = next_of_cursor (snapshot sizes.items catalogue) answer cursor wanted
 next_of catalogue answer (held.Ready rows given) wanted = next_rows rows.items given wanted
 
 abbrev pub rows_step : CatalogDef → Answering → CursorRows → ℕ → Step CatalogDef
-rows_step catalogue answer (held.Asked cursor) wanted = wanted_step catalogue answer cursor wanted
+rows_step catalogue answer (held.Asked cursor sizes) wanted = wanted_step (snapshot sizes.items catalogue) answer cursor wanted
 rows_step catalogue answer (held.Ready rows given) wanted =
     lines_step (rank_lines (suc given) (take (next_rows rows.items given wanted) (drop given rows.items))) catalogue
 

@@ -1,4 +1,4 @@
-use Rattle.std.proofs.Common.{subst}
+use Rattle.std.proofs.Common.{subst, sym}
 use Rattle.rs_catalog.specs.Catalog.{CatalogDef}
 use Rattle.rs_exec.specs.Cursors.{StandsFor}
 use Rattle.rs_catalog.proofs.JoinedFacts.{joined-index, joined-predicate, joined-table, only_index, only_predicate, only_table}
@@ -19,3 +19,8 @@ pub returns-clause-indexes : goal.returns-clause-indexes
 returns-clause-indexes c = λ catalogue answer cursor def ranking stands.
     subst (λ (larger : CatalogDef). StandsFor larger answer cursor) (joined-index catalogue def ranking)
     (cursor-larger catalogue (only_index def ranking) answer cursor stands)
+
+pub returns-clause-rows : goal.returns-clause-rows
+returns-clause-rows c = λ sizes catalogue new answer cursor table rows result before after can have holds grows stands.
+    subst (λ (seen : CatalogDef). StandsFor seen answer cursor)
+    (sym (c.snapshots_stay.ensures.rows sizes catalogue new table rows result before after can have holds grows)) stands

@@ -87,8 +87,8 @@ returns-in_default g c =
           (λ step does leaves. held-step answer catalogue finds c.args.evaluating command step next c.requires.held c.requires.written does leaves);
       asked = if-stepped (Does finds answer c.args.evaluating catalogue command) next c.run_without_cursor.result old new (CanAllBeAsked answer next entries) c.run_without_cursor.ensures
           (λ step does leaves. asked-step answer catalogue finds c.args.evaluating command step next entries (record {
-            tables = λ cursor name table. larger.tables catalogue answer cursor name table;
-            predicates = λ cursor predicate. larger.predicates catalogue answer cursor predicate;
-            indexes = λ cursor def ranking. larger.indexes catalogue answer cursor def ranking;
+            tables = λ seen cursor name table. larger.tables seen answer cursor name table;
+            predicates = λ seen cursor predicate. larger.predicates seen answer cursor predicate;
+            indexes = λ seen cursor def ranking. larger.indexes seen answer cursor def ranking;
           }) c.requires.asked c.requires.written does leaves);
     }

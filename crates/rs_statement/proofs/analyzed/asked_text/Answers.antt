@@ -1,6 +1,9 @@
 use Rattle.std.proofs.Common.{◌≡◌, refl, subst, sym}
 use Rattle.std.specs.Prelude.{IfOk}
 use Rattle.rs_value.proofs.ResultFacts.{given-err}
+use Rattle.rs_catalog.specs.Catalog.{CatalogDef}
+use Rattle.rs_query.specs.WellFormed.{IsQuery}
+use Rattle.rs_plan.specs.Plans.{IsPlan}
 use Rattle.rs_plan.specs.Shapes.{tree_of}
 use Rattle.rs_sample.specs.Kept.{cards_of}
 use Rattle.rs_enum.specs.QueryCards.{AreCards}
@@ -16,7 +19,10 @@ use Rattle.rs_events.proofs.SteppedFacts.{Stepped-no_memory}
 use Rattle.rs_statement.proofs.analyzed.asked_text.Goals as goal
 
 pub start-requires : goal.start-requires
-start-requires g c = record { query = c.requires.query; plan = c.requires.plan }
+start-requires g c = record {
+  query = subst (λ (seen : CatalogDef). IsQuery seen c.args.query) (sym c.current.ensures) c.requires.query;
+  plan = subst (λ (seen : CatalogDef). IsPlan seen c.args.query (tree_of c.args.plan.now)) (sym c.current.ensures) c.requires.plan;
+}
 
 pub returns-in_err-cursor : goal.returns-in_err-cursor
 returns-in_err-cursor g c =
@@ -28,7 +34,7 @@ pub told_text-told-requires : goal.told_text-told-requires
 told_text-told-requires g c =
     let answer = (g.S.Scorer.state c.args.scorer.now).answer in
     let new = c.in_ok-cursor.ensures.new in record {
-      stands = c.in_ok-cursor.ensures.stands answer (held-plan answer c.args.catalog.now c.requires.held (tree_of c.args.plan.now));
+      stands = rw c.current.ensures at c.in_ok-cursor.ensures.stands answer (held-plan answer c.args.catalog.now c.requires.held (tree_of c.args.plan.now));
       cards = subst (λ q. AreCards q (cards_of c.args.cards.now)) (sym new.query_is) c.requires.cards;
       plan = sym new.plan_is;
     }

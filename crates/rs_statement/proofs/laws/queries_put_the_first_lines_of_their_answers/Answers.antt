@@ -6,6 +6,6 @@ returns c =
     let give = c.plans_give_the_answer.ensures.answer in record {
       queries = λ answer sampling catalogue query bound done rest written is split.
           first-of_part _ done rest _ split (first-query give answer sampling catalogue query bound written is);
-      fetches = λ answer sampling state query bound name asked wanted done rest written is split.
-          first-of_part _ done rest _ split (first-fetched give answer sampling state query bound name asked wanted written is);
+      fetches = λ answer sampling state sizes query bound name asked wanted done rest written is split.
+          first-of_part _ done rest _ split (first-fetched give answer sampling state sizes query bound name asked wanted written is);
     }

@@ -1,6 +1,7 @@
 use Rattle.std.proofs.Common.{refl, subst, sym}
 use Rattle.rs_value.proofs.ResultFacts.{given-err}
 use Rattle.rs_syntax.specs.Syntax.{query_of}
+use Rattle.rs_catalog.specs.Catalog.{CatalogDef}
 use Rattle.rs_bind.specs.Queries.{bound_query}
 use Rattle.rs_exec.specs.Asking.{world_of}
 use Rattle.rs_exec.specs.Cursors.{StandsFor}
@@ -36,8 +37,9 @@ returns-in_err-cursor g c =
 
 pub put_all-put-requires : goal.put_all-put-requires
 put_all-put-requires g c = record {
-  stands = rw g.met.W.Host.after_scorer (subst (λ answer. StandsFor c.args.catalog.now answer c.in_ok-cursor.cursor)
-      (sym (c.in_ok-cursor.ensures.calls (g.W.Host.state c.args.host.now)).ran.keeps.scorer.answer) c.in_ok-cursor.ensures.stands);
+  stands = rw g.met.W.Host.after_scorer (subst (λ answer. StandsFor c.current.result answer c.in_ok-cursor.cursor)
+      (sym (c.in_ok-cursor.ensures.calls (g.W.Host.state c.args.host.now)).ran.keeps.scorer.answer)
+      (subst (λ (seen : CatalogDef). StandsFor seen (g.W.Host.state c.args.host.now).scorer.answer c.in_ok-cursor.cursor) (sym c.current.ensures) c.in_ok-cursor.ensures.stands));
 }
 
 pub returns : goal.returns
@@ -52,4 +54,4 @@ returns g c =
     (or_bind_fault (bound_query catalogue (query_of c.args.select.now))) query (Gives-bound _ _ c.in_ok-query.ensures.gives)
     old _ c.put_all-put.result middle sampled
     (Left-new as_they_are (λ first rest. refl) catalogue answer query (plan_for answer catalogue c.args.sampling query) c.in_ok-cursor.cursor c.put_all-put.result middle _
-    (rw c.scorer.ensures.value at c.in_ok-cursor.ensures.starts) sampled.ran.keeps.scorer.answer (rw g.met.W.Host.after_scorer at c.put_all-put.ensures))
+    (rw c.scorer.ensures.value at c.in_ok-cursor.ensures.starts) sampled.ran.keeps.scorer.answer (rw (c.current.ensures, g.met.W.Host.after_scorer) at c.put_all-put.ensures))

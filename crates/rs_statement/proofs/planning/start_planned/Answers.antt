@@ -1,4 +1,7 @@
-use Rattle.std.proofs.Common.{◌≡◌, ◌∙◌}
+use Rattle.std.proofs.Common.{◌≡◌, ◌∙◌, subst, sym}
+use Rattle.rs_catalog.specs.Catalog.{CatalogDef}
+use Rattle.rs_query.specs.WellFormed.{IsQuery}
+use Rattle.rs_plan.specs.Plans.{IsPlan}
 use Rattle.rs_value.proofs.ResultFacts.{given-err}
 use Rattle.rs_exec.proofs.HeldFacts.{held-plan}
 use Rattle.rs_plan.specs.Shapes.{tree_of}
@@ -28,7 +31,10 @@ returns-in-Err-chosen g c = record {
 }
 
 pub start-started-requires : goal.start-started-requires
-start-started-requires g c = record { query = c.requires.formed; plan = c.in-Ok-chosen.ensures.plan }
+start-started-requires g c = record {
+  query = subst (λ (seen : CatalogDef). IsQuery seen c.args.query) (sym c.current.ensures) c.requires.formed;
+  plan = subst (λ (seen : CatalogDef). IsPlan seen c.args.query (tree_of c.in-Ok-chosen.plan)) (sym c.current.ensures) c.in-Ok-chosen.ensures.plan;
+}
 
 pub returns-in_err-started : goal.returns-in_err-started
 returns-in_err-started g c = rw (given-err c.from_residual.result Memory c.from_residual.ensures) (record {
@@ -49,5 +55,5 @@ returns g c =
         plan_is = started.plan_is ∙ c.in-Ok-chosen.ensures.tree (cards_for answer c.args.catalog.now c.args.sampling c.args.query) c.in-Ok.ensures.cards;
         asks_are = started.unasked;
       };
-      stands = c.in_ok-started.ensures.stands answer (held-plan answer c.args.catalog.now c.requires.held (tree_of c.in-Ok-chosen.plan));
+      stands = rw c.current.ensures at c.in_ok-started.ensures.stands answer (held-plan answer c.args.catalog.now c.requires.held (tree_of c.in-Ok-chosen.plan));
     }

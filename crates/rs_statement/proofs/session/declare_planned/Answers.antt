@@ -1,7 +1,11 @@
-use Rattle.std.proofs.Common.{subst, sym}
+use Rattle.std.proofs.Common.{◌≡◌, ℕ, List, subst, sym}
 use Rattle.std.specs.Prelude.{Err, Ok}
 use Rattle.rs_value.proofs.ResultFacts.{given-err}
 use Rattle.rs_syntax.specs.Syntax.{query_of}
+use Rattle.rs_catalog.specs.Catalog.{CatalogDef}
+use Rattle.rs_catalog.specs.Snapshot.{HaveRows, sizes_in, snapshot}
+use Rattle.rs_catalog.proofs.SnapshotFacts.{HaveRows-all, snapshot-all}
+use Rattle.rs_exec.specs.Cursors.{StandsFor}
 use Rattle.rs_statement.specs.Parts.Session.{CanAllBeAsked, state_of}
 use Rattle.rs_statement.specs.Planned.{plan_for}
 use Rattle.rs_statement.specs.Sampled.{sample_step}
@@ -42,17 +46,29 @@ returns-in_err-cursor g c =
           let new = record beside { scorer = g.S.Scorer.state c.start_planned.new.scorer } in
           Stepped-bound (opened_step (Planned c.args.sampling) answer name.text state) (declared_query state name (query_of c.args.select.now)) query state (Err c.in_err-cursor.field-0.0) old new
           c.in_ok-query.ensures.gives
-          (Stepped-broken (sample_step catalogue c.args.sampling query) (still (Ok (with_cursor name.text (ByPlan query (plan_for answer catalogue c.args.sampling query)) state))) c.in_err-cursor.field-0.0
+          (Stepped-broken (sample_step catalogue c.args.sampling query) (still (Ok (with_cursor name.text (ByPlan query (plan_for answer catalogue c.args.sampling query) (sizes_in catalogue)) state))) c.in_err-cursor.field-0.0
           catalogue state old new (c.in_err-cursor.ensures.calls beside));
       asked = tt;
     })
 
-pub returns-in_err-open : goal.returns-in_err-open
-returns-in_err-open g c =
+-- the sample was taken, and then there was no memory for the sizes of the tables, or for the name
+pub returns-in-Err : goal.returns-in-Err
+returns-in-Err g c =
+    let answer = (g.S.Scorer.state c.args.scorer.now).answer in
+    let catalogue = c.args.catalog.now in
+    let state = state_of catalogue c.args.session.now.cursors.entries in record {
+      opens = λ beside. Opened-cut answer c.args.sampling c.args.name.now state (query_of c.args.select.now) c.in_ok-query.query state
+          (record beside { scorer = g.S.Scorer.state c.args.scorer.now }) (record beside { scorer = g.S.Scorer.state c.start_planned.new.scorer }) c.in_ok-query.ensures.gives
+          (c.in_ok-cursor.ensures.calls beside);
+      asked = tt;
+    }
+
+pub returns-in_err-open-in-Ok : goal.returns-in_err-open-in-Ok
+returns-in_err-open-in-Ok g c =
     let answer = (g.S.Scorer.state c.args.scorer.now).answer in
     let catalogue = c.args.catalog.now in
     let state = state_of catalogue c.args.session.now.cursors.entries in
-    rw (given-err c.from_residual-in_err-open.result Memory c.from_residual-in_err-open.ensures) (record {
+    rw (given-err c.from_residual-in_err-open-in-Ok.result Memory c.from_residual-in_err-open-in-Ok.ensures) (record {
       opens = λ beside. Opened-cut answer c.args.sampling c.args.name.now state (query_of c.args.select.now) c.in_ok-query.query (state_of catalogue c.open.new.session.cursors.entries)
           (record beside { scorer = g.S.Scorer.state c.args.scorer.now }) (record beside { scorer = g.S.Scorer.state c.start_planned.new.scorer }) c.in_ok-query.ensures.gives
           (c.in_ok-cursor.ensures.calls beside);
@@ -69,11 +85,18 @@ returns g c =
     let query = c.in_ok-query.query in
     let cursor = c.in_ok-cursor.cursor in
     let left = c.open.new.session.cursors.entries in
-    let opened = c.in_ok-open.ensures.ok in record {
+    let sizes = c.in-Ok.sizes in
+    let sizes_are = c.in-Ok.ensures in
+    let at = c.in_ok-cursor.ensures.starts in
+    let opened = c.in_ok-open-in-Ok.ensures.ok in record {
       opens = λ beside. Opened-planned answer c.args.sampling name state (query_of c.args.select.now) query (state_of catalogue left)
           (record beside { scorer = g.S.Scorer.state c.args.scorer.now }) (record beside { scorer = g.S.Scorer.state c.start_planned.new.scorer }) c.in_ok-query.ensures.gives
           (c.in_ok-cursor.ensures.calls beside)
-          (opened-planned catalogue entries left name.text cursor query (plan_for answer catalogue c.args.sampling query) opened c.in_ok-cursor.ensures.starts);
+          (opened-planned catalogue entries left name.text (held.Asked cursor sizes) query (plan_for answer catalogue c.args.sampling query) (sizes_in catalogue) opened
+          (λ i. ByPlan (at.query_is i) (at.plan_is i) (sizes_are i)) at.asks_are);
       asked = subst (CanAllBeAsked answer catalogue) (sym opened)
-          (asked-append answer catalogue entries name.text (held.Asked cursor) c.requires.asked c.in_ok-cursor.ensures.stands);
+          (asked-append answer catalogue entries name.text (held.Asked cursor sizes) c.requires.asked
+          (subst (λ (s : List ℕ). HaveRows s catalogue.tables) (sym sizes_are) (HaveRows-all catalogue.tables),
+          subst (λ (s : List ℕ). StandsFor (snapshot s catalogue) answer cursor) (sym sizes_are)
+          (subst (λ (seen : CatalogDef). StandsFor seen answer cursor) (sym (snapshot-all answer catalogue c.requires.held)) c.in_ok-cursor.ensures.stands)));
     }

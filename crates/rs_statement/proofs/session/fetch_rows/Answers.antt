@@ -1,8 +1,10 @@
-use Rattle.std.proofs.Common.{◌≡◌, ◌≤◌, ◌+◌, arith, drop, length, refl, suc, subst, sym, take}
+use Rattle.std.proofs.Common.{◌≡◌, ◌∙◌, ◌≤◌, ◌+◌, ℕ, List, ap, arith, drop, length, refl, suc, subst, sym, take}
 use Rattle.std.specs.Prelude.{IfOk}
-use Rattle.rs_exec.specs.Cursors.{asks_of}
+use Rattle.rs_catalog.specs.Catalog.{CatalogDef}
+use Rattle.rs_catalog.specs.Snapshot.{HaveRows, snapshot}
+use Rattle.rs_exec.specs.Cursors.{StandsFor, asks_of}
 use Rattle.rs_statement.specs.Lines.{rank_lines}
-use Rattle.rs_statement.specs.Parts.Session.{IsAskedMore, asked_of, next_of, next_of_cursor, rows_step, source_of}
+use Rattle.rs_statement.specs.Parts.Session.{IsAskedMore, asked_of, next_of, next_of_cursor, rows_step, source_of, wanted_step}
 use Rattle.rs_statement.specs.Parts.Steps.{Ran, Stepped}
 use Rattle.rs_events.specs.Run.{lines_run}
 use Rattle.rs_statement.specs.Session.{ByPlan, next_rows}
@@ -11,8 +13,14 @@ use Rattle.rs_statement.proofs.SessionSteps.{if-ok-map}
 use Rattle.rs_events.proofs.SteppedFacts.{Stepped-lines}
 use Rattle.rs_statement.proofs.session.fetch_rows.Goals as goal
 
+pub of-seen-requires : goal.of-seen-requires
+of-seen-requires g c = subst (λ (sizes : List ℕ). HaveRows sizes c.args.catalog.now.tables) (sym c.as_slice.ensures.value) (rw c.in-Asked.is at c.requires).0
+
 pub fetch_asked-requires : goal.fetch_asked-requires
-fetch_asked-requires g c = rw c.in-Asked.is at c.requires
+fetch_asked-requires g c =
+    let answer = (g.W.Host.state c.args.host.now).scorer.answer in
+    let seen_is = c.of-seen.ensures ∙ ap (λ (sizes : List ℕ). snapshot sizes c.args.catalog.now) c.as_slice.ensures.value in
+    subst (λ (seen : CatalogDef). StandsFor seen answer c.in-Asked.cursor) (sym seen_is) (rw c.in-Asked.is at c.requires).1
 
 pub returns-in-Asked : goal.returns-in-Asked
 returns-in-Asked g c =
@@ -20,15 +28,23 @@ returns-in-Asked g c =
     let catalogue = c.args.catalog.now in
     let count = c.args.count in
     let cursor = c.in-Asked.cursor in
+    let sizes = c.in-Asked.sizes in
+    let seen = snapshot sizes.items catalogue in
+    let seen_is = c.of-seen.ensures ∙ ap (λ (sizes : List ℕ). snapshot sizes catalogue) c.as_slice.ensures.value in
     let next = c.fetch_asked.new.cursor in
     let result = c.fetch_asked.result in
-    let asks = next_of_cursor catalogue answer cursor count in record {
-      puts = rw c.in-Asked.is c.fetch_asked.ensures.puts;
-      source = if-ok-map result (IsAskedMore cursor asks next) (source_of (held.Asked next) ≡ source_of c.args.held.now)
-          (λ more. subst (λ kept. source_of (held.Asked next) ≡ source_of kept) (sym c.in-Asked.is) (λ i. ByPlan (more.query_is i) (more.plan_is i))) c.fetch_asked.ensures.count;
+    let old = g.W.Host.state c.args.host.now in
+    let new = g.W.Host.state c.fetch_asked.new.host in
+    let asks = next_of_cursor seen answer cursor count in
+    let counted = subst (λ (s : CatalogDef). IfOk result (λ _. IsAskedMore cursor (next_of_cursor s answer cursor count) next)) seen_is c.fetch_asked.ensures.count in
+    let have = (rw c.in-Asked.is at c.requires).0 in record {
+      puts = rw c.in-Asked.is (subst (λ (s : CatalogDef). Stepped (λ step. step ≡ wanted_step s answer cursor count) s result old new) seen_is c.fetch_asked.ensures.puts);
+      source = if-ok-map result (IsAskedMore cursor asks next) (source_of (held.Asked next sizes) ≡ source_of c.args.held.now)
+          (λ more. subst (λ kept. source_of (held.Asked next sizes) ≡ source_of kept) (sym c.in-Asked.is) (λ i. ByPlan (more.query_is i) (more.plan_is i) sizes.items)) counted;
       count = if-ok-map result (IsAskedMore cursor asks next) (asks_of next ≡ asked_of c.args.held.now + next_of catalogue answer c.args.held.now count)
-          (λ more. subst (λ kept. asks_of next ≡ asked_of kept + next_of catalogue answer kept count) (sym c.in-Asked.is) more.asks_are) c.fetch_asked.ensures.count;
-      asked = c.fetch_asked.ensures.stands;
+          (λ more. subst (λ kept. asks_of next ≡ asked_of kept + next_of catalogue answer kept count) (sym c.in-Asked.is) more.asks_are) counted;
+      asked = if-ok-map result (StandsFor seen answer next) (HaveRows sizes.items catalogue.tables × StandsFor seen answer next) (λ stands. (have, stands))
+          (subst (λ (s : CatalogDef). IfOk result (λ _. StandsFor s answer next)) seen_is c.fetch_asked.ensures.stands);
     }
 
 pub fetch_ready-requires : goal.fetch_ready-requires

@@ -1,10 +1,10 @@
 -- The first row that passes is given; those before it are drawn and let go.
-use Rattle.std.proofs.Common.{◌≡◌, ◌∙◌, ◌+◌, Some, None, sym, ap, subst}
+use Rattle.std.proofs.Common.{◌≡◌, ◌∙◌, ◌+◌, Some, None, sym, ap, subst, rules}
 use Rattle.std.proofs.lemmas.Option.{none-some}
 use Rattle.rs_scan.specs.Scans.{IndexScan, rows_of_index}
 use Rattle.rs_exec.specs.Drawing.{passes}
 use Rattle.rs_exec.specs.declared.scan.IndexNode.{IndexNode}
-use Rattle.rs_exec.proofs.NextFacts.{NonePassed, ended, entry-inside, entry-passes, entry-rows, index-drew, index-ended, index-gave, index-goes_on, index-nearer, index-place, index-row, index-stayed, index-there, index-view, none-more, passed}
+use Rattle.rs_exec.proofs.NextFacts.{NonePassed, ended, entry-inside, entry-passes, entry-rows, index-begins, index-drew, index-ended, index-gave, index-goes_on, index-last, index-nearer, index-place, index-row, index-stayed, index-there, index-view, none-more, passed}
 use Rattle.rs_exec.proofs.scan.IndexNode.next.Goals as goal
 
 pub passes-requires-clause-inside : goal.passes-requires-clause-inside
@@ -34,6 +34,15 @@ next-requires-clause-index c = index-there c.args.context.now.catalog.now c.args
 
 pub next-requires-clause-view : goal.next-requires-clause-view
 next-requires-clause-view c = index-view c.args.context.now.catalog.now c.args.self.now c.loop-row.self c.loop-row.invariant.self_is c.requires.view
+
+pub next-requires-clause-last : goal.next-requires-clause-last
+next-requires-clause-last c = index-last c.args.context.now.catalog.now c.args.self.now c.loop-row.self c.loop-row.invariant.self_is
+
+pub loop-row-init : goal.loop-row-init
+loop-row-init c = record {
+  none = search rules;
+  self_is = index-begins c.args.context.now.catalog.now c.args.self.now c.ask.new.self c.requires.last c.ask.ensures;
+}
 
 pub returns-then-passes-clause-row : goal.returns-then-passes-clause-row
 returns-then-passes-clause-row c =

@@ -14,7 +14,7 @@ use Rattle.rs_query.proofs.block.Block.numbers.Goals as goal
 
 pub unreachable-requires : goal.unreachable-requires
 unreachable-requires c =
-    let table = IsOf-table c.args.catalog.now c.args.self.now c.args.column c.table-table.result.now c.table-table.ensures in
+    let table = IsOf-table c.args.catalog.now c.args.self.now c.args.column c.table-table.result c.table-table.ensures in
     let typed = table.typed kind.Int c.requires.kind in
     false≢true (subst (λ k. fits k (value.Text c.in-Text.field-0.now) ≡ true) typed.2 (c.in-Text.ensures.fits typed.0 typed.1))
 
@@ -27,6 +27,6 @@ loop-row-preserved c =
     record {
       sized = ap length pushed ∙ length_push c.loop-row.numbers.items c.in-Number.number ∙ ap (λ n. n + 1) old.sized;
       values = values-push value.Int (cell_of c.args.catalog.now c.args.self.now c.args.column) c.loop-row.numbers.items c.push.new.self.items c.in-Number.number c.loop-row.row old.sized pushed
-          (cell_of-value c.args.catalog.now c.args.self.now c.args.column (c.loop-row.row + 1) c.table-table.result.now (value.Int c.in-Number.number) c.table-table.ensures c.in-Number.ensures.cell)
+          (cell_of-value c.args.catalog.now c.args.self.now c.args.column (c.loop-row.row + 1) c.table-table.result (value.Int c.in-Number.number) c.table-table.ensures c.in-Number.ensures.cell)
           old.values;
     }

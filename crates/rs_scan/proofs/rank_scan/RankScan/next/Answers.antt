@@ -1,40 +1,99 @@
--- All entries are in the view, so the row behind those that were given is that of the entry at its place, and there is none
--- behind the last.
-use Rattle.std.proofs.Common.{◌≡◌, ◌∙◌, ◌+◌, ◌-◌, Some, None, sym, ap, subst, arith}
-use Rattle.std.specs.Prelude.{option_map, slice_get}
-use Rattle.std.proofs.lemmas.Option.{slice_get-map, slice_get_past}
-use Rattle.rs_rank.specs.declared.scored_row.ScoredRow.{ScoredRow}
-use Rattle.rs_catalog.specs.Indexes.{IsRanking, predicate_for, ranking_at}
-use Rattle.rs_scan.specs.Scans.{IndexScan, IsOfAllRows, entries_in, index_rows, entry_row, rows_of_index, scored}
-use Rattle.rs_scan.proofs.IndexFacts.{entries_in-ranking, index-count}
+-- The entry behind the one that was drawn last is the first one that wasn't drawn, and there is none where all were drawn.
+use Rattle.std.proofs.Common.{◌≡◌, ◌∙◌, ◌+◌, ◌-◌, ◌*◌, ◌≤◌, Some, None, get_or, min, sym, ap, subst, arith}
+use Rattle.std.specs.Prelude.{slice_get}
+use Rattle.rs_rank.specs.declared.row.RankRow.{RankRow}
+use Rattle.rs_catalog.specs.Indexes.{ranking_at}
+use Rattle.rs_scan.specs.Scans.{IndexScan, IsOfAllRows, entry_row, last_at, rows_of_index, scan_at, scored}
+use Rattle.rs_scan.proofs.LastFacts.{after-found, after-over, number-scored, row-found, row-over, scan-found, scan-over}
 use Rattle.rs_scan.proofs.rank_scan.RankScan.next.Goals as goal
 
-pub returns-then-self-clause-row : goal.returns-then-self-clause-row
-returns-then-self-clause-row c =
-    let scan = c.self.inside in
+pub returns-in_err-score-clause-row : goal.returns-in_err-score-clause-row
+returns-in_err-score-clause-row c =
+    let m = c.self.inside in
     let catalogue = c.args.catalog.now in
-    let ranking = ranking_at catalogue scan.index in
-    let max = (predicate_for catalogue c.index.result.now).max in
-    let whole = subst (λ (s : IndexScan). IsOfAllRows catalogue s) (sym c.self.view_is) c.requires.view c.index.result.now c.index.ensures.value in
-    let is : IsRanking scan.rows max ranking = subst (λ size. IsRanking size max ranking) (sym whole) c.index.ensures.ranking in
-    let count = index-count scan.block scan.entry scan.weight scan.rows max ranking is in
-    subst (λ (s : IndexScan). None ≡ slice_get (rows_of_index catalogue s) s.drawn) c.self.view_is
-    (sym (slice_get_past (index_rows scan.block scan.entry scan.weight scan.rows ranking) scan.drawn (omega (arith, count, c.if-self.true))))
+    let scan : IndexScan = record { index = m.index; entry = m.entry; block = m.block; weight = m.weight; rows = m.rows; drawn = m.drawn; last = m.last } in
+    let view = subst (λ (s : IndexScan). IsOfAllRows catalogue s) (sym c.self.view_is) c.requires.view in
+    let was = subst (λ (s : IndexScan). s.last ≡ last_at (ranking_at catalogue s.index) s.drawn) (sym c.self.view_is) c.requires.last in
+    c.from_residual.ensures ∙ sym (subst (λ (s : IndexScan). slice_get (rows_of_index catalogue s) s.drawn ≡ None) c.self.view_is (row-over catalogue scan c.index.result.now c.index_after.result c.self.invariant.within view c.index.ensures.value c.index.ensures.ranking was c.index_after.ensures c.in_err-score.was))
+
+pub returns-in_err-score-clause-end : goal.returns-in_err-score-clause-end
+returns-in_err-score-clause-end c =
+    let m = c.self.inside in
+    let catalogue = c.args.catalog.now in
+    let scan : IndexScan = record { index = m.index; entry = m.entry; block = m.block; weight = m.weight; rows = m.rows; drawn = m.drawn; last = m.last } in
+    let view = subst (λ (s : IndexScan). IsOfAllRows catalogue s) (sym c.self.view_is) c.requires.view in
+    let was = subst (λ (s : IndexScan). s.last ≡ last_at (ranking_at catalogue s.index) s.drawn) (sym c.self.view_is) c.requires.last in
+    let end = scan-over catalogue scan c.index.result.now c.index_after.result c.self.invariant.within view c.index.ensures.value c.index.ensures.ranking was c.index_after.ensures c.in_err-score.was in
+    (λ is. subst (λ (s : IndexScan). s.drawn ≡ s.rows) c.self.view_is end, λ is. c.from_residual.ensures)
+
+pub returns-in_err-score-clause-after : goal.returns-in_err-score-clause-after
+returns-in_err-score-clause-after c =
+    let m = c.self.inside in
+    let catalogue = c.args.catalog.now in
+    let scan : IndexScan = record { index = m.index; entry = m.entry; block = m.block; weight = m.weight; rows = m.rows; drawn = m.drawn; last = m.last } in
+    let view = subst (λ (s : IndexScan). IsOfAllRows catalogue s) (sym c.self.view_is) c.requires.view in
+    let was = subst (λ (s : IndexScan). s.last ≡ last_at (ranking_at catalogue s.index) s.drawn) (sym c.self.view_is) c.requires.last in
+    subst (λ (s : IndexScan). s ≡ scan_at catalogue (min (s.drawn + 1) s.rows) s) c.self.view_is (after-over catalogue scan c.index.result.now c.index_after.result c.self.invariant.within view c.index.ensures.value c.index.ensures.ranking was c.index_after.ensures c.in_err-score.was)
+
+pub overflow_add-self : goal.overflow_add-self
+overflow_add-self c =
+    let m = c.self.inside in
+    let catalogue = c.args.catalog.now in
+    let scan : IndexScan = record { index = m.index; entry = m.entry; block = m.block; weight = m.weight; rows = m.rows; drawn = m.drawn; last = m.last } in
+    let view = subst (λ (s : IndexScan). IsOfAllRows catalogue s) (sym c.self.view_is) c.requires.view in
+    let was = subst (λ (s : IndexScan). s.last ≡ last_at (ranking_at catalogue s.index) s.drawn) (sym c.self.view_is) c.requires.last in
+    let less = (scan-found catalogue scan c.index.result.now c.index_after.result c.self.invariant.within view c.index.ensures.value c.index.ensures.ranking was c.index_after.ensures c.in_ok-score.score c.in_ok-score.row c.in_ok-score.was).less in
+    omega arith
+
+pub invariant_of-self : goal.invariant_of-self
+invariant_of-self c =
+    let m = c.self.inside in
+    let catalogue = c.args.catalog.now in
+    let scan : IndexScan = record { index = m.index; entry = m.entry; block = m.block; weight = m.weight; rows = m.rows; drawn = m.drawn; last = m.last } in
+    let view = subst (λ (s : IndexScan). IsOfAllRows catalogue s) (sym c.self.view_is) c.requires.view in
+    let was = subst (λ (s : IndexScan). s.last ≡ last_at (ranking_at catalogue s.index) s.drawn) (sym c.self.view_is) c.requires.last in
+    let less = (scan-found catalogue scan c.index.result.now c.index_after.result c.self.invariant.within view c.index.ensures.value c.index.ensures.ranking was c.index_after.ensures c.in_ok-score.score c.in_ok-score.row c.in_ok-score.was).less in
+    record { entry_number = c.self.invariant.entry_number; within = omega arith }
 
 pub returns-clause-row : goal.returns-clause-row
 returns-clause-row c =
-    let scan = c.self.inside in
+    let m = c.self.inside in
     let catalogue = c.args.catalog.now in
-    let ranking = ranking_at catalogue scan.index in
-    let max = (predicate_for catalogue c.index.result.now).max in
-    let whole = subst (λ (s : IndexScan). IsOfAllRows catalogue s) (sym c.self.view_is) c.requires.view c.index.result.now c.index.ensures.value in
-    let is : IsRanking scan.rows max ranking = subst (λ size. IsRanking size max ranking) (sym whole) c.index.ensures.ranking in
-    let entry : ScoredRow = record { score = c.index_row-score.result.0; row = c.index_row-score.result.1 } in
-    let place : scan.drawn + 1 - 1 ≡ scan.drawn = omega arith in
-    let there : slice_get ranking scan.drawn ≡ Some entry = ap (slice_get ranking) (sym place) ∙ c.index_row-score.ensures.entry in
-    let made : c.row_of.result ≡ scored scan.block scan.entry scan.weight entry =
-    c.row_of.ensures ∙ ap (entry_row scan.block scan.entry entry.row) c.share-sum.ensures in
-    subst (λ (s : IndexScan). Some c.row_of.result ≡ slice_get (rows_of_index catalogue s) s.drawn) c.self.view_is
-    (ap Some made
-    ∙ sym (slice_get-map (scored scan.block scan.entry scan.weight) (entries_in scan.rows ranking) scan.drawn
-    ∙ ap (option_map (scored scan.block scan.entry scan.weight)) (ap (λ entries. slice_get entries scan.drawn) (entries_in-ranking scan.rows max ranking is) ∙ there)))
+    let scan : IndexScan = record { index = m.index; entry = m.entry; block = m.block; weight = m.weight; rows = m.rows; drawn = m.drawn; last = m.last } in
+    let view = subst (λ (s : IndexScan). IsOfAllRows catalogue s) (sym c.self.view_is) c.requires.view in
+    let was = subst (λ (s : IndexScan). s.last ≡ last_at (ranking_at catalogue s.index) s.drawn) (sym c.self.view_is) c.requires.last in
+    let made : c.row_of.result ≡ scored scan.block scan.entry scan.weight (record { score = c.in_ok-score.score; row = c.in_ok-score.row }) =
+    c.row_of.ensures ∙ ap (entry_row scan.block scan.entry c.in_ok-score.row) c.share-sum.ensures in
+    subst (λ (s : IndexScan). Some c.row_of.result ≡ slice_get (rows_of_index catalogue s) s.drawn) c.self.view_is (ap Some made ∙ sym (row-found catalogue scan c.index.result.now c.index_after.result c.self.invariant.within view c.index.ensures.value c.index.ensures.ranking was c.index_after.ensures c.in_ok-score.score c.in_ok-score.row c.in_ok-score.was))
+
+pub returns-clause-number : goal.returns-clause-number
+returns-clause-number c =
+    let m = c.self.inside in
+    let catalogue = c.args.catalog.now in
+    let scan : IndexScan = record { index = m.index; entry = m.entry; block = m.block; weight = m.weight; rows = m.rows; drawn = m.drawn; last = m.last } in
+    let view = subst (λ (s : IndexScan). IsOfAllRows catalogue s) (sym c.self.view_is) c.requires.view in
+    let was = subst (λ (s : IndexScan). s.last ≡ last_at (ranking_at catalogue s.index) s.drawn) (sym c.self.view_is) c.requires.last in
+    let some = (scan-found catalogue scan c.index.result.now c.index_after.result c.self.invariant.within view c.index.ensures.value c.index.ensures.ranking was c.index_after.ensures c.in_ok-score.score c.in_ok-score.row c.in_ok-score.was).some in
+    let made : c.row_of.result ≡ scored scan.block scan.entry scan.weight (record { score = c.in_ok-score.score; row = c.in_ok-score.row }) =
+    c.row_of.ensures ∙ ap (entry_row scan.block scan.entry c.in_ok-score.row) c.share-sum.ensures in
+    let place = ap (λ (r : RankRow). get_or r.ids.rows (scan.entry - 1) 0) made ∙ number-scored scan.block scan.entry c.in_ok-score.row (scan.weight * c.in_ok-score.score) c.self.invariant.entry_number in
+    subst (λ (s : IndexScan). 1 ≤ get_or c.row_of.result.ids.rows (s.entry - 1) 0) c.self.view_is (omega (arith, place, some))
+
+pub returns-clause-end : goal.returns-clause-end
+returns-clause-end c =
+    let m = c.self.inside in
+    let catalogue = c.args.catalog.now in
+    let scan : IndexScan = record { index = m.index; entry = m.entry; block = m.block; weight = m.weight; rows = m.rows; drawn = m.drawn; last = m.last } in
+    let view = subst (λ (s : IndexScan). IsOfAllRows catalogue s) (sym c.self.view_is) c.requires.view in
+    let was = subst (λ (s : IndexScan). s.last ≡ last_at (ranking_at catalogue s.index) s.drawn) (sym c.self.view_is) c.requires.last in
+    let less = (scan-found catalogue scan c.index.result.now c.index_after.result c.self.invariant.within view c.index.ensures.value c.index.ensures.ranking was c.index_after.ensures c.in_ok-score.score c.in_ok-score.row c.in_ok-score.was).less in
+    (λ is. absurd cc, λ is. absurd (let same = subst (λ (s : IndexScan). s.drawn ≡ s.rows) (sym c.self.view_is) is in omega arith))
+
+pub returns-clause-after : goal.returns-clause-after
+returns-clause-after c =
+    let m = c.self.inside in
+    let catalogue = c.args.catalog.now in
+    let scan : IndexScan = record { index = m.index; entry = m.entry; block = m.block; weight = m.weight; rows = m.rows; drawn = m.drawn; last = m.last } in
+    let view = subst (λ (s : IndexScan). IsOfAllRows catalogue s) (sym c.self.view_is) c.requires.view in
+    let was = subst (λ (s : IndexScan). s.last ≡ last_at (ranking_at catalogue s.index) s.drawn) (sym c.self.view_is) c.requires.last in
+    subst (λ (s : IndexScan). record scan { drawn = scan.drawn + 1; last = Some (c.in_ok-score.score, c.in_ok-score.row) } ≡ scan_at catalogue (min (s.drawn + 1) s.rows) s) c.self.view_is (after-found catalogue scan c.index.result.now c.index_after.result c.self.invariant.within view c.index.ensures.value c.index.ensures.ranking was c.index_after.ensures c.in_ok-score.score c.in_ok-score.row c.in_ok-score.was)
