@@ -1,8 +1,9 @@
 #!/usr/bin/env python3
-"""Works out what the words `run` and `plain` do in the cases of the program cases_runs whose scripts it can read, from the definitions.
+"""Works out what the words `top`, `run`, `plain` and `gen` do in the cases of the program cases_runs whose files it can read, from the definitions.
 
 Queries, their plans and their calls are those of queries.py. The cases that it can't read stay as they are: those in which a
-name, a type or a file is refused, and those of other words. This makes the cases anew, at the top of the repository:
+name, a type or a file of a script is refused, and words of no form. Of refused scripts it reads those that pass a limit or
+aren't UTF-8. This makes the cases anew, at the top of the repository:
 
     cases=crates/cases_runs
     python3 checks/runs.py <$cases/stdout >cases.new && mv cases.new $cases/stdout && grep -v '^  ' $cases/stdout >$cases/stdin
@@ -27,8 +28,19 @@ from generated import generated
 from queries import Ended, Unread, Words, either, listed, read_query, total, value
 
 MOST_CURSORS = 64
+MOST_TABLES = 16
+MOST_PREDICATES = 64
+MOST_COLUMNS = 64
+MOST_ROWS = 131_072
+MOST_NUMBER = 4 * 10**18
+MOST_OF_A_FILE = 1 << 25
+MOST_OF_A_SCRIPT = 1 << 20
+MOST_TOKENS = 100_000
+MOST_STATEMENTS = 1_000
+MOST_DEPTH = 255
 
 sys.setrecursionlimit(5000)  # for formulas as deep as may be
+csv.field_size_limit(MOST_OF_A_FILE)
 
 # ---- runs
 
@@ -45,6 +57,40 @@ class Predicate:
 
 def read_cell(kind, cell):
     return int(cell) if kind.startswith("INT") else cell
+
+
+def bytes_of(text):
+    return text.encode(errors="surrogateescape")
+
+
+def line_of(cells):
+    line = io.StringIO()
+    csv.writer(line, lineterminator="\n").writerow(cells)
+    return line.getvalue()
+
+
+def refusal(text):
+    """What a script is refused for, where it isn't UTF-8 or passes a limit of its words or statements."""
+    try:
+        bytes_of(text).decode()
+    except UnicodeDecodeError as error:
+        return f"NotUtf8 at {error.start}"
+    count = 0
+    for token in re.finditer(r"'(?:[^']|'')*'|\w+|<=|>=|<>|[-+*/(),.;=<>]", text):
+        count += 1
+        if token[0].isdigit() and int(token[0]) > MOST_NUMBER:
+            return f"lex NumberTooWide at {token.start()}"
+        if count > MOST_TOKENS:
+            return f"lex TooManyTokens at {token.start()}"
+    for number, (place, part) in enumerate(statements(text), 1):
+        if number > MOST_STATEMENTS:
+            return f"parse TooManyStatements at {place}"
+        depth = 0
+        for sign in re.finditer(r"[()]", part):
+            depth += 1 if sign[0] == "(" else -1
+            if depth > MOST_DEPTH:
+                return f"parse TooDeep at {place + sign.start()}"
+    return None
 
 
 class Run:
@@ -76,9 +122,19 @@ class Run:
             raise Ended("Write", "write")
         self.put += text
 
-    def bad(self, predicate, rows, got):
+    def bad(self, predicate, rows, got, most=None):
         rows = " ".join(str(row) for row in rows)
-        raise Ended("BadScore", f"score: {predicate} rows {rows}: {got} is not in 0..{self.predicates[predicate].most}")
+        raise Ended("BadScore", f"score: {predicate} rows {rows}: {got} is not in 0..{most or self.predicates[predicate].most}")
+
+    def fetch(self, name, most):
+        self.fetched.append(name)
+        if len(self.fetched) == self.fails.get("fetch"):
+            raise Ended("Read", f"read: {name}: failed")
+        if name not in self.files:
+            raise Ended("Read", f"read: {name}: missing")
+        if len(bytes_of(self.files[name])) > most:
+            raise Ended("Read", f"read: {name}: too long")
+        return self.files[name]
 
     def sample(self, query):
         begun = len(self.made)
@@ -123,16 +179,14 @@ class Run:
         for ask in range(begun + 1, end + 1):
             row = self.row_of(query, ask)
             if row is not None:
-                line = io.StringIO()
-                csv.writer(line, lineterminator="\n").writerow([ask, query.score(row), *query.outputs(row)])
-                self.write(line.getvalue())
+                self.write(line_of([ask, query.score(row), *query.outputs(row)]))
         return end
 
-    def statement(self, words, number):
+    def statement(self, words, place):
         if words.skip("CREATE", "TABLE"):
-            self.create_table(words)
+            self.create_table(words, place)
         elif words.skip("CREATE", "PREDICATE"):
-            self.create_predicate(words)
+            self.create_predicate(words, place)
         elif words.skip("CREATE", "RANK", "INDEX"):
             self.create_index(words)
         elif words.skip("EXPLAIN"):
@@ -179,16 +233,17 @@ class Run:
             raise Ended("Session", f"session: Unknown {name}")
         return name
 
-    def create_table(self, words):
+    def create_table(self, words, place):
         name = words.take()
         words.want("(")
         columns = listed(words, lambda w: (w.take(), w.take()))
         words.want(")", "FROM")
         file = words.take()[1:-1]
-        if name in self.tables or file not in self.files:
+        if name in self.tables:
             raise Unread
-        self.fetched.append(file)
-        header, *rows = [row for row in csv.reader(io.StringIO(self.files[file])) if row] or [[]]
+        if len(self.tables) == MOST_TABLES:
+            raise Ended("Script", f"script: catalogue Full at {place + len('CREATE TABLE ')}")
+        header, *rows = records(self.fetch(file, MOST_OF_A_FILE)) or [[]]
         if header != [column for column, _ in columns] or any(len(row) != len(columns) for row in rows):
             raise Unread
         try:
@@ -196,7 +251,7 @@ class Run:
         except ValueError as not_a_number:
             raise Unread from not_a_number
 
-    def create_predicate(self, words):
+    def create_predicate(self, words, place):
         name = words.take()
         words.want("(")
         params = [param for param, _ in listed(words, lambda w: (w.take(), w.take()))]
@@ -206,6 +261,8 @@ class Run:
         words.want("AS")
         if name in self.predicates:
             raise Unread
+        if len(self.predicates) == MOST_PREDICATES:
+            raise Ended("Script", f"script: catalogue Full at {place + len('CREATE PREDICATE ')}")
         self.predicates[name] = Predicate(params, most, cost, either(words))
 
     def create_index(self, words):
@@ -231,29 +288,75 @@ class Run:
         self.indexed += len(table.rows)
         self.indexes.add((name, predicate, tuple(places)))
 
-    def script(self, text):
-        self.fetched.append("s.sql")
-        return self.told(text)
+    def script(self, name):
+        text = re.sub("--[^\n]*", "", self.fetch(name, MOST_OF_A_SCRIPT).removeprefix("\ufeff"))
+        refused = refusal(text)
+        if refused:
+            raise Ended("Script", f"script: {refused}")
+        self.statements(text)
 
-    def told(self, text):
-        status, error = "Done", None
+    def statements(self, text):
+        for place, part in statements(text):
+            words = Words(part)
+            self.statement(words, place)
+            if words.next() is not None:
+                raise Unread
+
+    def top(self, name, column, most, wanted):
         try:
-            for number, part in enumerate(statements(text), 1):
-                words = Words(part)
-                self.statement(words, number)
-                if words.next() is not None:
-                    raise Unread
+            header, *rows = records(self.fetch(name, MOST_OF_A_FILE))
+        except ValueError:
+            raise Ended("Table", f"table: {name}: NoHeader") from None
+        if len(header) > MOST_COLUMNS:
+            raise Ended("Table", f"table: {name}: TooManyColumns found {len(header)}")
+        for place, field in enumerate(header, 1):
+            self.want_utf8(name, field, 0, place)
+        if column not in header:
+            raise Ended("Table", f"table: {name}: NoColumn")
+        chosen = header.index(column)
+        for number, row in enumerate(rows, 1):
+            if number > MOST_ROWS:
+                raise Ended("Table", f"table: {name}: TooManyRows")
+            if len(row) != len(header):
+                raise Ended("Table", f"table: {name}: FieldCount row {number} found {len(row)}")
+            for place, field in enumerate(row):
+                if place != chosen:
+                    self.want_utf8(name, field, number, place + 1)
+                elif not re.fullmatch("[-+]?[0-9]+", field) or abs(int(field)) > MOST_NUMBER:
+                    raise Ended("Table", f"table: {name}: NotInt row {number} column {place + 1}")
+            row[chosen] = int(row[chosen])
+        for number, row in enumerate(rows, 1):
+            if not 0 <= row[chosen] <= most:
+                self.bad(column, [number], row[chosen], most)
+        best = sorted(rows, key=lambda row: -row[chosen])[:wanted]
+        for rank, row in enumerate(best, 1):
+            self.write(line_of([rank, row[chosen], *row]))
+
+    def want_utf8(self, name, field, row, column):
+        try:
+            bytes_of(field).decode()
+        except UnicodeDecodeError:
+            raise Ended("Table", f"table: {name}: NotUtf8 row {row} column {column}") from None
+
+    def told(self, task, *words):
+        """The lines that tell of a task: how it ended, what was put, the calls and the fetches."""
+        status, error = "Done", ""
+        try:
+            task(*words)
         except Ended as end:
-            status, error = end.args
+            status, error = end.args[0], end.args[1] + "\n"
+        number, after = self.fails.get("err", (None, None))
+        if number == 1:
+            error = error[:after]
         yield f"  {status}"
         if self.put:
-            yield "  out " + self.put.replace("\n", "\\n")
+            yield "  out " + printed(self.put)
         if error:
-            yield f"  err {error}\\n"
+            yield "  err " + printed(error)
         if self.made:
             yield "  calls " + "; ".join(" ".join([name, *map(str, args)]) for name, args in self.made)
         if self.fetched:
-            yield "  fetched " + " ".join(self.fetched)
+            yield "  fetched " + " ".join(printed(name) or "\\-" for name in self.fetched)
 
 
 class Generated(Run):
@@ -262,20 +365,39 @@ class Generated(Run):
     def __init__(self, number, rows, scores, fails):
         super().__init__(generated(number, rows), scores, fails, number)
 
-    def told(self):
-        lines = list(super().told(self.files["gen.sql"]))
-        return [line for line in lines if not line.startswith("  fetched")]
+    def fetch(self, name, most):
+        """A file that was made, which is no fetch."""
+        return self.files[name]
+
+
+def records(text):
+    """The records of a file, whose mark in front is left out, without its blank lines. Quotes within a field aren't read here."""
+    if re.search('[^,"\r\n]"[^,"\r\n]', text):
+        raise Unread
+    return [record for record in csv.reader(io.StringIO(text.removeprefix("\ufeff"))) if record]
 
 
 def statements(text):
-    return [part for part in re.split(r";\s*", text) if part.strip()]
+    """The statements of a script, each with the bytes in front of it."""
+    return [(part.start(), part[0]) for part in re.finditer(r"[^;\s][^;]*", text)]
 
 
 # ---- the cases
 
 
+SIGNS = {b"s": b" ", b"r": b"\r", b"n": b"\n", b"t": b"\t", b"-": b"", b"\\": b"\\"}
+
+
 def written(text):
-    return text.replace("\\s", " ").replace("\\r", "\r").replace("\\n", "\n")
+    """What escaped text stands for. Bytes that aren't UTF-8 stay as Python keeps them."""
+    escape = rb"\\(?:x([0-9A-F]{2})|([^x#]))"
+    return re.sub(escape, lambda it: bytes.fromhex(it[1].decode()) if it[1] else SIGNS[it[2]], bytes_of(text)).decode(errors="surrogateescape")
+
+
+def printed(text):
+    """Text as a line tells it: printable characters of ASCII as they are, and others as escapes."""
+    signs = {"\n": "\\n", "\r": "\\r", "\\": "\\\\"}
+    return "".join(signs.get(sign) or (sign if " " <= sign <= "~" else "".join(f"\\x{byte:02X}" for byte in bytes_of(sign))) for sign in text)
 
 
 def main():
@@ -308,19 +430,37 @@ def main():
             while at < len(lines) and lines[at].startswith("  "):
                 old.append(lines[at])
                 at += 1
-            new = old
-            is_read = re.fullmatch(r"run (plain s\.sql|run s\.sql \d+|gen \d+ \d+)", line) and not set(fails) & {"fetch", "err"}
-            if is_read and not set(old) & {"  Usage", "  Script", "  Table"}:
-                _, word, *numbers = line.split()
-                try:
-                    if word == "gen":
-                        new = Generated(*map(int, numbers), scores, fails).told()
-                    else:
-                        new = list(Run(files, scores, fails, int(numbers[-1]) if word == "run" else None).script(files["s.sql"]))
-                except Unread:
-                    print(f"unread: {files['s.sql'][len(front):]}", file=sys.stderr)
+            try:
+                new = list(told(written(rest).split(" "), files, scores, fails)) if can_be_read(rest, old) else old
+            except Unread:
+                print(f"unread: {files['s.sql'][len(front):]}", file=sys.stderr)
+                new = old
             print("\n".join(new))
             scores, fails = {}, {}
+
+
+READ = "NotUtf8|lex NumberTooWide|lex TooManyTokens|parse TooManyStatements|parse TooDeep|catalogue Full"
+
+
+def can_be_read(words, old):
+    """Whether a run of these words can be read, which ended so. Of scripts that are refused, only those that pass a limit can."""
+    if not re.fullmatch(r"top \S+ \S+ \d+ \d+|plain \S+|run \S+ \d+|gen \d+ \d+", words) or "  Usage" in old:
+        return False
+    if words.startswith("top ") or not set(old) & {"  Script", "  Table"}:
+        return True
+    return any(re.match(f"  err script: ({READ}) ", line) for line in old)
+
+
+def told(words, files, scores, fails):
+    """The lines that tell of a run of these words."""
+    word, *rest = words
+    if word == "gen":
+        run = Generated(int(rest[0]), int(rest[1]), scores, fails)
+        return run.told(run.script, "gen.sql")
+    run = Run(files, scores, fails, int(rest[1]) if word == "run" else None)
+    if word == "top":
+        return run.told(run.top, rest[0], rest[1], int(rest[2]), int(rest[3]))
+    return run.told(run.script, rest[0])
 
 
 class Folder(dict):
@@ -336,16 +476,15 @@ class Folder(dict):
 
 def tell(name, seed):
     run = Run(Folder(), {}, {}, seed)
-    text = re.sub(r"--[^\n]*", "", Folder()[name])
-    lines = list(run.script(text))
+    status, *_ = run.told(run.script, name)
     print(run.put, end="")
     behind = len(run.made) - run.indexed - run.sampled
-    print(f"{lines[0].strip()}; calls {len(run.made)}: indexes {run.indexed}, samples {run.sampled}, then {behind}, {run.first or 0} of them before the first row")
+    print(f"{status.strip()}; calls {len(run.made)}: indexes {run.indexed}, samples {run.sampled}, then {behind}, {run.first or 0} of them before the first row")
 
 
 if len(sys.argv) == 4 and sys.argv[1] == "gen":
     run = Generated(int(sys.argv[2]), int(sys.argv[3]), {}, {})
-    run.told()
+    run.statements(run.files["gen.sql"])
     print(run.put, end="")
 elif len(sys.argv) == 3:
     tell(sys.argv[1], int(sys.argv[2]))
