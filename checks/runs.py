@@ -27,6 +27,8 @@ import sys
 from generated import generated
 from queries import Ended, Unread, Words, either, listed, read_query, total, value
 
+STATUSES = ["Done", "Memory", "Usage", "Read", "Write", "Script", "Table", "BadScore", "Probe", "Session"]
+
 MOST_CURSORS = 64
 MOST_TABLES = 16
 MOST_PREDICATES = 64
@@ -374,7 +376,7 @@ def records(text):
     """The records of a file, whose mark in front is left out, without its blank lines. Quotes within a field aren't read here."""
     if re.search('[^,"\r\n]"[^,"\r\n]', text):
         raise Unread
-    return [record for record in csv.reader(io.StringIO(text.removeprefix("\ufeff"))) if record]
+    return [record for record in csv.reader(io.StringIO(text.removeprefix("\ufeff"), newline="")) if record]
 
 
 def statements(text):
@@ -482,11 +484,12 @@ def tell(name, seed):
     print(f"{status.strip()}; calls {len(run.made)}: indexes {run.indexed}, samples {run.sampled}, then {behind}, {run.first or 0} of them before the first row")
 
 
-if len(sys.argv) == 4 and sys.argv[1] == "gen":
-    run = Generated(int(sys.argv[2]), int(sys.argv[3]), {}, {})
-    run.statements(run.files["gen.sql"])
-    print(run.put, end="")
-elif len(sys.argv) == 3:
-    tell(sys.argv[1], int(sys.argv[2]))
-else:
-    main()
+if __name__ == "__main__":
+    if len(sys.argv) == 4 and sys.argv[1] == "gen":
+        generated_run = Generated(int(sys.argv[2]), int(sys.argv[3]), {}, {})
+        generated_run.statements(generated_run.files["gen.sql"])
+        print(generated_run.put, end="")
+    elif len(sys.argv) == 3:
+        tell(sys.argv[1], int(sys.argv[2]))
+    else:
+        main()
