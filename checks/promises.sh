@@ -1,7 +1,9 @@
 #!/usr/bin/env bash
 # Looks for what docs/PROMISES.md names in the sources: each crate, each function, and each clause of each function. It
 # prints a line for each that isn't there, with its place, and ends with 1 where there is one. What the words of a promise
-# say is not looked at. Another document of the same form may be named: checks/promises.sh [FILE].
+# say is not looked at. Where the document has the heading `Answers and their causes`, each public call of a library whose
+# answer is a Result or an Option has to stand in the table below it. Another document of the same form may be named:
+# checks/promises.sh [FILE].
 set -u -o pipefail
 export LC_ALL=C
 
@@ -69,6 +71,12 @@ exec awk '
         failures++
     }
 
+    # Remembers a public function whose answer is a Result or an Option.
+    function end_of_signature() {
+        if (is_public && signature ~ /-> *(Result|Option)</) answers[crate, item] = 1
+        is_public = 0
+    }
+
     # ---- the sources
     FNR == 1 {
         split(FILENAME, part, "/")
@@ -91,6 +99,7 @@ exec awk '
     !is_document && in_tests { next }
     !is_document && /^(pub )?(impl|trait)[ <]/ {
         type = type_of($0)
+        in_trait = /^(pub )?trait/
         if (of_trait != "") declared[crate, of_trait " for " type] = 1
         next
     }
@@ -101,12 +110,28 @@ exec awk '
         item = type == "" ? function_name : type "::" function_name
         declared[crate, item] = 1
         in_contract = $0 !~ /[{]}?$/
+        is_public = crate ~ /^rs_/ && (/^ *pub (const )?fn/ || in_trait)
+        signature = $0
+        if (!in_contract) end_of_signature()
         next
+    }
+    # What a library hands out: the names behind `pub use` in its lib.rt, and what is declared there.
+    !is_document && FILENAME ~ /[/]src[/]lib[.]rt$/ && (in_use || /^pub use /) {
+        in_use = !/;/
+        line = $0
+        sub(/^pub use /, "", line)
+        gsub(/[A-Za-z0-9_]+::|[{},;]/, " ", line)
+        count = split(trimmed(line), names, / +/)
+        for (place = 1; place <= count; place++) handed_out[crate, names[place]] = 1
     }
     !is_document && of_trait != "" && !in_contract && /^    ghost [a-z_]+ *[=:]/ {
         declared[crate, of_trait " for " type, name_behind($0, "ghost ")] = 1
     }
     # A contract ends at the brace of the body, which stands as far to the right as the function does.
+    !is_document && in_contract && is_public {
+        if (/^ *(requires|ensures|where)([ *]|$)/ || /[{]$/) end_of_signature()
+        else signature = signature " " $0
+    }
     !is_document && in_contract {
         match($0, /^ */)
         if (RLENGTH == indent && /^ *[{]|[{]$/) {
@@ -122,6 +147,8 @@ exec awk '
     /^#/ {
         crate = ""
         kind = "text"
+        is_answers = $0 == "# Answers and their causes"
+        if (is_answers) has_answers = 1
         if (/^## /) {
             crate = substr($0, 4)
             if (crate !~ /^[a-z][a-z0-9_]*: ./) fail("the heading has no form `## CRATE: WORDS`")
@@ -137,12 +164,33 @@ exec awk '
     }
     kind == "text" {
         kind = "head"
-        if ($0 != "| promise | function | clause |") fail("a table has to begin with `| promise | function | clause |`")
+        head = is_answers ? "| crate | call | answer | comes | said by | nowhere else by |" : "| promise | function | clause |"
+        if ($0 != head) fail("a table has to begin with `" head "`")
         next
     }
     kind == "head" {
         kind = "rows"
-        if ($0 != "|---|---|---|") fail("`|---|---|---|` has to stand below the head of a table")
+        head = is_answers ? "|---|---|---|---|---|---|" : "|---|---|---|"
+        if ($0 != head) fail("`" head "` has to stand below the head of a table")
+        next
+    }
+    is_answers {
+        rows++
+        if (split($0, cell, "|") != 8) {
+            fail("the row has not six columns")
+            next
+        }
+        crate = trimmed(cell[2])
+        gsub(/`/, "", crate)
+        if (!(crate in declared)) {
+            fail("there is no crate `" crate "`")
+            next
+        }
+        check_groups(trimmed(cell[3]), trimmed(cell[6]))
+        check_groups(trimmed(cell[3]), trimmed(cell[7]))
+        gsub(/[`;]/, " ", cell[3])
+        count = split(trimmed(cell[3]), names, /[ ,]+/)
+        for (place = 1; place <= count; place++) answered[crate, names[place]] = 1
         next
     }
     {
@@ -156,11 +204,16 @@ exec awk '
             fail("the row has not three columns")
             next
         }
-        function_groups = split(trimmed(cell[3]), functions, / *; */)
-        clause_groups = split(trimmed(cell[4]), clauses, / *; */)
+        check_groups(trimmed(cell[3]), trimmed(cell[4]))
+    }
+
+    # Functions and their clauses stand in groups, in the same order.
+    function check_groups(functions_text, clauses_text,    function_groups, clause_groups, functions, clauses, group) {
+        function_groups = split(functions_text, functions, / *; */)
+        clause_groups = split(clauses_text, clauses, / *; */)
         if (function_groups == 0 || function_groups != clause_groups) {
             fail("functions and clauses have not the same number of groups")
-            next
+            return
         }
         for (group = 1; group <= function_groups; group++) check_group(functions[group], clauses[group])
     }
@@ -171,7 +224,9 @@ exec awk '
             fail("the functions `" functions_text "` are not names between backquotes, parted by commas")
             return
         }
-        if (clauses_text ~ /^(its clause|their clauses)$/) {
+        if (is_answers && clauses_text == "none") {
+            clauses_text = ""
+        } else if (clauses_text ~ /^(its clause|their clauses)$/) {
             clauses_text = "`-`"
         } else if (clauses_text !~ /^`[a-z_0-9]+`(, `[a-z_0-9]+`)*$/) {
             fail("the clauses `" clauses_text "` are neither names between backquotes, parted by commas, nor `its clause` nor `their clauses`")
@@ -196,6 +251,15 @@ exec awk '
     }
 
     END {
+        for (key in answers) {
+            split(key, part, SUBSEP)
+            type = part[2]
+            sub(/::.*/, "", type)
+            if (has_answers && (part[1], type) in handed_out && !(key in answered)) {
+                print "FAILED  " shown ": the public call `" part[2] "` of crate `" part[1] "` stands in no row of answers"
+                failures++
+            }
+        }
         if (rows == 0) {
             print "FAILED  " shown " has no row"
             failures++

@@ -39,7 +39,7 @@ MOST_OF_A_FILE = 1 << 25
 MOST_OF_A_SCRIPT = 1 << 20
 MOST_TOKENS = 100_000
 MOST_STATEMENTS = 1_000
-MOST_DEPTH = 255
+MOST_SIGNS = 256
 
 sys.setrecursionlimit(5000)  # for formulas as deep as may be
 csv.field_size_limit(MOST_OF_A_FILE)
@@ -87,10 +87,9 @@ def refusal(text):
     for number, (place, part) in enumerate(statements(text), 1):
         if number > MOST_STATEMENTS:
             return f"parse TooManyStatements at {place}"
-        depth = 0
-        for sign in re.finditer(r"[()]", part):
-            depth += 1 if sign[0] == "(" else -1
-            if depth > MOST_DEPTH:
+        signs = re.finditer(r"'(?:[^']|'')*'|([-+*/(]|\b(?:AND|OR|NOT|WHEN)\b)", part)
+        for count, sign in enumerate((sign for sign in signs if sign[1]), 1):
+            if count > MOST_SIGNS:
                 return f"parse TooDeep at {place + sign.start()}"
     return None
 
