@@ -6,6 +6,7 @@
 # more or less often: a printed row takes its values alone, and a call with numbers none.
 # A join by a hash and a union are executed by the program cases_plans, whichever plan `run` would choose. That program
 # tells its input line by line, and names the line at which there is no memory.
+# Scripts may be named: checks/memory.sh NAME.., and with none all are run.
 # The programs are crates/ranksql/out/ranksql and crates/cases_plans/out/cases_plans, or those that the variables RANKSQL and
 # PLAN_CASES name. A C compiler is needed: the allocations fail by a small library in front of the system's.
 set -u -o pipefail
@@ -82,6 +83,8 @@ printf 'name,price,city\na,40,1\nb,90,1\nc,40,2\n' >h.csv
 printf 'x,y\n10,3\n8,9\n5,1\n2,10\n' >t.csv
 printf 'v\n3\n1\n3\n4\n' >u.csv
 printf 'v\n4\n2\n5\n5\n' >w.csv
+printf 'g,v\n1,9\n2,8\n1,7\n3,5\n2,1\n' >a.csv
+printf 'g,w\n2,9\n1,6\n3,6\n1,2\n4,1\n' >b.csv
 cat >base <<'SQL'
 CREATE TABLE h (name TEXT, price INT, city INT) FROM 'h.csv';
 CREATE TABLE t (x INT, y INT) FROM 't.csv';
@@ -108,6 +111,74 @@ cat base - >plan.sql <<'SQL'
 SELECT x, y FROM t ORDER BY p(x) + q(y) LIMIT 9;
 SQL
 printf '1,17,8,9\n2,13,10,3\n3,12,2,10\n4,6,5,1\n' >plan.wanted
+cat base - >first.sql <<'SQL'
+SELECT x, y FROM t ORDER BY p(x) + q(y) LIMIT 1; EXPLAIN ANALYZE SELECT x, y FROM t ORDER BY p(x) + q(y) LIMIT 1;
+SQL
+cat >first.wanted <<'LINES'
+1,17,8,9
+Rank term 2 est=1 cost=204 asked=1 gave=1 calls=3
+  RankScan t t term 1 est=2 cost=4 asked=3 gave=3 drawn=3
+LINES
+cat >tables.sql <<'SQL'
+CREATE TABLE a (g INT, v INT) FROM 'a.csv'; CREATE TABLE b (g INT, w INT) FROM 'b.csv'; CREATE PREDICATE p (v INT) MAX 10 AS v;
+CREATE RANK INDEX av ON a (p(v)); CREATE RANK INDEX bw ON b (p(w));
+SELECT v, w FROM a, b WHERE a.g = b.g ORDER BY p(v) + p(w) LIMIT 9;
+EXPLAIN SELECT v, w FROM a, b WHERE a.g = b.g ORDER BY p(v) + p(w) LIMIT 9;
+EXPLAIN ANALYZE SELECT v, w FROM a, b WHERE a.g = b.g ORDER BY p(v) + p(w) LIMIT 1;
+SQL
+cat >tables.wanted <<'LINES'
+1,17,8,9
+2,15,9,6
+3,13,7,6
+4,11,9,2
+5,11,5,6
+6,10,1,9
+7,9,7,2
+HashRankJoin est=7 cost=47
+  RankScan a a term 1 est=5 cost=10
+  RankScan b b term 2 est=5 cost=10
+NestedRankJoin est=1 cost=12 asked=1 gave=1
+  RankScan a a term 1 est=3 cost=6 asked=2 gave=2 drawn=2
+  RankScan b b term 2 est=1 cost=2 asked=2 gave=2 drawn=2
+LINES
+# Every form of a statement, of a condition and of a formula.
+cat base - >forms.sql <<'SQL'
+CREATE TABLE u (v INT) FROM 'u.csv'; CREATE TABLE w (v INT) FROM 'w.csv';
+CREATE PREDICATE half (v INT) MAX 10 AS v / 2;
+CREATE PREDICATE far (s TEXT, v INT) MAX 9 AS CASE WHEN s = 'a' OR NOT v < 9 THEN MIN(v, 9) WHEN v > 1 AND s <> 'c' THEN 2 * v ELSE MAX(0, -v) END;
+SELECT name, price FROM h WHERE NOT (price = 90 OR city = 2) ORDER BY far(name, city) + 2 * near(price, 40);
+SELECT DISTINCT city FROM h ORDER BY p(city);
+SELECT v FROM u UNION SELECT v FROM w ORDER BY half(v) LIMIT 2; SELECT v FROM u UNION ALL SELECT v FROM w ORDER BY half(v) LIMIT 3;
+SELECT v FROM u INTERSECT SELECT v FROM w ORDER BY half(v); SELECT v FROM u EXCEPT SELECT v FROM w ORDER BY half(v);
+SELECT l.name, r.x FROM h l, t r WHERE l.city + 1 = r.x AND r.y >= 3 ORDER BY p(r.y) + c(l.price);
+EXPLAIN SELECT DISTINCT v FROM u ORDER BY half(v); EXPLAIN ANALYZE SELECT v FROM u EXCEPT SELECT v FROM w ORDER BY half(v);
+DECLARE k CURSOR FOR SELECT x FROM t ORDER BY q(y) LIMIT 3; FETCH 1 FROM k; FETCH 0 FROM k; FETCH 9 FROM k; CLOSE k;
+SQL
+cat >forms.wanted <<'LINES'
+1,201,a,40
+1,2,2
+2,1,1
+1,2,4
+2,2,5
+1,2,4
+2,2,4
+3,2,5
+1,2,4
+1,1,3
+2,0,1
+1,100,b,2
+2,50,a,2
+Rank term 1 est=4 cost=12
+  Distinct est=4 cost=8
+    SeqScan u u est=4 cost=4
+Rank term 1 est=8 cost=24 asked=3 gave=2 calls=2
+  Except est=8 cost=16 asked=3 gave=2
+    SeqScan u u est=4 cost=4 asked=5 gave=4 drawn=4
+    SeqScan w w est=4 cost=4 asked=5 gave=4 drawn=4
+1,10,2
+2,9,8
+3,3,10
+LINES
 cat base - >cursors.sql <<'SQL'
 DECLARE k CURSOR FOR SELECT x FROM t ORDER BY p(x) + q(y); DECLARE d CURSOR FOR SELECT x FROM t ORDER BY q(y);
 FETCH 2 FROM k; FETCH 1 FROM d; FETCH 2 FROM k; FETCH 5 FROM k; CLOSE k;
@@ -146,12 +217,12 @@ LINES
 : >nothing
 printf 'memory\n' >memory
 
-# Runs a script where allocations fail from this one on, or this one alone. The scripts `plan`, `nested` and `cursors` are run by plans.
+# Runs a script where allocations fail from this one on, or this one alone. Most scripts are run by plans.
 # run NAME NUMBER [all]
 run() {
     local words=("$program" plain "$1.sql") input=/dev/null
     case $1 in
-        plan | nested | cursors | rows | index | calls) words=("$program" run "$1.sql" 1) ;;
+        plan | first | tables | forms | nested | cursors | rows | index | calls) words=("$program" run "$1.sql" 1) ;;
         hashed | united) words=("$cases") input=$1.sql ;;
     esac
     timeout 60 env LD_PRELOAD="$work/refuse.so" REFUSE_FIRST="$2" ${3:+REFUSE_ALL=1} REFUSE_COUNT="$work/count" \
@@ -260,8 +331,10 @@ compare rows '' 'rated(rating)' 10 'rated(rating)' 100
 compare index 'CREATE RANK INDEX by_rated ON films (rated(rating));' '2 * rated(rating) + recent(year)' 10 '2 * rated(rating) + recent(year)' 100
 compare calls '' 'level(rating)' 10 'level(rating) + recent(year)' 10
 
-names=(join union ready plan nested cursors)
-if [ -x "$cases" ]; then
+names=(join union ready plan first tables forms nested cursors)
+if [ $# -gt 0 ]; then
+    names=("$@")
+elif [ -x "$cases" ]; then
     names+=(hashed united)
 else
     echo "there is no program $cases: the join by a hash and the union are left out"
