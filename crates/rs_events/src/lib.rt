@@ -7,10 +7,12 @@
 
 mod file;
 mod halt_fault;
+mod objects;
 mod outside;
 mod put;
 
 pub use file::fetch_file;
 pub use halt_fault::HaltFault;
-pub use outside::{Objects, Outside};
+pub use objects::Objects;
+pub use outside::Outside;
 pub use put::put_text;
