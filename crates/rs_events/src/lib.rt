@@ -7,12 +7,12 @@
 
 mod file;
 mod halt_fault;
+mod host;
 mod objects;
-mod outside;
 mod put;
 
 pub use file::fetch_file;
 pub use halt_fault::HaltFault;
+pub use host::Host;
 pub use objects::Objects;
-pub use outside::Outside;
 pub use put::put_text;

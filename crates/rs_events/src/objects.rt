@@ -2,7 +2,7 @@ ghost use Rattle.std.specs.Prelude.{◌≡◌, refl};
 ghost use Rattle.rs_value.specs.Outside.{untold};
 ghost use Rattle.rs_events.specs.Environment.{Environment, environment};
 
-use crate::outside::Outside;
+use crate::host::Host;
 use rs_expr::Scorer;
 use rs_outside::{Files, Sink};
 
@@ -14,7 +14,7 @@ pub struct Objects<'f, 's, 'o, F, S, O> {
     pub out: &'o mut O,
 }
 
-impl<'f, 's, 'o, F: Files, S: Scorer, O: Sink> Outside for Objects<'f, 's, 'o, F, S, O> {
+impl<'f, 's, 'o, F: Files, S: Scorer, O: Sink> Host for Objects<'f, 's, 'o, F, S, O> {
     type Files = F;
 
     type Scorer = S;

@@ -19,7 +19,7 @@ struct HeldFile {
 
 /// The files that stay from run to run, and what the next run is made over.
 #[derive(Drop)]
-pub struct Outside {
+pub struct Fakes {
     held: Vec<HeldFile>,
     front: Vec<u8>,
     failing: Vec<u32>,
@@ -29,10 +29,10 @@ pub struct Outside {
     pub err: MemSink,
 }
 
-impl Outside {
+impl Fakes {
     /// No files, and no failure planned.
-    pub fn new(alloc: Global) -> Outside {
-        Outside {
+    pub fn new(alloc: Global) -> Fakes {
+        Fakes {
             held: Vec::new(alloc),
             front: Vec::new(alloc),
             failing: Vec::new(alloc),
@@ -90,7 +90,7 @@ impl Outside {
     /// Runs these words.
     pub fn run(&mut self, alloc: Global, words: &[Text]) -> Result<Status, Memory> {
         self.copy_files(alloc)?;
-        let Outside {
+        let Fakes {
             files,
             scorer,
             out,

@@ -6,7 +6,7 @@ use rs_expr::Scorer;
 use rs_outside::{Files, Sink};
 
 /// The files, the scorer and the output that a run is given, handed down as one.
-pub trait Outside {
+pub trait Host {
     type Files: Files;
 
     type Scorer: Scorer;
@@ -39,12 +39,12 @@ pub trait Outside {
         ensures value { Self.Out.state result.now ≡ (state self.old).out };
 
     /// The other two stay as they were.
-    ghost after_files: { (outside : Self) (files : Self.Files)
-        → state (with_files outside files) ≡ record (state outside) { files = Self.Files.state files } };
+    ghost after_files: { (host : Self) (files : Self.Files)
+        → state (with_files host files) ≡ record (state host) { files = Self.Files.state files } };
 
-    ghost after_scorer: { (outside : Self) (scorer : Self.Scorer)
-        → state (with_scorer outside scorer) ≡ record (state outside) { scorer = Self.Scorer.state scorer } };
+    ghost after_scorer: { (host : Self) (scorer : Self.Scorer)
+        → state (with_scorer host scorer) ≡ record (state host) { scorer = Self.Scorer.state scorer } };
 
-    ghost after_out: { (outside : Self) (out : Self.Out)
-        → state (with_out outside out) ≡ record (state outside) { out = Self.Out.state out } };
+    ghost after_out: { (host : Self) (out : Self.Out)
+        → state (with_out host out) ≡ record (state host) { out = Self.Out.state out } };
 }
