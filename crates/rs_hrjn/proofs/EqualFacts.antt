@@ -1,12 +1,12 @@
--- Join values that the order of values doesn't tell apart are the same, and equal by `==`.
-use Rattle.std.proofs.Common.{◌≡◌, ◌&&◌, true, false, List, [], ◌∷◌, refl, sym, ◌∙◌, ap, ap₂}
+-- Join values that the order of values doesn't tell apart are the same.
+use Rattle.std.proofs.Common.{◌≡◌, true, false, List, [], ◌∷◌, refl, sym, ◌∙◌, ap, ap₂}
 use Rattle.std.proofs.lemmas.Map.Lookups.{exact_bytes, exact_signed}
 use Rattle.std.specs.Cmp.{IsEquivalence, int_cmp_total, tied_itself}
-use Rattle.std.specs.Cmp.Lexicographic.{nat_list_cmp_total, pointwise, slice_cmp, texts_ties}
+use Rattle.std.specs.Cmp.Lexicographic.{nat_list_cmp_total, slice_cmp}
 use Rattle.std.specs.Ordering.{is_eq, ordering_then}
 use Rattle.std.specs.declared.cmp.Ordering.{Ordering}
 use Rattle.std.specs.declared.cmp.Ordering.TheVariants.{Less, Equal, Greater}
-use Rattle.rs_value.specs.contracts.value.ValuePartialEq.TheImpl as value
+use Rattle.rs_value.specs.contracts.value.ValueOrd.TheImpl as order
 use Rattle.rs_value.specs.declared.value.Value.{Value}
 use Rattle.rs_value.specs.declared.value.Value.TheVariants.{Int, Text}
 use Rattle.rs_value.specs.Value.{value_cmp}
@@ -67,21 +67,15 @@ are_equal-equivalence = record {
   congr = λ us vs ws e. ap (λ xs. are_equal xs ws) (are_equal-same us vs e);
 }
 
--- they are equal by `==` where the order of values doesn't tell them apart
-eq-value : (u v : Value) → value.ghosts.eq u v ≡ is_eq (value_cmp u v)
-eq-value (Int n) (Int m) = refl
-eq-value (Text t) (Text u) = texts_ties t u
-eq-value (Int n) (Text u) = refl
-eq-value (Text t) (Int m) = refl
+-- the order that a map's keys have by the derived order is that of values
+order-value : (u v : Value) → order.ghosts.cmp u v ≡ value_cmp u v
+order-value (Int n) (Int m) = refl
+order-value (Text t) (Text u) = refl
+order-value (Int n) (Text u) = refl
+order-value (Text t) (Int m) = refl
 
-both-ties : (a b : Ordering) → (is_eq a && is_eq b) ≡ is_eq (ordering_then a b)
-both-ties Less b = refl
-both-ties Equal b = refl
-both-ties Greater b = refl
-
-pub pointwise-are_equal : (us vs : List Value) → pointwise value.ghosts.eq us vs ≡ are_equal us vs
-pointwise-are_equal [] [] = refl
-pointwise-are_equal [] (v ∷ vs) = refl
-pointwise-are_equal (u ∷ us) [] = refl
-pointwise-are_equal (u ∷ us) (v ∷ vs) =
-    ap₂ (λ a b. a && b) (eq-value u v) (pointwise-are_equal us vs) ∙ both-ties (value_cmp u v) (slice_cmp value_cmp us vs)
+pub slice-values : (us vs : List Value) → slice_cmp order.ghosts.cmp us vs ≡ slice_cmp value_cmp us vs
+slice-values [] [] = refl
+slice-values [] (v ∷ vs) = refl
+slice-values (u ∷ us) [] = refl
+slice-values (u ∷ us) (v ∷ vs) = ap₂ ordering_then (order-value u v) (slice-values us vs)

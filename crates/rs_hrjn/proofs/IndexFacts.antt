@@ -4,12 +4,18 @@ use Rattle.std.proofs.lemmas.Bool.Decides.{Decides-eqb}
 use Rattle.std.proofs.lemmas.List.{append-nil, length-append}
 use Rattle.std.proofs.lemmas.List.Folds.{list_any-append}
 use Rattle.std.proofs.lemmas.Map.{lookup-set_value}
+use Rattle.std.specs.BTreeMap.{insert_entry}
+use Rattle.std.specs.Cmp.Lexicographic.{slice_cmp}
 use Rattle.std.specs.List.{AllByRecursion, list_any}
 use Rattle.std.specs.Map.{lookup, set_value}
 use Rattle.std.specs.Option.{IsSome}
+use Rattle.std.specs.Ordering.{is_eq, match_ordering}
+use Rattle.std.specs.declared.cmp.Ordering.{Ordering}
+use Rattle.std.specs.declared.cmp.Ordering.TheVariants.{Less, Equal, Greater}
 use Rattle.rs_order.proofs.EachFacts.{each-push, each-weaker}
 use Rattle.rs_rank.specs.declared.row.RankRow.{RankRow}
 use Rattle.rs_value.specs.declared.value.Value.{Value}
+use Rattle.rs_value.specs.Value.{value_cmp}
 use Rattle.rs_hrjn.specs.Drawn.{DrawnRow, are_equal, places_alike, rows_of}
 use Rattle.rs_hrjn.specs.Index.{IsIndex, drawn_rows, places_of, places_or_none, values_at, with_more, with_place}
 use Rattle.rs_hrjn.proofs.EqualFacts.{are_equal-back, are_equal-equivalence, are_equal-itself, are_equal-same}
@@ -25,18 +31,43 @@ looked-up : (b : Bool) (places : List ℕ) (rest : Option (List ℕ)) → cond b
 looked-up true places rest e = cc
 looked-up false places rest e = (refl, e)
 
--- a new entry is found by its values, and others as before
-lookup-last : (values q : List Value) (places : List ℕ) (index : Index) → lookup (are_equal values) index ≡ None → lookup (are_equal q) (index ++ (values, places) ∷ []) ≡ cond (are_equal q values) (Some places) (lookup (are_equal q) index)
-lookup-last values q places [] none = refl
-lookup-last values q places (entry ∷ index) none =
+-- an index with one more entry among the others
+record Among (entry : List Value × List ℕ) (old new : Index) : Type 0 where
+  front : Index
+  back : Index
+  before : old ≡ front ++ back
+  after : new ≡ front ++ entry ∷ back
+
+true_false : {b : Bool} → b ≡ true → b ≡ false → ⊥
+true_false e f = cc
+
+-- new values are put among the others
+among-insert : (values : List Value) (places : List ℕ) (index : Index) → lookup (are_equal values) index ≡ None → Among (values, places) index (insert_entry (slice_cmp value_cmp) index values places)
+among-insert values places [] none = record { front = []; back = []; before = refl; after = refl }
+among-insert values places (entry ∷ index) none =
     let both = looked-up (are_equal values entry.0) entry.1 (lookup (are_equal values) index) none in
-    ap (cond (are_equal q entry.0) (Some entry.1)) (lookup-last values q places index both.1)
-    ∙ one_of (are_equal q entry.0) (are_equal q values) (Some entry.1) (Some places) (lookup (are_equal q) index)
+    step (slice_cmp value_cmp values entry.0) refl both.0 (among-insert values places index both.1)
+  where
+    step : (o : Ordering) → slice_cmp value_cmp values entry.0 ≡ o → are_equal values entry.0 ≡ false → Among (values, places) index (insert_entry (slice_cmp value_cmp) index values places)
+        → Among (values, places) (entry ∷ index) (match_ordering o ((values, places) ∷ entry ∷ index) ((entry.0, places) ∷ index) (entry ∷ insert_entry (slice_cmp value_cmp) index values places))
+    step Less e other later = record { front = []; back = entry ∷ index; before = refl; after = refl }
+    step Equal e other later = absurd (true_false (ap is_eq e) other)
+    step Greater e other later = record {
+      front = entry ∷ later.front;
+      back = later.back;
+      before = ap (λ es. entry ∷ es) later.before;
+      after = ap (λ es. entry ∷ es) later.after;
+    }
+
+-- a new entry is found by its values, and others as before
+lookup-among : (values q : List Value) (places : List ℕ) (front back : Index) → lookup (are_equal values) (front ++ back) ≡ None → lookup (are_equal q) (front ++ (values, places) ∷ back) ≡ cond (are_equal q values) (Some places) (lookup (are_equal q) (front ++ back))
+lookup-among values q places [] back none = refl
+lookup-among values q places (entry ∷ front) back none =
+    let both = looked-up (are_equal values entry.0) entry.1 (lookup (are_equal values) (front ++ back)) none in
+    ap (cond (are_equal q entry.0) (Some entry.1)) (lookup-among values q places front back both.1)
+    ∙ one_of (are_equal q entry.0) (are_equal q values) (Some entry.1) (Some places) (lookup (are_equal q) (front ++ back))
     (λ one two. true_false (ap (are_equal values) (sym (are_equal-same q entry.0 one) ∙ are_equal-same q values two) ∙ are_equal-itself values) both.0)
   where
-    true_false : {b : Bool} → b ≡ true → b ≡ false → ⊥
-    true_false e f = cc
-
     -- one of two things that exclude each other
     one_of : {X : Type 0} (a b : Bool) (x y z : X) → (a ≡ true → b ≡ true → ⊥) → cond a x (cond b y z) ≡ cond b y (cond a x z)
     one_of true true x y z apart = absurd (apart refl refl)
@@ -44,10 +75,17 @@ lookup-last values q places (entry ∷ index) none =
     one_of false true x y z apart = refl
     one_of false false x y z apart = refl
 
+lookup-inserted : (values q : List Value) (places : List ℕ) (index : Index) → lookup (are_equal values) index ≡ None → lookup (are_equal q) (insert_entry (slice_cmp value_cmp) index values places) ≡ cond (are_equal q values) (Some places) (lookup (are_equal q) index)
+lookup-inserted values q places index none =
+    let among = among-insert values places index none in
+    ap (lookup (are_equal q)) among.after
+    ∙ lookup-among values q places among.front among.back (ap (lookup (are_equal values)) (sym among.before) ∙ none)
+    ∙ ap (λ es. cond (are_equal q values) (Some places) (lookup (are_equal q) es)) (sym among.before)
+
 -- the places of each list of join values, with one place more
 more-places : (o : Option (List ℕ)) (values q : List Value) (place : ℕ) (index : Index) → lookup (are_equal values) index ≡ o → places_of q (with_more o values place index) ≡ places_of q index ++ cond (are_equal q values) (place ∷ []) []
 more-places None values q place index e =
-    ap places_or_none (lookup-last values q (place ∷ []) index e)
+    ap places_or_none (lookup-inserted values q (place ∷ []) index e)
     ∙ (elim (are_equal q values) as (λ b. are_equal q values ≡ b → places_or_none (cond b (Some (place ∷ [])) (lookup (are_equal q) index)) ≡ places_of q index ++ cond b (place ∷ []) []) [
       | true ↦ λ f. sym (ap (λ o. places_or_none o ++ place ∷ []) (ap (λ v. lookup (are_equal v) index) (are_equal-same q values f) ∙ e))
       | false ↦ λ f. sym (append-nil (places_of q index))
@@ -89,9 +127,14 @@ or_true true = refl
 or_true false = refl
 
 -- the join values of another place stay
-values_at-last : (values : List Value) (place other : ℕ) (index : Index) → eqb place other ≡ false → values_at other (index ++ (values, place ∷ []) ∷ []) ≡ values_at other index
-values_at-last values place other [] apart = ap (λ b. cond (b || false) values []) apart
-values_at-last values place other (entry ∷ index) apart = ap (cond (has other entry.1) entry.0) (values_at-last values place other index apart)
+values_at-among : (values : List Value) (place other : ℕ) (front back : Index) → eqb place other ≡ false → values_at other (front ++ (values, place ∷ []) ∷ back) ≡ values_at other (front ++ back)
+values_at-among values place other [] back apart = ap (λ b. cond (b || false) values (values_at other back)) apart
+values_at-among values place other (entry ∷ front) back apart = ap (cond (has other entry.1) entry.0) (values_at-among values place other front back apart)
+
+values_at-inserted : (values : List Value) (place other : ℕ) (index : Index) → lookup (are_equal values) index ≡ None → eqb place other ≡ false → values_at other (insert_entry (slice_cmp value_cmp) index values (place ∷ [])) ≡ values_at other index
+values_at-inserted values place other index none apart =
+    let among = among-insert values (place ∷ []) index none in
+    ap (values_at other) among.after ∙ values_at-among values place other among.front among.back apart ∙ ap (values_at other) (sym among.before)
 
 values_at-set : (values : List Value) (places : List ℕ) (place other : ℕ) (index : Index) → eqb place other ≡ false → lookup (are_equal values) index ≡ Some places → values_at other (set_value (are_equal values) index (places ++ place ∷ [])) ≡ values_at other index
 values_at-set values places place other [] apart some = cc
@@ -106,17 +149,22 @@ values_at-set values places place other (entry ∷ index) apart some =
     ]) some
 
 values_at-more : (o : Option (List ℕ)) (values : List Value) (place other : ℕ) (index : Index) → lookup (are_equal values) index ≡ o → eqb place other ≡ false → values_at other (with_more o values place index) ≡ values_at other index
-values_at-more None values place other index e apart = values_at-last values place other index apart
+values_at-more None values place other index e apart = values_at-inserted values place other index e apart
 values_at-more (Some places) values place other index e apart = values_at-set values places place other index apart e
 
 -- the join values of the new place
 abbrev IsNew : ℕ → Index → Type 0
 IsNew place index = AllByRecursion (λ entry. has place entry.1 ≡ false) index
 
-values_at-last_here : (values : List Value) (place : ℕ) (index : Index) → IsNew place index → values_at place (index ++ (values, place ∷ []) ∷ []) ≡ values
-values_at-last_here values place [] new = ap (λ b. cond (b || false) values []) (eqb-itself place)
-values_at-last_here values place (entry ∷ index) new =
-    ap (λ b. cond b entry.0 (values_at place (index ++ (values, place ∷ []) ∷ []))) new.0 ∙ values_at-last_here values place index new.1
+values_at-among_here : (values : List Value) (place : ℕ) (front back : Index) → IsNew place (front ++ back) → values_at place (front ++ (values, place ∷ []) ∷ back) ≡ values
+values_at-among_here values place [] back new = ap (λ b. cond (b || false) values (values_at place back)) (eqb-itself place)
+values_at-among_here values place (entry ∷ front) back new =
+    ap (λ b. cond b entry.0 (values_at place (front ++ (values, place ∷ []) ∷ back))) new.0 ∙ values_at-among_here values place front back new.1
+
+values_at-inserted_here : (values : List Value) (place : ℕ) (index : Index) → lookup (are_equal values) index ≡ None → IsNew place index → values_at place (insert_entry (slice_cmp value_cmp) index values (place ∷ [])) ≡ values
+values_at-inserted_here values place index none new =
+    let among = among-insert values (place ∷ []) index none in
+    ap (values_at place) among.after ∙ values_at-among_here values place among.front among.back (subst (IsNew place) among.before new)
 
 values_at-set_here : (values : List Value) (places : List ℕ) (place : ℕ) (index : Index) → IsNew place index → lookup (are_equal values) index ≡ Some places → values_at place (set_value (are_equal values) index (places ++ place ∷ [])) ≡ values
 values_at-set_here values places place [] new some = absurd (none_some some)
@@ -133,7 +181,7 @@ values_at-set_here values places place (entry ∷ index) new some =
     ]) refl some
 
 values_at-more_here : (o : Option (List ℕ)) (values : List Value) (place : ℕ) (index : Index) → lookup (are_equal values) index ≡ o → IsNew place index → values_at place (with_more o values place index) ≡ values
-values_at-more_here None values place index e new = values_at-last_here values place index new
+values_at-more_here None values place index e new = values_at-inserted_here values place index e new
 values_at-more_here (Some places) values place index e new = values_at-set_here values places place index new e
 
 -- what holds of the places of each entry, and of the new ones
@@ -144,6 +192,15 @@ each-set_value P values places (entry ∷ index) all new = step (are_equal value
     step : (b : Bool) (later : Index) → AllByRecursion (λ entry. P entry.1) later → AllByRecursion (λ entry. P entry.1) (cond b ((entry.0, places) ∷ index) (entry ∷ later))
     step true later below = (new, all.1)
     step false later below = (all.0, below)
+
+each-among : (P : List ℕ → Type 0) (front back : Index) (entry : List Value × List ℕ) → AllByRecursion (λ e. P e.1) (front ++ back) → P entry.1 → AllByRecursion (λ e. P e.1) (front ++ entry ∷ back)
+each-among P [] back entry all new = (new, all)
+each-among P (e ∷ front) back entry all new = (all.0, each-among P front back entry all.1 new)
+
+each-inserted : (P : List ℕ → Type 0) (values : List Value) (places : List ℕ) (index : Index) → lookup (are_equal values) index ≡ None → AllByRecursion (λ e. P e.1) index → P places → AllByRecursion (λ e. P e.1) (insert_entry (slice_cmp value_cmp) index values places)
+each-inserted P values places index none all new =
+    let among = among-insert values places index none in
+    subst (AllByRecursion (λ e. P e.1)) (sym among.after) (each-among P among.front among.back (values, places) (subst (AllByRecursion (λ e. P e.1)) among.before all) new)
 
 each-lookup : (P : List ℕ → Type 0) (values : List Value) (places : List ℕ) (index : Index) → AllByRecursion (λ entry. P entry.1) index → lookup (are_equal values) index ≡ Some places → P places
 each-lookup P values places [] all some = absurd (none_some some)
@@ -157,7 +214,7 @@ each-lookup P values places (entry ∷ index) all some =
     ]) some
 
 each-more : (o : Option (List ℕ)) (P : List ℕ → Type 0) (values : List Value) (place : ℕ) (index : Index) → lookup (are_equal values) index ≡ o → AllByRecursion (λ entry. P entry.1) index → ((places : List ℕ) → P places → P (places ++ place ∷ [])) → P [] → AllByRecursion (λ entry. P entry.1) (with_more o values place index)
-each-more None P values place index e all more none = each-push (λ entry. P entry.1) index (values, place ∷ []) all (more [] none)
+each-more None P values place index e all more none = each-inserted P values (place ∷ []) index e all (more [] none)
 each-more (Some places) P values place index e all more none = each-set_value P values (places ++ place ∷ []) index all (more places (each-lookup P values places index all e))
 
 -- rows whose places stay have the join values that they had

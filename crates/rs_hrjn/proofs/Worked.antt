@@ -50,15 +50,15 @@ places_of_none = refl
 rows_of_a : rows_at (left_row 9 9) (places_alike seven_a 0 lefts) (left_row 1 10 ∷ left_row 2 8 ∷ left_row 3 8 ∷ []) ≡ left_row 1 10 ∷ left_row 3 8 ∷ []
 rows_of_a = refl
 
--- the map grows by one place at each row, and has the entries in the order in which their values came first
+-- the map grows by one place at each row, and has the entries in the order of their values
 abbrev index : List (List Value × List ℕ)
 index = with_place seven_a 2 (with_place seven_b 1 (with_place seven_a 0 []))
 
 entries : index ≡ (seven_a, 0 ∷ 2 ∷ []) ∷ (seven_b, 1 ∷ []) ∷ []
 entries = refl
 
-first_text_behind : with_place seven_a 1 (with_place seven_b 0 []) ≡ (seven_b, 0 ∷ []) ∷ (seven_a, 1 ∷ []) ∷ []
-first_text_behind = refl
+lesser_text_first : with_place seven_a 1 (with_place seven_b 0 []) ≡ (seven_a, 1 ∷ []) ∷ (seven_b, 0 ∷ []) ∷ []
+lesser_text_first = refl
 
 found_by_values : places_of seven_b index ≡ 1 ∷ []
 found_by_values = refl

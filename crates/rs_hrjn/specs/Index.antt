@@ -1,16 +1,18 @@
 -- A map of join values to the places of the rows that have them.
 use Rattle.std.specs.Prelude.{ℕ, suc, ◌≡◌, ◌<◌, ◌==◌, List, [], ◌∷◌, ◌++◌, length, map, Option, Some, None, if◌then◌else◌}
+use Rattle.std.specs.BTreeMap.{BTreeMap, insert_entry}
+use Rattle.std.specs.Cmp.Lexicographic.{slice_cmp}
 use Rattle.std.specs.List.{AllByRecursion, list_any}
 use Rattle.std.specs.Map.{lookup, set_value}
 use Rattle.std.specs.declared.alloc.Global.{Global}
 use Rattle.std.specs.declared.vec.Vec.{Vec}
-use Rattle.indexmap.specs.IndexMap.{IndexMap}
 use Rattle.rs_rank.specs.declared.row.RankRow.{RankRow}
 use Rattle.rs_value.specs.declared.value.Value.{Value}
+use Rattle.rs_value.specs.Value.{value_cmp}
 use Rattle.rs_hrjn.specs.Drawn.{DrawnRow, are_equal, places_alike}
 
 -- the lists that a map has: of each list of join values its places
-abbrev pub index_of : {S : Type 0} → IndexMap (Vec Value Global) (Vec ℕ Global) S → List (List Value × List ℕ)
+abbrev pub index_of : BTreeMap (Vec Value Global) (Vec ℕ Global) → List (List Value × List ℕ)
 index_of m = map (λ e. (e.0.items, e.1.items)) m.entries
 
 -- the places of some join values, none where it hasn't these values
@@ -21,9 +23,9 @@ places_or_none (Some places) = places
 abbrev pub places_of : List Value → List (List Value × List ℕ) → List ℕ
 places_of values index = places_or_none (lookup (are_equal values) index)
 
--- with one more place of some join values: new values come last
+-- with one more place of some join values: new values come in the order of values
 abbrev pub with_more : Option (List ℕ) → List Value → ℕ → List (List Value × List ℕ) → List (List Value × List ℕ)
-with_more None values place index = index ++ (values, place ∷ []) ∷ []
+with_more None values place index = insert_entry (slice_cmp value_cmp) index values (place ∷ [])
 with_more (Some places) values place index = set_value (are_equal values) index (places ++ place ∷ [])
 
 abbrev pub with_place : List Value → ℕ → List (List Value × List ℕ) → List (List Value × List ℕ)

@@ -3,20 +3,21 @@ ghost use Rattle.std.specs.List.{AllByRecursion};
 ghost use Rattle.rs_hrjn.specs.Drawn.{alike, places_alike, rows_of};
 ghost use Rattle.rs_hrjn.specs.Index.{index_of, with_place};
 
-use indexmap::IndexMap;
 use rs_rank::RankRow;
 use rs_value::{Memory, Value};
 use std::alloc::Global;
+use std::collections::BTreeMap;
 use std::marker::Model;
 
 /// The rows drawn of a side with their join values, in the order in which they came. Those with given join values are
-/// found by a map; each list of these values stands in it once, and nowhere else.
+/// found by a map; each list of these values stands in it once, and nowhere else. The map is an ordered one: a map by
+/// hashes whose seed is known is slow on input that was made for it.
 #[derive(Drop)]
 pub struct DrawnRows {
     alloc: Global,
     rows: Vec<RankRow>,
     // The places of the rows that have these join values, counted from 0.
-    places: IndexMap<Vec<Value>, Vec<usize>>,
+    places: BTreeMap<Vec<Value>, Vec<usize>>,
 }
 
 impl Model for DrawnRows {
@@ -39,7 +40,7 @@ impl DrawnRows {
         DrawnRows {
             alloc,
             rows: Vec::new(alloc),
-            places: IndexMap::new(alloc),
+            places: BTreeMap::new(alloc),
         }
     }
 
@@ -80,7 +81,7 @@ impl DrawnRows {
 /// Adds a place to those of some join values.
 fn add_place(
     alloc: Global,
-    places: &mut IndexMap<Vec<Value>, Vec<usize>>,
+    places: &mut BTreeMap<Vec<Value>, Vec<usize>>,
     values: Vec<Value>,
     place: usize,
 ) -> Result<(), Memory>

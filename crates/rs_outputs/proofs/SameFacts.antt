@@ -58,7 +58,7 @@ eq-same_value (Text t) (Text u) = refl
 eq-same_value (Int n) (Text u) = refl
 eq-same_value (Text t) (Int m) = refl
 
-pointwise-same_values : (us vs : List Value) → pointwise value.ghosts.eq us vs ≡ same_values us vs
+pub pointwise-same_values : (us vs : List Value) → pointwise value.ghosts.eq us vs ≡ same_values us vs
 pointwise-same_values [] [] = refl
 pointwise-same_values [] (v ∷ vs) = refl
 pointwise-same_values (u ∷ us) [] = refl

@@ -5,5 +5,6 @@
 #![tactic(auto)]
 
 mod outputs;
+mod placed;
 
 pub use outputs::Outputs;

@@ -1,26 +1,38 @@
-ghost use Rattle.std.specs.Prelude.{◌≡◌, ◌<◌, ◌≤◌, ◌+◌, [], not, IfOk, OnOk, OnErr, IsOk};
+ghost use Rattle.std.specs.Prelude.{◌≡◌, ◌<◌, ◌≤◌, ◌+◌, ◌++◌, [], not, IfOk, OnOk, OnErr, IsOk};
+ghost use Rattle.std.specs.VecDeque.{deque_capacity, deque_len};
 ghost use Rattle.rs_outputs.specs.Seen.{has_list, with_list};
+ghost use Rattle.rs_outputs.specs.Waiting.{AreNew, lists_in};
 
-use indexmap::IndexSet;
+use crate::placed::Placed;
 use rs_value::{Memory, Value};
 use std::alloc::Global;
+use std::collections::VecDeque;
 use std::marker::Model;
 
 /// Lists of output values, each one once, in the order of adding. Room for further ones can be made beforehand, so that
 /// adding them takes no memory.
 #[derive(Drop)]
 pub struct Outputs {
-    lists: IndexSet<Vec<Value>>,
+    alloc: Global,
+    placed: Placed,
+    // The lists that were added in room that was made for them. They are placed when room is made again.
+    waiting: VecDeque<Vec<Value>>,
 }
 
 impl Model for Outputs {
-    ghost use Rattle.std.specs.Prelude.{map};
-    ghost use Rattle.indexmap.specs.IndexSet.{spare};
+    ghost use Rattle.std.specs.Prelude.{◌++◌, ◌-◌};
+    ghost use Rattle.std.specs.VecDeque.{deque_capacity, deque_len};
     ghost use Rattle.rs_outputs.specs.Seen.{Seen};
+    ghost use Rattle.rs_outputs.specs.Waiting.{AreNew, lists_in};
 
     ghost Value = { Seen };
 
-    ghost view = { λ o. record { lists = map (λ list. list.items) o.lists.keys; room = spare o.lists } };
+    ghost view = { λ o. record {
+      lists = o.placed ++ lists_in o.waiting.items;
+      room = deque_capacity o.waiting - deque_len o.waiting;
+    } };
+
+    ghost invariant = { λ o. AreNew o.placed (lists_in o.waiting.items) };
 }
 
 impl Outputs {
@@ -29,7 +41,9 @@ impl Outputs {
         ensures { result.lists ≡ [] }
     {
         Outputs {
-            lists: IndexSet::new(alloc),
+            alloc,
+            placed: Placed::new(alloc),
+            waiting: VecDeque::new(alloc),
         }
     }
 
@@ -37,7 +51,8 @@ impl Outputs {
     pub fn has(&self, values: &[Value]) -> bool
         ensures { result ≡ has_list values.now self.now.lists }
     {
-        self.lists.contains(values)
+        let (front, back) = self.waiting.as_slices();
+        self.placed.has(values) || is_among(front, values) || is_among(back, values)
     }
 
     /// Adds these values, where they are none of the lists. Says whether they were none.
@@ -48,8 +63,18 @@ impl Outputs {
         ensures room { self.old.room ≤ self.new.room + 1 }
         ensures succeeds { 0 < self.old.room → IsOk result }
     {
-        let new = self.lists.insert(values)?;
-        Ok(new)
+        if self.has(&values) {
+            return Ok(false);
+        }
+        if self.waiting.len() < self.waiting.capacity() {
+            self.waiting.push_back_reserved(values);
+            return Ok(true);
+        }
+        place_all(&mut self.placed, &mut self.waiting)?;
+        match self.placed.add(values) {
+            Ok(()) => Ok(true),
+            Err(_) => Err(Memory),
+        }
     }
 
     /// Adds a copy of these values, where they are none of the lists. Says whether they were none.
@@ -61,7 +86,7 @@ impl Outputs {
         if self.has(values) {
             return Ok(false);
         }
-        let list = copy(*self.lists.allocator(), values)?;
+        let list = copy(self.alloc, values)?;
         self.add(list)
     }
 
@@ -71,7 +96,8 @@ impl Outputs {
         ensures room { OnOk result (more ≤ self.new.room) }
         ensures kept { self.old.room ≤ self.new.room }
     {
-        self.lists.reserve(more)?;
+        place_all(&mut self.placed, &mut self.waiting)?;
+        self.waiting.reserve(more)?;
         Ok(())
     }
 
@@ -81,11 +107,40 @@ impl Outputs {
         ensures lists { self.new.lists ≡ with_list values.items self.old.lists }
         ensures room { self.old.room ≤ self.new.room + 1 }
     {
-        match self.add(values) {
-            Ok(_) => {}
-            Err(Memory) => unreachable!(),
+        if !self.has(&values) {
+            self.waiting.push_back_reserved(values);
         }
     }
+}
+
+/// Whether these values are one of some lists.
+fn is_among(lists: &[Vec<Value>], values: &[Value]) -> bool
+    ensures { result ≡ has_list values.now (lists_in lists.now) }
+{
+    for list in lists {
+        if values == list.as_slice() {
+            return true;
+        }
+    }
+    false
+}
+
+/// Places the lists that wait, in their order. Where memory runs out, the rest of them wait on.
+fn place_all(placed: &mut Placed, waiting: &mut VecDeque<Vec<Value>>) -> Result<(), Memory>
+    requires { AreNew placed.old (lists_in waiting.old.items) }
+    ensures lists { placed.new ++ lists_in waiting.new.items ≡ placed.old ++ lists_in waiting.old.items }
+    ensures new { AreNew placed.new (lists_in waiting.new.items) }
+    ensures none { OnOk result (waiting.new.items ≡ []) }
+    ensures capacity { deque_capacity waiting.new ≡ deque_capacity waiting.old }
+    ensures fewer { deque_len waiting.new ≤ deque_len waiting.old }
+{
+    while let Some(values) = waiting.pop_front() {
+        if let Err(back) = placed.add(values) {
+            waiting.push_front_reserved(back);
+            return Err(Memory);
+        }
+    }
+    Ok(())
 }
 
 /// Equal values, in the same order.

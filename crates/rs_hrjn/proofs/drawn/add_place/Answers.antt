@@ -1,7 +1,7 @@
 -- The place is put behind those that the map has, or is the first of its values.
 use Rattle.std.proofs.Common.{◌∙◌, ap, rules}
-use Rattle.indexmap.specs.IndexMap.{insert_entry}
-use Rattle.rs_hrjn.proofs.MapFacts.{keys_eq, place-inserted, place-pushed, places-kept}
+use Rattle.std.specs.BTreeMap.{insert_entry}
+use Rattle.rs_hrjn.proofs.MapFacts.{key_cmp, place-inserted, place-pushed, places-kept}
 use Rattle.rs_hrjn.proofs.drawn.add_place.Goals as goal
 
 pub returns-in_err-push-in-Some-clause-err : goal.returns-in_err-push-in-Some-clause-err
@@ -16,4 +16,4 @@ returns-in_ok-push-in-Some-clause-ok c =
 pub returns-in_ok-insert-in-None-clause-ok : goal.returns-in_ok-insert-in-None-clause-ok
 returns-in_ok-insert-in-None-clause-ok c =
     place-inserted c.args.places.now c.args.values c.insert.new.self c.in_ok-list-in-None.list c.args.place c.in-None.ensures.value c.in_ok-list-in-None.ensures.items
-    (c.in_ok-insert-in-None.ensures.entries ∙ ap (λ m. insert_entry keys_eq m.entries c.args.values c.in_ok-list-in-None.list) c.get_mut.follows.holds-at-none)
+    (c.in_ok-insert-in-None.ensures.entries ∙ ap (λ m. insert_entry key_cmp m.entries c.args.values c.in_ok-list-in-None.list) c.get_mut.follows.holds-at-none)
