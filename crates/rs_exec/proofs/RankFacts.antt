@@ -27,7 +27,7 @@ use Rattle.rs_query.specs.Questions.{Question}
 use Rattle.rs_query.specs.WellFormed.{IsQuery}
 use Rattle.rs_query.specs.declared.query.Query.{Query}
 use Rattle.rs_query.specs.declared.query.Query.TheVariants.{One, Set}
-use Rattle.rs_plan.specs.Asks.{bar_of, keys_of}
+use Rattle.rs_plan.specs.Asks.{bar_of, child_asks, keys_of}
 use Rattle.rs_plan.specs.Calls.{questions, questions_of_ask, rank_part}
 use Rattle.rs_plan.specs.Counts.{asked_of}
 use Rattle.rs_plan.specs.Lists.{World, numbered_block, key_under, list_of, row_under, sources, weights_in, worths}
@@ -80,6 +80,12 @@ module _ (w : World) (number term : ℕ) (child : PlanTree) where
 
   abbrev step : SideAsk → List Question
   step = rank_part w term (list_of w number child) (questions w number child)
+
+  -- its asks are those of an only child
+  pub rank-child_asks : (a : ℕ) → child_asks w number (Rank term child) a ≡ asks_from Left 1 (asked_of w number (Rank term child) a Left)
+  rank-child_asks zero = refl
+  rank-child_asks (suc n) =
+      ap (asks_from Left 1) (sym (left-asks 1 (asks_for key_cmp (λ (key : Key). key) (keys_of w number child) (bar_of w number (Rank term child) n))))
 
   -- all questions are those of the asks of the input, one after another
   pub rank-questions : (a : ℕ)

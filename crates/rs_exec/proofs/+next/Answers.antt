@@ -12,9 +12,11 @@ use Rattle.rs_exec.specs.declared.node.PlanNode.{PlanNode}
 use Rattle.rs_exec.specs.declared.node.PlanNode.TheVariants as node
 use Rattle.rs_exec.proofs.CycleFacts.{end-kept, given, height, index-entry, index-gave, index-view, input-can, input-failed, input-stands, next-nearer, rank-asked, row-can, row-failed, row-kept, still-stopped, table-entry, table-gave}
 use Rattle.rs_exec.proofs.DistinctCycleFacts.{distinct-asked, drops_turn-can, drops_turn-dropped, drops_turn-failed, drops_turn-given, drops_turn-over, drops_turn-puts, drops_turn-stands, drops_turn-start, drops_turn-stopped}
-use Rattle.rs_exec.proofs.JoinCycleFacts.{join-asked-node, turn-can, turn-ended, turn-failed, turn-fed, turn-given, turn-nearer, turn-over, turn-stands, turn-start, turn-stopped, turn-takes}
-use Rattle.rs_exec.proofs.SetCycleFacts.{set-asked-node, set_turn-alive, set_turn-can, set_turn-ended, set_turn-failed, set_turn-fed, set_turn-given, set_turn-nearer, set_turn-over, set_turn-puts, set_turn-small, set_turn-stands, set_turn-start, set_turn-stopped, set_turn-sum}
+use Rattle.rs_exec.proofs.JoinCycleFacts.{join-asked-node, join-ended, join-fed, join-given, join-next, join-over, join-start, join-takes}
+use Rattle.rs_exec.proofs.SetCycleFacts.{set-alive, set-asked-node, set-ended, set-fed, set-given, set-next, set-over, set-puts, set-start, set-sum}
+use Rattle.rs_exec.proofs.SideFacts.{less-left, less-right}
 use Rattle.rs_exec.proofs.StepFacts.{Between, between-start}
+use Rattle.rs_exec.proofs.TurnFacts.{turn-can, turn-failed, turn-nearer, turn-small, turn-stands, turn-stopped, turn-tree}
 use Rattle.rs_exec.proofs.+next.Goals as goal
 
 pub node::PlanNode::next-next-requires-clause-entry : goal.node::PlanNode::next-next-requires-clause-entry
@@ -157,95 +159,91 @@ node::PlanNode::next-returns-in-Join g t c =
 
 pub join::next_joined-loop-left-init : goal.join::next_joined-loop-left-init
 join::next_joined-loop-left-init g t c =
-    turn-start c.args.context.now.catalog.now c.args.context.now.query.now c.args.head.now c.args.left.now c.args.right.now (g.S.Scorer.state c.args.scorer.now)
+    join-start c.args.context.now.catalog.now c.args.context.now.query.now c.args.head.now c.args.left.now c.args.right.now (g.S.Scorer.state c.args.scorer.now)
     c.requires.can c.requires.head c.requires.left c.requires.right c.ask.new.self c.ask.ensures
 
 pub join::next_joined-next-requires : goal.join::next_joined-next-requires
 join::next_joined-next-requires g t c κs within =
     let less = c.decreases in
-    let same = ap height (c.loop-left.invariant.tree_is Left) in
-    let need = sym c.in-NeedLeft.ensures in
-    (omega arith, (within, (turn-can c.loop-left.invariant c.requires.can Left need, turn-stands c.loop-left.invariant c.requires.can Left need)))
+    let next = join-next c.loop-left.invariant c.requires.can Left (sym c.in-NeedLeft.ensures) in
+    let same = ap height (turn-tree c.loop-left.invariant.turn c.requires.can Left refl next) in
+    (omega arith, (within, (turn-can c.loop-left.invariant.turn c.requires.can Left refl next, turn-stands c.loop-left.invariant.turn c.requires.can Left refl next)))
 
 pub join::next_joined-returns-in_err-row-in-NeedLeft : goal.join::next_joined-returns-in_err-row-in-NeedLeft
 join::next_joined-returns-in_err-row-in-NeedLeft g t c =
-    turn-failed c.loop-left.invariant c.requires.can Left (sym c.in-NeedLeft.ensures) _ c.in_err-row-in-NeedLeft.field-0.0 c.from_residual.result (g.S.Scorer.state c.next.new.scorer)
+    turn-failed c.loop-left.invariant.turn c.requires.can Left refl (join-next c.loop-left.invariant c.requires.can Left (sym c.in-NeedLeft.ensures)) _ c.in_err-row-in-NeedLeft.field-0.0 c.from_residual.result (g.S.Scorer.state c.next.new.scorer)
     (given-err c.from_residual.result c.in_err-row-in-NeedLeft.field-0.0 c.from_residual.ensures) c.in_err-row-in-NeedLeft.ensures.inquires
 
 pub join::next_joined-feed_left-requires : goal.join::next_joined-feed_left-requires
 join::next_joined-feed_left-requires g t c =
-    turn-takes c.loop-left.invariant c.requires.can Left (sym c.in-NeedLeft.ensures) c.in-Some.row c.in_ok-row-in-NeedLeft.field-0 c.in-Some.is
-    (g.S.Scorer.state c.next.new.scorer) c.in_ok-row-in-NeedLeft.ensures.inquires
+    join-takes c.loop-left.invariant c.requires.can Left refl (sym c.in-NeedLeft.ensures) c.in_ok-row-in-NeedLeft.field-0 (g.S.Scorer.state c.next.new.scorer) c.in_ok-row-in-NeedLeft.ensures.inquires c.in-Some.row c.in-Some.is
 
 pub join::next_joined-loop-left-smaller-in-Continue-branch-3 : goal.join::next_joined-loop-left-smaller-in-Continue-branch-3
 join::next_joined-loop-left-smaller-in-Continue-branch-3 g t c =
-    turn-nearer c.loop-left.invariant c.requires.can Left (sym c.in-NeedLeft.ensures) c.next.new.self (c.in_ok-row-in-NeedLeft.ensures.leaves refl)
+    less-left _ _ _ (turn-nearer c.loop-left.invariant.turn c.requires.can Left refl (join-next c.loop-left.invariant c.requires.can Left (sym c.in-NeedLeft.ensures)) c.next.new.self (c.in_ok-row-in-NeedLeft.ensures.leaves refl))
 
 pub join::next_joined-loop-left-preserved-in-Continue-branch-3 : goal.join::next_joined-loop-left-preserved-in-Continue-branch-3
 join::next_joined-loop-left-preserved-in-Continue-branch-3 g t c =
-    turn-fed c.loop-left.invariant c.requires.can Left (sym c.in-NeedLeft.ensures) c.in-Some.row c.in_ok-row-in-NeedLeft.field-0 c.in-Some.is
-    (g.S.Scorer.state c.next.new.scorer) c.in_ok-row-in-NeedLeft.ensures.inquires c.feed_left.new.self c.next.new.self c.in_ok-feed_left-in-Some.ensures (c.in_ok-row-in-NeedLeft.ensures.leaves refl)
+    join-fed c.loop-left.invariant c.requires.can Left refl (sym c.in-NeedLeft.ensures) c.in_ok-row-in-NeedLeft.field-0 (g.S.Scorer.state c.next.new.scorer) c.in_ok-row-in-NeedLeft.ensures.inquires c.in-Some.row c.in-Some.is
+    c.feed_left.new.self c.next.new.self c.in_ok-feed_left-in-Some.ensures (c.in_ok-row-in-NeedLeft.ensures.leaves refl)
 
 pub join::next_joined-returns-in_err-feed_left-in-Some : goal.join::next_joined-returns-in_err-feed_left-in-Some
 join::next_joined-returns-in_err-feed_left-in-Some g t c =
-    turn-stopped c.loop-left.invariant c.requires.can Left (sym c.in-NeedLeft.ensures) c.in-Some.row c.in_ok-row-in-NeedLeft.field-0 c.in-Some.is
-    (g.S.Scorer.state c.next.new.scorer) c.in_ok-row-in-NeedLeft.ensures.inquires _ c.from_residual-in_err-feed_left-in-Some.result (given-err c.from_residual-in_err-feed_left-in-Some.result Memory c.from_residual-in_err-feed_left-in-Some.ensures)
+    turn-stopped c.loop-left.invariant.turn c.requires.can Left refl (join-next c.loop-left.invariant c.requires.can Left (sym c.in-NeedLeft.ensures)) c.in_ok-row-in-NeedLeft.field-0 (g.S.Scorer.state c.next.new.scorer) c.in_ok-row-in-NeedLeft.ensures.inquires
+    _ c.from_residual-in_err-feed_left-in-Some.result (given-err c.from_residual-in_err-feed_left-in-Some.result Memory c.from_residual-in_err-feed_left-in-Some.ensures)
 
 pub join::next_joined-loop-left-smaller-in-None : goal.join::next_joined-loop-left-smaller-in-None
 join::next_joined-loop-left-smaller-in-None g t c =
-    turn-nearer c.loop-left.invariant c.requires.can Left (sym c.in-NeedLeft.ensures) c.next.new.self (c.in_ok-row-in-NeedLeft.ensures.leaves refl)
+    less-left _ _ _ (turn-nearer c.loop-left.invariant.turn c.requires.can Left refl (join-next c.loop-left.invariant c.requires.can Left (sym c.in-NeedLeft.ensures)) c.next.new.self (c.in_ok-row-in-NeedLeft.ensures.leaves refl))
 
 pub join::next_joined-loop-left-preserved-in-None : goal.join::next_joined-loop-left-preserved-in-None
 join::next_joined-loop-left-preserved-in-None g t c =
-    turn-ended c.loop-left.invariant c.requires.can Left (sym c.in-NeedLeft.ensures) c.in_ok-row-in-NeedLeft.field-0 c.in-None.is
-    (g.S.Scorer.state c.next.new.scorer) c.end_left.new.self c.next.new.self c.end_left.ensures c.in_ok-row-in-NeedLeft.ensures.inquires (c.in_ok-row-in-NeedLeft.ensures.leaves refl)
+    join-ended c.loop-left.invariant c.requires.can Left refl (sym c.in-NeedLeft.ensures) c.in_ok-row-in-NeedLeft.field-0 (g.S.Scorer.state c.next.new.scorer) c.in_ok-row-in-NeedLeft.ensures.inquires c.in-None.is c.end_left.new.self c.next.new.self c.end_left.ensures (c.in_ok-row-in-NeedLeft.ensures.leaves refl)
 
 pub join::next_joined-next-requires-in-NeedRight : goal.join::next_joined-next-requires-in-NeedRight
 join::next_joined-next-requires-in-NeedRight g t c κs within =
     let less = c.decreases in
-    let same = ap height (c.loop-left.invariant.tree_is Right) in
-    let need = sym c.in-NeedRight.ensures in
-    (omega arith, (within, (turn-can c.loop-left.invariant c.requires.can Right need, turn-stands c.loop-left.invariant c.requires.can Right need)))
+    let next = join-next c.loop-left.invariant c.requires.can Right (sym c.in-NeedRight.ensures) in
+    let same = ap height (turn-tree c.loop-left.invariant.turn c.requires.can Right refl next) in
+    (omega arith, (within, (turn-can c.loop-left.invariant.turn c.requires.can Right refl next, turn-stands c.loop-left.invariant.turn c.requires.can Right refl next)))
 
 pub join::next_joined-returns-in_err-row-in-NeedRight : goal.join::next_joined-returns-in_err-row-in-NeedRight
 join::next_joined-returns-in_err-row-in-NeedRight g t c =
-    turn-failed c.loop-left.invariant c.requires.can Right (sym c.in-NeedRight.ensures) _ c.in_err-row-in-NeedRight.field-0.0 c.from_residual-in_err-row-in-NeedRight.result (g.S.Scorer.state c.next-in-NeedRight.new.scorer)
+    turn-failed c.loop-left.invariant.turn c.requires.can Right refl (join-next c.loop-left.invariant c.requires.can Right (sym c.in-NeedRight.ensures)) _ c.in_err-row-in-NeedRight.field-0.0 c.from_residual-in_err-row-in-NeedRight.result (g.S.Scorer.state c.next-in-NeedRight.new.scorer)
     (given-err c.from_residual-in_err-row-in-NeedRight.result c.in_err-row-in-NeedRight.field-0.0 c.from_residual-in_err-row-in-NeedRight.ensures) c.in_err-row-in-NeedRight.ensures.inquires
 
 pub join::next_joined-feed_right-requires : goal.join::next_joined-feed_right-requires
 join::next_joined-feed_right-requires g t c =
-    turn-takes c.loop-left.invariant c.requires.can Right (sym c.in-NeedRight.ensures) c.in-Some-2.row c.in_ok-row-in-NeedRight.field-0 c.in-Some-2.is
-    (g.S.Scorer.state c.next-in-NeedRight.new.scorer) c.in_ok-row-in-NeedRight.ensures.inquires
+    join-takes c.loop-left.invariant c.requires.can Right refl (sym c.in-NeedRight.ensures) c.in_ok-row-in-NeedRight.field-0 (g.S.Scorer.state c.next-in-NeedRight.new.scorer) c.in_ok-row-in-NeedRight.ensures.inquires c.in-Some-2.row c.in-Some-2.is
 
 pub join::next_joined-loop-left-smaller-in-Continue-branch-6 : goal.join::next_joined-loop-left-smaller-in-Continue-branch-6
 join::next_joined-loop-left-smaller-in-Continue-branch-6 g t c =
-    turn-nearer c.loop-left.invariant c.requires.can Right (sym c.in-NeedRight.ensures) c.next-in-NeedRight.new.self (c.in_ok-row-in-NeedRight.ensures.leaves refl)
+    less-right _ _ _ (turn-nearer c.loop-left.invariant.turn c.requires.can Right refl (join-next c.loop-left.invariant c.requires.can Right (sym c.in-NeedRight.ensures)) c.next-in-NeedRight.new.self (c.in_ok-row-in-NeedRight.ensures.leaves refl))
 
 pub join::next_joined-loop-left-preserved-in-Continue-branch-6 : goal.join::next_joined-loop-left-preserved-in-Continue-branch-6
 join::next_joined-loop-left-preserved-in-Continue-branch-6 g t c =
-    turn-fed c.loop-left.invariant c.requires.can Right (sym c.in-NeedRight.ensures) c.in-Some-2.row c.in_ok-row-in-NeedRight.field-0 c.in-Some-2.is
-    (g.S.Scorer.state c.next-in-NeedRight.new.scorer) c.in_ok-row-in-NeedRight.ensures.inquires c.feed_right.new.self c.next-in-NeedRight.new.self c.in_ok-feed_right-in-Some-2.ensures (c.in_ok-row-in-NeedRight.ensures.leaves refl)
+    join-fed c.loop-left.invariant c.requires.can Right refl (sym c.in-NeedRight.ensures) c.in_ok-row-in-NeedRight.field-0 (g.S.Scorer.state c.next-in-NeedRight.new.scorer) c.in_ok-row-in-NeedRight.ensures.inquires c.in-Some-2.row c.in-Some-2.is
+    c.feed_right.new.self c.next-in-NeedRight.new.self c.in_ok-feed_right-in-Some-2.ensures (c.in_ok-row-in-NeedRight.ensures.leaves refl)
 
 pub join::next_joined-returns-in_err-feed_right-in-Some-2 : goal.join::next_joined-returns-in_err-feed_right-in-Some-2
 join::next_joined-returns-in_err-feed_right-in-Some-2 g t c =
-    turn-stopped c.loop-left.invariant c.requires.can Right (sym c.in-NeedRight.ensures) c.in-Some-2.row c.in_ok-row-in-NeedRight.field-0 c.in-Some-2.is
-    (g.S.Scorer.state c.next-in-NeedRight.new.scorer) c.in_ok-row-in-NeedRight.ensures.inquires _ c.from_residual-in_err-feed_right-in-Some-2.result (given-err c.from_residual-in_err-feed_right-in-Some-2.result Memory c.from_residual-in_err-feed_right-in-Some-2.ensures)
+    turn-stopped c.loop-left.invariant.turn c.requires.can Right refl (join-next c.loop-left.invariant c.requires.can Right (sym c.in-NeedRight.ensures)) c.in_ok-row-in-NeedRight.field-0 (g.S.Scorer.state c.next-in-NeedRight.new.scorer) c.in_ok-row-in-NeedRight.ensures.inquires
+    _ c.from_residual-in_err-feed_right-in-Some-2.result (given-err c.from_residual-in_err-feed_right-in-Some-2.result Memory c.from_residual-in_err-feed_right-in-Some-2.ensures)
 
 pub join::next_joined-loop-left-smaller : goal.join::next_joined-loop-left-smaller
 join::next_joined-loop-left-smaller g t c =
-    turn-nearer c.loop-left.invariant c.requires.can Right (sym c.in-NeedRight.ensures) c.next-in-NeedRight.new.self (c.in_ok-row-in-NeedRight.ensures.leaves refl)
+    less-right _ _ _ (turn-nearer c.loop-left.invariant.turn c.requires.can Right refl (join-next c.loop-left.invariant c.requires.can Right (sym c.in-NeedRight.ensures)) c.next-in-NeedRight.new.self (c.in_ok-row-in-NeedRight.ensures.leaves refl))
 
 pub join::next_joined-loop-left-preserved : goal.join::next_joined-loop-left-preserved
 join::next_joined-loop-left-preserved g t c =
-    turn-ended c.loop-left.invariant c.requires.can Right (sym c.in-NeedRight.ensures) c.in_ok-row-in-NeedRight.field-0 c.in-None-2.is
-    (g.S.Scorer.state c.next-in-NeedRight.new.scorer) c.end_right.new.self c.next-in-NeedRight.new.self c.end_right.ensures c.in_ok-row-in-NeedRight.ensures.inquires (c.in_ok-row-in-NeedRight.ensures.leaves refl)
+    join-ended c.loop-left.invariant c.requires.can Right refl (sym c.in-NeedRight.ensures) c.in_ok-row-in-NeedRight.field-0 (g.S.Scorer.state c.next-in-NeedRight.new.scorer) c.in_ok-row-in-NeedRight.ensures.inquires c.in-None-2.is c.end_right.new.self c.next-in-NeedRight.new.self c.end_right.ensures (c.in_ok-row-in-NeedRight.ensures.leaves refl)
 
 pub join::next_joined-returns-in-Ready : goal.join::next_joined-returns-in-Ready
 join::next_joined-returns-in-Ready g t c =
-    turn-given c.loop-left.invariant c.requires.can (sym c.in-Ready.ensures) c.give.new.self c.give.result c.give.ensures.row c.give.ensures.after
+    join-given c.loop-left.invariant c.requires.can (sym c.in-Ready.ensures) c.give.new.self c.give.result c.give.ensures.row c.give.ensures.after
 
 pub join::next_joined-returns-in-End : goal.join::next_joined-returns-in-End
-join::next_joined-returns-in-End g t c = turn-over c.loop-left.invariant c.requires.can (sym c.in-End.ensures)
+join::next_joined-returns-in-End g t c = join-over c.loop-left.invariant c.requires.can (sym c.in-End.ensures)
 
 pub node::PlanNode::next-returns-in-Distinct : goal.node::PlanNode::next-returns-in-Distinct
 node::PlanNode::next-returns-in-Distinct g t c =
@@ -304,115 +302,117 @@ node::PlanNode::next-returns-in-Set g t c =
 
 pub set::next_combined-loop-left-init : goal.set::next_combined-loop-left-init
 set::next_combined-loop-left-init g t c =
-    set_turn-start c.args.context.now.catalog.now c.args.context.now.query.now c.args.head.now c.args.left.now c.args.right.now (g.S.Scorer.state c.args.scorer.now)
+    set-start c.args.context.now.catalog.now c.args.context.now.query.now c.args.head.now c.args.left.now c.args.right.now (g.S.Scorer.state c.args.scorer.now)
     c.requires.can c.requires.head c.requires.left c.requires.right c.ask.new.self c.ask.ensures
 
 pub set::next_combined-ask-requires-in-loop-left : goal.set::next_combined-ask-requires-in-loop-left
-set::next_combined-ask-requires-in-loop-left g t c = set_turn-alive c.loop-left.invariant c.requires.can
+set::next_combined-ask-requires-in-loop-left g t c = set-alive c.loop-left.invariant c.requires.can
 
 pub set::next_combined-next-requires : goal.set::next_combined-next-requires
 set::next_combined-next-requires g t c κs within =
     let less = c.decreases in
-    let same = ap height c.loop-left.invariant.left_tree in
-    let need = sym c.in-NeedLeft.ensures in
-    (omega arith, (within, (set_turn-can c.loop-left.invariant c.requires.can Left need, set_turn-stands c.loop-left.invariant c.requires.can Left need)))
+    let next = set-next c.loop-left.invariant c.requires.can Left (sym c.in-NeedLeft.ensures) in
+    let same = ap height (turn-tree c.loop-left.invariant.turn c.requires.can Left refl next) in
+    (omega arith, (within, (turn-can c.loop-left.invariant.turn c.requires.can Left refl next, turn-stands c.loop-left.invariant.turn c.requires.can Left refl next)))
 
 pub set::next_combined-returns-in_err-row-in-NeedLeft : goal.set::next_combined-returns-in_err-row-in-NeedLeft
 set::next_combined-returns-in_err-row-in-NeedLeft g t c =
-    set_turn-failed c.loop-left.invariant c.requires.can Left (sym c.in-NeedLeft.ensures) _ c.in_err-row-in-NeedLeft.field-0.0 c.from_residual.result (g.S.Scorer.state c.next.new.scorer)
+    turn-failed c.loop-left.invariant.turn c.requires.can Left refl (set-next c.loop-left.invariant c.requires.can Left (sym c.in-NeedLeft.ensures)) _ c.in_err-row-in-NeedLeft.field-0.0 c.from_residual.result (g.S.Scorer.state c.next.new.scorer)
     (given-err c.from_residual.result c.in_err-row-in-NeedLeft.field-0.0 c.from_residual.ensures) c.in_err-row-in-NeedLeft.ensures.inquires
 
 pub set::next_combined-feed_left-requires-clause-alive : goal.set::next_combined-feed_left-requires-clause-alive
-set::next_combined-feed_left-requires-clause-alive g t c = set_turn-alive c.loop-left.invariant c.requires.can
+set::next_combined-feed_left-requires-clause-alive g t c = set-alive c.loop-left.invariant c.requires.can
 
 pub set::next_combined-feed_left-requires-clause-row : goal.set::next_combined-feed_left-requires-clause-row
-set::next_combined-feed_left-requires-clause-row g t c = set_turn-puts c.loop-left.invariant c.requires.can Left (sym c.in-NeedLeft.ensures) c.in-Some.row c.in_ok-row-in-NeedLeft.field-0 c.in-Some.is (g.S.Scorer.state c.next.new.scorer) c.in_ok-row-in-NeedLeft.ensures.inquires
+set::next_combined-feed_left-requires-clause-row g t c =
+    set-puts c.loop-left.invariant c.requires.can Left refl (sym c.in-NeedLeft.ensures) c.in_ok-row-in-NeedLeft.field-0 (g.S.Scorer.state c.next.new.scorer) c.in_ok-row-in-NeedLeft.ensures.inquires c.in-Some.row c.in-Some.is
 
 pub set::next_combined-feed_left-requires-clause-sum : goal.set::next_combined-feed_left-requires-clause-sum
-set::next_combined-feed_left-requires-clause-sum g t c = set_turn-sum c.loop-left.invariant c.requires.can Left (sym c.in-NeedLeft.ensures) c.in-Some.row c.in_ok-row-in-NeedLeft.field-0 c.in-Some.is (g.S.Scorer.state c.next.new.scorer) c.in_ok-row-in-NeedLeft.ensures.inquires
+set::next_combined-feed_left-requires-clause-sum g t c =
+    set-sum c.loop-left.invariant c.requires.can Left refl (sym c.in-NeedLeft.ensures) c.in_ok-row-in-NeedLeft.field-0 (g.S.Scorer.state c.next.new.scorer) c.in_ok-row-in-NeedLeft.ensures.inquires c.in-Some.row c.in-Some.is
 
 pub set::next_combined-loop-left-smaller-in-Continue-branch-3 : goal.set::next_combined-loop-left-smaller-in-Continue-branch-3
 set::next_combined-loop-left-smaller-in-Continue-branch-3 g t c =
-    set_turn-nearer c.loop-left.invariant c.requires.can Left (sym c.in-NeedLeft.ensures) c.next.new.self (c.in_ok-row-in-NeedLeft.ensures.leaves refl)
+    less-left _ _ _ (turn-nearer c.loop-left.invariant.turn c.requires.can Left refl (set-next c.loop-left.invariant c.requires.can Left (sym c.in-NeedLeft.ensures)) c.next.new.self (c.in_ok-row-in-NeedLeft.ensures.leaves refl))
 
 pub set::next_combined-loop-left-preserved-in-Continue-branch-3 : goal.set::next_combined-loop-left-preserved-in-Continue-branch-3
 set::next_combined-loop-left-preserved-in-Continue-branch-3 g t c =
-    set_turn-fed c.loop-left.invariant c.requires.can Left (sym c.in-NeedLeft.ensures) c.in-Some.row c.in_ok-row-in-NeedLeft.field-0 c.in-Some.is (g.S.Scorer.state c.next.new.scorer) c.in_ok-row-in-NeedLeft.ensures.inquires
+    set-fed c.loop-left.invariant c.requires.can Left refl (sym c.in-NeedLeft.ensures) c.in_ok-row-in-NeedLeft.field-0 (g.S.Scorer.state c.next.new.scorer) c.in_ok-row-in-NeedLeft.ensures.inquires c.in-Some.row c.in-Some.is
     c.feed_left.new.self c.next.new.self c.in_ok-feed_left-in-Some.ensures (c.in_ok-row-in-NeedLeft.ensures.leaves refl)
 
 pub set::next_combined-returns-in_err-feed_left-in-Some : goal.set::next_combined-returns-in_err-feed_left-in-Some
 set::next_combined-returns-in_err-feed_left-in-Some g t c =
-    set_turn-stopped c.loop-left.invariant c.requires.can Left (sym c.in-NeedLeft.ensures) c.in-Some.row c.in_ok-row-in-NeedLeft.field-0 c.in-Some.is (g.S.Scorer.state c.next.new.scorer) c.in_ok-row-in-NeedLeft.ensures.inquires
+    turn-stopped c.loop-left.invariant.turn c.requires.can Left refl (set-next c.loop-left.invariant c.requires.can Left (sym c.in-NeedLeft.ensures)) c.in_ok-row-in-NeedLeft.field-0 (g.S.Scorer.state c.next.new.scorer) c.in_ok-row-in-NeedLeft.ensures.inquires
     _ c.from_residual-in_err-feed_left-in-Some.result (given-err c.from_residual-in_err-feed_left-in-Some.result Memory c.from_residual-in_err-feed_left-in-Some.ensures)
 
 pub set::next_combined-end_left-requires-clause-alive : goal.set::next_combined-end_left-requires-clause-alive
-set::next_combined-end_left-requires-clause-alive g t c = set_turn-alive c.loop-left.invariant c.requires.can
+set::next_combined-end_left-requires-clause-alive g t c = set-alive c.loop-left.invariant c.requires.can
 
 pub set::next_combined-loop-left-smaller-in-None : goal.set::next_combined-loop-left-smaller-in-None
 set::next_combined-loop-left-smaller-in-None g t c =
-    set_turn-nearer c.loop-left.invariant c.requires.can Left (sym c.in-NeedLeft.ensures) c.next.new.self (c.in_ok-row-in-NeedLeft.ensures.leaves refl)
+    less-left _ _ _ (turn-nearer c.loop-left.invariant.turn c.requires.can Left refl (set-next c.loop-left.invariant c.requires.can Left (sym c.in-NeedLeft.ensures)) c.next.new.self (c.in_ok-row-in-NeedLeft.ensures.leaves refl))
 
 pub set::next_combined-loop-left-preserved-in-None : goal.set::next_combined-loop-left-preserved-in-None
 set::next_combined-loop-left-preserved-in-None g t c =
-    set_turn-ended c.loop-left.invariant c.requires.can Left (sym c.in-NeedLeft.ensures) c.in_ok-row-in-NeedLeft.field-0 c.in-None.is
-    (g.S.Scorer.state c.next.new.scorer) c.end_left.new.self c.next.new.self c.end_left.ensures c.in_ok-row-in-NeedLeft.ensures.inquires (c.in_ok-row-in-NeedLeft.ensures.leaves refl)
+    set-ended c.loop-left.invariant c.requires.can Left refl (sym c.in-NeedLeft.ensures) c.in_ok-row-in-NeedLeft.field-0 (g.S.Scorer.state c.next.new.scorer) c.in_ok-row-in-NeedLeft.ensures.inquires c.in-None.is c.end_left.new.self c.next.new.self c.end_left.ensures (c.in_ok-row-in-NeedLeft.ensures.leaves refl)
 
 pub set::next_combined-next-requires-in-NeedRight : goal.set::next_combined-next-requires-in-NeedRight
 set::next_combined-next-requires-in-NeedRight g t c κs within =
     let less = c.decreases in
-    let same = ap height c.loop-left.invariant.right_tree in
-    let need = sym c.in-NeedRight.ensures in
-    (omega arith, (within, (set_turn-can c.loop-left.invariant c.requires.can Right need, set_turn-stands c.loop-left.invariant c.requires.can Right need)))
+    let next = set-next c.loop-left.invariant c.requires.can Right (sym c.in-NeedRight.ensures) in
+    let same = ap height (turn-tree c.loop-left.invariant.turn c.requires.can Right refl next) in
+    (omega arith, (within, (turn-can c.loop-left.invariant.turn c.requires.can Right refl next, turn-stands c.loop-left.invariant.turn c.requires.can Right refl next)))
 
 pub set::next_combined-returns-in_err-row-in-NeedRight : goal.set::next_combined-returns-in_err-row-in-NeedRight
 set::next_combined-returns-in_err-row-in-NeedRight g t c =
-    set_turn-failed c.loop-left.invariant c.requires.can Right (sym c.in-NeedRight.ensures) _ c.in_err-row-in-NeedRight.field-0.0 c.from_residual-in_err-row-in-NeedRight.result (g.S.Scorer.state c.next-in-NeedRight.new.scorer)
+    turn-failed c.loop-left.invariant.turn c.requires.can Right refl (set-next c.loop-left.invariant c.requires.can Right (sym c.in-NeedRight.ensures)) _ c.in_err-row-in-NeedRight.field-0.0 c.from_residual-in_err-row-in-NeedRight.result (g.S.Scorer.state c.next-in-NeedRight.new.scorer)
     (given-err c.from_residual-in_err-row-in-NeedRight.result c.in_err-row-in-NeedRight.field-0.0 c.from_residual-in_err-row-in-NeedRight.ensures) c.in_err-row-in-NeedRight.ensures.inquires
 
 pub set::next_combined-feed_right-requires-clause-alive : goal.set::next_combined-feed_right-requires-clause-alive
-set::next_combined-feed_right-requires-clause-alive g t c = set_turn-alive c.loop-left.invariant c.requires.can
+set::next_combined-feed_right-requires-clause-alive g t c = set-alive c.loop-left.invariant c.requires.can
 
 pub set::next_combined-feed_right-requires-clause-row : goal.set::next_combined-feed_right-requires-clause-row
-set::next_combined-feed_right-requires-clause-row g t c = set_turn-puts c.loop-left.invariant c.requires.can Right (sym c.in-NeedRight.ensures) c.in-Some-2.row c.in_ok-row-in-NeedRight.field-0 c.in-Some-2.is (g.S.Scorer.state c.next-in-NeedRight.new.scorer) c.in_ok-row-in-NeedRight.ensures.inquires
+set::next_combined-feed_right-requires-clause-row g t c =
+    set-puts c.loop-left.invariant c.requires.can Right refl (sym c.in-NeedRight.ensures) c.in_ok-row-in-NeedRight.field-0 (g.S.Scorer.state c.next-in-NeedRight.new.scorer) c.in_ok-row-in-NeedRight.ensures.inquires c.in-Some-2.row c.in-Some-2.is
 
 pub set::next_combined-feed_right-requires-clause-sum : goal.set::next_combined-feed_right-requires-clause-sum
-set::next_combined-feed_right-requires-clause-sum g t c = set_turn-sum c.loop-left.invariant c.requires.can Right (sym c.in-NeedRight.ensures) c.in-Some-2.row c.in_ok-row-in-NeedRight.field-0 c.in-Some-2.is (g.S.Scorer.state c.next-in-NeedRight.new.scorer) c.in_ok-row-in-NeedRight.ensures.inquires
+set::next_combined-feed_right-requires-clause-sum g t c =
+    set-sum c.loop-left.invariant c.requires.can Right refl (sym c.in-NeedRight.ensures) c.in_ok-row-in-NeedRight.field-0 (g.S.Scorer.state c.next-in-NeedRight.new.scorer) c.in_ok-row-in-NeedRight.ensures.inquires c.in-Some-2.row c.in-Some-2.is
 
 pub set::next_combined-loop-left-smaller-in-Continue-branch-6 : goal.set::next_combined-loop-left-smaller-in-Continue-branch-6
 set::next_combined-loop-left-smaller-in-Continue-branch-6 g t c =
-    set_turn-nearer c.loop-left.invariant c.requires.can Right (sym c.in-NeedRight.ensures) c.next-in-NeedRight.new.self (c.in_ok-row-in-NeedRight.ensures.leaves refl)
+    less-right _ _ _ (turn-nearer c.loop-left.invariant.turn c.requires.can Right refl (set-next c.loop-left.invariant c.requires.can Right (sym c.in-NeedRight.ensures)) c.next-in-NeedRight.new.self (c.in_ok-row-in-NeedRight.ensures.leaves refl))
 
 pub set::next_combined-loop-left-preserved-in-Continue-branch-6 : goal.set::next_combined-loop-left-preserved-in-Continue-branch-6
 set::next_combined-loop-left-preserved-in-Continue-branch-6 g t c =
-    set_turn-fed c.loop-left.invariant c.requires.can Right (sym c.in-NeedRight.ensures) c.in-Some-2.row c.in_ok-row-in-NeedRight.field-0 c.in-Some-2.is (g.S.Scorer.state c.next-in-NeedRight.new.scorer) c.in_ok-row-in-NeedRight.ensures.inquires
+    set-fed c.loop-left.invariant c.requires.can Right refl (sym c.in-NeedRight.ensures) c.in_ok-row-in-NeedRight.field-0 (g.S.Scorer.state c.next-in-NeedRight.new.scorer) c.in_ok-row-in-NeedRight.ensures.inquires c.in-Some-2.row c.in-Some-2.is
     c.feed_right.new.self c.next-in-NeedRight.new.self c.in_ok-feed_right-in-Some-2.ensures (c.in_ok-row-in-NeedRight.ensures.leaves refl)
 
 pub set::next_combined-returns-in_err-feed_right-in-Some-2 : goal.set::next_combined-returns-in_err-feed_right-in-Some-2
 set::next_combined-returns-in_err-feed_right-in-Some-2 g t c =
-    set_turn-stopped c.loop-left.invariant c.requires.can Right (sym c.in-NeedRight.ensures) c.in-Some-2.row c.in_ok-row-in-NeedRight.field-0 c.in-Some-2.is (g.S.Scorer.state c.next-in-NeedRight.new.scorer) c.in_ok-row-in-NeedRight.ensures.inquires
+    turn-stopped c.loop-left.invariant.turn c.requires.can Right refl (set-next c.loop-left.invariant c.requires.can Right (sym c.in-NeedRight.ensures)) c.in_ok-row-in-NeedRight.field-0 (g.S.Scorer.state c.next-in-NeedRight.new.scorer) c.in_ok-row-in-NeedRight.ensures.inquires
     _ c.from_residual-in_err-feed_right-in-Some-2.result (given-err c.from_residual-in_err-feed_right-in-Some-2.result Memory c.from_residual-in_err-feed_right-in-Some-2.ensures)
 
 pub set::next_combined-end_right-requires-clause-alive : goal.set::next_combined-end_right-requires-clause-alive
-set::next_combined-end_right-requires-clause-alive g t c = set_turn-alive c.loop-left.invariant c.requires.can
+set::next_combined-end_right-requires-clause-alive g t c = set-alive c.loop-left.invariant c.requires.can
 
 pub set::next_combined-loop-left-smaller : goal.set::next_combined-loop-left-smaller
 set::next_combined-loop-left-smaller g t c =
-    set_turn-nearer c.loop-left.invariant c.requires.can Right (sym c.in-NeedRight.ensures) c.next-in-NeedRight.new.self (c.in_ok-row-in-NeedRight.ensures.leaves refl)
+    less-right _ _ _ (turn-nearer c.loop-left.invariant.turn c.requires.can Right refl (set-next c.loop-left.invariant c.requires.can Right (sym c.in-NeedRight.ensures)) c.next-in-NeedRight.new.self (c.in_ok-row-in-NeedRight.ensures.leaves refl))
 
 pub set::next_combined-loop-left-preserved : goal.set::next_combined-loop-left-preserved
 set::next_combined-loop-left-preserved g t c =
-    set_turn-ended c.loop-left.invariant c.requires.can Right (sym c.in-NeedRight.ensures) c.in_ok-row-in-NeedRight.field-0 c.in-None-2.is
-    (g.S.Scorer.state c.next-in-NeedRight.new.scorer) c.end_right.new.self c.next-in-NeedRight.new.self c.end_right.ensures c.in_ok-row-in-NeedRight.ensures.inquires (c.in_ok-row-in-NeedRight.ensures.leaves refl)
+    set-ended c.loop-left.invariant c.requires.can Right refl (sym c.in-NeedRight.ensures) c.in_ok-row-in-NeedRight.field-0 (g.S.Scorer.state c.next-in-NeedRight.new.scorer) c.in_ok-row-in-NeedRight.ensures.inquires c.in-None-2.is c.end_right.new.self c.next-in-NeedRight.new.self c.end_right.ensures (c.in_ok-row-in-NeedRight.ensures.leaves refl)
 
 pub set::next_combined-give-requires-clause-alive : goal.set::next_combined-give-requires-clause-alive
-set::next_combined-give-requires-clause-alive g t c = set_turn-alive c.loop-left.invariant c.requires.can
+set::next_combined-give-requires-clause-alive g t c = set-alive c.loop-left.invariant c.requires.can
 
 pub set::next_combined-give-requires-clause-small : goal.set::next_combined-give-requires-clause-small
-set::next_combined-give-requires-clause-small g t c = set_turn-small c.loop-left.invariant c.requires.can
+set::next_combined-give-requires-clause-small g t c = turn-small c.loop-left.invariant.turn c.requires.can
 
 pub set::next_combined-returns-in-Ready : goal.set::next_combined-returns-in-Ready
 set::next_combined-returns-in-Ready g t c =
-    set_turn-given c.loop-left.invariant c.requires.can (sym c.in-Ready.ensures) c.give.new.self c.give.result c.give.ensures.row c.give.ensures.after
+    set-given c.loop-left.invariant c.requires.can (sym c.in-Ready.ensures) c.give.new.self c.give.result c.give.ensures.row c.give.ensures.after
 
 pub set::next_combined-returns-in-End : goal.set::next_combined-returns-in-End
-set::next_combined-returns-in-End g t c = set_turn-over c.loop-left.invariant c.requires.can (sym c.in-End.ensures)
+set::next_combined-returns-in-End g t c = set-over c.loop-left.invariant c.requires.can (sym c.in-End.ensures)

@@ -10,6 +10,7 @@ use Rattle.rs_exec.proofs.CycleFacts.{Turn, height}
 use Rattle.rs_exec.proofs.DistinctCycleFacts.{DropsTurn}
 use Rattle.rs_exec.proofs.JoinCycleFacts.{JoinTurn}
 use Rattle.rs_exec.proofs.SetCycleFacts.{SetTurn}
+use Rattle.rs_exec.proofs.TurnFacts.{both}
 use Rattle.rs_exec.proofs.+next.Given as goal
 
 -- each call goes one node down
@@ -35,7 +36,7 @@ decreases-join::next_joined g l = 2 * max (height (tree_in l.left.now)) (height 
 -- the join stands between two asks of its sides, which stand too and are of the same plan
 abbrev pub invariant-join::next_joined-loop-left : goal.invariant-join::next_joined-loop-left
 invariant-join::next_joined-loop-left g l =
-    JoinTurn l.context.catalog.now l.context.query.now l.fn.head.block (kind_of l.fn.head.core) (tree_in l.fn.left) (tree_in l.fn.right) l.fn.head.tally.asked (g.S.Scorer.state l.fn.scorer) l.head l.left l.right (g.S.Scorer.state l.scorer)
+    JoinTurn l.context.catalog.now l.context.query.now l.fn.head.block (kind_of l.fn.head.core) (tree_in l.fn.left) (tree_in l.fn.right) l.fn.head.tally.asked (g.S.Scorer.state l.fn.scorer) l.head (both l.left l.right) (g.S.Scorer.state l.scorer)
 
 -- the asks of both sides that are left
 abbrev pub decreases-join::next_joined-loop-left : goal.decreases-join::next_joined-loop-left
@@ -62,7 +63,7 @@ decreases-set::next_combined g l = 2 * max (height (tree_in l.left.now)) (height
 -- the set operator stands between two asks of its sides, which stand too and are of the same plan
 abbrev pub invariant-set::next_combined-loop-left : goal.invariant-set::next_combined-loop-left
 invariant-set::next_combined-loop-left g l =
-    SetTurn l.context.catalog.now l.context.query.now (tree_in l.fn.left) (tree_in l.fn.right) l.fn.head.tally.asked (g.S.Scorer.state l.fn.scorer) l.head l.left l.right (g.S.Scorer.state l.scorer)
+    SetTurn l.context.catalog.now l.context.query.now (tree_in l.fn.left) (tree_in l.fn.right) l.fn.head.tally.asked (g.S.Scorer.state l.fn.scorer) l.head (both l.left l.right) (g.S.Scorer.state l.scorer)
 
 -- the asks of both sides that are left
 abbrev pub decreases-set::next_combined-loop-left : goal.decreases-set::next_combined-loop-left
