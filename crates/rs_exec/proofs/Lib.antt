@@ -1,5 +1,4 @@
 mod AdvanceFacts
-mod AloneFacts
 mod AlikeFacts
 mod AnswerFacts
 mod FeedFacts
@@ -30,6 +29,7 @@ mod OperatorFacts
 mod PartFacts
 mod PartMaskFacts
 mod PlacesFacts
+mod RankCycleFacts
 mod RankFacts
 mod ScanFacts
 mod SetAskFacts

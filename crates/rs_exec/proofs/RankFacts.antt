@@ -78,34 +78,11 @@ module _ (w : World) (number term : ℕ) (child : PlanTree) where
   abbrev e : Evaluation
   e = evaluation_for w term child
 
-  abbrev step : SideAsk → List Question
-  step = rank_part w term (list_of w number child) (questions w number child)
-
   -- its asks are those of an only child
   pub rank-child_asks : (a : ℕ) → child_asks w number (Rank term child) a ≡ asks_from Left 1 (asked_of w number (Rank term child) a Left)
   rank-child_asks zero = refl
   rank-child_asks (suc n) =
       ap (asks_from Left 1) (sym (left-asks 1 (asks_for key_cmp (λ (key : Key). key) (keys_of w number child) (bar_of w number (Rank term child) n))))
-
-  -- all questions are those of the asks of the input, one after another
-  pub rank-questions : (a : ℕ)
-      → questions w number (Rank term child) a
-      ≡ flat_map (rank_part w term (list_of w number child) (questions w number child)) (asks_from Left 1 (asked_of w number (Rank term child) a Left))
-  rank-questions zero = refl
-  rank-questions (suc n) =
-      ap (λ count. flat_map (rank_part w term (list_of w number child) (questions w number child)) (asks_from Left 1 count))
-      (sym (left-asks 1 (asks_for key_cmp (λ (key : Key). key) (keys_of w number child) (bar_of w number (Rank term child) n))))
-
-  -- the asks that one ask more takes in addition
-  abbrev pub asks_between : ℕ → ℕ → List SideAsk
-  asks_between first last = asks_from Left (suc first) (last - first)
-
-  -- one ask more stands behind the others
-  pub asks_between-more : (first last : ℕ) → first ≤ last → asks_between first (suc last) ≡ asks_between first last ++ record { side = Left; number = suc last } ∷ []
-  asks_between-more first last le =
-      let place : suc first + (last - first) ≡ suc last = omega arith in
-      asks_from-split Left (suc first) (last - first) 1 (suc last - first) (omega arith)
-      ∙ ap (λ k. asks_between first last ++ record { side = Left; number = k } ∷ []) place
 
   module _ (formed : IsQuery w.catalogue w.query) (part : IsPartOf w.catalogue w.query number (Rank term child)) (weights : IsWeights (weights_in w)) where
     new-term : IsNewTerm (terms child) term
@@ -179,22 +156,3 @@ module _ (w : World) (number term : ℕ) (child : PlanTree) where
         let more = rank-asks b in
         let grow = asks-grow e (list_of w number child) rank-input a b le in
         omega arith
-
-    -- the questions of one ask are those of the asks of the input that it takes in addition
-    pub rank-questions_of_ask : (a : ℕ)
-        → questions_of_ask w number (Rank term child) (suc a)
-        ≡ flat_map (rank_part w term (list_of w number child) (questions w number child))
-        (asks_between (asked_of w number (Rank term child) a Left) (asked_of w number (Rank term child) (suc a) Left))
-    rank-questions_of_ask a = part_at (asked_of w number (Rank term child) a Left) (asked_of w number (Rank term child) (suc a) Left)
-        (asks-more a (suc a) (omega arith)) (rank-questions a) (rank-questions (suc a)) where
-          part_at : (first last : ℕ) → first ≤ last → questions w number (Rank term child) a ≡ flat_map step (asks_from Left 1 first)
-              → questions w number (Rank term child) (suc a) ≡ flat_map step (asks_from Left 1 last)
-              → drop (length (questions w number (Rank term child) a)) (questions w number (Rank term child) (suc a)) ≡ flat_map step (asks_between first last)
-          part_at first last le before after =
-              let place : 1 + first ≡ suc first = omega arith in
-              ap (λ (qs : List Question). drop (length qs) (questions w number (Rank term child) (suc a))) before
-              ∙ ap (drop (length (flat_map step (asks_from Left 1 first))))
-              (after ∙ ap (flat_map step) (asks_from-split Left 1 first (last - first) last (omega arith))
-              ∙ flat_map-append step (asks_from Left 1 first) (asks_from Left (1 + first) (last - first)))
-              ∙ drop-front (flat_map step (asks_from Left 1 first)) (flat_map step (asks_from Left (1 + first) (last - first)))
-              ∙ ap (λ k. flat_map step (asks_from Left k (last - first))) place
