@@ -1,6 +1,5 @@
 -- One ask of a scan, as a node of a plan: it puts no question, and gives the next row of its list.
-use Rattle.std.proofs.Common.{ℕ, suc, ◌≡◌, ◌∙◌, ◌+◌, ◌-◌, ◌≤◌, ◌<◌, true, max, min, List, [], Box, Global, length, refl, sym, ap, subst, arith}
-use Rattle.std.specs.Box.{with_value}
+use Rattle.std.proofs.Common.{ℕ, suc, ◌≡◌, ◌∙◌, ◌+◌, ◌-◌, ◌≤◌, max, min, List, [], length, refl, sym, ap, subst, arith}
 use Rattle.std.specs.Prelude.{Option, Some, None, Result, Ok, Err, IsOk, if◌then◌else◌, is_some, option_and_then, option_map, slice_get, unwrap_or}
 use Rattle.std.proofs.lemmas.Option.{slice_get_within}
 use Rattle.rs_table.specs.Relation.{Relation}
@@ -13,33 +12,23 @@ use Rattle.rs_catalog.specs.declared.index.IndexDef.{IndexDef}
 use Rattle.rs_scan.specs.Scans.{rows_of_index, rows_of_table}
 use Rattle.rs_query.specs.Questions.{asking}
 use Rattle.rs_query.specs.declared.query.Query.{Query}
-use Rattle.rs_query.specs.declared.term.Term.{Term}
-use Rattle.rs_query.proofs.QuestionFacts.{AllAsked, AllAsked-none, Ended-behind, Gave-ok, Stopped-behind}
+use Rattle.rs_query.proofs.QuestionFacts.{AllAsked, AllAsked-none, Ended-behind, Stopped-behind}
 use Rattle.rs_plan.specs.Calls.{questions_of_ask}
-use Rattle.rs_order.specs.Schedule.{Left}
-use Rattle.rs_rank.specs.declared.ask.Ask.TheVariants.{Need}
-use Rattle.rs_mu.specs.Mu.{ask_of, left_for, taken_for}
-use Rattle.rs_plan.specs.Counts.{asked_of, gave_of}
+use Rattle.rs_plan.specs.Counts.{gave_of}
 use Rattle.rs_plan.specs.Lists.{World, list_of}
-use Rattle.rs_query.specs.Blocks.{block_in}
 use Rattle.rs_plan.specs.Trees.{Distinct, JoinOperator, Rank, RankScan, SeqScan, SetOperator, PlanTree}
-use Rattle.rs_exec.specs.Asked.{Asked, CanAsk, NodeAfter, RankAfter}
+use Rattle.rs_exec.specs.Asked.{Asked, CanAsk, NodeAfter}
 use Rattle.rs_exec.specs.Asking.{exec_faults, next_row, world_of}
 use Rattle.rs_exec.specs.Drawing.{ScansEntry, drawn_then, next_drawn, passes, tally_with}
-use Rattle.rs_exec.specs.Feeding.{CanTake, feeding}
-use Rattle.rs_exec.specs.Nodes.{asked_in, number_in, tree_in}
-use Rattle.rs_exec.specs.Standing.{HeadStands, Stands, index_node_after, table_node_after, tally_after}
+use Rattle.rs_exec.specs.Standing.{index_node_after, table_node_after, tally_after}
 use Rattle.rs_exec.specs.declared.fault.ExecFault.{ExecFault}
 use Rattle.rs_exec.specs.declared.fault.ExecFault.TheVariants.{Memory}
-use Rattle.rs_exec.specs.declared.node.PlanNode.{PlanNode}
 use Rattle.rs_exec.specs.declared.node.PlanNode.TheVariants as node
 use Rattle.rs_exec.specs.declared.node.PlanNode.TheViews as view
-use Rattle.rs_exec.specs.declared.rank.RankNode.{RankNode}
 use Rattle.rs_exec.specs.declared.scan.IndexNode.{IndexNode}
 use Rattle.rs_exec.specs.declared.scan.TableNode.{TableNode}
 use Rattle.rs_exec.specs.declared.tally.Tally.{Tally}
 use Rattle.rs_catalog.proofs.IndexForFacts.{index-for}
-use Rattle.rs_exec.proofs.PlacesFacts.{TermFor}
 use Rattle.rs_exec.proofs.ScanFacts.{index-next, index-then, table-next, table-then}
 use Rattle.rs_exec.proofs.StartFacts.{size-is}
 use Rattle.rs_exec.proofs.BlockFacts.{few-entries, sizes-are, slice_get-none}

@@ -1,12 +1,12 @@
 -- One ask of an operator that drops duplicates: where its core stands between two asks of its input, what each row does, and what is
 -- left behind the ask.
-use Rattle.std.proofs.Common.{ℕ, suc, ◌≡◌, ◌∙◌, ◌+◌, ◌≤◌, ◌<◌, true, false, List, Box, Global, length, take, refl, sym, ap, subst, subst₂, inl, inr, arith}
+use Rattle.std.proofs.Common.{ℕ, suc, ◌≡◌, ◌∙◌, ◌+◌, ◌≤◌, true, false, List, Box, Global, length, take, refl, sym, ap, subst, inl, inr, arith}
 use Rattle.std.specs.Box.{with_value}
 use Rattle.std.specs.Prelude.{Bool, IfSome, Option, Some, None, Result, Ok, if◌then◌else◌, is_some, option_map, slice_get}
 use Rattle.std.proofs.lemmas.List.{take_all}
 use Rattle.std.proofs.lemmas.Option.{slice_get-map, slice_get_past}
 use Rattle.rs_order.specs.Asks.{asks_for, bar_after}
-use Rattle.rs_order.specs.Schedule.{JoinSide, Left, asked}
+use Rattle.rs_order.specs.Schedule.{JoinSide, Left, SideAsk, asked}
 use Rattle.rs_expr.specs.InOrder.{Inquires}
 use Rattle.rs_expr.specs.Scoring.{ScorerState}
 use Rattle.rs_rank.specs.Keys.{key_cmp}
@@ -61,9 +61,10 @@ module _ (w : World) (self : PlanNode) (head after : DistinctNode) (box : Box Pl
 -- during ask a + 1 of an operator: each ask of its input that was made gave a row, its core stands at these rows, and as many of them
 -- were given as there were asks before
 pub record DropsTurn (catalogue : CatalogDef) (query : Query) (number : ℕ) (child : PlanTree) (a : ℕ) (old : ScorerState) (head : DistinctNode) (on : JoinSide → Option PlanNode) (now : ScorerState) : Type 0 where
-  pub turn : Turn catalogue query number (Distinct child) a old head.tally on now
-  pub core : DistinctStands (outputs_in (world_of catalogue old.answer query) number child) (asked Left turn.made) head.core
-  pub counted : length (firsts (take (asked Left turn.made) (outputs_in (world_of catalogue old.answer query) number child))) ≡ a
+  pub made : List SideAsk
+  pub turn : Turn catalogue query number (Distinct child) a old head.tally on made now
+  pub core : DistinctStands (outputs_in (world_of catalogue old.answer query) number child) (asked Left made) head.core
+  pub counted : length (firsts (take (asked Left made) (outputs_in (world_of catalogue old.answer query) number child))) ≡ a
 
 -- at its start
 pub drops-start : (catalogue : CatalogDef) (query : Query) (head : DistinctNode) (child : PlanNode) (old : ScorerState)
@@ -79,6 +80,7 @@ drops-start catalogue query head child old can stands below tally asks =
     let a = head.tally.asked in
     let first = taken w number t can.formed can.part can.weights a can.more in
     record {
+      made = child_asks w number (Distinct t) a;
       turn = turn-start catalogue query number (Distinct t) old head.tally (one_child child) can
           (on-both (λ side. IfSome (one_child child side) (Below w number t (asked_of w number (Distinct t) a side))) (record { tree_is = refl; asked_is = stands.asked; stands = below }) tt)
           (ap (λ (n : DistinctNode). n.tally.gave) stands.keeps) tally asks;
@@ -95,12 +97,12 @@ module _ {catalogue : CatalogDef} {query : Query} {number : ℕ} {child : PlanTr
   rows = outputs_in (world_of catalogue old.answer query) number child
 
   abbrev asks : ℕ
-  asks = asked Left during.turn.made
+  asks = asked Left during.made
 
   pub drops-alive : head.core.spent ≡ false
   drops-alive = ap (λ (k : Kept). k.spent) during.core.state
 
-  pub drops-next : slice_get (child_asks (world_of catalogue old.answer query) number (Distinct child) (suc a)) (length during.turn.made) ≡ Some (next_ask Left during.turn.made)
+  pub drops-next : slice_get (child_asks (world_of catalogue old.answer query) number (Distinct child) (suc a)) (length during.made) ≡ Some (next_ask Left during.made)
   drops-next =
       let within = during.core.within in
       let size = outputs-length w number child in
@@ -109,16 +111,16 @@ module _ {catalogue : CatalogDef} {query : Query} {number : ℕ} {child : PlanTr
 
   module _ {n : PlanNode} (is : on Left ≡ Some n) (got : Option RankRow) (middle : ScorerState)
       (answered : Inquires Memory (next_row (world_of catalogue now.answer query) (number_in n) (tree_in n) (asked_in n)) (Ok got) now middle) where
-    there : slice_get (list_of (world_of catalogue old.answer query) number child) (asked Left during.turn.made) ≡ got
+    there : slice_get (list_of (world_of catalogue old.answer query) number child) (asked Left during.made) ≡ got
     there = turn-there during.turn can Left is drops-next got middle answered
 
     -- behind the ask of its input
     behind : (tally : Tally) (next : PlanNode) → NodeAfter (world_of catalogue now.answer query) (number_in n) (tree_in n) (asked_in n) next → tally.asked ≡ head.tally.asked → tally.gave ≡ head.tally.gave
-        → Turn catalogue query number (Distinct child) a old tally (changed Left next on) middle
+        → Turn catalogue query number (Distinct child) a old tally (changed Left next on) (one_more Left during.made) middle
     behind tally next after asked_same gave_same = turn-more during.turn can Left is drops-next got middle answered tally middle next after (AllAsked-none old.answer catalogue middle) asked_same gave_same
 
     module _ (row : RankRow) (is_row : got ≡ Some row) where
-      output : slice_get (outputs_in (world_of catalogue old.answer query) number child) (asked Left during.turn.made) ≡ Some (output_row (world_of catalogue old.answer query) row)
+      output : slice_get (outputs_in (world_of catalogue old.answer query) number child) (asked Left during.made) ≡ Some (output_row (world_of catalogue old.answer query) row)
       output = slice_get-map (output_row w) (list_of w number child) asks ∙ ap (option_map (output_row w)) (there ∙ is_row)
 
       -- it has the entries of the output columns
@@ -134,7 +136,7 @@ module _ {catalogue : CatalogDef} {query : Query} {number : ℕ} {child : PlanTr
       abbrev fed : Kept
       fed = record head.core { lists = with_list (values_for catalogue query row) head.core.lists }
 
-      fed-is : DistinctStands (outputs_in (world_of catalogue old.answer query) number child) (suc (asked Left during.turn.made)) (record head.core { lists = with_list (values_for catalogue query row) head.core.lists })
+      fed-is : DistinctStands (outputs_in (world_of catalogue old.answer query) number child) (suc (asked Left during.made)) (record head.core { lists = with_list (values_for catalogue query row) head.core.lists })
       fed-is = fed-stands rows asks head.core (output_row w row) during.core output
 
       -- the row is dropped
@@ -145,12 +147,13 @@ module _ {catalogue : CatalogDef} {query : Query} {number : ℕ} {child : PlanTr
           } → (next : PlanNode) → NodeAfter (world_of catalogue now.answer query) (number_in n) (tree_in n) (asked_in n) next → is_some given ≡ false
           → DropsTurn catalogue query number child a old after (changed Left next on) middle
       drops-dropped after given is_given after_is next left none =
-          let one = one-more Left during.turn.made in
+          let one = one-more Left during.made in
           let old_values = old-values rows asks head.core (output_row w row) during.core (sym is_given ∙ not-some given none) in
           record {
+            made = one_more Left during.made;
             turn = behind after.tally next left (ap (λ (h : DistinctNode). h.tally.asked) after_is)
                 (ap (λ (h : DistinctNode). h.tally.gave) after_is ∙ ap (λ b. if b then head.tally.gave + 1 else head.tally.gave) none);
-            core = subst (λ (h : DistinctNode). DistinctStands rows (asked Left (one_more Left during.turn.made)) h.core) (sym after_is) (subst (λ k. DistinctStands rows k fed) (sym one) fed-is);
+            core = subst (λ (h : DistinctNode). DistinctStands rows (asked Left (one_more Left during.made)) h.core) (sym after_is) (subst (λ k. DistinctStands rows k fed) (sym one) fed-is);
             counted = ap (λ k. length (firsts (take k rows))) one ∙ firsts-same rows asks (output_row w row) output old_values ∙ during.counted;
           }
         where
@@ -179,24 +182,24 @@ module _ {catalogue : CatalogDef} {query : Query} {number : ℕ} {child : PlanTr
   all_rows = outputs_in (world_of catalogue old.answer query) number child
 
   abbrev done : ℕ
-  done = asked Left during.turn.made
+  done = asked Left during.made
 
   -- what is left once a row was given, or none was there: these were all asks that the answer takes
-  left-then : (after : DistinctNode) (core : Kept) (row : Option RankRow) → suc (asked Left during.turn.made) ≡ asked_of (world_of catalogue old.answer query) number (Distinct child) (suc a) Left
+  left-then : (after : DistinctNode) (core : Kept) (row : Option RankRow) → suc (asked Left during.made) ≡ asked_of (world_of catalogue old.answer query) number (Distinct child) (suc a) Left
       → row ≡ slice_get (list_of (world_of catalogue old.answer query) number (Distinct child)) a
-      → core ≡ record { lists = lists_of (take (suc (asked Left during.turn.made)) (outputs_in (world_of catalogue old.answer query) number child)); spent = false }
+      → core ≡ record { lists = lists_of (take (suc (asked Left during.made)) (outputs_in (world_of catalogue old.answer query) number child)); spent = false }
       → after.core ≡ core → after.tally.asked ≡ head.tally.asked → ◌≡◌ {A = ℕ} after.tally.gave (if is_some row then head.tally.gave + 1 else head.tally.gave)
       → Asked (world_of catalogue old.answer query) number (Distinct child) a (DistinctAfter (world_of catalogue old.answer query) number (Distinct child) a after next) (Ok row) old middle
   left-then after core row exact value core_is after_is asked_is gave_is =
-      let now_turn : Turn catalogue query number operator a old head.tally (one_child next) middle = behind during can refl got middle answered head.tally next kept refl refl in
-      let count : asked Left now_turn.made ≡ asked_of whole number operator (suc a) Left = one-more Left during.turn.made ∙ exact in
+      let now_turn : Turn catalogue query number operator a old head.tally (one_child next) (one_more Left during.made) middle = behind during can refl got middle answered head.tally next kept refl refl in
+      let count : asked Left (one_more Left during.made) ≡ asked_of whole number operator (suc a) Left = one-more Left during.made ∙ exact in
       let all = turn-all now_turn can (distinct-child_asks whole number child (suc a)) count in
       let is_asked : after.tally.asked ≡ suc a = asked_is ∙ during.turn.asked_is in
       let gave : after.tally.gave ≡ gave_of whole number operator (suc a) = gave_is ∙ turn-gave now_turn can all row value in
       let last : after.core ≡ record { lists = lists_of (take (asked_of whole number operator (suc a) Left) all_rows); spent = false } =
       after_is ∙ core_is ∙ ap (λ k. record { lists = lists_of (take k all_rows); spent = false }) exact in
       let keeps : after ≡ distinct_node_after whole number child (suc a) = λ i. record { core = last i; tally = record { asked = is_asked i; gave = gave i } } in
-      let below : Below whole number child (asked Left now_turn.made) next = now_turn.below Left in
+      let below : Below whole number child (asked Left (one_more Left during.made)) next = now_turn.below Left in
       record {
         inquires = turn-inquires now_turn can all row value;
         leaves = λ ok. record {

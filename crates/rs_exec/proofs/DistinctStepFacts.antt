@@ -1,54 +1,35 @@
 -- How often an operator that drops duplicates asks its input.
-use Rattle.std.proofs.Common.{◌≡◌, ◌∙◌, ℕ, zero, suc, ◌-◌, ◌<◌, ◌≤◌, Bool, true, false, List, [], ◌∷◌, ◌++◌, length, map, take, refl, sym, ap, subst, inl, inr, arith, append_assoc}
+use Rattle.std.proofs.Common.{◌≡◌, ◌∙◌, ℕ, zero, suc, ◌-◌, ◌<◌, ◌≤◌, Bool, true, false, List, [], ◌∷◌, length, map, take, refl, sym, ap, inl, inr, arith}
 use Rattle.std.proofs.lemmas.Bool.{cases_lt}
 use Rattle.std.proofs.lemmas.List.{length-map, take_all}
 use Rattle.std.proofs.lemmas.Option.{slice_get-map, slice_get_past, slice_get_within}
-use Rattle.std.specs.List.{flat_map}
-use Rattle.std.specs.Prelude.{None, Some, Option, Ok, Err, option_map, slice_get}
+use Rattle.std.specs.Prelude.{None, Some, Option, option_map, slice_get}
 use Rattle.std.specs.declared.cmp.Ordering.{Ordering}
 use Rattle.rs_order.specs.Asks.{asks_for, bar_after, comes_before_bar}
 use Rattle.rs_order.specs.Climbing.{Climbs, Precedes}
-use Rattle.rs_order.specs.Schedule.{Left, SideAsk, asks_from}
-use Rattle.rs_order.proofs.EachFacts.{each-map, each-slice_get}
+use Rattle.rs_order.specs.Schedule.{Left, asks_from}
+use Rattle.rs_order.proofs.EachFacts.{each-map}
 use Rattle.rs_order.proofs.PartFacts.{bar_after-slice_get}
 use Rattle.rs_rank.specs.Keys.{key_cmp}
 use Rattle.rs_rank.specs.Weights.{IsWeights}
 use Rattle.rs_rank.specs.declared.key.Key.{Key}
 use Rattle.rs_rank.specs.declared.row.RankRow.{RankRow}
 use Rattle.rs_rank.proofs.OrderFacts.{key_cmp-total}
-use Rattle.rs_expr.specs.InOrder.{Inquires}
-use Rattle.rs_expr.specs.Scoring.{ScorerState}
-use Rattle.rs_catalog.specs.Catalog.{CatalogDef}
-use Rattle.rs_filter.specs.Distinct.{Distinct as Kept, DistinctStands, given_for}
-use Rattle.rs_filter.proofs.DistinctLists.{all-asks, fed-stands, new-values, old-values}
-use Rattle.rs_outputs.specs.Rows.{OutputRow, firsts, lists_of, values_of}
-use Rattle.rs_outputs.specs.Seen.{has_list, with_list}
-use Rattle.rs_outputs.proofs.DistinctFacts.{dropped-asks, first-next, firsts-more, firsts-same, given-asks}
-use Rattle.rs_query.specs.Meaning.{is_inside}
-use Rattle.rs_query.specs.Questions.{Question}
-use Rattle.rs_query.specs.Tables.{HasRows, all_entries}
-use Rattle.rs_query.specs.WellFormed.{IsQuery, entries_mask}
-use Rattle.rs_query.specs.declared.query.Query.{Query}
-use Rattle.rs_query.proofs.EntryFacts.{items-inside}
-use Rattle.rs_query.proofs.QuestionFacts.{AllAsked, AllAsked-more, AllAsked-none, Ended-behind, Gave, Gave-ok, Inquires-fault, Stopped-within}
+use Rattle.rs_filter.proofs.DistinctLists.{all-asks}
+use Rattle.rs_outputs.specs.Rows.{OutputRow, firsts, values_of}
+use Rattle.rs_outputs.specs.Seen.{has_list}
+use Rattle.rs_outputs.proofs.DistinctFacts.{dropped-asks, firsts-more, firsts-same, given-asks}
+use Rattle.rs_query.specs.WellFormed.{IsQuery}
 use Rattle.rs_plan.specs.Asks.{bar_of, child_asks, keys_of}
-use Rattle.rs_plan.specs.Calls.{part_of, questions, questions_of_ask}
 use Rattle.rs_plan.specs.Counts.{asked_of}
 use Rattle.rs_plan.specs.Lists.{World, key_under, list_of, numbered_block, weights_in}
-use Rattle.rs_query.specs.Blocks.{block_in}
 use Rattle.rs_plan.specs.Plans.{IsPart}
 use Rattle.rs_plan.specs.Trees.{Distinct, PlanTree, terms}
-use Rattle.rs_exec.specs.Asked.{CanAsk}
-use Rattle.rs_exec.specs.Asking.{exec_faults, next_row, world_of}
-use Rattle.rs_exec.specs.OutputValues.{CanPutOut, output_row, outputs_in, values_for}
-use Rattle.rs_exec.specs.declared.fault.ExecFault.{ExecFault}
-use Rattle.rs_exec.specs.declared.fault.ExecFault.TheVariants.{Memory}
-use Rattle.rs_exec.proofs.AloneFacts.{between, between-more, between-none, between-part, between-split}
+use Rattle.rs_exec.specs.OutputValues.{output_row, outputs_in}
 use Rattle.rs_exec.proofs.DistinctListFacts.{distinct-outputs, output_key}
-use Rattle.rs_exec.proofs.PlacesFacts.{list-few-of, part-of}
-use Rattle.rs_exec.proofs.ListFacts.{IsRow, list-climbs, list-rows}
+use Rattle.rs_exec.proofs.ListFacts.{list-climbs}
 use Rattle.rs_exec.proofs.RankFacts.{bar_after-map, left-asks, length-filter-map}
-use Rattle.rs_exec.proofs.StepFacts.{block-formed, few-entries, sizes-are, slice_get-none}
+use Rattle.rs_exec.proofs.StepFacts.{slice_get-none}
 
 -- what a function makes of a list that rises
 pub climbs-map : {X Y K : Type 0} (cmp : K → K → Ordering) (key : Y → K) (f : X → Y) (xs : List X) → Climbs cmp (λ x. key (f x)) xs → Climbs cmp key (map f xs)
@@ -149,7 +130,7 @@ module _ (w : World) (number : ℕ) (child : PlanTree) where
         }
 
     -- a row of its list by the same one with its output values
-    row-at : (a : ℕ) (row : RankRow) → slice_get (firsts (outputs_in w number child)) a ≡ Some (output_row w row) → Some row ≡ slice_get (list_of w number (Distinct child)) a
+    pub row-at : (a : ℕ) (row : RankRow) → slice_get (firsts (outputs_in w number child)) a ≡ Some (output_row w row) → Some row ≡ slice_get (list_of w number (Distinct child)) a
     row-at a row there =
         go (slice_get (list_of w number (Distinct child)) a)
         (sym (slice_get-map (output_row w) (list_of w number (Distinct child)) a)

@@ -1,5 +1,5 @@
 -- One ask of a join: where its core stands between two asks of its sides, what each row does, and what is left behind the ask.
-use Rattle.std.proofs.Common.{ℕ, suc, ◌≡◌, ◌∙◌, ◌+◌, ◌++◌, List, false, true, min, Box, Global, length, take, refl, sym, ap, ap₂, subst, subst₂, arith}
+use Rattle.std.proofs.Common.{ℕ, suc, ◌≡◌, ◌∙◌, ◌+◌, ◌≤◌, List, false, true, min, Box, Global, length, take, refl, sym, ap, ap₂, subst, subst₂, arith}
 use Rattle.std.specs.Box.{with_value}
 use Rattle.std.specs.List.{AllByRecursion}
 use Rattle.std.specs.Prelude.{Bool, IfSome, Option, Some, None, Result, Ok, if◌then◌else◌, is_some, slice_get}
@@ -19,11 +19,10 @@ use Rattle.rs_catalog.specs.Catalog.{CatalogDef}
 use Rattle.rs_query.proofs.QuestionFacts.{AllAsked-none}
 use Rattle.rs_query.specs.Blocks.{block_in}
 use Rattle.rs_query.specs.Tables.{HasRows, sizes_of}
-use Rattle.rs_query.specs.WellFormed.{IsBlock}
 use Rattle.rs_query.specs.declared.query.Query.{Query}
 use Rattle.rs_ripple.specs.After.{joined_after}
 use Rattle.rs_ripple.specs.Joined.{Fits, JoinStands as CoreStands, Joined, rest_for}
-use Rattle.rs_ripple.specs.Ripple.{CanEnd, Ripple, ask_of, left_ended, left_for, right_ended, taken_for}
+use Rattle.rs_ripple.specs.Ripple.{Ripple, ask_of, left_ended, left_for, right_ended, taken_for}
 use Rattle.rs_ripple.specs.Stands.{BeginsWith, Join, schedule_of}
 use Rattle.rs_ripple.proofs.JoinLawFacts.{is-now, left-can-feed, left-end-stands, left-fed-stands, right-can-feed, right-end-stands, right-fed-stands, stands-fits, taken-join-stands}
 use Rattle.rs_ripple.proofs.LawFacts.{taken-is}
@@ -96,9 +95,10 @@ join-parts catalogue query number kind left right a old can = record {
 
 -- during ask a + 1 of a join: its core stands at the asks that were made, and at as many answers as asks before
 pub record JoinTurn (catalogue : CatalogDef) (query : Query) (number : ℕ) (kind : JoinKind) (left right : PlanTree) (a : ℕ) (old : ScorerState) (head : JoinNode) (on : JoinSide → Option PlanNode) (now : ScorerState) : Type 0 where
-  pub turn : Turn catalogue query number (JoinOperator kind left right) a old head.tally on now
+  pub made : List SideAsk
+  pub turn : Turn catalogue query number (JoinOperator kind left right) a old head.tally on made now
   pub core : CoreStands (join_for (world_of catalogue old.answer query) number left right) (list_of (world_of catalogue old.answer query) number left) (list_of (world_of catalogue old.answer query) number right)
-      turn.made a (joined_in head.core)
+      made a (joined_in head.core)
   pub block_is : head.block ≡ number
   pub conditions_are : head.conditions ≡ conditions_of catalogue (block_in query number) (entries left) (entries right)
   pub kind_is : kind_of head.core ≡ kind
@@ -132,6 +132,7 @@ join-start catalogue query head on_left on_right old can stands left right tally
     of-joined catalogue (block_in query head.block) (entries l) (entries r) kind head.core kept core
     ∙ ap (joined_after j lefts rights (asked_of w head.block tree a Left) (asked_of w head.block tree a Right)) all in
     record {
+      made = child_asks w head.block tree a;
       turn = turn-start catalogue query head.block tree old head.tally (both on_left on_right) can
           (on-both (λ side. IfSome (both on_left on_right side) (Below w head.block (of_side l r side) (asked_of w head.block tree a side)))
           (record { tree_is = refl; asked_is = stands.left_asked; stands = left }) (record { tree_is = refl; asked_is = stands.right_asked; stands = right }))
@@ -171,7 +172,7 @@ module _ {catalogue : CatalogDef} {query : Query} {number : ℕ} {kind : JoinKin
   rights = list_of (world_of catalogue old.answer query) number right
 
   abbrev made : List SideAsk
-  made = during.turn.made
+  made = during.made
 
   abbrev joined : Joined
   joined = joined_in head.core
@@ -180,7 +181,7 @@ module _ {catalogue : CatalogDef} {query : Query} {number : ℕ} {kind : JoinKin
   parts = join-parts catalogue query number kind left right a old can
 
   -- what the core tells, of the asks and the list of the plan
-  pub join-tells : turns.Tells (child_asks (world_of catalogue old.answer query) number (JoinOperator kind left right) (suc a)) during.turn.made a
+  pub join-tells : turns.Tells (child_asks (world_of catalogue old.answer query) number (JoinOperator kind left right) (suc a)) during.made a
       (length (list_of (world_of catalogue old.answer query) number (JoinOperator kind left right))) (ask_of (joined_in head.core).ripple)
   join-tells =
       subst₂ (λ (asks : List SideAsk) (rows : List RankRow). turns.Tells asks made a (length rows) (ask_of joined.ripple))
@@ -188,7 +189,7 @@ module _ {catalogue : CatalogDef} {query : Query} {number : ℕ} {kind : JoinKin
       (stands-tells j lefts rights made a joined.ripple during.core.core)
 
   pub join-next : (side : JoinSide) → ask_of (joined_in head.core).ripple ≡ need_of side
-      → slice_get (child_asks (world_of catalogue old.answer query) number (JoinOperator kind left right) (suc a)) (length during.turn.made) ≡ Some (next_ask side during.turn.made)
+      → slice_get (child_asks (world_of catalogue old.answer query) number (JoinOperator kind left right) (suc a)) (length during.made) ≡ Some (next_ask side during.made)
   join-next side need =
       tells-next (child_asks w number tree (suc a)) made a (length (list_of w number tree)) side
       (subst (turns.Tells (child_asks w number tree (suc a)) made a (length (list_of w number tree))) need join-tells)
@@ -252,33 +253,34 @@ module _ {catalogue : CatalogDef} {query : Query} {number : ℕ} {kind : JoinKin
 
   -- a row of a side that is needed can be fed, and then the core stands one ask further; so it does behind the side's end
   feeds : (side : JoinSide) → ask_of (joined_in head.core).ripple ≡ need_of side → (row : RankRow)
-      → slice_get (list_of (world_of catalogue old.answer query) number (of_side left right side)) (asked side during.turn.made) ≡ Some row → CanFeed side row (joined_in head.core)
+      → slice_get (list_of (world_of catalogue old.answer query) number (of_side left right side)) (asked side during.made) ≡ Some row → CanFeed side row (joined_in head.core)
   feeds Left need row there = left-can-feed j lefts rights made a joined during.core need row there
   feeds Right need row there = right-can-feed j lefts rights made a joined during.core need row there
 
   core-fed : (side : JoinSide) → ask_of (joined_in head.core).ripple ≡ need_of side → (row : RankRow)
-      → slice_get (list_of (world_of catalogue old.answer query) number (of_side left right side)) (asked side during.turn.made) ≡ Some row
-      → CoreStands j lefts rights (one_more side during.turn.made) a (joined_with_row side j.matches row (joined_in head.core))
+      → slice_get (list_of (world_of catalogue old.answer query) number (of_side left right side)) (asked side during.made) ≡ Some row
+      → CoreStands j lefts rights (one_more side during.made) a (joined_with_row side j.matches row (joined_in head.core))
   core-fed Left need row there = left-fed-stands j lefts rights made a joined during.core need row there
   core-fed Right need row there = right-fed-stands j lefts rights made a joined during.core need row there
 
   core-ended : (side : JoinSide) → ask_of (joined_in head.core).ripple ≡ need_of side
-      → slice_get (list_of (world_of catalogue old.answer query) number (of_side left right side)) (asked side during.turn.made) ≡ None
-      → CoreStands j lefts rights (one_more side during.turn.made) a (record (joined_in head.core) { ripple = ended_of side (joined_in head.core).ripple })
+      → slice_get (list_of (world_of catalogue old.answer query) number (of_side left right side)) (asked side during.made) ≡ None
+      → CoreStands j lefts rights (one_more side during.made) a (record (joined_in head.core) { ripple = ended_of side (joined_in head.core).ripple })
   core-ended Left need over = (left-end-stands j lefts rights made a joined during.core need over).1
   core-ended Right need over = (right-end-stands j lefts rights made a joined during.core need over).1
 
   module _ (side : JoinSide) {n : PlanNode} (is : on side ≡ Some n) (need : ask_of (joined_in head.core).ripple ≡ need_of side) (got : Option RankRow) (asked_then : ScorerState)
       (answered : Inquires Memory (next_row (world_of catalogue now.answer query) (number_in n) (tree_in n) (asked_in n)) (Ok got) now asked_then) where
-    there : slice_get (list_of (world_of catalogue old.answer query) number (of_side left right side)) (asked side during.turn.made) ≡ got
+    there : slice_get (list_of (world_of catalogue old.answer query) number (of_side left right side)) (asked side during.made) ≡ got
     there = turn-there during.turn can side is (join-next side need) got asked_then answered
 
     -- the join behind the ask, with this core
     moved : (core : JoinCore) (fed : JoinNode) (next : PlanNode) → NodeAfter (world_of catalogue now.answer query) (number_in n) (tree_in n) (asked_in n) next
         → fed ≡ record head { core = core } → HasValues catalogue (block_in query number) (entries left) (entries right) core → kind_of core ≡ kind_of head.core
-        → CoreStands j lefts rights (one_more side during.turn.made) a (joined_in core)
+        → CoreStands j lefts rights (one_more side during.made) a (joined_in core)
         → JoinTurn catalogue query number kind left right a old fed (changed side next on) asked_then
     moved core fed next after fed_is has kind_same stands = record {
+      made = one_more side during.made;
       turn = turn-more during.turn can side is (join-next side need) got asked_then answered fed.tally asked_then next after (AllAsked-none old.answer catalogue asked_then)
           (ap (λ (h : JoinNode). h.tally.asked) fed_is) (ap (λ (h : JoinNode). h.tally.gave) fed_is);
       core = subst (λ (h : JoinNode). CoreStands j lefts rights (one_more side made) a (joined_in h.core)) (sym fed_is) stands;
@@ -339,9 +341,9 @@ module _ {catalogue : CatalogDef} {query : Query} {number : ℕ} {kind : JoinKin
   operator = JoinOperator kind left right
 
   -- what is left once a row was given, or none was there
-  left-then : (after : JoinNode) (joined : Joined) (row : Option RankRow) (count : ℕ) → during.turn.made ≡ child_asks (world_of catalogue old.answer query) number (JoinOperator kind left right) (suc a)
+  left-then : (after : JoinNode) (joined : Joined) (row : Option RankRow) (count : ℕ) → during.made ≡ child_asks (world_of catalogue old.answer query) number (JoinOperator kind left right) (suc a)
       → row ≡ slice_get (list_of (world_of catalogue old.answer query) number (JoinOperator kind left right)) a → count ≡ gave_of (world_of catalogue old.answer query) number (JoinOperator kind left right) (suc a)
-      → CoreStands (join_for (world_of catalogue old.answer query) number left right) (list_of (world_of catalogue old.answer query) number left) (list_of (world_of catalogue old.answer query) number right) during.turn.made count joined
+      → CoreStands (join_for (world_of catalogue old.answer query) number left right) (list_of (world_of catalogue old.answer query) number left) (list_of (world_of catalogue old.answer query) number right) during.made count joined
       → joined_in after.core ≡ joined → HasValues catalogue (block_in query number) (entries left) (entries right) after.core
       → kind_of after.core ≡ kind_of head.core → after.block ≡ head.block → after.conditions ≡ head.conditions → after.tally.asked ≡ head.tally.asked
       → ◌≡◌ {A = ℕ} after.tally.gave (if is_some row then head.tally.gave + 1 else head.tally.gave)
@@ -355,7 +357,7 @@ module _ {catalogue : CatalogDef} {query : Query} {number : ℕ} {kind : JoinKin
       let is_asked : after.tally.asked ≡ suc a = asked_is ∙ during.turn.asked_is in
       let gave : after.tally.gave ≡ gave_of whole number operator (suc a) = gave_is ∙ turn-gave during.turn can all row value in
       let rest : joined ≡ joined_after j lefts rights (asked_of whole number operator (suc a) Left) (asked_of whole number operator (suc a) Right) (gave_of whole number operator (suc a)) =
-      is-now j lefts rights during.turn.made count joined stands ∙ ap₂ (λ (m : List SideAsk) (k : ℕ). joined_after j lefts rights (asked Left m) (asked Right m) k) all count_is in
+      is-now j lefts rights during.made count joined stands ∙ ap₂ (λ (m : List SideAsk) (k : ℕ). joined_after j lefts rights (asked Left m) (asked Right m) k) all count_is in
       let keeps : after ≡ join_node_after whole number kind left right (suc a) =
       λ i. record {
         core = (has ∙ (λ k. core_of (kind_now k) catalogue (block_in query number) (entries left) (entries right) ((joined_is ∙ rest) k))) i;
@@ -364,8 +366,8 @@ module _ {catalogue : CatalogDef} {query : Query} {number : ℕ} {kind : JoinKin
         cells = tt;
         tally = record { asked = is_asked i; gave = gave i };
       } in
-      let on_the_left : Below whole number left (asked Left during.turn.made) on_left = during.turn.below Left in
-      let on_the_right : Below whole number right (asked Right during.turn.made) on_right = during.turn.below Right in
+      let on_the_left : Below whole number left (asked Left during.made) on_left = during.turn.below Left in
+      let on_the_right : Below whole number right (asked Right during.made) on_right = during.turn.below Right in
       record {
         inquires = turn-inquires during.turn can all row value;
         leaves = λ ok. record {
@@ -395,12 +397,12 @@ module _ {catalogue : CatalogDef} {query : Query} {number : ℕ} {kind : JoinKin
       let rights = list_of whole number right in
       let joined = joined_in head.core in
       let ripple = left_for (ask_of joined.ripple) joined.ripple in
-      let told = subst (turns.Tells (child_asks whole number operator (suc a)) during.turn.made a (length (list_of whole number operator))) ready (join-tells during can) in
+      let told = subst (turns.Tells (child_asks whole number operator (suc a)) during.made a (length (list_of whole number operator))) ready (join-tells during can) in
       let inside = told.1 in
       let parts = join-parts catalogue query number kind left right a old can in
       left-then after (rest_for (ask_of joined.ripple) joined) row (suc a) told.0
-      (is_row ∙ taken-is j lefts rights during.turn.made a joined.ripple during.core.core ready ∙ ap (λ (rows : List RankRow). slice_get rows a) (sym (join-list whole number left right parts kind)))
-      (omega arith) (taken-join-stands j lefts rights during.turn.made a joined during.core ready).1
+      (is_row ∙ taken-is j lefts rights during.made a joined.ripple during.core.core ready ∙ ap (λ (rows : List RankRow). slice_get rows a) (sym (join-list whole number left right parts kind)))
+      (omega arith) (taken-join-stands j lefts rights during.made a joined during.core ready).1
       (ap (λ (n : JoinNode). joined_in n.core) is ∙ joined-with head.core ripple)
       (subst (λ (n : JoinNode). HasValues catalogue (block_in query number) (entries left) (entries right) n.core) (sym is)
       (with-values catalogue (block_in query number) (entries left) (entries right) head.core ripple during.values))
@@ -412,6 +414,6 @@ module _ {catalogue : CatalogDef} {query : Query} {number : ℕ} {kind : JoinKin
       → Asked (world_of catalogue old.answer query) number (JoinOperator kind left right) a
       (JoinAfter (world_of catalogue old.answer query) number (JoinOperator kind left right) a head on_left on_right) (Ok None) old now
   join-over end =
-      let told = subst (turns.Tells (child_asks whole number operator (suc a)) during.turn.made a (length (list_of whole number operator))) end (join-tells during can) in
+      let told = subst (turns.Tells (child_asks whole number operator (suc a)) during.made a (length (list_of whole number operator))) end (join-tells during can) in
       let past = told.1 in
       left-then head (joined_in head.core) None a told.0 (sym (slice_get_past (list_of whole number operator) a (omega arith))) (omega arith) during.core refl during.values refl refl refl refl refl

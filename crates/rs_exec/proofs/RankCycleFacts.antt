@@ -1,5 +1,5 @@
 -- One ask of a rank operator: where its core stands between two asks of its input, what each row does, and what is left behind the ask.
-use Rattle.std.proofs.Common.{ℕ, suc, ◌≡◌, ◌∙◌, ◌+◌, ◌-◌, ◌<◌, List, [], ◌∷◌, Box, Global, length, min, refl, sym, ap, ap₂, subst, arith}
+use Rattle.std.proofs.Common.{ℕ, suc, ◌≡◌, ◌∙◌, ◌+◌, ◌-◌, true, List, [], ◌∷◌, Box, Global, length, min, refl, sym, ap, ap₂, subst, arith}
 use Rattle.std.specs.Box.{with_value}
 use Rattle.std.specs.Prelude.{IfSome, Option, Some, None, Result, Ok, Err, if◌then◌else◌, is_some, slice_get}
 use Rattle.std.proofs.lemmas.Option.{slice_get_within}
@@ -8,7 +8,7 @@ use Rattle.rs_expr.specs.InOrder.{Inquires}
 use Rattle.rs_expr.specs.Scoring.{ScorerState}
 use Rattle.rs_rank.specs.declared.ask.Ask.TheVariants.{Need}
 use Rattle.rs_rank.specs.declared.row.RankRow.{RankRow}
-use Rattle.rs_mu.specs.Mu.{CanFeed, Mu, ask_of, fed, left_for, taken_for}
+use Rattle.rs_mu.specs.Mu.{CanFeed, ask_of, fed, left_for, taken_for}
 use Rattle.rs_mu.specs.Stands.{Evaluation, Stands as MuStands, state_after}
 use Rattle.rs_mu.proofs.StandFacts.{Tells, asks-grow, stands-tells}
 use Rattle.rs_mu.proofs.StepFacts.{ended-stands, fed-can, fed-stands}
@@ -22,7 +22,7 @@ use Rattle.rs_query.proofs.QuestionFacts.{AllAsked, AllAsked-none, Gave-ok}
 use Rattle.rs_plan.specs.Asks.{child_asks}
 use Rattle.rs_plan.specs.Calls.{own_question}
 use Rattle.rs_plan.specs.Counts.{asked_of, gave_of}
-use Rattle.rs_plan.specs.Lists.{World, list_of, numbered_block}
+use Rattle.rs_plan.specs.Lists.{World, list_of}
 use Rattle.rs_plan.specs.Trees.{Rank, PlanTree}
 use Rattle.rs_exec.specs.Asked.{Asked, CanAsk, NodeAfter, RankAfter}
 use Rattle.rs_exec.specs.Asking.{exec_faults, next_row, world_of}
@@ -58,10 +58,11 @@ module _ (w : World) (self : PlanNode) (head after : RankNode) (box : Box PlanNo
 -- during ask a + 1 of an operator: its core stands at the asks that were made, and at as many answers as asks before, and it made a
 -- call for each row that came
 pub record RankTurn (catalogue : CatalogDef) (query : Query) (number term : ℕ) (child : PlanTree) (a : ℕ) (old : ScorerState) (head : RankNode) (on : JoinSide → Option PlanNode) (now : ScorerState) : Type 0 where
-  pub turn : Turn catalogue query number (Rank term child) a old head.tally on now
-  pub core : MuStands (evaluation_for (world_of catalogue old.answer query) term child) (list_of (world_of catalogue old.answer query) number child) (asked Left turn.made) a head.core
+  pub made : List SideAsk
+  pub turn : Turn catalogue query number (Rank term child) a old head.tally on made now
+  pub core : MuStands (evaluation_for (world_of catalogue old.answer query) term child) (list_of (world_of catalogue old.answer query) number child) (asked Left made) a head.core
   pub term_is : head.term ≡ term
-  pub calls_are : head.calls ≡ min (asked Left turn.made) (length (list_of (world_of catalogue old.answer query) number child))
+  pub calls_are : head.calls ≡ min (asked Left made) (length (list_of (world_of catalogue old.answer query) number child))
 
 -- at its start
 pub rank-start : (catalogue : CatalogDef) (query : Query) (head : RankNode) (child : PlanNode) (old : ScorerState)
@@ -84,6 +85,7 @@ rank-start catalogue query head child old can stands below tally asks =
     let more = can.more in
     let all : min a (length (list_of w number tree)) ≡ a = omega arith in
     record {
+      made = child_asks w number tree a;
       turn = turn-start catalogue query number tree old head.tally (one_child child) can
           (on-both (λ side. IfSome (one_child child side) (Below w number t (asked_of w number tree a side))) (record { tree_is = refl; asked_is = stands.asked; stands = below }) tt)
           (ap (λ (n : RankNode). n.tally.gave) stands.keeps) tally asks;
@@ -113,13 +115,13 @@ module _ {catalogue : CatalogDef} {query : Query} {number term : ℕ} {child : P
   rows = list_of (world_of catalogue old.answer query) number child
 
   abbrev asks : ℕ
-  asks = asked Left during.turn.made
+  asks = asked Left during.made
 
-  tells : Tells e rows (asked Left during.turn.made) a (ask_of head.core)
+  tells : Tells e rows (asked Left during.made) a (ask_of head.core)
   tells = stands-tells e rows asks a head.core during.core
 
   pub rank-next : ask_of head.core ≡ Need
-      → slice_get (child_asks (world_of catalogue old.answer query) number (Rank term child) (suc a)) (length during.turn.made) ≡ Some (next_ask Left during.turn.made)
+      → slice_get (child_asks (world_of catalogue old.answer query) number (Rank term child) (suc a)) (length during.made) ≡ Some (next_ask Left during.made)
   rank-next need =
       let less = subst (Tells e rows asks a) need tells in
       let exact = rank-asks w number term child can.formed can.part can.weights (suc a) in
@@ -127,7 +129,7 @@ module _ {catalogue : CatalogDef} {query : Query} {number term : ℕ} {child : P
 
   module _ {n : PlanNode} (is : on Left ≡ Some n) (need : ask_of head.core ≡ Need) (got : Option RankRow) (middle : ScorerState)
       (answered : Inquires Memory (next_row (world_of catalogue now.answer query) (number_in n) (tree_in n) (asked_in n)) (Ok got) now middle) where
-    there : slice_get (list_of (world_of catalogue old.answer query) number child) (asked Left during.turn.made) ≡ got
+    there : slice_get (list_of (world_of catalogue old.answer query) number child) (asked Left during.made) ≡ got
     there = turn-there during.turn can Left is (rank-next need) got middle answered
 
     same-answer : middle.answer ≡ old.answer
@@ -144,7 +146,7 @@ module _ {catalogue : CatalogDef} {query : Query} {number term : ℕ} {child : P
       abbrev question : Question
       question = question_of row.ids.block (block_in query row.ids.block) row.ids.rows has.term
 
-      own-is : own_question (world_of catalogue old.answer query) term (slice_get (list_of (world_of catalogue old.answer query) number child) (asked Left during.turn.made)) ≡ question ∷ []
+      own-is : own_question (world_of catalogue old.answer query) term (slice_get (list_of (world_of catalogue old.answer query) number child) (asked Left during.made)) ≡ question ∷ []
       own-is = ap (own_question w term) (there ∙ is_row) ∙ own-at catalogue query number term child a old can row has.term has.there
 
       named : slice_get (block_in query row.ids.block).terms (head.term - 1) ≡ Some has.term
@@ -180,9 +182,10 @@ module _ {catalogue : CatalogDef} {query : Query} {number term : ℕ} {child : P
           (subst (λ answer. Inquires Memory (feeding answer catalogue query row has.term head) (Ok taken) middle new) same-answer (taking has.term named)) in
           let inside = slice_get_within rows asks row (there ∙ is_row) in
           let calls = during.calls_are in
-          let one = one-more Left during.turn.made in
-          let made : head.calls + 1 ≡ min (asked Left (one_more Left during.turn.made)) (length rows) = omega arith in
+          let one = one-more Left during.made in
+          let made : head.calls + 1 ≡ min (asked Left (one_more Left during.made)) (length rows) = omega arith in
           record {
+            made = one_more Left during.made;
             turn = turn-more during.turn can Left is (rank-next need) got middle answered taken.tally new next after
                 (subst (λ (qs : List Question). AllAsked old.answer catalogue qs middle new) (sym own-is) took.asked)
                 (ap (λ (h : RankNode). h.tally.asked) took.is_value) (ap (λ (h : RankNode). h.tally.gave) took.is_value);
@@ -209,15 +212,16 @@ module _ {catalogue : CatalogDef} {query : Query} {number term : ℕ} {child : P
     rank-ended none ended next ended_is after =
         let past = slice_get-none rows asks (there ∙ none) in
         let calls = during.calls_are in
-        let one = one-more Left during.turn.made in
-        let made : head.calls ≡ min (asked Left (one_more Left during.turn.made)) (length rows) = omega arith in
-        let core : MuStands e rows (asked Left (one_more Left during.turn.made)) a (record head.core { ended = true }) =
+        let one = one-more Left during.made in
+        let made : head.calls ≡ min (asked Left (one_more Left during.made)) (length rows) = omega arith in
+        let core : MuStands e rows (asked Left (one_more Left during.made)) a (record head.core { ended = true }) =
         subst (λ k. MuStands e rows k a (record head.core { ended = true })) (sym one) (ended-stands e rows asks a head.core during.core need (there ∙ none)) in
         record {
+          made = one_more Left during.made;
           turn = turn-more during.turn can Left is (rank-next need) got middle answered ended.tally middle next after
               (subst (λ (r : Option RankRow). AllAsked old.answer catalogue (own_question w term r) middle middle) (sym (there ∙ none)) (AllAsked-none old.answer catalogue middle))
               (ap (λ (h : RankNode). h.tally.asked) ended_is) (ap (λ (h : RankNode). h.tally.gave) ended_is);
-          core = subst (λ (h : RankNode). MuStands e rows (asked Left (one_more Left during.turn.made)) a h.core) (sym ended_is) core;
+          core = subst (λ (h : RankNode). MuStands e rows (asked Left (one_more Left during.made)) a h.core) (sym ended_is) core;
           term_is = ap (λ (h : RankNode). h.term) ended_is ∙ during.term_is;
           calls_are = ap (λ (h : RankNode). h.calls) ended_is ∙ made;
         }
@@ -233,7 +237,7 @@ rank-given {catalogue} {query} {number} {term} {child} {a} {old} {head} {input} 
     let tree = Rank term child in
     let e = evaluation_for w term child in
     let rows = list_of w number child in
-    let asks = asked Left during.turn.made in
+    let asks = asked Left during.made in
     let tells = stands-tells e rows asks a head.core during.core in
     let exact : asks ≡ asked_of w number tree (suc a) Left =
     over-asks catalogue query number term child a old can asks (ask_of head.core) tells over ∙ sym (rank-asks w number term child can.formed can.part can.weights (suc a)) in
@@ -248,7 +252,7 @@ rank-given {catalogue} {query} {number} {term} {child} {a} {old} {head} {input} 
     let calls : after.calls ≡ min (asked_of w number tree (suc a) Left) (length rows) = ap (λ (n : RankNode). n.calls) after_is ∙ during.calls_are ∙ ap (λ k. min k (length rows)) exact in
     let keeps : after ≡ rank_node_after w number term child (suc a) =
     λ i. record { core = core i; term = is_term i; args = tt; tally = record { asked = is_asked i; gave = gave i }; calls = calls i } in
-    let below : Below w number child (asked Left during.turn.made) input = during.turn.below Left in
+    let below : Below w number child (asked Left during.made) input = during.turn.below Left in
     record {
       inquires = turn-inquires during.turn can all row value;
       leaves = λ ok. record {

@@ -1,9 +1,8 @@
 -- A rank operator over its input: its list is the answers of its core, and its asks are the core's.
 use Rattle.std.proofs.Common.{◌≡◌, ◌∙◌, ℕ, zero, suc, ◌+◌, ◌-◌, ◌≤◌, Bool, true, false, cond, eqb, List, [], ◌∷◌, ◌++◌, length, map, drop, get_or, bit_or, refl, sym, ap, arith}
-use Rattle.std.proofs.lemmas.Grind.{flat_map-append}
 use Rattle.std.proofs.lemmas.List.{length-map}
 use Rattle.std.proofs.lemmas.Option.{slice_get_within}
-use Rattle.std.specs.List.{AllByRecursion, filter, flat_map}
+use Rattle.std.specs.List.{AllByRecursion, filter}
 use Rattle.rs_order.specs.Asks.{asks_for, comes_before_bar, bar_after}
 use Rattle.rs_order.specs.Schedule.{JoinSide, Left, SideAsk, asks_from, is_of_side}
 use Rattle.rs_order.specs.Sorting.{sorted}
@@ -23,12 +22,10 @@ use Rattle.rs_mu.specs.Stands.{Evaluation, IsInput, answers, asks_of, new_key, o
 use Rattle.rs_mu.proofs.StandFacts.{asks-grow, row_key}
 use Rattle.rs_catalog.specs.Catalog.{CatalogDef}
 use Rattle.rs_query.specs.Answers.{worth_of}
-use Rattle.rs_query.specs.Questions.{Question}
 use Rattle.rs_query.specs.WellFormed.{IsQuery}
 use Rattle.rs_query.specs.declared.query.Query.{Query}
 use Rattle.rs_query.specs.declared.query.Query.TheVariants.{One, Set}
 use Rattle.rs_plan.specs.Asks.{bar_of, child_asks, keys_of}
-use Rattle.rs_plan.specs.Calls.{questions, questions_of_ask, rank_part}
 use Rattle.rs_plan.specs.Counts.{asked_of}
 use Rattle.rs_plan.specs.Lists.{World, numbered_block, key_under, list_of, row_under, sources, weights_in, worths}
 use Rattle.rs_query.specs.Blocks.{block_in}

@@ -67,9 +67,10 @@ module _ (w : World) (self : PlanNode) (head after : SetNode) (left_box right_bo
 
 -- during ask a + 1 of a set operator: its core stands at the asks that were made, and at as many answers as asks before
 pub record SetTurn (catalogue : CatalogDef) (query : Query) (left right : PlanTree) (a : ℕ) (old : ScorerState) (head : SetNode) (on : JoinSide → Option PlanNode) (now : ScorerState) : Type 0 where
-  pub turn : Turn catalogue query 1 (SetOperator left right) a old head.tally on now
+  pub made : List SideAsk
+  pub turn : Turn catalogue query 1 (SetOperator left right) a old head.tally on made now
   pub core : CoreStands (sides_for (world_of catalogue old.answer query) left) (operator_of query) (outputs_in (world_of catalogue old.answer query) 1 left) (outputs_in (world_of catalogue old.answer query) 2 right)
-      turn.made a head.core
+      made a head.core
 
 -- at its start
 pub set-start : (catalogue : CatalogDef) (query : Query) (head : SetNode) (on_left on_right : PlanNode) (old : ScorerState)
@@ -87,6 +88,7 @@ set-start catalogue query head on_left on_right old can stands left right tally 
     let more = can.more in
     let all : min a (length (list_of w 1 tree)) ≡ a = omega arith in
     record {
+      made = child_asks w 1 tree a;
       turn = turn-start catalogue query 1 tree old head.tally (both on_left on_right) can
           (on-both (λ side. IfSome (both on_left on_right side) (Below w (of_side 1 2 side) (of_side l r side) (asked_of w 1 tree a side)))
           (record { tree_is = refl; asked_is = stands.left_asked; stands = left }) (record { tree_is = refl; asked_is = stands.right_asked; stands = right }))
@@ -112,7 +114,7 @@ module _ {catalogue : CatalogDef} {query : Query} {left right : PlanTree} {a : �
   rights = outputs_in (world_of catalogue old.answer query) 2 right
 
   abbrev made : List SideAsk
-  made = during.turn.made
+  made = during.made
 
   facts : SetFacts (world_of catalogue old.answer query) left right
   facts = set-facts catalogue old.answer (all_rows catalogue query) query 1 left right can.formed can.weights can.part
@@ -132,14 +134,14 @@ module _ {catalogue : CatalogDef} {query : Query} {left right : PlanTree} {a : �
         again (Some row) = refl
 
   -- what the core tells, of the asks and the list of the plan
-  pub set-tells : Tells (child_asks (world_of catalogue old.answer query) 1 (SetOperator left right) (suc a)) during.turn.made a
+  pub set-tells : Tells (child_asks (world_of catalogue old.answer query) 1 (SetOperator left right) (suc a)) during.made a
       (length (list_of (world_of catalogue old.answer query) 1 (SetOperator left right))) (core_ask head.core)
   set-tells =
       subst₂ (λ (asks : List SideAsk) (n : ℕ). Tells asks made a n (core_ask head.core)) (sym (facts.asks (suc a))) (sym set-length)
       (core-tells s (operator_of query) lefts rights made a head.core during.core)
 
   pub set-next : (side : JoinSide) → core_ask head.core ≡ need_of side
-      → slice_get (child_asks (world_of catalogue old.answer query) 1 (SetOperator left right) (suc a)) (length during.turn.made) ≡ Some (next_ask side during.turn.made)
+      → slice_get (child_asks (world_of catalogue old.answer query) 1 (SetOperator left right) (suc a)) (length during.made) ≡ Some (next_ask side during.made)
   set-next side need =
       tells-next (child_asks w 1 tree (suc a)) made a (length (list_of w 1 tree)) side
       (subst (Tells (child_asks w 1 tree (suc a)) made a (length (list_of w 1 tree))) need set-tells)
@@ -155,19 +157,20 @@ module _ {catalogue : CatalogDef} {query : Query} {left right : PlanTree} {a : �
     abbrev part : PlanTree
     part = of_side left right side
 
-    there : slice_get (list_of (world_of catalogue old.answer query) (of_side 1 2 side) (of_side left right side)) (asked side during.turn.made) ≡ got
+    there : slice_get (list_of (world_of catalogue old.answer query) (of_side 1 2 side) (of_side left right side)) (asked side during.made) ≡ got
     there = turn-there during.turn can side is (set-next side need) got asked_then answered
 
-    output : slice_get (of_side lefts rights side) (asked side during.turn.made) ≡ option_map (output_row (world_of catalogue old.answer query)) got
+    output : slice_get (of_side lefts rights side) (asked side during.made) ≡ option_map (output_row (world_of catalogue old.answer query)) got
     output =
         ap (λ (rows : List OutputRow). slice_get rows (asked side made)) (on-both (λ v. of_side lefts rights v ≡ outputs_in w (of_side 1 2 v) (of_side left right v)) refl refl side)
         ∙ slice_get-map (output_row w) (list_of w number part) (asked side made) ∙ ap (option_map (output_row w)) there
 
     -- the operator behind the ask, with this core
     moved : (core : SetCore) (fed : SetNode) (next : PlanNode) → NodeAfter (world_of catalogue now.answer query) (number_in n) (tree_in n) (asked_in n) next
-        → fed ≡ record head { core = core } → CoreStands s (operator_of query) lefts rights (one_more side during.turn.made) a core
+        → fed ≡ record head { core = core } → CoreStands s (operator_of query) lefts rights (one_more side during.made) a core
         → SetTurn catalogue query left right a old fed (changed side next on) asked_then
     moved core fed next after fed_is stands = record {
+      made = one_more side during.made;
       turn = turn-more during.turn can side is (set-next side need) got asked_then answered fed.tally asked_then next after (AllAsked-none old.answer catalogue asked_then)
           (ap (λ (h : SetNode). h.tally.asked) fed_is) (ap (λ (h : SetNode). h.tally.gave) fed_is);
       core = subst (λ (h : SetNode). CoreStands s (operator_of query) lefts rights (one_more side made) a h.core) (sym fed_is) stands;
@@ -175,7 +178,7 @@ module _ {catalogue : CatalogDef} {query : Query} {left right : PlanTree} {a : �
 
     module _ (row : RankRow) (is_row : got ≡ Some row) where
       taken : HasSum (weights_of_core head.core) (terms_of_core head.core) row
-          × CoreStands s (operator_of query) lefts rights (one_more side during.turn.made) a (side_fed side row (values_for catalogue query row) head.core)
+          × CoreStands s (operator_of query) lefts rights (one_more side during.made) a (side_fed side row (values_for catalogue query row) head.core)
       taken = core-row s (operator_of query) lefts rights made a head.core during.core side need (output_row w row) (output ∙ ap (option_map (output_row w)) is_row)
 
       pub set-sum : HasSum (weights_of_core head.core) (terms_of_core head.core) row
@@ -216,15 +219,15 @@ module _ {catalogue : CatalogDef} {query : Query} {left right : PlanTree} {a : �
   At = CoreStands (sides_for (world_of catalogue old.answer query) left) (operator_of query) (outputs_in (world_of catalogue old.answer query) 1 left) (outputs_in (world_of catalogue old.answer query) 2 right)
 
   -- what is left once a row was given, or none was there
-  left-then : (after : SetNode) (core : SetCore) (row : Option RankRow) (count : ℕ) → during.turn.made ≡ child_asks (world_of catalogue old.answer query) 1 (SetOperator left right) (suc a)
+  left-then : (after : SetNode) (core : SetCore) (row : Option RankRow) (count : ℕ) → during.made ≡ child_asks (world_of catalogue old.answer query) 1 (SetOperator left right) (suc a)
       → row ≡ slice_get (list_of (world_of catalogue old.answer query) 1 (SetOperator left right)) a → count ≡ gave_of (world_of catalogue old.answer query) 1 (SetOperator left right) (suc a)
-      → At during.turn.made count core → after.core ≡ core → after.tally.asked ≡ head.tally.asked → ◌≡◌ {A = ℕ} after.tally.gave (if is_some row then head.tally.gave + 1 else head.tally.gave)
+      → At during.made count core → after.core ≡ core → after.tally.asked ≡ head.tally.asked → ◌≡◌ {A = ℕ} after.tally.gave (if is_some row then head.tally.gave + 1 else head.tally.gave)
       → Asked (world_of catalogue old.answer query) 1 (SetOperator left right) a
       (SetAfter (world_of catalogue old.answer query) (SetOperator left right) a after on_left on_right) (Ok row) old now
   left-then after core row count all value count_is stands core_is asked_is gave_is =
       let is_asked : after.tally.asked ≡ suc a = asked_is ∙ during.turn.asked_is in
-      let on_the_left : Below whole 1 left (asked Left during.turn.made) on_left = during.turn.below Left in
-      let on_the_right : Below whole 2 right (asked Right during.turn.made) on_right = during.turn.below Right in
+      let on_the_left : Below whole 1 left (asked Left during.made) on_left = during.turn.below Left in
+      let on_the_right : Below whole 2 right (asked Right during.made) on_right = during.turn.below Right in
       record {
         inquires = turn-inquires during.turn can all row value;
         leaves = λ ok. record {
@@ -250,8 +253,8 @@ module _ {catalogue : CatalogDef} {query : Query} {left right : PlanTree} {a : �
       → Asked (world_of catalogue old.answer query) 1 (SetOperator left right) a
       (SetAfter (world_of catalogue old.answer query) (SetOperator left right) a after on_left on_right) (Ok row) old now
   set-given ready after row is_row is =
-      let told = subst (Tells (child_asks whole 1 operator (suc a)) during.turn.made a (length (list_of whole 1 operator))) ready (set-tells during can) in
-      let took = core-taken (sides_for whole left) (operator_of query) (outputs_in whole 1 left) (outputs_in whole 2 right) during.turn.made a head.core during.core ready in
+      let told = subst (Tells (child_asks whole 1 operator (suc a)) during.made a (length (list_of whole 1 operator))) ready (set-tells during can) in
+      let took = core-taken (sides_for whole left) (operator_of query) (outputs_in whole 1 left) (outputs_in whole 2 right) during.made a head.core during.core ready in
       let inside = told.1 in
       left-then after (left_in head.core) row (suc a) told.0 (is_row ∙ took.0 ∙ set-row during can a) (omega arith) took.1
       (ap (λ (n : SetNode). n.core) is) (ap (λ (n : SetNode). n.tally.asked) is) (ap (λ (n : SetNode). n.tally.gave) is)
@@ -261,6 +264,6 @@ module _ {catalogue : CatalogDef} {query : Query} {left right : PlanTree} {a : �
       → Asked (world_of catalogue old.answer query) 1 (SetOperator left right) a
       (SetAfter (world_of catalogue old.answer query) (SetOperator left right) a head on_left on_right) (Ok None) old now
   set-over end =
-      let told = subst (Tells (child_asks whole 1 operator (suc a)) during.turn.made a (length (list_of whole 1 operator))) end (set-tells during can) in
+      let told = subst (Tells (child_asks whole 1 operator (suc a)) during.made a (length (list_of whole 1 operator))) end (set-tells during can) in
       let past = told.1 in
       left-then head head.core None a told.0 (sym (slice_get_past (list_of whole 1 operator) a (omega arith))) (omega arith) during.core refl refl refl

@@ -1,44 +1,32 @@
 -- What is known of a rank operator that can be asked once more: its rows, and where its core is ready or has ended.
-use Rattle.std.proofs.Common.{◌≡◌, ◌∙◌, ℕ, suc, ◌≤◌, ◌<◌, ◌+◌, ◌-◌, true, List, [], ◌∷◌, ◌++◌, length, map, get_or, refl, sym, ap, subst, arith, append-nil, append_assoc}
-use Rattle.std.specs.List.{flat_map}
-use Rattle.std.proofs.lemmas.Grind.{flat_map-append}
+use Rattle.std.proofs.Common.{◌≡◌, ◌∙◌, ℕ, suc, ◌≤◌, ◌-◌, List, [], ◌∷◌, length, map, get_or, refl, sym, ap, arith}
 use Rattle.std.proofs.lemmas.List.{get_or-map}
 use Rattle.std.proofs.lemmas.Option.{get_or_from_slice_get, slice_get_past, slice_get_within}
 use Rattle.rs_order.specs.Sorting.{sorted}
 use Rattle.rs_order.proofs.ReorderFacts.{asks_upto-none}
 use Rattle.rs_rank.specs.Keys.{key_cmp}
 use Rattle.rs_rank.specs.declared.ask.Ask.{Ask}
-use Rattle.std.specs.Prelude.{min, None, Some, Option, Ok, Err, slice_get}
-use Rattle.rs_order.specs.Schedule.{Left, SideAsk, asks_from}
-use Rattle.rs_expr.specs.InOrder.{Inquires}
+use Rattle.std.specs.Prelude.{min, Some, slice_get}
 use Rattle.rs_expr.specs.Scoring.{ScorerState}
 use Rattle.rs_rank.specs.Weights.{IsWeights}
 use Rattle.rs_rank.specs.declared.ask.Ask.TheVariants.{End, Need, Ready}
 use Rattle.rs_rank.specs.declared.row.RankRow.{RankRow}
-use Rattle.rs_mu.specs.Mu.{CanEnd, CanFeed, Mu, ask_of, fed, left_for, taken_for}
+use Rattle.rs_mu.specs.Mu.{Mu, ask_of, left_for, taken_for}
 use Rattle.rs_mu.specs.Stands.{Evaluation, Stands as MuStands, asks_of, old_key, state_after}
 use Rattle.rs_mu.proofs.AnswerFacts.{length-answers}
-use Rattle.rs_mu.proofs.StandFacts.{Tells, asks-grow, asks-most, asks_of-upto, length-sorted, row_key, stands-tells}
-use Rattle.rs_mu.proofs.StepFacts.{ended-can, ended-stands, fed-can, fed-stands, taken-stands}
+use Rattle.rs_mu.proofs.StandFacts.{Tells, asks_of-upto, length-sorted, row_key}
+use Rattle.rs_mu.proofs.StepFacts.{taken-stands}
 use Rattle.rs_catalog.specs.Catalog.{CatalogDef}
 use Rattle.rs_query.specs.Answers.{worth_of}
-use Rattle.rs_query.specs.Questions.{Question, question_of}
+use Rattle.rs_query.specs.Questions.{question_of}
 use Rattle.rs_query.specs.declared.query.Query.{Query}
 use Rattle.rs_query.specs.declared.term.Term.{Term}
-use Rattle.rs_query.proofs.QuestionFacts.{AllAsked, AllAsked-more, AllAsked-none, Ended-behind, Gave-ok, Inquires-fault}
-use Rattle.rs_plan.specs.Calls.{own_question, questions, questions_of_ask, rank_part}
-use Rattle.rs_plan.specs.Counts.{asked_of}
+use Rattle.rs_plan.specs.Calls.{own_question}
 use Rattle.rs_plan.specs.Lists.{World, numbered_block, list_of, weights_in}
-use Rattle.rs_query.specs.Blocks.{block_in}
 use Rattle.rs_plan.specs.Trees.{Rank, PlanTree, entries}
 use Rattle.rs_exec.specs.Asked.{CanAsk}
-use Rattle.rs_exec.specs.Asking.{exec_faults, next_row, world_of}
-use Rattle.rs_exec.specs.Feeding.{CanTake, feeding, with_row}
-use Rattle.rs_exec.specs.Standing.{HeadStands, evaluation_for, rank_node_after}
-use Rattle.rs_exec.specs.declared.fault.ExecFault.{ExecFault}
-use Rattle.rs_exec.specs.declared.fault.ExecFault.TheVariants.{Memory}
-use Rattle.rs_exec.specs.declared.rank.RankNode.{RankNode}
-use Rattle.rs_exec.specs.declared.tally.Tally.{Tally}
+use Rattle.rs_exec.specs.Asking.{world_of}
+use Rattle.rs_exec.specs.Standing.{evaluation_for}
 pub use Rattle.rs_exec.proofs.BlockFacts.{block-formed, few-entries, sizes-are, slice_get-none}
 use Rattle.rs_exec.proofs.PlacesFacts.{IsPlaced, TermFor, row-placed, row-term}
 use Rattle.rs_exec.proofs.RankFacts.{rank-list}

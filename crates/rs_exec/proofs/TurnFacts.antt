@@ -138,9 +138,8 @@ abbrev pub changed : JoinSide → PlanNode → (JoinSide → Option PlanNode) �
 changed Left next on side = of_side (Some next) (on Right) side
 changed Right next on side = of_side (on Left) (Some next) side
 
--- during ask a + 1 of an operator with this tally and these children
-pub record Turn (catalogue : CatalogDef) (query : Query) (number : ℕ) (tree : PlanTree) (a : ℕ) (old : ScorerState) (tally : Tally) (on : JoinSide → Option PlanNode) (now : ScorerState) : Type 0 where
-  pub made : List SideAsk
+-- during ask a + 1 of an operator with this tally and these children, of which these asks were made
+pub record Turn (catalogue : CatalogDef) (query : Query) (number : ℕ) (tree : PlanTree) (a : ℕ) (old : ScorerState) (tally : Tally) (on : JoinSide → Option PlanNode) (made : List SideAsk) (now : ScorerState) : Type 0 where
   pub during : During catalogue query number tree a made old now
   pub below : (side : JoinSide) → IfSome (on side) (Below (world_of catalogue old.answer query) (number_on number tree side) (child_on tree side) (asked side made))
   pub asked_is : tally.asked ≡ suc a
@@ -151,22 +150,21 @@ pub turn-start : (catalogue : CatalogDef) (query : Query) (number : ℕ) (tree :
     → CanAsk (world_of catalogue old.answer query) number tree tally.asked
     → ((side : JoinSide) → IfSome (on side) (Below (world_of catalogue old.answer query) (number_on number tree side) (child_on tree side) (asked_of (world_of catalogue old.answer query) number tree tally.asked side)))
     → tally.gave ≡ gave_of (world_of catalogue old.answer query) number tree tally.asked
-    → (next : Tally) → next ≡ record tally { asked = tally.asked + 1 } → Turn catalogue query number tree tally.asked old next on old
+    → (next : Tally) → next ≡ record tally { asked = tally.asked + 1 } → Turn catalogue query number tree tally.asked old next on (child_asks (world_of catalogue old.answer query) number tree tally.asked) old
 turn-start catalogue query number tree old tally on can below gave next is =
     let w = world_of catalogue old.answer query in
     let more = can.more in
     let all : min tally.asked (length (list_of w number tree)) ≡ tally.asked = omega arith in
     let one : tally.asked + 1 ≡ suc tally.asked = omega arith in
     record {
-      made = child_asks w number tree tally.asked;
       during = during-start catalogue query number tree tally.asked old can;
       below = below;
       asked_is = ap (λ (t : Tally). t.asked) is ∙ one;
       gave_is = ap (λ (t : Tally). t.gave) is ∙ gave ∙ all;
     }
 
-module _ {catalogue : CatalogDef} {query : Query} {number : ℕ} {tree : PlanTree} {a : ℕ} {old : ScorerState} {tally : Tally} {on : JoinSide → Option PlanNode} {now : ScorerState}
-    (turn : Turn catalogue query number tree a old tally on now) (can : CanAsk (world_of catalogue old.answer query) number tree a) where
+module _ {catalogue : CatalogDef} {query : Query} {number : ℕ} {tree : PlanTree} {a : ℕ} {old : ScorerState} {tally : Tally} {on : JoinSide → Option PlanNode} {made : List SideAsk} {now : ScorerState}
+    (turn : Turn catalogue query number tree a old tally on made now) (can : CanAsk (world_of catalogue old.answer query) number tree a) where
   abbrev w : World
   w = world_of catalogue old.answer query
 
@@ -177,7 +175,7 @@ module _ {catalogue : CatalogDef} {query : Query} {number : ℕ} {tree : PlanTre
   turn-small = let more = can.more in let few = can.few in let gave = turn.gave_is in omega arith
 
   -- the questions of the ask, in two parts
-  in-two : (rest : List SideAsk) → child_asks (world_of catalogue old.answer query) number tree (suc a) ≡ turn.made ++ rest
+  in-two : (rest : List SideAsk) → child_asks (world_of catalogue old.answer query) number tree (suc a) ≡ made ++ rest
       → questions_of_ask (world_of catalogue old.answer query) number tree (suc a) ≡ flat_map puts turn.during.more ++ flat_map puts rest
   in-two rest is =
       let more = turn.during.more in
@@ -194,33 +192,33 @@ module _ {catalogue : CatalogDef} {query : Query} {number : ℕ} {tree : PlanTre
     abbrev last : ℕ
     last = asked_of (world_of catalogue old.answer query) number tree (suc a) Left
 
-    made-asks : asked Left turn.made ≡ length turn.made
-    made-asks = alone-made 1 last turn.made turn.during.rest (sym alone ∙ turn.during.whole)
+    made-asks : asked Left made ≡ length made
+    made-asks = alone-made 1 last made turn.during.rest (sym alone ∙ turn.during.whole)
 
-    pub turn-alone : asked Left turn.made < asked_of (world_of catalogue old.answer query) number tree (suc a) Left
-        → slice_get (child_asks (world_of catalogue old.answer query) number tree (suc a)) (length turn.made) ≡ Some (next_ask Left turn.made)
+    pub turn-alone : asked Left made < asked_of (world_of catalogue old.answer query) number tree (suc a) Left
+        → slice_get (child_asks (world_of catalogue old.answer query) number tree (suc a)) (length made) ≡ Some (next_ask Left made)
     turn-alone less =
         let count = made-asks in
-        let same : 1 + length turn.made ≡ suc (asked Left turn.made) = omega arith in
-        ap (λ (asks : List SideAsk). slice_get asks (length turn.made)) alone ∙ alone-at 1 last (length turn.made) (omega arith)
+        let same : 1 + length made ≡ suc (asked Left made) = omega arith in
+        ap (λ (asks : List SideAsk). slice_get asks (length made)) alone ∙ alone-at 1 last (length made) (omega arith)
         ∙ ap (λ k. Some (record { side = Left; number = k })) same
 
-    pub turn-all : asked Left turn.made ≡ asked_of (world_of catalogue old.answer query) number tree (suc a) Left
-        → turn.made ≡ child_asks (world_of catalogue old.answer query) number tree (suc a)
+    pub turn-all : asked Left made ≡ asked_of (world_of catalogue old.answer query) number tree (suc a) Left
+        → made ≡ child_asks (world_of catalogue old.answer query) number tree (suc a)
     turn-all exact =
         let count = made-asks in
         let whole = alone-made 1 last (asks_from Left 1 last) [] (sym (append-nil (asks_from Left 1 last))) in
         let asks = asked-from Left 1 last in
-        let both_parts = ap (λ (xs : List SideAsk). length xs) (sym alone ∙ turn.during.whole) ∙ length-append turn.made turn.during.rest in
+        let both_parts = ap (λ (xs : List SideAsk). length xs) (sym alone ∙ turn.during.whole) ∙ length-append made turn.during.rest in
         let none : turn.during.rest ≡ [] = no-more turn.during.rest (omega arith) in
-        sym (turn.during.whole ∙ ap (λ (rest : List SideAsk). turn.made ++ rest) none ∙ append-nil turn.made)
+        sym (turn.during.whole ∙ ap (λ (rest : List SideAsk). made ++ rest) none ∙ append-nil made)
 
   -- where all asks were made, all questions were asked
-  module _ (all : turn.made ≡ child_asks (world_of catalogue old.answer query) number tree (suc a)) (row : Option RankRow) (value : row ≡ slice_get (list_of (world_of catalogue old.answer query) number tree) a) where
+  module _ (all : made ≡ child_asks (world_of catalogue old.answer query) number tree (suc a)) (row : Option RankRow) (value : row ≡ slice_get (list_of (world_of catalogue old.answer query) number tree) a) where
     pub turn-inquires : Inquires Memory (next_row (world_of catalogue old.answer query) number tree a) (Ok row) old now
     turn-inquires =
         Ended-behind exec_faults Memory catalogue {A = Option RankRow} (flat_map puts turn.during.more) (questions_of_ask w number tree (suc a)) (slice_get (list_of w number tree) a) row old now
-        (in-two [] (sym all ∙ sym (append-nil turn.made)) ∙ append-nil (flat_map puts turn.during.more)) value turn.during.all_asked
+        (in-two [] (sym all ∙ sym (append-nil made)) ∙ append-nil (flat_map puts turn.during.more)) value turn.during.all_asked
 
     -- and the tally counts the row, if there is one
     pub turn-gave : ◌≡◌ {A = ℕ} (if is_some row then tally.gave + 1 else tally.gave) (gave_of (world_of catalogue old.answer query) number tree (suc a))
@@ -234,7 +232,7 @@ module _ {catalogue : CatalogDef} {query : Query} {number : ℕ} {tree : PlanTre
 
   -- a child that is asked next
   module _ (side : JoinSide) {n : PlanNode} (is : on side ≡ Some n)
-      (next : slice_get (child_asks (world_of catalogue old.answer query) number tree (suc a)) (length turn.made) ≡ Some (next_ask side turn.made)) where
+      (next : slice_get (child_asks (world_of catalogue old.answer query) number tree (suc a)) (length made) ≡ Some (next_ask side made)) where
     abbrev part : PlanTree
     part = child_on tree side
 
@@ -242,12 +240,12 @@ module _ {catalogue : CatalogDef} {query : Query} {number : ℕ} {tree : PlanTre
     own_number = number_on number tree side
 
     abbrev asks : ℕ
-    asks = asked side turn.made
+    asks = asked side made
 
     abbrev behind : List SideAsk
     behind = drop 1 turn.during.rest
 
-    below : Below (world_of catalogue old.answer query) (number_on number tree side) (child_on tree side) (asked side turn.made) n
+    below : Below (world_of catalogue old.answer query) (number_on number tree side) (child_on tree side) (asked side made) n
     below = subst (λ (o : Option PlanNode). IfSome o (Below w own_number part asks)) is (turn.below side)
 
     pub turn-tree : tree_in n ≡ child_on tree side
@@ -256,21 +254,21 @@ module _ {catalogue : CatalogDef} {query : Query} {number : ℕ} {tree : PlanTre
     number-is : number_in n ≡ number_on number tree side
     number-is = node-number w own_number n below.stands
 
-    comes : child_asks (world_of catalogue old.answer query) number tree (suc a) ≡ turn.made ++ next_ask side turn.made ∷ drop 1 turn.during.rest
+    comes : child_asks (world_of catalogue old.answer query) number tree (suc a) ≡ made ++ next_ask side made ∷ drop 1 turn.during.rest
     comes =
-        turn.during.whole ∙ ap (λ (rest : List SideAsk). turn.made ++ rest)
-        (begins-with turn.made turn.during.rest (next_ask side turn.made) (subst (λ (xs : List SideAsk). slice_get xs (length turn.made) ≡ Some (next_ask side turn.made)) turn.during.whole next))
+        turn.during.whole ∙ ap (λ (rest : List SideAsk). made ++ rest)
+        (begins-with made turn.during.rest (next_ask side made) (subst (λ (xs : List SideAsk). slice_get xs (length made) ≡ Some (next_ask side made)) turn.during.whole next))
 
-    whole-more : child_asks (world_of catalogue old.answer query) number tree (suc a) ≡ one_more side turn.made ++ drop 1 turn.during.rest
-    whole-more = comes ∙ sym (append_assoc turn.made (next_ask side turn.made ∷ []) behind)
+    whole-more : child_asks (world_of catalogue old.answer query) number tree (suc a) ≡ one_more side made ++ drop 1 turn.during.rest
+    whole-more = comes ∙ sym (append_assoc made (next_ask side made ∷ []) behind)
 
     -- fewer asks are left
-    pub turn-less : asked side turn.made < asked_of (world_of catalogue old.answer query) number tree (suc a) side
+    pub turn-less : asked side made < asked_of (world_of catalogue old.answer query) number tree (suc a) side
     turn-less =
-        let all : asked_of w number tree (suc a) side ≡ asked side (one_more side turn.made) + asked side behind =
-        ap (asked side) whole-more ∙ ap (λ (made : List SideAsk). length made) (filter-append (is_of_side side) (one_more side turn.made) behind)
-        ∙ length-append (filter (is_of_side side) (one_more side turn.made)) (filter (is_of_side side) behind) in
-        let one = one-more side turn.made in
+        let all : asked_of w number tree (suc a) side ≡ asked side (one_more side made) + asked side behind =
+        ap (asked side) whole-more ∙ ap (λ (xs : List SideAsk). length xs) (filter-append (is_of_side side) (one_more side made) behind)
+        ∙ length-append (filter (is_of_side side) (one_more side made)) (filter (is_of_side side) behind) in
+        let one = one-more side made in
         omega arith
 
     -- it can be asked once more
@@ -299,16 +297,16 @@ module _ {catalogue : CatalogDef} {query : Query} {number : ℕ} {tree : PlanTre
     -- what the node was asked, as this child, by the scorer's first answers
     as-child : (result : Result (Option RankRow) ExecFault) (middle : ScorerState)
         → Inquires Memory (next_row (world_of catalogue now.answer query) (number_in n) (tree_in n) (asked_in n)) result now middle
-        → Inquires Memory (next_row (world_of catalogue old.answer query) (number_on number tree side) (child_on tree side) (asked side turn.made)) result now middle
+        → Inquires Memory (next_row (world_of catalogue old.answer query) (number_on number tree side) (child_on tree side) (asked side made)) result now middle
     as-child result middle inquires =
         subst₂ (λ k answer. Inquires Memory (next_row (world_of catalogue answer query) k part asks) result now middle) number-is turn.during.all_asked.keeps.answer
         (subst₂ (λ t k. Inquires Memory (next_row (world_of catalogue now.answer query) (number_in n) t k) result now middle) below.tree_is below.asked_is inquires)
 
     split : questions_of_ask (world_of catalogue old.answer query) number tree (suc a) ≡ flat_map puts turn.during.more
-        ++ (questions_of_ask (world_of catalogue old.answer query) (number_on number tree side) (child_on tree side) (suc (asked side turn.made))
-        ++ (own_of (world_of catalogue old.answer query) number tree (asked side turn.made) ++ flat_map puts (drop 1 turn.during.rest)))
+        ++ (questions_of_ask (world_of catalogue old.answer query) (number_on number tree side) (child_on tree side) (suc (asked side made))
+        ++ (own_of (world_of catalogue old.answer query) number tree (asked side made) ++ flat_map puts (drop 1 turn.during.rest)))
     split =
-        in-two (next_ask side turn.made ∷ behind) comes
+        in-two (next_ask side made ∷ behind) comes
         ∙ ap (λ (qs : List Question). flat_map puts turn.during.more ++ qs)
         (ap (λ (qs : List Question). qs ++ flat_map puts behind) (puts-are w number tree side asks)
         ∙ append_assoc (questions_of_ask w own_number part (suc asks)) (own_of w number tree asks) (flat_map puts behind))
@@ -325,22 +323,22 @@ module _ {catalogue : CatalogDef} {query : Query} {number : ℕ} {tree : PlanTre
 
     -- behind the ask the child stands, and fewer asks are left of both sides together
     module _ (after : PlanNode) (kept : NodeAfter (world_of catalogue now.answer query) (number_in n) (tree_in n) (asked_in n) after) where
-      asked-one : asked_in after ≡ suc (asked side turn.made)
+      asked-one : asked_in after ≡ suc (asked side made)
       asked-one = kept.asked_is ∙ ap suc below.asked_is
 
-      pub turn-below : (s : JoinSide) → IfSome (changed side after on s) (Below (world_of catalogue old.answer query) (number_on number tree s) (child_on tree s) (asked s (one_more side turn.made)))
+      pub turn-below : (s : JoinSide) → IfSome (changed side after on s) (Below (world_of catalogue old.answer query) (number_on number tree s) (child_on tree s) (asked s (one_more side made)))
       turn-below = go side (record {
         tree_is = kept.tree_is ∙ below.tree_is;
         asked_is = asked-one;
         stands = subst₂ (λ k answer. Stands (world_of catalogue answer query) k after) number-is turn.during.all_asked.keeps.answer kept.stands;
       })
         where
-          go : (v : JoinSide) → Below (world_of catalogue old.answer query) (number_on number tree v) (child_on tree v) (suc (asked v turn.made)) after
-              → (s : JoinSide) → IfSome (changed v after on s) (Below (world_of catalogue old.answer query) (number_on number tree s) (child_on tree s) (asked s (one_more v turn.made)))
-          go Left new Left = subst (λ k. Below (world_of catalogue old.answer query) (number_on number tree Left) (child_on tree Left) k after) (sym (asked-left turn.made (suc (asked Left turn.made))).0) new
-          go Left new Right = subst (λ k. IfSome (on Right) (Below (world_of catalogue old.answer query) (number_on number tree Right) (child_on tree Right) k)) (sym (asked-left turn.made (suc (asked Left turn.made))).1) (turn.below Right)
-          go Right new Left = subst (λ k. IfSome (on Left) (Below (world_of catalogue old.answer query) (number_on number tree Left) (child_on tree Left) k)) (sym (asked-right turn.made (suc (asked Right turn.made))).0) (turn.below Left)
-          go Right new Right = subst (λ k. Below (world_of catalogue old.answer query) (number_on number tree Right) (child_on tree Right) k after) (sym (asked-right turn.made (suc (asked Right turn.made))).1) new
+          go : (v : JoinSide) → Below (world_of catalogue old.answer query) (number_on number tree v) (child_on tree v) (suc (asked v made)) after
+              → (s : JoinSide) → IfSome (changed v after on s) (Below (world_of catalogue old.answer query) (number_on number tree s) (child_on tree s) (asked s (one_more v made)))
+          go Left new Left = subst (λ k. Below (world_of catalogue old.answer query) (number_on number tree Left) (child_on tree Left) k after) (sym (asked-left made (suc (asked Left made))).0) new
+          go Left new Right = subst (λ k. IfSome (on Right) (Below (world_of catalogue old.answer query) (number_on number tree Right) (child_on tree Right) k)) (sym (asked-left made (suc (asked Left made))).1) (turn.below Right)
+          go Right new Left = subst (λ k. IfSome (on Left) (Below (world_of catalogue old.answer query) (number_on number tree Left) (child_on tree Left) k)) (sym (asked-right made (suc (asked Right made))).0) (turn.below Left)
+          go Right new Right = subst (λ k. Below (world_of catalogue old.answer query) (number_on number tree Right) (child_on tree Right) k after) (sym (asked-right made (suc (asked Right made))).1) new
 
       pub turn-nearer : asked_of (world_of catalogue old.answer query) number tree (suc a) side - asked_in after < asked_of (world_of catalogue old.answer query) number tree (suc a) side - asked_in n
       turn-nearer =
@@ -351,22 +349,22 @@ module _ {catalogue : CatalogDef} {query : Query} {number : ℕ} {tree : PlanTre
 
     module _ (got : Option RankRow) (middle : ScorerState)
         (answered : Inquires Memory (next_row (world_of catalogue now.answer query) (number_in n) (tree_in n) (asked_in n)) (Ok got) now middle) where
-      gave : Gave old.answer catalogue (questions_of_ask (world_of catalogue old.answer query) (number_on number tree side) (child_on tree side) (suc (asked side turn.made)))
-          (slice_get (list_of (world_of catalogue old.answer query) (number_on number tree side) (child_on tree side)) (asked side turn.made)) got now middle
+      gave : Gave old.answer catalogue (questions_of_ask (world_of catalogue old.answer query) (number_on number tree side) (child_on tree side) (suc (asked side made)))
+          (slice_get (list_of (world_of catalogue old.answer query) (number_on number tree side) (child_on tree side)) (asked side made)) got now middle
       gave =
           Gave-ok exec_faults Memory old.answer catalogue {A = Option RankRow} (questions_of_ask w own_number part (suc asks)) (slice_get (list_of w own_number part) asks) got now middle
           (as-child (Ok got) middle answered)
 
       -- what it gave is its next row
-      pub turn-there : slice_get (list_of (world_of catalogue old.answer query) (number_on number tree side) (child_on tree side)) (asked side turn.made) ≡ got
+      pub turn-there : slice_get (list_of (world_of catalogue old.answer query) (number_on number tree side) (child_on tree side)) (asked side made) ≡ got
       turn-there = sym gave.is_value
 
-      now-asked : AllAsked old.answer catalogue (flat_map puts turn.during.more ++ questions_of_ask (world_of catalogue old.answer query) (number_on number tree side) (child_on tree side) (suc (asked side turn.made))) old middle
+      now-asked : AllAsked old.answer catalogue (flat_map puts turn.during.more ++ questions_of_ask (world_of catalogue old.answer query) (number_on number tree side) (child_on tree side) (suc (asked side made))) old middle
       now-asked = AllAsked-more old.answer catalogue (flat_map puts turn.during.more) (questions_of_ask w own_number part (suc asks)) old now middle turn.during.all_asked gave.asked
 
       split-more : questions_of_ask (world_of catalogue old.answer query) number tree (suc a)
-          ≡ (flat_map puts turn.during.more ++ questions_of_ask (world_of catalogue old.answer query) (number_on number tree side) (child_on tree side) (suc (asked side turn.made)))
-          ++ (own_of (world_of catalogue old.answer query) number tree (asked side turn.made) ++ flat_map puts (drop 1 turn.during.rest))
+          ≡ (flat_map puts turn.during.more ++ questions_of_ask (world_of catalogue old.answer query) (number_on number tree side) (child_on tree side) (suc (asked side made)))
+          ++ (own_of (world_of catalogue old.answer query) number tree (asked side made) ++ flat_map puts (drop 1 turn.during.rest))
       split-more =
           split ∙ sym (append_assoc (flat_map puts turn.during.more) (questions_of_ask w own_number part (suc asks)) (own_of w number tree asks ++ flat_map puts behind))
 
@@ -379,7 +377,7 @@ module _ {catalogue : CatalogDef} {query : Query} {number : ℕ} {tree : PlanTre
 
       -- a question of the operator itself had a bad answer
       pub turn-own_failed : {B : Type 0} (value : B) (After : Type 0) (fault : ExecFault) (result : Result (Option RankRow) ExecFault) (new : ScorerState) → result ≡ Err fault
-          → Inquires Memory (asking exec_faults old.answer catalogue (own_of (world_of catalogue old.answer query) number tree (asked side turn.made)) value) (Err fault) middle new
+          → Inquires Memory (asking exec_faults old.answer catalogue (own_of (world_of catalogue old.answer query) number tree (asked side made)) value) (Err fault) middle new
           → Asked (world_of catalogue old.answer query) number tree a After result old new
       turn-own_failed {B} value After fault result new is_fault inquires =
           ask-failed w number tree a After result fault old new is_fault
@@ -388,20 +386,19 @@ module _ {catalogue : CatalogDef} {query : Query} {number : ℕ} {tree : PlanTre
 
       -- behind its own questions the operator stands one ask of the child further
       pub turn-more : (next_tally : Tally) (new : ScorerState) (after : PlanNode) → NodeAfter (world_of catalogue now.answer query) (number_in n) (tree_in n) (asked_in n) after
-          → AllAsked old.answer catalogue (own_of (world_of catalogue old.answer query) number tree (asked side turn.made)) middle new
+          → AllAsked old.answer catalogue (own_of (world_of catalogue old.answer query) number tree (asked side made)) middle new
           → next_tally.asked ≡ tally.asked → next_tally.gave ≡ tally.gave
-          → Turn catalogue query number tree a old next_tally (changed side after on) new
+          → Turn catalogue query number tree a old next_tally (changed side after on) (one_more side made) new
       turn-more next_tally new after kept own asked_same gave_same = record {
-        made = one_more side turn.made;
         during = record {
-          more = turn.during.more ++ next_ask side turn.made ∷ [];
+          more = turn.during.more ++ next_ask side made ∷ [];
           rest = behind;
-          made_is = ap (λ (front : List SideAsk). front ++ next_ask side turn.made ∷ []) turn.during.made_is ∙ append_assoc (child_asks w number tree a) turn.during.more (next_ask side turn.made ∷ []);
+          made_is = ap (λ (front : List SideAsk). front ++ next_ask side made ∷ []) turn.during.made_is ∙ append_assoc (child_asks w number tree a) turn.during.more (next_ask side made ∷ []);
           whole = whole-more;
           all_asked = subst (λ (qs : List Question). AllAsked old.answer catalogue qs old new)
               (append_assoc (flat_map puts turn.during.more) (questions_of_ask w own_number part (suc asks)) (own_of w number tree asks)
-              ∙ ap (λ (qs : List Question). flat_map puts turn.during.more ++ qs) (sym (append-nil (puts (next_ask side turn.made)) ∙ puts-are w number tree side asks))
-              ∙ sym (flat_map-append puts turn.during.more (next_ask side turn.made ∷ [])))
+              ∙ ap (λ (qs : List Question). flat_map puts turn.during.more ++ qs) (sym (append-nil (puts (next_ask side made)) ∙ puts-are w number tree side asks))
+              ∙ sym (flat_map-append puts turn.during.more (next_ask side made ∷ [])))
               (AllAsked-more old.answer catalogue (flat_map puts turn.during.more ++ questions_of_ask w own_number part (suc asks)) (own_of w number tree asks) old middle new now-asked own);
         };
         below = turn-below after kept;
