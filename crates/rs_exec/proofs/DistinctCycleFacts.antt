@@ -99,10 +99,7 @@ module _ {catalogue : CatalogDef} {query : Query} {number : ℕ} {child : PlanTr
   abbrev asks : ℕ
   asks = asked Left during.made
 
-  pub drops-alive : head.core.spent ≡ false
-  drops-alive = ap (λ (k : Kept). k.spent) during.core.state
-
-  pub drops-next : slice_get (child_asks (world_of catalogue old.answer query) number (Distinct child) (suc a)) (length during.made) ≡ Some (next_ask Left during.made)
+  pub drops-next : slice_get (child_asks w number (Distinct child) (suc a)) (length during.made) ≡ Some (next_ask Left during.made)
   drops-next =
       let within = during.core.within in
       let size = outputs-length w number child in
@@ -111,7 +108,7 @@ module _ {catalogue : CatalogDef} {query : Query} {number : ℕ} {child : PlanTr
 
   module _ {n : PlanNode} (is : on Left ≡ Some n) (got : Option RankRow) (middle : ScorerState)
       (answered : Inquires Memory (next_row (world_of catalogue now.answer query) (number_in n) (tree_in n) (asked_in n)) (Ok got) now middle) where
-    there : slice_get (list_of (world_of catalogue old.answer query) number child) (asked Left during.made) ≡ got
+    there : slice_get (list_of w number child) asks ≡ got
     there = turn-there during.turn can Left is drops-next got middle answered
 
     -- behind the ask of its input
@@ -120,7 +117,7 @@ module _ {catalogue : CatalogDef} {query : Query} {number : ℕ} {child : PlanTr
     behind tally next after asked_same gave_same = turn-more during.turn can Left is drops-next got middle answered tally middle next after (AllAsked-none old.answer catalogue middle) asked_same gave_same
 
     module _ (row : RankRow) (is_row : got ≡ Some row) where
-      output : slice_get (outputs_in (world_of catalogue old.answer query) number child) (asked Left during.made) ≡ Some (output_row (world_of catalogue old.answer query) row)
+      output : slice_get rows asks ≡ Some (output_row w row)
       output = slice_get-map (output_row w) (list_of w number child) asks ∙ ap (option_map (output_row w)) (there ∙ is_row)
 
       -- it has the entries of the output columns
@@ -136,7 +133,7 @@ module _ {catalogue : CatalogDef} {query : Query} {number : ℕ} {child : PlanTr
       abbrev fed : Kept
       fed = record head.core { lists = with_list (values_for catalogue query row) head.core.lists }
 
-      fed-is : DistinctStands (outputs_in (world_of catalogue old.answer query) number child) (suc (asked Left during.made)) (record head.core { lists = with_list (values_for catalogue query row) head.core.lists })
+      fed-is : DistinctStands rows (suc asks) (record head.core { lists = with_list (values_for catalogue query row) head.core.lists })
       fed-is = fed-stands rows asks head.core (output_row w row) during.core output
 
       -- the row is dropped
@@ -185,11 +182,11 @@ module _ {catalogue : CatalogDef} {query : Query} {number : ℕ} {child : PlanTr
   done = asked Left during.made
 
   -- what is left once a row was given, or none was there: these were all asks that the answer takes
-  left-then : (after : DistinctNode) (core : Kept) (row : Option RankRow) → suc (asked Left during.made) ≡ asked_of (world_of catalogue old.answer query) number (Distinct child) (suc a) Left
-      → row ≡ slice_get (list_of (world_of catalogue old.answer query) number (Distinct child)) a
-      → core ≡ record { lists = lists_of (take (suc (asked Left during.made)) (outputs_in (world_of catalogue old.answer query) number child)); spent = false }
+  left-then : (after : DistinctNode) (core : Kept) (row : Option RankRow) → suc done ≡ asked_of whole number operator (suc a) Left
+      → row ≡ slice_get (list_of whole number operator) a
+      → core ≡ record { lists = lists_of (take (suc done) all_rows); spent = false }
       → after.core ≡ core → after.tally.asked ≡ head.tally.asked → ◌≡◌ {A = ℕ} after.tally.gave (if is_some row then head.tally.gave + 1 else head.tally.gave)
-      → Asked (world_of catalogue old.answer query) number (Distinct child) a (DistinctAfter (world_of catalogue old.answer query) number (Distinct child) a after next) (Ok row) old middle
+      → Asked whole number operator a (DistinctAfter whole number operator a after next) (Ok row) old middle
   left-then after core row exact value core_is after_is asked_is gave_is =
       let now_turn : Turn catalogue query number operator a old head.tally (one_child next) (one_more Left during.made) middle = behind during can refl got middle answered head.tally next kept refl refl in
       let count : asked Left (one_more Left during.made) ≡ asked_of whole number operator (suc a) Left = one-more Left during.made ∙ exact in
@@ -220,7 +217,7 @@ module _ {catalogue : CatalogDef} {query : Query} {number : ℕ} {child : PlanTr
         core = record head.core { lists = with_list (values_for catalogue query row) head.core.lists };
         tally = record head.tally { gave = if is_some given then head.tally.gave + 1 else head.tally.gave };
       } → is_some given ≡ true
-      → Asked (world_of catalogue old.answer query) number (Distinct child) a (DistinctAfter (world_of catalogue old.answer query) number (Distinct child) a after next) (Ok given) old middle
+      → Asked whole number operator a (DistinctAfter whole number operator a after next) (Ok given) old middle
   drops-given row is_row after given is_given after_is some =
       let given_row : given ≡ Some row = given-is given is_given some in
       let there = output during can refl got middle answered row is_row in
@@ -243,7 +240,7 @@ module _ {catalogue : CatalogDef} {query : Query} {number : ℕ} {child : PlanTr
 
   -- the input has ended, and so has the operator
   pub drops-over : got ≡ None
-      → Asked (world_of catalogue old.answer query) number (Distinct child) a (DistinctAfter (world_of catalogue old.answer query) number (Distinct child) a head next) (Ok None) old middle
+      → Asked whole number operator a (DistinctAfter whole number operator a head next) (Ok None) old middle
   drops-over none =
       let key = output_key whole (terms child) in
       let past = slice_get-none (list_of whole number child) done (there during can refl got middle answered ∙ none) in

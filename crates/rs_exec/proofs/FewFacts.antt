@@ -98,6 +98,3 @@ module _ (w : World) (number : ℕ) (sizes : sizes_in w number ≡ sizes_of w.ca
       let all = base-few in
       omega arith
   sources-few (SetOperator left right) part = absurd part
-
-  pub list-few : (tree : PlanTree) → IsPart w.catalogue (numbered_block w number) tree → length (list_of w number tree) ≤ 2 ^ 102
-  list-few tree part = let same = list-length w number tree in let all = sources-few tree part in omega arith

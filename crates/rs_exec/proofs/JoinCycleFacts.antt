@@ -177,19 +177,19 @@ module _ {catalogue : CatalogDef} {query : Query} {number : ℕ} {kind : JoinKin
   abbrev joined : Joined
   joined = joined_in head.core
 
-  parts : CanJoinParts (world_of catalogue old.answer query) number left right
+  parts : CanJoinParts w number left right
   parts = join-parts catalogue query number kind left right a old can
 
   -- what the core tells, of the asks and the list of the plan
-  pub join-tells : turns.Tells (child_asks (world_of catalogue old.answer query) number (JoinOperator kind left right) (suc a)) during.made a
-      (length (list_of (world_of catalogue old.answer query) number (JoinOperator kind left right))) (ask_of (joined_in head.core).ripple)
+  pub join-tells : turns.Tells (child_asks w number tree (suc a)) made a
+      (length (list_of w number tree)) (ask_of joined.ripple)
   join-tells =
       subst₂ (λ (asks : List SideAsk) (rows : List RankRow). turns.Tells asks made a (length rows) (ask_of joined.ripple))
       (sym (join-schedule w number kind left right parts (suc a))) (sym (join-list w number left right parts kind))
       (stands-tells j lefts rights made a joined.ripple during.core.core)
 
-  pub join-next : (side : JoinSide) → ask_of (joined_in head.core).ripple ≡ need_of side
-      → slice_get (child_asks (world_of catalogue old.answer query) number (JoinOperator kind left right) (suc a)) (length during.made) ≡ Some (next_ask side during.made)
+  pub join-next : (side : JoinSide) → ask_of joined.ripple ≡ need_of side
+      → slice_get (child_asks w number tree (suc a)) (length made) ≡ Some (next_ask side made)
   join-next side need =
       tells-next (child_asks w number tree (suc a)) made a (length (list_of w number tree)) side
       (subst (turns.Tells (child_asks w number tree (suc a)) made a (length (list_of w number tree))) need join-tells)
@@ -211,7 +211,7 @@ module _ {catalogue : CatalogDef} {query : Query} {number : ℕ} {kind : JoinKin
       ap (λ b. joins catalogue (block_in query b) head.conditions.left head.conditions.right) during.block_is
       ∙ ap₂ (joins catalogue (block_in query number)) left-is right-is
 
-  fits : Fits (joins catalogue (block_in query head.block) head.conditions.left head.conditions.right) (joined_in head.core)
+  fits : Fits (joins catalogue (block_in query head.block) head.conditions.left head.conditions.right) joined
   fits = subst (λ (matches : RankRow → RankRow → Bool). Fits matches joined) (sym matches-is) (stands-fits j lefts rights made a joined during.core)
 
   values-are : HasValues catalogue (block_in query head.block) head.conditions.left head.conditions.right head.core
@@ -224,7 +224,7 @@ module _ {catalogue : CatalogDef} {query : Query} {number : ℕ} {kind : JoinKin
       (during.conditions_are ∙ sym (ap₂ (conditions_of catalogue (block_in query number)) left-is right-is))
 
   -- the rows of a side, and those of them that were drawn
-  side-rows : (side : JoinSide) → AllByRecursion (IsRow (world_of catalogue old.answer query) number (of_side left right side)) (list_of (world_of catalogue old.answer query) number (of_side left right side))
+  side-rows : (side : JoinSide) → AllByRecursion (IsRow w number (of_side left right side)) (list_of w number (of_side left right side))
   side-rows side =
       list-rows w number (few-entries catalogue query number can.formed) (sizes-are catalogue old.answer query number can.number_is) (of_side left right side)
       (on-both (λ s. IsPart catalogue (block_in query number) (of_side left right s)) can.part.0 can.part.1 side)
@@ -232,11 +232,11 @@ module _ {catalogue : CatalogDef} {query : Query} {number : ℕ} {kind : JoinKin
   abbrev OnSide : JoinSide → RankRow → Type 0
   OnSide side row = is_side catalogue (block_in query head.block) (of_side head.conditions.left head.conditions.right side) row ≡ true
 
-  row-on : (side : JoinSide) (row : RankRow) → IsRow (world_of catalogue old.answer query) number (of_side left right side) row
+  row-on : (side : JoinSide) (row : RankRow) → IsRow w number (of_side left right side) row
       → is_side catalogue (block_in query head.block) (of_side head.conditions.left head.conditions.right side) row ≡ true
   row-on side row is = subst₂ (λ b m. is_side catalogue (block_in query b) m row ≡ true) (sym during.block_is) (sym (mask-is side)) is.side
 
-  drawn : (side : JoinSide) (n : ℕ) (rows : List RankRow) → rows ≡ take n (list_of (world_of catalogue old.answer query) number (of_side left right side))
+  drawn : (side : JoinSide) (n : ℕ) (rows : List RankRow) → rows ≡ take n (list_of w number (of_side left right side))
       → AllByRecursion (λ (row : RankRow). is_side catalogue (block_in query head.block) (of_side head.conditions.left head.conditions.right side) row ≡ true) rows
   drawn side n rows first =
       let all = list_of w number (of_side left right side) in
@@ -244,43 +244,40 @@ module _ {catalogue : CatalogDef} {query : Query} {number : ℕ} {kind : JoinKin
       (each-take (OnSide side) n all (each-weaker (IsRow w number (of_side left right side)) (OnSide side) (row-on side) all (side-rows side)))
 
   others-drawn : (side : JoinSide) → AllByRecursion (λ (row : RankRow). is_side catalogue (block_in query head.block) (of_side head.conditions.right head.conditions.left side) row ≡ true)
-      (of_side (joined_in head.core).rights (joined_in head.core).lefts side)
+      (of_side joined.rights joined.lefts side)
   others-drawn Left = drawn Right (asked Right made) joined.rights during.core.right_rows
   others-drawn Right = drawn Left (asked Left made) joined.lefts during.core.left_rows
 
-  pub join-alive : (joined_in head.core).ripple.spent ≡ false
-  join-alive = ap (λ (r : Ripple). r.spent) during.core.core.state
-
   -- a row of a side that is needed can be fed, and then the core stands one ask further; so it does behind the side's end
-  feeds : (side : JoinSide) → ask_of (joined_in head.core).ripple ≡ need_of side → (row : RankRow)
-      → slice_get (list_of (world_of catalogue old.answer query) number (of_side left right side)) (asked side during.made) ≡ Some row → CanFeed side row (joined_in head.core)
+  feeds : (side : JoinSide) → ask_of joined.ripple ≡ need_of side → (row : RankRow)
+      → slice_get (list_of w number (of_side left right side)) (asked side made) ≡ Some row → CanFeed side row joined
   feeds Left need row there = left-can-feed j lefts rights made a joined during.core need row there
   feeds Right need row there = right-can-feed j lefts rights made a joined during.core need row there
 
-  core-fed : (side : JoinSide) → ask_of (joined_in head.core).ripple ≡ need_of side → (row : RankRow)
-      → slice_get (list_of (world_of catalogue old.answer query) number (of_side left right side)) (asked side during.made) ≡ Some row
-      → CoreStands j lefts rights (one_more side during.made) a (joined_with_row side j.matches row (joined_in head.core))
+  core-fed : (side : JoinSide) → ask_of joined.ripple ≡ need_of side → (row : RankRow)
+      → slice_get (list_of w number (of_side left right side)) (asked side made) ≡ Some row
+      → CoreStands j lefts rights (one_more side made) a (joined_with_row side j.matches row joined)
   core-fed Left need row there = left-fed-stands j lefts rights made a joined during.core need row there
   core-fed Right need row there = right-fed-stands j lefts rights made a joined during.core need row there
 
-  core-ended : (side : JoinSide) → ask_of (joined_in head.core).ripple ≡ need_of side
-      → slice_get (list_of (world_of catalogue old.answer query) number (of_side left right side)) (asked side during.made) ≡ None
-      → CoreStands j lefts rights (one_more side during.made) a (record (joined_in head.core) { ripple = ended_of side (joined_in head.core).ripple })
+  core-ended : (side : JoinSide) → ask_of joined.ripple ≡ need_of side
+      → slice_get (list_of w number (of_side left right side)) (asked side made) ≡ None
+      → CoreStands j lefts rights (one_more side made) a (record joined { ripple = ended_of side joined.ripple })
   core-ended Left need over = (left-end-stands j lefts rights made a joined during.core need over).1
   core-ended Right need over = (right-end-stands j lefts rights made a joined during.core need over).1
 
-  module _ (side : JoinSide) {n : PlanNode} (is : on side ≡ Some n) (need : ask_of (joined_in head.core).ripple ≡ need_of side) (got : Option RankRow) (asked_then : ScorerState)
+  module _ (side : JoinSide) {n : PlanNode} (is : on side ≡ Some n) (need : ask_of joined.ripple ≡ need_of side) (got : Option RankRow) (asked_then : ScorerState)
       (answered : Inquires Memory (next_row (world_of catalogue now.answer query) (number_in n) (tree_in n) (asked_in n)) (Ok got) now asked_then) where
-    there : slice_get (list_of (world_of catalogue old.answer query) number (of_side left right side)) (asked side during.made) ≡ got
+    there : slice_get (list_of w number (of_side left right side)) (asked side made) ≡ got
     there = turn-there during.turn can side is (join-next side need) got asked_then answered
 
     -- the join behind the ask, with this core
     moved : (core : JoinCore) (fed : JoinNode) (next : PlanNode) → NodeAfter (world_of catalogue now.answer query) (number_in n) (tree_in n) (asked_in n) next
         → fed ≡ record head { core = core } → HasValues catalogue (block_in query number) (entries left) (entries right) core → kind_of core ≡ kind_of head.core
-        → CoreStands j lefts rights (one_more side during.made) a (joined_in core)
+        → CoreStands j lefts rights (one_more side made) a (joined_in core)
         → JoinTurn catalogue query number kind left right a old fed (changed side next on) asked_then
     moved core fed next after fed_is has kind_same stands = record {
-      made = one_more side during.made;
+      made = one_more side made;
       turn = turn-more during.turn can side is (join-next side need) got asked_then answered fed.tally asked_then next after (AllAsked-none old.answer catalogue asked_then)
           (ap (λ (h : JoinNode). h.tally.asked) fed_is) (ap (λ (h : JoinNode). h.tally.gave) fed_is);
       core = subst (λ (h : JoinNode). CoreStands j lefts rights (one_more side made) a (joined_in h.core)) (sym fed_is) stands;
@@ -323,7 +320,7 @@ module _ {catalogue : CatalogDef} {query : Query} {number : ℕ} {kind : JoinKin
           (subst (CoreStands j lefts rights (one_more side made) a) (sym (joined-of catalogue b (entries left) (entries right) (kind_of head.core) taken)) (core-fed side need row (there ∙ is_row)))
 
     -- its end is told
-    pub join-ended : got ≡ None → (fed : JoinNode) (next : PlanNode) → fed ≡ record head { core = core_with head.core (ended_of side (joined_in head.core).ripple) }
+    pub join-ended : got ≡ None → (fed : JoinNode) (next : PlanNode) → fed ≡ record head { core = core_with head.core (ended_of side joined.ripple) }
         → NodeAfter (world_of catalogue now.answer query) (number_in n) (tree_in n) (asked_in n) next
         → JoinTurn catalogue query number kind left right a old fed (changed side next on) asked_then
     join-ended none fed next fed_is after =
@@ -341,14 +338,14 @@ module _ {catalogue : CatalogDef} {query : Query} {number : ℕ} {kind : JoinKin
   operator = JoinOperator kind left right
 
   -- what is left once a row was given, or none was there
-  left-then : (after : JoinNode) (joined : Joined) (row : Option RankRow) (count : ℕ) → during.made ≡ child_asks (world_of catalogue old.answer query) number (JoinOperator kind left right) (suc a)
-      → row ≡ slice_get (list_of (world_of catalogue old.answer query) number (JoinOperator kind left right)) a → count ≡ gave_of (world_of catalogue old.answer query) number (JoinOperator kind left right) (suc a)
-      → CoreStands (join_for (world_of catalogue old.answer query) number left right) (list_of (world_of catalogue old.answer query) number left) (list_of (world_of catalogue old.answer query) number right) during.made count joined
+  left-then : (after : JoinNode) (joined : Joined) (row : Option RankRow) (count : ℕ) → during.made ≡ child_asks whole number operator (suc a)
+      → row ≡ slice_get (list_of whole number operator) a → count ≡ gave_of whole number operator (suc a)
+      → CoreStands (join_for whole number left right) (list_of whole number left) (list_of whole number right) during.made count joined
       → joined_in after.core ≡ joined → HasValues catalogue (block_in query number) (entries left) (entries right) after.core
       → kind_of after.core ≡ kind_of head.core → after.block ≡ head.block → after.conditions ≡ head.conditions → after.tally.asked ≡ head.tally.asked
       → ◌≡◌ {A = ℕ} after.tally.gave (if is_some row then head.tally.gave + 1 else head.tally.gave)
-      → Asked (world_of catalogue old.answer query) number (JoinOperator kind left right) a
-      (JoinAfter (world_of catalogue old.answer query) number (JoinOperator kind left right) a after on_left on_right) (Ok row) old now
+      → Asked whole number operator a
+      (JoinAfter whole number operator a after on_left on_right) (Ok row) old now
   left-then after joined row count all value count_is stands joined_is has kind_same block_is conditions_are asked_is gave_is =
       let j = join_for whole number left right in
       let lefts = list_of whole number left in
@@ -389,8 +386,8 @@ module _ {catalogue : CatalogDef} {query : Query} {number : ℕ} {kind : JoinKin
   -- the join gives
   pub join-given : ask_of (joined_in head.core).ripple ≡ Ready → (after : JoinNode) (row : Option RankRow) → row ≡ taken_for (ask_of (joined_in head.core).ripple) (joined_in head.core).ripple
       → after ≡ record head { core = core_with head.core (left_for (ask_of (joined_in head.core).ripple) (joined_in head.core).ripple); tally = record head.tally { gave = if is_some row then head.tally.gave + 1 else head.tally.gave } }
-      → Asked (world_of catalogue old.answer query) number (JoinOperator kind left right) a
-      (JoinAfter (world_of catalogue old.answer query) number (JoinOperator kind left right) a after on_left on_right) (Ok row) old now
+      → Asked whole number operator a
+      (JoinAfter whole number operator a after on_left on_right) (Ok row) old now
   join-given ready after row is_row is =
       let j = join_for whole number left right in
       let lefts = list_of whole number left in
@@ -411,8 +408,8 @@ module _ {catalogue : CatalogDef} {query : Query} {number : ℕ} {kind : JoinKin
 
   -- or it has ended
   pub join-over : ask_of (joined_in head.core).ripple ≡ End
-      → Asked (world_of catalogue old.answer query) number (JoinOperator kind left right) a
-      (JoinAfter (world_of catalogue old.answer query) number (JoinOperator kind left right) a head on_left on_right) (Ok None) old now
+      → Asked whole number operator a
+      (JoinAfter whole number operator a head on_left on_right) (Ok None) old now
   join-over end =
       let told = subst (turns.Tells (child_asks whole number operator (suc a)) during.made a (length (list_of whole number operator))) end (join-tells during can) in
       let past = told.1 in

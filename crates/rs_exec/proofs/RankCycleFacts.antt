@@ -117,11 +117,11 @@ module _ {catalogue : CatalogDef} {query : Query} {number term : ℕ} {child : P
   abbrev asks : ℕ
   asks = asked Left during.made
 
-  tells : Tells e rows (asked Left during.made) a (ask_of head.core)
+  tells : Tells e rows asks a (ask_of head.core)
   tells = stands-tells e rows asks a head.core during.core
 
   pub rank-next : ask_of head.core ≡ Need
-      → slice_get (child_asks (world_of catalogue old.answer query) number (Rank term child) (suc a)) (length during.made) ≡ Some (next_ask Left during.made)
+      → slice_get (child_asks w number tree (suc a)) (length during.made) ≡ Some (next_ask Left during.made)
   rank-next need =
       let less = subst (Tells e rows asks a) need tells in
       let exact = rank-asks w number term child can.formed can.part can.weights (suc a) in
@@ -129,7 +129,7 @@ module _ {catalogue : CatalogDef} {query : Query} {number term : ℕ} {child : P
 
   module _ {n : PlanNode} (is : on Left ≡ Some n) (need : ask_of head.core ≡ Need) (got : Option RankRow) (middle : ScorerState)
       (answered : Inquires Memory (next_row (world_of catalogue now.answer query) (number_in n) (tree_in n) (asked_in n)) (Ok got) now middle) where
-    there : slice_get (list_of (world_of catalogue old.answer query) number child) (asked Left during.made) ≡ got
+    there : slice_get rows asks ≡ got
     there = turn-there during.turn can Left is (rank-next need) got middle answered
 
     same-answer : middle.answer ≡ old.answer
@@ -146,7 +146,7 @@ module _ {catalogue : CatalogDef} {query : Query} {number term : ℕ} {child : P
       abbrev question : Question
       question = question_of row.ids.block (block_in query row.ids.block) row.ids.rows has.term
 
-      own-is : own_question (world_of catalogue old.answer query) term (slice_get (list_of (world_of catalogue old.answer query) number child) (asked Left during.made)) ≡ question ∷ []
+      own-is : own_question w term (slice_get rows asks) ≡ question ∷ []
       own-is = ap (own_question w term) (there ∙ is_row) ∙ own-at catalogue query number term child a old can row has.term has.there
 
       named : slice_get (block_in query row.ids.block).terms (head.term - 1) ≡ Some has.term
@@ -199,7 +199,7 @@ module _ {catalogue : CatalogDef} {query : Query} {number term : ℕ} {child : P
       -- the operator's own question had a bad answer, or there was no memory
       pub rank-own_failed : (After : Type 0) (fault : ExecFault) (result : Result (Option RankRow) ExecFault) (new : ScorerState) → result ≡ Err fault
           → ((t : Term) → slice_get (block_in query row.ids.block).terms (head.term - 1) ≡ Some t → Inquires Memory (feeding middle.answer catalogue query row t head) (Err fault) middle new)
-          → Asked (world_of catalogue old.answer query) number (Rank term child) a After result old new
+          → Asked w number tree a After result old new
       rank-own_failed After fault result new is_fault taking =
           turn-own_failed during.turn can Left is (rank-next need) got middle answered {B = RankNode} (with_row row worth head) After fault result new is_fault
           (subst (λ (qs : List Question). Inquires Memory (asking exec_faults old.answer catalogue qs (with_row row worth head)) (Err fault) middle new) (sym own-is)

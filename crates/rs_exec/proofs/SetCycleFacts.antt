@@ -116,32 +116,32 @@ module _ {catalogue : CatalogDef} {query : Query} {left right : PlanTree} {a : �
   abbrev made : List SideAsk
   made = during.made
 
-  facts : SetFacts (world_of catalogue old.answer query) left right
+  facts : SetFacts w left right
   facts = set-facts catalogue old.answer (all_rows catalogue query) query 1 left right can.formed can.weights can.part
 
   -- as many rows as answers
-  set-length : length (list_of (world_of catalogue old.answer query) 1 (SetOperator left right)) ≡ length (answers s (operator_of query) lefts rights)
+  set-length : length (list_of w 1 tree) ≡ length (answers s (operator_of query) lefts rights)
   set-length = sym (length-map (list_of w 1 tree) (output_row w)) ∙ ap (λ (rows : List OutputRow). length rows) facts.list
 
   set-row : (n : ℕ) → option_map (λ (row : OutputRow). row.row) (slice_get (answers s (operator_of query) lefts rights) n)
-      ≡ slice_get (list_of (world_of catalogue old.answer query) 1 (SetOperator left right)) n
+      ≡ slice_get (list_of w 1 tree) n
   set-row n =
       ap (λ (rows : List OutputRow). option_map (λ (row : OutputRow). row.row) (slice_get rows n)) (sym facts.list)
       ∙ ap (option_map (λ (row : OutputRow). row.row)) (slice_get-map (output_row w) (list_of w 1 tree) n)
       ∙ again (slice_get (list_of w 1 tree) n) where
-        again : (found : Option RankRow) → option_map (λ (row : OutputRow). row.row) (option_map (output_row (world_of catalogue old.answer query)) found) ≡ found
+        again : (found : Option RankRow) → option_map (λ (row : OutputRow). row.row) (option_map (output_row w) found) ≡ found
         again None = refl
         again (Some row) = refl
 
   -- what the core tells, of the asks and the list of the plan
-  pub set-tells : Tells (child_asks (world_of catalogue old.answer query) 1 (SetOperator left right) (suc a)) during.made a
-      (length (list_of (world_of catalogue old.answer query) 1 (SetOperator left right))) (core_ask head.core)
+  pub set-tells : Tells (child_asks w 1 tree (suc a)) made a
+      (length (list_of w 1 tree)) (core_ask head.core)
   set-tells =
       subst₂ (λ (asks : List SideAsk) (n : ℕ). Tells asks made a n (core_ask head.core)) (sym (facts.asks (suc a))) (sym set-length)
       (core-tells s (operator_of query) lefts rights made a head.core during.core)
 
   pub set-next : (side : JoinSide) → core_ask head.core ≡ need_of side
-      → slice_get (child_asks (world_of catalogue old.answer query) 1 (SetOperator left right) (suc a)) (length during.made) ≡ Some (next_ask side during.made)
+      → slice_get (child_asks w 1 tree (suc a)) (length made) ≡ Some (next_ask side made)
   set-next side need =
       tells-next (child_asks w 1 tree (suc a)) made a (length (list_of w 1 tree)) side
       (subst (Tells (child_asks w 1 tree (suc a)) made a (length (list_of w 1 tree))) need set-tells)
@@ -157,20 +157,20 @@ module _ {catalogue : CatalogDef} {query : Query} {left right : PlanTree} {a : �
     abbrev part : PlanTree
     part = of_side left right side
 
-    there : slice_get (list_of (world_of catalogue old.answer query) (of_side 1 2 side) (of_side left right side)) (asked side during.made) ≡ got
+    there : slice_get (list_of w number part) (asked side made) ≡ got
     there = turn-there during.turn can side is (set-next side need) got asked_then answered
 
-    output : slice_get (of_side lefts rights side) (asked side during.made) ≡ option_map (output_row (world_of catalogue old.answer query)) got
+    output : slice_get (of_side lefts rights side) (asked side made) ≡ option_map (output_row w) got
     output =
         ap (λ (rows : List OutputRow). slice_get rows (asked side made)) (on-both (λ v. of_side lefts rights v ≡ outputs_in w (of_side 1 2 v) (of_side left right v)) refl refl side)
         ∙ slice_get-map (output_row w) (list_of w number part) (asked side made) ∙ ap (option_map (output_row w)) there
 
     -- the operator behind the ask, with this core
     moved : (core : SetCore) (fed : SetNode) (next : PlanNode) → NodeAfter (world_of catalogue now.answer query) (number_in n) (tree_in n) (asked_in n) next
-        → fed ≡ record head { core = core } → CoreStands s (operator_of query) lefts rights (one_more side during.made) a core
+        → fed ≡ record head { core = core } → CoreStands s (operator_of query) lefts rights (one_more side made) a core
         → SetTurn catalogue query left right a old fed (changed side next on) asked_then
     moved core fed next after fed_is stands = record {
-      made = one_more side during.made;
+      made = one_more side made;
       turn = turn-more during.turn can side is (set-next side need) got asked_then answered fed.tally asked_then next after (AllAsked-none old.answer catalogue asked_then)
           (ap (λ (h : SetNode). h.tally.asked) fed_is) (ap (λ (h : SetNode). h.tally.gave) fed_is);
       core = subst (λ (h : SetNode). CoreStands s (operator_of query) lefts rights (one_more side made) a h.core) (sym fed_is) stands;
@@ -178,7 +178,7 @@ module _ {catalogue : CatalogDef} {query : Query} {left right : PlanTree} {a : �
 
     module _ (row : RankRow) (is_row : got ≡ Some row) where
       taken : HasSum (weights_of_core head.core) (terms_of_core head.core) row
-          × CoreStands s (operator_of query) lefts rights (one_more side during.made) a (side_fed side row (values_for catalogue query row) head.core)
+          × CoreStands s (operator_of query) lefts rights (one_more side made) a (side_fed side row (values_for catalogue query row) head.core)
       taken = core-row s (operator_of query) lefts rights made a head.core during.core side need (output_row w row) (output ∙ ap (option_map (output_row w)) is_row)
 
       pub set-sum : HasSum (weights_of_core head.core) (terms_of_core head.core) row
@@ -216,14 +216,14 @@ module _ {catalogue : CatalogDef} {query : Query} {left right : PlanTree} {a : �
   operator = SetOperator left right
 
   abbrev At : List SideAsk → ℕ → SetCore → Type 0
-  At = CoreStands (sides_for (world_of catalogue old.answer query) left) (operator_of query) (outputs_in (world_of catalogue old.answer query) 1 left) (outputs_in (world_of catalogue old.answer query) 2 right)
+  At = CoreStands (sides_for whole left) (operator_of query) (outputs_in whole 1 left) (outputs_in whole 2 right)
 
   -- what is left once a row was given, or none was there
-  left-then : (after : SetNode) (core : SetCore) (row : Option RankRow) (count : ℕ) → during.made ≡ child_asks (world_of catalogue old.answer query) 1 (SetOperator left right) (suc a)
-      → row ≡ slice_get (list_of (world_of catalogue old.answer query) 1 (SetOperator left right)) a → count ≡ gave_of (world_of catalogue old.answer query) 1 (SetOperator left right) (suc a)
+  left-then : (after : SetNode) (core : SetCore) (row : Option RankRow) (count : ℕ) → during.made ≡ child_asks whole 1 operator (suc a)
+      → row ≡ slice_get (list_of whole 1 operator) a → count ≡ gave_of whole 1 operator (suc a)
       → At during.made count core → after.core ≡ core → after.tally.asked ≡ head.tally.asked → ◌≡◌ {A = ℕ} after.tally.gave (if is_some row then head.tally.gave + 1 else head.tally.gave)
-      → Asked (world_of catalogue old.answer query) 1 (SetOperator left right) a
-      (SetAfter (world_of catalogue old.answer query) (SetOperator left right) a after on_left on_right) (Ok row) old now
+      → Asked whole 1 operator a
+      (SetAfter whole operator a after on_left on_right) (Ok row) old now
   left-then after core row count all value count_is stands core_is asked_is gave_is =
       let is_asked : after.tally.asked ≡ suc a = asked_is ∙ during.turn.asked_is in
       let on_the_left : Below whole 1 left (asked Left during.made) on_left = during.turn.below Left in
@@ -250,8 +250,8 @@ module _ {catalogue : CatalogDef} {query : Query} {left right : PlanTree} {a : �
   -- the operator gives
   pub set-given : core_ask head.core ≡ Ready → (after : SetNode) (row : Option RankRow) → row ≡ taken_from head.core
       → after ≡ record head { core = left_in head.core; tally = record head.tally { gave = if is_some row then head.tally.gave + 1 else head.tally.gave } }
-      → Asked (world_of catalogue old.answer query) 1 (SetOperator left right) a
-      (SetAfter (world_of catalogue old.answer query) (SetOperator left right) a after on_left on_right) (Ok row) old now
+      → Asked whole 1 operator a
+      (SetAfter whole operator a after on_left on_right) (Ok row) old now
   set-given ready after row is_row is =
       let told = subst (Tells (child_asks whole 1 operator (suc a)) during.made a (length (list_of whole 1 operator))) ready (set-tells during can) in
       let took = core-taken (sides_for whole left) (operator_of query) (outputs_in whole 1 left) (outputs_in whole 2 right) during.made a head.core during.core ready in
@@ -261,8 +261,8 @@ module _ {catalogue : CatalogDef} {query : Query} {left right : PlanTree} {a : �
 
   -- or it has ended
   pub set-over : core_ask head.core ≡ End
-      → Asked (world_of catalogue old.answer query) 1 (SetOperator left right) a
-      (SetAfter (world_of catalogue old.answer query) (SetOperator left right) a head on_left on_right) (Ok None) old now
+      → Asked whole 1 operator a
+      (SetAfter whole operator a head on_left on_right) (Ok None) old now
   set-over end =
       let told = subst (Tells (child_asks whole 1 operator (suc a)) during.made a (length (list_of whole 1 operator))) end (set-tells during can) in
       let past = told.1 in

@@ -169,14 +169,14 @@ module _ {catalogue : CatalogDef} {query : Query} {number : ℕ} {tree : PlanTre
   w = world_of catalogue old.answer query
 
   abbrev puts : SideAsk → List Question
-  puts = puts_of (world_of catalogue old.answer query) number tree
+  puts = puts_of w number tree
 
   pub turn-small : tally.gave < 2 ^ 128 - 1
   turn-small = let more = can.more in let few = can.few in let gave = turn.gave_is in omega arith
 
   -- the questions of the ask, in two parts
-  in-two : (rest : List SideAsk) → child_asks (world_of catalogue old.answer query) number tree (suc a) ≡ made ++ rest
-      → questions_of_ask (world_of catalogue old.answer query) number tree (suc a) ≡ flat_map puts turn.during.more ++ flat_map puts rest
+  in-two : (rest : List SideAsk) → child_asks w number tree (suc a) ≡ made ++ rest
+      → questions_of_ask w number tree (suc a) ≡ flat_map puts turn.during.more ++ flat_map puts rest
   in-two rest is =
       let more = turn.during.more in
       let before = child_asks w number tree a in
@@ -188,23 +188,23 @@ module _ {catalogue : CatalogDef} {query : Query} {number : ℕ} {tree : PlanTre
       ∙ flat_map-append puts more rest
 
   -- of an only child
-  module _ (alone : child_asks (world_of catalogue old.answer query) number tree (suc a) ≡ asks_from Left 1 (asked_of (world_of catalogue old.answer query) number tree (suc a) Left)) where
+  module _ (alone : child_asks w number tree (suc a) ≡ asks_from Left 1 (asked_of w number tree (suc a) Left)) where
     abbrev last : ℕ
-    last = asked_of (world_of catalogue old.answer query) number tree (suc a) Left
+    last = asked_of w number tree (suc a) Left
 
     made-asks : asked Left made ≡ length made
     made-asks = alone-made 1 last made turn.during.rest (sym alone ∙ turn.during.whole)
 
-    pub turn-alone : asked Left made < asked_of (world_of catalogue old.answer query) number tree (suc a) Left
-        → slice_get (child_asks (world_of catalogue old.answer query) number tree (suc a)) (length made) ≡ Some (next_ask Left made)
+    pub turn-alone : asked Left made < asked_of w number tree (suc a) Left
+        → slice_get (child_asks w number tree (suc a)) (length made) ≡ Some (next_ask Left made)
     turn-alone less =
         let count = made-asks in
         let same : 1 + length made ≡ suc (asked Left made) = omega arith in
         ap (λ (asks : List SideAsk). slice_get asks (length made)) alone ∙ alone-at 1 last (length made) (omega arith)
         ∙ ap (λ k. Some (record { side = Left; number = k })) same
 
-    pub turn-all : asked Left made ≡ asked_of (world_of catalogue old.answer query) number tree (suc a) Left
-        → made ≡ child_asks (world_of catalogue old.answer query) number tree (suc a)
+    pub turn-all : asked Left made ≡ asked_of w number tree (suc a) Left
+        → made ≡ child_asks w number tree (suc a)
     turn-all exact =
         let count = made-asks in
         let whole = alone-made 1 last (asks_from Left 1 last) [] (sym (append-nil (asks_from Left 1 last))) in
@@ -214,14 +214,14 @@ module _ {catalogue : CatalogDef} {query : Query} {number : ℕ} {tree : PlanTre
         sym (turn.during.whole ∙ ap (λ (rest : List SideAsk). made ++ rest) none ∙ append-nil made)
 
   -- where all asks were made, all questions were asked
-  module _ (all : made ≡ child_asks (world_of catalogue old.answer query) number tree (suc a)) (row : Option RankRow) (value : row ≡ slice_get (list_of (world_of catalogue old.answer query) number tree) a) where
-    pub turn-inquires : Inquires Memory (next_row (world_of catalogue old.answer query) number tree a) (Ok row) old now
+  module _ (all : made ≡ child_asks w number tree (suc a)) (row : Option RankRow) (value : row ≡ slice_get (list_of w number tree) a) where
+    pub turn-inquires : Inquires Memory (next_row w number tree a) (Ok row) old now
     turn-inquires =
         Ended-behind exec_faults Memory catalogue {A = Option RankRow} (flat_map puts turn.during.more) (questions_of_ask w number tree (suc a)) (slice_get (list_of w number tree) a) row old now
         (in-two [] (sym all ∙ sym (append-nil made)) ∙ append-nil (flat_map puts turn.during.more)) value turn.during.all_asked
 
     -- and the tally counts the row, if there is one
-    pub turn-gave : ◌≡◌ {A = ℕ} (if is_some row then tally.gave + 1 else tally.gave) (gave_of (world_of catalogue old.answer query) number tree (suc a))
+    pub turn-gave : ◌≡◌ {A = ℕ} (if is_some row then tally.gave + 1 else tally.gave) (gave_of w number tree (suc a))
     turn-gave =
         let rows = list_of w number tree in
         let more = can.more in
@@ -232,7 +232,7 @@ module _ {catalogue : CatalogDef} {query : Query} {number : ℕ} {tree : PlanTre
 
   -- a child that is asked next
   module _ (side : JoinSide) {n : PlanNode} (is : on side ≡ Some n)
-      (next : slice_get (child_asks (world_of catalogue old.answer query) number tree (suc a)) (length made) ≡ Some (next_ask side made)) where
+      (next : slice_get (child_asks w number tree (suc a)) (length made) ≡ Some (next_ask side made)) where
     abbrev part : PlanTree
     part = child_on tree side
 
@@ -245,25 +245,25 @@ module _ {catalogue : CatalogDef} {query : Query} {number : ℕ} {tree : PlanTre
     abbrev behind : List SideAsk
     behind = drop 1 turn.during.rest
 
-    below : Below (world_of catalogue old.answer query) (number_on number tree side) (child_on tree side) (asked side made) n
+    below : Below w own_number part asks n
     below = subst (λ (o : Option PlanNode). IfSome o (Below w own_number part asks)) is (turn.below side)
 
-    pub turn-tree : tree_in n ≡ child_on tree side
+    pub turn-tree : tree_in n ≡ part
     turn-tree = below.tree_is
 
-    number-is : number_in n ≡ number_on number tree side
+    number-is : number_in n ≡ own_number
     number-is = node-number w own_number n below.stands
 
-    comes : child_asks (world_of catalogue old.answer query) number tree (suc a) ≡ made ++ next_ask side made ∷ drop 1 turn.during.rest
+    comes : child_asks w number tree (suc a) ≡ made ++ next_ask side made ∷ behind
     comes =
         turn.during.whole ∙ ap (λ (rest : List SideAsk). made ++ rest)
         (begins-with made turn.during.rest (next_ask side made) (subst (λ (xs : List SideAsk). slice_get xs (length made) ≡ Some (next_ask side made)) turn.during.whole next))
 
-    whole-more : child_asks (world_of catalogue old.answer query) number tree (suc a) ≡ one_more side made ++ drop 1 turn.during.rest
+    whole-more : child_asks w number tree (suc a) ≡ one_more side made ++ behind
     whole-more = comes ∙ sym (append_assoc made (next_ask side made ∷ []) behind)
 
     -- fewer asks are left
-    pub turn-less : asked side made < asked_of (world_of catalogue old.answer query) number tree (suc a) side
+    pub turn-less : asked side made < asked_of w number tree (suc a) side
     turn-less =
         let all : asked_of w number tree (suc a) side ≡ asked side (one_more side made) + asked side behind =
         ap (asked side) whole-more ∙ ap (λ (xs : List SideAsk). length xs) (filter-append (is_of_side side) (one_more side made) behind)
@@ -297,14 +297,14 @@ module _ {catalogue : CatalogDef} {query : Query} {number : ℕ} {tree : PlanTre
     -- what the node was asked, as this child, by the scorer's first answers
     as-child : (result : Result (Option RankRow) ExecFault) (middle : ScorerState)
         → Inquires Memory (next_row (world_of catalogue now.answer query) (number_in n) (tree_in n) (asked_in n)) result now middle
-        → Inquires Memory (next_row (world_of catalogue old.answer query) (number_on number tree side) (child_on tree side) (asked side made)) result now middle
+        → Inquires Memory (next_row w own_number part asks) result now middle
     as-child result middle inquires =
         subst₂ (λ k answer. Inquires Memory (next_row (world_of catalogue answer query) k part asks) result now middle) number-is turn.during.all_asked.keeps.answer
         (subst₂ (λ t k. Inquires Memory (next_row (world_of catalogue now.answer query) (number_in n) t k) result now middle) below.tree_is below.asked_is inquires)
 
-    split : questions_of_ask (world_of catalogue old.answer query) number tree (suc a) ≡ flat_map puts turn.during.more
-        ++ (questions_of_ask (world_of catalogue old.answer query) (number_on number tree side) (child_on tree side) (suc (asked side made))
-        ++ (own_of (world_of catalogue old.answer query) number tree (asked side made) ++ flat_map puts (drop 1 turn.during.rest)))
+    split : questions_of_ask w number tree (suc a) ≡ flat_map puts turn.during.more
+        ++ (questions_of_ask w own_number part (suc asks)
+        ++ (own_of w number tree (asked side made) ++ flat_map puts behind))
     split =
         in-two (next_ask side made ∷ behind) comes
         ∙ ap (λ (qs : List Question). flat_map puts turn.during.more ++ qs)
@@ -314,7 +314,7 @@ module _ {catalogue : CatalogDef} {query : Query} {number : ℕ} {tree : PlanTre
     -- a fault of it ends the ask
     pub turn-failed : (After : Type 0) (fault : ExecFault) (result : Result (Option RankRow) ExecFault) (middle : ScorerState) → result ≡ Err fault
         → Inquires Memory (next_row (world_of catalogue now.answer query) (number_in n) (tree_in n) (asked_in n)) (Err fault) now middle
-        → Asked (world_of catalogue old.answer query) number tree a After result old middle
+        → Asked w number tree a After result old middle
     turn-failed After fault result middle is_fault inquires =
         ask-failed w number tree a After result fault old middle is_fault
         (Inquires-fault exec_faults Memory old.answer catalogue {A = Option RankRow} {B = Option RankRow} (flat_map puts turn.during.more) (questions_of_ask w own_number part (suc asks))
@@ -323,24 +323,24 @@ module _ {catalogue : CatalogDef} {query : Query} {number : ℕ} {tree : PlanTre
 
     -- behind the ask the child stands, and fewer asks are left of both sides together
     module _ (after : PlanNode) (kept : NodeAfter (world_of catalogue now.answer query) (number_in n) (tree_in n) (asked_in n) after) where
-      asked-one : asked_in after ≡ suc (asked side made)
+      asked-one : asked_in after ≡ suc asks
       asked-one = kept.asked_is ∙ ap suc below.asked_is
 
-      pub turn-below : (s : JoinSide) → IfSome (changed side after on s) (Below (world_of catalogue old.answer query) (number_on number tree s) (child_on tree s) (asked s (one_more side made)))
+      pub turn-below : (s : JoinSide) → IfSome (changed side after on s) (Below w (number_on number tree s) (child_on tree s) (asked s (one_more side made)))
       turn-below = go side (record {
         tree_is = kept.tree_is ∙ below.tree_is;
         asked_is = asked-one;
         stands = subst₂ (λ k answer. Stands (world_of catalogue answer query) k after) number-is turn.during.all_asked.keeps.answer kept.stands;
       })
         where
-          go : (v : JoinSide) → Below (world_of catalogue old.answer query) (number_on number tree v) (child_on tree v) (suc (asked v made)) after
-              → (s : JoinSide) → IfSome (changed v after on s) (Below (world_of catalogue old.answer query) (number_on number tree s) (child_on tree s) (asked s (one_more v made)))
-          go Left new Left = subst (λ k. Below (world_of catalogue old.answer query) (number_on number tree Left) (child_on tree Left) k after) (sym (asked-left made (suc (asked Left made))).0) new
-          go Left new Right = subst (λ k. IfSome (on Right) (Below (world_of catalogue old.answer query) (number_on number tree Right) (child_on tree Right) k)) (sym (asked-left made (suc (asked Left made))).1) (turn.below Right)
-          go Right new Left = subst (λ k. IfSome (on Left) (Below (world_of catalogue old.answer query) (number_on number tree Left) (child_on tree Left) k)) (sym (asked-right made (suc (asked Right made))).0) (turn.below Left)
-          go Right new Right = subst (λ k. Below (world_of catalogue old.answer query) (number_on number tree Right) (child_on tree Right) k after) (sym (asked-right made (suc (asked Right made))).1) new
+          go : (v : JoinSide) → Below w (number_on number tree v) (child_on tree v) (suc (asked v made)) after
+              → (s : JoinSide) → IfSome (changed v after on s) (Below w (number_on number tree s) (child_on tree s) (asked s (one_more v made)))
+          go Left new Left = subst (λ k. Below w (number_on number tree Left) (child_on tree Left) k after) (sym (asked-left made (suc (asked Left made))).0) new
+          go Left new Right = subst (λ k. IfSome (on Right) (Below w (number_on number tree Right) (child_on tree Right) k)) (sym (asked-left made (suc (asked Left made))).1) (turn.below Right)
+          go Right new Left = subst (λ k. IfSome (on Left) (Below w (number_on number tree Left) (child_on tree Left) k)) (sym (asked-right made (suc (asked Right made))).0) (turn.below Left)
+          go Right new Right = subst (λ k. Below w (number_on number tree Right) (child_on tree Right) k after) (sym (asked-right made (suc (asked Right made))).1) new
 
-      pub turn-nearer : asked_of (world_of catalogue old.answer query) number tree (suc a) side - asked_in after < asked_of (world_of catalogue old.answer query) number tree (suc a) side - asked_in n
+      pub turn-nearer : asked_of w number tree (suc a) side - asked_in after < asked_of w number tree (suc a) side - asked_in n
       turn-nearer =
           let less = turn-less in
           let one = asked-one in
@@ -349,27 +349,27 @@ module _ {catalogue : CatalogDef} {query : Query} {number : ℕ} {tree : PlanTre
 
     module _ (got : Option RankRow) (middle : ScorerState)
         (answered : Inquires Memory (next_row (world_of catalogue now.answer query) (number_in n) (tree_in n) (asked_in n)) (Ok got) now middle) where
-      gave : Gave old.answer catalogue (questions_of_ask (world_of catalogue old.answer query) (number_on number tree side) (child_on tree side) (suc (asked side made)))
-          (slice_get (list_of (world_of catalogue old.answer query) (number_on number tree side) (child_on tree side)) (asked side made)) got now middle
+      gave : Gave old.answer catalogue (questions_of_ask w own_number part (suc asks))
+          (slice_get (list_of w own_number part) asks) got now middle
       gave =
           Gave-ok exec_faults Memory old.answer catalogue {A = Option RankRow} (questions_of_ask w own_number part (suc asks)) (slice_get (list_of w own_number part) asks) got now middle
           (as-child (Ok got) middle answered)
 
       -- what it gave is its next row
-      pub turn-there : slice_get (list_of (world_of catalogue old.answer query) (number_on number tree side) (child_on tree side)) (asked side made) ≡ got
+      pub turn-there : slice_get (list_of w own_number part) asks ≡ got
       turn-there = sym gave.is_value
 
-      now-asked : AllAsked old.answer catalogue (flat_map puts turn.during.more ++ questions_of_ask (world_of catalogue old.answer query) (number_on number tree side) (child_on tree side) (suc (asked side made))) old middle
+      now-asked : AllAsked old.answer catalogue (flat_map puts turn.during.more ++ questions_of_ask w own_number part (suc asks)) old middle
       now-asked = AllAsked-more old.answer catalogue (flat_map puts turn.during.more) (questions_of_ask w own_number part (suc asks)) old now middle turn.during.all_asked gave.asked
 
-      split-more : questions_of_ask (world_of catalogue old.answer query) number tree (suc a)
-          ≡ (flat_map puts turn.during.more ++ questions_of_ask (world_of catalogue old.answer query) (number_on number tree side) (child_on tree side) (suc (asked side made)))
-          ++ (own_of (world_of catalogue old.answer query) number tree (asked side made) ++ flat_map puts (drop 1 turn.during.rest))
+      split-more : questions_of_ask w number tree (suc a)
+          ≡ (flat_map puts turn.during.more ++ questions_of_ask w own_number part (suc asks))
+          ++ (own_of w number tree (asked side made) ++ flat_map puts behind)
       split-more =
           split ∙ sym (append_assoc (flat_map puts turn.during.more) (questions_of_ask w own_number part (suc asks)) (own_of w number tree asks ++ flat_map puts behind))
 
       -- there was no memory for it
-      pub turn-stopped : (After : Type 0) (result : Result (Option RankRow) ExecFault) → result ≡ Err Memory → Asked (world_of catalogue old.answer query) number tree a After result old middle
+      pub turn-stopped : (After : Type 0) (result : Result (Option RankRow) ExecFault) → result ≡ Err Memory → Asked w number tree a After result old middle
       turn-stopped After result is_fault =
           ask-failed w number tree a After result Memory old middle is_fault
           (Stopped-within exec_faults Memory catalogue {A = Option RankRow} (flat_map puts turn.during.more ++ questions_of_ask w own_number part (suc asks))
@@ -377,8 +377,8 @@ module _ {catalogue : CatalogDef} {query : Query} {number : ℕ} {tree : PlanTre
 
       -- a question of the operator itself had a bad answer
       pub turn-own_failed : {B : Type 0} (value : B) (After : Type 0) (fault : ExecFault) (result : Result (Option RankRow) ExecFault) (new : ScorerState) → result ≡ Err fault
-          → Inquires Memory (asking exec_faults old.answer catalogue (own_of (world_of catalogue old.answer query) number tree (asked side made)) value) (Err fault) middle new
-          → Asked (world_of catalogue old.answer query) number tree a After result old new
+          → Inquires Memory (asking exec_faults old.answer catalogue (own_of w number tree asks) value) (Err fault) middle new
+          → Asked w number tree a After result old new
       turn-own_failed {B} value After fault result new is_fault inquires =
           ask-failed w number tree a After result fault old new is_fault
           (Inquires-fault exec_faults Memory old.answer catalogue {A = B} {B = Option RankRow} (flat_map puts turn.during.more ++ questions_of_ask w own_number part (suc asks))
@@ -386,7 +386,7 @@ module _ {catalogue : CatalogDef} {query : Query} {number : ℕ} {tree : PlanTre
 
       -- behind its own questions the operator stands one ask of the child further
       pub turn-more : (next_tally : Tally) (new : ScorerState) (after : PlanNode) → NodeAfter (world_of catalogue now.answer query) (number_in n) (tree_in n) (asked_in n) after
-          → AllAsked old.answer catalogue (own_of (world_of catalogue old.answer query) number tree (asked side made)) middle new
+          → AllAsked old.answer catalogue (own_of w number tree asks) middle new
           → next_tally.asked ≡ tally.asked → next_tally.gave ≡ tally.gave
           → Turn catalogue query number tree a old next_tally (changed side after on) (one_more side made) new
       turn-more next_tally new after kept own asked_same gave_same = record {
