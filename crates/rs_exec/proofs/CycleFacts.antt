@@ -1,5 +1,5 @@
 -- One ask of a scan, as a node of a plan: it puts no question, and gives the next row of its list.
-use Rattle.std.proofs.Common.{ℕ, suc, ◌≡◌, ◌∙◌, ◌+◌, ◌-◌, ◌≤◌, max, min, List, [], length, refl, sym, ap, subst, arith}
+use Rattle.std.proofs.Common.{ℕ, suc, ◌≡◌, ◌∙◌, ◌+◌, ◌≤◌, max, min, List, [], length, refl, sym, ap, subst, arith}
 use Rattle.std.specs.Prelude.{Option, Some, None, Result, Ok, Err, IsOk, if◌then◌else◌, is_some, option_and_then, option_map, slice_get, unwrap_or}
 use Rattle.std.proofs.lemmas.Option.{slice_get_within}
 use Rattle.rs_table.specs.Relation.{Relation}
@@ -24,7 +24,6 @@ use Rattle.rs_exec.specs.Standing.{index_node_after, table_node_after, tally_aft
 use Rattle.rs_exec.specs.declared.fault.ExecFault.{ExecFault}
 use Rattle.rs_exec.specs.declared.fault.ExecFault.TheVariants.{Memory}
 use Rattle.rs_exec.specs.declared.node.PlanNode.TheVariants as node
-use Rattle.rs_exec.specs.declared.node.PlanNode.TheViews as view
 use Rattle.rs_exec.specs.declared.scan.IndexNode.{IndexNode}
 use Rattle.rs_exec.specs.declared.scan.TableNode.{TableNode}
 use Rattle.rs_exec.specs.declared.tally.Tally.{Tally}

@@ -12,10 +12,9 @@ use Rattle.rs_query.specs.Answers.{base_of, distinct_if, firsts, answer_row}
 use Rattle.rs_outputs.specs.Seen.{same_values}
 use Rattle.rs_query.specs.Combinations.{choices, combinations, numbers_to, satisfies}
 use Rattle.rs_query.specs.Tables.{all_entries, sizes_of}
-use Rattle.rs_plan.specs.Lists.{World, numbered_block, list_of, sizes_in, sources}
+use Rattle.rs_plan.specs.Lists.{World, numbered_block, sizes_in, sources}
 use Rattle.rs_plan.specs.Plans.{IsPart}
 use Rattle.rs_plan.specs.Trees.{Distinct, JoinOperator, Rank, RankScan, SeqScan, SetOperator, PlanTree, entries}
-use Rattle.rs_exec.proofs.ListFacts.{list-length}
 
 pub length-firsts : (rows : List Answer) → length (firsts rows) ≤ length rows
 length-firsts [] = omega arith

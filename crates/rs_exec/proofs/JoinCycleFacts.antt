@@ -1,5 +1,5 @@
 -- One ask of a join: where its core stands between two asks of its sides, what each row does, and what is left behind the ask.
-use Rattle.std.proofs.Common.{ℕ, suc, ◌≡◌, ◌∙◌, ◌+◌, ◌≤◌, List, false, true, min, Box, Global, length, take, refl, sym, ap, ap₂, subst, subst₂, arith}
+use Rattle.std.proofs.Common.{ℕ, suc, ◌≡◌, ◌∙◌, ◌+◌, ◌≤◌, List, true, min, Box, Global, length, take, refl, sym, ap, ap₂, subst, subst₂, arith}
 use Rattle.std.specs.Box.{with_value}
 use Rattle.std.specs.List.{AllByRecursion}
 use Rattle.std.specs.Prelude.{Bool, IfSome, Option, Some, None, Result, Ok, if◌then◌else◌, is_some, slice_get}

@@ -62,4 +62,3 @@ pub kind-asks : (w : World) (number : ℕ) (kind other : JoinKind) (left right :
     → child_asks w number (JoinOperator kind left right) n ≡ child_asks w number (JoinOperator other left right) n
 kind-asks w number kind other left right zero = refl
 kind-asks w number kind other left right (suc n) = refl
-
