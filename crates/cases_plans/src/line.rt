@@ -4,6 +4,7 @@ ghost use Rattle.std.specs.Prelude.{IfOk};
 ghost use Rattle.rs_syntax.specs.Syntax.{commands_of};
 ghost use Rattle.rs_syntax.specs.Written.{AreWritten};
 
+use crate::costs::sought_of;
 use crate::counts::counts_of;
 use crate::plan::plan_of;
 use crate::query::Asked;
@@ -76,6 +77,14 @@ impl Planning {
         self.tell(alloc, &asked, script)
     }
 
+    /// Tells the least costs of signatures of a query: `SIGNATURES SCRIPT` behind the seed.
+    fn tell_costs(&mut self, alloc: Global, seed: &[u8], words: &[u8]) -> Result<String, Fault> {
+        let (signatures, script) = cut_word(words);
+        let seed = number_of(seed)?;
+        let asked = Asked::Costs(seed, sought_of(alloc, signatures)?);
+        self.tell(alloc, &asked, script)
+    }
+
     /// Executes a plan: `COUNT SCRIPT` behind it.
     fn tell_asks(&mut self, alloc: Global, plan: &[u8], words: &[u8]) -> Result<String, Fault> {
         let (count, script) = cut_word(words);
@@ -111,6 +120,7 @@ impl Cases for Planning {
         match word {
             b"plan" => self.tell(alloc, &Asked::Least(number_of(first)?), script),
             b"counted" => self.tell_counted(alloc, first, script),
+            b"costs" => self.tell_costs(alloc, first, script),
             b"ask" => self.tell_asks(alloc, first, script),
             b"calls" => self.tell(alloc, &Asked::Calls(number_of(first)?), script),
             b"cards" => self.tell(alloc, &Asked::Cards(number_of(first)?), script),

@@ -13,6 +13,8 @@
 //!   the left one before the right one, with commas between: how often a node was asked, how many rows it gave, how many
 //!   calls it made and how many rows it drew, with colons between. Where there are more or fewer counts than nodes,
 //!   `miscounted` is told.
+//! - `costs SEED SIGNATURES SCRIPT`: a grid is filled by a sample of this seed. It tells the least cost of the plans without Distinct
+//!   of each of these signatures, or `none`. A signature is `BLOCK:ENTRIES:TERMS`, with a comma between two.
 //! - `ask PLAN COUNT SCRIPT`: the first query is asked for a row this many times, by this plan.
 //! - `calls SEED SCRIPT`: a sample is taken of the first query by this seed. The calls are told, those of the indexes first.
 //! - `cards SEED SCRIPT`: the same, and the estimates are told.
@@ -38,6 +40,7 @@
 mod asks;
 mod calls;
 mod cards;
+mod costs;
 mod counts;
 mod least;
 mod line;

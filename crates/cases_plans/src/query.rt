@@ -8,6 +8,7 @@ ghost use Rattle.rs_catalog.specs.IndexesHold.{IndexesHold};
 
 use crate::asks::tell_rows;
 use crate::cards::{tell_cards, tell_sample};
+use crate::costs::{Sought, tell_costs};
 use crate::least::tell_least;
 use crate::time::tell_time;
 use cases_lines::Fault;
@@ -27,6 +28,8 @@ pub enum Asked {
     Least(u64),
     /// The same, with these counts of the nodes.
     Counted(u64, Vec<Counts>),
+    /// The least costs of these signatures by a sample of this seed.
+    Costs(u64, Vec<Sought>),
     /// The rows that this plan gives, asked for this many times.
     Rows(Plan, u32),
     /// The calls of a sample by this seed.
@@ -70,6 +73,7 @@ fn tell_bound(
         Asked::Counted(seed, counts) => {
             tell_least(alloc, catalog, &query, *seed, Some(counts), scorer)
         }
+        Asked::Costs(seed, sought) => tell_costs(alloc, catalog, &query, *seed, sought, scorer),
         Asked::Rows(plan, count) => {
             return tell_rows(alloc, catalog, query, plan, *count, scorer);
         }
