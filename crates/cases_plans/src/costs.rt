@@ -46,7 +46,7 @@ fn small(number: u64) -> Result<u8, Fault> {
     Ok(number as u8)
 }
 
-/// Tells the least cost of each of these signatures.
+/// Fills the grid by a query, and tells the least cost of each of these signatures.
 pub fn tell_costs(
     alloc: Global,
     catalog: &Catalog,
@@ -54,13 +54,13 @@ pub fn tell_costs(
     seed: u64,
     sought: &[Sought],
     scorer: &mut MemScorer,
+    grid: &mut Grid,
 ) -> Result<String, Fault>
     requires { IsQuery catalog.now query.now }
 {
     let cards = sampled(alloc, catalog, query, seed, scorer)?;
-    let mut grid = Grid::make(alloc)?;
     grid.fill(catalog, query, &cards);
-    tell_all(alloc, &grid, sought)
+    tell_all(alloc, grid, sought)
 }
 
 fn tell_all(alloc: Global, grid: &Grid, sought: &[Sought]) -> Result<String, Fault> {

@@ -11,24 +11,28 @@ use crate::query::Asked;
 use crate::script::tell_script;
 use cases_lines::{Cases, Fault, count_of, cut_word, number_of, read_escaped, text_of, value_of};
 use cases_scripts::statements_of;
+use rs_enum::Grid;
 use rs_expr::MemScorer;
 use rs_syntax::Statement;
-use rs_value::{Text, Value, int_of};
+use rs_value::{Memory, Text, Value, int_of};
 use std::alloc::Global;
 
-/// What comes in front of scripts, and what answers the calls for the next one.
+/// What comes in front of scripts, what answers the calls for the next one, and the grid that all least costs are told by.
 #[derive(Drop)]
 pub struct Planning {
     front: Vec<u8>,
     scorer: MemScorer,
+    grid: Grid,
 }
 
 impl Planning {
-    pub fn new(alloc: Global) -> Planning {
-        Planning {
+    pub fn new(alloc: Global) -> Result<Planning, Memory> {
+        let grid = Grid::make(alloc)?;
+        Ok(Planning {
             front: Vec::new(alloc),
             scorer: MemScorer::new(alloc),
-        }
+            grid,
+        })
     }
 
     /// Does what a line asks for that needs no query.
@@ -64,7 +68,7 @@ impl Planning {
     /// Tells what is asked of the query of the front and this script, and forgets what was written for it.
     fn tell(&mut self, alloc: Global, asked: &Asked, script: &[u8]) -> Result<String, Fault> {
         let statements = self.statements_of(alloc, script)?;
-        let told = tell_script(alloc, &statements, asked, &mut self.scorer)?;
+        let told = tell_script(alloc, &statements, asked, &mut self.scorer, &mut self.grid)?;
         self.scorer = MemScorer::new(alloc);
         Ok(told)
     }

@@ -15,6 +15,7 @@ use cases_lines::Fault;
 use cases_scripts::bind_fault;
 use rs_bind::bind;
 use rs_catalog::Catalog;
+use rs_enum::Grid;
 use rs_expr::MemScorer;
 use rs_plan::{Counts, Plan};
 use rs_query::Query;
@@ -47,12 +48,13 @@ pub fn tell_query(
     select: &Select,
     asked: &Asked,
     scorer: &mut MemScorer,
+    grid: &mut Grid,
 ) -> Result<String, Fault>
     requires written { IsWrittenQuery (query_of select.now) }
     requires held { IndexesHold (answered_score scorer.old) catalog.now }
 {
     match bind(alloc, catalog, select) {
-        Ok(query) => tell_bound(alloc, catalog, query, asked, scorer),
+        Ok(query) => tell_bound(alloc, catalog, query, asked, scorer, grid),
         Err(fault) => Err(bind_fault(fault)),
     }
 }
@@ -64,6 +66,7 @@ fn tell_bound(
     query: Query,
     asked: &Asked,
     scorer: &mut MemScorer,
+    grid: &mut Grid,
 ) -> Result<String, Fault>
     requires formed { IsQuery catalog.now query }
     requires held { IndexesHold (answered_score scorer.old) catalog.now }
@@ -73,7 +76,9 @@ fn tell_bound(
         Asked::Counted(seed, counts) => {
             tell_least(alloc, catalog, &query, *seed, Some(counts), scorer)
         }
-        Asked::Costs(seed, sought) => tell_costs(alloc, catalog, &query, *seed, sought, scorer),
+        Asked::Costs(seed, sought) => {
+            tell_costs(alloc, catalog, &query, *seed, sought, scorer, grid)
+        }
         Asked::Rows(plan, count) => {
             return tell_rows(alloc, catalog, query, plan, *count, scorer);
         }
