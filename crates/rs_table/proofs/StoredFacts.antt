@@ -3,16 +3,15 @@ use Rattle.std.proofs.Common.{ℕ, pos, ◌≡◌, ◌+◌, ◌^◌, ◌<◌, �
 use Rattle.std.specs.Prelude.{Some, slice_get}
 use Rattle.std.specs.List.{All}
 use Rattle.std.proofs.lemmas.Bool.{cases_lt}
-use Rattle.std.proofs.lemmas.List.{drop-set, drop_all, drop_more, get_or-take, get_or_append_left, get_or_default, get_or_push, length-map, length-set, length-take, length_push, map-append, map-set, map_push, same_from_push, take-set, take-take, take_all, take_more, take_more_set}
-use Rattle.std.proofs.lemmas.List.Elements.{All-cons, All-get_or, All-head, All-map, All-nil, All-push, All-set, All-tail, All-weaker}
+use Rattle.std.proofs.lemmas.List.{drop-set, drop_all, drop_more, get_or-take, get_or_append_left, get_or_push, length-map, length-set, length-take, length_push, map-append, map-set, map_push, same_from_push, take-set, take-take, take_all, take_more, take_more_set}
+use Rattle.std.proofs.lemmas.List.Elements.{All-cons, All-get_or, All-head, All-nil, All-push, All-set, All-tail, All-weaker}
 use Rattle.std.proofs.lemmas.Option.{get_or_from_slice_get, slice_get-map, slice_get_read}
 use Rattle.std.proofs.Math.Seq.{map-set_same}
-use Rattle.rs_value.specs.declared.kind.Kind.{Kind}
 use Rattle.rs_value.specs.declared.value.Value.{Value}
-use Rattle.rs_value.specs.declared.value.Value.TheVariants.{Int, Text}
+use Rattle.rs_value.specs.declared.value.Value.TheVariants.{Int}
 use Rattle.rs_value.specs.Value.{kind_of}
 use Rattle.rs_table.specs.Stored.{AreEven, StoredCells, StoredRows, cells_in, kinds_in, pushed, rooms_in, row_across, rows_across, stored_in}
-use Rattle.rs_table.specs.Texts.{cells_across, texts_among}
+use Rattle.rs_table.specs.Texts.{cells_across}
 
 pub length-rows_across : (n : ℕ) (columns : List (List Value)) → length (rows_across n columns) ≡ n
 length-rows_across zero columns = refl
@@ -116,10 +115,10 @@ placed-in n column columns cells even within is =
       size = size ∙ sym (length-rows_across n (cells_in columns));
       kind = slice_get-map (λ (c : StoredCells). c.kind) columns column ∙ rw there refl;
       at = λ row value in_rows is_value.
-        let less : row < n = omega (arith, length-rows_across n (cells_in columns)) in
-        ap (λ r. slice_get r column) (get_or-rows_across n row (cells_in columns) less)
-        ∙ slice_get-row_across row column (cells_in columns) cells.cells its_cells
-        ∙ ap (λ v. Some v) (get_or_from_slice_get cells.cells row value (Int (pos 0)) is_value);
+          let less : row < n = omega (arith, length-rows_across n (cells_in columns)) in
+          ap (λ r. slice_get r column) (get_or-rows_across n row (cells_in columns) less)
+          ∙ slice_get-row_across row column (cells_in columns) cells.cells its_cells
+          ∙ ap (λ v. Some v) (get_or_from_slice_get cells.cells row value (Int (pos 0)) is_value);
       all = cells_across-all n column (cells_in columns) cells.cells its_cells size;
     }
 
@@ -186,17 +185,17 @@ pushed-more n old now values column next value h within within_values column_is 
       size = length-set now n next ∙ size;
       kinds = map-set_same (λ (c : StoredCells). c.kind) now n next column (more.kind ∙ ap (λ (c : StoredCells). c.kind) column_is) ∙ h.kinds;
       cells =
-        ap (λ columns. cells_in columns) (drop-set now n next in_now)
-        ∙ ap (λ cells. cells ∷ cells_in (drop (n + 1) now)) more.cells
-        ∙ ap (λ rest. (column.cells ++ value ∷ []) ∷ rest) h.cells
-        ∙ sym (ap (λ columns. pushed (cells_in columns) (drop n values)) (drop_more old n column within ∙ ap (λ (c : StoredCells). c ∷ drop (n + 1) old) (sym was))
-        ∙ ap (λ vs. pushed (cells_in (column ∷ drop (n + 1) old)) vs) (drop_more values n value within_values ∙ ap (λ v. v ∷ drop (n + 1) values) (sym value_is)));
+          ap (λ columns. cells_in columns) (drop-set now n next in_now)
+          ∙ ap (λ cells. cells ∷ cells_in (drop (n + 1) now)) more.cells
+          ∙ ap (λ rest. (column.cells ++ value ∷ []) ∷ rest) h.cells
+          ∙ sym (ap (λ columns. pushed (cells_in columns) (drop n values)) (drop_more old n column within ∙ ap (λ (c : StoredCells). c ∷ drop (n + 1) old) (sym was))
+          ∙ ap (λ vs. pushed (cells_in (column ∷ drop (n + 1) old)) vs) (drop_more values n value within_values ∙ ap (λ v. v ∷ drop (n + 1) values) (sym value_is)));
       room = λ m all.
-        let rooms : n < length (rooms_in old) = rw length-map within in
-        let here : m + 1 ≤ column.room =
-        subst (λ r. m + 1 ≤ r) (room-at n old column within was) (All-get_or (λ room. m + 1 ≤ room) (rooms_in old) n 0 rooms all) in
-        let more_room = more.room in
-        subst (λ rs. All (λ room. m ≤ room) rs) (sym (map-set (λ (c : StoredCells). c.room) now n next)) (All-set (λ room. m ≤ room) (rooms_in now) n next.room (omega arith) (h.room m all));
+          let rooms : n < length (rooms_in old) = rw length-map within in
+          let here : m + 1 ≤ column.room =
+          subst (λ r. m + 1 ≤ r) (room-at n old column within was) (All-get_or (λ room. m + 1 ≤ room) (rooms_in old) n 0 rooms all) in
+          let more_room = more.room in
+          subst (λ rs. All (λ room. m ≤ room) rs) (sym (map-set (λ (c : StoredCells). c.room) now n next)) (All-set (λ room. m ≤ room) (rooms_in now) n next.room (omega arith) (h.room m all));
     }
 
 -- what holds of a value that was taken off the end of what is left of values
@@ -234,8 +233,8 @@ takes n old now values column value h kinds rooms few within_values column_is va
       kind = kinds-at n old values column value kinds within within_values was value_is;
       room = subst (λ room. 1 ≤ room) (room-at n old column within was) (All-get_or (λ room. 1 ≤ room) (rooms_in old) n 0 in_rooms rooms);
       few =
-        subst (λ (cells : List Value). length cells + 1 < 2 ^ 32) (cells-at n old column within was)
-        (All-get_or (λ (cells : List Value). length cells + 1 < 2 ^ 32) (cells_in old) n [] in_cells few);
+          subst (λ (cells : List Value). length cells + 1 < 2 ^ 32) (cells-at n old column within was)
+          (All-get_or (λ (cells : List Value). length cells + 1 < 2 ^ 32) (cells_in old) n [] in_cells few);
     }
 
 -- how many rows are stored
@@ -254,7 +253,7 @@ have_row stored n columns now row view even kinds cells =
     sym (length-map row kind_of) ∙ ap length kinds ∙ sym (ap (λ (s : StoredRows). length s.kinds) view) ∙ length-map columns (λ (c : StoredCells). c.kind) ∙ sym (length-map columns (λ (c : StoredCells). c.cells)) in
     record {
       rows =
-        ap (λ c. rows_across (n + 1) c) cells ∙ rows_across-pushed n (cells_in columns) row even same ∙ ap (λ (s : StoredRows). s.rows ++ row ∷ []) view;
+          ap (λ c. rows_across (n + 1) c) cells ∙ rows_across-pushed n (cells_in columns) row even same ∙ ap (λ (s : StoredRows). s.rows ++ row ∷ []) view;
       even = subst (λ c. AreEven (n + 1) c) (sym cells) (AreEven-pushed n (cells_in columns) row even same);
     }
 

@@ -14,7 +14,7 @@ use Rattle.std.specs.Str.{bytes_eq}
 use Rattle.indexmap.specs.IndexSet.{insert_key}
 use Rattle.rs_table.specs.Stored.{IsNumbered, texts_of}
 use Rattle.rs_value.specs.declared.value.Value.TheVariants.{Text}
-use Rattle.rs_table.specs.Texts.{different, has_text, text_number, texts_among, texts_before}
+use Rattle.rs_table.specs.Texts.{different, has_text, texts_among, texts_before}
 
 bytes_eq-itself : (text : List ℕ) → bytes_eq text text ≡ true
 bytes_eq-itself text = (bytes_eq-Decides text text).1 refl
@@ -136,11 +136,11 @@ joins-new kept numbers text number h new within is =
         within = All-push (λ n. n < length now) numbers number (All-weaker (λ n. n < length kept) (λ n. n < length now) (λ n less. omega arith) numbers h.within) within;
         all = rw (texts, different-push (texts_of kept numbers) text, absent, size) (ap (λ n. n + 1) h.all);
         there = λ n in_now. rw texts (by_place n (has_text (get_or now n []) (texts_of kept numbers ++ text ∷ []) ≡ true) in_now
-        (λ in_kept. subst (λ t. has_text t (texts_of kept numbers ++ text ∷ []) ≡ true) (sym (old n in_kept)) (has_text-before (get_or kept n []) text (texts_of kept numbers) (h.there n in_kept)))
-        (λ e. subst (λ t. has_text t (texts_of kept numbers ++ text ∷ []) ≡ true) (sym (last n e)) (has_text-last text (texts_of kept numbers))));
+            (λ in_kept. subst (λ t. has_text t (texts_of kept numbers ++ text ∷ []) ≡ true) (sym (old n in_kept)) (has_text-before (get_or kept n []) text (texts_of kept numbers) (h.there n in_kept)))
+            (λ e. subst (λ t. has_text t (texts_of kept numbers ++ text ∷ []) ≡ true) (sym (last n e)) (has_text-last text (texts_of kept numbers))));
         counted = λ n in_now. rw texts (by_place n (different (texts_before (get_or now n []) (texts_of kept numbers ++ text ∷ [])) ≡ n) in_now
-        (λ in_kept. rw (old n in_kept, texts_before-there (get_or kept n []) text (texts_of kept numbers) (h.there n in_kept)) (h.counted n in_kept))
-        (λ e. rw (last n e, texts_before-new text (texts_of kept numbers) absent) (h.all ∙ sym e)));
+            (λ in_kept. rw (old n in_kept, texts_before-there (get_or kept n []) text (texts_of kept numbers) (h.there n in_kept)) (h.counted n in_kept))
+            (λ e. rw (last n e, texts_before-new text (texts_of kept numbers) absent) (h.all ∙ sym e)));
       };
       texts = texts;
       few = let e = h.all in omega (arith, different-le (texts_of kept numbers), size);

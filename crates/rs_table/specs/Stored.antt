@@ -4,7 +4,7 @@ use Rattle.std.specs.List.{All}
 use Rattle.rs_value.specs.declared.kind.Kind.{Kind}
 use Rattle.rs_value.specs.declared.value.Value.{Value}
 use Rattle.rs_value.specs.declared.value.Value.TheVariants.{Int}
-use Rattle.rs_table.specs.Relation.{Relation, IsTable}
+use Rattle.rs_table.specs.Relation.{IsTable}
 use Rattle.rs_table.specs.Texts.{different, has_text, text_number}
 
 -- texts, row by row, and how many more there is room for

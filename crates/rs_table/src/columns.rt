@@ -1,5 +1,5 @@
-ghost use Rattle.std.specs.Prelude.{◌≡◌, ◌+◌, ◌<◌, ◌≤◌, ◌^◌, ◌∷◌, ◌++◌, [], ℕ, List as Seq, IfOk, OnOk, Some, length, map, slice_get, slice_index_or};
-ghost use Rattle.std.specs.List.{All};
+ghost use Rattle.std.specs.Prelude.{◌≡◌, ◌+◌, ◌<◌, ◌≤◌, ◌^◌, ◌∷◌, ◌++◌, [], ℕ, List as Seq, IfOk, OnErr, OnOk, Some, length, map, slice_get, slice_index_or};
+ghost use Rattle.std.specs.List.{All, AllByRecursion};
 ghost use Rattle.rs_value.specs.Value.{kind_of};
 ghost use Rattle.rs_value.specs.declared.kind.Kind.TheVariants as kind;
 ghost use Rattle.rs_value.specs.declared.value.Value.TheVariants as value;
@@ -68,6 +68,32 @@ impl Columns {
     {
         push_values(self.columns.as_mut_slice(), row.into_items());
         self.len += 1;
+    }
+
+    /// Puts rows last. There is to be room for them, and they take no memory.
+    pub fn push_rows(&mut self, rows: Vec<List<Value>>)
+        requires kinds { AllByRecursion (λ row. map kind_of row ≡ self.old.kinds) rows.items }
+        requires room { HasRoom (length rows.items) self.old }
+        requires few { length self.old.rows + length rows.items < 2 ^ 32 }
+        ensures kinds { self.new.kinds ≡ self.old.kinds }
+        ensures rows { self.new.rows ≡ self.old.rows ++ rows.items }
+    {
+        for row in rows {
+            self.push_row(row);
+        }
+    }
+
+    /// Puts a row last, where there is memory for it. Else the rows stay as they were.
+    pub fn add_row(&mut self, row: List<Value>) -> Result<(), Memory>
+        requires kinds { map kind_of row ≡ self.old.kinds }
+        requires few { length self.old.rows + 1 < 2 ^ 32 }
+        ensures kinds { self.new.kinds ≡ self.old.kinds }
+        ensures ok { OnOk result (self.new.rows ≡ self.old.rows ++ row ∷ []) }
+        ensures err { OnErr result (self.new.rows ≡ self.old.rows) }
+    {
+        self.reserve(1)?;
+        self.push_row(row);
+        Ok(())
     }
 
     /// The cell of a row and a column.

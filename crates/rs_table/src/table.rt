@@ -12,10 +12,10 @@ ghost use Rattle.std.specs.List.{AllByRecursion};
 ghost use Rattle.rs_table.specs.Appended.{appended};
 ghost use Rattle.rs_table.specs.Reading.{cells_of, difference_from, row_of, rows_from, rows_of_records, table_of};
 
-use crate::field::{field_at, read_cell};
 use crate::cell::Cell;
 use crate::columns::Columns;
 use crate::fault::TableFault;
+use crate::field::{field_at, read_cell};
 use crate::records::Records;
 use crate::schema::Schema;
 use csv::ByteRecord;
@@ -138,9 +138,7 @@ impl Table {
         ensures err { OnErr result (self.new ≡ self.old) }
     {
         self.rows.reserve(rows.len())?;
-        for row in rows {
-            self.rows.push_row(row);
-        }
+        self.rows.push_rows(rows);
         Ok(())
     }
 }
@@ -195,9 +193,8 @@ fn read_rows(
 {
     let mut rows = Columns::new(alloc, columns)?;
     loop {
-        rows.reserve(1)?;
         match next_row(alloc, columns, rows.len() + 1, records, record_)? {
-            Some(values) => rows.push_row(values),
+            Some(values) => rows.add_row(values)?,
             None => return Ok(rows),
         }
     }

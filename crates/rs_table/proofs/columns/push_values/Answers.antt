@@ -40,12 +40,12 @@ loop-value-preserved c =
     record {
       left = it.left_is;
       done =
-        subst (λ i. ArePushed (length c.pop.new.self.items) c.args.columns.now (set c.loop-value.columns i c.push.new.self) c.args.values.items) (sym at)
-        (pushed-more (length c.pop.new.self.items) c.args.columns.now c.loop-value.columns c.args.values.items c.index-columns-len.result c.push.new.self c.in-Some.value before
-        (omega (arith, simp length-map at sizes)) within is it.value_is
-        (record {
-          kind = c.push.ensures.kind ∙ ap (λ (cells : StoredCells). cells.kind) (sym c.index-columns-len.is);
-          cells = c.push.ensures.cells ∙ ap (λ (cells : StoredCells). cells.cells ++ c.in-Some.value ∷ []) (sym c.index-columns-len.is);
-          room = let more = c.push.ensures.room in rw c.index-columns-len.is more;
-        }));
+          subst (λ i. ArePushed (length c.pop.new.self.items) c.args.columns.now (set c.loop-value.columns i c.push.new.self) c.args.values.items) (sym at)
+          (pushed-more (length c.pop.new.self.items) c.args.columns.now c.loop-value.columns c.args.values.items c.index-columns-len.result c.push.new.self c.in-Some.value before
+          (omega (arith, simp length-map at sizes)) within is it.value_is
+          (record {
+            kind = c.push.ensures.kind ∙ ap (λ (cells : StoredCells). cells.kind) (sym c.index-columns-len.is);
+            cells = c.push.ensures.cells ∙ ap (λ (cells : StoredCells). cells.cells ++ c.in-Some.value ∷ []) (sym c.index-columns-len.is);
+            room = let more = c.push.ensures.room in rw c.index-columns-len.is more;
+          }));
     }

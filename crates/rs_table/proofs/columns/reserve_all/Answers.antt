@@ -1,5 +1,5 @@
 -- A column keeps its kind and its cells, and has room.
-use Rattle.std.proofs.Common.{◌∙◌, arith, sym, ap, length, take, subst, ◌≤◌}
+use Rattle.std.proofs.Common.{◌∙◌, arith, sym, ap, subst, ◌≤◌}
 use Rattle.std.specs.List.{All}
 use Rattle.std.proofs.lemmas.List.{take_all}
 use Rattle.rs_table.specs.Stored.{StoredCells, rooms_in}

@@ -1,8 +1,5 @@
 -- The cell of the column at the row's place is that of the row.
 use Rattle.std.proofs.Common.{arith}
-use Rattle.std.proofs.lemmas.Option.{slice_get_within}
-use Rattle.rs_value.specs.declared.kind.Kind.TheVariants as kind
-use Rattle.rs_value.specs.declared.value.Value.TheVariants.{Text}
 use Rattle.rs_table.specs.Lent.{shown}
 use Rattle.rs_table.proofs.StoredFacts.{IsPlaced, placed}
 use Rattle.rs_table.proofs.columns.Columns.cell.Goals as goal

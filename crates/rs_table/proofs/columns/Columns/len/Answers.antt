@@ -1,4 +1,4 @@
-use Rattle.std.proofs.Common.{◌≡◌, length, map, sym, ap, ◌∙◌}
+use Rattle.std.proofs.Common.{length, map, sym, ap, ◌∙◌}
 use Rattle.rs_table.specs.Stored.{StoredCells, StoredRows}
 use Rattle.rs_table.proofs.StoredFacts.{length-rows_across}
 use Rattle.rs_table.proofs.columns.Columns.len.Goals as goal

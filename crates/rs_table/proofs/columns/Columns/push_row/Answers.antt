@@ -4,7 +4,7 @@ use Rattle.std.specs.List.{All}
 use Rattle.std.proofs.lemmas.List.{with_items_is}
 use Rattle.std.proofs.lemmas.List.Elements.{All-weaker}
 use Rattle.rs_value.specs.declared.value.Value.{Value}
-use Rattle.rs_table.specs.Stored.{AreEven, StoredCells, StoredRows, cells_in, kinds_in, pushed, rooms_in, rows_across}
+use Rattle.rs_table.specs.Stored.{AreEven, StoredRows, cells_in, pushed, rooms_in, rows_across}
 use Rattle.rs_table.proofs.StoredFacts.{HaveRow, have_row, length-stored}
 use Rattle.rs_table.proofs.columns.Columns.push_row.Goals as goal
 

@@ -1,5 +1,5 @@
 -- The room of the columns is that of the rows.
-use Rattle.std.proofs.Common.{◌≡◌, ◌≤◌, ◌++◌, arith, drop, length, subst, sym, take}
+use Rattle.std.proofs.Common.{◌≤◌, arith, subst, sym}
 use Rattle.std.specs.Prelude.{OnOk}
 use Rattle.std.specs.List.{All}
 use Rattle.std.proofs.lemmas.List.{with_items_is}

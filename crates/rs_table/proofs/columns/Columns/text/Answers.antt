@@ -3,7 +3,6 @@ use Rattle.std.proofs.Common.{arith}
 use Rattle.std.proofs.lemmas.Option.{slice_get_within}
 use Rattle.rs_value.specs.declared.kind.Kind.TheVariants as kind
 use Rattle.rs_value.specs.declared.value.Value.TheVariants.{Text}
-use Rattle.rs_table.specs.Lent.{shown}
 use Rattle.rs_table.proofs.StoredFacts.{IsPlaced, placed}
 use Rattle.rs_table.proofs.columns.Columns.text.Goals as goal
 
