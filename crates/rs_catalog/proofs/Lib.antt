@@ -1,3 +1,4 @@
+pub mod AfterFacts
 mod ArgumentFacts
 mod DifferFacts
 mod GrowthFacts

@@ -1,5 +1,6 @@
 pub mod Catalog
 pub mod IndexesHold
+pub mod After
 pub mod Indexes
 pub mod Making
 pub mod Inside

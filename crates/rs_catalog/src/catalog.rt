@@ -2,12 +2,14 @@ ghost use Rattle.std.specs.Prelude.{◌≡◌, ℕ, ◌<◌, ◌≤◌, ◌-◌,
 ghost use Rattle.std.specs.List.{AllByRecursion};
 ghost use Rattle.indexmap.specs.IndexMap.{index_map_len, keys};
 ghost use Rattle.rs_table.specs.Relation.{most_rows};
+ghost use Rattle.rs_catalog.specs.After.{entry_after};
 ghost use Rattle.rs_catalog.specs.Catalog.{empty, greatest_max, has_name, most_of, names_of, place_of_name, number_named, room_for, room_in, with_predicate, with_table};
 ghost use Rattle.rs_catalog.specs.Indexes.{IsIndexEntry, IsIndex, IsRanking, index_of, making, predicate_for, ranking_at, rows_for};
 ghost use Rattle.rs_catalog.specs.Making.{MakesIndex};
 ghost use Rattle.rs_catalog.specs.declared.room.What.{What as Lists};
 ghost use Rattle.rs_catalog.specs.declared.room.What.TheVariants as what;
 
+use crate::after::{first_within, place_behind};
 use crate::index::{BoundArg, IndexDef, IndexFault};
 use crate::make::rank_rows;
 use crate::room::{RoomFault, What};
@@ -209,6 +211,21 @@ impl Catalog {
     {
         let entry = self.indexes[index as usize].ranking[place as usize - 1];
         (entry.score, entry.row)
+    }
+
+    /// The score and the row of the first entry of an index that comes behind `after`, of those whose rows are among the first
+    /// `rows` of the table. Without `after` it is the first such entry. Rows that join later don't move it. It takes no memory.
+    pub fn index_after(
+        &self,
+        index: u8,
+        after: Option<(u32, u32)>,
+        rows: u32,
+    ) -> Option<(u32, u32)>
+        requires { index < length self.now.indexes }
+        ensures { result ≡ entry_after after rows (ranking_at self.now index) }
+    {
+        let ranking = self.indexes[index as usize].ranking.as_slice();
+        first_within(&ranking[place_behind(ranking, after)..], rows)
     }
 }
 

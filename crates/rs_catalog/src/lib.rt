@@ -4,6 +4,7 @@
 //! rows are in order; and after a fault nothing has joined.
 #![tactic(auto)]
 
+mod after;
 mod catalog;
 mod held;
 mod index;
