@@ -12,5 +12,6 @@ mod PlaceFacts
 mod RankingFacts
 mod SameArguments
 pub mod ScoreFacts
+mod WorkedGrowth
 mod WorkedRankings
 mod WorkedCatalogue

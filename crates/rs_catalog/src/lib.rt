@@ -6,13 +6,16 @@
 
 mod after;
 mod catalog;
+mod growth;
 mod held;
 mod index;
 mod laws;
 mod make;
+mod ranked;
 mod room;
 
 pub use catalog::Catalog;
+pub use growth::GrowFault;
 pub use held::indexes_go_on_to_hold_answers;
 pub use index::{BoundArg, IndexDef, IndexFault};
 pub use laws::rankings_are_in_order;
