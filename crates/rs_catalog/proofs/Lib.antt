@@ -1,3 +1,4 @@
+pub mod AfterFacts
 mod ArgumentFacts
 mod DifferFacts
 mod GrowthFacts
@@ -11,5 +12,6 @@ mod PlaceFacts
 mod RankingFacts
 mod SameArguments
 pub mod ScoreFacts
+mod WorkedGrowth
 mod WorkedRankings
 mod WorkedCatalogue

@@ -2,12 +2,14 @@ ghost use Rattle.std.specs.Prelude.{◌≡◌, ℕ, ◌<◌, ◌≤◌, ◌-◌,
 ghost use Rattle.std.specs.List.{AllByRecursion};
 ghost use Rattle.indexmap.specs.IndexMap.{index_map_len, keys};
 ghost use Rattle.rs_table.specs.Relation.{most_rows};
+ghost use Rattle.rs_catalog.specs.After.{entry_after};
 ghost use Rattle.rs_catalog.specs.Catalog.{empty, greatest_max, has_name, most_of, names_of, place_of_name, number_named, room_for, room_in, with_predicate, with_table};
-ghost use Rattle.rs_catalog.specs.Indexes.{IsIndexEntry, IsIndex, IsRanking, index_of, making, predicate_for, ranking_at, rows_for};
+ghost use Rattle.rs_catalog.specs.Indexes.{IsIndexEntry, IsIndex, IsRanking, index_of, making, predicate_for, ranking_at, rows_for, score_in};
 ghost use Rattle.rs_catalog.specs.Making.{MakesIndex};
 ghost use Rattle.rs_catalog.specs.declared.room.What.{What as Lists};
 ghost use Rattle.rs_catalog.specs.declared.room.What.TheVariants as what;
 
+use crate::after::{first_within, place_behind};
 use crate::index::{BoundArg, IndexDef, IndexFault};
 use crate::make::rank_rows;
 use crate::room::{RoomFault, What};
@@ -28,11 +30,12 @@ const MOST_PREDICATES: usize = 64;
 /// The most rank indexes of a catalogue.
 const MOST_INDEXES: usize = 64;
 
-/// A rank index: what it is of, and its rows, the best one first.
+/// A rank index: what it is of, its rows, the best one first, and their scores by row.
 #[derive(Drop)]
 struct RankIndex {
     def: IndexDef,
     ranking: Vec<ScoredRow>,
+    scores: Vec<u32>,
 }
 
 /// The tables, predicates and rank indexes that a session has made, each list in the order of making and without two of
@@ -131,9 +134,14 @@ impl Catalog {
     {
         let table = self.table(def.table);
         let predicate = self.predicate(def.predicate);
-        let ranking = rank_rows(alloc, table, predicate, def.args.items(), scorer)?;
+        let ranked = rank_rows(alloc, table, predicate, def.args.items(), scorer)?;
         let name = def.name.copy()?;
-        match put_last(&mut self.indexes, name, RankIndex { def, ranking }) {
+        let index = RankIndex {
+            def,
+            ranking: ranked.ranking,
+            scores: ranked.scores,
+        };
+        match put_last(&mut self.indexes, name, index) {
             Ok(()) => Ok(()),
             Err(Memory) => Err(IndexFault::Memory),
         }
@@ -209,6 +217,26 @@ impl Catalog {
     {
         let entry = self.indexes[index as usize].ranking[place as usize - 1];
         (entry.score, entry.row)
+    }
+
+    /// The score of a row, counted from 1, in an index. It takes no memory.
+    pub fn score_of(&self, index: u8, row: u32) -> u32
+        requires index_in { index < length self.now.indexes }
+        requires some_row { 1 ≤ row }
+        requires row_in { row ≤ length (ranking_at self.now index) }
+        ensures { score_in row (ranking_at self.now index) ≡ Some result }
+    {
+        self.indexes[index as usize].scores[row as usize - 1]
+    }
+
+    /// The score and the row of the first entry of an index that comes behind `after`, of those whose rows are among the first
+    /// `rows` of the table. Without `after` it is the first such entry. Rows that join later don't move it. It takes no memory.
+    pub fn index_after(&self, index: u8, after: Option<(u32, u32)>, rows: u32) -> Option<(u32, u32)>
+        requires { index < length self.now.indexes }
+        ensures { result ≡ entry_after after rows (ranking_at self.now index) }
+    {
+        let ranking = self.indexes[index as usize].ranking.as_slice();
+        first_within(&ranking[place_behind(ranking, after)..], rows)
     }
 }
 

@@ -4,14 +4,18 @@
 //! rows are in order; and after a fault nothing has joined.
 #![tactic(auto)]
 
+mod after;
 mod catalog;
+mod growth;
 mod held;
 mod index;
 mod laws;
 mod make;
+mod ranked;
 mod room;
 
 pub use catalog::Catalog;
+pub use growth::GrowFault;
 pub use held::indexes_go_on_to_hold_answers;
 pub use index::{BoundArg, IndexDef, IndexFault};
 pub use laws::rankings_are_in_order;

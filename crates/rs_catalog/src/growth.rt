@@ -1,0 +1,16 @@
+/// Why rows didn't join a table. Indexes count from 0.
+#[derive(Clone, Copy, Debug, PartialEq, Eq)]
+pub enum GrowFault {
+    /// At an index a new row's number is no score: it doesn't lie in 0..max.
+    BadScore {
+        index: u8,
+        row: u32,
+        got: i128,
+        max: u32,
+    },
+    /// A call of the scorer failed.
+    Probe {
+        index: u8,
+    },
+    Memory,
+}
