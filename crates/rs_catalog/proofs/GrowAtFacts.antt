@@ -1,7 +1,6 @@
 -- What becomes of one index as rows join a table.
 use Rattle.std.proofs.Common.{ℕ, ◌≡◌, ◌∙◌, ◌+◌, ◌<◌, ◌≤◌, Bool, true, false, List, [], length, refl, sym, ap, subst, inl, arith, eq-eqb, if◌then◌else◌}
-use Rattle.std.specs.Prelude.{Option, None, Some, Ok, Err, option_map, slice_get, unwrap_or, ◌==◌, pos, Result}
-use Rattle.std.specs.List.{AllByRecursion}
+use Rattle.std.specs.Prelude.{Option, None, Some, Ok, option_map, slice_get, unwrap_or, ◌==◌, pos, Result}
 use Rattle.std.proofs.lemmas.Bool.{ne_eqb}
 use Rattle.std.proofs.lemmas.List.{length-map}
 use Rattle.std.proofs.lemmas.Option.{slice_get_within}
@@ -13,11 +12,9 @@ use Rattle.rs_expr.specs.InOrder.{Inquires, Inquiry}
 use Rattle.rs_expr.specs.Predicates.{PredicateDef}
 use Rattle.rs_expr.specs.Scoring.{Answering, ScorerState}
 use Rattle.rs_expr.proofs.ScoringFacts.{KeepsScorer-refl, Made-none}
-use Rattle.rs_rank.specs.Stable.{stable}
-use Rattle.rs_rank.specs.declared.scored_row.ScoredRow.{ScoredRow}
 use Rattle.rs_catalog.specs.Catalog.{CatalogDef, NamedTable, RankIndex}
 use Rattle.rs_catalog.specs.Growing.{CanJoin, comes_to, growing_index, scoring_new, scorings_new, with_entries}
-use Rattle.rs_catalog.specs.Grown.{IsGrown, as_renewed_index, finished, index_in, renewed}
+use Rattle.rs_catalog.specs.Grown.{IsGrown, finished, index_in}
 use Rattle.rs_catalog.specs.Indexes.{IsRanking, args_fit, predicate_for, rows_for}
 use Rattle.rs_catalog.specs.Inside.{AreScores, IsInside, IsRanked, catalogue_of}
 use Rattle.rs_catalog.specs.declared.catalog.RankIndex.{RankIndex as StoredIndex}

@@ -1,5 +1,5 @@
 -- Inquiries about the items of a list, one after another: those that were made so far, and what ends them.
-use Rattle.std.proofs.Common.{ℕ, ◌≡◌, ◌∙◌, ◌+◌, ◌<◌, ◌≤◌, ◌++◌, List, [], ◌∷◌, length, get_or, take, drop, refl, sym, ap, subst, inl, inr, arith, append_assoc, append-nil, add-zero}
+use Rattle.std.proofs.Common.{ℕ, ◌≡◌, ◌∙◌, ◌+◌, ◌<◌, ◌≤◌, ◌++◌, List, [], ◌∷◌, length, get_or, drop, refl, sym, ap, subst, inl, inr, arith, append_assoc, append-nil, add-zero}
 use Rattle.std.specs.Prelude.{Result, Ok, Err, IsOk}
 use Rattle.std.proofs.lemmas.List.{drop_all, drop_more}
 use Rattle.rs_table.specs.Appended.{appended}

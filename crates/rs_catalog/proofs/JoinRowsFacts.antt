@@ -9,14 +9,13 @@ use Rattle.rs_value.specs.declared.value.Value.{Value}
 use Rattle.rs_table.specs.Lent.{with_rows}
 use Rattle.rs_table.specs.Relation.{Relation, most_rows}
 use Rattle.rs_expr.specs.Predicates.{PredicateDef}
-use Rattle.rs_catalog.specs.Catalog.{CatalogDef, NamedTable, RankIndex, names_of}
+use Rattle.rs_catalog.specs.Catalog.{CatalogDef, NamedTable, RankIndex}
 use Rattle.rs_catalog.specs.Growing.{CanJoin, grown, with_rows_in}
 use Rattle.rs_catalog.specs.Grown.{AreGrown, IsGrown, all_renewed, index_in, renewed, renewed_at, renewed_entries, renewed_entry, with_rows_at}
 use Rattle.rs_catalog.specs.Indexes.{IsRanking, args_fit, predicate_for, rows_for}
 use Rattle.rs_catalog.specs.Inside.{AreScores, IsInside, IsRanked, NamesDiffer, catalogue_of}
 use Rattle.rs_catalog.specs.declared.catalog.RankIndex.{RankIndex as StoredIndex}
 use Rattle.rs_catalog.specs.declared.ranked.Ranked.{Ranked}
-use Rattle.rs_catalog.specs.declared.room.What.TheVariants.{Index, Predicate}
 
 -- indexes with what became of them, and of one more
 pub all_renewed-push : (indexes : List RankIndex) (grown : List (Option Ranked)) (index : RankIndex) (last : Option Ranked) → length indexes ≡ length grown

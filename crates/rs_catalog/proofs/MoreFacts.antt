@@ -1,5 +1,5 @@
 -- Rankings with new rows: what holds of new rows with their scores, and of a ranking that they join.
-use Rattle.std.proofs.Common.{ℕ, ℤ, ◌≡◌, ◌∙◌, ◌+◌, ◌-◌, ◌<◌, ◌≤◌, ◌++◌, Bool, true, false, List, [], ◌∷◌, length, map, refl, sym, ap, subst, arith, length-append, if◌then◌else◌}
+use Rattle.std.proofs.Common.{ℕ, ◌≡◌, ◌∙◌, ◌+◌, ◌-◌, ◌<◌, ◌≤◌, ◌++◌, Bool, true, false, List, [], ◌∷◌, length, map, refl, sym, ap, subst, arith, length-append, if◌then◌else◌}
 use Rattle.std.specs.Prelude.{Result, Ok, Err}
 use Rattle.std.specs.List.{AllByRecursion}
 use Rattle.std.proofs.lemmas.List.{length-map}
@@ -52,26 +52,26 @@ module _ (answer : Answering) (index : ℕ) (predicate : PredicateDef) (args : L
             → ((others : List ScoredRow) → (in_turn (scoring_new answer index predicate args) (row + 1) rows).outcome ≡ Ok others → AreNew predicate.max (row + 1) rows others)
             → AreNew predicate.max row (values ∷ rows) entries
         go (Ok entry) is (Ok others) others_is known =
-          let whole : (in_turn (scoring_new answer index predicate args) row (values ∷ rows)).outcome ≡ appended (entry ∷ []) (in_turn (scoring_new answer index predicate args) (row + 1) rows).outcome =
-          ap (λ (inquiry : Inquiry (List ScoredRow) GrowFault). inquiry.outcome) (in_turn-ok (scoring_new answer index predicate args) row values rows entry is) in
-          let later = known others others_is in
-          let own = scored-new row values entry is in
-          let all : appended (entry ∷ []) (Ok others) ≡ Ok entries = ap (appended (entry ∷ [])) (sym others_is) ∙ sym whole ∙ e in
-          let same : entry ∷ others ≡ entries = cc in
-          subst (AreNew predicate.max row (values ∷ rows)) same (record {
-            all = let size = later.all in omega arith;
-            numbered = (own.0, later.numbered);
-            each = (
-              record { some = omega (arith, own.0); within = omega (arith, own.0); scored = own.1 },
-              subst (λ n. AllByRecursion (IsIndexEntry n predicate.max) others) (let e : row + 1 - 1 + length rows ≡ row - 1 + length (values ∷ rows) = omega arith in e) later.each,
-            );
-          })
+            let whole : (in_turn (scoring_new answer index predicate args) row (values ∷ rows)).outcome ≡ appended (entry ∷ []) (in_turn (scoring_new answer index predicate args) (row + 1) rows).outcome =
+            ap (λ (inquiry : Inquiry (List ScoredRow) GrowFault). inquiry.outcome) (in_turn-ok (scoring_new answer index predicate args) row values rows entry is) in
+            let later = known others others_is in
+            let own = scored-new row values entry is in
+            let all : appended (entry ∷ []) (Ok others) ≡ Ok entries = ap (appended (entry ∷ [])) (sym others_is) ∙ sym whole ∙ e in
+            let same : entry ∷ others ≡ entries = cc in
+            subst (AreNew predicate.max row (values ∷ rows)) same (record {
+              all = let size = later.all in omega arith;
+              numbered = (own.0, later.numbered);
+              each = (
+                record { some = omega (arith, own.0); within = omega (arith, own.0); scored = own.1 },
+                subst (λ n. AllByRecursion (IsIndexEntry n predicate.max) others) (let e : row + 1 - 1 + length rows ≡ row - 1 + length (values ∷ rows) = omega arith in e) later.each,
+              );
+            })
         go (Ok entry) is (Err fault) others_is known =
-          absurd (let bad : appended (entry ∷ []) (Err fault) ≡ Ok entries =
-          ap (appended (entry ∷ [])) (sym others_is)
-          ∙ sym (ap (λ (inquiry : Inquiry (List ScoredRow) GrowFault). inquiry.outcome) (in_turn-ok (scoring_new answer index predicate args) row values rows entry is)) ∙ e in cc)
+            absurd (let bad : appended (entry ∷ []) (Err fault) ≡ Ok entries =
+            ap (appended (entry ∷ [])) (sym others_is)
+            ∙ sym (ap (λ (inquiry : Inquiry (List ScoredRow) GrowFault). inquiry.outcome) (in_turn-ok (scoring_new answer index predicate args) row values rows entry is)) ∙ e in cc)
         go (Err fault) is rest others_is known =
-          absurd (let bad : Err fault ≡ Ok entries = ap (λ (inquiry : Inquiry (List ScoredRow) GrowFault). inquiry.outcome) (sym (in_turn-err (scoring_new answer index predicate args) row values rows fault is)) ∙ e in cc)
+            absurd (let bad : Err fault ≡ Ok entries = ap (λ (inquiry : Inquiry (List ScoredRow) GrowFault). inquiry.outcome) (sym (in_turn-err (scoring_new answer index predicate args) row values rows fault is)) ∙ e in cc)
 
 -- entries in order have falling scores, so their stable order is as they stand
 Falls-ordered : (entries : List ScoredRow) → EntriesInOrder entries → Falls score entries
@@ -83,7 +83,7 @@ stable-ordered : (entries : List ScoredRow) → EntriesInOrder entries → stabl
 stable-ordered entries ordered = Falls-unique score (stable score entries) entries (Falls-stable score entries) (Falls-ordered entries ordered) (λ row. of_score-stable score row.score entries)
 
 -- rows are put in, and others behind them
-put_all-append : (first more ordered : List ScoredRow) → put_all score ordered (first ++ more) ≡ put_all score (put_all score ordered first) more
+pub put_all-append : (first more ordered : List ScoredRow) → put_all score ordered (first ++ more) ≡ put_all score (put_all score ordered first) more
 put_all-append [] more ordered = refl
 put_all-append (entry ∷ first) more ordered = put_all-append first more (put_behind score entry ordered)
 

@@ -1,5 +1,5 @@
 -- The values that the arguments of an index have for a new row.
-use Rattle.std.proofs.Common.{ℕ, ◌≡◌, ◌∙◌, ◌<◌, ◌&&◌, Bool, true, false, List, [], ◌∷◌, length, get_or, Some, refl, sym, ap, subst, arith}
+use Rattle.std.proofs.Common.{ℕ, ◌≡◌, ◌∙◌, ◌<◌, ◌&&◌, Bool, true, false, List, length, Some, refl, sym, ap, subst, arith}
 use Rattle.std.specs.Prelude.{None, Option, option_map, slice_get, unwrap_or, pos, ◌==◌}
 use Rattle.std.proofs.lemmas.Option.{slice_get-get_or, slice_get_within, unwrap_or-slice_get}
 use Rattle.rs_value.specs.declared.kind.Kind.{Kind}
@@ -41,6 +41,7 @@ HasColumn-fits columns k entry number e =
       named : (k : Kind) → arg_fits columns k (arg.Column entry number) ≡ true → ((entry == 1) && is_kind k (option_map (λ (c : Column). c.1) (slice_get columns number))) ≡ true
       named kind.Int e = e
       named kind.Text e = e
+
       go : (found : Option Column) → slice_get columns number ≡ found → is_kind k (option_map (λ (c : Column). c.1) found) ≡ true → HasColumn columns k number
       go (Some column) there e = record { column = column; there = there; same = kind-is k column.1 e }
       go None there e = absurd (no_kind k e)

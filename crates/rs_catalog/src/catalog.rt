@@ -216,9 +216,7 @@ impl Catalog {
             return Ok(None);
         }
         let predicate = self.predicate(index.def.predicate);
-        Ok(Some(grow_index(
-            alloc, number, index, predicate, rows, scorer,
-        )?))
+        Ok(Some(grow_index(alloc, number, index, predicate, rows, scorer)?))
     }
 
     /// No table has more rows than a table may have, and no predicate a greater maximum. It computes nothing; it is called for

@@ -39,7 +39,7 @@ pub(crate) fn grow_index<S: Scorer>(
     requires ranking { IsRanking (length index.now.scores.items) predicate.now.max index.now.ranking.items }
     requires scores { AreScores index.now.ranking.items index.now.scores.items }
     ensures grows { Inquires GrowFault.Memory (finished (λ entries. with_entries entries (index_in index.now))
-            (scorings_new (S.state scorer.old).answer number predicate.now index.now.def.args (length index.now.scores.items + 1) rows.now))
+        (scorings_new (S.state scorer.old).answer number predicate.now index.now.def.args (length index.now.scores.items + 1) rows.now))
         (as_renewed_index (index_in index.now) result) (S.state scorer.old) (S.state scorer.new) }
     ensures ranking { IfOk result (λ ranked. IsRanking (length index.now.scores.items + length rows.now) predicate.now.max ranked.ranking.items) }
     ensures scores { IfOk result (λ ranked. AreScores ranked.ranking.items ranked.scores.items) }
@@ -113,11 +113,7 @@ fn new_score(index: u8, max: u32, row: u32, got: i128) -> Result<ScoredRow, Grow
 }
 
 /// The values that the arguments have for a row of these values.
-fn arguments_in(
-    alloc: Global,
-    row: &[Value],
-    args: &[BoundArg],
-) -> Result<Vec<Value>, Memory>
+fn arguments_in(alloc: Global, row: &[Value], args: &[BoundArg]) -> Result<Vec<Value>, Memory>
     requires fits { (columns : Seq Column) × ((kinds : Seq ValueKind) × ((row_fits columns row.now ≡ true) × (args_fit columns kinds args.now ≡ true))) }
     ensures values { IfOk result (λ values. values.items ≡ args_in args.now row.now) }
     ensures fit { (columns : Seq Column) (kinds : Seq ValueKind) → row_fits columns row.now ≡ true → args_fit columns kinds args.now ≡ true → IfOk result (λ values. all_fit kinds values.items ≡ true) }

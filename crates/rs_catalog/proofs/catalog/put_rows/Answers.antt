@@ -1,12 +1,9 @@
 -- The table at the place has the rows behind its own, or it is the same.
-use Rattle.std.proofs.Common.{◌≡◌, ◌∙◌, Some, ap, subst, sym}
+use Rattle.std.proofs.Common.{◌≡◌, ◌∙◌, ap}
 use Rattle.std.specs.Prelude.{OnErr, OnOk, Ok, Err, Result}
-use Rattle.std.specs.Map.{values_of}
 use Rattle.indexmap.specs.IndexMap.{set_value_at}
 use Rattle.rs_value.specs.declared.memory.Memory.{Memory}
 use Rattle.rs_table.specs.Lent.{with_rows}
-use Rattle.rs_table.specs.Relation.{Relation}
-use Rattle.rs_catalog.specs.Grown.{with_rows_at}
 use Rattle.rs_catalog.proofs.JoinRowsFacts.{set-same, set-with_rows}
 use Rattle.rs_catalog.proofs.catalog.put_rows.Goals as goal
 

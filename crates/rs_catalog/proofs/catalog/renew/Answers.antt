@@ -1,5 +1,5 @@
 -- The last of what is left goes to its place, and the rest gives the same entries as before.
-use Rattle.std.proofs.Common.{◌≡◌, ◌≤◌, ◌∙◌, ◌++◌, ◌∷◌, [], ap, arith, length, rules, subst, sym}
+use Rattle.std.proofs.Common.{◌≡◌, ◌≤◌, ◌∙◌, [], ap, arith, length, rules, subst, sym}
 use Rattle.std.proofs.lemmas.List.{length_push}
 use Rattle.rs_catalog.specs.Grown.{renewed_at, renewed_entries}
 use Rattle.rs_catalog.proofs.JoinRowsFacts.{length-renewed_at, renewed_entries-last, renewed_entries-none}

@@ -1,5 +1,5 @@
 -- New rows are asked for, and then put in their places.
-use Rattle.std.proofs.Common.{ℕ, ◌≡◌, ◌∙◌, ◌+◌, ◌++◌, List, ap, arith, length, map, subst, sym}
+use Rattle.std.proofs.Common.{◌≡◌, ◌∙◌, ◌+◌, ◌++◌, List, ap, arith, length, map, subst, sym}
 use Rattle.std.specs.Prelude.{Ok, Err, Result}
 use Rattle.rs_value.proofs.ResultFacts.{given-err}
 use Rattle.rs_expr.specs.InOrder.{Inquires}
@@ -8,7 +8,7 @@ use Rattle.rs_rank.specs.Stable.{stable}
 use Rattle.rs_rank.specs.declared.scored_row.ScoredRow.{ScoredRow}
 use Rattle.rs_catalog.specs.Catalog.{RankIndex}
 use Rattle.rs_catalog.specs.Growing.{scorings_new, with_entries}
-use Rattle.rs_catalog.specs.Grown.{as_entries, as_renewed_index, finished, index_in}
+use Rattle.rs_catalog.specs.Grown.{as_renewed_index, finished, index_in}
 use Rattle.rs_catalog.specs.Indexes.{IsRanking}
 use Rattle.rs_catalog.specs.Inside.{AreScores}
 use Rattle.rs_catalog.specs.declared.growth.GrowFault.{GrowFault}

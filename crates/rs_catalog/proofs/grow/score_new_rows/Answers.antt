@@ -1,5 +1,5 @@
 -- New rows are asked for one after another, up to the first fault.
-use Rattle.std.proofs.Common.{ℕ, ◌≡◌, ◌<◌, ◌≤◌, ◌+◌, ◌++◌, ◌∷◌, [], List, ap, subst, sym}
+use Rattle.std.proofs.Common.{◌+◌, ◌++◌, ◌∷◌, [], ap, subst, sym}
 use Rattle.std.specs.Prelude.{Ok, Err}
 use Rattle.rs_value.proofs.ResultFacts.{given-err}
 use Rattle.rs_expr.specs.InOrder.{Inquires}
@@ -8,7 +8,7 @@ use Rattle.rs_catalog.specs.Growing.{scoring_new, scorings_new}
 use Rattle.rs_catalog.specs.Grown.{as_entries}
 use Rattle.rs_catalog.specs.declared.growth.GrowFault.TheVariants.{Memory}
 use Rattle.rs_catalog.proofs.GrowAtFacts.{IsFree-scoring_new}
-use Rattle.rs_catalog.proofs.InTurnFacts.{InTurn, InTurn-more, InTurn-none, Inquires-held_up, Inquires-item, Inquires-turns}
+use Rattle.rs_catalog.proofs.InTurnFacts.{InTurn, InTurn-more, InTurn-none, Inquires-held_up, Inquires-item}
 use Rattle.rs_catalog.proofs.grow.score_new_rows.Goals as goal
 
 pub loop-place-init : goal.loop-place-init

@@ -6,7 +6,7 @@ use Rattle.rs_value.specs.declared.value.Value.{Value}
 use Rattle.rs_expr.specs.InOrder.{Inquires}
 use Rattle.rs_expr.proofs.InOrderFacts.{Inquires-unheld}
 use Rattle.rs_table.specs.Relation.{Relation}
-use Rattle.rs_catalog.specs.Catalog.{CatalogDef, RankIndex}
+use Rattle.rs_catalog.specs.Catalog.{CatalogDef}
 use Rattle.rs_catalog.specs.Growing.{CanJoin, grown, growing}
 use Rattle.rs_catalog.specs.Grown.{AreGrown, all_renewed, with_rows_at}
 use Rattle.rs_catalog.specs.Inside.{IsInside, catalogue_of}

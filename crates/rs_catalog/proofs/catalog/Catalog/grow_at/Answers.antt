@@ -1,5 +1,5 @@
 -- The index is asked about where it is one of the table.
-use Rattle.std.proofs.Common.{◌≡◌, ◌∙◌, ap, arith, length, subst, sym}
+use Rattle.std.proofs.Common.{ap, arith, length, subst, sym}
 use Rattle.std.specs.Prelude.{Err, None, Ok, Result, Some}
 use Rattle.rs_value.proofs.ResultFacts.{given-err}
 use Rattle.rs_expr.specs.InOrder.{Inquires}

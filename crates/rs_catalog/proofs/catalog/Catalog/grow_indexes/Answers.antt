@@ -1,19 +1,17 @@
 -- The indexes are asked about one after another, up to the first fault.
-use Rattle.std.proofs.Common.{ℕ, ◌≡◌, ◌∙◌, ◌<◌, ◌≤◌, ◌+◌, ◌++◌, ◌∷◌, [], List, ap, arith, get_or, length, map, subst, sym, take, zero-add}
-use Rattle.std.specs.Prelude.{Err, Ok, Option, Result, Some, slice_get}
-use Rattle.std.proofs.lemmas.List.{length-map, length_push, take_all}
+use Rattle.std.proofs.Common.{◌≡◌, ◌∙◌, ◌<◌, ◌≤◌, ◌+◌, ◌++◌, ◌∷◌, [], List, ap, arith, length, subst, sym, take, zero-add}
+use Rattle.std.specs.Prelude.{Err, Ok, slice_get}
+use Rattle.std.proofs.lemmas.List.{length_push, take_all}
 use Rattle.rs_value.proofs.ResultFacts.{given-err}
 use Rattle.rs_expr.specs.InOrder.{Inquires}
 use Rattle.rs_expr.specs.Scoring.{Answering}
-use Rattle.rs_catalog.specs.Catalog.{CatalogDef, RankIndex}
+use Rattle.rs_catalog.specs.Catalog.{RankIndex}
 use Rattle.rs_catalog.specs.Growing.{growing, growing_index}
-use Rattle.rs_catalog.specs.Grown.{AreGrown, all_renewed, as_renewed, renewed}
-use Rattle.rs_catalog.specs.declared.growth.GrowFault.{GrowFault}
+use Rattle.rs_catalog.specs.Grown.{AreGrown, all_renewed, renewed}
 use Rattle.rs_catalog.specs.declared.growth.GrowFault.TheVariants.{Memory}
-use Rattle.rs_catalog.specs.declared.ranked.Ranked.{Ranked}
 use Rattle.rs_catalog.proofs.GrowAtFacts.{IsFree-growing_index, number-of-indexes}
 use Rattle.rs_catalog.proofs.InTurnFacts.{InTurn, InTurn-more, InTurn-none, Inquires-held_up, Inquires-item, Inquires-turns}
-use Rattle.rs_catalog.proofs.JoinRowsFacts.{AreGrown-none, AreGrown-push, ItemAt, all_renewed-more, item_at}
+use Rattle.rs_catalog.proofs.JoinRowsFacts.{AreGrown-none, AreGrown-push, all_renewed-more, item_at}
 use Rattle.rs_catalog.proofs.catalog.Catalog.grow_indexes.Goals as goal
 
 pub loop-number-init : goal.loop-number-init
