@@ -1,7 +1,7 @@
 -- The entries of an index behind one of them stand together at its end.
-use Rattle.std.proofs.Common.{ℕ, ◌≡◌, ◌∙◌, ◌<◌, ◌≤◌, ◌&&◌, ◌||◌, Bool, true, false, not, cond, nat_lt, List, [], ◌∷◌, length, drop, get_or, zero, suc, inl, inr, refl, sym, ap, arith, eqb}
+use Rattle.std.proofs.Common.{ℕ, ◌≡◌, ◌<◌, ◌&&◌, ◌||◌, Bool, true, false, not, cond, nat_lt, List, [], ◌∷◌, length, drop, get_or, zero, suc, inl, inr, refl, ap, arith, eqb}
 use Rattle.std.specs.Prelude.{None, Some, ◌⊎◌}
-use Rattle.std.specs.List.{AllByRecursion, AllWithin, filter}
+use Rattle.std.specs.List.{AllWithin, filter}
 use Rattle.std.specs.List.Sorted.{IsPartitionedBy}
 use Rattle.std.proofs.lemmas.Bool.{cases_lt, false≢true, true≢false}
 use Rattle.std.proofs.lemmas.Bool.Decides.{nat_tests}

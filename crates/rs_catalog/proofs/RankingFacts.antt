@@ -19,7 +19,7 @@ use Rattle.rs_catalog.specs.declared.index.IndexFault.TheVariants.{BadScore}
 use Rattle.rs_catalog.proofs.ScoreFacts.{entry_of, scored_from-bad, scored_from-score}
 
 -- the score of an entry
-abbrev score : ScoredRow → ℕ
+abbrev pub score : ScoredRow → ℕ
 score entry = entry.score
 
 -- an entry comes before one of a later row that has no greater score
@@ -30,7 +30,7 @@ EntryPrecedes-later first entry below before = elim (cases_lt entry.score first.
 ]
 
 -- an entry that comes before another has no less a score
-score-EntryPrecedes : (a b : ScoredRow) → EntryPrecedes a b → b.score ≤ a.score
+pub score-EntryPrecedes : (a b : ScoredRow) → EntryPrecedes a b → b.score ≤ a.score
 score-EntryPrecedes a b (inl less) = omega arith
 score-EntryPrecedes a b (inr same) = omega (arith, same.0)
 
@@ -61,12 +61,12 @@ RowsDiffer-put_behind entry (first ∷ rest) before differ =
     ]
 
 -- entries of rows that are numbered from this one on
-abbrev Numbered : ℕ → List ScoredRow → Type 0
+abbrev pub Numbered : ℕ → List ScoredRow → Type 0
 Numbered row [] = Unit {0}
 Numbered row (entry ∷ rest) = (entry.row ≡ row) × Numbered (row + 1) rest
 
 -- entries of later rows are put in, one after another
-put_all-ordered : (entries ordered : List ScoredRow) (row : ℕ) → Numbered row entries → AllByRecursion (λ e. e.row < row) ordered → EntriesInOrder ordered → RowsDiffer ordered
+pub put_all-ordered : (entries ordered : List ScoredRow) (row : ℕ) → Numbered row entries → AllByRecursion (λ e. e.row < row) ordered → EntriesInOrder ordered → RowsDiffer ordered
     → EntriesInOrder (put_all score ordered entries) × RowsDiffer (put_all score ordered entries)
 put_all-ordered [] ordered row numbered before is differ = (is, differ)
 put_all-ordered (entry ∷ rest) ordered row numbered before is differ =
@@ -93,7 +93,7 @@ score_in-own entry (first ∷ rest) before =
     ]
 
 -- the rows before this one have these scores
-abbrev AreScored : ℕ → List ScoredRow → List ℕ → Type 0
+abbrev pub AreScored : ℕ → List ScoredRow → List ℕ → Type 0
 AreScored row entries scores = (r : ℕ) → 1 ≤ r → r < row → score_in r entries ≡ Some (get_or scores (r - 1) 0)
 
 put_behind-scored : (entry : ScoredRow) (entries : List ScoredRow) (scores : List ℕ) (row : ℕ) → entry.row ≡ row → 1 ≤ row → AllByRecursion (λ e. e.row < row) entries → length scores + 1 ≡ row
@@ -110,7 +110,7 @@ put_behind-scored entry entries scores row is some before size scored r some_r l
           ∙ ap (λ s. Some s) (sym (get_or_push scores entry.score 0 (r - 1) (omega arith)))
     ]
 
-put_all-scored : (entries ordered : List ScoredRow) (scores : List ℕ) (row : ℕ) → 1 ≤ row → Numbered row entries → AllByRecursion (λ e. e.row < row) ordered → length scores + 1 ≡ row
+pub put_all-scored : (entries ordered : List ScoredRow) (scores : List ℕ) (row : ℕ) → 1 ≤ row → Numbered row entries → AllByRecursion (λ e. e.row < row) ordered → length scores + 1 ≡ row
     → AreScored row ordered scores → AreScored (row + length entries) (put_all score ordered entries) (scores ++ map score entries)
 put_all-scored [] ordered scores row some numbered before size scored r some_r less = rw append-nil (scored r some_r (omega arith))
 put_all-scored (entry ∷ rest) ordered scores row some numbered before size scored r some_r less =
@@ -121,7 +121,7 @@ put_all-scored (entry ∷ rest) ordered scores row some numbered before size sco
     ∙ ap (λ all. Some (get_or all (r - 1) 0)) (append_assoc scores (entry.score ∷ []) (map score rest))
 
 -- a number that is a score
-score_of-score : (max : ℕ) (got : ℤ) → is_score max got ≡ true → (as_score got ≤ max) × (pos (as_score got) ≡ got)
+pub score_of-score : (max : ℕ) (got : ℤ) → is_score max got ≡ true → (as_score got ≤ max) × (pos (as_score got) ≡ got)
 score_of-score max (pos n) e = (leb-true n max e, refl)
 score_of-score max (negsuc n) e = cc
 
@@ -233,12 +233,12 @@ module _ (answer : List Value → ℤ) (max : ℕ) where
       }
 
   -- a ranking that was made
-  record IsSorted (rows : List (List Value)) (ranking : List ScoredRow) : Type 0 where
-    entries : List ScoredRow
-    made : scored_from answer max 1 rows ≡ Ok entries
-    is : stable score entries ≡ ranking
+  pub record IsSorted (rows : List (List Value)) (ranking : List ScoredRow) : Type 0 where
+    pub entries : List ScoredRow
+    pub made : scored_from answer max 1 rows ≡ Ok entries
+    pub is : stable score entries ≡ ranking
 
-  sorted-from : (rows : List (List Value)) (ranking : List ScoredRow) → ranking_of (scored_from answer max 1 rows) ≡ Ok ranking → IsSorted rows ranking
+  pub sorted-from : (rows : List (List Value)) (ranking : List ScoredRow) → ranking_of (scored_from answer max 1 rows) ≡ Ok ranking → IsSorted rows ranking
   sorted-from rows ranking e = go (scored_from answer max 1 rows) refl e where
     go : (scored : Result (List ScoredRow) IndexFault) → scored_from answer max 1 rows ≡ scored → ranking_of scored ≡ Ok ranking → IsSorted rows ranking
     go (Ok entries) made sorted = record { entries = entries; made = made; is = cc }

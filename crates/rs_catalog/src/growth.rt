@@ -1,3 +1,6 @@
+use rs_value::Memory;
+use std::alloc::AllocFailed;
+
 /// Why rows didn't join a table. Indexes count from 0.
 #[derive(Clone, Copy, Debug, PartialEq, Eq)]
 pub enum GrowFault {
@@ -13,4 +16,26 @@ pub enum GrowFault {
         index: u8,
     },
     Memory,
+}
+
+impl From<Memory> for GrowFault {
+    ghost use Rattle.std.specs.Prelude.{◌≡◌};
+    ghost use Rattle.rs_catalog.specs.declared.growth.GrowFault.TheVariants.{Memory};
+
+    ghost from_gives = { λ _ fault. fault ≡ Memory };
+
+    fn from(_: Memory) -> GrowFault {
+        GrowFault::Memory
+    }
+}
+
+impl<T: Drop> From<AllocFailed<T>> for GrowFault {
+    ghost use Rattle.std.specs.Prelude.{◌≡◌};
+    ghost use Rattle.rs_catalog.specs.declared.growth.GrowFault.TheVariants.{Memory};
+
+    ghost from_gives = { λ _ fault. fault ≡ Memory };
+
+    fn from(_: AllocFailed<T>) -> GrowFault {
+        GrowFault::Memory
+    }
 }

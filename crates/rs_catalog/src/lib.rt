@@ -1,11 +1,12 @@
 //! The catalogue of a session: its tables, ranking predicates and rank indexes.
 //!
-//! Its promise: tables, predicates and rank indexes are found by name; making an index makes exactly its calls, and its
-//! rows are in order; and after a fault nothing has joined.
+//! Its promise: tables, predicates and rank indexes are found by name; making an index, and rows that join its table, make
+//! exactly their calls, and its rows are in order; and after a fault nothing has joined.
 #![tactic(auto)]
 
 mod after;
 mod catalog;
+mod grow;
 mod growth;
 mod held;
 mod index;

@@ -39,7 +39,7 @@ pub(crate) fn rank_rows<S: Scorer>(
 }
 
 /// The scores of entries, in their order.
-fn scores_of(alloc: Global, entries: &[ScoredRow]) -> Result<Vec<u32>, Memory>
+pub(crate) fn scores_of(alloc: Global, entries: &[ScoredRow]) -> Result<Vec<u32>, Memory>
     ensures { IfOk result (λ scores. scores.items ≡ map (λ entry. entry.score) entries.now) }
 {
     Ok(entries.iter().map(|entry| entry.score).collect(alloc)?)

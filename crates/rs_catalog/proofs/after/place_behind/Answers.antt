@@ -1,5 +1,5 @@
 -- Entries are in order, so those behind one stand together.
-use Rattle.std.proofs.Common.{◌≡◌, ◌∙◌, ap, not, of_calls, rules}
+use Rattle.std.proofs.Common.{◌∙◌, ap, not, of_calls, rules}
 use Rattle.std.specs.Prelude.{Some}
 use Rattle.std.specs.List.{filter}
 use Rattle.std.proofs.lemmas.Fn.{always_returns_same}
