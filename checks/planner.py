@@ -1,8 +1,9 @@
 #!/usr/bin/env python3
-r"""Works out the least plans of small queries, and prints their texts as cases of the program cases_plans.
+r"""Works out the least plans of queries and the least costs of their signatures, and prints them as cases of the program cases_plans.
 
-The tables are random and no larger than their samples, so all rows are sampled, whatever the seed is. Each plan of a query is
-made and its cost computed: nothing is kept of a signature. The cases are the last ones of the tests of rs_enum in
+The tables are random and no larger than their samples, so all rows are sampled, whatever the seed is. Of small queries each plan
+is made and its cost computed: nothing is kept of a signature. Of queries of six entries and eight terms the least cost of a
+signature is computed from those of lesser ones. The cases are the last ones of the tests of rs_enum in
 crates/cases_plans/stdout. This makes them anew, at the top of the repository:
 
     cases=crates/cases_plans
@@ -17,7 +18,7 @@ import operator
 import random
 from dataclasses import dataclass
 
-ALIASES = "abc"
+ALIASES = "abcdef"
 COSTS = {"p": 1, "q": 20, "near": 3}
 MOST = 9  # the greatest score of each predicate
 COMPARED = {"<": operator.lt, "=": operator.eq, "<>": operator.ne}
@@ -167,7 +168,7 @@ class Block:
         return list(self.scans(entries, evaluated)) + list(self.operators(entries, evaluated)) + list(self.joins(entries, evaluated))
 
     def scans(self, entries, evaluated):
-        if len(entries) > 1 or len(evaluated) > 1:
+        if len(entries) != 1 or len(evaluated) > 1:
             return
         if not evaluated:
             yield Node("SeqScan", entries, evaluated)
@@ -224,6 +225,39 @@ class Block:
     def select(self):
         return f"{self.body()} ORDER BY {' + '.join(term.told(column_told) for term in self.terms)}{limit_told(self.limit)}"
 
+    def signatures(self):
+        return itertools.product(subsets(self.entries), subsets(self.numbers))
+
+    def least_costs(self):
+        """Of each signature the least cost of the plans without Distinct, where it has one: of all its plans."""
+        costs = {signature: [self.cost(part) for part in self.parts(*signature)] for signature in self.signatures()}
+        return {signature: min(found) for signature, found in costs.items() if found}
+
+    def table_of_costs(self):
+        """The same, by the least costs of lesser signatures."""
+        least = {}
+        for entries, evaluated in sorted(self.signatures(), key=lambda signature: [len(part) for part in signature]):
+            found = [self.cost(scan) for scan in self.scans(entries, evaluated)]
+            for number in evaluated:
+                below = least.get((entries, evaluated - {number}))
+                if below is not None and self.terms[number - 1].entries() <= entries:
+                    found.append(below + self.estimate(entries, evaluated - {number}) * COSTS[self.terms[number - 1].predicate])
+            for first in subsets(entries):
+                found += self.least_joins(least, entries, evaluated, first)
+            if found:
+                least[entries, evaluated] = min(found)
+        return least
+
+    def least_joins(self, least, entries, evaluated, first):
+        second = entries - first
+        hashed = any(conjunct.joins(first, second) for conjunct in self.conjuncts)
+        for terms in subsets(evaluated):
+            left, right = (first, terms), (second, evaluated - terms)
+            if left in least and right in least:
+                rows = self.estimate(*left), self.estimate(*right)
+                tried = min(rows[0] * rows[1], 2 * sum(rows)) if hashed else rows[0] * rows[1]
+                yield least[left] + least[right] + tried + self.estimate(entries, evaluated)
+
 
 class Pair:
     """Two blocks with a set operator between. Terms speak of output columns, by the names of those of the left block."""
@@ -278,10 +312,33 @@ def limit_told(limit):
     return "" if limit is None else f" LIMIT {limit}"
 
 
-def case(chance, query):
+def case(seed, query):
     """A line that asks for the text of the least plan, and the text behind two spaces."""
     plan = min(query.wholes(query.numbers), key=lambda plan: (query.cost(plan), plan.code()))
-    return "\n".join([f"plan {chance.randint(0, 9)} {query.select()}", *query.lines(plan, 1)])
+    return "\n".join([f"plan {seed} {query.select()}", *query.lines(plan, 1)])
+
+
+def costs_case(seed, query, told):
+    """A line that asks for the least costs of signatures, each with the number of its block, and the costs."""
+    sought = ",".join(f"{block}:{mask(entries)}:{mask(evaluated)}" for (block, entries, evaluated), _ in told)
+    costs = " ".join("none" if cost is None else str(cost) for _, cost in told)
+    return f"costs {seed} {sought} {query.select()}\n  {costs}"
+
+
+def all_costs(query):
+    """Of each block and each signature the least cost, or None."""
+    for number, block in enumerate([query.left, query.right] if isinstance(query, Pair) else [query], 1):
+        least = block.least_costs()
+        for signature in block.signatures():
+            yield (number, *signature), least.get(signature)
+
+
+def some_costs(chance, block):
+    """The same of all entries and terms, and of some signatures of a block with many."""
+    least = block.table_of_costs()
+    absent = [signature for signature in block.signatures() if signature not in least]
+    chosen = [(block.entries, block.numbers)] + chance.sample(list(least), 29) + chance.sample(absent, 2)
+    return [((1, *signature), least.get(signature)) for signature in chosen]
 
 
 def front(tables, indexes):
@@ -319,8 +376,8 @@ def random_conjuncts(chance, count):
         yield Conjunct((1, "x"), "<", (2, "y"))
 
 
-def random_table(chance):
-    size = chance.choice([0, 1, 3, 6, 8, 9, 10, 10, 12, 12])
+def random_table(chance, sizes=(0, 1, 3, 6, 8, 9, 10, 10, 12, 12)):
+    size = chance.choice(sizes)
     return [{"x": chance.randint(0, MOST), "y": chance.randint(0, MOST), "k": chance.randint(0, 2)} for _ in range(size)]
 
 
@@ -344,6 +401,13 @@ def random_distinct(chance, tables, indexes):
     outputs = sorted({column for term in terms for column in term.columns})
     limit = chance.choice([None, 0, 1, 2, 3])
     return Block(tables, indexes, names, list(random_conjuncts(chance, count)), terms, limit, outputs, True)
+
+
+def wide_block(chance, tables, indexes):
+    """As many entries and terms as a query can have, most of them joined by equalities."""
+    names = [chance.choice("tu") for _ in ALIASES]
+    terms = [random_term(chance, len(names)) for _ in range(8)]
+    return Block(tables, indexes, names, list(random_conjuncts(chance, len(names))), terms, chance.choice([1, 3, 10]))
 
 
 def random_pair(chance, tables, indexes):
@@ -370,8 +434,18 @@ def main():
     for _ in range(13):
         tables, indexes = {name: random_table(chance) for name in "tu"}, random_indexes(chance)
         print("front\nfront", front(tables, indexes))
-        for make in (random_block, random_block, random_block, random_block, random_distinct, random_pair):
-            print(case(chance, make(chance, tables, indexes)))
+        for number, make in enumerate([random_block] * 4 + [random_distinct, random_pair]):
+            query = make(chance, tables, indexes)
+            seed = chance.randint(0, 9)
+            print(case(seed, query))
+            if number in (0, 4, 5):
+                print(costs_case(seed, query, list(all_costs(query))))
+    print("# Queries of six entries and eight terms, over tables of two or three rows.")
+    for _ in range(3):
+        tables, indexes = {name: random_table(chance, [2, 2, 3]) for name in "tu"}, random_indexes(chance)
+        print("front\nfront", front(tables, indexes))
+        query = wide_block(chance, tables, indexes)
+        print(costs_case(chance.randint(0, 9), query, some_costs(chance, query)))
 
 
 main()

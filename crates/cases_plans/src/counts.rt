@@ -27,7 +27,7 @@ fn node_counts(word: &[u8]) -> Result<Counts, Fault> {
 }
 
 /// The number in front of a colon, and what stands behind it.
-fn cut_number(word: &[u8]) -> Result<(u64, &[u8]), Fault> {
+pub fn cut_number(word: &[u8]) -> Result<(u64, &[u8]), Fault> {
     match cut_at(word, b':') {
         Some((number, rest)) => Ok((number_of(number)?, rest)),
         None => Err(Fault::Form),

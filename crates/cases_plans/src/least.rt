@@ -35,7 +35,7 @@ pub fn tell_least(
 }
 
 /// The cards of a query by a sample. A call that fails ends all.
-fn sampled(
+pub fn sampled(
     alloc: Global,
     catalog: &Catalog,
     query: &Query,

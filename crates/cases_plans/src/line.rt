@@ -4,30 +4,35 @@ ghost use Rattle.std.specs.Prelude.{IfOk};
 ghost use Rattle.rs_syntax.specs.Syntax.{commands_of};
 ghost use Rattle.rs_syntax.specs.Written.{AreWritten};
 
+use crate::costs::sought_of;
 use crate::counts::counts_of;
 use crate::plan::plan_of;
 use crate::query::Asked;
 use crate::script::tell_script;
 use cases_lines::{Cases, Fault, count_of, cut_word, number_of, read_escaped, text_of, value_of};
 use cases_scripts::statements_of;
+use rs_enum::Grid;
 use rs_expr::MemScorer;
 use rs_syntax::Statement;
-use rs_value::{Text, Value, int_of};
+use rs_value::{Memory, Text, Value, int_of};
 use std::alloc::Global;
 
-/// What comes in front of scripts, and what answers the calls for the next one.
+/// What comes in front of scripts, what answers the calls for the next one, and the grid that all least costs are told by.
 #[derive(Drop)]
 pub struct Planning {
     front: Vec<u8>,
     scorer: MemScorer,
+    grid: Grid,
 }
 
 impl Planning {
-    pub fn new(alloc: Global) -> Planning {
-        Planning {
+    pub fn new(alloc: Global) -> Result<Planning, Memory> {
+        let grid = Grid::make(alloc)?;
+        Ok(Planning {
             front: Vec::new(alloc),
             scorer: MemScorer::new(alloc),
-        }
+            grid,
+        })
     }
 
     /// Does what a line asks for that needs no query.
@@ -63,7 +68,7 @@ impl Planning {
     /// Tells what is asked of the query of the front and this script, and forgets what was written for it.
     fn tell(&mut self, alloc: Global, asked: &Asked, script: &[u8]) -> Result<String, Fault> {
         let statements = self.statements_of(alloc, script)?;
-        let told = tell_script(alloc, &statements, asked, &mut self.scorer)?;
+        let told = tell_script(alloc, &statements, asked, &mut self.scorer, &mut self.grid)?;
         self.scorer = MemScorer::new(alloc);
         Ok(told)
     }
@@ -73,6 +78,14 @@ impl Planning {
         let (counts, script) = cut_word(words);
         let seed = number_of(seed)?;
         let asked = Asked::Counted(seed, counts_of(alloc, counts)?);
+        self.tell(alloc, &asked, script)
+    }
+
+    /// Tells the least costs of signatures of a query: `SIGNATURES SCRIPT` behind the seed.
+    fn tell_costs(&mut self, alloc: Global, seed: &[u8], words: &[u8]) -> Result<String, Fault> {
+        let (signatures, script) = cut_word(words);
+        let seed = number_of(seed)?;
+        let asked = Asked::Costs(seed, sought_of(alloc, signatures)?);
         self.tell(alloc, &asked, script)
     }
 
@@ -111,6 +124,7 @@ impl Cases for Planning {
         match word {
             b"plan" => self.tell(alloc, &Asked::Least(number_of(first)?), script),
             b"counted" => self.tell_counted(alloc, first, script),
+            b"costs" => self.tell_costs(alloc, first, script),
             b"ask" => self.tell_asks(alloc, first, script),
             b"calls" => self.tell(alloc, &Asked::Calls(number_of(first)?), script),
             b"cards" => self.tell(alloc, &Asked::Cards(number_of(first)?), script),

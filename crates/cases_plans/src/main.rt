@@ -13,6 +13,9 @@
 //!   the left one before the right one, with commas between: how often a node was asked, how many rows it gave, how many
 //!   calls it made and how many rows it drew, with colons between. Where there are more or fewer counts than nodes,
 //!   `miscounted` is told.
+//! - `costs SEED SIGNATURES SCRIPT`: a grid, the same one for all lines, is filled by the query and a sample of this seed. It tells
+//!   the least cost of the plans without Distinct of each of these signatures, or `none`. A signature is `BLOCK:ENTRIES:TERMS`, with
+//!   a comma between two.
 //! - `ask PLAN COUNT SCRIPT`: the first query is asked for a row this many times, by this plan.
 //! - `calls SEED SCRIPT`: a sample is taken of the first query by this seed. The calls are told, those of the indexes first.
 //! - `cards SEED SCRIPT`: the same, and the estimates are told.
@@ -38,6 +41,7 @@
 mod asks;
 mod calls;
 mod cards;
+mod costs;
 mod counts;
 mod least;
 mod line;
@@ -57,6 +61,7 @@ use rs_exec::{
     cursors_stand_in_larger_catalogues, indexes_of_plans_hold_answers, plans_give_the_answer,
     plans_give_the_same_rows, rows_give_the_parts_in_turn,
 };
+use rs_value::Memory;
 use std::process::ExitCode;
 
 fn main(rt: HostRuntime) -> ExitCode {
@@ -72,5 +77,8 @@ fn main(rt: HostRuntime) -> ExitCode {
     cursors_stand_in_larger_catalogues();
     indexes_go_on_to_hold_answers();
     indexes_of_plans_hold_answers();
-    answer_lines(&rt, &mut Planning::new(rt.alloc()))
+    match Planning::new(rt.alloc()) {
+        Ok(mut planning) => answer_lines(&rt, &mut planning),
+        Err(Memory) => ExitCode::FAILURE,
+    }
 }

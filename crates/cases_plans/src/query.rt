@@ -8,12 +8,14 @@ ghost use Rattle.rs_catalog.specs.IndexesHold.{IndexesHold};
 
 use crate::asks::tell_rows;
 use crate::cards::{tell_cards, tell_sample};
+use crate::costs::{Sought, tell_costs};
 use crate::least::tell_least;
 use crate::time::tell_time;
 use cases_lines::Fault;
 use cases_scripts::bind_fault;
 use rs_bind::bind;
 use rs_catalog::Catalog;
+use rs_enum::Grid;
 use rs_expr::MemScorer;
 use rs_plan::{Counts, Plan};
 use rs_query::Query;
@@ -27,6 +29,8 @@ pub enum Asked {
     Least(u64),
     /// The same, with these counts of the nodes.
     Counted(u64, Vec<Counts>),
+    /// The least costs of these signatures by a sample of this seed.
+    Costs(u64, Vec<Sought>),
     /// The rows that this plan gives, asked for this many times.
     Rows(Plan, u32),
     /// The calls of a sample by this seed.
@@ -44,12 +48,13 @@ pub fn tell_query(
     select: &Select,
     asked: &Asked,
     scorer: &mut MemScorer,
+    grid: &mut Grid,
 ) -> Result<String, Fault>
     requires written { IsWrittenQuery (query_of select.now) }
     requires held { IndexesHold (answered_score scorer.old) catalog.now }
 {
     match bind(alloc, catalog, select) {
-        Ok(query) => tell_bound(alloc, catalog, query, asked, scorer),
+        Ok(query) => tell_bound(alloc, catalog, query, asked, scorer, grid),
         Err(fault) => Err(bind_fault(fault)),
     }
 }
@@ -61,6 +66,7 @@ fn tell_bound(
     query: Query,
     asked: &Asked,
     scorer: &mut MemScorer,
+    grid: &mut Grid,
 ) -> Result<String, Fault>
     requires formed { IsQuery catalog.now query }
     requires held { IndexesHold (answered_score scorer.old) catalog.now }
@@ -69,6 +75,9 @@ fn tell_bound(
         Asked::Least(seed) => tell_least(alloc, catalog, &query, *seed, None, scorer),
         Asked::Counted(seed, counts) => {
             tell_least(alloc, catalog, &query, *seed, Some(counts), scorer)
+        }
+        Asked::Costs(seed, sought) => {
+            tell_costs(alloc, catalog, &query, *seed, sought, scorer, grid)
         }
         Asked::Rows(plan, count) => {
             return tell_rows(alloc, catalog, query, plan, *count, scorer);

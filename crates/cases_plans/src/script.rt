@@ -16,6 +16,7 @@ use cases_lines::Fault;
 use cases_scripts::{bind_fault, make};
 use rs_bind::bind_index;
 use rs_catalog::{Catalog, IndexDef, IndexFault, What};
+use rs_enum::Grid;
 use rs_expr::{Call, MemScorer};
 use rs_syntax::Statement;
 use std::alloc::Global;
@@ -26,11 +27,12 @@ pub fn tell_script(
     statements: &[Statement],
     asked: &Asked,
     scorer: &mut MemScorer,
+    grid: &mut Grid,
 ) -> Result<String, Fault>
     requires { AreWritten (commands_of statements.now) }
 {
     let mut catalog = Catalog::new(alloc);
-    let told = tell_statements(alloc, statements, asked, &mut catalog, scorer);
+    let told = tell_statements(alloc, statements, asked, &mut catalog, scorer, grid);
     drop(catalog);
     told
 }
@@ -42,13 +44,14 @@ fn tell_statements(
     asked: &Asked,
     catalog: &mut Catalog,
     scorer: &mut MemScorer,
+    grid: &mut Grid,
 ) -> Result<String, Fault>
     requires written { AreWritten (commands_of statements.now) }
     requires held { IndexesHold (answered_score scorer.old) catalog.old }
 {
     for statement in statements {
         if let Statement::Query(select) = statement {
-            return tell_query(alloc, catalog, select, asked, scorer);
+            return tell_query(alloc, catalog, select, asked, scorer, grid);
         }
         if let Some(fault) = join(alloc, catalog, statement, scorer)? {
             return tell_index_fault(alloc, fault, scorer.calls());

@@ -1,12 +1,12 @@
 //! What the lines ask for.
 
-use crate::outside::Outside;
+use crate::fakes::Fakes;
 use crate::told::tell_run;
 use cases_lines::{Cases, Fault, count_of, cut_word, text_of};
 use rs_value::{Text, Value, int_of};
 use std::alloc::Global;
 
-impl Cases for Outside {
+impl Cases for Fakes {
     fn answer(&mut self, alloc: Global, line: &[u8]) -> Result<String, Fault> {
         let (word, rest) = cut_word(line);
         match word {
@@ -20,11 +20,11 @@ impl Cases for Outside {
 }
 
 /// Runs the words of a line, and tells what came of it.
-fn tell_words(alloc: Global, words: &[u8], outside: &mut Outside) -> Result<String, Fault> {
+fn tell_words(alloc: Global, words: &[u8], fakes: &mut Fakes) -> Result<String, Fault> {
     let words = words_of(alloc, words)?;
-    let status = outside.run(alloc, &words)?;
-    let told = tell_run(alloc, status, outside)?;
-    outside.forget_run(alloc);
+    let status = fakes.run(alloc, &words)?;
+    let told = tell_run(alloc, status, fakes)?;
+    fakes.forget_run(alloc);
     Ok(told)
 }
 
@@ -41,26 +41,26 @@ fn words_of(alloc: Global, line: &[u8]) -> Result<Vec<Text>, Fault> {
 }
 
 /// Does what a line asks for that is no run.
-fn prepare(alloc: Global, word: &[u8], rest: &[u8], outside: &mut Outside) -> Result<(), Fault> {
+fn prepare(alloc: Global, word: &[u8], rest: &[u8], fakes: &mut Fakes) -> Result<(), Fault> {
     match word {
         b"file" => {
             let (name, bytes) = cut_word(rest);
-            outside.set_file(alloc, name, bytes)
+            fakes.set_file(alloc, name, bytes)
         }
-        b"front" => outside.add_to_front(rest),
-        b"script" => outside.set_script(alloc, rest),
+        b"front" => fakes.add_to_front(rest),
+        b"script" => fakes.set_script(alloc, rest),
         b"more" => {
             let (count, bytes) = cut_word(rest);
-            outside.add_to_file(count_of(count)?, bytes)
+            fakes.add_to_file(count_of(count)?, bytes)
         }
-        b"score" => write_score(alloc, rest, outside),
-        b"fail" => plan_failure(rest, outside),
+        b"score" => write_score(alloc, rest, fakes),
+        b"fail" => plan_failure(rest, fakes),
         _ => Err(Fault::Form),
     }
 }
 
 /// Writes the score of a call.
-fn write_score(alloc: Global, rest: &[u8], outside: &mut Outside) -> Result<(), Fault> {
+fn write_score(alloc: Global, rest: &[u8], fakes: &mut Fakes) -> Result<(), Fault> {
     let (score, call) = cut_word(rest);
     let Some(score) = int_of(score) else {
         return Err(Fault::Form);
@@ -68,7 +68,7 @@ fn write_score(alloc: Global, rest: &[u8], outside: &mut Outside) -> Result<(), 
     let (predicate, args) = cut_word(call);
     let predicate = text_of(alloc, predicate)?;
     let args = values_of(alloc, args)?;
-    outside.scorer.set(&predicate, &args, score as i128)?;
+    fakes.scorer.set(&predicate, &args, score as i128)?;
     Ok(())
 }
 
@@ -89,15 +89,15 @@ fn value_of(alloc: Global, word: &[u8]) -> Result<Value, Fault> {
 }
 
 /// Plans that something fails in the next run.
-fn plan_failure(rest: &[u8], outside: &mut Outside) -> Result<(), Fault> {
+fn plan_failure(rest: &[u8], fakes: &mut Fakes) -> Result<(), Fault> {
     let (what, rest) = cut_word(rest);
     let (number, after) = cut_word(rest);
     let number = count_of(number)?;
     match what {
-        b"call" => outside.scorer.fail_at(number as u64)?,
-        b"fetch" => outside.fail_fetch(number)?,
-        b"out" => outside.out.fail_at(number, count_of(after)? as usize)?,
-        b"err" => outside.err.fail_at(number, count_of(after)? as usize)?,
+        b"call" => fakes.scorer.fail_at(number as u64)?,
+        b"fetch" => fakes.fail_fetch(number)?,
+        b"out" => fakes.out.fail_at(number, count_of(after)? as usize)?,
+        b"err" => fakes.err.fail_at(number, count_of(after)? as usize)?,
         _ => return Err(Fault::Form),
     }
     Ok(())

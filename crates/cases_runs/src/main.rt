@@ -21,17 +21,17 @@
 //! scorer (`calls`) and the names that were fetched (`fetched`), in their order. What there is none of is left out.
 #![tactic(auto)]
 
+mod fakes;
 mod line;
-mod outside;
 mod told;
 
 use cases_lines::answer_lines;
-use outside::Outside;
+use fakes::Fakes;
 use rs_run::{one_run, plain_and_run_agree};
 use std::process::ExitCode;
 
 fn main(rt: HostRuntime) -> ExitCode {
     one_run();
     plain_and_run_agree();
-    answer_lines(&rt, &mut Outside::new(rt.alloc()))
+    answer_lines(&rt, &mut Fakes::new(rt.alloc()))
 }

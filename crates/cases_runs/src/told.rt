@@ -1,6 +1,6 @@
 //! What is printed of a run.
 
-use crate::outside::Outside;
+use crate::fakes::Fakes;
 use cases_lines::{print_call, print_escaped};
 use rs_expr::Call;
 use rs_run::Status;
@@ -8,12 +8,12 @@ use rs_value::{Memory, Text};
 use std::alloc::Global;
 
 /// The lines that tell of a run.
-pub fn tell_run(alloc: Global, status: Status, outside: &Outside) -> Result<String, Memory> {
+pub fn tell_run(alloc: Global, status: Status, fakes: &Fakes) -> Result<String, Memory> {
     let mut told = format!(in alloc; "  {status:?}\n")?;
-    tell_bytes("out", outside.out.bytes(), &mut told)?;
-    tell_bytes("err", outside.err.bytes(), &mut told)?;
-    tell_calls(outside.scorer.calls(), &mut told)?;
-    tell_names(outside.files.fetched_names(), &mut told)?;
+    tell_bytes("out", fakes.out.bytes(), &mut told)?;
+    tell_bytes("err", fakes.err.bytes(), &mut told)?;
+    tell_calls(fakes.scorer.calls(), &mut told)?;
+    tell_names(fakes.files.fetched_names(), &mut told)?;
     Ok(told)
 }
 

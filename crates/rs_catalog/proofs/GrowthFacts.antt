@@ -9,7 +9,7 @@ use Rattle.rs_table.specs.Relation.{Relation, most_rows}
 use Rattle.rs_expr.specs.Predicates.{PredicateDef}
 use Rattle.rs_catalog.specs.Catalog.{CatalogDef, NamedTable, RankIndex, greatest_max, with_index}
 use Rattle.rs_catalog.specs.Indexes.{IsRanking, predicate_for, rows_for}
-use Rattle.rs_catalog.specs.Inside.{IsInside, IsRanked, catalogue_of}
+use Rattle.rs_catalog.specs.Inside.{AreScores, IsInside, IsRanked, catalogue_of}
 use Rattle.rs_catalog.specs.declared.catalog.RankIndex.{RankIndex as StoredIndex}
 use Rattle.rs_catalog.specs.declared.index.IndexDef.{IndexDef}
 use Rattle.rs_catalog.proofs.DifferFacts.{NamesDiffer-put}
@@ -73,6 +73,7 @@ module _ (tables : List (List ℕ × Relation)) (predicates : List (List ℕ × 
         indexes_differ = inside.indexes_differ;
         predicate_keys = inside.predicate_keys;
         index_keys = inside.index_keys;
+        scored = inside.scored;
         ranked = each-weaker (IsRanked old) (IsRanked new) (IsRanked-grows old new grows) old.indexes inside.ranked;
       }
 
@@ -104,6 +105,7 @@ module _ (tables : List (List ℕ × Relation)) (predicates : List (List ℕ × 
         predicate_keys = map-append (λ e. e.0) predicates ((predicate.name, predicate) ∷ []) ∙ ap (λ names. names ++ predicate.name ∷ []) inside.predicate_keys
             ∙ sym (ap (map (λ p. p.name)) values ∙ map-append (λ p. p.name) old.predicates (predicate ∷ []));
         index_keys = inside.index_keys;
+        scored = inside.scored;
         ranked = each-weaker (IsRanked old) (IsRanked new) (IsRanked-grows old new grows) old.indexes inside.ranked;
       }
 
@@ -120,8 +122,9 @@ module _ (tables : List (List ℕ × Relation)) (predicates : List (List ℕ × 
       (ap (map (λ i. record { def = i.def; ranking = i.ranking.items })) (map-append (λ e. e.1) indexes ((name, stored) ∷ []))
       ∙ map-append (λ i. record { def = i.def; ranking = i.ranking.items }) (values_of indexes) (stored ∷ []))
 
-  IsInside-index : (stored : StoredIndex) → IsRanked (catalogue_of tables predicates indexes) (record { def = stored.def; ranking = stored.ranking.items }) → IsFree stored.def.name 64 (keys_of indexes) → IsInside tables predicates (indexes ++ (stored.def.name, stored) ∷ [])
-  IsInside-index stored ranked free =
+  IsInside-index : (stored : StoredIndex) → IsRanked (catalogue_of tables predicates indexes) (record { def = stored.def; ranking = stored.ranking.items })
+      → AreScores stored.ranking.items stored.scores.items → IsFree stored.def.name 64 (keys_of indexes) → IsInside tables predicates (indexes ++ (stored.def.name, stored) ∷ [])
+  IsInside-index stored ranked scores free =
       let old = catalogue_of tables predicates indexes in
       let more = indexes ++ (stored.def.name, stored) ∷ [] in
       let new = catalogue_of tables predicates more in
@@ -140,6 +143,8 @@ module _ (tables : List (List ℕ × Relation)) (predicates : List (List ℕ × 
         predicate_keys = inside.predicate_keys;
         index_keys = map-append (λ e. e.0) indexes ((stored.def.name, stored) ∷ []) ∙ ap (λ names. names ++ stored.def.name ∷ []) inside.index_keys
             ∙ sym (ap (map (λ i. i.def.name)) grown ∙ map-append (λ i. i.def.name) old.indexes (last ∷ []));
+        scored = subst (AllByRecursion (λ (index : StoredIndex). AreScores index.ranking.items index.scores.items)) (sym (map-append (λ e. e.1) indexes ((stored.def.name, stored) ∷ [])))
+            (each-push (λ (index : StoredIndex). AreScores index.ranking.items index.scores.items) (values_of indexes) stored inside.scored scores);
         ranked = subst (AllByRecursion (IsRanked new)) (sym grown)
             (each-push (IsRanked new) old.indexes last (each-weaker (IsRanked old) (IsRanked new) (IsRanked-grows old new grows) old.indexes inside.ranked) (IsRanked-grows old new grows last ranked));
       }
@@ -147,6 +152,7 @@ module _ (tables : List (List ℕ × Relation)) (predicates : List (List ℕ × 
   -- an index was put last, or there was no memory for it
   pub IsInside-index_put : (stored : StoredIndex) (new : List (List ℕ × StoredIndex)) (result : Result (Unit {0}) Memory)
       → OnOk result (new ≡ indexes ++ (stored.def.name, stored) ∷ []) → OnErr result (new ≡ indexes)
-      → IsRanked (catalogue_of tables predicates indexes) (record { def = stored.def; ranking = stored.ranking.items }) → IsFree stored.def.name 64 (keys_of indexes) → IsInside tables predicates new
-  IsInside-index_put stored new (Ok done) put kept ranked free = subst (λ list. IsInside tables predicates list) (sym put) (IsInside-index stored ranked free)
-  IsInside-index_put stored new (Err memory) put kept ranked free = subst (λ list. IsInside tables predicates list) (sym kept) inside
+      → IsRanked (catalogue_of tables predicates indexes) (record { def = stored.def; ranking = stored.ranking.items }) → AreScores stored.ranking.items stored.scores.items
+      → IsFree stored.def.name 64 (keys_of indexes) → IsInside tables predicates new
+  IsInside-index_put stored new (Ok done) put kept ranked scores free = subst (λ list. IsInside tables predicates list) (sym put) (IsInside-index stored ranked scores free)
+  IsInside-index_put stored new (Err memory) put kept ranked scores free = subst (λ list. IsInside tables predicates list) (sym kept) inside

@@ -9,7 +9,7 @@ use Rattle.rs_table.specs.Relation.{Relation}
 use Rattle.rs_expr.specs.Predicates.{PredicateDef}
 use Rattle.rs_catalog.specs.Catalog.{CatalogDef, names_of}
 use Rattle.rs_catalog.specs.Indexes.{IsIndexEntry, index_of, is_for, predicate_for, ranking_at, rows_for}
-use Rattle.rs_catalog.specs.Inside.{IsInside, IsRanked, catalogue_of}
+use Rattle.rs_catalog.specs.Inside.{AreScores, IsInside, IsRanked, catalogue_of}
 use Rattle.rs_catalog.specs.declared.catalog.RankIndex.{RankIndex as StoredIndex}
 use Rattle.rs_catalog.specs.declared.index.BoundArg.{BoundArg}
 use Rattle.rs_catalog.specs.declared.index.IndexDef.{IndexDef}
@@ -43,6 +43,10 @@ module _ (tables : List (List ℕ × Relation)) (predicates : List (List ℕ × 
   pub ranked_at : IsInside tables predicates indexes → (n : ℕ) (stored : StoredIndex) → slice_get (values_of indexes) n ≡ Some stored → IsRanked (catalogue_of tables predicates indexes) (record { def = stored.def; ranking = stored.ranking.items })
   ranked_at inside n stored at =
       each-slice_get (IsRanked (catalogue_of tables predicates indexes)) (catalogue_of tables predicates indexes).indexes n (record { def = stored.def; ranking = stored.ranking.items }) inside.ranked (index_at n stored at)
+
+  -- and its scores by row are those of its ranking
+  pub scores_at : IsInside tables predicates indexes → (n : ℕ) (stored : StoredIndex) → slice_get (values_of indexes) n ≡ Some stored → AreScores stored.ranking.items stored.scores.items
+  scores_at inside n stored at = each-slice_get (λ (index : StoredIndex). AreScores index.ranking.items index.scores.items) (values_of indexes) n stored inside.scored at
 
   -- an entry of its ranking has a row of its table, and a score of its predicate
   pub entry_fits : IsInside tables predicates indexes → (n : ℕ) (stored : StoredIndex) → slice_get (values_of indexes) n ≡ Some stored → (place : ℕ) (entry : ScoredRow) → slice_get stored.ranking.items place ≡ Some entry

@@ -1,15 +1,23 @@
+pub mod AfterFacts
 mod ArgumentFacts
 mod DifferFacts
+mod GrowAtFacts
 mod GrowthFacts
 pub mod HeldFacts
+mod HeldRowsFacts
 pub mod IndexForFacts
 mod InsideFacts
+pub mod InTurnFacts
+mod JoinRowsFacts
 pub mod JoinedFacts
 mod MakeFacts
+mod MoreFacts
 mod NameFacts
+mod NewRowFacts
 mod PlaceFacts
 mod RankingFacts
 mod SameArguments
 pub mod ScoreFacts
+mod WorkedGrowth
 mod WorkedRankings
 mod WorkedCatalogue

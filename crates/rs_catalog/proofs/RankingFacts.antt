@@ -1,9 +1,9 @@
 -- Rankings: what holds of the rows of an index, and of the first row that has no score.
-use Rattle.std.proofs.Common.{ℕ, ℤ, pos, negsuc, ◌≡◌, ◌∙◌, ◌+◌, ◌-◌, ◌<◌, ◌≤◌, ◌++◌, Bool, true, false, cond, nat_le, List, [], ◌∷◌, length, take, suc, refl, sym, ap, subst, inl, inr, arith, append_assoc, length-append}
-use Rattle.std.specs.Prelude.{Result, Ok, Err}
+use Rattle.std.proofs.Common.{ℕ, ℤ, pos, negsuc, ◌≡◌, ◌∙◌, ◌+◌, ◌-◌, ◌<◌, ◌≤◌, ◌++◌, Bool, true, false, cond, eqb, eq-eqb, nat_le, List, [], ◌∷◌, length, get_or, map, take, suc, refl, sym, ap, subst, inl, inr, arith, append-nil, append_assoc, length-append}
+use Rattle.std.specs.Prelude.{Result, Ok, Err, Some}
 use Rattle.std.specs.List.{AllByRecursion}
-use Rattle.std.proofs.lemmas.Bool.{cases_lt, leb-true, leb-false}
-use Rattle.std.proofs.lemmas.List.{get_or_at, take_at}
+use Rattle.std.proofs.lemmas.Bool.{cases_lt, leb-true, leb-false, ne_eqb}
+use Rattle.std.proofs.lemmas.List.{get_or_append_left, get_or_at, get_or_push, length-map, take_at}
 use Rattle.std.proofs.lemmas.Option.{unwrap_or-slice_get}
 use Rattle.rs_value.specs.declared.value.Value.{Value}
 use Rattle.rs_table.specs.Appended.{appended}
@@ -12,13 +12,14 @@ use Rattle.rs_expr.specs.Scores.{is_score, as_score}
 use Rattle.rs_rank.specs.Stable.{put_all, put_behind, stable}
 use Rattle.rs_rank.proofs.StableFacts.{AllByRecursion-put_behind, AllByRecursion-stable, length-stable}
 use Rattle.rs_rank.specs.declared.scored_row.ScoredRow.{ScoredRow}
-use Rattle.rs_catalog.specs.Indexes.{EntriesInOrder, IsIndexEntry, IsFirstBad, IsRanking, EntryPrecedes, RowsDiffer, asked_rows, ranking_of, row_at, scored_from}
+use Rattle.rs_catalog.specs.Indexes.{EntriesInOrder, IsIndexEntry, IsFirstBad, IsRanking, EntryPrecedes, RowsDiffer, asked_rows, ranking_of, row_at, score_in, scored_from}
+use Rattle.rs_catalog.specs.Inside.{AreScores}
 use Rattle.rs_catalog.specs.declared.index.IndexFault.{IndexFault}
 use Rattle.rs_catalog.specs.declared.index.IndexFault.TheVariants.{BadScore}
 use Rattle.rs_catalog.proofs.ScoreFacts.{entry_of, scored_from-bad, scored_from-score}
 
 -- the score of an entry
-abbrev score : ScoredRow → ℕ
+abbrev pub score : ScoredRow → ℕ
 score entry = entry.score
 
 -- an entry comes before one of a later row that has no greater score
@@ -29,7 +30,7 @@ EntryPrecedes-later first entry below before = elim (cases_lt entry.score first.
 ]
 
 -- an entry that comes before another has no less a score
-score-EntryPrecedes : (a b : ScoredRow) → EntryPrecedes a b → b.score ≤ a.score
+pub score-EntryPrecedes : (a b : ScoredRow) → EntryPrecedes a b → b.score ≤ a.score
 score-EntryPrecedes a b (inl less) = omega arith
 score-EntryPrecedes a b (inr same) = omega (arith, same.0)
 
@@ -60,12 +61,12 @@ RowsDiffer-put_behind entry (first ∷ rest) before differ =
     ]
 
 -- entries of rows that are numbered from this one on
-abbrev Numbered : ℕ → List ScoredRow → Type 0
+abbrev pub Numbered : ℕ → List ScoredRow → Type 0
 Numbered row [] = Unit {0}
 Numbered row (entry ∷ rest) = (entry.row ≡ row) × Numbered (row + 1) rest
 
 -- entries of later rows are put in, one after another
-put_all-ordered : (entries ordered : List ScoredRow) (row : ℕ) → Numbered row entries → AllByRecursion (λ e. e.row < row) ordered → EntriesInOrder ordered → RowsDiffer ordered
+pub put_all-ordered : (entries ordered : List ScoredRow) (row : ℕ) → Numbered row entries → AllByRecursion (λ e. e.row < row) ordered → EntriesInOrder ordered → RowsDiffer ordered
     → EntriesInOrder (put_all score ordered entries) × RowsDiffer (put_all score ordered entries)
 put_all-ordered [] ordered row numbered before is differ = (is, differ)
 put_all-ordered (entry ∷ rest) ordered row numbered before is differ =
@@ -74,8 +75,53 @@ put_all-ordered (entry ∷ rest) ordered row numbered before is differ =
     (AllByRecursion-put_behind score (λ e. e.row < row + 1) entry ordered (omega (arith, numbered.0)) (each-weaker (λ e. e.row < row) (λ e. e.row < row + 1) (λ e less. omega arith) ordered before))
     (EntriesInOrder-put_behind entry ordered earlier is) (RowsDiffer-put_behind entry ordered earlier differ)
 
+-- another entry changes no row's score, and a row's own entry has it
+score_in-other : (entry : ScoredRow) (entries : List ScoredRow) (row : ℕ) → (entry.row ≡ row → ⊥) → score_in row (put_behind score entry entries) ≡ score_in row entries
+score_in-other entry [] row other = rw (ne_eqb entry.row row other) refl
+score_in-other entry (first ∷ rest) row other =
+    elim (nat_le entry.score first.score) as (λ b. score_in row (cond b (first ∷ put_behind score entry rest) (entry ∷ first ∷ rest)) ≡ score_in row (first ∷ rest)) [
+      | true ↦ ap (λ found. cond (eqb first.row row) (Some first.score) found) (score_in-other entry rest row other)
+      | false ↦ rw (ne_eqb entry.row row other) refl
+    ]
+
+score_in-own : (entry : ScoredRow) (entries : List ScoredRow) → AllByRecursion (λ e. e.row < entry.row) entries → score_in entry.row (put_behind score entry entries) ≡ Some entry.score
+score_in-own entry [] before = rw (eq-eqb entry.row entry.row refl) refl
+score_in-own entry (first ∷ rest) before =
+    elim (nat_le entry.score first.score) as (λ b. score_in entry.row (cond b (first ∷ put_behind score entry rest) (entry ∷ first ∷ rest)) ≡ Some entry.score) [
+      | true ↦ rw (ne_eqb first.row entry.row (λ same. let less = before.0 in omega arith)) (score_in-own entry rest before.1)
+      | false ↦ rw (eq-eqb entry.row entry.row refl) refl
+    ]
+
+-- the rows before this one have these scores
+abbrev pub AreScored : ℕ → List ScoredRow → List ℕ → Type 0
+AreScored row entries scores = (r : ℕ) → 1 ≤ r → r < row → score_in r entries ≡ Some (get_or scores (r - 1) 0)
+
+put_behind-scored : (entry : ScoredRow) (entries : List ScoredRow) (scores : List ℕ) (row : ℕ) → entry.row ≡ row → 1 ≤ row → AllByRecursion (λ e. e.row < row) entries → length scores + 1 ≡ row
+    → AreScored row entries scores → AreScored (row + 1) (put_behind score entry entries) (scores ++ entry.score ∷ [])
+put_behind-scored entry entries scores row is some before size scored r some_r less =
+    elim (cases_lt r row) [
+      | inl earlier ↦
+          score_in-other entry entries r (λ same. omega arith)
+          ∙ scored r some_r earlier
+          ∙ ap (λ s. Some s) (sym (get_or_append_left scores (entry.score ∷ []) 0 (r - 1) (omega arith)))
+      | inr late ↦
+          let same : entry.row ≡ r = omega arith in
+          subst (λ n. score_in n (put_behind score entry entries) ≡ Some entry.score) same (score_in-own entry entries (subst (λ n. AllByRecursion (λ e. e.row < n) entries) (sym is) before))
+          ∙ ap (λ s. Some s) (sym (get_or_push scores entry.score 0 (r - 1) (omega arith)))
+    ]
+
+pub put_all-scored : (entries ordered : List ScoredRow) (scores : List ℕ) (row : ℕ) → 1 ≤ row → Numbered row entries → AllByRecursion (λ e. e.row < row) ordered → length scores + 1 ≡ row
+    → AreScored row ordered scores → AreScored (row + length entries) (put_all score ordered entries) (scores ++ map score entries)
+put_all-scored [] ordered scores row some numbered before size scored r some_r less = rw append-nil (scored r some_r (omega arith))
+put_all-scored (entry ∷ rest) ordered scores row some numbered before size scored r some_r less =
+    let earlier = subst (λ n. AllByRecursion (λ e. e.row < n) ordered) (sym numbered.0) before in
+    ap (λ all. all) (put_all-scored rest (put_behind score entry ordered) (scores ++ entry.score ∷ []) (row + 1) (omega arith) numbered.1
+    (AllByRecursion-put_behind score (λ e. e.row < row + 1) entry ordered (omega (arith, numbered.0)) (each-weaker (λ e. e.row < row) (λ e. e.row < row + 1) (λ e less. omega arith) ordered before))
+    (omega (arith, length-append scores (entry.score ∷ []))) (put_behind-scored entry ordered scores row numbered.0 some before size scored) r some_r (omega arith))
+    ∙ ap (λ all. Some (get_or all (r - 1) 0)) (append_assoc scores (entry.score ∷ []) (map score rest))
+
 -- a number that is a score
-score_of-score : (max : ℕ) (got : ℤ) → is_score max got ≡ true → (as_score got ≤ max) × (pos (as_score got) ≡ got)
+pub score_of-score : (max : ℕ) (got : ℤ) → is_score max got ≡ true → (as_score got ≤ max) × (pos (as_score got) ≡ got)
 score_of-score max (pos n) e = (leb-true n max e, refl)
 score_of-score max (negsuc n) e = cc
 
@@ -177,13 +223,22 @@ module _ (answer : List Value → ℤ) (max : ℕ) where
         ordered = ordered.0;
       }
 
-  -- a ranking that was made
-  record IsSorted (rows : List (List Value)) (ranking : List ScoredRow) : Type 0 where
-    entries : List ScoredRow
-    made : scored_from answer max 1 rows ≡ Ok entries
-    is : stable score entries ≡ ranking
+  -- the scores of rows, in the order of the rows, are those of their ranking
+  pub AreScores-stable : (rows : List (List Value)) (entries : List ScoredRow) → scored_from answer max 1 rows ≡ Ok entries → AreScores (stable (λ entry. entry.score) entries) (map (λ entry. entry.score) entries)
+  AreScores-stable rows entries e =
+      let made = AreMade-scored rows [] entries e in
+      record {
+        all = length-map entries score ∙ sym (length-stable score entries);
+        each = λ row some within. put_all-scored entries [] [] 1 (omega arith) made.numbered tt refl (λ r some_r less. absurd (omega arith)) row some (omega (arith, length-stable score entries));
+      }
 
-  sorted-from : (rows : List (List Value)) (ranking : List ScoredRow) → ranking_of (scored_from answer max 1 rows) ≡ Ok ranking → IsSorted rows ranking
+  -- a ranking that was made
+  pub record IsSorted (rows : List (List Value)) (ranking : List ScoredRow) : Type 0 where
+    pub entries : List ScoredRow
+    pub made : scored_from answer max 1 rows ≡ Ok entries
+    pub is : stable score entries ≡ ranking
+
+  pub sorted-from : (rows : List (List Value)) (ranking : List ScoredRow) → ranking_of (scored_from answer max 1 rows) ≡ Ok ranking → IsSorted rows ranking
   sorted-from rows ranking e = go (scored_from answer max 1 rows) refl e where
     go : (scored : Result (List ScoredRow) IndexFault) → scored_from answer max 1 rows ≡ scored → ranking_of scored ≡ Ok ranking → IsSorted rows ranking
     go (Ok entries) made sorted = record { entries = entries; made = made; is = cc }

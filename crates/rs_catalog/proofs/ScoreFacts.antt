@@ -17,7 +17,7 @@ pub appended-nil : {A E : Type 0} (rest : Result (List A) E) → appended [] res
 appended-nil (Ok all) = refl
 appended-nil (Err fault) = refl
 
-appended-appended : {A E : Type 0} (first second : List A) (rest : Result (List A) E) → appended first (appended second rest) ≡ appended (first ++ second) rest
+pub appended-appended : {A E : Type 0} (first second : List A) (rest : Result (List A) E) → appended first (appended second rest) ≡ appended (first ++ second) rest
 appended-appended first second (Ok all) = ap Ok (sym (append_assoc first second all))
 appended-appended first second (Err fault) = refl
 

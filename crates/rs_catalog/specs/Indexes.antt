@@ -1,5 +1,5 @@
 -- Rank indexes: what they are of, and their rows by score.
-use Rattle.std.specs.Prelude.{ℕ, ℤ, pos, nat_abs, nat_le, ◌+◌, ◌-◌, ◌≡◌, ◌≤◌, ◌<◌, ◌==◌, ◌&&◌, ◌⊎◌, Bool, true, false, List, [], ◌∷◌, length, map, position, take, Option, Some, option_map, slice_get, unwrap_or, Result, Ok, Err, if◌then◌else◌}
+use Rattle.std.specs.Prelude.{ℕ, ℤ, pos, nat_abs, nat_le, ◌+◌, ◌-◌, ◌≡◌, ◌≤◌, ◌<◌, ◌==◌, ◌&&◌, ◌⊎◌, Bool, true, false, List, [], ◌∷◌, length, map, position, take, Option, None, Some, option_map, slice_get, unwrap_or, Result, Ok, Err, if◌then◌else◌}
 use Rattle.std.specs.List.{AllByRecursion}
 use Rattle.std.specs.Ordering.{int_eq}
 use Rattle.std.specs.Str.{bytes_eq}
@@ -104,6 +104,11 @@ making answer catalogue def = making_of answer (predicate_for catalogue def) def
 -- the ranking of the index of this number
 abbrev pub ranking_at : CatalogDef → ℕ → List ScoredRow
 ranking_at catalogue number = unwrap_or (option_map (λ i. i.ranking) (slice_get catalogue.indexes number)) []
+
+-- the score that a row has in a ranking
+abbrev pub score_in : ℕ → List ScoredRow → Option ℕ
+score_in row [] = None
+score_in row (entry ∷ rest) = if entry.row == row then Some entry.score else score_in row rest
 
 -- an entry comes before another one: its score is greater, or they are equal and its row is an earlier one
 abbrev pub EntryPrecedes : ScoredRow → ScoredRow → Type 0

@@ -1,5 +1,8 @@
 pub mod Catalog
 pub mod IndexesHold
+pub mod After
+pub mod Growing
+pub mod Grown
 pub mod Indexes
 pub mod Making
 pub mod Inside

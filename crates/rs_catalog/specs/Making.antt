@@ -11,6 +11,7 @@ use Rattle.rs_catalog.specs.Catalog.{CatalogDef, with_index}
 use Rattle.rs_catalog.specs.Indexes.{args_in, asked_rows, row_request, scored_from}
 use Rattle.rs_catalog.specs.declared.index.BoundArg.{BoundArg}
 use Rattle.rs_catalog.specs.declared.index.IndexDef.{IndexDef}
+use Rattle.rs_catalog.specs.declared.ranked.Ranked.{Ranked}
 use Rattle.rs_rank.specs.declared.scored_row.ScoredRow.{ScoredRow}
 use Rattle.rs_catalog.specs.declared.index.IndexFault.{IndexFault}
 use Rattle.rs_catalog.specs.declared.index.IndexFault.TheVariants.{BadScore, Memory}
@@ -19,6 +20,11 @@ use Rattle.rs_catalog.specs.declared.index.IndexFault.TheVariants.{BadScore, Mem
 abbrev pub as_ranking : Result (Vec ScoredRow Global) IndexFault → Result (List ScoredRow) IndexFault
 as_ranking (Ok ranking) = Ok ranking.items
 as_ranking (Err fault) = Err fault
+
+-- the same of rows with their scores kept beside
+abbrev pub as_ranked : Result Ranked IndexFault → Result (List ScoredRow) IndexFault
+as_ranked (Ok ranked) = Ok ranked.ranking.items
+as_ranked (Err fault) = Err fault
 
 -- the same calls, with the scores in the order of the rows
 abbrev pub scoring_of : Answering → PredicateDef → List BoundArg → List (List Value) → Inquiry (List ScoredRow) IndexFault

@@ -1,21 +1,29 @@
-ghost use Rattle.std.specs.Prelude.{◌≡◌, ℕ, ◌<◌, ◌≤◌, ◌-◌, ◌∷◌, [], ◌++◌, List, Ok, false, OnErr, OnOk, length, slice_get, Some, IfSome, option_map};
+ghost use Rattle.std.specs.Prelude.{◌≡◌, ℕ, ◌<◌, ◌≤◌, ◌-◌, ◌∷◌, [], ◌+◌, ◌++◌, List as Seq, IfOk, Ok, false, true, OnErr, OnOk, length, slice_get, Some, IfSome, option_map};
 ghost use Rattle.std.specs.List.{AllByRecursion};
-ghost use Rattle.indexmap.specs.IndexMap.{index_map_len, keys};
-ghost use Rattle.rs_table.specs.Relation.{most_rows};
-ghost use Rattle.rs_catalog.specs.Catalog.{empty, greatest_max, has_name, most_of, names_of, place_of_name, number_named, room_for, room_in, with_predicate, with_table};
-ghost use Rattle.rs_catalog.specs.Indexes.{IsIndexEntry, IsIndex, IsRanking, index_of, making, predicate_for, ranking_at, rows_for};
+ghost use Rattle.indexmap.specs.IndexMap.{index_map_len, keys, values};
+ghost use Rattle.rs_table.specs.Relation.{Relation, most_rows, row_fits};
+ghost use Rattle.rs_catalog.specs.After.{entry_after};
+ghost use Rattle.rs_catalog.specs.Catalog.{RankIndex as Index, empty, greatest_max, has_name, most_of, names_of, place_of_name, number_named, room_for, room_in, with_predicate, with_table};
+ghost use Rattle.rs_expr.specs.InOrder.{Inquires};
+ghost use Rattle.rs_catalog.specs.Growing.{CanJoin, GrowsBy, growing, growing_index};
+ghost use Rattle.rs_catalog.specs.Grown.{AreGrown, IsGrown, as_renewed, as_renewed_or_same, renewed_at, renewed_entries, with_rows_at};
+ghost use Rattle.rs_catalog.specs.Indexes.{IsIndexEntry, IsIndex, IsRanking, index_of, making, predicate_for, ranking_at, rows_for, score_in};
 ghost use Rattle.rs_catalog.specs.Making.{MakesIndex};
 ghost use Rattle.rs_catalog.specs.declared.room.What.{What as Lists};
 ghost use Rattle.rs_catalog.specs.declared.room.What.TheVariants as what;
 
+use crate::after::{first_within, place_behind};
+use crate::grow::grow_index;
+use crate::growth::GrowFault;
 use crate::index::{BoundArg, IndexDef, IndexFault};
 use crate::make::rank_rows;
+use crate::ranked::Ranked;
 use crate::room::{RoomFault, What};
 use indexmap::IndexMap;
 use rs_expr::{Predicate, Scorer};
 use rs_rank::ScoredRow;
 use rs_table::Table;
-use rs_value::{Memory, Text};
+use rs_value::{List, Memory, Text, Value};
 use std::alloc::Global;
 use std::marker::Model;
 
@@ -28,11 +36,12 @@ const MOST_PREDICATES: usize = 64;
 /// The most rank indexes of a catalogue.
 const MOST_INDEXES: usize = 64;
 
-/// A rank index: what it is of, and its rows, the best one first.
+/// A rank index: what it is of, its rows, the best one first, and their scores by row.
 #[derive(Drop)]
-struct RankIndex {
-    def: IndexDef,
-    ranking: Vec<ScoredRow>,
+pub(crate) struct RankIndex {
+    pub def: IndexDef,
+    pub ranking: Vec<ScoredRow>,
+    pub scores: Vec<u32>,
 }
 
 /// The tables, predicates and rank indexes that a session has made, each list in the order of making and without two of
@@ -131,12 +140,83 @@ impl Catalog {
     {
         let table = self.table(def.table);
         let predicate = self.predicate(def.predicate);
-        let ranking = rank_rows(alloc, table, predicate, def.args.items(), scorer)?;
+        let ranked = rank_rows(alloc, table, predicate, def.args.items(), scorer)?;
         let name = def.name.copy()?;
-        match put_last(&mut self.indexes, name, RankIndex { def, ranking }) {
+        let index = RankIndex {
+            def,
+            ranking: ranked.ranking,
+            scores: ranked.scores,
+        };
+        match put_last(&mut self.indexes, name, index) {
             Ok(()) => Ok(()),
             Err(Memory) => Err(IndexFault::Memory),
         }
+    }
+
+    /// Puts rows behind those of a table, and at their places in each rank index of the table. For each such index, in the
+    /// order of making, the scorer is called once a new row, in the order of the rows, up to the first fault. After a fault
+    /// nothing has joined.
+    pub fn add_rows<S: Scorer>(
+        &mut self,
+        alloc: Global,
+        table: u8,
+        rows: Vec<List<Value>>,
+        scorer: &mut S,
+    ) -> Result<(), GrowFault>
+        requires { CanJoin self.old table rows.items }
+        ensures { GrowsBy table rows.items self.old self.new result (S.state scorer.old) (S.state scorer.new) }
+    {
+        let grown = self.grow_indexes(alloc, table, rows.as_slice(), scorer)?;
+        put_rows(&mut self.tables, table as usize, rows)?;
+        renew(&mut self.indexes, grown);
+        Ok(())
+    }
+
+    /// What becomes of each index as rows join a table, in the order of making.
+    fn grow_indexes<S: Scorer>(
+        &self,
+        alloc: Global,
+        table: u8,
+        rows: &[List<Value>],
+        scorer: &mut S,
+    ) -> Result<Vec<Option<Ranked>>, GrowFault>
+        requires { CanJoin self.now table rows.now }
+        ensures grows { Inquires GrowFault.Memory (growing (S.state scorer.old).answer self.now table rows.now)
+            (as_renewed self.now.indexes result) (S.state scorer.old) (S.state scorer.new) }
+        ensures all { IfOk result (λ grown. AreGrown self.now table (length rows.now) self.now.indexes grown.items) }
+        ensures len { IfOk result (λ grown. length grown.items ≡ length self.now.indexes) }
+    {
+        let mut grown = Vec::new(alloc);
+        for number in 0..self.indexes.len() {
+            let ranked = self.grow_at(alloc, number as u8, table, rows, scorer)?;
+            grown.push(ranked)?;
+        }
+        Ok(grown)
+    }
+
+    /// What becomes of the index of this number as rows join a table: nothing of one of another table.
+    fn grow_at<S: Scorer>(
+        &self,
+        alloc: Global,
+        number: u8,
+        table: u8,
+        rows: &[List<Value>],
+        scorer: &mut S,
+    ) -> Result<Option<Ranked>, GrowFault>
+        requires join { CanJoin self.now table rows.now }
+        requires index_in { number < length self.now.indexes }
+        ensures grows { (index : Index) → slice_get self.now.indexes number ≡ Some index
+            → Inquires GrowFault.Memory (growing_index (S.state scorer.old).answer self.now table rows.now number index)
+            (as_renewed_or_same index result) (S.state scorer.old) (S.state scorer.new) }
+        ensures all { (index : Index) → slice_get self.now.indexes number ≡ Some index
+            → IfOk result (λ grown. IsGrown self.now table (length rows.now) index grown) }
+    {
+        let index = &self.indexes[number as usize];
+        if index.def.table != table {
+            return Ok(None);
+        }
+        let predicate = self.predicate(index.def.predicate);
+        Ok(Some(grow_index(alloc, number, index, predicate, rows, scorer)?))
     }
 
     /// No table has more rows than a table may have, and no predicate a greater maximum. It computes nothing; it is called for
@@ -210,6 +290,26 @@ impl Catalog {
         let entry = self.indexes[index as usize].ranking[place as usize - 1];
         (entry.score, entry.row)
     }
+
+    /// The score of a row, counted from 1, in an index. It takes no memory.
+    pub fn score_of(&self, index: u8, row: u32) -> u32
+        requires index_in { index < length self.now.indexes }
+        requires some_row { 1 ≤ row }
+        requires row_in { row ≤ length (ranking_at self.now index) }
+        ensures { score_in row (ranking_at self.now index) ≡ Some result }
+    {
+        self.indexes[index as usize].scores[row as usize - 1]
+    }
+
+    /// The score and the row of the first entry of an index that comes behind `after`, of those whose rows are among the first
+    /// `rows` of the table. Without `after` it is the first such entry. Rows that join later don't move it. It takes no memory.
+    pub fn index_after(&self, index: u8, after: Option<(u32, u32)>, rows: u32) -> Option<(u32, u32)>
+        requires { index < length self.now.indexes }
+        ensures { result ≡ entry_after after rows (ranking_at self.now index) }
+    {
+        let ranking = self.indexes[index as usize].ranking.as_slice();
+        first_within(&ranking[place_behind(ranking, after)..], rows)
+    }
 }
 
 /// Whether one more of this name may join a list of at most this many.
@@ -245,4 +345,40 @@ fn put_last<V: Drop>(list: &mut IndexMap<Text, V>, name: Text, value: V) -> Resu
 {
     list.insert(name, value)?;
     Ok(())
+}
+
+/// Puts rows last in the table at a place. Where there is no memory, the tables stay as they were.
+fn put_rows(
+    tables: &mut IndexMap<Text, Table>,
+    place: usize,
+    rows: Vec<List<Value>>,
+) -> Result<(), Memory>
+    requires { (table : Relation) × ((slice_get (values tables.old) place ≡ Some table)
+        × (AllByRecursion (λ row. row_fits table.schema row ≡ true) rows.items × (length table.rows + length rows.items ≤ most_rows))) }
+    ensures ok { OnOk result (tables.new.entries ≡ with_rows_at place rows.items tables.old.entries) }
+    ensures err { OnErr result (tables.new.entries ≡ tables.old.entries) }
+{
+    tables[place].add_rows(rows)
+}
+
+/// Puts what became of indexes in their places.
+fn renew(indexes: &mut IndexMap<Text, RankIndex>, mut grown: Vec<Option<Ranked>>)
+    requires { length grown.items ≤ index_map_len indexes.old }
+    ensures { indexes.new.entries ≡ renewed_entries indexes.old.entries grown.items }
+{
+    while let Some(last) = grown.pop() {
+        renew_at(indexes, grown.len(), last);
+    }
+}
+
+/// Puts what became of the index at a place there; one that stays has nothing.
+fn renew_at(indexes: &mut IndexMap<Text, RankIndex>, place: usize, grown: Option<Ranked>)
+    requires { place < index_map_len indexes.old }
+    ensures { indexes.new.entries ≡ renewed_at place grown indexes.old.entries }
+{
+    if let Some(ranked) = grown {
+        let index = &mut indexes[place];
+        index.ranking = ranked.ranking;
+        index.scores = ranked.scores;
+    }
 }

@@ -1,11 +1,13 @@
-ghost use Rattle.std.specs.Prelude.{◌≡◌, ◌≤◌, true, IfOk, List, length, if◌then◌else◌, Ok, Err};
+ghost use Rattle.std.specs.Prelude.{◌≡◌, ◌≤◌, true, IfOk, List, length, map, if◌then◌else◌, Ok, Err};
 ghost use Rattle.rs_value.specs.Value.{all_fit, fits};
 ghost use Rattle.rs_value.specs.declared.kind.Kind.{Kind as ValueKind};
 ghost use Rattle.rs_expr.specs.InOrder.{Inquires};
 ghost use Rattle.rs_catalog.specs.Indexes.{IsRanking, arg_fits, arg_value, args_fit, args_in, making_of, row_at};
-ghost use Rattle.rs_catalog.specs.Making.{as_ranking, score_for, scoring_of, scoring_row};
+ghost use Rattle.rs_catalog.specs.Inside.{AreScores};
+ghost use Rattle.rs_catalog.specs.Making.{as_ranked, as_ranking, score_for, scoring_of, scoring_row};
 
 use crate::index::{BoundArg, IndexFault};
+use crate::ranked::Ranked;
 use rs_expr::{Predicate, Scorer, ScorerFault, score_within};
 use rs_rank::{ScoredRow, sort_stably};
 use rs_table::Table;
@@ -20,15 +22,27 @@ pub(crate) fn rank_rows<S: Scorer>(
     predicate: &Predicate,
     args: &[BoundArg],
     scorer: &mut S,
-) -> Result<Vec<ScoredRow>, IndexFault>
+) -> Result<Ranked, IndexFault>
     requires { args_fit table.now.schema predicate.now.params args.now ≡ true }
     ensures ranks { Inquires IndexFault.Memory (making_of (S.state scorer.old).answer predicate.now args.now table.now.rows)
-        (as_ranking result) (S.state scorer.old) (S.state scorer.new) }
-    ensures ranking { IfOk result (λ ranking. IsRanking (length table.now.rows) predicate.now.max ranking.items) }
+        (as_ranked result) (S.state scorer.old) (S.state scorer.new) }
+    ensures ranking { IfOk result (λ ranked. IsRanking (length table.now.rows) predicate.now.max ranked.ranking.items) }
+    ensures scores { IfOk result (λ ranked. AreScores ranked.ranking.items ranked.scores.items) }
 {
     let mut entries = score_rows(alloc, table, predicate, args, scorer)?;
+    let scores = scores_of(alloc, entries.as_slice())?;
     sort_stably(&mut entries)?;
-    Ok(entries)
+    Ok(Ranked {
+        ranking: entries,
+        scores,
+    })
+}
+
+/// The scores of entries, in their order.
+pub(crate) fn scores_of(alloc: Global, entries: &[ScoredRow]) -> Result<Vec<u32>, Memory>
+    ensures { IfOk result (λ scores. scores.items ≡ map (λ entry. entry.score) entries.now) }
+{
+    Ok(entries.iter().map(|entry| entry.score).collect(alloc)?)
 }
 
 /// The rows of a table in their order, each with its score.

@@ -3,7 +3,7 @@ use Rattle.std.proofs.Common.{◌≡◌, ◌≢◌, ℕ, zero, suc, ◌+◌, ◌
 use Rattle.std.specs.Int.{bit_at}
 use Rattle.std.specs.Int.Bits.{or_add_and}
 use Rattle.std.proofs.lemmas.Bool.{eqb-false, eqb-true}
-use Rattle.std.proofs.lemmas.Nat.{and_comm, ones_le_self}
+use Rattle.std.proofs.lemmas.Nat.{and_comm, ones_le_self, or_comm, pow_pos}
 use Rattle.std.proofs.lemmas.Nat.Bits.{and_pow, bit_at-lt, bit_at-pow_other, bit_at-pow_same, bit_at-zero, bit_at_and, bit_at_or, bit_at_xor, same_from_bits}
 use Rattle.std.proofs.Math.Nat.{pow-suc}
 use lib.Count.{ones_step}
@@ -199,4 +199,13 @@ ones-mask (suc i) =
     let half = ap count_ones (half-power i) in
     let even = even-power i in
     let behind = ones-mask i in
+    omega arith
+
+-- a mask without one of its numbers is less
+pub less-without : (mask number : ℕ) → has_number mask number ≡ true → bit_xor mask (mask_of number) < mask
+less-without mask number has =
+    let left = bit_xor mask (mask_of number) in
+    let whole : bit_or left (mask_of number) ≡ mask = or_comm left (mask_of number) ∙ part-and-left (mask_of number) mask (number-inside mask number has) in
+    let sum = union-sum left (mask_of number) (number-apart left number (left-has_not mask number has)) in
+    let own : 0 < mask_of number = pow_pos (number - 1) in
     omega arith

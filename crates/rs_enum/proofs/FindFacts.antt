@@ -16,19 +16,17 @@ use Rattle.rs_query.specs.declared.term.Term.{Term}
 use Rattle.rs_sample.specs.Cards.{BlockCards}
 use Rattle.rs_query.specs.Blocks.{block_in}
 use Rattle.rs_plan.specs.Plans.{IsEntryNumber, IsHashed, IsPart, IsRankScan, IsTermOf}
-use Rattle.rs_plan.specs.Shapes.{tree_of}
 use Rattle.rs_plan.specs.Trees.{Distinct, Hash, JoinOperator, Nested, PlanTree, Rank, RankScan, SeqScan, SetOperator, entries, terms}
 use Rattle.rs_enum.specs.QueryCards.{cards_at}
 use Rattle.rs_enum.specs.declared.candidate.Candidate.{Candidate}
 use Rattle.rs_enum.specs.declared.candidate.Choice.TheVariants as choice
 use Rattle.rs_enum.specs.declared.candidate.Sides.{Sides}
-use Rattle.rs_enum.specs.declared.kept.Kept.{Kept}
 use Rattle.rs_enum.specs.Bounds.{most_cost}
 use Rattle.rs_enum.specs.Candidates.{IsCandidate}
 use Rattle.rs_enum.specs.Costs.{call_cost, estimate_of}
 use Rattle.rs_enum.specs.Least.{ComesNoLater}
 use Rattle.rs_enum.specs.Within.{terms_within}
-use Rattle.rs_enum.specs.Places.{AreKept, AreNoSides, AreSides, CanBeMade, IsFirst, IsOne, IsScan, kept_at, start_of, tree_at}
+use Rattle.rs_enum.specs.Places.{AreKept, AreNoSides, AreSides, CanBeMade, IsFirst, IsOne, IsScan, Placed, kept_at, start_of, tree_at}
 use Rattle.rs_enum.proofs.BitFacts.{inside-union-left, left-has_not, left-of-union, left-without, mask-number, number-apart, number-inside, part-and-left, part-apart}
 use Rattle.rs_enum.proofs.CostFacts.{numbered}
 use Rattle.rs_enum.proofs.NodeFacts.{hash-whole, nested-whole, rank-whole, rank_scan-whole, scan-whole}
@@ -115,12 +113,12 @@ module _ (catalogue : CatalogDef) (block : Block) (formed : IsBlock catalogue bl
       sym (left-without (terms r.child) (mask_of t) (number-apart (terms r.child) t y.part.1.absent)) ∙ ap (λ m. bit_xor m (mask_of t)) y.its_terms in
       none-some r.child (sym missing ∙ (λ i. kept (sym y.its_entries i) (sym below i)) ∙ y.made)
 
-module _ (catalogue : CatalogDef) (query : Query) (cards : List BlockCards) (formed : IsBlock catalogue (block_in query 1)) (places : List (Option Kept)) (kept : AreKept catalogue query cards places)
+module _ (catalogue : CatalogDef) (query : Query) (cards : List BlockCards) (formed : IsBlock catalogue (block_in query 1)) (places : List (Option Placed)) (kept : AreKept catalogue query cards places)
     (first second : ℕ) (small : second < 2 ^ length (block_in query 1).terms) where
   -- an operator for a term over what is kept
   pub rank-one : (t : ℕ) (term : Term) → IsTermOf (block_in query 1) t term → has_number second t ≡ true → is_inside term.entries first ≡ true
-      → (k : Kept) → kept_at (length (block_in query 1).terms) places first (bit_xor second (mask_of t)) ≡ Some k
-      → (rows call : ℕ) → rows ≡ estimate_of cards 1 (tree_of k.plan) → rows ≤ 131072 ^ count_ones (entries (tree_of k.plan))
+      → (k : Placed) → kept_at (length (block_in query 1).terms) places first (bit_xor second (mask_of t)) ≡ Some k
+      → (rows call : ℕ) → rows ≡ estimate_of cards 1 k.plan → rows ≤ 131072 ^ count_ones (entries k.plan)
       → call ≡ call_cost catalogue (block_in query 1) t → call < 2 ^ 16
       → (found : Candidate) → found.cost ≡ k.cost + rows * call → found.choice ≡ choice.Rank t
       → IsOne catalogue query cards places first second (3 * 256 + t) found
@@ -130,9 +128,9 @@ module _ (catalogue : CatalogDef) (query : Query) (cards : List BlockCards) (for
       let mask_small : mask_of t < 2 ^ length (block_in query 1).terms = pow_below (t - 1) (length (block_in query 1).terms) (omega arith) in
       let below : bit_xor second (mask_of t) < 2 ^ length (block_in query 1).terms = xor_lt (length (block_in query 1).terms) second (mask_of t) small mask_small in
       let ik = kept first (bit_xor second (mask_of t)) k below at in
-      let whole : bit_or (terms (tree_of k.plan)) (mask_of t) ≡ second =
+      let whole : bit_or (terms k.plan) (mask_of t) ≡ second =
       ap (λ m. bit_or m (mask_of t)) ik.its_terms ∙ or_comm (bit_xor second (mask_of t)) (mask_of t) ∙ part-and-left (mask_of t) second (number-inside second t has) in
-      let part : IsPart catalogue (block_in query 1) (Rank t (tree_of k.plan)) = (
+      let part : IsPart catalogue (block_in query 1) (Rank t k.plan) = (
         ik.part,
         record {
           term = term;
@@ -141,20 +139,20 @@ module _ (catalogue : CatalogDef) (query : Query) (cards : List BlockCards) (for
           there = ap (is_inside term.entries) ik.its_entries ∙ inside;
         },
       ) in
-      let own : k.cost + 2 ^ 105 ≤ most_cost (entries (tree_of k.plan)) (terms (tree_of k.plan)) =
+      let own : k.cost + 2 ^ 105 ≤ most_cost (entries k.plan) (terms k.plan) =
       subst₂ (λ a b. k.cost + 2 ^ 105 ≤ most_cost a b) (sym ik.its_entries) (sym ik.its_terms) ik.spare in
-      let most = rank-whole catalogue (block_in query 1) formed (Rank t (tree_of k.plan)) (tree_of k.plan) t k.cost rows call (2 ^ 105) refl part few call_small own in
+      let most = rank-whole catalogue (block_in query 1) formed (Rank t k.plan) k.plan t k.cost rows call (2 ^ 105) refl part few call_small own in
       let bound : k.cost + rows * call + 2 ^ 105 ≤ most_cost first second = subst₂ (λ a b. k.cost + rows * call + 2 ^ 105 ≤ most_cost a b) ik.its_entries whole most in
       record {
-        tree = Rank t (tree_of k.plan);
+        tree = Rank t k.plan;
         stands = record {
           made = record {
             part = part;
             whole = ik.whole;
             its_entries = ik.its_entries;
             its_terms = whole;
-            made = subst₂ (λ a b. tree_at (length (block_in query 1).terms) places a b ≡ Some (tree_of k.plan)) (sym ik.its_entries) (sym ik.its_terms)
-                (ap (option_map (λ (m : Kept). tree_of m.plan)) at);
+            made = subst₂ (λ a b. tree_at (length (block_in query 1).terms) places a b ≡ Some k.plan) (sym ik.its_entries) (sym ik.its_terms)
+                (ap (option_map (λ (m : Placed). m.plan)) at);
           };
           chosen = ap Some (sym choice_is);
           cost = cost_is ∙ (λ i. ik.cost i + rows_is i * call_is i);
@@ -197,7 +195,7 @@ module _ (catalogue : CatalogDef) (query : Query) (cards : List BlockCards) (for
       → AreNoSides catalogue query places first second left
   no-sides-left left missing = λ l r is_l is_r apart both_entries both_terms same left_kept right_kept.
       let s = sides-of left l r is_l is_r apart both_entries both_terms same in
-      none-some l (sym (ap (option_map (λ (m : Kept). tree_of m.plan)) missing)
+      none-some l (sym (ap (option_map (λ (m : Placed). m.plan)) missing)
       ∙ (λ at. tree_at (length (block_in query 1).terms) places (sym same at) (sym s.left_terms at)) ∙ left_kept)
 
   pub no-sides-right : (left : ℕ)
@@ -205,17 +203,17 @@ module _ (catalogue : CatalogDef) (query : Query) (cards : List BlockCards) (for
       → AreNoSides catalogue query places first second left
   no-sides-right left missing = λ l r is_l is_r apart both_entries both_terms same left_kept right_kept.
       let s = sides-of left l r is_l is_r apart both_entries both_terms same in
-      none-some r (sym (ap (option_map (λ (m : Kept). tree_of m.plan)) missing)
+      none-some r (sym (ap (option_map (λ (m : Placed). m.plan)) missing)
       ∙ (λ at. tree_at (length (block_in query 1).terms) places (sym s.right_entries at) (sym s.right_terms at)) ∙ right_kept)
 
   -- two kept plans are such sides
   pub sides-one : (left : ℕ) → bit_and left first ≡ left
       → bit_or (bit_and second (terms_within left (block_in query 1).terms)) (bit_and second (terms_within (bit_xor first left) (block_in query 1).terms)) ≡ second
-      → (k m : Kept) → kept_at (length (block_in query 1).terms) places left (bit_and second (terms_within left (block_in query 1).terms)) ≡ Some k
+      → (k m : Placed) → kept_at (length (block_in query 1).terms) places left (bit_and second (terms_within left (block_in query 1).terms)) ≡ Some k
       → kept_at (length (block_in query 1).terms) places (bit_xor first left) (bit_and second (terms_within (bit_xor first left) (block_in query 1).terms)) ≡ Some m
       → (found : Sides) → found.left_cost ≡ k.cost → found.right_cost ≡ m.cost
-      → found.left_rows ≡ estimate_of cards 1 (tree_of k.plan) → found.right_rows ≡ estimate_of cards 1 (tree_of m.plan)
-      → found.left_rows ≤ 131072 ^ count_ones (entries (tree_of k.plan)) → found.right_rows ≤ 131072 ^ count_ones (entries (tree_of m.plan))
+      → found.left_rows ≡ estimate_of cards 1 k.plan → found.right_rows ≡ estimate_of cards 1 m.plan
+      → found.left_rows ≤ 131072 ^ count_ones (entries k.plan) → found.right_rows ≤ 131072 ^ count_ones (entries m.plan)
       → AreSides catalogue query cards places first second left found
   sides-one left inside whole k m at_left at_right found left_cost right_cost left_rows right_rows left_few right_few =
       let left_terms = bit_and second (terms_within left (block_in query 1).terms) in
@@ -226,12 +224,12 @@ module _ (catalogue : CatalogDef) (query : Query) (cards : List BlockCards) (for
       let a = kept left left_terms k (omega arith) at_left in
       let b = kept right right_terms m (omega arith) at_right in
       record {
-        l = tree_of k.plan;
-        r = tree_of m.plan;
-        left_kept = subst₂ (λ x y. tree_at (length (block_in query 1).terms) places x y ≡ Some (tree_of k.plan)) (sym a.its_entries) (sym a.its_terms)
-            (ap (option_map (λ (n : Kept). tree_of n.plan)) at_left);
-        right_kept = subst₂ (λ x y. tree_at (length (block_in query 1).terms) places x y ≡ Some (tree_of m.plan)) (sym b.its_entries) (sym b.its_terms)
-            (ap (option_map (λ (n : Kept). tree_of n.plan)) at_right);
+        l = k.plan;
+        r = m.plan;
+        left_kept = subst₂ (λ x y. tree_at (length (block_in query 1).terms) places x y ≡ Some k.plan) (sym a.its_entries) (sym a.its_terms)
+            (ap (option_map (λ (n : Placed). n.plan)) at_left);
+        right_kept = subst₂ (λ x y. tree_at (length (block_in query 1).terms) places x y ≡ Some m.plan) (sym b.its_entries) (sym b.its_terms)
+            (ap (option_map (λ (n : Placed). n.plan)) at_right);
         left_part = a.part;
         right_part = b.part;
         left_whole = a.whole;
@@ -244,9 +242,9 @@ module _ (catalogue : CatalogDef) (query : Query) (cards : List BlockCards) (for
         right_cost = right_cost ∙ b.cost;
         left_rows = left_rows;
         right_rows = right_rows;
-        left_spare = subst (λ n. n + 2 ^ 105 ≤ most_cost (entries (tree_of k.plan)) (terms (tree_of k.plan))) (sym left_cost)
+        left_spare = subst (λ n. n + 2 ^ 105 ≤ most_cost (entries k.plan) (terms k.plan)) (sym left_cost)
             (subst₂ (λ x y. k.cost + 2 ^ 105 ≤ most_cost x y) (sym a.its_entries) (sym a.its_terms) a.spare);
-        right_spare = subst (λ n. n + 2 ^ 105 ≤ most_cost (entries (tree_of m.plan)) (terms (tree_of m.plan))) (sym right_cost)
+        right_spare = subst (λ n. n + 2 ^ 105 ≤ most_cost (entries m.plan) (terms m.plan)) (sym right_cost)
             (subst₂ (λ x y. m.cost + 2 ^ 105 ≤ most_cost x y) (sym b.its_entries) (sym b.its_terms) b.spare);
         left_few = left_few;
         right_few = right_few;

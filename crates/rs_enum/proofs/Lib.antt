@@ -2,11 +2,14 @@ pub mod AllPlansFacts
 pub mod AloneFacts
 pub mod BitFacts
 pub mod BoundFacts
+pub mod BuildFacts
 pub mod CostFacts
 pub mod CoveringFacts
 pub mod ExistenceFacts
 pub mod FilledFacts
 pub mod FindFacts
+pub mod FoundFacts
+pub mod GridFacts
 pub mod LeastFacts
 pub mod LowerFacts
 pub mod MadeFacts
@@ -15,6 +18,7 @@ pub mod OrderOfPlans
 pub mod PlaceFacts
 pub mod SameCards
 pub mod SearchFacts
+pub mod SetFacts
 pub mod SidesFacts
 pub mod StartFacts
 pub mod TextFacts

@@ -16,15 +16,14 @@ use Rattle.rs_query.specs.declared.query.Query.TheVariants.{One}
 use Rattle.rs_sample.specs.Cards.{BlockCards}
 use Rattle.rs_query.specs.Blocks.{block_in}
 use Rattle.rs_plan.specs.Plans.{HasNoDistinct, IsPart}
-use Rattle.rs_plan.specs.Shapes.{tree_of}
 use Rattle.rs_plan.specs.Trees.{Distinct, JoinOperator, PlanTree, Rank, RankScan, SeqScan, SetOperator, entries, terms}
 use Rattle.rs_enum.specs.declared.candidate.Candidate.{Candidate}
-use Rattle.rs_enum.specs.declared.kept.Kept.{Kept}
 use Rattle.rs_enum.specs.Candidates.{HasKeptChildren, IsCandidate}
 use Rattle.rs_enum.specs.Costs.{cost_of}
 use Rattle.rs_enum.specs.Least.{ComesNoLater}
-use Rattle.rs_enum.specs.Places.{AreKept, CanBeMade, IsFilled, IsKept, IsMadeOf, IsTheFirst, KeepsFirst, kept_at, tree_at}
+use Rattle.rs_enum.specs.Places.{AreKept, CanBeMade, IsFilled, IsKept, IsMadeOf, IsTheFirst, KeepsFirst, Placed, kept_at, tree_at}
 use Rattle.rs_enum.proofs.BitFacts.{number-apart, union-sum}
+use Rattle.rs_enum.proofs.MadeFacts.{mapped}
 use Rattle.rs_enum.proofs.CoveringFacts.{Covers, IsOfSignature}
 use Rattle.rs_enum.proofs.StartFacts.{start-most}
 use Rattle.rs_enum.proofs.WithinFacts.{entries-below, some-entry, terms-below}
@@ -76,7 +75,7 @@ module _ (catalogue : CatalogDef) (block : Block) where
 
 module _ (catalogue : CatalogDef) (query : Query) (cards : List BlockCards) where
   -- a plan that is made of places and of one more, for an earlier place, is made of them alone
-  made-before : (places : List (Option Kept)) (x : Option Kept) (first second : ℕ) → second < 2 ^ length (block_in query 1).terms
+  made-before : (places : List (Option Placed)) (x : Option Placed) (first second : ℕ) → second < 2 ^ length (block_in query 1).terms
       → first * 2 ^ length (block_in query 1).terms + second ≤ length places → (tree : PlanTree)
       → CanBeMade catalogue query (places ++ x ∷ []) first second tree → CanBeMade catalogue query places first second tree
   made-before places x first second small within tree is = record {
@@ -85,23 +84,23 @@ module _ (catalogue : CatalogDef) (query : Query) (cards : List BlockCards) wher
     its_entries = is.its_entries;
     its_terms = is.its_terms;
     made = children-kept catalogue (block_in query 1) (tree_at (length (block_in query 1).terms) (places ++ x ∷ [])) (tree_at (length (block_in query 1).terms) places) first second small
-        (λ s p below less. ap (λ o. option_map (λ (k : Kept). tree_of k.plan) (option_and_then (λ (m : Option Kept). m) o))
+        (λ s p below less. ap (λ o. option_map (λ (k : Placed). k.plan) (option_and_then (λ (m : Option Placed). m) o))
         (front-item places x (s * 2 ^ length (block_in query 1).terms + p) (omega arith))) tree is;
   }
 
-  module _ (places : List (Option Kept)) (x : Option Kept) (first second : ℕ) (small : second < 2 ^ length (block_in query 1).terms)
+  module _ (places : List (Option Placed)) (x : Option Placed) (first second : ℕ) (small : second < 2 ^ length (block_in query 1).terms)
       (here : length places ≡ first * 2 ^ length (block_in query 1).terms + second) (found : Option Candidate)
       (is_first : IsTheFirst catalogue query cards places first second (6 * 256) found) (made : IsMadeOf catalogue query places first second found x)
       (filled : IsFilled catalogue query cards places) where
     -- what is kept at the new place
-    kept-here : (k : Kept) → x ≡ Some k → IsKept catalogue query cards first second k
+    kept-here : (k : Placed) → x ≡ Some k → IsKept catalogue query cards first second k
     kept-here k is = go found is_first made where
       go : (f : Option Candidate) → IsTheFirst catalogue query cards places first second (6 * 256) f → IsMadeOf catalogue query places first second f x → IsKept catalogue query cards first second k
       go None none nothing = absurd (none-some k (sym nothing ∙ is))
       go (Some f) one some =
           let same : some.kept ≡ k = same_Some some.kept k (sym some.is ∙ is) in
-          let tree : tree_of k.plan ≡ one.tree = subst (λ (m : Kept). tree_of m.plan ≡ one.tree) same (some.tree one.tree one.stands.made one.stands.chosen) in
-          let cost : k.cost ≡ f.cost = subst (λ (m : Kept). m.cost ≡ f.cost) same some.cost in
+          let tree : k.plan ≡ one.tree = subst (λ (m : Placed). m.plan ≡ one.tree) same (some.tree one.tree one.stands.made one.stands.chosen) in
+          let cost : k.cost ≡ f.cost = subst (λ (m : Placed). m.cost ≡ f.cost) same some.cost in
           record {
             part = subst (IsPart catalogue (block_in query 1)) (sym tree) one.stands.made.part;
             whole = subst HasNoDistinct (sym tree) one.stands.made.whole;
@@ -117,26 +116,26 @@ module _ (catalogue : CatalogDef) (query : Query) (cards : List BlockCards) wher
     kept-before : (s p : ℕ) → s * 2 ^ length (block_in query 1).terms + p < length places
         → kept_at (length (block_in query 1).terms) (places ++ x ∷ []) s p ≡ kept_at (length (block_in query 1).terms) places s p
     kept-before s p less =
-        ap (λ o. option_and_then (λ (m : Option Kept). m) o) (front-item places x (s * 2 ^ length (block_in query 1).terms + p) less)
+        ap (λ o. option_and_then (λ (m : Option Placed). m) o) (front-item places x (s * 2 ^ length (block_in query 1).terms + p) less)
 
     kept-last : (s p : ℕ) → s * 2 ^ length (block_in query 1).terms + p ≡ length places
         → kept_at (length (block_in query 1).terms) (places ++ x ∷ []) s p ≡ x
     kept-last s p same =
-        ap (λ i. option_and_then (λ (m : Option Kept). m) (slice_get (places ++ x ∷ []) i)) same
-        ∙ ap (λ o. option_and_then (λ (m : Option Kept). m) o) (last-item places x)
+        ap (λ i. option_and_then (λ (m : Option Placed). m) (slice_get (places ++ x ∷ []) i)) same
+        ∙ ap (λ o. option_and_then (λ (m : Option Placed). m) o) (last-item places x)
 
     kept-past : (s p : ℕ) → length places < s * 2 ^ length (block_in query 1).terms + p
         → kept_at (length (block_in query 1).terms) (places ++ x ∷ []) s p ≡ None
     kept-past s p more =
         let all = length-append places (x ∷ []) in
-        ap (λ o. option_and_then (λ (m : Option Kept). m) o) (slice_get_past (places ++ x ∷ []) (s * 2 ^ length (block_in query 1).terms + p) (omega arith))
+        ap (λ o. option_and_then (λ (m : Option Placed). m) o) (slice_get_past (places ++ x ∷ []) (s * 2 ^ length (block_in query 1).terms + p) (omega arith))
 
     -- all that is kept with one place more
     kept-more : AreKept catalogue query cards (places ++ x ∷ [])
     kept-more = λ s p k below is. which s p k below is (nat_lt (s * 2 ^ length (block_in query 1).terms + p) (length places))
         (nat_lt (length places) (s * 2 ^ length (block_in query 1).terms + p)) refl refl
       where
-        which : (s p : ℕ) (k : Kept) → p < 2 ^ length (block_in query 1).terms
+        which : (s p : ℕ) (k : Placed) → p < 2 ^ length (block_in query 1).terms
             → kept_at (length (block_in query 1).terms) (places ++ x ∷ []) s p ≡ Some k → (less more : Bool)
             → nat_lt (s * 2 ^ length (block_in query 1).terms + p) (length places) ≡ less
             → nat_lt (length places) (s * 2 ^ length (block_in query 1).terms + p) ≡ more → IsKept catalogue query cards s p k
@@ -153,10 +152,10 @@ module _ (catalogue : CatalogDef) (query : Query) (cards : List BlockCards) wher
 
     -- what is kept at the new place comes no later than all that are made for it
     first-here : IsBlock catalogue (block_in query 1) → (tree : PlanTree) → CanBeMade catalogue query places first second tree
-        → (k : Kept) × (x ≡ Some k) × ComesNoLater catalogue query cards (tree_of k.plan) tree
+        → (k : Placed) × (x ≡ Some k) × ComesNoLater catalogue query cards k.plan tree
     first-here formed tree can = go found is_first made where
       go : (f : Option Candidate) → IsTheFirst catalogue query cards places first second (6 * 256) f → IsMadeOf catalogue query places first second f x
-          → (k : Kept) × (x ≡ Some k) × ComesNoLater catalogue query cards (tree_of k.plan) tree
+          → (k : Placed) × (x ≡ Some k) × ComesNoLater catalogue query cards k.plan tree
       go None none nothing =
           absurd (none tree can (start-most catalogue (block_in query 1) formed (tree_at (length (block_in query 1).terms) places) first second tree can))
       go (Some f) one some = (
@@ -189,18 +188,13 @@ module _ (catalogue : CatalogDef) (query : Query) (cards : List BlockCards) wher
           (made-before places x s p below (omega arith) tree can)) in
           record { kept = is.0; is = kept-last s p same ∙ is.1; no_later = is.2 }
 
--- what is mapped is there
-pub mapped : {A B : Type 0} (f : A → B) (o : Option A) (y : B) → option_map f o ≡ Some y → (x : A) × (o ≡ Some x) × (f x ≡ y)
-mapped f (Some x) y is = (x, refl, same_Some (f x) y is)
-mapped f None y is = absurd (none-some y is)
-
 module _ (catalogue : CatalogDef) (block : Block) (limit : Option ℕ) (cards : List BlockCards) (formed : IsBlock catalogue block)
-    (places : List (Option Kept)) (filled : IsFilled catalogue (One block limit) cards places)
+    (places : List (Option Placed)) (filled : IsFilled catalogue (One block limit) cards places)
     (all : length places ≡ 2 ^ length block.from * 2 ^ length block.terms) where
   pub sound : (first second : ℕ) (tree : PlanTree) → second < 2 ^ length block.terms → tree_at (length block.terms) places first second ≡ Some tree
       → IsOfSignature catalogue block first second tree
   sound first second tree small is =
-      let m = mapped (λ (k : Kept). tree_of k.plan) (kept_at (length block.terms) places first second) tree is in
+      let m = mapped (λ (k : Placed). k.plan) (kept_at (length block.terms) places first second) tree is in
       let k = filled.kept first second m.0 small m.1 in
       record {
         part = subst (IsPart catalogue block) m.2 k.part;
@@ -218,7 +212,7 @@ module _ (catalogue : CatalogDef) (block : Block) (limit : Option ℕ) (cards : 
       let turned = mul_comm (2 ^ length block.terms) (2 ^ length block.from) in
       let is = filled.first first second tree small (omega arith) can in
       record {
-        found = tree_of is.kept.plan;
-        is = ap (option_map (λ (k : Kept). tree_of k.plan)) is.is;
+        found = is.kept.plan;
+        is = ap (option_map (λ (k : Placed). k.plan)) is.is;
         no_later = is.no_later;
       }

@@ -1,5 +1,5 @@
--- What a search over the plans of a signature keeps: parts of plans, whose costs fit, and all starts of codes are tried.
-use Rattle.std.proofs.Common.{◌≡◌, ℕ, ◌+◌, ◌-◌, ◌*◌, ◌^◌, ◌<◌, ◌≤◌, ◌==◌, Bool, false, true, List, length, refl, sym, subst₂, arith, bit_and, bit_xor}
+-- What a search over the plans of a signature finds: its costs fit, its rows may be asked for, and all starts of codes are tried.
+use Rattle.std.proofs.Common.{◌≡◌, ℕ, ◌+◌, ◌-◌, ◌*◌, ◌^◌, ◌<◌, ◌≤◌, ◌==◌, Bool, false, true, List, length, refl, sym, ◌∙◌, subst, subst₂, arith, bit_and, bit_xor, count_ones}
 use Rattle.std.specs.Prelude.{Option, Some}
 use Rattle.std.proofs.lemmas.Bool.{eq-eqb, eqb-true}
 use Rattle.std.proofs.lemmas.Nat.{and_le_l, pow_below, xor_lt}
@@ -10,17 +10,22 @@ use Rattle.rs_query.specs.Meaning.{is_inside}
 use Rattle.rs_query.specs.WellFormed.{IsBlock}
 use Rattle.rs_query.specs.declared.query.Query.{Query}
 use Rattle.rs_sample.specs.Cards.{BlockCards, IsEstimated}
+use Rattle.rs_sample.specs.Kept.{cards_of}
 use Rattle.rs_query.specs.Blocks.{block_in}
-use Rattle.rs_plan.specs.Plans.{IsPart}
-use Rattle.rs_plan.specs.Shapes.{tree_of}
-use Rattle.rs_plan.specs.Trees.{JoinOperator, Nested}
+use Rattle.rs_plan.specs.Trees.{JoinOperator, Nested, entries, terms}
 use Rattle.rs_enum.specs.declared.candidate.Candidate.{Candidate}
 use Rattle.rs_enum.specs.declared.candidate.Sides.{Sides}
-use Rattle.rs_enum.specs.declared.kept.Kept.{Kept}
 use Rattle.rs_enum.specs.Bounds.{most_cost}
-use Rattle.rs_enum.specs.Places.{AreKept, AreSides, IsOne, IsTheFirst, kept_at, tree_at}
+use Rattle.rs_enum.specs.Costs.{estimate_of}
+use Rattle.rs_enum.specs.declared.search.Search.{Search}
+use Rattle.rs_enum.specs.Given.{CanSearch, block_of, cards_in, kept_in, query_in}
+use Rattle.rs_enum.specs.Made.{kept_plans}
+use Rattle.rs_enum.specs.Places.{AreKept, AreSides, IsOne, IsTheFirst, Placed, candidate_at, kept_at, tree_at}
 use Rattle.rs_enum.specs.QueryCards.{AreCards, cards_at}
+use Rattle.rs_enum.proofs.AloneFacts.{alone-are}
 use Rattle.rs_enum.proofs.CostFacts.{block-cards, first-numbered, masks-part, part-fits}
+use Rattle.rs_enum.proofs.MadeFacts.{kept-found}
+use Rattle.rs_enum.proofs.OrderOfPlans.{estimate-part}
 use Rattle.rs_enum.proofs.StartFacts.{IsTheFirst-wider, no-more-hashed, no-more-nested, no-more-terms, no-term-zero}
 
 -- the test of two masks
@@ -33,7 +38,7 @@ inside-false part whole other = go (bit_and part whole == part) refl where
   go true e = absurd (other (eqb-true (bit_and part whole) part e))
   go false e = refl
 
-module _ (catalogue : CatalogDef) (query : Query) (cards : List BlockCards) (formed : IsBlock catalogue (block_in query 1)) (places : List (Option Kept)) (first second : ℕ) where
+module _ (catalogue : CatalogDef) (query : Query) (cards : List BlockCards) (formed : IsBlock catalogue (block_in query 1)) (places : List (Option Placed)) (first second : ℕ) where
   -- what is found fits
   pub one-fits : (start : ℕ) (found : Candidate) → IsOne catalogue query cards places first second start found → found.cost < 2 ^ 122
   one-fits start found is =
@@ -80,18 +85,44 @@ module _ (catalogue : CatalogDef) (query : Query) (cards : List BlockCards) (for
       let power : 2 ^ length (block_in query 1).from ≤ 2 ^ 6 = pow-le-pow_right {n = 2} (omega arith) most in
       omega arith
 
-module _ (catalogue : CatalogDef) (query : Query) (cards : List BlockCards) (places : List (Option Kept)) (kept : AreKept catalogue query cards places)
-    (second : ℕ) (small : second < 2 ^ length (block_in query 1).terms) where
-  -- what is kept of some of the terms
-  pub kept-some : (first mask : ℕ) (k : Kept) → kept_at (length (block_in query 1).terms) places first (bit_and second mask) ≡ Some k
-      → IsPart catalogue (block_in query 1) (tree_of k.plan)
-  kept-some first mask k at =
-      let most : bit_and second mask ≤ second = and_le_l second mask in
-      (kept first (bit_and second mask) k (omega arith) at).part
+-- what is found for a signature: it is kept at its cost, and its rows may be asked for
+pub record IsKeptAt (query : Query) (cards : List BlockCards) (places : List (Option Placed)) (first second : ℕ) (found : Candidate) : Type 0 where
+  pub kept : Placed
+  pub is : kept_at (length (block_in query 1).terms) places first second ≡ Some kept
+  pub cost : kept.cost ≡ found.cost
+  pub masks : IsEstimated (cards_at cards 1) first second
+  pub rows : (cards_at cards 1).estimate first second ≡ estimate_of cards 1 kept.plan
+  pub few : (rows : ℕ) → rows ≤ 131072 ^ count_ones first → rows ≤ 131072 ^ count_ones (entries kept.plan)
 
-  -- and of all but one
-  pub kept-without : (first t : ℕ) (k : Kept) → 1 ≤ t → t ≤ length (block_in query 1).terms
-      → kept_at (length (block_in query 1).terms) places first (bit_xor second (mask_of t)) ≡ Some k → IsPart catalogue (block_in query 1) (tree_of k.plan)
-  kept-without first t k some within at =
-      let mask_small : mask_of t < 2 ^ length (block_in query 1).terms = pow_below (t - 1) (length (block_in query 1).terms) (omega arith) in
-      (kept first (bit_xor second (mask_of t)) k (xor_lt (length (block_in query 1).terms) second (mask_of t) small mask_small) at).part
+pub kept-there : (catalogue : CatalogDef) (query : Query) (cards : List BlockCards) → AreCards query cards → (candidates : List (Option Candidate))
+    → AreKept catalogue query cards (kept_plans (block_in query 1).terms candidates) → (first second : ℕ) → second < 2 ^ length (block_in query 1).terms
+    → (found : Candidate) → candidate_at (length (block_in query 1).terms) candidates first second ≡ Some found
+    → IsKeptAt query cards (kept_plans (block_in query 1).terms candidates) first second found
+kept-there catalogue query cards cards_are candidates are first second small found is =
+    let k = kept-found (block_in query 1).terms candidates first second found is in
+    let one = are first second k.0 small k.1 in
+    record {
+      kept = k.0;
+      is = k.1;
+      cost = k.2;
+      masks = subst₂ (IsEstimated (cards_at cards 1)) one.its_entries one.its_terms
+          (masks-part (block_in query 1) (cards_at cards 1) (block-cards query cards 1 cards_are (first-numbered query cards cards_are)) catalogue k.0.plan one.part);
+      rows = (λ i. (cards_at cards 1).estimate (sym one.its_entries i) (sym one.its_terms i))
+          ∙ sym (estimate-part catalogue query cards (block_in query 1) 1 k.0.plan (terms k.0.plan) one.part);
+      few = λ rows most. subst (λ n. rows ≤ 131072 ^ count_ones n) (sym one.its_entries) most;
+    }
+
+-- fewer terms are a lesser mask
+pub some-small : (count second mask : ℕ) → second < 2 ^ count → bit_and second mask < 2 ^ count
+some-small count second mask small = let most : bit_and second mask ≤ second = and_le_l second mask in omega arith
+
+pub without-small : (count second t : ℕ) → second < 2 ^ count → 1 ≤ t → t ≤ count → bit_xor second (mask_of t) < 2 ^ count
+without-small count second t small some within = xor_lt count second (mask_of t) small (pow_below (t - 1) count (omega arith))
+
+-- what is found of a search for a signature is kept
+pub kept-in : (search : Search) → CanSearch search → (first second : ℕ) → second < 2 ^ length (block_of search).terms → (found : Candidate)
+    → candidate_at (length (block_of search).terms) search.places.now first second ≡ Some found
+    → IsKeptAt (query_in search) (cards_in search) (kept_in search) first second found
+kept-in search can first second small found is =
+    kept-there search.planning.catalog.now (query_in search) (cards_in search)
+    (alone-are search.planning.query.now (cards_of search.planning.cards.now) search.number can.planning.cards can.number) search.places.now can.kept first second small found is

@@ -23,12 +23,11 @@ use Rattle.rs_plan.specs.Plans.{HasNoDistinct, IsPart, IsRankScan}
 use Rattle.rs_plan.specs.Trees.{Distinct, Hash, JoinOperator, Nested, PlanTree, Rank, RankScan, SeqScan, SetOperator, code, code_cmp, entries, terms}
 use Rattle.rs_plan.proofs.DecidingFacts.{part-numbers}
 use Rattle.rs_enum.specs.declared.candidate.Candidate.{Candidate}
-use Rattle.rs_enum.specs.declared.kept.Kept.{Kept}
 use Rattle.rs_enum.specs.Candidates.{IsCandidate}
 use Rattle.rs_enum.specs.Costs.{cost_of}
 use Rattle.rs_enum.specs.Least.{ComesNoLater}
 use Rattle.rs_enum.specs.Within.{terms_within}
-use Rattle.rs_enum.specs.Places.{CanBeMade, IsTheFirst, IsTheOne, cheaper, start_of, tree_at}
+use Rattle.rs_enum.specs.Places.{CanBeMade, IsTheFirst, IsTheOne, Placed, cheaper, start_of, tree_at}
 use Rattle.rs_enum.proofs.BitFacts.{left-of-union, left-without, mask-number, number-apart, union-sum}
 use Rattle.rs_enum.proofs.OrderOfPlans.{cheaper-first, code-first, no_later-itself, no_later-on}
 use Rattle.rs_enum.proofs.WithinFacts.{entries-below, left-terms, right-terms, some-entry}
@@ -255,7 +254,7 @@ module _ (catalogue : CatalogDef) (block : Block) (formed : IsBlock catalogue bl
     no-more-nested (Distinct child) x above = x.made
     no-more-nested (SetOperator l r) x above = x.made
 
-module _ (catalogue : CatalogDef) (query : Query) (cards : List BlockCards) (formed : IsBlock catalogue (block_in query 1)) (places : List (Option Kept)) (first second : ℕ) where
+module _ (catalogue : CatalogDef) (query : Query) (cards : List BlockCards) (formed : IsBlock catalogue (block_in query 1)) (places : List (Option Placed)) (first second : ℕ) where
   -- what was found so far, and the plan whose code starts next
   pub IsTheFirst-cheaper : (bound : ℕ) (best next : Option Candidate) → IsTheFirst catalogue query cards places first second bound best
       → IsTheOne catalogue query cards places first second bound next → IsTheFirst catalogue query cards places first second (bound + 1) (cheaper best next)

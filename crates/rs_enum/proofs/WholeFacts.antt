@@ -54,6 +54,13 @@ by-numbers x y o is = go (nat_cmp x y) refl where
   go Equal e = inr (ranked x y Equal (sym e), sym (ap (λ q. is_gt (ordering_then q o)) e) ∙ is)
   go Greater e = absurd (let no : true ≡ false = sym (ap (λ q. is_gt (ordering_then q o)) e) ∙ is in cc)
 
+-- what comes no later costs no more
+pub by_value-most : (value : PlanTree → ℕ) (a b : PlanTree) → NoLaterBy value a b → value a ≤ value b
+by_value-most value a b is = elim (by-numbers (value a) (value b) (code_cmp (code a) (code b)) is) [
+  | inl less ↦ omega arith
+  | inr same ↦ (let cost = same.0 in omega arith)
+]
+
 -- trees that cost as much more by another cost as two others do, with codes in the order of theirs, are in their order
 pub by_value-more : (value other : PlanTree → ℕ) (a b c d : PlanTree) (more : ℕ) → other c ≡ value a + more → other d ≡ value b + more
     → code_cmp (code c) (code d) ≡ code_cmp (code a) (code b) → NoLaterBy value a b → NoLaterBy other c d

@@ -3,7 +3,9 @@ pub mod Bounds
 pub mod Candidates
 pub mod Costs
 pub mod Given
+pub mod Grids
 pub mod Least
+pub mod LeastCosts
 pub mod Made
 pub mod Places
 pub mod QueryCards

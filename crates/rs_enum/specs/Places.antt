@@ -6,38 +6,45 @@ use Rattle.rs_query.specs.declared.query.Query.{Query}
 use Rattle.rs_sample.specs.Cards.{BlockCards}
 use Rattle.rs_query.specs.Blocks.{block_in}
 use Rattle.rs_plan.specs.Plans.{HasNoDistinct, IsPart, IsRankScan}
-use Rattle.rs_plan.specs.Shapes.{tree_of}
 use Rattle.rs_plan.specs.Trees.{Distinct, Hash, JoinOperator, Nested, PlanTree, Rank, RankScan, SeqScan, SetOperator, entries, terms, join_number}
 use Rattle.rs_enum.specs.declared.candidate.Candidate.{Candidate}
 use Rattle.rs_enum.specs.declared.candidate.Choice.{Choice}
 use Rattle.rs_enum.specs.declared.candidate.Sides.{Sides}
 use Rattle.rs_enum.specs.declared.candidate.Choice.TheVariants as choice
-use Rattle.rs_enum.specs.declared.kept.Kept.{Kept}
 use Rattle.rs_enum.specs.Bounds.{most_cost}
 use Rattle.rs_enum.specs.Candidates.{IsCandidate}
 use Rattle.rs_enum.specs.Costs.{cost_of, estimate_of}
 use Rattle.rs_enum.specs.Least.{ComesNoLater}
 
--- what is kept of a signature, where a block has this many terms: entries decide before terms
-abbrev pub kept_at : ℕ → List (Option Kept) → ℕ → ℕ → Option Kept
-kept_at count places first second = option_and_then (λ (kept : Option Kept). kept) (slice_get places (first * 2 ^ count + second))
+-- a plan that is kept, with its cost
+pub record Placed : Type 0 where
+  pub cost : ℕ
+  pub plan : PlanTree
 
-abbrev pub tree_at : ℕ → List (Option Kept) → ℕ → ℕ → Option PlanTree
-tree_at count places first second = option_map (λ (kept : Kept). tree_of kept.plan) (kept_at count places first second)
+-- what was found for a signature, where a block has this many terms: entries decide before terms
+abbrev pub candidate_at : ℕ → List (Option Candidate) → ℕ → ℕ → Option Candidate
+candidate_at count places first second = option_and_then (λ (found : Option Candidate). found) (slice_get places (first * 2 ^ count + second))
+
+-- and what is kept of it
+abbrev pub kept_at : ℕ → List (Option Placed) → ℕ → ℕ → Option Placed
+kept_at count places first second = option_and_then (λ (kept : Option Placed). kept) (slice_get places (first * 2 ^ count + second))
+
+abbrev pub tree_at : ℕ → List (Option Placed) → ℕ → ℕ → Option PlanTree
+tree_at count places first second = option_map (λ (kept : Placed). kept.plan) (kept_at count places first second)
 
 -- a plan that is kept of a signature of the first block, with its cost
-pub record IsKept (catalogue : CatalogDef) (query : Query) (cards : List BlockCards) (first second : ℕ) (kept : Kept) : Type 0 where
-  pub part : IsPart catalogue (block_in query 1) (tree_of kept.plan)
-  pub whole : HasNoDistinct (tree_of kept.plan)
-  pub its_entries : entries (tree_of kept.plan) ≡ first
-  pub its_terms : terms (tree_of kept.plan) ≡ second
-  pub cost : kept.cost ≡ cost_of catalogue query cards (tree_of kept.plan)
+pub record IsKept (catalogue : CatalogDef) (query : Query) (cards : List BlockCards) (first second : ℕ) (kept : Placed) : Type 0 where
+  pub part : IsPart catalogue (block_in query 1) kept.plan
+  pub whole : HasNoDistinct kept.plan
+  pub its_entries : entries kept.plan ≡ first
+  pub its_terms : terms kept.plan ≡ second
+  pub cost : kept.cost ≡ cost_of catalogue query cards kept.plan
   pub spare : kept.cost + 2 ^ 105 ≤ most_cost first second
 
 -- all that is kept is so
-abbrev pub AreKept : CatalogDef → Query → List BlockCards → List (Option Kept) → Type 0
+abbrev pub AreKept : CatalogDef → Query → List BlockCards → List (Option Placed) → Type 0
 AreKept catalogue query cards places =
-    (first second : ℕ) (kept : Kept) → second < 2 ^ length (block_in query 1).terms
+    (first second : ℕ) (kept : Placed) → second < 2 ^ length (block_in query 1).terms
     → kept_at (length (block_in query 1).terms) places first second ≡ Some kept → IsKept catalogue query cards first second kept
 
 -- how a plan is made of kept ones, where it can be
@@ -60,12 +67,12 @@ start_of (Distinct child) = 6 * 256
 start_of (SetOperator left right) = 7 * 256
 
 -- a plan that can be made of kept ones for a signature
-abbrev pub CanBeMade : CatalogDef → Query → List (Option Kept) → ℕ → ℕ → PlanTree → Type 0
+abbrev pub CanBeMade : CatalogDef → Query → List (Option Placed) → ℕ → ℕ → PlanTree → Type 0
 CanBeMade catalogue query places first second tree =
     IsCandidate catalogue (block_in query 1) (tree_at (length (block_in query 1).terms) places) first second tree
 
 -- a candidate stands for such a plan
-pub record StandsFor (catalogue : CatalogDef) (query : Query) (cards : List BlockCards) (places : List (Option Kept)) (first second : ℕ)
+pub record StandsFor (catalogue : CatalogDef) (query : Query) (cards : List BlockCards) (places : List (Option Placed)) (first second : ℕ)
     (found : Candidate) (tree : PlanTree) : Type 0 where
   pub made : CanBeMade catalogue query places first second tree
   pub chosen : choice_of tree ≡ Some found.choice
@@ -73,7 +80,7 @@ pub record StandsFor (catalogue : CatalogDef) (query : Query) (cards : List Bloc
   pub spare : found.cost + 2 ^ 105 ≤ most_cost first second
 
 -- what is kept of the sides of a join of a signature, where the left one has these entries
-pub record AreSides (catalogue : CatalogDef) (query : Query) (cards : List BlockCards) (places : List (Option Kept)) (first second left : ℕ) (found : Sides) : Type 0 where
+pub record AreSides (catalogue : CatalogDef) (query : Query) (cards : List BlockCards) (places : List (Option Placed)) (first second left : ℕ) (found : Sides) : Type 0 where
   pub l : PlanTree
   pub r : PlanTree
   pub left_kept : tree_at (length (block_in query 1).terms) places (entries l) (terms l) ≡ Some l
@@ -96,14 +103,14 @@ pub record AreSides (catalogue : CatalogDef) (query : Query) (cards : List Block
   pub right_few : found.right_rows ≤ 131072 ^ count_ones (entries r)
 
 -- no two kept plans are such sides
-abbrev pub AreNoSides : CatalogDef → Query → List (Option Kept) → ℕ → ℕ → ℕ → Type 0
+abbrev pub AreNoSides : CatalogDef → Query → List (Option Placed) → ℕ → ℕ → ℕ → Type 0
 AreNoSides catalogue query places first second left =
     (l r : PlanTree) → IsPart catalogue (block_in query 1) l → IsPart catalogue (block_in query 1) r → AreDisjoint (entries l) (entries r)
     → bit_or (entries l) (entries r) ≡ first → bit_or (terms l) (terms r) ≡ second → entries l ≡ left
     → tree_at (length (block_in query 1).terms) places (entries l) (terms l) ≡ Some l
     → tree_at (length (block_in query 1).terms) places (entries r) (terms r) ≡ Some r → ⊥
 
-abbrev pub AreTheSides : CatalogDef → Query → List BlockCards → List (Option Kept) → ℕ → ℕ → ℕ → Option Sides → Type 0
+abbrev pub AreTheSides : CatalogDef → Query → List BlockCards → List (Option Placed) → ℕ → ℕ → ℕ → Option Sides → Type 0
 AreTheSides catalogue query cards places first second left (Some found) = AreSides catalogue query cards places first second left found
 AreTheSides catalogue query cards places first second left None = AreNoSides catalogue query places first second left
 
@@ -120,19 +127,19 @@ IsTheScan catalogue query cards entry term (Some found) = IsScan catalogue query
 IsTheScan catalogue query cards entry term None = (index : ℕ) → IsRankScan catalogue (block_in query 1) entry term index → ⊥
 
 -- what is found is the one plan whose code starts so, if there is one
-pub record IsOne (catalogue : CatalogDef) (query : Query) (cards : List BlockCards) (places : List (Option Kept)) (first second start : ℕ)
+pub record IsOne (catalogue : CatalogDef) (query : Query) (cards : List BlockCards) (places : List (Option Placed)) (first second start : ℕ)
     (found : Candidate) : Type 0 where
   pub tree : PlanTree
   pub stands : StandsFor catalogue query cards places first second found tree
   pub starts : start_of tree ≡ start
 
-abbrev pub IsTheOne : CatalogDef → Query → List BlockCards → List (Option Kept) → ℕ → ℕ → ℕ → Option Candidate → Type 0
+abbrev pub IsTheOne : CatalogDef → Query → List BlockCards → List (Option Placed) → ℕ → ℕ → ℕ → Option Candidate → Type 0
 IsTheOne catalogue query cards places first second start (Some found) = IsOne catalogue query cards places first second start found
 IsTheOne catalogue query cards places first second start None =
     (other : PlanTree) → CanBeMade catalogue query places first second other → start_of other ≡ start → ⊥
 
 -- what is found comes no later than all plans whose codes start below a number, if there is one
-pub record IsFirst (catalogue : CatalogDef) (query : Query) (cards : List BlockCards) (places : List (Option Kept)) (first second bound : ℕ)
+pub record IsFirst (catalogue : CatalogDef) (query : Query) (cards : List BlockCards) (places : List (Option Placed)) (first second bound : ℕ)
     (found : Candidate) : Type 0 where
   pub tree : PlanTree
   pub stands : StandsFor catalogue query cards places first second found tree
@@ -140,7 +147,7 @@ pub record IsFirst (catalogue : CatalogDef) (query : Query) (cards : List BlockC
   pub no_later : (other : PlanTree) → CanBeMade catalogue query places first second other → start_of other < bound
       → ComesNoLater catalogue query cards tree other
 
-abbrev pub IsTheFirst : CatalogDef → Query → List BlockCards → List (Option Kept) → ℕ → ℕ → ℕ → Option Candidate → Type 0
+abbrev pub IsTheFirst : CatalogDef → Query → List BlockCards → List (Option Placed) → ℕ → ℕ → ℕ → Option Candidate → Type 0
 IsTheFirst catalogue query cards places first second bound (Some found) = IsFirst catalogue query cards places first second bound found
 IsTheFirst catalogue query cards places first second bound None =
     (other : PlanTree) → CanBeMade catalogue query places first second other → start_of other < bound → ⊥
@@ -152,24 +159,24 @@ cheaper (Some best) None = Some best
 cheaper (Some best) (Some next) = (if nat_lt next.cost best.cost then Some next else Some best)
 
 -- what is kept of a candidate: a plan that it stands for, with its cost
-pub record IsKeptOf (catalogue : CatalogDef) (query : Query) (places : List (Option Kept)) (first second : ℕ) (found : Candidate) (made : Option Kept) : Type 0 where
-  pub kept : Kept
+pub record IsKeptOf (catalogue : CatalogDef) (query : Query) (places : List (Option Placed)) (first second : ℕ) (found : Candidate) (made : Option Placed) : Type 0 where
+  pub kept : Placed
   pub is : made ≡ Some kept
   pub cost : kept.cost ≡ found.cost
-  pub tree : (tree : PlanTree) → CanBeMade catalogue query places first second tree → choice_of tree ≡ Some found.choice → tree_of kept.plan ≡ tree
+  pub tree : (tree : PlanTree) → CanBeMade catalogue query places first second tree → choice_of tree ≡ Some found.choice → kept.plan ≡ tree
 
-abbrev pub IsMadeOf : CatalogDef → Query → List (Option Kept) → ℕ → ℕ → Option Candidate → Option Kept → Type 0
+abbrev pub IsMadeOf : CatalogDef → Query → List (Option Placed) → ℕ → ℕ → Option Candidate → Option Placed → Type 0
 IsMadeOf catalogue query places first second None made = made ≡ None
 IsMadeOf catalogue query places first second (Some found) made = IsKeptOf catalogue query places first second found made
 
 -- what is kept of a signature comes no later than a plan
-pub record KeepsFirst (catalogue : CatalogDef) (query : Query) (cards : List BlockCards) (places : List (Option Kept)) (first second : ℕ) (tree : PlanTree) : Type 0 where
-  pub kept : Kept
+pub record KeepsFirst (catalogue : CatalogDef) (query : Query) (cards : List BlockCards) (places : List (Option Placed)) (first second : ℕ) (tree : PlanTree) : Type 0 where
+  pub kept : Placed
   pub is : kept_at (length (block_in query 1).terms) places first second ≡ Some kept
-  pub no_later : ComesNoLater catalogue query cards (tree_of kept.plan) tree
+  pub no_later : ComesNoLater catalogue query cards kept.plan tree
 
 -- each place keeps a plan of its signature that comes no later than all that are made of kept ones, where there is one
-pub record IsFilled (catalogue : CatalogDef) (query : Query) (cards : List BlockCards) (places : List (Option Kept)) : Type 0 where
+pub record IsFilled (catalogue : CatalogDef) (query : Query) (cards : List BlockCards) (places : List (Option Placed)) : Type 0 where
   pub kept : AreKept catalogue query cards places
   pub first : (first second : ℕ) (tree : PlanTree) → second < 2 ^ length (block_in query 1).terms
       → first * 2 ^ length (block_in query 1).terms + second < length places → CanBeMade catalogue query places first second tree

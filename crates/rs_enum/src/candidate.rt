@@ -1,4 +1,4 @@
-/// How a plan of a signature is made of the plans that are kept of lesser ones.
+/// How a plan of a signature is made of the plans of lesser ones.
 #[derive(Clone, Copy, Debug)]
 pub(crate) enum Choice {
     SeqScan { entry: u8 },
@@ -8,6 +8,9 @@ pub(crate) enum Choice {
     /// A join whose left side has these entries.
     HashJoin { left: u8 },
     NestedJoin { left: u8 },
+    /// What operators for terms stand above where duplicates are dropped, or where there are two blocks: the plan that drops
+    /// duplicates, or the set operator.
+    Base,
 }
 
 /// A plan that could be kept of a signature, with its cost.

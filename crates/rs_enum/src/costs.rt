@@ -143,7 +143,7 @@ pub(crate) fn part_cost(planning: &Planning, number: u8, plan: &Plan) -> u128
             let left_rows = part_rows(planning, number, left);
             let right_rows = part_rows(planning, number, right);
             let rows = part_rows(planning, number, plan);
-            hashed(left_cost, right_cost, left_rows, right_rows, rows)
+            hash_cost(left_cost, right_cost, left_rows, right_rows, rows)
         }
         Plan::NestedJoin { left, right } => {
             let left = &**left;
@@ -153,7 +153,7 @@ pub(crate) fn part_cost(planning: &Planning, number: u8, plan: &Plan) -> u128
             let left_rows = part_rows(planning, number, left);
             let right_rows = part_rows(planning, number, right);
             let rows = part_rows(planning, number, plan);
-            nested(left_cost, right_cost, left_rows, right_rows, rows)
+            nested_cost(left_cost, right_cost, left_rows, right_rows, rows)
         }
         Plan::Distinct { child } => {
             let child = &**child;
@@ -220,7 +220,13 @@ pub(crate) fn with_calls(below: u128, rows: u128, call: u16) -> u128
 }
 
 /// Two sides, their rows by equal values, and the rows that come of them.
-pub(crate) fn hashed(left: u128, right: u128, left_rows: u128, right_rows: u128, rows: u128) -> u128
+pub(crate) fn hash_cost(
+    left: u128,
+    right: u128,
+    left_rows: u128,
+    right_rows: u128,
+    rows: u128,
+) -> u128
     requires { left + right + 2 * (left_rows + right_rows) + rows < 2 ^ 128 }
     ensures { result ≡ left + right + 2 * (left_rows + right_rows) + rows }
 {
@@ -228,7 +234,13 @@ pub(crate) fn hashed(left: u128, right: u128, left_rows: u128, right_rows: u128,
 }
 
 /// Two sides, all pairs of their rows, and the rows that come of them.
-pub(crate) fn nested(left: u128, right: u128, left_rows: u128, right_rows: u128, rows: u128) -> u128
+pub(crate) fn nested_cost(
+    left: u128,
+    right: u128,
+    left_rows: u128,
+    right_rows: u128,
+    rows: u128,
+) -> u128
     requires { left + right + left_rows * right_rows + rows < 2 ^ 128 }
     ensures { result ≡ left + right + left_rows * right_rows + rows }
 {

@@ -2,33 +2,36 @@
 //! the least code. Plans are tried in the order of their codes, which is told by where a code starts, as each signature has one
 //! plan. So a plan that costs as much as an earlier one comes later.
 
-ghost use Rattle.std.specs.Prelude.{ℕ, ◌≡◌, ◌≤◌, ◌<◌, ◌+◌, ◌*◌, ◌^◌, MatchOption, length, option_map, slice_get, Some, ◌-◌, count_ones};
+ghost use Rattle.std.specs.Prelude.{ℕ, ◌≡◌, ◌≤◌, ◌<◌, ◌+◌, ◌*◌, ◌^◌, MatchOption, length, slice_get, Some, ◌-◌, count_ones};
 ghost use Rattle.rs_rank.specs.Masks.{mask_of};
 ghost use Rattle.rs_plan.specs.Numbers.{IsUpTo};
 ghost use Rattle.rs_plan.specs.Plans.{IsEntryNumber};
 ghost use Rattle.rs_enum.specs.Bounds.{IsNumberedTerm};
-ghost use Rattle.rs_enum.specs.Given.{CanSearch, block_of, cards_in, query_in};
-ghost use Rattle.rs_enum.specs.Places.{AreTheSides, IsTheFirst, IsTheOne, IsTheScan, cheaper, kept_at};
+ghost use Rattle.rs_enum.specs.Given.{CanSearch, block_of, cards_in, kept_in, query_in};
+ghost use Rattle.rs_enum.specs.Places.{AreTheSides, IsTheFirst, IsTheOne, IsTheScan, candidate_at, cheaper};
 ghost use Rattle.rs_enum.specs.Within.{terms_within};
 
 use crate::candidate::{Candidate, Choice, Sides};
 use crate::costs::{
-    call_cost, hashed, index_rows, nested, part_rows, rows_of, table_rows, with_calls,
+    call_cost, hash_cost, index_rows, nested_cost, rows_of, table_rows, with_calls,
 };
-use crate::kept::Kept;
 use crate::search::Search;
 use rs_plan::{Signature, can_hash};
 use rs_query::{Block, Term, block_in, is_inside};
 use rs_rank::{has_number, mask_of};
 
-/// What is kept of a signature, where the block has this many terms.
-pub(crate) fn kept_at(count: u8, places: &[Option<Kept>], of: Signature) -> Option<&Kept>
+/// What was found for a signature, where the block has this many terms.
+pub(crate) fn candidate_at(
+    count: u8,
+    places: &[Option<Candidate>],
+    of: Signature,
+) -> Option<Candidate>
     requires { count ≤ 8 }
-    ensures { option_map (λ kept. kept.now) result ≡ kept_at count places.now of.entries of.terms }
+    ensures { result ≡ candidate_at count places.now of.entries of.terms }
 {
     let place = place_of(count, of);
     match places.get(place) {
-        Some(kept) => kept.as_ref(),
+        Some(found) => *found,
         None => None,
     }
 }
@@ -58,7 +61,7 @@ pub(crate) fn terms_inside(block: &Block, entries: u8) -> u8
 }
 
 /// The cheaper one of two, and of equal ones the first.
-fn cheaper(best: Option<Candidate>, next: Option<Candidate>) -> Option<Candidate>
+pub(crate) fn cheaper(best: Option<Candidate>, next: Option<Candidate>) -> Option<Candidate>
     ensures { result ≡ cheaper best next }
 {
     match best {
@@ -109,7 +112,7 @@ impl Search<'_> {
         requires search { CanSearch self.now }
         requires terms { of.terms < 2 ^ length (block_of self.now).terms }
         requires term { IsNumberedTerm (block_of self.now) term }
-        ensures { IsTheOne self.now.planning.catalog.now (query_in self.now) (cards_in self.now) self.now.places.now of.entries of.terms (3 * 256 + term) result }
+        ensures { IsTheOne self.now.planning.catalog.now (query_in self.now) (cards_in self.now) (kept_in self.now) of.entries of.terms (3 * 256 + term) result }
     {
         let block = block_in(self.planning.query, self.number);
         let reads = term_at(block, term).entries;
@@ -123,8 +126,8 @@ impl Search<'_> {
             entries: of.entries,
             terms: of.terms ^ mask_of(term),
         };
-        let child = kept_at(block.terms.len() as u8, self.places, below)?;
-        let rows = part_rows(&self.planning, self.number, &child.plan);
+        let child = candidate_at(block.terms.len() as u8, self.places, below)?;
+        let rows = rows_of(self.planning.cards, self.number, below);
         let cost = with_calls(
             child.cost,
             rows,
@@ -141,7 +144,7 @@ impl Search<'_> {
     fn sides(&self, of: Signature, left: u8) -> Option<Sides>
         requires search { CanSearch self.now }
         requires terms { of.terms < 2 ^ length (block_of self.now).terms }
-        ensures { AreTheSides self.now.planning.catalog.now (query_in self.now) (cards_in self.now) self.now.places.now of.entries of.terms left result }
+        ensures { AreTheSides self.now.planning.catalog.now (query_in self.now) (cards_in self.now) (kept_in self.now) of.entries of.terms left result }
     {
         if left & of.entries != left {
             return None;
@@ -162,13 +165,13 @@ impl Search<'_> {
             entries: right,
             terms: right_terms,
         };
-        let left_kept = kept_at(count, self.places, left_of)?;
-        let right_kept = kept_at(count, self.places, right_of)?;
+        let left_found = candidate_at(count, self.places, left_of)?;
+        let right_found = candidate_at(count, self.places, right_of)?;
         Some(Sides {
-            left_cost: left_kept.cost,
-            right_cost: right_kept.cost,
-            left_rows: part_rows(&self.planning, self.number, &left_kept.plan),
-            right_rows: part_rows(&self.planning, self.number, &right_kept.plan),
+            left_cost: left_found.cost,
+            right_cost: right_found.cost,
+            left_rows: rows_of(self.planning.cards, self.number, left_of),
+            right_rows: rows_of(self.planning.cards, self.number, right_of),
         })
     }
 
@@ -176,7 +179,7 @@ impl Search<'_> {
     fn hash_join(&self, of: Signature, left: u8) -> Option<Candidate>
         requires search { CanSearch self.now }
         requires terms { of.terms < 2 ^ length (block_of self.now).terms }
-        ensures { IsTheOne self.now.planning.catalog.now (query_in self.now) (cards_in self.now) self.now.places.now of.entries of.terms (4 * 256 + left) result }
+        ensures { IsTheOne self.now.planning.catalog.now (query_in self.now) (cards_in self.now) (kept_in self.now) of.entries of.terms (4 * 256 + left) result }
     {
         let found = self.sides(of, left)?;
         if !can_hash(
@@ -187,7 +190,7 @@ impl Search<'_> {
             return None;
         }
         let rows = rows_of(self.planning.cards, self.number, of);
-        let cost = hashed(
+        let cost = hash_cost(
             found.left_cost,
             found.right_cost,
             found.left_rows,
@@ -204,11 +207,11 @@ impl Search<'_> {
     fn nested_join(&self, of: Signature, left: u8) -> Option<Candidate>
         requires search { CanSearch self.now }
         requires terms { of.terms < 2 ^ length (block_of self.now).terms }
-        ensures { IsTheOne self.now.planning.catalog.now (query_in self.now) (cards_in self.now) self.now.places.now of.entries of.terms (5 * 256 + left) result }
+        ensures { IsTheOne self.now.planning.catalog.now (query_in self.now) (cards_in self.now) (kept_in self.now) of.entries of.terms (5 * 256 + left) result }
     {
         let found = self.sides(of, left)?;
         let rows = rows_of(self.planning.cards, self.number, of);
-        let cost = nested(
+        let cost = nested_cost(
             found.left_cost,
             found.right_cost,
             found.left_rows,
@@ -248,7 +251,7 @@ impl Search<'_> {
     fn scan(&self, of: Signature) -> Option<Candidate>
         requires search { CanSearch self.now }
         requires terms { of.terms < 2 ^ length (block_of self.now).terms }
-        ensures { IsTheFirst self.now.planning.catalog.now (query_in self.now) (cards_in self.now) self.now.places.now of.entries of.terms (3 * 256) result }
+        ensures { IsTheFirst self.now.planning.catalog.now (query_in self.now) (cards_in self.now) (kept_in self.now) of.entries of.terms (3 * 256) result }
     {
         let block = block_in(self.planning.query, self.number);
         let entry = number_of(of.entries, block.from.len() as u8)?;
@@ -266,8 +269,8 @@ impl Search<'_> {
     fn with_ranks(&self, of: Signature, found: Option<Candidate>) -> Option<Candidate>
         requires search { CanSearch self.now }
         requires terms { of.terms < 2 ^ length (block_of self.now).terms }
-        requires found { IsTheFirst self.now.planning.catalog.now (query_in self.now) (cards_in self.now) self.now.places.now of.entries of.terms (3 * 256) found }
-        ensures { IsTheFirst self.now.planning.catalog.now (query_in self.now) (cards_in self.now) self.now.places.now of.entries of.terms (4 * 256 + 1) result }
+        requires found { IsTheFirst self.now.planning.catalog.now (query_in self.now) (cards_in self.now) (kept_in self.now) of.entries of.terms (3 * 256) found }
+        ensures { IsTheFirst self.now.planning.catalog.now (query_in self.now) (cards_in self.now) (kept_in self.now) of.entries of.terms (4 * 256 + 1) result }
     {
         let count = block_in(self.planning.query, self.number).terms.len() as u8;
         let mut best = found;
@@ -282,8 +285,8 @@ impl Search<'_> {
         requires search { CanSearch self.now }
         requires entries { of.entries < 2 ^ length (block_of self.now).from }
         requires terms { of.terms < 2 ^ length (block_of self.now).terms }
-        requires found { IsTheFirst self.now.planning.catalog.now (query_in self.now) (cards_in self.now) self.now.places.now of.entries of.terms (4 * 256 + 1) found }
-        ensures { IsTheFirst self.now.planning.catalog.now (query_in self.now) (cards_in self.now) self.now.places.now of.entries of.terms (5 * 256 + 1) result }
+        requires found { IsTheFirst self.now.planning.catalog.now (query_in self.now) (cards_in self.now) (kept_in self.now) of.entries of.terms (4 * 256 + 1) found }
+        ensures { IsTheFirst self.now.planning.catalog.now (query_in self.now) (cards_in self.now) (kept_in self.now) of.entries of.terms (5 * 256 + 1) result }
     {
         let mut best = found;
         for left in 1..of.entries {
@@ -297,8 +300,8 @@ impl Search<'_> {
         requires search { CanSearch self.now }
         requires entries { of.entries < 2 ^ length (block_of self.now).from }
         requires terms { of.terms < 2 ^ length (block_of self.now).terms }
-        requires found { IsTheFirst self.now.planning.catalog.now (query_in self.now) (cards_in self.now) self.now.places.now of.entries of.terms (5 * 256 + 1) found }
-        ensures { IsTheFirst self.now.planning.catalog.now (query_in self.now) (cards_in self.now) self.now.places.now of.entries of.terms (6 * 256) result }
+        requires found { IsTheFirst self.now.planning.catalog.now (query_in self.now) (cards_in self.now) (kept_in self.now) of.entries of.terms (5 * 256 + 1) found }
+        ensures { IsTheFirst self.now.planning.catalog.now (query_in self.now) (cards_in self.now) (kept_in self.now) of.entries of.terms (6 * 256) result }
     {
         let mut best = found;
         for left in 1..of.entries {
@@ -312,7 +315,7 @@ impl Search<'_> {
         requires search { CanSearch self.now }
         requires entries { of.entries < 2 ^ length (block_of self.now).from }
         requires terms { of.terms < 2 ^ length (block_of self.now).terms }
-        ensures { IsTheFirst self.now.planning.catalog.now (query_in self.now) (cards_in self.now) self.now.places.now of.entries of.terms (6 * 256) result }
+        ensures { IsTheFirst self.now.planning.catalog.now (query_in self.now) (cards_in self.now) (kept_in self.now) of.entries of.terms (6 * 256) result }
     {
         let scanned = self.scan(of);
         let ranked = self.with_ranks(of, scanned);

@@ -4,22 +4,25 @@
 //! plan is as defined; and cards that say the same give the same least plan and texts.
 #![tactic(auto)]
 
-mod bases;
+mod block_grid;
+mod build;
 mod candidate;
-mod copies;
 mod costs;
 mod extent;
+mod fill;
 mod find;
-mod kept;
+mod grid;
 mod laws;
-mod made;
+mod nodes;
 mod optimiser;
 mod planning;
+mod row;
 mod search;
 mod text;
 mod tops;
 
 pub use costs::cost;
+pub use grid::Grid;
 pub use laws::{
     cards_decide_the_plan, cards_decide_the_text, each_query_has_a_plan, plan_order_is_total,
     sampled_cards_are_those_of_the_query, there_is_one_least_plan,

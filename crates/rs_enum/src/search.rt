@@ -1,10 +1,10 @@
-use crate::kept::Kept;
+use crate::candidate::Candidate;
 use crate::planning::Planning;
 
-/// Where plans of a block are looked for: the block of this number, and what is kept of lesser signatures.
+/// Where plans of a block are looked for: the block of this number, and what was found for lesser signatures.
 #[derive(Clone, Copy)]
 pub(crate) struct Search<'a> {
     pub planning: Planning<'a>,
     pub number: u8,
-    pub places: &'a [Option<Kept>],
+    pub places: &'a [Option<Candidate>],
 }

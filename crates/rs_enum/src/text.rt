@@ -136,7 +136,7 @@ fn put_part_lines(
         line,
     )?;
     match plan {
-        Plan::Rank { term: _, child } => {
+        Plan::Rank { term: _, child } | Plan::Distinct { child } => {
             let child = &**child;
             put_part_lines(
                 alloc,
@@ -148,7 +148,7 @@ fn put_part_lines(
                 behind(1, counts),
             )
         }
-        Plan::HashJoin { left, right } => {
+        Plan::HashJoin { left, right } | Plan::NestedJoin { left, right } => {
             let left = &**left;
             let right = &**right;
             let right_counts = behind(1 + nodes_of(left), counts);
@@ -169,41 +169,6 @@ fn put_part_lines(
                 number,
                 right,
                 right_counts,
-            )
-        }
-        Plan::NestedJoin { left, right } => {
-            let left = &**left;
-            let right = &**right;
-            let right_counts = behind(1 + nodes_of(left), counts);
-            put_part_lines(
-                alloc,
-                text,
-                planning,
-                level + 1,
-                number,
-                left,
-                behind(1, counts),
-            )?;
-            put_part_lines(
-                alloc,
-                text,
-                planning,
-                level + 1,
-                number,
-                right,
-                right_counts,
-            )
-        }
-        Plan::Distinct { child } => {
-            let child = &**child;
-            put_part_lines(
-                alloc,
-                text,
-                planning,
-                level + 1,
-                number,
-                child,
-                behind(1, counts),
             )
         }
         Plan::SeqScan { entry: _ } => Ok(()),

@@ -7,10 +7,12 @@
 
 mod file;
 mod halt_fault;
-mod outside;
+mod host;
+mod objects;
 mod put;
 
 pub use file::fetch_file;
 pub use halt_fault::HaltFault;
-pub use outside::{Objects, Outside};
+pub use host::Host;
+pub use objects::Objects;
 pub use put::put_text;

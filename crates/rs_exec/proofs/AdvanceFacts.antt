@@ -21,7 +21,7 @@ use Rattle.rs_exec.specs.declared.fault.ExecFault.{ExecFault}
 use Rattle.rs_exec.specs.declared.fault.ExecFault.TheVariants.{Memory}
 use Rattle.rs_exec.specs.declared.node.PlanNode.{PlanNode}
 use Rattle.rs_exec.proofs.CursorFacts.{cursor-after, cursor-can, first-block, next-fault, next-given}
-use Rattle.rs_exec.proofs.JoinCycleFacts.{node-number}
+use Rattle.rs_exec.proofs.TurnFacts.{node-number}
 use Rattle.rs_exec.proofs.PlacesFacts.{can-put_out, plan-entries, plan-part, row-placed}
 
 module _ (catalogue : CatalogDef) (cursor : CursorState) (old : ScorerState) (stands : StandsFor catalogue old.answer cursor) where

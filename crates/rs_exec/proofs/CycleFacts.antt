@@ -1,6 +1,5 @@
 -- One ask of a scan, as a node of a plan: it puts no question, and gives the next row of its list.
-use Rattle.std.proofs.Common.{ℕ, suc, ◌≡◌, ◌∙◌, ◌+◌, ◌-◌, ◌≤◌, ◌<◌, true, max, min, List, [], Box, Global, length, refl, sym, ap, subst, arith}
-use Rattle.std.specs.Box.{with_value}
+use Rattle.std.proofs.Common.{ℕ, suc, ◌≡◌, ◌∙◌, ◌+◌, ◌≤◌, max, min, List, [], length, refl, sym, ap, subst, arith}
 use Rattle.std.specs.Prelude.{Option, Some, None, Result, Ok, Err, IsOk, if◌then◌else◌, is_some, option_and_then, option_map, slice_get, unwrap_or}
 use Rattle.std.proofs.lemmas.Option.{slice_get_within}
 use Rattle.rs_table.specs.Relation.{Relation}
@@ -13,36 +12,25 @@ use Rattle.rs_catalog.specs.declared.index.IndexDef.{IndexDef}
 use Rattle.rs_scan.specs.Scans.{rows_of_index, rows_of_table}
 use Rattle.rs_query.specs.Questions.{asking}
 use Rattle.rs_query.specs.declared.query.Query.{Query}
-use Rattle.rs_query.specs.declared.term.Term.{Term}
-use Rattle.rs_query.proofs.QuestionFacts.{AllAsked, AllAsked-none, Ended-behind, Gave-ok, Stopped-behind}
+use Rattle.rs_query.proofs.QuestionFacts.{AllAsked, AllAsked-none, Ended-behind, Stopped-behind}
 use Rattle.rs_plan.specs.Calls.{questions_of_ask}
-use Rattle.rs_order.specs.Schedule.{Left}
-use Rattle.rs_rank.specs.declared.ask.Ask.TheVariants.{Need}
-use Rattle.rs_mu.specs.Mu.{ask_of, left_for, taken_for}
-use Rattle.rs_plan.specs.Counts.{asked_of, gave_of}
+use Rattle.rs_plan.specs.Counts.{gave_of}
 use Rattle.rs_plan.specs.Lists.{World, list_of}
-use Rattle.rs_query.specs.Blocks.{block_in}
 use Rattle.rs_plan.specs.Trees.{Distinct, JoinOperator, Rank, RankScan, SeqScan, SetOperator, PlanTree}
-use Rattle.rs_exec.specs.Asked.{Asked, CanAsk, NodeAfter, RankAfter}
+use Rattle.rs_exec.specs.Asked.{Asked, CanAsk, NodeAfter}
 use Rattle.rs_exec.specs.Asking.{exec_faults, next_row, world_of}
 use Rattle.rs_exec.specs.Drawing.{ScansEntry, drawn_then, next_drawn, passes, tally_with}
-use Rattle.rs_exec.specs.Feeding.{CanTake, feeding}
-use Rattle.rs_exec.specs.Nodes.{asked_in, number_in, tree_in}
-use Rattle.rs_exec.specs.Standing.{HeadStands, Stands, index_node_after, table_node_after, tally_after}
+use Rattle.rs_exec.specs.Standing.{index_node_after, table_node_after, tally_after}
 use Rattle.rs_exec.specs.declared.fault.ExecFault.{ExecFault}
 use Rattle.rs_exec.specs.declared.fault.ExecFault.TheVariants.{Memory}
-use Rattle.rs_exec.specs.declared.node.PlanNode.{PlanNode}
 use Rattle.rs_exec.specs.declared.node.PlanNode.TheVariants as node
-use Rattle.rs_exec.specs.declared.node.PlanNode.TheViews as view
-use Rattle.rs_exec.specs.declared.rank.RankNode.{RankNode}
 use Rattle.rs_exec.specs.declared.scan.IndexNode.{IndexNode}
 use Rattle.rs_exec.specs.declared.scan.TableNode.{TableNode}
 use Rattle.rs_exec.specs.declared.tally.Tally.{Tally}
 use Rattle.rs_catalog.proofs.IndexForFacts.{index-for}
-use Rattle.rs_exec.proofs.PlacesFacts.{TermFor}
 use Rattle.rs_exec.proofs.ScanFacts.{index-next, index-then, table-next, table-then}
 use Rattle.rs_exec.proofs.StartFacts.{size-is}
-use Rattle.rs_exec.proofs.StepFacts.{Between, between-can, between-ended, between-fault, between-fed, between-less, between-over, between-own_fault, between-stands, between-take, between-there, few-entries, row-has, sizes-are, slice_get-none}
+use Rattle.rs_exec.proofs.BlockFacts.{few-entries, sizes-are, slice_get-none}
 
 -- how many nodes stand below one another
 abbrev pub height : PlanTree → ℕ
@@ -200,19 +188,6 @@ module _ (catalogue : CatalogDef) (answer : Answering) (query : Query) where
         still-gave w number tree a refl (NodeAfter w number tree a (node.RankScan new)) old same row is
         (subst (λ (n : IndexNode). NodeAfter w number tree a (node.RankScan n)) (sym whole) (record { number_is = refl; tree_is = refl; asked_is = refl; stands = refl }))
 
--- an operator and its input, held apart, as a node
-module _ (w : World) (self : PlanNode) (head after : RankNode) (box : Box PlanNode Global) (middle child : PlanNode) (result : Result (Option RankRow) ExecFault) (old new : ScorerState) where
-  pub rank-asked : self ≡ view.Rank head box → middle ≡ box.value
-      → Asked w (number_in middle) (Rank head.term (tree_in middle)) head.tally.asked (RankAfter w (number_in middle) (Rank head.term (tree_in middle)) head.tally.asked after child) result old new
-      → Asked w (number_in self) (tree_in self) (asked_in self) (NodeAfter w (number_in self) (tree_in self) (asked_in self) (view.Rank after (with_value box child))) result old new
-  rank-asked is value asked =
-      let held = subst (λ (n : PlanNode). Asked w (number_in n) (Rank head.term (tree_in n)) head.tally.asked (RankAfter w (number_in n) (Rank head.term (tree_in n)) head.tally.asked after child) result old new) value asked in
-      subst (λ (n : PlanNode). Asked w (number_in n) (tree_in n) (asked_in n) (NodeAfter w (number_in n) (tree_in n) (asked_in n) (view.Rank after (with_value box child))) result old new) (sym is)
-      (record {
-        inquires = held.inquires;
-        leaves = λ ok. let left = held.leaves ok in record { number_is = left.number_is; tree_is = left.tree_is; asked_is = left.asked_is; stands = (left.operator, left.input) };
-      })
-
 -- a fault ends the ask
 pub ask-failed : (w : World) (number : ℕ) (tree : PlanTree) (a : ℕ) (After : Type 0) (result : Result (Option RankRow) ExecFault) (fault : ExecFault) (old new : ScorerState) → result ≡ Err fault
     → Inquires Memory (next_row w number tree a) (Err fault) old new → Asked w number tree a After result old new
@@ -220,138 +195,3 @@ ask-failed w number tree a After result fault old new is inquires = record {
   inquires = subst (λ r. Inquires Memory (next_row w number tree a) r old new) (sym is) inquires;
   leaves = λ ok. absurd (fault-not result fault is ok);
 }
-
--- during ask a + 1 of an operator, between two asks of its input: the input is of this number and this tree, and stands, and the
--- operator stands between these asks
-pub record Turn (catalogue : CatalogDef) (query : Query) (number term : ℕ) (tree : PlanTree) (a : ℕ) (old : ScorerState) (head : RankNode) (child : PlanNode) (now : ScorerState) : Type 0 where
-  pub number_is : number_in child ≡ number
-  pub tree_is : tree_in child ≡ tree
-  pub stands : Stands (world_of catalogue old.answer query) (number_in child) child
-  pub between : Between (world_of catalogue old.answer query) number term tree a (asked_in child) head old now
-
-module _ {catalogue : CatalogDef} {query : Query} {number term : ℕ} {tree : PlanTree} {a : ℕ} {old : ScorerState} {head : RankNode} {child : PlanNode} {now : ScorerState}
-    (turn : Turn catalogue query number term tree a old head child now) (can : CanAsk (world_of catalogue old.answer query) number (Rank term tree) a) where
-  abbrev whole : World
-  whole = world_of catalogue old.answer query
-
-  -- the input is asked once more
-  module _ (need : ask_of head.core ≡ Need) where
-    pub input-can : CanAsk (world_of catalogue now.answer query) (number_in child) (tree_in child) (asked_in child)
-    input-can =
-        subst (λ n. CanAsk (world_of catalogue now.answer query) n (tree_in child) (asked_in child)) (sym turn.number_is)
-        (subst (λ t. CanAsk (world_of catalogue now.answer query) number t (asked_in child)) (sym turn.tree_is)
-        (between-can catalogue query number term tree a old can head (asked_in child) now turn.between need))
-
-    pub input-stands : Stands (world_of catalogue now.answer query) (number_in child) child
-    input-stands = subst (λ answer. Stands (world_of catalogue answer query) (number_in child) child) (sym turn.between.all_asked.keeps.answer) turn.stands
-
-    -- it is one of this number and this tree
-    same : (result : Result (Option RankRow) ExecFault) (asked : ScorerState) → Inquires Memory (next_row (world_of catalogue now.answer query) (number_in child) (tree_in child) (asked_in child)) result now asked
-        → Inquires Memory (next_row (world_of catalogue now.answer query) number tree (asked_in child)) result now asked
-    same result asked below =
-        subst (λ n. Inquires Memory (next_row (world_of catalogue now.answer query) n tree (asked_in child)) result now asked) turn.number_is
-        (subst (λ t. Inquires Memory (next_row (world_of catalogue now.answer query) (number_in child) t (asked_in child)) result now asked) turn.tree_is below)
-
-    pub input-failed : (After : Type 0) (fault : ExecFault) (result : Result (Option RankRow) ExecFault) (asked : ScorerState) → result ≡ Err fault
-        → Inquires Memory (next_row (world_of catalogue now.answer query) (number_in child) (tree_in child) (asked_in child)) (Err fault) now asked
-        → Asked (world_of catalogue old.answer query) number (Rank term tree) a After result old asked
-    input-failed After fault result asked is below =
-        ask-failed whole number (Rank term tree) a After result fault old asked is
-        (between-fault catalogue query number term tree a old can head (asked_in child) fault now asked turn.between need (same (Err fault) asked below))
-
-    module _ (next : PlanNode)
-        (after : NodeAfter (world_of catalogue now.answer query) (number_in child) (tree_in child) (asked_in child) next) where
-      -- fewer asks are left
-      pub next-nearer : asked_of (world_of catalogue old.answer query) number (Rank term tree) (suc a) Left - asked_in next < asked_of (world_of catalogue old.answer query) number (Rank term tree) (suc a) Left - asked_in child
-      next-nearer =
-          let less = between-less catalogue query number term tree a old can head (asked_in child) now turn.between need in
-          let is = after.asked_is in
-          omega arith
-
-      next-turn : (after_head : RankNode) (new : ScorerState) → Between (world_of catalogue old.answer query) number term tree a (suc (asked_in child)) after_head old new
-          → Turn catalogue query number term tree a old after_head next new
-      next-turn after_head new between = record {
-        number_is = after.number_is ∙ turn.number_is;
-        tree_is = after.tree_is ∙ turn.tree_is;
-        stands = subst (λ n. Stands whole n next) (sym after.number_is)
-            (subst (λ answer. Stands (world_of catalogue answer query) (number_in child) next) turn.between.all_asked.keeps.answer after.stands);
-        between = subst (λ asks. Between whole number term tree a asks after_head old new) (sym after.asked_is) between;
-      }
-
-    module _ (row : RankRow) (got : Option RankRow) (is_row : got ≡ Some row) (asked : ScorerState)
-        (answered : Inquires Memory (next_row (world_of catalogue now.answer query) (number_in child) (tree_in child) (asked_in child)) (Ok got) now asked) where
-      below : Inquires Memory (next_row (world_of catalogue now.answer query) (number_in child) (tree_in child) (asked_in child)) (Ok (Some row)) now asked
-      below = subst (λ (r : Option RankRow). Inquires Memory (next_row (world_of catalogue now.answer query) (number_in child) (tree_in child) (asked_in child)) (Ok r) now asked) is_row answered
-
-      there : slice_get (list_of whole number tree) (asked_in child) ≡ Some row
-      there = between-there catalogue query number term tree a old can head (asked_in child) now asked (Some row) turn.between (same (Ok (Some row)) asked below)
-
-      pub row-can : CanTake catalogue asked.answer query row head
-      row-can =
-          subst (λ answer. CanTake catalogue answer query row head) (sym below.keeps.answer)
-          (between-take catalogue query number term tree a old can head (asked_in child) now row turn.between need there)
-
-      -- the term of its block that has the operator's number
-      has : TermFor catalogue query term row.ids
-      has = row-has catalogue query number term tree a old can (asked_in child) row there
-
-      -- what taking the row did speaks of that term
-      own : (result : Result RankNode ExecFault) (new : ScorerState)
-          → ((t : Term) → slice_get (block_in query row.ids.block).terms (head.term - 1) ≡ Some t → Inquires Memory (feeding asked.answer catalogue query row t head) result asked new)
-          → Inquires Memory (feeding asked.answer catalogue query row has.term head) result asked new
-      own result new taking = taking has.term (ap (λ k. slice_get (block_in query row.ids.block).terms (k - 1)) turn.between.term_is ∙ has.there)
-
-      -- it was taken
-      pub row-kept : (taken : RankNode) (new : ScorerState) (next : PlanNode)
-          → ((t : Term) → slice_get (block_in query row.ids.block).terms (head.term - 1) ≡ Some t → Inquires Memory (feeding asked.answer catalogue query row t head) (Ok taken) asked new)
-          → NodeAfter (world_of catalogue now.answer query) (number_in child) (tree_in child) (asked_in child) next
-          → Turn catalogue query number term tree a old taken next new
-      row-kept taken new next taking after =
-          next-turn next after taken new
-          (between-fed catalogue query number term tree a old can head taken (asked_in child) now asked new row has.term has.there turn.between need (same (Ok (Some row)) asked below) (own (Ok taken) new taking))
-
-      pub row-failed : (After : Type 0) (fault : ExecFault) (result : Result (Option RankRow) ExecFault) (new : ScorerState) → result ≡ Err fault
-          → ((t : Term) → slice_get (block_in query row.ids.block).terms (head.term - 1) ≡ Some t → Inquires Memory (feeding asked.answer catalogue query row t head) (Err fault) asked new)
-          → Asked (world_of catalogue old.answer query) number (Rank term tree) a After result old new
-      row-failed After fault result new is taking =
-          ask-failed whole number (Rank term tree) a After result fault old new is
-          (between-own_fault catalogue query number term tree a old can head (asked_in child) fault now asked new row has.term has.there turn.between need (same (Ok (Some row)) asked below) (own (Err fault) new taking))
-
-    -- its end is told
-    pub end-kept : (got : Option RankRow) → got ≡ None → (asked : ScorerState) (ended : RankNode) (next : PlanNode) → ended ≡ record head { core = record head.core { ended = true } }
-        → Inquires Memory (next_row (world_of catalogue now.answer query) (number_in child) (tree_in child) (asked_in child)) (Ok got) now asked
-        → NodeAfter (world_of catalogue now.answer query) (number_in child) (tree_in child) (asked_in child) next
-        → Turn catalogue query number term tree a old ended next asked
-    end-kept got none asked ended next e below after =
-        next-turn next after ended asked
-        (subst (λ n. Between whole number term tree a (suc (asked_in child)) n old asked) (sym e)
-        (between-ended catalogue query number term tree a old can head (asked_in child) now asked turn.between need (same (Ok None) asked (subst (λ (r : Option RankRow). Inquires Memory (next_row (world_of catalogue now.answer query) (number_in child) (tree_in child) (asked_in child)) (Ok r) now asked) none below))).1)
-
-  -- the operator gives
-  pub given : (after : RankNode) (row : Option RankRow) → (ask_of head.core ≡ Need → ⊥)
-      → row ≡ taken_for (ask_of head.core) head.core
-      → after ≡ record head { core = left_for (ask_of head.core) head.core; tally = record head.tally { gave = if is_some row then head.tally.gave + 1 else head.tally.gave } }
-      → Asked (world_of catalogue old.answer query) number (Rank term tree) a (RankAfter (world_of catalogue old.answer query) number (Rank term tree) a after child) (Ok row) old now
-  given after row over is e =
-      let inquires = subst (λ r. Inquires Memory (next_row whole number (Rank term tree) a) (Ok r) old now) (sym is)
-      (between-over catalogue query number term tree a old can head (asked_in child) now turn.between over) in
-      let gave = Gave-ok exec_faults Memory old.answer catalogue {A = Option RankRow} (questions_of_ask whole number (Rank term tree) (suc a)) (slice_get (list_of whole number (Rank term tree)) a) row old now inquires in
-      let more = can.more in
-      let all : min a (length (list_of whole number (Rank term tree))) ≡ a = omega arith in
-      let count : after.tally.gave ≡ min (suc a) (length (list_of whole number (Rank term tree))) =
-      ap (λ (n : RankNode). n.tally.gave) e
-      ∙ ap (λ (n : ℕ). if is_some row then n + 1 else n) (turn.between.gave_is ∙ sym all)
-      ∙ ap (λ (r : Option RankRow). if is_some r then min a (length (list_of whole number (Rank term tree))) + 1 else min a (length (list_of whole number (Rank term tree)))) gave.is_value
-      ∙ tally-more (list_of whole number (Rank term tree)) a in
-      record {
-        inquires = inquires;
-        leaves = λ ok. record {
-          number_is = turn.number_is;
-          tree_is = ap (λ t. Rank t (tree_in child)) (ap (λ (n : RankNode). n.term) e ∙ turn.between.term_is) ∙ ap (Rank term) turn.tree_is;
-          asked_is = ap (λ (n : RankNode). n.tally.asked) e ∙ turn.between.asked_is;
-          operator = subst (λ t. HeadStands whole number after t (asked_in child)) (sym turn.tree_is)
-              (between-stands catalogue query number term tree a old can head after (asked_in child) now turn.between over
-              (ap (λ (n : RankNode). n.core) e) (ap (λ (n : RankNode). n.term) e) (ap (λ (n : RankNode). n.tally.asked) e) (ap (λ (n : RankNode). n.calls) e) count);
-          input = subst (λ n. Stands whole n child) turn.number_is turn.stands;
-        };
-      }

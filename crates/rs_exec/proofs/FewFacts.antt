@@ -12,10 +12,9 @@ use Rattle.rs_query.specs.Answers.{base_of, distinct_if, firsts, answer_row}
 use Rattle.rs_outputs.specs.Seen.{same_values}
 use Rattle.rs_query.specs.Combinations.{choices, combinations, numbers_to, satisfies}
 use Rattle.rs_query.specs.Tables.{all_entries, sizes_of}
-use Rattle.rs_plan.specs.Lists.{World, numbered_block, list_of, sizes_in, sources}
+use Rattle.rs_plan.specs.Lists.{World, numbered_block, sizes_in, sources}
 use Rattle.rs_plan.specs.Plans.{IsPart}
 use Rattle.rs_plan.specs.Trees.{Distinct, JoinOperator, Rank, RankScan, SeqScan, SetOperator, PlanTree, entries}
-use Rattle.rs_exec.proofs.ListFacts.{list-length}
 
 pub length-firsts : (rows : List Answer) → length (firsts rows) ≤ length rows
 length-firsts [] = omega arith
@@ -98,6 +97,3 @@ module _ (w : World) (number : ℕ) (sizes : sizes_in w number ≡ sizes_of w.ca
       let all = base-few in
       omega arith
   sources-few (SetOperator left right) part = absurd part
-
-  pub list-few : (tree : PlanTree) → IsPart w.catalogue (numbered_block w number) tree → length (list_of w number tree) ≤ 2 ^ 102
-  list-few tree part = let same = list-length w number tree in let all = sources-few tree part in omega arith

@@ -1,5 +1,4 @@
 mod AdvanceFacts
-mod AloneFacts
 mod AlikeFacts
 mod AnswerFacts
 mod FeedFacts
@@ -26,9 +25,11 @@ mod LimitFacts
 mod ListFacts
 mod MakingFacts
 mod NextFacts
+mod OperatorFacts
 mod PartFacts
 mod PartMaskFacts
 mod PlacesFacts
+mod RankCycleFacts
 mod RankFacts
 mod ScanFacts
 mod SetAskFacts
@@ -36,7 +37,6 @@ mod SetCoreFacts
 mod SetCycleFacts
 mod SetListFacts
 mod SetMoreFacts
-mod SetOpenFacts
 mod SetPlanFacts
 mod SetStartFacts
 mod SetStepFacts
@@ -46,5 +46,6 @@ mod StartFacts
 mod StepFacts
 mod SumFacts
 mod TableFacts
+mod TurnFacts
 mod WorkedAsks
 mod WorkedJoin

@@ -1,8 +1,8 @@
 -- No count of a plan's nodes passes its limit.
-use Rattle.std.proofs.Common.{ℕ, zero, suc, ◌+◌, ◌-◌, ◌^◌, ◌≤◌, List, [], ◌∷◌, ◌++◌, length, inr, refl, sym, subst, arith}
+use Rattle.std.proofs.Common.{ℕ, zero, suc, ◌+◌, ◌-◌, ◌^◌, ◌≤◌, List, [], ◌∷◌, ◌++◌, length, sym, subst, arith}
 use Rattle.std.specs.List.{AllByRecursion}
 use Rattle.std.specs.Prelude.{IfSome, slice_get, unwrap_or}
-use Rattle.rs_order.specs.Schedule.{Left, Right}
+use Rattle.rs_order.specs.Schedule.{JoinSide, Left, Right}
 use Rattle.rs_order.proofs.EachFacts.{each-append}
 use Rattle.rs_expr.specs.Scoring.{Answering}
 use Rattle.rs_catalog.specs.Catalog.{CatalogDef}
@@ -10,20 +10,18 @@ use Rattle.rs_query.specs.Blocks.{block_in}
 use Rattle.rs_query.specs.Tables.{sizes_of}
 use Rattle.rs_query.specs.WellFormed.{IsQuery}
 use Rattle.rs_query.specs.declared.query.Query.{Query}
-use Rattle.rs_query.specs.declared.query.Query.TheVariants.{One, Set}
 use Rattle.rs_plan.specs.Counts.{AreWithinLimits, asked_of, counts, counts_at, counts_of_plan, drawn_of, own_calls, size_at}
 use Rattle.rs_plan.specs.declared.counts.Counts.{Counts}
 use Rattle.rs_plan.specs.Lists.{World, list_of}
 use Rattle.rs_plan.specs.Trees.{Distinct, JoinOperator, Rank, RankScan, SeqScan, SetOperator, PlanTree}
-use Rattle.rs_plan.proofs.ChildAskFacts.{distinct_child-most, left_side-most, rank_child-most, right_side-most, set_left_side-most, set_right_side-most}
 use Rattle.rs_exec.specs.Asked.{HasBlock}
 use Rattle.rs_exec.specs.Asking.{world_of}
 use Rattle.rs_exec.specs.Cursors.{CursorState, StandsFor, asks_of, plan_of}
-use Rattle.rs_exec.specs.Indexes.{PlanIndexesHold}
 use Rattle.rs_exec.specs.Parts.{IsPartOf}
 use Rattle.rs_exec.proofs.BlockFacts.{block-formed, sizes-are}
 use Rattle.rs_exec.proofs.CursorFacts.{first-block}
-use Rattle.rs_exec.proofs.PlacesFacts.{list-few-of, part-of, plan-part}
+use Rattle.rs_exec.proofs.OperatorFacts.{IsHeldPart, child-held, child-most, child_on, number_on}
+use Rattle.rs_exec.proofs.PlacesFacts.{list-few-of, plan-part}
 use Rattle.rs_exec.proofs.ScanFacts.{index-drawn-most, table-drawn-most}
 
 -- what holds of each item holds of the one at a place, if there is one
@@ -38,21 +36,6 @@ few-at most [] place all = omega arith
 few-at most (size ∷ sizes) zero all = all.0
 few-at most (size ∷ sizes) (suc place) all = few-at most sizes place all.1
 
--- the sides of a set operator are parts of the plans of its blocks
-record AreParts (catalogue : CatalogDef) (query : Query) (left right : PlanTree) : Type 0 where
-  second : HasBlock query 2
-  left_part : IsPartOf catalogue query 1 left
-  right_part : IsPartOf catalogue query 2 right
-
-side-parts : (catalogue : CatalogDef) (query : Query) (number : ℕ) (left right : PlanTree) → IsPartOf catalogue query number (SetOperator left right)
-    → AreParts catalogue query left right
-side-parts catalogue (One block limit) number left right sides = absurd sides
-side-parts catalogue (Set op l r limit) number left right sides = record {
-  second = inr refl;
-  left_part = part-of catalogue (Set op l r limit) 1 left sides.1.part;
-  right_part = part-of catalogue (Set op l r limit) 2 right sides.2.part;
-}
-
 module _ (catalogue : CatalogDef) (answer : Answering) (query : Query) (formed : IsQuery catalogue query)
     (tables : (n : ℕ) → AllByRecursion (λ size. size ≤ 131072) (sizes_of catalogue (block_in query n))) where
   abbrev w : World
@@ -65,11 +48,14 @@ module _ (catalogue : CatalogDef) (answer : Answering) (query : Query) (formed :
   few-rows number entry has =
       few-at 131072 _ (entry - 1) (subst (AllByRecursion (λ size. size ≤ 131072)) (sym (sizes-are catalogue answer query number has)) (tables number))
 
+  abbrev Part : ℕ → PlanTree → Type 0
+  Part number tree = IsHeldPart catalogue answer query number tree
+
   -- a node's own counts: of its asks, its rows, the calls for its input's rows, and what it drew
-  own : (number : ℕ) (tree : PlanTree) (a : ℕ) → HasBlock query number → IsPartOf catalogue query number tree → a ≤ 2 ^ 103 + 1
+  own : (number : ℕ) (tree : PlanTree) (a : ℕ) → Part number tree → a ≤ 2 ^ 103 + 1
       → own_calls w number tree a ≤ 2 ^ 103 → drawn_of w number tree a ≤ 131072 → AreWithinLimits (counts_at w number tree a)
-  own number tree a has part asked calls drawn =
-      let all = few number tree has part in
+  own number tree a is asked calls drawn =
+      let all = few number tree is.number_is is.part in
       record { asked = asked; gave = omega arith; calls = calls; drawn = drawn }
 
   over-two : (first : Counts) (lefts rights : List Counts) → AreWithinLimits first → AllByRecursion AreWithinLimits lefts → AllByRecursion AreWithinLimits rights
@@ -77,54 +63,47 @@ module _ (catalogue : CatalogDef) (answer : Answering) (query : Query) (formed :
   over-two first lefts rights is left right = (is, each-append AreWithinLimits lefts rights left right)
 
   -- a child is asked at most once more than its list has rows
-  pub counts-limited : (number : ℕ) (tree : PlanTree) (a : ℕ) → HasBlock query number → IsPartOf catalogue query number tree → PlanIndexesHold answer catalogue tree
-      → a ≤ 2 ^ 103 + 1 → AllByRecursion AreWithinLimits (counts w number tree a)
-  counts-limited number (SeqScan entry) a has part holds asked =
+  child-few : (number : ℕ) (tree : PlanTree) (a : ℕ) (side : JoinSide) → Part number tree → asked_of w number tree a side ≤ 2 ^ 103 + 1
+  child-few number tree a side is =
+      let most = child-most w number tree a side in
+      let child = child-held catalogue answer query number tree side is in
+      let all = few (number_on number tree side) (child_on tree side) child.number_is child.part in
+      omega arith
+
+  pub counts-limited : (number : ℕ) (tree : PlanTree) (a : ℕ) → Part number tree → a ≤ 2 ^ 103 + 1 → AllByRecursion AreWithinLimits (counts w number tree a)
+  counts-limited number (SeqScan entry) a is asked =
       let block = block-formed catalogue query number formed in
-      let last = part.most in
+      let last = is.part.most in
       let entries = block.most_entries in
-      let drawn = table-drawn-most w number entry part.some (omega arith) (sizes-are catalogue answer query number has) a in
-      let rows = few-rows number entry has in
-      (own number (SeqScan entry) a has part asked (omega arith) (omega arith), tt)
-  counts-limited number (RankScan entry term index) a has part holds asked =
-      let drawn = index-drawn-most w number entry term index formed part holds (sizes-are catalogue answer query number has) a in
-      let rows = few-rows number entry has in
-      (own number (RankScan entry term index) a has part asked (omega arith) (omega arith), tt)
-  counts-limited number (Rank term child) a has part holds asked =
-      let most = rank_child-most w number term child a in
-      let all = few number child has part.0 in (
-        own number (Rank term child) a has part asked (omega arith) (omega arith),
-        counts-limited number child (asked_of w number (Rank term child) a Left) has part.0 holds (omega arith),
+      let drawn = table-drawn-most w number entry is.part.some (omega arith) (sizes-are catalogue answer query number is.number_is) a in
+      let rows = few-rows number entry is.number_is in
+      (own number (SeqScan entry) a is asked (omega arith) (omega arith), tt)
+  counts-limited number (RankScan entry term index) a is asked =
+      let drawn = index-drawn-most w number entry term index formed is.part is.indexes (sizes-are catalogue answer query number is.number_is) a in
+      let rows = few-rows number entry is.number_is in
+      (own number (RankScan entry term index) a is asked (omega arith) (omega arith), tt)
+  counts-limited number (Rank term child) a is asked =
+      let input = child-held catalogue answer query number (Rank term child) Left is in
+      let all = few number child input.number_is input.part in (
+        own number (Rank term child) a is asked (omega arith) (omega arith),
+        counts-limited number child (asked_of w number (Rank term child) a Left) input (child-few number (Rank term child) a Left is),
       )
-  counts-limited number (Distinct child) a has part holds asked =
-      let child_part = part-of catalogue query number child part.0 in
-      let most = distinct_child-most w number child a in
-      let all = few number child has child_part in (
-        own number (Distinct child) a has part asked (omega arith) (omega arith),
-        counts-limited number child (asked_of w number (Distinct child) a Left) has child_part holds (omega arith),
-      )
-  counts-limited number (JoinOperator kind left right) a has part holds asked =
-      let left_part = part-of catalogue query number left part.0 in
-      let right_part = part-of catalogue query number right part.1 in
-      let left_most = left_side-most w number kind left right a in
-      let right_most = right_side-most w number kind left right a in
-      let lefts = few number left has left_part in
-      let rights = few number right has right_part in
-      over-two (counts_at w number (JoinOperator kind left right) a) (counts w number left (asked_of w number (JoinOperator kind left right) a Left)) (counts w number right (asked_of w number (JoinOperator kind left right) a Right))
-      (own number (JoinOperator kind left right) a has part asked (omega arith) (omega arith))
-      (counts-limited number left (asked_of w number (JoinOperator kind left right) a Left) has left_part holds.0 (omega arith))
-      (counts-limited number right (asked_of w number (JoinOperator kind left right) a Right) has right_part holds.1 (omega arith))
-  counts-limited number (SetOperator left right) a has part holds asked =
-      let parts = side-parts catalogue query number left right part in
-      let one = first-block query in
-      let left_most = set_left_side-most w number left right a in
-      let right_most = set_right_side-most w number left right a in
-      let lefts = few 1 left one parts.left_part in
-      let rights = few 2 right parts.second parts.right_part in
-      over-two (counts_at w number (SetOperator left right) a) (counts w 1 left (asked_of w number (SetOperator left right) a Left)) (counts w 2 right (asked_of w number (SetOperator left right) a Right))
-      (own number (SetOperator left right) a has part asked (omega arith) (omega arith))
-      (counts-limited 1 left (asked_of w number (SetOperator left right) a Left) one parts.left_part holds.0 (omega arith))
-      (counts-limited 2 right (asked_of w number (SetOperator left right) a Right) parts.second parts.right_part holds.1 (omega arith))
+  counts-limited number (Distinct child) a is asked = (
+    own number (Distinct child) a is asked (omega arith) (omega arith),
+    counts-limited number child (asked_of w number (Distinct child) a Left) (child-held catalogue answer query number (Distinct child) Left is) (child-few number (Distinct child) a Left is),
+  )
+  counts-limited number (JoinOperator kind left right) a is asked =
+      let tree = JoinOperator kind left right in
+      over-two (counts_at w number tree a) (counts w number left (asked_of w number tree a Left)) (counts w number right (asked_of w number tree a Right))
+      (own number tree a is asked (omega arith) (omega arith))
+      (counts-limited number left (asked_of w number tree a Left) (child-held catalogue answer query number tree Left is) (child-few number tree a Left is))
+      (counts-limited number right (asked_of w number tree a Right) (child-held catalogue answer query number tree Right is) (child-few number tree a Right is))
+  counts-limited number (SetOperator left right) a is asked =
+      let tree = SetOperator left right in
+      over-two (counts_at w number tree a) (counts w 1 left (asked_of w number tree a Left)) (counts w 2 right (asked_of w number tree a Right))
+      (own number tree a is asked (omega arith) (omega arith))
+      (counts-limited 1 left (asked_of w number tree a Left) (child-held catalogue answer query number tree Left is) (child-few number tree a Left is))
+      (counts-limited 2 right (asked_of w number tree a Right) (child-held catalogue answer query number tree Right is) (child-few number tree a Right is))
 
 -- so are those of a cursor that stands: it asked its plan at most once more than the plan's list has rows
 pub cursor-limited : (catalogue : CatalogDef) (answer : Answering) (cursor : CursorState) → StandsFor catalogue answer cursor
@@ -134,4 +113,4 @@ cursor-limited catalogue answer cursor stands =
     let one = first-block cursor.query in
     let all = list-few-of catalogue answer cursor.query 1 (plan_of cursor) one stands.tables part in
     let asks = stands.asks in
-    counts-limited catalogue answer cursor.query stands.query stands.tables 1 (plan_of cursor) (asks_of cursor) one part stands.indexes (omega arith)
+    counts-limited catalogue answer cursor.query stands.query stands.tables 1 (plan_of cursor) (asks_of cursor) (record { number_is = one; part = part; indexes = stands.indexes }) (omega arith)

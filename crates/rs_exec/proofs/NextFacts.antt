@@ -271,9 +271,6 @@ module _ (catalogue : CatalogDef) (old loop : IndexNode) (is : loop ≡ index_as
             record { number = e.row; sum = old.scan.weight * e.score; some = omega arith; most = leb-true e.row old.scan.rows seen_is.1; row_is = own }
 
   -- a draw goes to the next row, and at the end stays there
-  index-size : loop.scan.rows ≡ old.scan.rows
-  index-size = ap (λ (node : IndexNode). node.scan.rows) is
-
   pub index-drew : (scan : IndexScan) → loop.scan.drawn ≤ loop.scan.rows → (loop.scan.drawn ≡ loop.scan.rows → ⊥)
       → scan ≡ record loop.scan { drawn = min (loop.scan.drawn + 1) loop.scan.rows } → scan ≡ record loop.scan { drawn = loop.scan.drawn + 1 }
   index-drew scan most more after =

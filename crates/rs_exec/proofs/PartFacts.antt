@@ -1,5 +1,5 @@
 -- The questions of one ask go on where those of the asks before it end.
-use Rattle.std.proofs.Common.{◌≡◌, ◌∙◌, ℕ, zero, suc, ◌+◌, ◌-◌, List, [], ◌∷◌, ◌++◌, length, map, take, drop, refl, sym, ap, ap₂, arith}
+use Rattle.std.proofs.Common.{◌≡◌, ◌∙◌, ℕ, zero, suc, ◌+◌, ◌-◌, List, [], ◌∷◌, ◌++◌, ◌≤◌, length, map, drop, refl, sym, ap, arith}
 use Rattle.std.proofs.lemmas.Grind.{flat_map-append}
 use Rattle.std.proofs.lemmas.List.{append-nil, map-append}
 use Rattle.std.specs.List.{flat_map}
@@ -9,90 +9,82 @@ use Rattle.rs_expr.specs.declared.scorer.Call.{Call}
 use Rattle.rs_query.specs.Questions.{Question, call_for}
 use Rattle.rs_query.specs.Tables.{sizes_of}
 use Rattle.rs_query.specs.WellFormed.{IsQuery}
-use Rattle.rs_plan.specs.Calls.{calls_of_plan, part_of, part_of_plan, questions, questions_of_ask, rank_part, side_part}
+use Rattle.rs_plan.specs.Asks.{child_asks}
+use Rattle.rs_plan.specs.Calls.{calls_of_plan, part_of_plan, questions, questions_of_ask}
 use Rattle.rs_plan.specs.Counts.{asked_of}
 use Rattle.rs_plan.specs.Lists.{World, numbered_block, list_of, sizes_in, weights_in}
-use Rattle.rs_plan.specs.Plans.{IsPart, IsPlan}
+use Rattle.rs_plan.specs.Plans.{IsPlan}
 use Rattle.rs_plan.specs.Trees.{Distinct, JoinKind, JoinOperator, Rank, RankScan, SeqScan, SetOperator, PlanTree}
 use Rattle.rs_filter.specs.Matching.{IsView}
-use Rattle.rs_ripple.specs.Stands.{BeginsWith, schedule_of}
+use Rattle.rs_ripple.specs.Stands.{schedule_of}
 use Rattle.rs_ripple.proofs.ScheduleFacts.{schedule_of-more}
 use Rattle.rs_exec.specs.Joining.{join_for}
 use Rattle.rs_exec.specs.OutputValues.{outputs_in}
 use Rattle.rs_exec.specs.Parts.{IsPartOf}
 use Rattle.rs_exec.specs.SetNodes.{operator_of, sides_for}
-use Rattle.rs_setop.specs.Sides as setop
-use Rattle.rs_exec.proofs.AloneFacts.{between, between-behind}
 use Rattle.rs_exec.proofs.DistinctStepFacts.{distinct-child_asks, distinct-grows}
 use Rattle.rs_exec.proofs.JoinListFacts.{CanJoinParts, join-sides}
 use Rattle.rs_exec.proofs.JoinStepFacts.{join-schedule}
+use Rattle.rs_exec.proofs.OperatorFacts.{puts_of, questions-are}
 use Rattle.rs_exec.proofs.PlacesFacts.{plan-part}
-use Rattle.rs_exec.proofs.SetMoreFacts.{schedule_of-goes_on}
+use Rattle.rs_exec.proofs.SetMoreFacts.{GoesOn, begun-split, schedule_of-goes_on}
 use Rattle.rs_exec.proofs.SetStepFacts.{set-facts}
-use Rattle.rs_exec.proofs.RankFacts.{asks-more, asks_from-split, drop-front, rank-questions}
+use Rattle.rs_exec.proofs.RankFacts.{asks-more, asks_from-split, drop-front, rank-child_asks}
 
 -- what is a list and others behind it is that list and what is left without it
 behind-front : {A : Type 0} (xs ys zs : List A) → ys ≡ xs ++ zs → ys ≡ xs ++ drop (length xs) ys
 behind-front xs ys zs is = is ∙ ap (λ rest. xs ++ rest) (sym (ap (drop (length xs)) is ∙ drop-front xs zs))
 
--- a list that begins with another one is that one and the rest
-begun : {A : Type 0} (xs front : List A) → BeginsWith xs front → xs ≡ front ++ drop (length front) xs
-begun xs [] begins = refl
-begun [] (f ∷ front) begins = absurd (cc)
-begun (x ∷ xs) (f ∷ front) begins =
-    let first : f ≡ x = cc in
-    let rest : front ≡ take (length front) xs = cc in
-    ap₂ (λ z zs. z ∷ zs) (sym first) (begun xs front rest)
-
--- of a join, whichever way it is done
-join-grows : (w : World) (number : ℕ) (kind : JoinKind) (left right : PlanTree) (a : ℕ) → IsQuery w.catalogue w.query → IsView (sizes_in w number) (sizes_of w.catalogue (numbered_block w number))
-    → IsPart w.catalogue (numbered_block w number) (JoinOperator kind left right) → IsWeights (weights_in w)
-    → questions w number (JoinOperator kind left right) (suc a) ≡ questions w number (JoinOperator kind left right) a ++ questions_of_ask w number (JoinOperator kind left right) (suc a)
-join-grows w number kind left right a formed view part weights =
-    let parts : CanJoinParts w number left right = record { formed = formed; weights = weights; view = view; left_part = part.0; right_part = part.1; joined = part.2 } in
+-- the asks of an operator for one answer more go on where those for the answers before end
+join-goes_on : (w : World) (number : ℕ) (kind : JoinKind) (left right : PlanTree) (a : ℕ) → CanJoinParts w number left right
+    → GoesOn (child_asks w number (JoinOperator kind left right) a) (child_asks w number (JoinOperator kind left right) (suc a))
+join-goes_on w number kind left right a parts =
     let j = join_for w number left right in
     let before = schedule_of j (list_of w number left) (list_of w number right) a in
     let after = schedule_of j (list_of w number left) (list_of w number right) (suc a) in
-    let step = side_part (questions w number left) (questions w number right) in
-    behind-front (questions w number (JoinOperator kind left right) a) (questions w number (JoinOperator kind left right) (suc a)) (flat_map step (drop (length before) after))
-    (ap (flat_map step) (join-schedule w number kind left right parts (suc a)
-    ∙ begun after before (schedule_of-more j (list_of w number left) (list_of w number right) (join-sides w number left right parts) a))
-    ∙ flat_map-append step before (drop (length before) after)
-    ∙ ap (λ (asks : List SideAsk). flat_map step asks ++ flat_map step (drop (length before) after)) (sym (join-schedule w number kind left right parts a)))
+    let split = begun-split after before (schedule_of-more j (list_of w number left) (list_of w number right) (join-sides w number left right parts) a) in
+    record {
+      more = drop (length before) after;
+      split = join-schedule w number kind left right parts (suc a) ∙ split
+          ∙ ap (λ (front : List SideAsk). front ++ drop (length before) after) (sym (join-schedule w number kind left right parts a));
+    }
 
+-- those of an only child
+alone-goes_on : (before after : List SideAsk) (first last : ℕ) → first ≤ last → before ≡ asks_from Left 1 first → after ≡ asks_from Left 1 last → GoesOn before after
+alone-goes_on before after first last le is_before is_after = record {
+  more = asks_from Left (1 + first) (last - first);
+  split = is_after ∙ asks_from-split Left 1 first (last - first) last (omega arith) ∙ ap (λ (front : List SideAsk). front ++ asks_from Left (1 + first) (last - first)) (sym is_before);
+}
+
+pub asks-go_on : (w : World) (number : ℕ) (tree : PlanTree) (a : ℕ) → IsQuery w.catalogue w.query → IsView (sizes_in w number) (sizes_of w.catalogue (numbered_block w number))
+    → IsPartOf w.catalogue w.query number tree → IsWeights (weights_in w) → GoesOn (child_asks w number tree a) (child_asks w number tree (suc a))
+asks-go_on w number (SeqScan entry) zero formed view part weights = record { more = []; split = refl }
+asks-go_on w number (SeqScan entry) (suc n) formed view part weights = record { more = []; split = refl }
+asks-go_on w number (RankScan entry term index) zero formed view part weights = record { more = []; split = refl }
+asks-go_on w number (RankScan entry term index) (suc n) formed view part weights = record { more = []; split = refl }
+asks-go_on w number (Rank term child) a formed view part weights =
+    alone-goes_on (child_asks w number (Rank term child) a) (child_asks w number (Rank term child) (suc a)) (asked_of w number (Rank term child) a Left) (asked_of w number (Rank term child) (suc a) Left)
+    (asks-more w number term child formed part weights a (suc a) (omega arith)) (rank-child_asks w number term child a) (rank-child_asks w number term child (suc a))
+asks-go_on w number (JoinOperator kind left right) a formed view part weights =
+    join-goes_on w number kind left right a (record { formed = formed; weights = weights; view = view; left_part = part.0; right_part = part.1; joined = part.2 })
+asks-go_on w number (Distinct child) a formed view part weights =
+    alone-goes_on (child_asks w number (Distinct child) a) (child_asks w number (Distinct child) (suc a)) (asked_of w number (Distinct child) a Left) (asked_of w number (Distinct child) (suc a) Left)
+    (distinct-grows w number child formed part weights a) (distinct-child_asks w number child a) (distinct-child_asks w number child (suc a))
+asks-go_on w number (SetOperator left right) a formed view part weights =
+    let facts = set-facts w.catalogue w.answer w.view w.query number left right formed weights part in
+    let on = schedule_of-goes_on (sides_for w left) (operator_of w.query) (outputs_in w 1 left) (outputs_in w 2 right) facts.sides a in
+    record { more = on.more; split = facts.asks (suc a) ∙ on.split ∙ ap (λ (front : List SideAsk). front ++ on.more) (sym (facts.asks a)) }
+
+-- so do their questions
 pub grows : (w : World) (number : ℕ) (tree : PlanTree) (a : ℕ) → IsQuery w.catalogue w.query → IsView (sizes_in w number) (sizes_of w.catalogue (numbered_block w number))
     → IsPartOf w.catalogue w.query number tree → IsWeights (weights_in w)
     → questions w number tree (suc a) ≡ questions w number tree a ++ questions_of_ask w number tree (suc a)
-grows w number (SeqScan entry) a formed view part weights = refl
-grows w number (RankScan entry term index) a formed view part weights = refl
-grows w number (Rank term child) a formed view part weights =
-    let first = asked_of w number (Rank term child) a Left in
-    let last = asked_of w number (Rank term child) (suc a) Left in
-    let le = asks-more w number term child formed part weights a (suc a) (omega arith) in
-    let step = rank_part w term (list_of w number child) (questions w number child) in
-    behind-front (questions w number (Rank term child) a) (questions w number (Rank term child) (suc a)) (flat_map step (asks_from Left (1 + first) (last - first)))
-    (rank-questions w number term child (suc a)
-    ∙ ap (flat_map step) (asks_from-split Left 1 first (last - first) last (omega arith))
-    ∙ flat_map-append step (asks_from Left 1 first) (asks_from Left (1 + first) (last - first))
-    ∙ ap (λ (qs : List Question). qs ++ flat_map step (asks_from Left (1 + first) (last - first))) (sym (rank-questions w number term child a)))
-grows w number (JoinOperator kind left right) a formed view part weights = join-grows w number kind left right a formed view part weights
-grows w number (Distinct child) a formed view part weights =
-    let first = asked_of w number (Distinct child) a Left in
-    let last = asked_of w number (Distinct child) (suc a) Left in
-    let step : SideAsk → List Question = λ ask. part_of (questions w number child) ask.number in
-    behind-front (questions w number (Distinct child) a) (questions w number (Distinct child) (suc a)) (between step first last)
-    (ap (flat_map step) (distinct-child_asks w number child (suc a))
-    ∙ between-behind step first last (distinct-grows w number child formed part weights a)
-    ∙ ap (λ (asks : List SideAsk). flat_map step asks ++ between step first last) (sym (distinct-child_asks w number child a)))
-grows w number (SetOperator left right) a formed view part weights =
-    let facts = set-facts w.catalogue w.answer w.view w.query number left right formed weights part in
-    let s = sides_for w left in
-    let on = schedule_of-goes_on s (operator_of w.query) (outputs_in w 1 left) (outputs_in w 2 right) facts.sides a in
-    let step = side_part (questions w 1 left) (questions w 2 right) in
-    behind-front (questions w number (SetOperator left right) a) (questions w number (SetOperator left right) (suc a)) (flat_map step on.more)
-    (ap (flat_map step) (facts.asks (suc a) ∙ on.split)
-    ∙ flat_map-append step (setop.schedule_of s (operator_of w.query) (outputs_in w 1 left) (outputs_in w 2 right) a) on.more
-    ∙ ap (λ (asks : List SideAsk). flat_map step asks ++ flat_map step on.more) (sym (facts.asks a)))
+grows w number tree a formed view part weights =
+    let on = asks-go_on w number tree a formed view part weights in
+    let puts = puts_of w number tree in
+    behind-front (questions w number tree a) (questions w number tree (suc a)) (flat_map puts on.more)
+    (questions-are w number tree (suc a) ∙ ap (flat_map puts) on.split ∙ flat_map-append puts (child_asks w number tree a) on.more
+    ∙ ap (λ (qs : List Question). qs ++ flat_map puts on.more) (sym (questions-are w number tree a)))
 
 -- the numbers up to the next one
 pub numbers-next : (first n : ℕ) → numbers_from first (suc n) ≡ numbers_from first n ++ (first + n) ∷ []

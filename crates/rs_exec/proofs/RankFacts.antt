@@ -1,9 +1,8 @@
 -- A rank operator over its input: its list is the answers of its core, and its asks are the core's.
 use Rattle.std.proofs.Common.{◌≡◌, ◌∙◌, ℕ, zero, suc, ◌+◌, ◌-◌, ◌≤◌, Bool, true, false, cond, eqb, List, [], ◌∷◌, ◌++◌, length, map, drop, get_or, bit_or, refl, sym, ap, arith}
-use Rattle.std.proofs.lemmas.Grind.{flat_map-append}
 use Rattle.std.proofs.lemmas.List.{length-map}
 use Rattle.std.proofs.lemmas.Option.{slice_get_within}
-use Rattle.std.specs.List.{AllByRecursion, filter, flat_map}
+use Rattle.std.specs.List.{AllByRecursion, filter}
 use Rattle.rs_order.specs.Asks.{asks_for, comes_before_bar, bar_after}
 use Rattle.rs_order.specs.Schedule.{JoinSide, Left, SideAsk, asks_from, is_of_side}
 use Rattle.rs_order.specs.Sorting.{sorted}
@@ -23,12 +22,10 @@ use Rattle.rs_mu.specs.Stands.{Evaluation, IsInput, answers, asks_of, new_key, o
 use Rattle.rs_mu.proofs.StandFacts.{asks-grow, row_key}
 use Rattle.rs_catalog.specs.Catalog.{CatalogDef}
 use Rattle.rs_query.specs.Answers.{worth_of}
-use Rattle.rs_query.specs.Questions.{Question}
 use Rattle.rs_query.specs.WellFormed.{IsQuery}
 use Rattle.rs_query.specs.declared.query.Query.{Query}
 use Rattle.rs_query.specs.declared.query.Query.TheVariants.{One, Set}
-use Rattle.rs_plan.specs.Asks.{bar_of, keys_of}
-use Rattle.rs_plan.specs.Calls.{questions, questions_of_ask, rank_part}
+use Rattle.rs_plan.specs.Asks.{bar_of, child_asks, keys_of}
 use Rattle.rs_plan.specs.Counts.{asked_of}
 use Rattle.rs_plan.specs.Lists.{World, numbered_block, key_under, list_of, row_under, sources, weights_in, worths}
 use Rattle.rs_query.specs.Blocks.{block_in}
@@ -78,28 +75,11 @@ module _ (w : World) (number term : ℕ) (child : PlanTree) where
   abbrev e : Evaluation
   e = evaluation_for w term child
 
-  abbrev step : SideAsk → List Question
-  step = rank_part w term (list_of w number child) (questions w number child)
-
-  -- all questions are those of the asks of the input, one after another
-  pub rank-questions : (a : ℕ)
-      → questions w number (Rank term child) a
-      ≡ flat_map (rank_part w term (list_of w number child) (questions w number child)) (asks_from Left 1 (asked_of w number (Rank term child) a Left))
-  rank-questions zero = refl
-  rank-questions (suc n) =
-      ap (λ count. flat_map (rank_part w term (list_of w number child) (questions w number child)) (asks_from Left 1 count))
-      (sym (left-asks 1 (asks_for key_cmp (λ (key : Key). key) (keys_of w number child) (bar_of w number (Rank term child) n))))
-
-  -- the asks that one ask more takes in addition
-  abbrev pub asks_between : ℕ → ℕ → List SideAsk
-  asks_between first last = asks_from Left (suc first) (last - first)
-
-  -- one ask more stands behind the others
-  pub asks_between-more : (first last : ℕ) → first ≤ last → asks_between first (suc last) ≡ asks_between first last ++ record { side = Left; number = suc last } ∷ []
-  asks_between-more first last le =
-      let place : suc first + (last - first) ≡ suc last = omega arith in
-      asks_from-split Left (suc first) (last - first) 1 (suc last - first) (omega arith)
-      ∙ ap (λ k. asks_between first last ++ record { side = Left; number = k } ∷ []) place
+  -- its asks are those of an only child
+  pub rank-child_asks : (a : ℕ) → child_asks w number (Rank term child) a ≡ asks_from Left 1 (asked_of w number (Rank term child) a Left)
+  rank-child_asks zero = refl
+  rank-child_asks (suc n) =
+      ap (asks_from Left 1) (sym (left-asks 1 (asks_for key_cmp (λ (key : Key). key) (keys_of w number child) (bar_of w number (Rank term child) n))))
 
   module _ (formed : IsQuery w.catalogue w.query) (part : IsPartOf w.catalogue w.query number (Rank term child)) (weights : IsWeights (weights_in w)) where
     new-term : IsNewTerm (terms child) term
@@ -173,22 +153,3 @@ module _ (w : World) (number term : ℕ) (child : PlanTree) where
         let more = rank-asks b in
         let grow = asks-grow e (list_of w number child) rank-input a b le in
         omega arith
-
-    -- the questions of one ask are those of the asks of the input that it takes in addition
-    pub rank-questions_of_ask : (a : ℕ)
-        → questions_of_ask w number (Rank term child) (suc a)
-        ≡ flat_map (rank_part w term (list_of w number child) (questions w number child))
-        (asks_between (asked_of w number (Rank term child) a Left) (asked_of w number (Rank term child) (suc a) Left))
-    rank-questions_of_ask a = part_at (asked_of w number (Rank term child) a Left) (asked_of w number (Rank term child) (suc a) Left)
-        (asks-more a (suc a) (omega arith)) (rank-questions a) (rank-questions (suc a)) where
-          part_at : (first last : ℕ) → first ≤ last → questions w number (Rank term child) a ≡ flat_map step (asks_from Left 1 first)
-              → questions w number (Rank term child) (suc a) ≡ flat_map step (asks_from Left 1 last)
-              → drop (length (questions w number (Rank term child) a)) (questions w number (Rank term child) (suc a)) ≡ flat_map step (asks_between first last)
-          part_at first last le before after =
-              let place : 1 + first ≡ suc first = omega arith in
-              ap (λ (qs : List Question). drop (length qs) (questions w number (Rank term child) (suc a))) before
-              ∙ ap (drop (length (flat_map step (asks_from Left 1 first))))
-              (after ∙ ap (flat_map step) (asks_from-split Left 1 first (last - first) last (omega arith))
-              ∙ flat_map-append step (asks_from Left 1 first) (asks_from Left (1 + first) (last - first)))
-              ∙ drop-front (flat_map step (asks_from Left 1 first)) (flat_map step (asks_from Left (1 + first) (last - first)))
-              ∙ ap (λ k. flat_map step (asks_from Left k (last - first))) place

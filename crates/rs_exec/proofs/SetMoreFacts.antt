@@ -21,7 +21,8 @@ pub record GoesOn {X : Type 0} (short long : List X) : Type 0 where
   pub more : List X
   pub split : long ≡ short ++ more
 
-begun-split : {X : Type 0} (long short : List X) → short ≡ take (length short) long → long ≡ short ++ drop (length short) long
+-- a list that begins with another one is that one and the rest
+pub begun-split : {X : Type 0} (long short : List X) → short ≡ take (length short) long → long ≡ short ++ drop (length short) long
 begun-split long [] begins = refl
 begun-split [] (f ∷ short) begins = absurd (cc)
 begun-split (x ∷ long) (f ∷ short) begins =

@@ -5,8 +5,3 @@ use Rattle.rs_order.specs.Schedule.{JoinSide, Left, Right}
 abbrev pub of_side : {A : Type 0} → A → A → JoinSide → A
 of_side left right Left = left
 of_side left right Right = right
-
--- the other side
-abbrev pub other_side : JoinSide → JoinSide
-other_side Left = Right
-other_side Right = Left

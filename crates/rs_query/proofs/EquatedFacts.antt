@@ -18,6 +18,10 @@ use Rattle.rs_value.specs.declared.kind.Kind.TheVariants as kind
 use Rattle.rs_value.specs.declared.rel.Rel.TheVariants.{Eq}
 use Rattle.rs_value.specs.declared.value.Value.{Value}
 use Rattle.rs_value.specs.declared.value.Value.TheVariants as value
+use Rattle.rs_table.specs.Lent.{shown}
+use Rattle.rs_table.specs.contracts.cell.CellPartialEq.TheImpl as cells
+use Rattle.rs_table.specs.declared.cell.Cell.{Cell}
+use Rattle.rs_table.specs.declared.cell.Cell.TheVariants as cell
 use Rattle.rs_expr.specs.Formulas.{Argument, Condition, Numbers, Texts}
 use Rattle.rs_expr.specs.Meaning.{argument_number, argument_text, holds}
 use Rattle.rs_expr.specs.Uses.{condition_uses}
@@ -111,6 +115,13 @@ equated-holds has (Texts Eq (side.Arg k) (side.Arg l)) args i j u v is at_u at_v
     text-values u v (slice_get args k) (slice_get args l) (fit_u kind.Text (ap (has kind.Text) (sym first) ∙ both.0)) (fit_v kind.Text (ap (has kind.Text) (sym second) ∙ both.1))
     (ap (slice_get args) first ∙ at_u) (ap (slice_get args) second ∙ at_v)
 equated-holds has condition args i j u v is at_u at_v uses fit_u fit_v = absurd (cc)
+
+-- `==` on two cells answers what it does on the values that they show
+pub cell-test : (a b : Cell) → cells.ghosts.eq a b ≡ values.ghosts.eq (shown a) (shown b)
+cell-test (cell.Number n) (cell.Number m) = refl
+cell-test (cell.Number n) (cell.Text u) = refl
+cell-test (cell.Text t) (cell.Number m) = refl
+cell-test (cell.Text t) (cell.Text u) = refl
 
 module _ (catalogue : CatalogDef) (block : Block) where
   -- the columns that a conjunct equates, among its columns

@@ -8,6 +8,7 @@ ghost use Rattle.rs_query.specs.Meaning.{AreInside, all_hold, argument_value, ar
 ghost use Rattle.rs_query.specs.Tables.{HasRow, HasRows, entry_table};
 ghost use Rattle.rs_query.specs.WellFormed.{AreArgs, IsArg, IsBlock, IsColumn, IsConjunct, argument_columns, entries_mask, has_kind, column_kind};
 ghost use Rattle.rs_query.specs.declared.term.Term.{Term as BoundTerm};
+ghost use Rattle.rs_table.specs.Lent.{shown};
 ghost use Rattle.rs_value.specs.Value.{all_fit, fits};
 ghost use Rattle.rs_value.specs.declared.kind.Kind.{Kind as ValueKind};
 ghost use Rattle.rs_value.specs.declared.value.Value.TheVariants as value;
@@ -16,7 +17,7 @@ use crate::block::Block;
 use crate::conjunct::Conjunct;
 use rs_catalog::{BoundArg, Catalog};
 use rs_rank::Ids;
-use rs_table::Table;
+use rs_table::{Cell, Table};
 use rs_value::{Memory, Text, Value};
 use std::alloc::Global;
 
@@ -214,12 +215,12 @@ impl Block {
     }
 
     /// The cell of a column for these rows, of the column's kind.
-    fn cell<'a>(&self, catalog: &'a Catalog, column: (u8, u8), rows: &[u32; 6]) -> &'a Value
+    fn cell<'a>(&self, catalog: &'a Catalog, column: (u8, u8), rows: &[u32; 6]) -> Cell<'a>
         requires block { IsBlock catalog.now self.now }
         requires column { IsColumn catalog.now self.now column }
         requires row { HasRow catalog.now self.now rows.now column.0 }
-        ensures value { result.now ≡ column_value catalog.now self.now rows.now column }
-        ensures fit { (kind : ValueKind) → column_kind catalog.now self.now column ≡ Some kind → fits kind result.now ≡ true }
+        ensures value { shown result ≡ column_value catalog.now self.now rows.now column }
+        ensures fit { (kind : ValueKind) → column_kind catalog.now self.now column ≡ Some kind → fits kind (shown result) ≡ true }
     {
         let row = rows[column.0 as usize - 1];
         self.table(catalog, column.0).cell(row, column.1)
@@ -236,13 +237,13 @@ impl Block {
     }
 }
 
-/// Appends a copy of a value.
-fn push_copy(values: &mut Vec<Value>, value: &Value) -> Result<(), Memory>
-    ensures { OnOk result (values.new.items ≡ values.old.items ++ value.now ∷ []) }
+/// Appends a copy of a cell.
+fn push_copy(values: &mut Vec<Value>, cell: Cell<'_>) -> Result<(), Memory>
+    ensures { OnOk result (values.new.items ≡ values.old.items ++ shown cell.entry ∷ []) }
 {
-    match value {
-        Value::Int(number) => push_number(values, *number),
-        Value::Text(text) => push_text(values, text),
+    match cell {
+        Cell::Number(number) => push_number(values, number),
+        Cell::Text(text) => push_text(values, text),
     }
 }
 

@@ -11,7 +11,7 @@ ghost use Rattle.rs_run.specs.Words.{RunScript};
 ghost use Rattle.rs_events.specs.Environment.{Environment};
 
 use crate::statement::run_statements;
-use rs_events::{Objects, Outside};
+use rs_events::{Host, Objects};
 use rs_expr::Scorer;
 use rs_lex::{MOST_BYTES, tokens};
 use rs_outside::{Files, Sink};
@@ -38,8 +38,8 @@ pub fn run_script<F: Files, S: Scorer, O: Sink>(
         (record beside { files = F.state files.new; scorer = S.state scorer.new; out = O.state out.new }) }
 {
     let script = fetch_script(alloc, name, files)?;
-    let mut outside = Objects { files, scorer, out };
-    run_text(alloc, evaluating, &script, &mut outside)
+    let mut host = Objects { files, scorer, out };
+    run_text(alloc, evaluating, &script, &mut host)
 }
 
 /// Fetches the text of a script, without the byte order mark at its start.
@@ -75,18 +75,18 @@ fn without_mark(bytes: &[u8]) -> &[u8]
 }
 
 /// Does what the text of a script says.
-fn run_text<W: Outside>(
+fn run_text<W: Host>(
     alloc: Global,
     evaluating: Evaluating,
     script: &Text,
-    outside: &mut W,
+    host: &mut W,
 ) -> Result<(), Fault>
     requires { length script.now ≤ 1048576 }
     ensures { Runs
-        (TextRuns (StatementsRun (finds_in (W.state outside.old).files.told) (W.state outside.old).scorer.answer evaluating) script.now) result
-        (W.state outside.old) (W.state outside.new) }
+        (TextRuns (StatementsRun (finds_in (W.state host.old).files.told) (W.state host.old).scorer.answer evaluating) script.now) result
+        (W.state host.old) (W.state host.new) }
 {
     let tokens = tokens(alloc, script)?;
     let statements = parse(alloc, script, &tokens)?;
-    run_statements(alloc, evaluating, &statements, outside)
+    run_statements(alloc, evaluating, &statements, host)
 }

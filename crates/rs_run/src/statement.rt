@@ -9,7 +9,7 @@ ghost use Rattle.rs_statement.specs.Session.{DoesInSession, StatementsRun};
 ghost use Rattle.rs_statement.specs.Parts.Session.{CanAllBeAsked, IsOfNoCursor, held_in, state_of};
 
 use rs_catalog::Catalog;
-use rs_events::Outside;
+use rs_events::Host;
 use rs_exec::cursors_stand_in_larger_catalogues;
 use rs_statement::{
     Evaluating, Fault, Session, close, create_index, create_predicate, create_table, declare,
@@ -19,15 +19,15 @@ use rs_syntax::Statement;
 use std::alloc::Global;
 
 /// Runs the statements of a script one after another, up to the first fault, over an empty catalogue and without a cursor.
-pub fn run_statements<W: Outside>(
+pub fn run_statements<W: Host>(
     alloc: Global,
     evaluating: Evaluating,
     statements: &[Statement],
-    outside: &mut W,
+    host: &mut W,
 ) -> Result<(), Fault>
     requires written { AreWritten (commands_of statements.now) }
-    ensures { Runs (StatementsRun (finds_in (W.state outside.old).files.told) (W.state outside.old).scorer.answer evaluating (commands_of statements.now)) result
-        (W.state outside.old) (W.state outside.new) }
+    ensures { Runs (StatementsRun (finds_in (W.state host.old).files.told) (W.state host.old).scorer.answer evaluating (commands_of statements.now)) result
+        (W.state host.old) (W.state host.new) }
 {
     let mut catalog = Catalog::new(alloc);
     let mut session = Session::new(alloc);
@@ -38,7 +38,7 @@ pub fn run_statements<W: Outside>(
             statement,
             &mut catalog,
             &mut session,
-            outside,
+            host,
         ) {
             Ok(()) => {}
             Err(fault) => {
@@ -52,23 +52,23 @@ pub fn run_statements<W: Outside>(
 }
 
 /// Runs a statement.
-fn run_statement<W: Outside>(
+fn run_statement<W: Host>(
     alloc: Global,
     evaluating: Evaluating,
     statement: &Statement,
     catalog: &mut Catalog,
     session: &mut Session,
-    outside: &mut W,
+    host: &mut W,
 ) -> Result<(), Fault>
     requires written { IsWritten (command_of statement.now) }
-    requires held { IndexesHold (W.state outside.old).scorer.answer catalog.old }
-    requires asked { CanAllBeAsked (W.state outside.old).scorer.answer catalog.old (held_in session.old) }
+    requires held { IndexesHold (W.state host.old).scorer.answer catalog.old }
+    requires asked { CanAllBeAsked (W.state host.old).scorer.answer catalog.old (held_in session.old) }
     ensures does { Stepped
-        (DoesInSession (finds_in (W.state outside.old).files.told) (W.state outside.old).scorer.answer evaluating
+        (DoesInSession (finds_in (W.state host.old).files.told) (W.state host.old).scorer.answer evaluating
         (state_of catalog.old (held_in session.old)) (command_of statement.now)) (state_of catalog.new (held_in session.new)) result
-        (W.state outside.old) (W.state outside.new) }
-    ensures held { IfOk result (λ _. IndexesHold (W.state outside.old).scorer.answer catalog.new) }
-    ensures asked { IfOk result (λ _. CanAllBeAsked (W.state outside.old).scorer.answer catalog.new (held_in session.new)) }
+        (W.state host.old) (W.state host.new) }
+    ensures held { IfOk result (λ _. IndexesHold (W.state host.old).scorer.answer catalog.new) }
+    ensures asked { IfOk result (λ _. CanAllBeAsked (W.state host.old).scorer.answer catalog.new (held_in session.new)) }
 {
     match statement {
         Statement::Declare { name, select } => declare(
@@ -78,48 +78,48 @@ fn run_statement<W: Outside>(
             select,
             catalog,
             session,
-            outside.scorer(),
+            host.scorer(),
         ),
-        Statement::Fetch { count, name } => { fetch(alloc, count, name, catalog, session, outside) }
+        Statement::Fetch { count, name } => { fetch(alloc, count, name, catalog, session, host) }
         Statement::Close { name } => close(name, session),
         _ => {
             cursors_stand_in_larger_catalogues();
-            run_without_cursor(alloc, evaluating, statement, catalog, outside)
+            run_without_cursor(alloc, evaluating, statement, catalog, host)
         }
     }
 }
 
 /// Runs a statement that concerns no cursor.
-fn run_without_cursor<W: Outside>(
+fn run_without_cursor<W: Host>(
     alloc: Global,
     evaluating: Evaluating,
     statement: &Statement,
     catalog: &mut Catalog,
-    outside: &mut W,
+    host: &mut W,
 ) -> Result<(), Fault>
     requires form { IsOfNoCursor (command_of statement.now) }
     requires written { IsWritten (command_of statement.now) }
-    requires held { IndexesHold (W.state outside.old).scorer.answer catalog.old }
+    requires held { IndexesHold (W.state host.old).scorer.answer catalog.old }
     ensures { Stepped
-        (Does (finds_in (W.state outside.old).files.told) (W.state outside.old).scorer.answer evaluating catalog.old (command_of statement.now)) catalog.new result
-        (W.state outside.old) (W.state outside.new) }
+        (Does (finds_in (W.state host.old).files.told) (W.state host.old).scorer.answer evaluating catalog.old (command_of statement.now)) catalog.new result
+        (W.state host.old) (W.state host.new) }
 {
     match statement {
         Statement::CreateTable {
             name,
             columns,
             file,
-        } => create_table(alloc, name, columns.items(), file, catalog, outside.files()),
+        } => create_table(alloc, name, columns.items(), file, catalog, host.files()),
         Statement::CreatePredicate { name, .. } => create_predicate(
             alloc, name, statement, catalog,
         ),
         Statement::CreateRankIndex { name, .. } => {
-            create_index(alloc, name, statement, catalog, outside.scorer())
+            create_index(alloc, name, statement, catalog, host.scorer())
         }
-        Statement::Query(select) => { run_select(alloc, evaluating, select, catalog, outside) }
-        Statement::Explain(select) => { run_explain(alloc, evaluating, select, catalog, outside) }
+        Statement::Query(select) => { run_select(alloc, evaluating, select, catalog, host) }
+        Statement::Explain(select) => { run_explain(alloc, evaluating, select, catalog, host) }
         Statement::ExplainAnalyze(select) => {
-            run_analyze(alloc, evaluating, select, catalog, outside)
+            run_analyze(alloc, evaluating, select, catalog, host)
         }
         _ => unreachable!(),
     }

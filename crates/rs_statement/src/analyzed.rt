@@ -29,7 +29,7 @@ use crate::planning::{choose_plan, take_sample};
 use rs_bind::bind;
 use rs_catalog::Catalog;
 use rs_enum::{cards_decide_the_text, explain};
-use rs_events::{Outside, put_text};
+use rs_events::{Host, put_text};
 use rs_exec::Cursor;
 use rs_expr::Scorer;
 use rs_plan::{Counts, Plan};
@@ -41,21 +41,21 @@ use std::alloc::Global;
 
 /// Asks the least plan of a query for all rows that the query wants, puts none of them, and then puts the text of the plan with
 /// what each node has done.
-pub fn analyze_planned<W: Outside>(
+pub fn analyze_planned<W: Host>(
     alloc: Global,
     seed: u64,
     select: &Select,
     catalog: &Catalog,
-    outside: &mut W,
+    host: &mut W,
 ) -> Result<(), Fault>
     requires written { IsWrittenQuery (query_of select.now) }
-    requires held { IndexesHold (W.state outside.old).scorer.answer catalog.now }
+    requires held { IndexesHold (W.state host.old).scorer.answer catalog.now }
     ensures { Stepped
-        (λ step. step ≡ refused_or (analyzed_step (W.state outside.old).scorer.answer catalog.now seed) (or_bind_fault (bound_query catalog.now (query_of select.now))))
-        catalog.now result (W.state outside.old) (W.state outside.new) }
+        (λ step. step ≡ refused_or (analyzed_step (W.state host.old).scorer.answer catalog.now seed) (or_bind_fault (bound_query catalog.now (query_of select.now))))
+        catalog.now result (W.state host.old) (W.state host.new) }
 {
     let query = bind(alloc, catalog, select)?;
-    let cards = match take_sample(alloc, seed, catalog, &query, outside.scorer()) {
+    let cards = match take_sample(alloc, seed, catalog, &query, host.scorer()) {
         Ok(cards) => cards,
         Err(fault) => {
             drop(query);
@@ -71,11 +71,11 @@ pub fn analyze_planned<W: Outside>(
         }
     };
     cards_decide_the_text();
-    let told = asked_text(alloc, catalog, query, &cards, &plan, outside.scorer());
+    let told = asked_text(alloc, catalog, query, &cards, &plan, host.scorer());
     drop(plan);
     drop(cards);
     let text = told?;
-    put_text(&text, outside.out())
+    put_text(&text, host.out())
 }
 
 /// Asks a plan for all rows that its query wants. Answers the text of the plan, with what each node has done.

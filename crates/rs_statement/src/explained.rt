@@ -12,26 +12,26 @@ use crate::planning::{choose_plan, take_sample};
 use rs_bind::bind;
 use rs_catalog::Catalog;
 use rs_enum::{cards_decide_the_text, explain};
-use rs_events::{Outside, put_text};
+use rs_events::{Host, put_text};
 use rs_syntax::Select;
 use rs_value::Memory;
 use std::alloc::Global;
 
 /// Puts the text of the least plan of a query, once its sample was taken. No row is asked for.
-pub fn explain_planned<W: Outside>(
+pub fn explain_planned<W: Host>(
     alloc: Global,
     seed: u64,
     select: &Select,
     catalog: &Catalog,
-    outside: &mut W,
+    host: &mut W,
 ) -> Result<(), Fault>
     requires written { IsWrittenQuery (query_of select.now) }
     ensures { Stepped
-        (λ step. step ≡ refused_or (explained_step (W.state outside.old).scorer.answer catalog.now seed) (or_bind_fault (bound_query catalog.now (query_of select.now))))
-        catalog.now result (W.state outside.old) (W.state outside.new) }
+        (λ step. step ≡ refused_or (explained_step (W.state host.old).scorer.answer catalog.now seed) (or_bind_fault (bound_query catalog.now (query_of select.now))))
+        catalog.now result (W.state host.old) (W.state host.new) }
 {
     let query = bind(alloc, catalog, select)?;
-    let cards = match take_sample(alloc, seed, catalog, &query, outside.scorer()) {
+    let cards = match take_sample(alloc, seed, catalog, &query, host.scorer()) {
         Ok(cards) => cards,
         Err(fault) => {
             drop(query);
@@ -52,5 +52,5 @@ pub fn explain_planned<W: Outside>(
     drop(cards);
     drop(query);
     let text = told?;
-    put_text(&text, outside.out())
+    put_text(&text, host.out())
 }

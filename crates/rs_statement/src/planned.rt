@@ -23,7 +23,7 @@ use crate::put::put_row;
 use crate::query::{bad_score, failed_call};
 use rs_bind::bind;
 use rs_catalog::Catalog;
-use rs_events::Outside;
+use rs_events::Host;
 use rs_exec::{Cursor, ExecFault};
 use rs_lines::RowLines;
 use rs_syntax::Select;
@@ -31,64 +31,64 @@ use std::alloc::Global;
 
 /// Prints the rows of a query: takes its sample, asks its least plan for one row after another, and puts each before it asks for
 /// the next one.
-pub fn run_planned<W: Outside>(
+pub fn run_planned<W: Host>(
     alloc: Global,
     seed: u64,
     select: &Select,
     catalog: &Catalog,
-    outside: &mut W,
+    host: &mut W,
 ) -> Result<(), Fault>
     requires written { IsWrittenQuery (query_of select.now) }
-    requires held { IndexesHold (W.state outside.old).scorer.answer catalog.now }
+    requires held { IndexesHold (W.state host.old).scorer.answer catalog.now }
     ensures { Stepped
-        (λ step. step ≡ refused_or (query_step (Planned seed) (W.state outside.old).scorer.answer catalog.now) (or_bind_fault (bound_query catalog.now (query_of select.now))))
-        catalog.now result (W.state outside.old) (W.state outside.new) }
+        (λ step. step ≡ refused_or (query_step (Planned seed) (W.state host.old).scorer.answer catalog.now) (or_bind_fault (bound_query catalog.now (query_of select.now))))
+        catalog.now result (W.state host.old) (W.state host.new) }
 {
     let query = bind(alloc, catalog, select)?;
-    let mut cursor = start_planned(alloc, seed, catalog, query, outside.scorer())?;
-    let put = put_all(alloc, catalog, &mut cursor, outside);
+    let mut cursor = start_planned(alloc, seed, catalog, query, host.scorer())?;
+    let put = put_all(alloc, catalog, &mut cursor, host);
     drop(cursor);
     put
 }
 
 /// Puts the rows of a cursor that are left, each before the next one is asked for.
-fn put_all<W: Outside>(
+fn put_all<W: Host>(
     alloc: Global,
     catalog: &Catalog,
     cursor: &mut Cursor,
-    outside: &mut W,
+    host: &mut W,
 ) -> Result<(), Fault>
-    requires stands { StandsFor catalog.now (W.state outside.old).scorer.answer cursor.old }
-    ensures { Stepped (λ step. step ≡ left_of catalog.now (W.state outside.old).scorer.answer cursor.old) catalog.now result (W.state outside.old) (W.state outside.new) }
+    requires stands { StandsFor catalog.now (W.state host.old).scorer.answer cursor.old }
+    ensures { Stepped (λ step. step ≡ left_of catalog.now (W.state host.old).scorer.answer cursor.old) catalog.now result (W.state host.old) (W.state host.new) }
 {
     let mut lines = RowLines::new(alloc);
-    while put_next(&mut lines, catalog, cursor, outside)? {}
+    while put_next(&mut lines, catalog, cursor, host)? {}
     Ok(())
 }
 
 /// Asks for the next row of a cursor and puts it. Answers whether there was one.
-pub fn put_next<W: Outside>(
+pub fn put_next<W: Host>(
     lines: &mut RowLines,
     catalog: &Catalog,
     cursor: &mut Cursor,
-    outside: &mut W,
+    host: &mut W,
 ) -> Result<bool, Fault>
-    requires stands { StandsFor catalog.now (W.state outside.old).scorer.answer cursor.old }
-    ensures puts { Stepped (λ step. step ≡ call_step catalog.now (W.state outside.old).scorer.answer cursor.old) catalog.now (without_value result)
-        (W.state outside.old) (W.state outside.new) }
+    requires stands { StandsFor catalog.now (W.state host.old).scorer.answer cursor.old }
+    ensures puts { Stepped (λ step. step ≡ call_step catalog.now (W.state host.old).scorer.answer cursor.old) catalog.now (without_value result)
+        (W.state host.old) (W.state host.new) }
     ensures more { result ≡ Ok true → IsAt cursor.old.query (plan_of cursor.old) (suc (asks_of cursor.old)) cursor.new }
     ensures count { IfOk result (λ _. IsAt cursor.old.query (plan_of cursor.old)
-        (asks_after (world_of catalog.now (W.state outside.old).scorer.answer cursor.old.query) (plan_of cursor.old) (asks_of cursor.old)) cursor.new) }
-    ensures over { result ≡ Ok false → IsOver catalog.now (W.state outside.old).scorer.answer cursor.new }
-    ensures stands { IfOk result (λ _. StandsFor catalog.now (W.state outside.old).scorer.answer cursor.new) }
-    ensures left { result ≡ Ok true → left_of catalog.now (W.state outside.old).scorer.answer cursor.old
-        ≡ then_step (call_step catalog.now (W.state outside.old).scorer.answer cursor.old) (left_of catalog.now (W.state outside.old).scorer.answer cursor.new) }
+        (asks_after (world_of catalog.now (W.state host.old).scorer.answer cursor.old.query) (plan_of cursor.old) (asks_of cursor.old)) cursor.new) }
+    ensures over { result ≡ Ok false → IsOver catalog.now (W.state host.old).scorer.answer cursor.new }
+    ensures stands { IfOk result (λ _. StandsFor catalog.now (W.state host.old).scorer.answer cursor.new) }
+    ensures left { result ≡ Ok true → left_of catalog.now (W.state host.old).scorer.answer cursor.old
+        ≡ then_step (call_step catalog.now (W.state host.old).scorer.answer cursor.old) (left_of catalog.now (W.state host.old).scorer.answer cursor.new) }
     ensures rank { result ≡ Ok true → suc (asks_of cursor.old) ≤ 2 ^ 103 }
-    ensures end { result ≡ Ok false → left_of catalog.now (W.state outside.old).scorer.answer cursor.old ≡ call_step catalog.now (W.state outside.old).scorer.answer cursor.old }
+    ensures end { result ≡ Ok false → left_of catalog.now (W.state host.old).scorer.answer cursor.old ≡ call_step catalog.now (W.state host.old).scorer.answer cursor.old }
 {
-    match cursor.next(catalog, outside.scorer()) {
+    match cursor.next(catalog, host.scorer()) {
         Ok(Some(row)) => {
-            put_row(lines, rank_of(cursor), &row, outside.out())?;
+            put_row(lines, rank_of(cursor), &row, host.out())?;
             Ok(true)
         }
         Ok(None) => Ok(false),

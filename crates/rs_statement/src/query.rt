@@ -13,32 +13,32 @@ use crate::fault::Fault;
 use crate::put::put_rows;
 use rs_bind::bind;
 use rs_catalog::Catalog;
-use rs_events::Outside;
+use rs_events::Host;
 use rs_plain::{PlainFault, answer_plainly};
 use rs_syntax::Select;
 use rs_value::Text;
 use std::alloc::Global;
 
 /// Prints the rows of a query: makes all its calls, and then puts the rows, each as one line.
-pub fn run_query<W: Outside>(
+pub fn run_query<W: Host>(
     alloc: Global,
     select: &Select,
     catalog: &Catalog,
-    outside: &mut W,
+    host: &mut W,
 ) -> Result<(), Fault>
     requires written { IsWrittenQuery (query_of select.now) }
     ensures { Stepped
-        (λ step. step ≡ refused_or (query_step Plainly (W.state outside.old).scorer.answer catalog.now) (or_bind_fault (bound_query catalog.now (query_of select.now))))
-        catalog.now result (W.state outside.old) (W.state outside.new) }
+        (λ step. step ≡ refused_or (query_step Plainly (W.state host.old).scorer.answer catalog.now) (or_bind_fault (bound_query catalog.now (query_of select.now))))
+        catalog.now result (W.state host.old) (W.state host.new) }
 {
     let query = bind(alloc, catalog, select)?;
-    let answered = answer_plainly(alloc, catalog, &query, outside.scorer());
+    let answered = answer_plainly(alloc, catalog, &query, host.scorer());
     drop(query);
     let rows = match answered {
         Ok(rows) => rows,
         Err(why) => return Err(query_fault(catalog, why)),
     };
-    put_rows(alloc, 0, &rows, outside.out())
+    put_rows(alloc, 0, &rows, host.out())
 }
 
 /// Binds the query of an EXPLAIN. Nothing is told of it, and no scorer is called.

@@ -14,62 +14,62 @@ use crate::fault::Fault;
 use crate::planned::run_planned;
 use crate::query::{explain_query, run_query};
 use rs_catalog::Catalog;
-use rs_events::Outside;
+use rs_events::Host;
 use rs_syntax::Select;
 use std::alloc::Global;
 
 /// Prints the rows of a query.
-pub fn run_select<W: Outside>(
+pub fn run_select<W: Host>(
     alloc: Global,
     evaluating: Evaluating,
     select: &Select,
     catalog: &Catalog,
-    outside: &mut W,
+    host: &mut W,
 ) -> Result<(), Fault>
     requires written { IsWrittenQuery (query_of select.now) }
-    requires held { IndexesHold (W.state outside.old).scorer.answer catalog.now }
+    requires held { IndexesHold (W.state host.old).scorer.answer catalog.now }
     ensures { Stepped
-        (λ step. step ≡ select_step evaluating (W.state outside.old).scorer.answer catalog.now (query_of select.now)) catalog.now result (W.state outside.old) (W.state outside.new) }
+        (λ step. step ≡ select_step evaluating (W.state host.old).scorer.answer catalog.now (query_of select.now)) catalog.now result (W.state host.old) (W.state host.new) }
 {
     match evaluating {
-        Evaluating::Plainly => run_query(alloc, select, catalog, outside),
-        Evaluating::Planned(seed) => run_planned(alloc, seed, select, catalog, outside),
+        Evaluating::Plainly => run_query(alloc, select, catalog, host),
+        Evaluating::Planned(seed) => run_planned(alloc, seed, select, catalog, host),
     }
 }
 
 /// EXPLAIN. Plainly, the query is bound, and nothing is told of it.
-pub fn run_explain<W: Outside>(
+pub fn run_explain<W: Host>(
     alloc: Global,
     evaluating: Evaluating,
     select: &Select,
     catalog: &Catalog,
-    outside: &mut W,
+    host: &mut W,
 ) -> Result<(), Fault>
     requires written { IsWrittenQuery (query_of select.now) }
     ensures { Stepped
-        (λ step. step ≡ explain_step evaluating (W.state outside.old).scorer.answer catalog.now (query_of select.now)) catalog.now result (W.state outside.old) (W.state outside.new) }
+        (λ step. step ≡ explain_step evaluating (W.state host.old).scorer.answer catalog.now (query_of select.now)) catalog.now result (W.state host.old) (W.state host.new) }
 {
     match evaluating {
         Evaluating::Plainly => explain_query(alloc, select, catalog),
-        Evaluating::Planned(seed) => explain_planned(alloc, seed, select, catalog, outside),
+        Evaluating::Planned(seed) => explain_planned(alloc, seed, select, catalog, host),
     }
 }
 
 /// EXPLAIN ANALYZE. Plainly, the query is bound, and nothing is told of it.
-pub fn run_analyze<W: Outside>(
+pub fn run_analyze<W: Host>(
     alloc: Global,
     evaluating: Evaluating,
     select: &Select,
     catalog: &Catalog,
-    outside: &mut W,
+    host: &mut W,
 ) -> Result<(), Fault>
     requires written { IsWrittenQuery (query_of select.now) }
-    requires held { IndexesHold (W.state outside.old).scorer.answer catalog.now }
+    requires held { IndexesHold (W.state host.old).scorer.answer catalog.now }
     ensures { Stepped
-        (λ step. step ≡ analyze_step evaluating (W.state outside.old).scorer.answer catalog.now (query_of select.now)) catalog.now result (W.state outside.old) (W.state outside.new) }
+        (λ step. step ≡ analyze_step evaluating (W.state host.old).scorer.answer catalog.now (query_of select.now)) catalog.now result (W.state host.old) (W.state host.new) }
 {
     match evaluating {
         Evaluating::Plainly => explain_query(alloc, select, catalog),
-        Evaluating::Planned(seed) => analyze_planned(alloc, seed, select, catalog, outside),
+        Evaluating::Planned(seed) => analyze_planned(alloc, seed, select, catalog, host),
     }
 }

@@ -29,7 +29,7 @@ use crate::query::query_fault;
 use indexmap::IndexMap;
 use rs_bind::{bind, bind_count};
 use rs_catalog::Catalog;
-use rs_events::Outside;
+use rs_events::Host;
 use rs_exec::Cursor;
 use rs_expr::Scorer;
 use rs_lex::Span;
@@ -237,65 +237,65 @@ fn insert(session: &mut Session, name: Text, held: CursorRows) -> Result<(), Mem
 }
 
 /// FETCH: puts the next rows of a cursor, at most this many. Ranks go on from the FETCH before it.
-pub fn fetch<W: Outside>(
+pub fn fetch<W: Host>(
     alloc: Global,
     count: &(i64, Span),
     name: &Name,
     catalog: &Catalog,
     session: &mut Session,
-    outside: &mut W,
+    host: &mut W,
 ) -> Result<(), Fault>
-    requires { CanAllBeAsked (W.state outside.old).scorer.answer catalog.now (held_in session.old) }
+    requires { CanAllBeAsked (W.state host.old).scorer.answer catalog.now (held_in session.old) }
     ensures puts { Stepped
-        (λ step. step ≡ fetch_step (W.state outside.old).scorer.answer (state_of catalog.now (held_in session.old)) count.now name.now)
+        (λ step. step ≡ fetch_step (W.state host.old).scorer.answer (state_of catalog.now (held_in session.old)) count.now name.now)
         (state_of catalog.now (held_in session.new)) result
-        (W.state outside.old) (W.state outside.new) }
-    ensures asked { IfOk result (λ _. CanAllBeAsked (W.state outside.old).scorer.answer catalog.now (held_in session.new)) }
+        (W.state host.old) (W.state host.new) }
+    ensures asked { IfOk result (λ _. CanAllBeAsked (W.state host.old).scorer.answer catalog.now (held_in session.new)) }
 {
     let count = bind_count(count.0, count.1)?;
     match session.cursors.get_mut(&name.text) {
-        Some(held) => fetch_rows(alloc, count, catalog, held, outside),
+        Some(held) => fetch_rows(alloc, count, catalog, held, host),
         None => Err(session_fault(SessionFault::Unknown, &name.text)),
     }
 }
 
 /// Puts the next rows of a cursor, at most this many.
-fn fetch_rows<W: Outside>(
+fn fetch_rows<W: Host>(
     alloc: Global,
     count: u32,
     catalog: &Catalog,
     held: &mut CursorRows,
-    outside: &mut W,
+    host: &mut W,
 ) -> Result<(), Fault>
-    requires { CanBeAsked (W.state outside.old).scorer.answer catalog.now held.old }
+    requires { CanBeAsked (W.state host.old).scorer.answer catalog.now held.old }
     ensures puts { Stepped
-        (λ step. step ≡ rows_step catalog.now (W.state outside.old).scorer.answer held.old count) catalog.now result (W.state outside.old) (W.state outside.new) }
+        (λ step. step ≡ rows_step catalog.now (W.state host.old).scorer.answer held.old count) catalog.now result (W.state host.old) (W.state host.new) }
     ensures source { IfOk result (λ _. source_of held.new ≡ source_of held.old) }
-    ensures count { IfOk result (λ _. asked_of held.new ≡ asked_of held.old + next_of catalog.now (W.state outside.old).scorer.answer held.old count) }
-    ensures asked { IfOk result (λ _. CanBeAsked (W.state outside.old).scorer.answer catalog.now held.new) }
+    ensures count { IfOk result (λ _. asked_of held.new ≡ asked_of held.old + next_of catalog.now (W.state host.old).scorer.answer held.old count) }
+    ensures asked { IfOk result (λ _. CanBeAsked (W.state host.old).scorer.answer catalog.now held.new) }
 {
     match held {
-        CursorRows::Asked(cursor) => fetch_asked(alloc, count, catalog, cursor, outside),
-        CursorRows::Ready { rows, given } => fetch_ready(alloc, count, rows, given, outside.out()),
+        CursorRows::Asked(cursor) => fetch_asked(alloc, count, catalog, cursor, host),
+        CursorRows::Ready { rows, given } => fetch_ready(alloc, count, rows, given, host.out()),
     }
 }
 
 /// Asks a cursor this many times, or up to the end of its rows, and puts each row before it asks for the next one.
-fn fetch_asked<W: Outside>(
+fn fetch_asked<W: Host>(
     alloc: Global,
     count: u32,
     catalog: &Catalog,
     cursor: &mut Cursor,
-    outside: &mut W,
+    host: &mut W,
 ) -> Result<(), Fault>
-    requires { StandsFor catalog.now (W.state outside.old).scorer.answer cursor.old }
-    ensures puts { Stepped (λ step. step ≡ wanted_step catalog.now (W.state outside.old).scorer.answer cursor.old count) catalog.now result (W.state outside.old) (W.state outside.new) }
-    ensures count { IfOk result (λ _. IsAskedMore cursor.old (next_of_cursor catalog.now (W.state outside.old).scorer.answer cursor.old count) cursor.new) }
-    ensures stands { IfOk result (λ _. StandsFor catalog.now (W.state outside.old).scorer.answer cursor.new) }
+    requires { StandsFor catalog.now (W.state host.old).scorer.answer cursor.old }
+    ensures puts { Stepped (λ step. step ≡ wanted_step catalog.now (W.state host.old).scorer.answer cursor.old count) catalog.now result (W.state host.old) (W.state host.new) }
+    ensures count { IfOk result (λ _. IsAskedMore cursor.old (next_of_cursor catalog.now (W.state host.old).scorer.answer cursor.old count) cursor.new) }
+    ensures stands { IfOk result (λ _. StandsFor catalog.now (W.state host.old).scorer.answer cursor.new) }
 {
     let mut lines = RowLines::new(alloc);
     for _ in 0..count {
-        if !put_next(&mut lines, catalog, cursor, outside)? {
+        if !put_next(&mut lines, catalog, cursor, host)? {
             return Ok(());
         }
     }

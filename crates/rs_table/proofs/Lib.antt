@@ -3,5 +3,7 @@ pub mod HeaderFacts
 pub mod NumberFacts
 pub mod RecordsFacts
 pub mod RelationFacts
+pub mod StoredFacts
+pub mod TextFacts
 mod Worked
 mod WorkedRecords

@@ -1,9 +1,11 @@
 -- What was read is a table: the rows fit the columns, and there are few of them.
-use Rattle.std.proofs.Common.{ℕ, ℤ, ◌≡◌, ◌+◌, ◌-◌, ◌<◌, ◌≤◌, Bool, true, false, nat_lt, ◌&&◌, List, [], ◌∷◌, length, get_or, zero, suc, sym, refl, ap, subst, arith, rules, if◌then◌else◌, ◌==◌}
+use Rattle.std.proofs.Common.{ℕ, ℤ, ◌≡◌, ◌+◌, ◌-◌, ◌<◌, ◌≤◌, Bool, true, false, nat_lt, ◌&&◌, List, [], ◌∷◌, length, get_or, map, zero, suc, inl, inr, sym, refl, ap, ◌∙◌, ◌++◌, length-append, subst, arith, rules, if◌then◌else◌, ◌==◌}
 use Rattle.std.specs.Prelude.{Option, Some, None, Result, Ok, Err, IfOk, slice_get}
 use Rattle.std.specs.List.{AllByRecursion}
 use Rattle.std.specs.Str.{is_utf8}
-use Rattle.std.proofs.lemmas.Option.{slice_get_read}
+use Rattle.std.proofs.lemmas.List.Elements.{All-from_recursion, All-get_or}
+use Rattle.std.proofs.lemmas.Option.{slice_get-get_or}
+use Rattle.rs_value.specs.Answer.{Gives}
 use Rattle.rs_value.specs.Number.{int_value}
 use Rattle.rs_value.specs.declared.kind.Kind.{Kind}
 use Rattle.rs_value.specs.declared.kind.Kind.TheVariants as kind
@@ -12,13 +14,18 @@ use Rattle.rs_value.specs.declared.value.Value.TheVariants.{Int, Text}
 use Rattle.rs_value.specs.Value.{kind_of}
 use Rattle.rs_value.specs.declared.memory.Memory.{Memory}
 use Rattle.rs_table.specs.declared.fault.TableFault.{TableFault}
-use Rattle.rs_table.specs.declared.fault.TableFault.TheVariants.{NotUtf8, NotInt, FieldCount, TooManyRows}
+use Rattle.rs_table.specs.declared.fault.TableFault.TheVariants.{NotUtf8, NotInt, FieldCount, TooManyRows, Memory as NoMemory}
 use Rattle.rs_table.specs.Column.{Column}
 use Rattle.rs_table.specs.Relation.{Relation, IsTable, cell_at, row_fits, most_rows}
 use Rattle.rs_value.specs.Value.{fits}
 use Rattle.rs_value.specs.Results.{◌>>=◌}
+use Rattle.rs_table.specs.Lent.{with_rows}
 use Rattle.rs_table.specs.Reading.{cell_of, cells_of, row_of, rows_from}
 use Rattle.rs_table.proofs.NumberFacts.{int_value-within}
+
+both : (a b : Bool) → (a && b) ≡ true → (a ≡ true) × (b ≡ true)
+both true b e = (refl, e)
+both false b e = cc
 
 -- a value that was read fits the column's kind
 pub cell_of-fits : (k : Kind) (row column : ℕ) (field : List ℕ) (value : Value) → cell_of k row column field ≡ Ok value → fits k value ≡ true
@@ -76,6 +83,28 @@ row_of-row columns row fields values = go (nat_lt most_rows row) (length fields 
   go false true many_is same_is e = record { few = search rules; fit = cells_of-fits columns row 1 fields values (search rules) e }
   go false false many_is same_is e = cc
 
+-- a row that was read fits, whatever else is answered
+pub IfOk-fits : (columns : List Column) (row : ℕ) (fields : List (List ℕ)) (result : Result (List Value) TableFault) → length fields ≡ length columns
+    → Gives NoMemory (cells_of columns row 1 fields) result → IfOk result (λ values. row_fits columns values ≡ true)
+IfOk-fits columns row fields (Ok values) same (inl e) = cells_of-fits columns row 1 fields values same (sym e)
+IfOk-fits columns row fields (Ok values) same (inr e) = cc
+IfOk-fits columns row fields (Err fault) same given = tt
+
+-- the values of a row that fits are of the columns' kinds
+fits-kind : (k : Kind) (value : Value) → fits k value ≡ true → kind_of value ≡ k
+fits-kind kind.Int (Int n) e = refl
+fits-kind kind.Int (Text t) e = cc
+fits-kind kind.Text (Int n) e = cc
+fits-kind kind.Text (Text t) e = refl
+
+pub kinds-row_fits : (columns : List Column) (values : List Value) → row_fits columns values ≡ true → map kind_of values ≡ map (λ (column : Column). column.1) columns
+kinds-row_fits [] [] e = refl
+kinds-row_fits [] (value ∷ values) e = cc
+kinds-row_fits (column ∷ columns) [] e = cc
+kinds-row_fits (column ∷ columns) (value ∷ values) e =
+    let parts = both (fits column.1 value) (row_fits columns values) e in
+    rw (fits-kind column.1 value parts.0) (ap (λ rest. column.1 ∷ rest) (kinds-row_fits columns values parts.1))
+
 -- the rows that were read fit the columns
 pub rows_from-fit : (columns : List Column) (row : ℕ) (records : List (List (List ℕ))) (rows : List (List Value))
     → rows_from columns row records ≡ Ok rows → AllByRecursion (λ values. row_fits columns values ≡ true) rows
@@ -111,10 +140,6 @@ row_fits-at columns [] i values h lt is = absurd (omega arith)
 row_fits-at columns (row ∷ rows) zero values h lt is = rw is h.0
 row_fits-at columns (row ∷ rows) (suc i) values h lt is = row_fits-at columns rows i values h.1 (omega arith) is
 
-both : (a b : Bool) → (a && b) ≡ true → (a ≡ true) × (b ≡ true)
-both true b e = (refl, e)
-both false b e = cc
-
 -- a row that fits has as many values as there are columns
 pub length-row_fits : (columns : List Column) (values : List Value) → row_fits columns values ≡ true → length values ≡ length columns
 length-row_fits [] [] e = refl
@@ -141,30 +166,43 @@ kind_of-fits kind.Int (Int n) is e = refl
 kind_of-fits kind.Int (Text t) is e = cc
 kind_of-fits kind.Text value is e = cc
 
--- a row of a table has a value at each column
-pub length-row : (table : Relation) (row : ℕ) (values : List Value) → IsTable table → 1 ≤ row → row ≤ length table.rows
-    → values ≡ get_or table.rows (row - 1) values → length values ≡ length table.schema
-length-row table row values is some within row_is =
-    length-row_fits table.schema values (row_fits-at table.schema table.rows (row - 1) values is.rows_fit (omega arith) row_is)
-
 -- what holds of the value at a row and a column
 pub record IsCell (table : Relation) (row column : ℕ) (value : Value) : Type 0 where
   pub cell : cell_at table row column ≡ Some value
   pub fit : (c : Column) → slice_get table.schema column ≡ Some c → fits c.1 value ≡ true
 
--- the value that was read at a row and a column
-pub IsCell-read : (table : Relation) (row column : ℕ) (values : List Value) (value : Value)
-    → IsTable table → 1 ≤ row → row ≤ length table.rows → column < length table.schema
-    → values ≡ get_or table.rows (row - 1) values → value ≡ get_or values column value → IsCell table row column value
-IsCell-read table row column values value is some within column_in row_is value_is =
-    let size : length values ≡ length table.schema = length-row table row values is some within row_is in
-    let row_there : slice_get table.rows (row - 1) ≡ Some values = slice_get_read table.rows (length table.rows) (row - 1) values refl (omega arith) row_is in
-    let value_there : slice_get values column ≡ Some value = slice_get_read values (length values) column value refl (omega arith) value_is in
-    let row_fit : row_fits table.schema values ≡ true = row_fits-at table.schema table.rows (row - 1) values is.rows_fit (omega arith) row_is in
+-- the value of a row at a column
+pub IsCell-at : (table : Relation) (row column : ℕ) (value : Value) → IsTable table → 1 ≤ row → row ≤ length table.rows → slice_get (get_or table.rows (row - 1) []) column ≡ Some value
+    → IsCell table row column value
+IsCell-at table row column value is some within there =
+    let in_rows : row - 1 < length table.rows = omega arith in
+    let row_fit : row_fits table.schema (get_or table.rows (row - 1) []) ≡ true =
+    All-get_or (λ values. row_fits table.schema values ≡ true) table.rows (row - 1) [] in_rows (All-from_recursion (λ values. row_fits table.schema values ≡ true) table.rows is.rows_fit) in
     record {
-      cell = rw row_there value_there;
-      fit = λ c c_is. fits-at table.schema values column c value row_fit c_is value_there;
+      cell = rw (slice_get-get_or table.rows (row - 1) [] in_rows) there;
+      fit = λ c c_is. fits-at table.schema (get_or table.rows (row - 1) []) column c value row_fit c_is there;
     }
+
+-- the rows of a table that fit its columns are of their kinds
+pub kinds-rows : (columns : List Column) (kinds : List Kind) (rows : List (List Value)) → kinds ≡ map (λ (column : Column). column.1) columns
+    → AllByRecursion (λ row. row_fits columns row ≡ true) rows → AllByRecursion (λ row. map kind_of row ≡ kinds) rows
+kinds-rows columns kinds [] same fit = tt
+kinds-rows columns kinds (row ∷ rows) same fit = (kinds-row_fits columns row fit.0 ∙ sym same, kinds-rows columns kinds rows same fit.1)
+
+fit-append : (columns : List Column) (rows more : List (List Value)) → AllByRecursion (λ row. row_fits columns row ≡ true) rows → AllByRecursion (λ row. row_fits columns row ≡ true) more
+    → AllByRecursion (λ row. row_fits columns row ≡ true) (rows ++ more)
+fit-append columns [] more fit fit_more = fit_more
+fit-append columns (row ∷ rows) more fit fit_more = (fit.0, fit-append columns rows more fit.1 fit_more)
+
+-- a table with rows that fit it behind its own, where there are few
+pub IsTable-with_rows : (table : Relation) (rows : List (List Value)) → IsTable table → AllByRecursion (λ row. row_fits table.schema row ≡ true) rows → length table.rows + length rows ≤ most_rows
+    → IsTable (with_rows rows table)
+IsTable-with_rows table rows is fit few = record {
+  some_columns = is.some_columns;
+  few_columns = is.few_columns;
+  few_rows = omega (arith, length-append table.rows rows);
+  rows_fit = fit-append table.schema table.rows rows is.rows_fit fit;
+}
 
 -- what holds of a value holds of its copy
 pub IfOk-copy : (P : Value → Type 0) (value : Value) (result : Result Value Memory) → P value → IfOk result (λ copy. copy ≡ value) → IfOk result P

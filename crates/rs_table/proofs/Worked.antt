@@ -9,6 +9,8 @@ use Rattle.rs_value.specs.declared.value.Value.TheVariants.{Int, Text}
 use Rattle.rs_table.specs.declared.fault.TableFault.TheVariants.{NoHeader, HeaderDiffers, FieldCount, NotUtf8, NotInt, TooManyRows, NoColumn, TooManyColumns}
 use Rattle.rs_table.specs.Column.{Column, place_of}
 use Rattle.rs_table.specs.Relation.{Relation, cell_at}
+use Rattle.rs_table.specs.Stored.{rows_across}
+use Rattle.rs_table.specs.Texts.{column_texts, text_number}
 use Rattle.rs_table.specs.Reading.{header_of, row_of, table_of}
 
 -- what computes a file's records and tests their text
@@ -50,6 +52,30 @@ last_city = refl
 
 pub no_row_more : cell_at table 4 1 ≡ None
 no_row_more = refl
+
+-- texts are numbered by their first occurrence in their own column
+abbrev letters : Relation
+letters = record {
+  schema = (codes "a", kind.Text) ∷ (codes "b", kind.Text) ∷ [];
+  rows = (Text (codes "x") ∷ Text (codes "y") ∷ []) ∷ (Text (codes "y") ∷ Text (codes "z") ∷ []) ∷ (Text (codes "x") ∷ Text (codes "x") ∷ []) ∷ [];
+}
+
+pub number_of_x : text_number (codes "x") (column_texts letters 0) ≡ 0
+number_of_x = refl
+
+pub number_of_y : text_number (codes "y") (column_texts letters 0) ≡ 1
+number_of_y = refl
+
+pub number_of_x_elsewhere : text_number (codes "x") (column_texts letters 1) ≡ 2
+number_of_x_elsewhere = refl
+
+pub number_of_second_city : text_number (codes "2") (column_texts table 2) ≡ 1
+number_of_second_city = refl
+
+-- rows stand column by column, and join at the end of each column
+pub across : rows_across 2 ((Int (pos 1) ∷ Int (pos 2) ∷ []) ∷ (Text (codes "x") ∷ Text (codes "y") ∷ []) ∷ [])
+    ≡ (Int (pos 1) ∷ Text (codes "x") ∷ []) ∷ (Int (pos 2) ∷ Text (codes "y") ∷ []) ∷ []
+across = refl
 
 -- a column of numbers, and one of numbers beside one of texts
 abbrev v : List Column

@@ -1,53 +1,26 @@
-ghost use Rattle.std.specs.Prelude.{◌≡◌, ◌<◌, [], length, slice_index_or, if◌then◌else◌};
-ghost use Rattle.std.specs.Str.{is_utf8};
-ghost use Rattle.csv.specs.Records.{fields_of};
-ghost use Rattle.rs_value.specs.Answer.{Gives};
-ghost use Rattle.rs_table.specs.Reading.{cell_of};
+ghost use Rattle.std.specs.Prelude.{◌≡◌, IfOk, IsOk};
+ghost use Rattle.rs_value.specs.Value.{kind_of};
+ghost use Rattle.rs_value.specs.declared.kind.Kind.TheVariants as kind;
+ghost use Rattle.rs_table.specs.Lent.{shown};
 
-use crate::fault::TableFault;
-use csv::ByteRecord;
-use rs_value::{Kind, Text, TextFault, Value, int_of};
-use std::alloc::Global;
+use rs_value::{Memory, Text, Value};
 
-/// The field of a record at this place, counted from 0.
-pub(crate) fn field_at(record_: &ByteRecord, place: usize) -> &[u8]
-    requires { place < length (fields_of record_.now) }
-    ensures { result.now ≡ slice_index_or (fields_of record_.now) place [] }
-{
-    record_.get(place).unwrap()
+/// A cell as a table lends it. A table keeps no `Value`, so it lends none.
+#[derive(Clone, Copy, Debug, PartialEq, Eq)]
+pub enum Cell<'a> {
+    Number(i64),
+    Text(&'a Text),
 }
 
-/// The text of a field. The row and the column are those that a fault names.
-pub(crate) fn text_at(
-    alloc: Global,
-    row: u32,
-    column: u32,
-    field: &[u8],
-) -> Result<Text, TableFault>
-    ensures { Gives TableFault.Memory (if is_utf8 field.now then Ok field.now else Err (TableFault.NotUtf8 row column)) result }
-{
-    match Text::from_bytes(alloc, field) {
-        Ok(text) => Ok(text),
-        Err(TextFault::NotUtf8 { .. }) => Err(TableFault::NotUtf8 { row, column }),
-        Err(TextFault::Memory) => Err(TableFault::Memory),
-    }
-}
-
-/// The value of a field in a column of this kind.
-pub(crate) fn read_cell(
-    alloc: Global,
-    kind: Kind,
-    row: u32,
-    column: u32,
-    field: &[u8],
-) -> Result<Value, TableFault>
-    ensures { Gives TableFault.Memory (cell_of kind row column field.now) result }
-{
-    match kind {
-        Kind::Int => match int_of(field) {
-            Some(number) => Ok(Value::Int(number)),
-            None => Err(TableFault::NotInt { row, column }),
-        },
-        Kind::Text => Ok(Value::Text(text_at(alloc, row, column, field)?)),
+impl Cell<'_> {
+    /// The value of the cell. Only the copy of a text takes memory, on the text's own allocator.
+    pub fn copy(&self) -> Result<Value, Memory>
+        ensures same { IfOk result (λ value. value ≡ shown self.now) }
+        ensures number { kind_of (shown self.now) ≡ kind.Int → IsOk result }
+    {
+        match self {
+            Cell::Number(number) => Ok(Value::Int(*number)),
+            Cell::Text(text) => Ok(Value::Text(text.copy()?)),
+        }
     }
 }

@@ -1,15 +1,21 @@
 //! Tables of values, read from CSV files.
 //!
-//! Its promise: a table is the rows of the file's records, or the first thing that refuses them; and the rows of every
-//! table fit its columns.
+//! Its promise: a table is the rows of the file's records, or the first thing that refuses them; the rows of every table
+//! fit its columns; rows that join it stand behind its own, or the table stays as it was; and the number of a text is how
+//! many different texts stand in its column before it does.
 #![tactic(auto)]
 
 mod cell;
+mod cells;
+mod columns;
 mod fault;
+mod field;
 mod records;
 mod schema;
 mod table;
+mod texts;
 
+pub use cell::Cell;
 pub use fault::TableFault;
 pub use schema::{MOST_COLUMNS, Schema};
 pub use table::{MOST_ROWS, Table};

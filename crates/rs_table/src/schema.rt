@@ -5,8 +5,8 @@ ghost use Rattle.rs_table.specs.Column.{place_of};
 ghost use Rattle.rs_table.specs.NumberColumn.{HasNumberColumn};
 ghost use Rattle.rs_table.specs.Reading.{columns_named, header_of};
 
-use crate::cell::{field_at, text_at};
 use crate::fault::TableFault;
+use crate::field::{field_at, text_at};
 use crate::records::Records;
 use csv::ByteRecord;
 use rs_value::{Kind, Text};

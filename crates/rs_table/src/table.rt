@@ -1,16 +1,21 @@
-ghost use Rattle.std.specs.Prelude.{◌≡◌, ◌≤◌, ◌<◌, ◌+◌, ◌^◌, ◌==◌, ◌⊎◌, [], ◌∷◌, length, slice_get, true, IfOk, IfErr, IsOk, MatchOption, MatchResult};
+ghost use Rattle.std.specs.Prelude.{◌≡◌, ◌≤◌, ◌<◌, ◌+◌, ◌^◌, ◌==◌, ◌⊎◌, [], ◌∷◌, length, map, slice_get, true, ℕ, List as Seq, IfOk, IfErr, IfSome, IsOk, OnErr, OnOk, MatchOption, MatchResult};
 ghost use Rattle.csv.specs.Records.{fields_of};
 ghost use Rattle.rs_value.specs.Answer.{Gives};
 ghost use Rattle.rs_value.specs.declared.kind.Kind.TheVariants as kind;
 ghost use Rattle.rs_table.specs.Column.{Column};
+ghost use Rattle.rs_value.specs.declared.value.Value.TheVariants as value;
+ghost use Rattle.rs_table.specs.Lent.{shown, with_rows};
+ghost use Rattle.rs_table.specs.Texts.{column_texts, text_number};
 ghost use Rattle.rs_table.specs.Relation.{cell_at, most_rows, row_fits};
 ghost use Rattle.rs_value.specs.Value.{fits};
 ghost use Rattle.std.specs.List.{AllByRecursion};
 ghost use Rattle.rs_table.specs.Appended.{appended};
 ghost use Rattle.rs_table.specs.Reading.{cells_of, difference_from, row_of, rows_from, rows_of_records, table_of};
 
-use crate::cell::{field_at, read_cell};
+use crate::cell::Cell;
+use crate::columns::Columns;
 use crate::fault::TableFault;
+use crate::field::{field_at, read_cell};
 use crate::records::Records;
 use crate::schema::Schema;
 use csv::ByteRecord;
@@ -28,17 +33,18 @@ const _: () = prove!(MOST_ROWS < u32::MAX as usize);
 #[derive(Drop)]
 pub struct Table {
     schema: Schema,
-    rows: Vec<List<Value>>,
+    rows: Columns,
 }
 
 impl Model for Table {
-    ghost use Rattle.rs_table.specs.Relation.{Relation, IsTable};
+    ghost use Rattle.rs_table.specs.Relation.{Relation};
+    ghost use Rattle.rs_table.specs.Stored.{IsStored};
 
     ghost Value = { Relation };
 
-    ghost view = { λ t. record { schema = t.schema; rows = t.rows.items } };
+    ghost view = { λ t. record { schema = t.schema; rows = t.rows.rows } };
 
-    ghost invariant = { λ t. IsTable (record { schema = t.schema; rows = t.rows.items }) };
+    ghost invariant = { λ t. IsStored t.schema t.rows };
 }
 
 impl Table {
@@ -70,14 +76,14 @@ impl Table {
         ensures value { result ≡ length self.now.rows }
         ensures few { result ≤ most_rows }
     {
-        self.rows.len() as u32
+        self.rows.len()
     }
 
     /// Whether there is no row.
     pub fn is_empty(&self) -> bool
         ensures { result ≡ (length self.now.rows == 0) }
     {
-        self.rows.is_empty()
+        self.rows.len() == 0
     }
 
     /// The value of a row, counted from 1, and a column, counted from 0. A number takes no memory.
@@ -92,16 +98,48 @@ impl Table {
         self.cell(row, column).copy()
     }
 
-    /// The cell of a row, counted from 1, and a column, counted from 0.
-    pub fn cell(&self, row: u32, column: u8) -> &Value
+    /// The cell of a row, counted from 1, and a column, counted from 0. It takes no memory.
+    pub fn cell(&self, row: u32, column: u8) -> Cell<'_>
         requires some_row { 1 ≤ row }
         requires row_in { row ≤ length self.now.rows }
         requires column_in { column < length self.now.schema }
-        ensures cell { cell_at self.now row column ≡ Some result.now }
-        ensures fits { (c : Column) → slice_get self.now.schema column ≡ Some c → fits c.1 result.now ≡ true }
+        ensures cell { cell_at self.now row column ≡ Some (shown result) }
+        ensures fits { (c : Column) → slice_get self.now.schema column ≡ Some c → fits c.1 (shown result) ≡ true }
     {
-        let values = self.rows[row as usize - 1].items();
-        &values[column as usize]
+        self.rows.cell(row as usize - 1, column as usize)
+    }
+
+    /// The text of a row, counted from 1, and a column of texts, counted from 0. It takes no memory.
+    pub fn text(&self, row: u32, column: u8) -> &Text
+        requires some_row { 1 ≤ row }
+        requires row_in { row ≤ length self.now.rows }
+        requires texts { (name : Seq ℕ) × (slice_get self.now.schema column ≡ Some (name, kind.Text)) }
+        ensures { cell_at self.now row column ≡ Some (value.Text result.now) }
+    {
+        self.rows.text(row as usize - 1, column as usize)
+    }
+
+    /// The number of the text of a row, counted from 1, and a column of texts, counted from 0. It takes no memory. In one
+    /// column rows have one number where they have one text. Numbers of two columns have nothing to do with each other.
+    pub fn text_number(&self, row: u32, column: u8) -> u32
+        requires some_row { 1 ≤ row }
+        requires row_in { row ≤ length self.now.rows }
+        requires texts { (name : Seq ℕ) × (slice_get self.now.schema column ≡ Some (name, kind.Text)) }
+        ensures { (text : Seq ℕ) → cell_at self.now row column ≡ Some (value.Text text) → result ≡ text_number text (column_texts self.now column) }
+    {
+        self.rows.text_number(row as usize - 1, column as usize)
+    }
+
+    /// Puts rows behind those of the table, where there is memory for all of them. Else the table stays as it was.
+    pub fn add_rows(&mut self, rows: Vec<List<Value>>) -> Result<(), Memory>
+        requires fit { AllByRecursion (λ row. row_fits self.old.schema row ≡ true) rows.items }
+        requires few { length self.old.rows + length rows.items ≤ most_rows }
+        ensures ok { OnOk result (self.new ≡ with_rows rows.items self.old) }
+        ensures err { OnErr result (self.new ≡ self.old) }
+    {
+        self.rows.reserve(rows.len())?;
+        self.rows.push_rows(rows);
+        Ok(())
     }
 }
 
@@ -148,15 +186,15 @@ fn read_rows(
     columns: &[(Text, Kind)],
     records: &mut Records<'_>,
     record_: &mut ByteRecord,
-) -> Result<Vec<List<Value>>, TableFault>
+) -> Result<Columns, TableFault>
     requires { length columns.now ≤ 64 }
-    ensures { MatchResult result (λ rows. rows_from columns.now 1 records.old ≡ Ok rows.items) (λ fault. (fault ≡ TableFault.Memory) ⊎ (rows_from columns.now 1 records.old ≡ Err fault)) }
+    ensures rows { MatchResult result (λ rows. rows_from columns.now 1 records.old ≡ Ok rows.rows) (λ fault. (fault ≡ TableFault.Memory) ⊎ (rows_from columns.now 1 records.old ≡ Err fault)) }
+    ensures kinds { IfOk result (λ rows. rows.kinds ≡ map (λ column. column.1) columns.now) }
 {
-    let mut rows = Vec::new(alloc);
+    let mut rows = Columns::new(alloc, columns)?;
     loop {
-        let row = rows.len() as u32 + 1;
-        match next_row(alloc, columns, row, records, record_)? {
-            Some(values) => rows.push(values)?,
+        match next_row(alloc, columns, rows.len() + 1, records, record_)? {
+            Some(values) => rows.add_row(values)?,
             None => return Ok(rows),
         }
     }
@@ -173,6 +211,7 @@ fn next_row(
     requires { length columns.now ≤ 64 }
     ensures end { IfOk result (λ next. MatchOption next (records.old ≡ []) (λ values. rows_from columns.now row records.old ≡ appended (values ∷ []) (rows_from columns.now (row + 1) records.new))) }
     ensures few { IfOk result (λ next. MatchOption next (Unit {0}) (λ values. row ≤ most_rows)) }
+    ensures fit { IfOk result (λ next. IfSome next (λ values. row_fits columns.now values ≡ true)) }
     ensures refused { IfErr result (λ fault. (fault ≡ TableFault.Memory) ⊎ (rows_from columns.now row records.old ≡ Err fault)) }
 {
     if !records.read(record_)? {
@@ -193,6 +232,7 @@ fn read_row(
     requires fields { length (fields_of record_.now) < 2 ^ 32 }
     ensures gives { Gives TableFault.Memory (row_of columns.now row (fields_of record_.now)) result }
     ensures few { IfOk result (λ values. row ≤ most_rows) }
+    ensures fit { IfOk result (λ values. row_fits columns.now values ≡ true) }
 {
     if row as usize > MOST_ROWS {
         return Err(TableFault::TooManyRows);

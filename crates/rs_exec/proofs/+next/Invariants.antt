@@ -1,15 +1,16 @@
-use Rattle.std.proofs.Common.{◌+◌, ◌-◌, ◌*◌, suc, max, length}
+use Rattle.std.proofs.Common.{◌+◌, ◌-◌, ◌*◌, suc, max}
 use Rattle.rs_order.specs.Schedule.{Left, Right}
 use Rattle.rs_plan.specs.Counts.{asked_of}
-use Rattle.rs_plan.specs.Lists.{list_of}
-use Rattle.rs_plan.specs.Trees.{JoinOperator, Rank, SetOperator}
+use Rattle.rs_plan.specs.Trees.{Distinct, JoinOperator, Rank, SetOperator}
 use Rattle.rs_exec.specs.Asking.{world_of}
 use Rattle.rs_exec.specs.Cores.{kind_of}
 use Rattle.rs_exec.specs.Nodes.{asked_in, number_in, tree_in}
-use Rattle.rs_exec.proofs.CycleFacts.{Turn, height}
+use Rattle.rs_exec.proofs.CycleFacts.{height}
 use Rattle.rs_exec.proofs.DistinctCycleFacts.{DropsTurn}
 use Rattle.rs_exec.proofs.JoinCycleFacts.{JoinTurn}
+use Rattle.rs_exec.proofs.RankCycleFacts.{RankTurn}
 use Rattle.rs_exec.proofs.SetCycleFacts.{SetTurn}
+use Rattle.rs_exec.proofs.TurnFacts.{both, one_child}
 use Rattle.rs_exec.proofs.+next.Given as goal
 
 -- each call goes one node down
@@ -22,7 +23,7 @@ decreases-rank::next_ranked g l = 2 * height (tree_in l.child.now) + 1
 -- the operator stands between two asks of its input, which stands too and is of the same plan
 abbrev pub invariant-rank::next_ranked-loop-child : goal.invariant-rank::next_ranked-loop-child
 invariant-rank::next_ranked-loop-child g l =
-    Turn l.context.catalog.now l.context.query.now (number_in l.fn.child) l.fn.head.term (tree_in l.fn.child) l.fn.head.tally.asked (g.S.Scorer.state l.fn.scorer) l.head l.child (g.S.Scorer.state l.scorer)
+    RankTurn l.context.catalog.now l.context.query.now (number_in l.fn.child) l.fn.head.term (tree_in l.fn.child) l.fn.head.tally.asked (g.S.Scorer.state l.fn.scorer) l.head (one_child l.child) (g.S.Scorer.state l.scorer)
 
 -- the asks of the input that are left
 abbrev pub decreases-rank::next_ranked-loop-child : goal.decreases-rank::next_ranked-loop-child
@@ -35,7 +36,7 @@ decreases-join::next_joined g l = 2 * max (height (tree_in l.left.now)) (height 
 -- the join stands between two asks of its sides, which stand too and are of the same plan
 abbrev pub invariant-join::next_joined-loop-left : goal.invariant-join::next_joined-loop-left
 invariant-join::next_joined-loop-left g l =
-    JoinTurn l.context.catalog.now l.context.query.now l.fn.head.block (kind_of l.fn.head.core) (tree_in l.fn.left) (tree_in l.fn.right) l.fn.head.tally.asked (g.S.Scorer.state l.fn.scorer) l.head l.left l.right (g.S.Scorer.state l.scorer)
+    JoinTurn l.context.catalog.now l.context.query.now l.fn.head.block (kind_of l.fn.head.core) (tree_in l.fn.left) (tree_in l.fn.right) l.fn.head.tally.asked (g.S.Scorer.state l.fn.scorer) l.head (both l.left l.right) (g.S.Scorer.state l.scorer)
 
 -- the asks of both sides that are left
 abbrev pub decreases-join::next_joined-loop-left : goal.decreases-join::next_joined-loop-left
@@ -49,12 +50,12 @@ decreases-distinct::next_distinct g l = 2 * height (tree_in l.child.now) + 1
 -- the operator stands between two asks of its input, which stands too and is of the same plan
 abbrev pub invariant-distinct::next_distinct-loop-row : goal.invariant-distinct::next_distinct-loop-row
 invariant-distinct::next_distinct-loop-row g l =
-    DropsTurn l.context.catalog.now l.context.query.now (number_in l.fn.child) (tree_in l.fn.child) l.fn.head.tally.asked (g.S.Scorer.state l.fn.scorer) l.head l.child (g.S.Scorer.state l.scorer)
+    DropsTurn l.context.catalog.now l.context.query.now (number_in l.fn.child) (tree_in l.fn.child) l.fn.head.tally.asked (g.S.Scorer.state l.fn.scorer) l.head (one_child l.child) (g.S.Scorer.state l.scorer)
 
--- the rows of the input that are left, and its end
+-- the asks of the input that are left
 abbrev pub decreases-distinct::next_distinct-loop-row : goal.decreases-distinct::next_distinct-loop-row
 decreases-distinct::next_distinct-loop-row g l =
-    suc (length (list_of (world_of l.context.catalog.now (g.S.Scorer.state l.fn.scorer).answer l.context.query.now) (number_in l.fn.child) (tree_in l.fn.child))) - asked_in l.child
+    asked_of (world_of l.context.catalog.now (g.S.Scorer.state l.fn.scorer).answer l.context.query.now) (number_in l.fn.child) (Distinct (tree_in l.fn.child)) (suc l.fn.head.tally.asked) Left - asked_in l.child
 
 abbrev pub decreases-set::next_combined : goal.decreases-set::next_combined
 decreases-set::next_combined g l = 2 * max (height (tree_in l.left.now)) (height (tree_in l.right.now)) + 1
@@ -62,7 +63,7 @@ decreases-set::next_combined g l = 2 * max (height (tree_in l.left.now)) (height
 -- the set operator stands between two asks of its sides, which stand too and are of the same plan
 abbrev pub invariant-set::next_combined-loop-left : goal.invariant-set::next_combined-loop-left
 invariant-set::next_combined-loop-left g l =
-    SetTurn l.context.catalog.now l.context.query.now (tree_in l.fn.left) (tree_in l.fn.right) l.fn.head.tally.asked (g.S.Scorer.state l.fn.scorer) l.head l.left l.right (g.S.Scorer.state l.scorer)
+    SetTurn l.context.catalog.now l.context.query.now (tree_in l.fn.left) (tree_in l.fn.right) l.fn.head.tally.asked (g.S.Scorer.state l.fn.scorer) l.head (both l.left l.right) (g.S.Scorer.state l.scorer)
 
 -- the asks of both sides that are left
 abbrev pub decreases-set::next_combined-loop-left : goal.decreases-set::next_combined-loop-left

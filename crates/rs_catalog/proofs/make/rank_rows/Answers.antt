@@ -1,20 +1,22 @@
-use Rattle.std.proofs.Common.{ap, length, subst, sym}
+use Rattle.std.proofs.Common.{◌∙◌, ap, length, map, subst, sym}
 use Rattle.std.specs.Prelude.{Ok}
 use Rattle.rs_value.proofs.ResultFacts.{given-err}
 use Rattle.rs_expr.specs.InOrder.{Inquires}
 use Rattle.rs_expr.proofs.InOrderFacts.{InquiryEnds-ok}
-use Rattle.rs_catalog.specs.Indexes.{IsRanking}
-use Rattle.rs_catalog.specs.Making.{as_ranking, scoring_of}
+use Rattle.rs_rank.specs.declared.scored_row.ScoredRow.{ScoredRow}
+use Rattle.rs_catalog.specs.Indexes.{IsRanking, args_in}
+use Rattle.rs_catalog.specs.Inside.{AreScores}
+use Rattle.rs_catalog.specs.Making.{as_ranked, scoring_of}
 use Rattle.rs_catalog.specs.declared.index.IndexFault.TheVariants.{Memory}
 use Rattle.rs_catalog.proofs.MakeFacts.{Inquires-ranked, Inquires-unranked, Inquires-unsorted, ranked}
-use Rattle.rs_catalog.proofs.RankingFacts.{IsRanking-stable}
+use Rattle.rs_catalog.proofs.RankingFacts.{AreScores-stable, IsRanking-stable}
 use Rattle.rs_catalog.proofs.make.rank_rows.Goals as goal
 
 pub returns-in_err-entries-clause-ranks : goal.returns-in_err-entries-clause-ranks
 returns-in_err-entries-clause-ranks g c =
     let scoring = scoring_of (g.S.Scorer.state c.args.scorer.now).answer c.args.predicate.now c.args.args.now c.args.table.now.rows in
     subst (λ result. Inquires Memory (ranked scoring) result (g.S.Scorer.state c.args.scorer.now) (g.S.Scorer.state c.score_rows.new.scorer))
-    (sym (ap as_ranking (given-err c.from_residual.result c.in_err-entries.field-0.0 c.from_residual.ensures)))
+    (sym (ap as_ranked (given-err c.from_residual.result c.in_err-entries.field-0.0 c.from_residual.ensures)))
     (Inquires-unranked scoring c.in_err-entries.field-0.0 _ _ c.in_err-entries.ensures)
 
 pub returns-clause-ranks : goal.returns-clause-ranks
@@ -32,5 +34,18 @@ pub returns-in_err-sort_stably-clause-ranks : goal.returns-in_err-sort_stably-cl
 returns-in_err-sort_stably-clause-ranks g c =
     let scoring = scoring_of (g.S.Scorer.state c.args.scorer.now).answer c.args.predicate.now c.args.args.now c.args.table.now.rows in
     subst (λ result. Inquires Memory (ranked scoring) result (g.S.Scorer.state c.args.scorer.now) (g.S.Scorer.state c.score_rows.new.scorer))
-    (sym (ap as_ranking (given-err c.from_residual-in_err-sort_stably.result Memory c.from_residual-in_err-sort_stably.ensures)))
+    (sym (ap as_ranked (given-err c.from_residual-in_err-sort_stably.result Memory c.from_residual-in_err-sort_stably.ensures)))
     (Inquires-unsorted scoring c.in_ok-entries.entries.items _ _ c.in_ok-entries.ensures)
+
+pub returns-in_err-scores-clause-ranks : goal.returns-in_err-scores-clause-ranks
+returns-in_err-scores-clause-ranks g c =
+    let scoring = scoring_of (g.S.Scorer.state c.args.scorer.now).answer c.args.predicate.now c.args.args.now c.args.table.now.rows in
+    subst (λ result. Inquires Memory (ranked scoring) result (g.S.Scorer.state c.args.scorer.now) (g.S.Scorer.state c.score_rows.new.scorer))
+    (sym (ap as_ranked (given-err c.from_residual-in_err-scores.result Memory c.from_residual-in_err-scores.ensures)))
+    (Inquires-unsorted scoring c.in_ok-entries.entries.items _ _ c.in_ok-entries.ensures)
+
+pub returns-clause-scores : goal.returns-clause-scores
+returns-clause-scores g c =
+    subst (λ scores. AreScores c.sort_stably.new.rows.items scores) (sym (c.in_ok-scores.ensures ∙ ap (λ entries. map (λ (entry : ScoredRow). entry.score) entries) c.as_slice.ensures.value))
+    (subst (λ ranking. AreScores ranking (map (λ (entry : ScoredRow). entry.score) c.in_ok-entries.entries.items)) (sym c.in_ok-sort_stably.ensures.ok)
+    (AreScores-stable (λ row. (g.S.Scorer.state c.args.scorer.now).answer c.args.predicate.now (args_in c.args.args.now row)) c.args.predicate.now.max c.args.table.now.rows c.in_ok-entries.entries.items (sym (InquiryEnds-ok _ _ _ _ _ c.in_ok-entries.ensures).gives)))

@@ -74,8 +74,8 @@ returns-in-Rank-clause-spare t c = λ no_distinct.
     let sum = c.with_calls.ensures in
     omega arith
 
-pub hashed-requires : goal.hashed-requires
-hashed-requires t c =
+pub hash_cost-requires : goal.hash_cost-requires
+hash_cost-requires t c =
     let catalogue = c.args.planning.now.catalog.now in
     let block = block_in c.args.planning.now.query.now c.args.number in
     let formed = block-formed catalogue c.args.planning.now.query.now c.args.number c.requires.planning.query in
@@ -107,7 +107,7 @@ returns-in-HashJoin-clause-most t c =
     c.part_rows-left_rows.result c.part_rows-right_rows.result c.part_rows-rows-in-HashJoin.result is part
     (c.part_cost-left_cost.ensures.spare part.2.left_whole) (c.part_cost-right_cost.ensures.spare part.2.right_whole)
     c.part_rows-left_rows.ensures.most c.part_rows-right_rows.ensures.most c.part_rows-rows-in-HashJoin.ensures.most in
-    let sum = c.hashed.ensures in
+    let sum = c.hash_cost.ensures in
     omega arith
 
 pub returns-in-HashJoin-clause-spare : goal.returns-in-HashJoin-clause-spare
@@ -125,11 +125,11 @@ returns-in-HashJoin-clause-spare t c = λ no_distinct.
     c.part_rows-left_rows.result c.part_rows-right_rows.result c.part_rows-rows-in-HashJoin.result is part
     (c.part_cost-left_cost.ensures.spare part.2.left_whole) (c.part_cost-right_cost.ensures.spare part.2.right_whole)
     c.part_rows-left_rows.ensures.most c.part_rows-right_rows.ensures.most c.part_rows-rows-in-HashJoin.ensures.most in
-    let sum = c.hashed.ensures in
+    let sum = c.hash_cost.ensures in
     omega arith
 
-pub nested-requires : goal.nested-requires
-nested-requires t c =
+pub nested_cost-requires : goal.nested_cost-requires
+nested_cost-requires t c =
     let catalogue = c.args.planning.now.catalog.now in
     let block = block_in c.args.planning.now.query.now c.args.number in
     let formed = block-formed catalogue c.args.planning.now.query.now c.args.number c.requires.planning.query in
@@ -161,7 +161,7 @@ returns-in-NestedJoin-clause-most t c =
     c.part_rows-left_rows-in-NestedJoin.result c.part_rows-right_rows-in-NestedJoin.result c.part_rows-rows-in-NestedJoin.result is part
     (c.part_cost-left_cost-in-NestedJoin.ensures.spare part.2.left_whole) (c.part_cost-right_cost-in-NestedJoin.ensures.spare part.2.right_whole)
     c.part_rows-left_rows-in-NestedJoin.ensures.most c.part_rows-right_rows-in-NestedJoin.ensures.most c.part_rows-rows-in-NestedJoin.ensures.most in
-    let sum = c.nested.ensures in
+    let sum = c.nested_cost.ensures in
     omega arith
 
 pub returns-in-NestedJoin-clause-spare : goal.returns-in-NestedJoin-clause-spare
@@ -179,7 +179,7 @@ returns-in-NestedJoin-clause-spare t c = λ no_distinct.
     c.part_rows-left_rows-in-NestedJoin.result c.part_rows-right_rows-in-NestedJoin.result c.part_rows-rows-in-NestedJoin.result is part
     (c.part_cost-left_cost-in-NestedJoin.ensures.spare part.2.left_whole) (c.part_cost-right_cost-in-NestedJoin.ensures.spare part.2.right_whole)
     c.part_rows-left_rows-in-NestedJoin.ensures.most c.part_rows-right_rows-in-NestedJoin.ensures.most c.part_rows-rows-in-NestedJoin.ensures.most in
-    let sum = c.nested.ensures in
+    let sum = c.nested_cost.ensures in
     omega arith
 
 pub overflow_add-result : goal.overflow_add-result

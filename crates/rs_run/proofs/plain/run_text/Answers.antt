@@ -10,14 +10,14 @@ use Rattle.rs_run.proofs.plain.run_text.Goals as goal
 
 pub returns-in_err-tokens : goal.returns-in_err-tokens
 returns-in_err-tokens g c =
-    let old = g.W.Outside.state c.args.outside.now in
+    let old = g.W.Host.state c.args.host.now in
     Text-unlexed (StatementsRun (finds_in old.files.told) old.scorer.answer c.args.evaluating) c.args.script.now
     (each_text (finds_in old.files.told) (finds_in-has old.files.told) old.scorer.answer c.args.evaluating c.args.script.now) c.in_err-tokens.field-0.0 c.from_residual.result
     old c.from_residual.ensures c.in_err-tokens.ensures.refused
 
 pub returns-in_err-statements : goal.returns-in_err-statements
 returns-in_err-statements g c =
-    let old = g.W.Outside.state c.args.outside.now in
+    let old = g.W.Host.state c.args.host.now in
     Text-unparsed (StatementsRun (finds_in old.files.told) old.scorer.answer c.args.evaluating) c.args.script.now
     (each_text (finds_in old.files.told) (finds_in-has old.files.told) old.scorer.answer c.args.evaluating c.args.script.now) c.deref.result.now c.in_err-statements.field-0.0
     c.from_residual-in_err-statements.result old c.from_residual-in_err-statements.ensures
@@ -30,8 +30,8 @@ run_statements-requires g c = record {
 
 pub returns : goal.returns
 returns g c =
-    let old = g.W.Outside.state c.args.outside.now in
-    let new = g.W.Outside.state c.run_statements.new.outside in
+    let old = g.W.Host.state c.args.host.now in
+    let new = g.W.Host.state c.run_statements.new.host in
     let run = StatementsRun (finds_in old.files.told) old.scorer.answer c.args.evaluating in
     Text-runs run c.args.script.now c.deref.result.now (commands_of c.in_ok-statements.statements.items) c.run_statements.result old new
     (HasTokens-slice _ _ _ c.in_ok-tokens.ensures.spells c.in_ok-tokens.ensures.few c.deref.ensures.value) c.in_ok-statements.ensures.found c.in_ok-statements.ensures.sound

@@ -18,11 +18,11 @@ declare-requires g c = record {
 
 pub returns-in-Declare : goal.returns-in-Declare
 returns-in-Declare g c =
-    let old = g.W.Outside.state c.args.outside.now in
+    let old = g.W.Host.state c.args.host.now in
     let finds = finds_in old.files.told in
     let answer = old.scorer.answer in
     let state = state_of c.args.catalog.now (held_in c.args.session.now) in record {
-      does = rw g.met.W.Outside.after_scorer (Stepped-is (DoesInSession finds answer c.args.evaluating state (command_of c.args.statement.now))
+      does = rw g.met.W.Host.after_scorer (Stepped-is (DoesInSession finds answer c.args.evaluating state (command_of c.args.statement.now))
           (declare_step c.args.evaluating answer state c.in-Declare.name (query_of c.in-Declare.select))
           (state_of c.args.catalog.now (held_in c.declare.new.session)) c.declare.result old _
           (does-declare finds answer c.args.evaluating state c.args.statement.now c.in-Declare.name c.in-Declare.select c.in-Declare.is)
@@ -36,7 +36,7 @@ fetch-requires g c = c.requires.asked
 
 pub returns-in-Fetch : goal.returns-in-Fetch
 returns-in-Fetch g c =
-    let old = g.W.Outside.state c.args.outside.now in
+    let old = g.W.Host.state c.args.host.now in
     let finds = finds_in old.files.told in
     let answer = old.scorer.answer in
     let state = state_of c.args.catalog.now (held_in c.args.session.now) in record {
@@ -51,7 +51,7 @@ returns-in-Fetch g c =
 
 pub returns-in-Close : goal.returns-in-Close
 returns-in-Close g c =
-    let old = g.W.Outside.state c.args.outside.now in
+    let old = g.W.Host.state c.args.host.now in
     let finds = finds_in old.files.told in
     let answer = old.scorer.answer in
     let state = state_of c.args.catalog.now (held_in c.args.session.now) in record {
@@ -72,14 +72,14 @@ run_without_cursor-requires g c = record {
 
 pub returns-in_default : goal.returns-in_default
 returns-in_default g c =
-    let old = g.W.Outside.state c.args.outside.now in
+    let old = g.W.Host.state c.args.host.now in
     let finds = finds_in old.files.told in
     let answer = old.scorer.answer in
     let catalogue = c.args.catalog.now in
     let entries = held_in c.args.session.now in
     let command = command_of c.args.statement.now in
     let next = c.run_without_cursor.new.catalog in
-    let new = g.W.Outside.state c.run_without_cursor.new.outside in
+    let new = g.W.Host.state c.run_without_cursor.new.host in
     let larger = c.cursors_stand_in_larger_catalogues.ensures in record {
       does = Stepped-beside finds answer c.args.evaluating (state_of catalogue entries) command next c.run_without_cursor.result old new
           (of_no_cursor c.args.statement.now c.in_default.not-Declare c.in_default.not-Fetch c.in_default.not-Close) c.run_without_cursor.ensures;

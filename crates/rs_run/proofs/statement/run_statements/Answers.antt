@@ -11,7 +11,7 @@ use Rattle.rs_run.proofs.statement.run_statements.Goals as goal
 
 pub loop-statement-init : goal.loop-statement-init
 loop-statement-init g c =
-    let old = g.W.Outside.state c.args.outside.now in
+    let old = g.W.Host.state c.args.host.now in
     let does = DoesInSession (finds_in old.files.told) old.scorer.answer c.args.evaluating in
     let commands = commands_of c.args.statements.now in
     let starts : nothing ≡ state_of c.new-catalog.result (held_in c.new-session.result) = λ i. record {
@@ -34,7 +34,7 @@ run_statement-requires g c =
 
 pub returns-in-Err : goal.returns-in-Err
 returns-in-Err g c =
-    let old = g.W.Outside.state c.args.outside.now in
+    let old = g.W.Host.state c.args.host.now in
     let between = c.loop-statement.invariant.between in
     let state = state_of c.loop-statement.catalog (held_in c.loop-statement.session) in
     let next = state_of c.run_statement.new.catalog (held_in c.run_statement.new.session) in
@@ -46,7 +46,7 @@ returns-in-Err g c =
 
 pub loop-statement-preserved : goal.loop-statement-preserved
 loop-statement-preserved g c =
-    let old = g.W.Outside.state c.args.outside.now in
+    let old = g.W.Host.state c.args.host.now in
     let between = c.loop-statement.invariant.between in
     let state = state_of c.loop-statement.catalog (held_in c.loop-statement.session) in
     let next = state_of c.run_statement.new.catalog (held_in c.run_statement.new.session) in record {
@@ -62,7 +62,7 @@ loop-statement-preserved g c =
 
 pub returns : goal.returns
 returns g c =
-    let old = g.W.Outside.state c.args.outside.now in
+    let old = g.W.Host.state c.args.host.now in
     Runs-all (DoesInSession (finds_in old.files.told) old.scorer.answer c.args.evaluating) nothing (commands_of c.args.statements.now) c.loop-statement.statement-index
     (state_of c.loop-statement.catalog (held_in c.loop-statement.session)) old _
     (drop-all command_of c.args.statements.now c.loop-statement.statement-index c.loop-statement-test.false) c.loop-statement.invariant.between

@@ -8,9 +8,9 @@ use Rattle.rs_run.proofs.statement.run_without_cursor.Goals as goal
 
 pub returns-in-CreateTable : goal.returns-in-CreateTable
 returns-in-CreateTable g c =
-    let old = g.W.Outside.state c.args.outside.now in
+    let old = g.W.Host.state c.args.host.now in
     let finds = finds_in old.files.told in
-    rw g.met.W.Outside.after_files (
+    rw g.met.W.Host.after_files (
     Stepped-map _ (Does finds old.scorer.answer c.args.evaluating c.args.catalog.now (command_of c.args.statement.now)) c.create_table.new.catalog c.create_table.result old _
     (Does-table finds old.scorer.answer c.args.evaluating c.args.catalog.now c.args.statement.now c.in-CreateTable.name c.in-CreateTable.columns c.deref.result.now c.in-CreateTable.file c.in-CreateTable.is
     (c.deref.ensures.value ∙ c.items.ensures))
@@ -18,16 +18,16 @@ returns-in-CreateTable g c =
 
 pub returns-in-CreateRankIndex : goal.returns-in-CreateRankIndex
 returns-in-CreateRankIndex g c =
-    let old = g.W.Outside.state c.args.outside.now in
+    let old = g.W.Host.state c.args.host.now in
     let finds = finds_in old.files.told in
-    rw g.met.W.Outside.after_scorer (
+    rw g.met.W.Host.after_scorer (
     Stepped-is (Does finds old.scorer.answer c.args.evaluating c.args.catalog.now (command_of c.args.statement.now)) _ c.create_index.new.catalog c.create_index.result old _
     (Does-index finds old.scorer.answer c.args.evaluating c.args.catalog.now c.args.statement.now _ _ _ _ _ c.in-CreateRankIndex.is)
     (rw c.scorer.ensures.value at c.create_index.ensures old))
 
 pub returns-in-CreatePredicate : goal.returns-in-CreatePredicate
 returns-in-CreatePredicate g c =
-    let old = g.W.Outside.state c.args.outside.now in
+    let old = g.W.Host.state c.args.host.now in
     let finds = finds_in old.files.told in
     Stepped-still (Does finds old.scorer.answer c.args.evaluating c.args.catalog.now (command_of c.args.statement.now))
     (predicate_outcome c.args.catalog.now c.in-CreatePredicate.name (command_of c.args.statement.now)) c.create_predicate.new.catalog c.create_predicate.result old
@@ -43,7 +43,7 @@ run_select-requires g c = record { written = rw c.in-Query.is at c.requires.writ
 
 pub returns-in-Query : goal.returns-in-Query
 returns-in-Query g c =
-    let old = g.W.Outside.state c.args.outside.now in
+    let old = g.W.Host.state c.args.host.now in
     let finds = finds_in old.files.told in
     Stepped-is (Does finds old.scorer.answer c.args.evaluating c.args.catalog.now (command_of c.args.statement.now))
     (select_step c.args.evaluating old.scorer.answer c.args.catalog.now (query_of c.in-Query.select)) c.args.catalog.now c.run_select.result old _
@@ -57,7 +57,7 @@ run_analyze-requires g c = record { written = rw c.in-ExplainAnalyze.is at c.req
 
 pub returns-in-Explain : goal.returns-in-Explain
 returns-in-Explain g c =
-    let old = g.W.Outside.state c.args.outside.now in
+    let old = g.W.Host.state c.args.host.now in
     let finds = finds_in old.files.told in
     Stepped-is (Does finds old.scorer.answer c.args.evaluating c.args.catalog.now (command_of c.args.statement.now))
     (explain_step c.args.evaluating old.scorer.answer c.args.catalog.now (query_of c.in-Explain.select)) c.args.catalog.now c.run_explain.result old _
@@ -65,7 +65,7 @@ returns-in-Explain g c =
 
 pub returns-in-ExplainAnalyze : goal.returns-in-ExplainAnalyze
 returns-in-ExplainAnalyze g c =
-    let old = g.W.Outside.state c.args.outside.now in
+    let old = g.W.Host.state c.args.host.now in
     let finds = finds_in old.files.told in
     Stepped-is (Does finds old.scorer.answer c.args.evaluating c.args.catalog.now (command_of c.args.statement.now))
     (analyze_step c.args.evaluating old.scorer.answer c.args.catalog.now (query_of c.in-ExplainAnalyze.select)) c.args.catalog.now c.run_analyze.result old _

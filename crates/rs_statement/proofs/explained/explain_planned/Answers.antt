@@ -23,7 +23,7 @@ use Rattle.rs_statement.proofs.explained.explain_planned.Goals as goal
 
 pub returns-in_err-query : goal.returns-in_err-query
 returns-in_err-query g c =
-    let old = g.W.Outside.state c.args.outside.now in
+    let old = g.W.Host.state c.args.host.now in
     rw (given-err c.from_residual.result (bind_fault c.in_err-query.field-0.0) c.from_residual.ensures) (
     Stepped-refused (explained_step old.scorer.answer c.args.catalog.now c.args.seed)
     (or_bind_fault (bound_query c.args.catalog.now (query_of c.args.select.now))) (bind_fault c.in_err-query.field-0.0) c.args.catalog.now
@@ -31,10 +31,10 @@ returns-in_err-query g c =
 
 pub returns-in-Err : goal.returns-in-Err
 returns-in-Err g c =
-    let old = g.W.Outside.state c.args.outside.now in
+    let old = g.W.Host.state c.args.host.now in
     let answer = old.scorer.answer in
     let catalogue = c.args.catalog.now in
-    rw g.met.W.Outside.after_scorer (
+    rw g.met.W.Host.after_scorer (
     Sampled-broken catalogue c.args.seed (λ query. lines_step (text_of catalogue query (cards_for answer catalogue c.args.seed query) (plan_for answer catalogue c.args.seed query) None ∷ []) catalogue)
     (or_bind_fault (bound_query catalogue (query_of c.args.select.now))) c.in_ok-query.query (Gives-bound _ _ c.in_ok-query.ensures.gives)
     old _ c.in-Err.fault (rw c.scorer.ensures.value at c.in-Err.ensures.calls old))
@@ -47,13 +47,13 @@ choose_plan-requires g c = record {
 
 pub returns-in-Err-choose_plan : goal.returns-in-Err-choose_plan
 returns-in-Err-choose_plan g c =
-    let old = g.W.Outside.state c.args.outside.now in
+    let old = g.W.Host.state c.args.host.now in
     let answer = old.scorer.answer in
     let catalogue = c.args.catalog.now in
     let query = c.in_ok-query.query in
     let middle = record old { scorer = g.W.Scorer.Scorer.state c.take_sample.new.scorer } in
     let rest : Query → Step CatalogDef = λ query. lines_step (text_of catalogue query (cards_for answer catalogue c.args.seed query) (plan_for answer catalogue c.args.seed query) None ∷ []) catalogue in
-    rw g.met.W.Outside.after_scorer (
+    rw g.met.W.Host.after_scorer (
     Sampled-then catalogue c.args.seed rest (or_bind_fault (bound_query catalogue (query_of c.args.select.now))) query (Gives-bound _ _ c.in_ok-query.ensures.gives)
     old middle (Err Memory) middle (rw c.scorer.ensures.value at c.in-Ok.ensures.calls old)
     (Stepped-no_memory (λ step. step ≡ rest query) (rest query) catalogue middle refl))
@@ -63,20 +63,20 @@ explain-told-requires g c = record { query = c.in_ok-query.ensures.formed; cards
 
 pub returns-in_err-text : goal.returns-in_err-text
 returns-in_err-text g c =
-    let old = g.W.Outside.state c.args.outside.now in
+    let old = g.W.Host.state c.args.host.now in
     let answer = old.scorer.answer in
     let catalogue = c.args.catalog.now in
     let query = c.in_ok-query.query in
     let middle = record old { scorer = g.W.Scorer.Scorer.state c.take_sample.new.scorer } in
     let rest : Query → Step CatalogDef = λ query. lines_step (text_of catalogue query (cards_for answer catalogue c.args.seed query) (plan_for answer catalogue c.args.seed query) None ∷ []) catalogue in
-    rw (given-err c.from_residual-in_err-text.result Memory c.from_residual-in_err-text.ensures, g.met.W.Outside.after_scorer) (
+    rw (given-err c.from_residual-in_err-text.result Memory c.from_residual-in_err-text.ensures, g.met.W.Host.after_scorer) (
     Sampled-then catalogue c.args.seed rest (or_bind_fault (bound_query catalogue (query_of c.args.select.now))) query (Gives-bound _ _ c.in_ok-query.ensures.gives)
     old middle (Err Memory) middle (rw c.scorer.ensures.value at c.in-Ok.ensures.calls old)
     (Stepped-no_memory (λ step. step ≡ rest query) (rest query) catalogue middle refl))
 
 pub returns : goal.returns
 returns g c =
-    let old = g.W.Outside.state c.args.outside.now in
+    let old = g.W.Host.state c.args.host.now in
     let answer = old.scorer.answer in
     let catalogue = c.args.catalog.now in
     let query = c.in_ok-query.query in
@@ -91,9 +91,9 @@ returns g c =
     ∙ c.cards_decide_the_text.ensures catalogue query (cards_of c.in-Ok.cards) cards (tree_of c.in-Ok-choose_plan.plan) None c.in_ok-query.ensures.formed c.in-Ok.ensures.own
     same c.in-Ok-choose_plan.ensures.plan
     ∙ ap (λ t. text_of catalogue query cards t None) tree in
-    rw (g.met.W.Outside.after_out, g.met.W.Outside.after_scorer) (
+    rw (g.met.W.Host.after_out, g.met.W.Host.after_scorer) (
     Sampled-then catalogue c.args.seed (λ query. lines_step (text_of catalogue query (cards_for answer catalogue c.args.seed query) (plan_for answer catalogue c.args.seed query) None ∷ []) catalogue)
     (or_bind_fault (bound_query catalogue (query_of c.args.select.now))) query (Gives-bound _ _ c.in_ok-query.ensures.gives)
     old new c.put_text.result middle (rw c.scorer.ensures.value at c.in-Ok.ensures.calls old)
     (Stepped-lines (text_of catalogue query cards plan None ∷ []) catalogue c.put_text.result middle new
-    (subst (λ t. Ran (lines_run (t ∷ [])) c.put_text.result middle new) text (rw (c.out.ensures.value, g.met.W.Outside.after_scorer) at c.put_text.ensures middle))))
+    (subst (λ t. Ran (lines_run (t ∷ [])) c.put_text.result middle new) text (rw (c.out.ensures.value, g.met.W.Host.after_scorer) at c.put_text.ensures middle))))

@@ -15,7 +15,7 @@ use Rattle.rs_statement.proofs.planned.run_planned.Goals as goal
 
 pub returns-in_err-query : goal.returns-in_err-query
 returns-in_err-query g c =
-    let old = g.W.Outside.state c.args.outside.now in
+    let old = g.W.Host.state c.args.host.now in
     rw (given-err c.from_residual.result (bind_fault c.in_err-query.field-0.0) c.from_residual.ensures) (
     Stepped-refused (query_step (Planned c.args.seed) old.scorer.answer c.args.catalog.now)
     (or_bind_fault (bound_query c.args.catalog.now (query_of c.args.select.now))) (bind_fault c.in_err-query.field-0.0) c.args.catalog.now
@@ -26,23 +26,23 @@ start_planned-requires g c = record { formed = c.in_ok-query.ensures.formed; hel
 
 pub returns-in_err-cursor : goal.returns-in_err-cursor
 returns-in_err-cursor g c =
-    let old = g.W.Outside.state c.args.outside.now in
+    let old = g.W.Host.state c.args.host.now in
     let answer = old.scorer.answer in
     let catalogue = c.args.catalog.now in
-    rw (given-err c.from_residual-in_err-cursor.result c.in_err-cursor.field-0.0 c.from_residual-in_err-cursor.ensures, g.met.W.Outside.after_scorer) (
+    rw (given-err c.from_residual-in_err-cursor.result c.in_err-cursor.field-0.0 c.from_residual-in_err-cursor.ensures, g.met.W.Host.after_scorer) (
     Sampled-broken catalogue c.args.seed (λ query. planned_step (world_of catalogue answer query) (plan_for answer catalogue c.args.seed query))
     (or_bind_fault (bound_query catalogue (query_of c.args.select.now))) c.in_ok-query.query (Gives-bound _ _ c.in_ok-query.ensures.gives)
     old _ c.in_err-cursor.field-0.0 (rw c.scorer.ensures.value at c.in_err-cursor.ensures.calls old))
 
 pub put_all-put-requires : goal.put_all-put-requires
 put_all-put-requires g c = record {
-  stands = rw g.met.W.Outside.after_scorer (subst (λ answer. StandsFor c.args.catalog.now answer c.in_ok-cursor.cursor)
-      (sym (c.in_ok-cursor.ensures.calls (g.W.Outside.state c.args.outside.now)).ran.keeps.scorer.answer) c.in_ok-cursor.ensures.stands);
+  stands = rw g.met.W.Host.after_scorer (subst (λ answer. StandsFor c.args.catalog.now answer c.in_ok-cursor.cursor)
+      (sym (c.in_ok-cursor.ensures.calls (g.W.Host.state c.args.host.now)).ran.keeps.scorer.answer) c.in_ok-cursor.ensures.stands);
 }
 
 pub returns : goal.returns
 returns g c =
-    let old = g.W.Outside.state c.args.outside.now in
+    let old = g.W.Host.state c.args.host.now in
     let answer = old.scorer.answer in
     let catalogue = c.args.catalog.now in
     let query = c.in_ok-query.query in
@@ -52,4 +52,4 @@ returns g c =
     (or_bind_fault (bound_query catalogue (query_of c.args.select.now))) query (Gives-bound _ _ c.in_ok-query.ensures.gives)
     old _ c.put_all-put.result middle sampled
     (Left-new as_they_are (λ first rest. refl) catalogue answer query (plan_for answer catalogue c.args.seed query) c.in_ok-cursor.cursor c.put_all-put.result middle _
-    (rw c.scorer.ensures.value at c.in_ok-cursor.ensures.starts) sampled.ran.keeps.scorer.answer (rw g.met.W.Outside.after_scorer at c.put_all-put.ensures))
+    (rw c.scorer.ensures.value at c.in_ok-cursor.ensures.starts) sampled.ran.keeps.scorer.answer (rw g.met.W.Host.after_scorer at c.put_all-put.ensures))

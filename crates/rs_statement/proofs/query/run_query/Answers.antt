@@ -20,17 +20,17 @@ query_fault-requires g c = (c.in_ok-query.query, c.in-Err.ensures.names)
 
 pub returns-in_err-query : goal.returns-in_err-query
 returns-in_err-query g c =
-    let old = g.W.Outside.state c.args.outside.now in
+    let old = g.W.Host.state c.args.host.now in
     rw (given-err c.from_residual.result (bind_fault c.in_err-query.field-0.0) c.from_residual.ensures) (
     Stepped-refused (query_step Plainly old.scorer.answer c.args.catalog.now) (or_bind_fault (bound_query c.args.catalog.now (query_of c.args.select.now)))
     (bind_fault c.in_err-query.field-0.0) c.args.catalog.now old (Gives-unbound _ _ _ c.in_err-query.ensures.gives refl))
 
 pub returns-in-Err : goal.returns-in-Err
 returns-in-Err g c =
-    let old = g.W.Outside.state c.args.outside.now in
+    let old = g.W.Host.state c.args.host.now in
     let catalogue = c.args.catalog.now in
     let query = c.in_ok-query.query in
-    rw g.met.W.Outside.after_scorer (
+    rw g.met.W.Host.after_scorer (
     Stepped-bound (query_step Plainly old.scorer.answer catalogue) (or_bind_fault (bound_query catalogue (query_of c.args.select.now)))
     query catalogue _ old _ (Gives-bound _ _ c.in_ok-query.ensures.gives)
     (Stepped-unasked answer_lines (query_outcome catalogue) plain.Memory (evaluation_of old.scorer.answer catalogue query (all_rows catalogue query))
@@ -40,14 +40,14 @@ returns-in-Err g c =
 
 pub returns : goal.returns
 returns g c =
-    let old = g.W.Outside.state c.args.outside.now in
+    let old = g.W.Host.state c.args.host.now in
     let scorer = g.W.Scorer.Scorer.state c.answer_plainly-answered.new.scorer in
     let catalogue = c.args.catalog.now in
     let query = c.in_ok-query.query in
-    rw (g.met.W.Outside.after_out, g.met.W.Outside.after_scorer) (
+    rw (g.met.W.Host.after_out, g.met.W.Host.after_scorer) (
     Stepped-bound (query_step Plainly old.scorer.answer catalogue) (or_bind_fault (bound_query catalogue (query_of c.args.select.now)))
     query catalogue _ old _ (Gives-bound _ _ c.in_ok-query.ensures.gives)
     (Stepped-asked answer_lines (query_outcome catalogue) plain.Memory (evaluation_of old.scorer.answer catalogue query (all_rows catalogue query))
     catalogue old scorer c.in-Ok.rows.items c.put_rows.result _ refl (rw c.scorer.ensures.value at c.in-Ok.ensures.evaluates)
     (subst (λ rows. Ran (lines_run (rank_lines 1 rows)) c.put_rows.result (record old { scorer = scorer }) (record old { scorer = scorer; out = g.W.Out.Sink.state c.put_rows.new.out }))
-    c.deref.ensures.value (rw (c.out.ensures.value, g.met.W.Outside.after_scorer) at c.put_rows.ensures (record old { scorer = scorer })))))
+    c.deref.ensures.value (rw (c.out.ensures.value, g.met.W.Host.after_scorer) at c.put_rows.ensures (record old { scorer = scorer })))))

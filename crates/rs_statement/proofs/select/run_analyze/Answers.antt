@@ -8,7 +8,7 @@ use Rattle.rs_statement.proofs.select.run_analyze.Goals as goal
 pub returns-in-Plainly : goal.returns-in-Plainly
 returns-in-Plainly g c =
     let query = query_of c.args.select.now in
-    let old = g.W.Outside.state c.args.outside.now in
+    let old = g.W.Host.state c.args.host.now in
     rw c.in-Plainly.is (Stepped-still (λ step. step ≡ analyze_step Plainly old.scorer.answer c.args.catalog.now query) (explain_outcome c.args.catalog.now query)
     c.args.catalog.now c.explain_query.result old refl c.explain_query.ensures)
 

@@ -21,7 +21,7 @@ counted count result fits e = e ∙ ap (λ n. count_of (n, count.1)) (to_z-of_z 
 
 pub returns-in_err-count : goal.returns-in_err-count
 returns-in_err-count g c =
-    let old = g.W.Outside.state c.args.outside.now in
+    let old = g.W.Host.state c.args.host.now in
     let state = state_of c.args.catalog.now c.args.session.now.cursors.entries in
     rw (given-err c.from_residual.result (bind_fault c.in_err-count.field-0.0) c.from_residual.ensures) (record {
       puts = Stepped-refused (fetched_step old.scorer.answer state) (fetched_cursor state c.args.count.now c.args.name.now) (bind_fault c.in_err-count.field-0.0) state old
@@ -31,12 +31,12 @@ returns-in_err-count g c =
 
 pub fetch_rows-requires : goal.fetch_rows-requires
 fetch_rows-requires g c =
-    asked-found (g.W.Outside.state c.args.outside.now).scorer.answer c.args.catalog.now (is_key c.args.name.now.text) c.args.session.now.cursors.entries c.in-Some.held.now c.requires
+    asked-found (g.W.Host.state c.args.host.now).scorer.answer c.args.catalog.now (is_key c.args.name.now.text) c.args.session.now.cursors.entries c.in-Some.held.now c.requires
     (sym c.in-Some.ensures.value)
 
 pub returns-in-Some : goal.returns-in-Some
 returns-in-Some g c =
-    let old = g.W.Outside.state c.args.outside.now in
+    let old = g.W.Host.state c.args.host.now in
     let answer = old.scorer.answer in
     let catalogue = c.args.catalog.now in
     let entries = c.args.session.now.cursors.entries in
@@ -60,7 +60,7 @@ returns-in-Some g c =
 
 pub returns-in-None : goal.returns-in-None
 returns-in-None g c =
-    let old = g.W.Outside.state c.args.outside.now in
+    let old = g.W.Host.state c.args.host.now in
     let catalogue = c.args.catalog.now in
     let entries = c.args.session.now.cursors.entries in
     let state = state_of catalogue entries in

@@ -11,13 +11,13 @@ use Rattle.rs_statement.proofs.session.fetch_asked.Goals as goal
 
 pub loop-init : goal.loop-init
 loop-init g c =
-    let answer = (g.W.Outside.state c.args.outside.now).scorer.answer in
+    let answer = (g.W.Host.state c.args.host.now).scorer.answer in
     let catalogue = c.args.catalog.now in
     let cursor = c.args.cursor.now in
     let count = c.args.count in
     let all : count ≡ count - 0 = omega arith in record {
       so_far =
-          let old = g.W.Outside.state c.args.outside.now in
+          let old = g.W.Host.state c.args.host.now in
           subst (λ left. SoFar (wanted_step catalogue answer cursor count) (wanted_step catalogue answer cursor left) old old) all (SoFar-start (wanted_step catalogue answer cursor count) old);
       fetching = subst (IsFetching catalogue answer cursor count cursor) all (fetching-start catalogue answer cursor count c.requires);
     }
@@ -28,16 +28,16 @@ put_next-requires g c =
 
 pub returns-in_err-put_next : goal.returns-in_err-put_next
 returns-in_err-put_next g c =
-    let answer = (g.W.Outside.state c.args.outside.now).scorer.answer in
+    let answer = (g.W.Host.state c.args.host.now).scorer.answer in
     let catalogue = c.args.catalog.now in
     let whole = wanted_step catalogue answer c.args.cursor.now c.args.count in
     let rest = c.args.count - (c.loop.counter + 1) in
     let same : c.args.count - c.loop.counter ≡ suc rest = omega (arith, c.loop-test.true) in
     rw (given-err c.from_residual.result c.in_err-put_next.field-0.0 c.from_residual.ensures) (record {
       puts =
-          let old = g.W.Outside.state c.args.outside.now in
-          let middle = g.W.Outside.state c.loop.outside in
-          let new = g.W.Outside.state c.put_next.new.outside in
+          let old = g.W.Host.state c.args.host.now in
+          let middle = g.W.Host.state c.loop.host in
+          let new = g.W.Host.state c.put_next.new.host in
           let so_far = c.loop.invariant.so_far in
           Wanted-broken catalogue answer whole old middle new c.loop.cursor rest c.loop.invariant.fetching.stands
           (subst (λ left. SoFar whole (wanted_step catalogue answer c.loop.cursor left) old middle) same so_far) so_far.has.keeps.scorer.answer c.in_err-put_next.field-0.0
@@ -48,7 +48,7 @@ returns-in_err-put_next g c =
 
 pub loop-preserved : goal.loop-preserved
 loop-preserved g c =
-    let answer = (g.W.Outside.state c.args.outside.now).scorer.answer in
+    let answer = (g.W.Host.state c.args.host.now).scorer.answer in
     let catalogue = c.args.catalog.now in
     let whole = wanted_step catalogue answer c.args.cursor.now c.args.count in
     let cursor = c.loop.cursor in
@@ -59,9 +59,9 @@ loop-preserved g c =
     let called = subst (λ a. IsAt cursor.query (plan_of cursor) (asks_after (world_of catalogue a cursor.query) (plan_of cursor) (asks_of cursor)) next) at c.in_ok-put_next.ensures.count in
     let stands = subst (λ a. StandsFor catalogue a next) at c.in_ok-put_next.ensures.stands in record {
       so_far =
-          let old = g.W.Outside.state c.args.outside.now in
-          let middle = g.W.Outside.state c.loop.outside in
-          let new = g.W.Outside.state c.put_next.new.outside in
+          let old = g.W.Host.state c.args.host.now in
+          let middle = g.W.Host.state c.loop.host in
+          let new = g.W.Host.state c.put_next.new.host in
           Wanted-more catalogue answer whole old middle new cursor rest c.loop.invariant.fetching.stands
           (subst (λ left. SoFar whole (wanted_step catalogue answer cursor left) old middle) same c.loop.invariant.so_far) at next called c.in_ok-put_next.ensures.puts;
       fetching = fetching-next catalogue answer c.args.cursor.now c.args.count cursor next rest
@@ -70,15 +70,15 @@ loop-preserved g c =
 
 pub returns : goal.returns
 returns g c =
-    let answer = (g.W.Outside.state c.args.outside.now).scorer.answer in
+    let answer = (g.W.Host.state c.args.host.now).scorer.answer in
     let catalogue = c.args.catalog.now in
     let cursor = c.loop.cursor in
     let whole = wanted_step catalogue answer c.args.cursor.now c.args.count in
     let all : c.args.count - c.loop.counter ≡ 0 = omega (arith, c.loop-test.false) in
     let fetching = subst (IsFetching catalogue answer c.args.cursor.now c.args.count cursor) all c.loop.invariant.fetching in record {
       puts =
-          let old = g.W.Outside.state c.args.outside.now in
-          let new = g.W.Outside.state c.loop.outside in
+          let old = g.W.Host.state c.args.host.now in
+          let new = g.W.Host.state c.loop.host in
           Wanted-done catalogue answer whole old new cursor 0 (none-wanted catalogue answer cursor)
           (subst (λ left. SoFar whole (wanted_step catalogue answer cursor left) old new) all c.loop.invariant.so_far);
       count = fetching-all catalogue answer c.args.cursor.now c.args.count cursor 0 fetching (none-wanted catalogue answer cursor);
@@ -87,7 +87,7 @@ returns g c =
 
 pub returns-then-not-branch : goal.returns-then-not-branch
 returns-then-not-branch g c =
-    let answer = (g.W.Outside.state c.args.outside.now).scorer.answer in
+    let answer = (g.W.Host.state c.args.host.now).scorer.answer in
     let catalogue = c.args.catalog.now in
     let whole = wanted_step catalogue answer c.args.cursor.now c.args.count in
     let cursor = c.loop.cursor in
@@ -99,9 +99,9 @@ returns-then-not-branch g c =
     let stands = subst (λ a. StandsFor catalogue a next) at c.in_ok-put_next.ensures.stands in
     let none = none-next catalogue answer next rest (subst (λ a. IsOver catalogue a next) at (c.in_ok-put_next.ensures.over (ap Ok c.if-not-branch.true))) in record {
       puts =
-          let old = g.W.Outside.state c.args.outside.now in
-          let middle = g.W.Outside.state c.loop.outside in
-          let new = g.W.Outside.state c.put_next.new.outside in
+          let old = g.W.Host.state c.args.host.now in
+          let middle = g.W.Host.state c.loop.host in
+          let new = g.W.Host.state c.put_next.new.host in
           Wanted-done catalogue answer whole old new next rest none
           (Wanted-more catalogue answer whole old middle new cursor rest c.loop.invariant.fetching.stands
           (subst (λ left. SoFar whole (wanted_step catalogue answer cursor left) old middle) same c.loop.invariant.so_far) at next called c.in_ok-put_next.ensures.puts);

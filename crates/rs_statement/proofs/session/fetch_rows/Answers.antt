@@ -16,7 +16,7 @@ fetch_asked-requires g c = rw c.in-Asked.is at c.requires
 
 pub returns-in-Asked : goal.returns-in-Asked
 returns-in-Asked g c =
-    let answer = (g.W.Outside.state c.args.outside.now).scorer.answer in
+    let answer = (g.W.Host.state c.args.host.now).scorer.answer in
     let catalogue = c.args.catalog.now in
     let count = c.args.count in
     let cursor = c.in-Asked.cursor in
@@ -36,7 +36,7 @@ fetch_ready-requires g c = subst (λ rows. c.in-Ready.given ≤ length rows) (sy
 
 pub returns-in-Ready : goal.returns-in-Ready
 returns-in-Ready g c =
-    let old = g.W.Outside.state c.args.outside.now in
+    let old = g.W.Host.state c.args.host.now in
     let answer = old.scorer.answer in
     let catalogue = c.args.catalog.now in
     let count = c.args.count in
@@ -48,7 +48,7 @@ returns-in-Ready g c =
     let more = subst (λ slice. IfOk result (λ _. next ≡ given + next_rows slice given count)) c.deref.ensures.value c.fetch_ready.ensures.count in record {
       puts =
           let new = record old { out = g.W.Out.Sink.state c.fetch_ready.new.out } in
-          rw (c.in-Ready.is, g.met.W.Outside.after_out) (Stepped-lines (rank_lines (suc given) (take (next_rows rows.items given count) (drop given rows.items))) catalogue result old new
+          rw (c.in-Ready.is, g.met.W.Host.after_out) (Stepped-lines (rank_lines (suc given) (take (next_rows rows.items given count) (drop given rows.items))) catalogue result old new
           (subst (λ slice. Ran (lines_run (rank_lines (suc given) (take (next_rows slice given count) (drop given slice)))) result old new) c.deref.ensures.value
           (rw c.out.ensures.value at c.fetch_ready.ensures.puts old)));
       source = if-ok-map result (next ≡ given + next_rows rows.items given count) (source_of (held.Ready rows next) ≡ source_of c.args.held.now)

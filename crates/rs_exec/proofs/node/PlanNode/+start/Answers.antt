@@ -22,7 +22,6 @@ use Rattle.rs_exec.specs.Starting.{IsJoinOver, IsStart, no_tally}
 use Rattle.rs_exec.specs.declared.join.JoinNode.{JoinNode}
 use Rattle.rs_exec.specs.declared.node.PlanNode.{PlanNode}
 use Rattle.rs_exec.specs.declared.node.PlanNode.TheVariants as node
-use Rattle.rs_exec.proofs.BlockFacts.{light-terms}
 use Rattle.rs_exec.proofs.PartMaskFacts.{can-join}
 use Rattle.rs_exec.proofs.node.PlanNode.+start.Goals as goal
 

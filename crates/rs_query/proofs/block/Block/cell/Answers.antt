@@ -1,4 +1,5 @@
 -- The table of the entry has the row and the column, and its value there is the cell.
+use Rattle.rs_table.specs.Lent.{shown}
 use Rattle.rs_query.proofs.CellFacts.{IsOf-table, column_value-value, column-within, row-within}
 use Rattle.rs_query.proofs.block.Block.cell.Goals as goal
 
@@ -20,4 +21,4 @@ cell-requires-clause-column_in c =
 pub returns-clause-value : goal.returns-clause-value
 returns-clause-value c =
     let is = IsOf-table c.args.catalog.now c.args.self.now c.args.column c.table.result.now c.table.ensures in
-    column_value-value c.args.catalog.now c.args.self.now c.args.rows.now c.args.column c.table.result.now c.cell.result.now is c.cell.ensures.cell
+    column_value-value c.args.catalog.now c.args.self.now c.args.rows.now c.args.column c.table.result.now (shown c.cell.result) is c.cell.ensures.cell

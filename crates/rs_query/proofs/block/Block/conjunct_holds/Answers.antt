@@ -3,10 +3,11 @@
 use Rattle.std.proofs.Common.{◌≡◌, ◌∙◌, sym, subst, true}
 use Rattle.rs_query.specs.Meaning.{is_inside}
 use Rattle.rs_query.specs.WellFormed.{IsColumn}
+use Rattle.rs_table.specs.Lent.{shown}
 use Rattle.rs_order.proofs.EachFacts.{each-slice_get}
 use Rattle.rs_query.proofs.CellFacts.{HaveKinds, condition_uses-values}
 use Rattle.rs_query.proofs.EntryFacts.{column-inside, row-inside}
-use Rattle.rs_query.proofs.EquatedFacts.{conjunct-equated, equality-holds}
+use Rattle.rs_query.proofs.EquatedFacts.{cell-test, conjunct-equated, equality-holds}
 use Rattle.rs_query.proofs.block.Block.conjunct_holds.Goals as goal
 
 pub cell-requires-clause-column : goal.cell-requires-clause-column
@@ -38,8 +39,9 @@ cell-requires-in-Some-clause-row c =
 pub returns-in-Some : goal.returns-in-Some
 returns-in-Some c =
     c.eq.ensures
+    ∙ cell-test c.cell.result c.cell-in-Some.result
     ∙ equality-holds c.args.catalog.now c.args.self.now c.args.ids.now.rows c.args.conjunct.now c.requires.conjunct c.in-Some.left c.in-Some.right
-    (sym c.equality.ensures ∙ c.in-Some.is) c.cell.result.now c.cell-in-Some.result.now c.cell.ensures.value c.cell-in-Some.ensures.value c.cell.ensures.fit c.cell-in-Some.ensures.fit
+    (sym c.equality.ensures ∙ c.in-Some.is) (shown c.cell.result) (shown c.cell-in-Some.result) c.cell.ensures.value c.cell-in-Some.ensures.value c.cell.ensures.fit c.cell-in-Some.ensures.fit
 
 pub test-requires-clause-args : goal.test-requires-clause-args
 test-requires-clause-args c =

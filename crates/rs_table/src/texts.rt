@@ -1,0 +1,78 @@
+ghost use Rattle.std.specs.Prelude.{◌≡◌, ◌+◌, ◌<◌, ◌≤◌, ◌^◌, ◌∷◌, ◌++◌, [], OnOk, length, slice_index_or};
+ghost use Rattle.rs_table.specs.Texts.{text_number};
+
+use indexmap::IndexSet;
+use rs_value::{Memory, Text};
+use std::alloc::Global;
+use std::marker::Model;
+
+/// The texts of a column, row by row. Each different text is kept once, by first occurrence, and a row has the number of
+/// its text, counted from 0. Room for further rows can be made beforehand, so that they take no memory.
+#[derive(Drop)]
+pub(crate) struct Texts {
+    kept: IndexSet<Text>,
+    numbers: Vec<u32>,
+}
+
+impl Model for Texts {
+    ghost use Rattle.std.specs.Prelude.{◌-◌, min, vec_len, vec_capacity};
+    ghost use Rattle.indexmap.specs.IndexSet.{spare};
+    ghost use Rattle.rs_table.specs.Stored.{IsNumbered, TextCells, texts_of};
+
+    ghost Value = { TextCells };
+
+    ghost view = { λ t. record { texts = texts_of t.kept.keys t.numbers.items; room = min (spare t.kept) (vec_capacity t.numbers - vec_len t.numbers) } };
+
+    ghost invariant = { λ t. IsNumbered t.kept.keys t.numbers.items };
+}
+
+impl Texts {
+    /// No texts. It takes no memory.
+    pub fn new(alloc: Global) -> Texts
+        ensures { result.texts ≡ [] }
+    {
+        Texts {
+            kept: IndexSet::new(alloc),
+            numbers: Vec::new(alloc),
+        }
+    }
+
+    /// Makes room for a number of further texts.
+    pub fn reserve(&mut self, count: usize) -> Result<(), Memory>
+        ensures texts { self.new.texts ≡ self.old.texts }
+        ensures ok { OnOk result (count ≤ self.new.room) }
+    {
+        self.kept.reserve(count)?;
+        self.numbers.reserve(count)?;
+        Ok(())
+    }
+
+    /// Puts a text last. There is to be room for it, and it takes no memory.
+    pub fn push(&mut self, text: Text)
+        requires room { 0 < self.old.room }
+        requires few { length self.old.texts + 1 < 2 ^ 32 }
+        ensures texts { self.new.texts ≡ self.old.texts ++ text ∷ [] }
+        ensures room { self.old.room ≤ self.new.room + 1 }
+    {
+        match self.kept.insert_full(text) {
+            Ok((number, _)) => self.numbers.push_reserved(number as u32),
+            Err(_) => unreachable!(),
+        }
+    }
+
+    /// The text at a place, which counts from 0.
+    pub fn get(&self, place: usize) -> &Text
+        requires { place < length self.now.texts }
+        ensures { result.now ≡ slice_index_or self.now.texts place [] }
+    {
+        &self.kept[self.numbers[place] as usize]
+    }
+
+    /// The number of the text at a place, which counts from 0.
+    pub fn number(&self, place: usize) -> u32
+        requires { place < length self.now.texts }
+        ensures { result ≡ text_number (slice_index_or self.now.texts place []) self.now.texts }
+    {
+        self.numbers[place]
+    }
+}
