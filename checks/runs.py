@@ -419,7 +419,8 @@ def main():
             files["s.sql"], more = front + written(rest), "s.sql"
         elif word == "more":
             count, _, content = rest.partition(" ")
-            files[more] += "".join(written(content).replace("\\#", f"{n:02}") for n in range(1, int(count) + 1))
+            piece = written(content)
+            files[more] += "".join(piece.replace("\\#", f"{n:02}") for n in range(1, int(count) + 1)) if "\\#" in piece else piece * int(count)
         elif word == "score":
             score, predicate, *args = rest.split(" ")
             scores[predicate, tuple(map(int, args))] = int(score)
