@@ -1,0 +1,306 @@
+#!/usr/bin/env bash
+# Measures `ranksql` on the deepest and the largest of each form that it takes, and on smaller ones, so that it shows how each grows:
+# seconds of processor time, the greatest memory, and the least stack with which it runs, in steps of two. The last column is the
+# power by which the time grows from a row to the next one, where the times are long enough to tell.
+# Crafted tables stand beside ordinary ones of the same size: keys of which a hash with a known seed makes the same number, and long
+# texts that differ in their last bytes alone. Where a crafted table takes more than four times as long as the ordinary one, the
+# script ends with 1.
+# The forms can be named: bench/limits.sh FORM.., and with none all are measured. The program is the one that ./ranksql builds, or
+# the one that the variable RANKSQL names.
+# shellcheck source=bench/functions.sh
+. "$(dirname "$0")/functions.sh"
+
+needs python3 'it makes the tables and takes the measures'
+find_program
+python3 - "$program" "$work" "$@" <<'PYTHON'
+import math
+import os
+import random
+import resource
+import subprocess
+import sys
+
+program, folder, wanted = sys.argv[1], sys.argv[2], sys.argv[3:]
+os.chdir(folder)
+MOST_ROWS = 131072
+SECONDS = 600
+draw = random.Random(1)
+failures = 0
+
+
+def write(name, content):
+    with open(name, "wb") as file:
+        file.write(content if isinstance(content, bytes) else content.encode())
+
+
+def run(words, stack=None):
+    """The status of a run, its seconds of processor time and its greatest memory in kB."""
+
+    def before():
+        resource.setrlimit(resource.RLIMIT_CPU, (SECONDS, SECONDS))
+        if stack:
+            resource.setrlimit(resource.RLIMIT_STACK, (stack << 10, stack << 10))
+
+    with open("out", "wb") as out, open("err", "wb") as err:
+        child = subprocess.Popen([program, *words], stdin=subprocess.DEVNULL, stdout=out, stderr=err, preexec_fn=before)
+        _, status, used = os.wait4(child.pid, 0)
+        child.returncode = os.waitstatus_to_exitcode(status)
+    return child.returncode, used.ru_utime + used.ru_stime, used.ru_maxrss
+
+
+def least_stack(words, status):
+    """The least stack in kB, of powers of two from 64 on, with which a run ends as it did."""
+    size = 64
+    while size < 8192 and run(words, size)[0] != status:
+        size *= 2
+    return size
+
+
+HEAD = "%-46s %10s %7s %9s %8s %8s %6s"
+print(HEAD % ("form", "size", "status", "seconds", "MB", "stack kB", "power"), flush=True)
+
+
+def measure(form, size, words, before=None, has_stack=True):
+    """Prints a row, and gives its size and its time."""
+    status, seconds, memory = run(words)
+    stack = least_stack(words, status) if has_stack and seconds < 1 else "-"
+    power = "-"
+    if before and seconds > 0.05 and before[1] > 0.02:
+        power = "%.1f" % (math.log(seconds / before[1]) / math.log(size / before[0]))
+    print(HEAD % (form, size, status, "%.2f" % seconds, "%.1f" % (memory / 1024), stack, power), flush=True)
+    return size, seconds
+
+
+def grows(form, sizes, make):
+    before = None
+    for size in sizes:
+        write("s.sql", make(size))
+        before = measure(form, size, ["run", "s.sql", "1"], before)
+
+
+def numbers(name, columns, rows, cell=lambda row, column: row):
+    lines = [",".join("c%d" % column for column in range(columns))]
+    lines += (",".join(str(cell(row, column)) for column in range(columns)) for row in range(1, rows + 1))
+    write(name, "\n".join(lines) + "\n")
+
+
+def table(name, columns, kind="INT"):
+    return "CREATE TABLE %s (%s) FROM '%s.csv';\n" % (name, ", ".join("c%d %s" % (column, kind) for column in range(columns)), name)
+
+
+def greatest():
+    """The greatest table of one column."""
+    numbers("o.csv", 1, MOST_ROWS, lambda row, column: row % 1000)
+    return table("o", 1) + P
+
+
+P = "CREATE PREDICATE p (v INT) MAX 4294967295 AS v;\n"
+SIX = "abcdef"
+
+
+def listed(name, count):
+    return ", ".join("%s %s" % (name, alias) for alias in SIX[:count])
+
+
+def summed(count):
+    return " + ".join("p(%s.c0)" % SIX[number % 6] for number in range(count))
+
+
+# ---- forms
+
+
+def entries():
+    front = greatest() + "CREATE RANK INDEX i ON o (p(c0));\n"
+
+    def joined(count):
+        where = " AND ".join("%s.c0 = %s.c0" % pair for pair in zip(SIX, SIX[1:count]))
+        return front + "SELECT a.c0 FROM %s%s ORDER BY %s LIMIT 10;\n" % (listed("o", count), " WHERE " * bool(where) + where, summed(count))
+
+    grows("entries of the greatest table, joined", range(1, 7), joined)
+    grows("entries of the greatest table, not joined", range(1, 7), lambda count: front + "SELECT a.c0 FROM %s ORDER BY %s LIMIT 10;\n" % (listed("o", count), summed(count)))
+
+
+def terms():
+    front = greatest()
+    grows("terms over the greatest table", [1, 2, 4, 8], lambda count: front + "SELECT c0 FROM o ORDER BY %s LIMIT 10;\n" % " + ".join(["p(c0)"] * count))
+    numbers("o.csv", 1, 2)
+    grows("terms over six entries", [1, 2, 4, 8], lambda count: front + "SELECT a.c0 FROM %s ORDER BY %s LIMIT 10;\n" % (listed("o", 6), summed(count)))
+
+
+def conjuncts():
+    front = greatest()
+    tests = lambda count: " AND ".join("c0 < %d" % (100000 + number) for number in range(count))
+    grows("conjuncts over the greatest table", [1, 8, 32], lambda count: front + "SELECT c0 FROM o WHERE %s ORDER BY p(c0) LIMIT 10;\n" % tests(count))
+    numbers("o.csv", 1, 2)
+    pairs = lambda count: " AND ".join("%s.c0 = %s.c0" % (SIX[number % 6], SIX[(number * 7 + 1) % 6]) for number in range(count))
+    grows("conjuncts over six entries", [1, 8, 32], lambda count: front + "SELECT a.c0 FROM %s WHERE %s ORDER BY p(a.c0) LIMIT 10;\n" % (listed("o", 6), pairs(count)))
+
+
+def outputs():
+    numbers("w.csv", 64, 2000)
+    front = table("w", 64) + P
+    columns = (["c%d" % column for column in range(64)] * 6)
+    one = lambda count: front + "SELECT %s FROM w ORDER BY p(c0);\n" % ", ".join(columns[:count])
+    grows("output columns of 2,000 rows", [1, 96, 384], one)
+    grows("output columns of 2,000 rows, DISTINCT", [1, 96, 384], lambda count: one(count).replace("SELECT", "SELECT DISTINCT"))
+    numbers("w.csv", 64, 3)
+    all_six = ["%s.c%d" % (alias, column) for column in range(64) for alias in SIX]
+    grows("output columns of six entries", [6, 96, 384], lambda count: front + "SELECT %s FROM %s ORDER BY p(a.c0);\n" % (", ".join(all_six[:count]), listed("w", 6)))
+
+
+def cursors():
+    front = greatest()
+
+    def script(count):
+        names = ["k%d" % number for number in range(count)]
+        return front + "".join("DECLARE %s CURSOR FOR SELECT c0 FROM o ORDER BY p(c0);\n" % name for name in names) + "".join("FETCH 1 FROM %s;\n" % name for name in names)
+
+    grows("cursors over the greatest table", [1, 8, 64], script)
+
+
+def statements():
+    numbers("o.csv", 1, 100)
+    front = table("o", 1) + P
+    grows("statements, each a query of a row", [10, 100, 998], lambda count: front + "SELECT c0 FROM o ORDER BY p(c0) LIMIT 1;\n" * count)
+    grows("statements that open and close a cursor", [10, 100, 998], lambda count: front + "DECLARE k CURSOR FOR SELECT c0 FROM o ORDER BY p(c0); CLOSE k;\n" * (count // 2))
+
+
+def explains():
+    numbers("o.csv", 1, 2)
+    front = table("o", 1) + P + "CREATE RANK INDEX i ON o (p(c0));\n"
+    where = " AND ".join("%s.c0 = %s.c0" % pair for pair in zip(SIX, SIX[1:]))
+    query = "EXPLAIN SELECT a.c0 FROM %s WHERE %s ORDER BY %s;" % (listed("o", 6), where, summed(8))
+    # With this comment behind each, 800 of them are a script of a megabyte.
+    grows("EXPLAINs of six entries and eight terms", [10, 100, 800], lambda count: front + (query + "\n--%s\n" % ("." * (1300 - len(query)))) * count)
+
+
+def depth():
+    numbers("o.csv", 1, 2)
+    formula = "CREATE PREDICATE d (v INT) MAX 10 AS %s;\n"
+    grows("brackets in each other", [8, 64, 255], lambda count: formula % ("(" * count + "v" + ")" * count))
+    grows("minus signs in front of each other", [8, 64, 255], lambda count: formula % ("- " * count + "v"))
+    grows("sums in each other, to the right", [8, 64, 127], lambda count: formula % ("(v + " * count + "v" + ")" * count))
+    grows("sums in each other, to the left", [8, 64, 255], lambda count: formula % ("v" + " + v" * count))
+    grows("CASE in CASE", [4, 32, 255], lambda count: formula % ("CASE WHEN v = 1 THEN 1 ELSE " * count + "v" + " END" * count))
+    grows("NOT in front of each other", [8, 64, 250], lambda count: table("o", 1) + P + "SELECT c0 FROM o WHERE %s c0 = 1 ORDER BY p(c0);\n" % ("NOT " * count))
+    front = greatest()
+    grows("sums in each other over the greatest table", [8, 64, 127], lambda count: front + formula % ("(0 + " * count + "v" + ")" * count) + "SELECT c0 FROM o WHERE c0 < 10 ORDER BY d(c0) LIMIT 1;\n")
+
+
+def tables():
+    for columns in (1, 16, 64):
+        numbers("w.csv", columns, MOST_ROWS, lambda row, column: row % 1000)
+        write("s.sql", table("w", columns) + P + "SELECT c0 FROM w ORDER BY p(c0) LIMIT 1;\n")
+        measure("columns of numbers of the greatest table", columns, ["run", "s.sql", "1"], has_stack=False)
+    for columns in (1, 16, 64):
+        lines = [",".join("c%d" % column for column in range(columns))] + [",".join(["%d" % row] + ["t%d" % (row % 7)] * (columns - 1)) for row in range(MOST_ROWS)]
+        write("w.csv", "\n".join(lines) + "\n")
+        kinds = ", ".join("c%d %s" % (column, "TEXT" if column else "INT") for column in range(columns))
+        write("s.sql", "CREATE TABLE w (%s) FROM 'w.csv';\n" % kinds + P + "SELECT c0 FROM w ORDER BY p(c0) LIMIT 1;\n")
+        measure("columns of texts of the greatest table", columns, ["run", "s.sql", "1"], has_stack=False)
+    sizes = (1 << 20, 1 << 23, (1 << 25) - 16)
+    files = {
+        "bytes of one text": lambda size: b"c0,c1\n1," + b"x" * size + b"\n",
+        "commas of a header": lambda size: b"," * size + b"\n",
+        "commas of a row": lambda size: b"c0\n1\n" + b"," * size + b"\n",
+        "blank lines": lambda size: b"c0\n1\n" + b"\n" * size,
+        "quotes of a field that is never closed": lambda size: b'c0\n"' + b'"' * (size & ~1),
+    }
+    for form, content in files.items():
+        for size in sizes:
+            write("w.csv", content(size))
+            measure(form + ", under top", size, ["top", "w.csv", "c0", "9", "1"], has_stack=False)
+
+
+# ---- crafted tables beside ordinary ones
+
+MULTIPLIER, STATE, WORD = 0x9E3779B97F4A7C15, 0x243F6A8885A308D3, (1 << 64) - 1
+
+
+def folded(a, b):
+    product = a * b
+    return (product & WORD) ^ (product >> 64)
+
+
+def fed(state, number):
+    return folded(state ^ (number & WORD), MULTIPLIER ^ 16)
+
+
+def equal_hashes(rows):
+    """Pairs of numbers whose lists have one hash: the second one takes away what the first one left."""
+    made, number = [], 0
+    while len(made) < rows:
+        number += 1
+        state = fed(fed(fed(fed(STATE, 2), 0), number), 0)
+        second = state - (1 << 64) if state >> 63 else state
+        if abs(second) <= 4 * 10**18:
+            made.append((number, second))
+    return made
+
+
+def equal_text_hashes(rows):
+    """The same of texts: the first eight bytes of the second one take away what the first one left."""
+    made, number = [], 0
+    while len(made) < rows:
+        number += 1
+        text = b"%d" % number
+        short = text[0] | text[len(text) // 2] << 8 | text[-1] << 16
+        if len(text) > 3:
+            short = int.from_bytes(text[:4], "little") | int.from_bytes(text[-4:], "little") << 32
+        state = folded(fed(fed(STATE, 2), 1) ^ short, MULTIPLIER ^ 2 * len(text))
+        state = fed(folded(state ^ 0xFFFFFF, MULTIPLIER ^ 2), 1)
+        front = (state + 16 & WORD).to_bytes(8, "little")
+        try:
+            front.decode()
+        except UnicodeDecodeError:
+            continue
+        if not set(front) & set(b'",\r\n'):
+            made.append((text, front + b"behind.."))
+    return made
+
+
+QUERIES = {
+    "DISTINCT": "SELECT DISTINCT c0, c1 FROM n ORDER BY one(c0) LIMIT 1000000;\n",
+    "UNION": "SELECT c0, c1 FROM n UNION SELECT c0, c1 FROM n ORDER BY one(c0) LIMIT 1000000;\n",
+    "INTERSECT": "SELECT c0, c1 FROM n INTERSECT SELECT c0, c1 FROM n ORDER BY one(c0) LIMIT 1000000;\n",
+    "EXCEPT": "SELECT c0, c1 FROM n EXCEPT SELECT c0, c1 FROM n ORDER BY one(c0) LIMIT 1000000;\n",
+    "hash join": "SELECT a.c0 FROM n a, n b WHERE a.c0 = b.c0 AND a.c1 = b.c1 ORDER BY one(a.c0) + one(b.c0) LIMIT 1000000;\n",
+}
+
+
+def beside(name, kind, ordinary, crafted, sizes):
+    global failures
+    one = "CREATE PREDICATE one (v %s) MAX 1 AS 1;\n" % kind
+    for query, text in QUERIES.items():
+        before = {}
+        for size in sizes:
+            for word, rows in (("ordinary", ordinary), ("crafted", crafted)):
+                write("n.csv", b"c0,c1\n" + b"".join(b"%s,%s\n" % row for row in rows[:size]))
+                write("s.sql", table("n", 2, kind) + one + text)
+                before[word] = measure("%s %s, %s" % (word, name, query), size, ["run", "s.sql", "1"], before.get(word), has_stack=False)
+            if before["crafted"][1] > 4 * before["ordinary"][1] + 0.2:
+                failures += 1
+                print("FAILED  the crafted table takes %.1f times as long" % (before["crafted"][1] / before["ordinary"][1]))
+
+
+def crafted():
+    rows = MOST_ROWS
+    as_bytes = lambda pairs: [(b"%d" % a, b"%d" % b) for a, b in pairs]
+    ordinary = ((row, draw.randrange(-4 * 10**18, 4 * 10**18)) for row in range(1, rows + 1))
+    beside("numbers", "INT", as_bytes(ordinary), as_bytes(equal_hashes(rows)), [rows // 16, rows // 4, rows])
+    texts = equal_text_hashes(rows // 8)
+    beside("texts", "TEXT", [(text, b"%016x" % draw.getrandbits(64)) for text, _ in texts], texts, [rows // 32, rows // 8])
+    long = [(b"%d" % (row % 2), b"a" * 200 + b"%06d" % row) for row in range(rows)]
+    draw.shuffle(long)
+    beside("texts of 206 bytes", "TEXT", [(a, b[200:] + b[:200]) for a, b in long], long, [rows // 16, rows])
+
+
+FORMS = [entries, terms, conjuncts, outputs, cursors, statements, explains, depth, tables, crafted]
+names = [form.__name__ for form in FORMS]
+if any(name not in names for name in wanted):
+    sys.exit("bench: the forms are " + ", ".join(names))
+for form in FORMS:
+    if not wanted or form.__name__ in wanted:
+        form()
+sys.exit(min(failures, 1))
+PYTHON
