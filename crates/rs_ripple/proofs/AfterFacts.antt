@@ -1,14 +1,8 @@
--- A join that keeps its rows, where it stands: it is a function of the lists of its sides, and asks no side again after its end.
-use Rattle.std.proofs.Common.{◌≡◌, ◌∙◌, ℕ, ◌≤◌, Bool, true, false, cond, List, length, Option, Some, None, refl, sym, ap, subst, inl, inr, arith}
-use Rattle.std.proofs.lemmas.Bool.{cases_lt, lt-ltb}
-use Rattle.std.proofs.lemmas.List.{length-map}
-use Rattle.rs_order.specs.Schedule.{Left, Right, SideAsk, asked}
+-- A side of a join that is asked has not ended.
+use Rattle.std.proofs.Common.{◌≡◌, ◌∙◌, Bool, true, false, cond, Option, Some, None, refl, sym, ap, subst}
 use Rattle.rs_rank.specs.declared.ask.JoinAsk.TheVariants.{End, NeedLeft, NeedRight}
-use Rattle.rs_rank.specs.declared.row.RankRow.{RankRow}
-use Rattle.rs_ripple.specs.Joined.{JoinStands, Joined}
 use Rattle.rs_ripple.specs.declared.side.Drawn.{Drawn}
 use Rattle.rs_ripple.specs.Ripple.{Ripple, ask_between, ask_drawn, ask_of, left_threshold, pair_key, right_threshold}
-use Rattle.rs_ripple.specs.Stands.{Join, side_key, side_keys}
 use Rattle.rs_ripple.proofs.JoinedFacts.{not_left, not_right}
 
 -- a side that has ended isn't needed
@@ -45,21 +39,3 @@ left-going ripple need = is_false ripple.left.ended (λ over. left-over ripple o
 
 pub right-going : (ripple : Ripple) → ask_of ripple ≡ NeedRight → ripple.right.ended ≡ false
 right-going ripple need = is_false ripple.right.ended (λ over. right-over ripple over need)
-
-module _ (j : Join) (lefts rights : List RankRow) (made : List SideAsk) (count : ℕ) (joined : Joined) (s : JoinStands j lefts rights made count joined) where
-  -- so a side that is asked had no end yet
-  pub left-open : ask_of joined.ripple ≡ NeedLeft → asked Left made ≤ length lefts
-  left-open need = elim (cases_lt (length lefts) (asked Left made)) [
-    | inl past ↦
-        let count = length-map lefts (side_key j j.left) in
-        absurd (left-over joined.ripple (ap (λ (r : Ripple). r.left.ended) s.core.state ∙ lt-ltb (length (side_keys j j.left lefts)) (asked Left made) (omega arith)) need)
-    | inr within ↦ within
-  ]
-
-  pub right-open : ask_of joined.ripple ≡ NeedRight → asked Right made ≤ length rights
-  right-open need = elim (cases_lt (length rights) (asked Right made)) [
-    | inl past ↦
-        let count = length-map rights (side_key j j.right) in
-        absurd (right-over joined.ripple (ap (λ (r : Ripple). r.right.ended) s.core.state ∙ lt-ltb (length (side_keys j j.right rights)) (asked Right made) (omega arith)) need)
-    | inr within ↦ within
-  ]

@@ -55,9 +55,6 @@ behind-drop : (j : Join) (lefts rights : List RankRow) (count : ℕ) (part : Lis
 behind-drop j lefts rights zero part climbs shared within = filter-all (λ z. true) part (λ x h. refl)
 behind-drop j lefts rights (suc n) part climbs shared within = go (slice_get part n) refl
   where
-    whole : List RankRow
-    whole = answers j lefts rights
-
     go : (o : Option RankRow) → slice_get part n ≡ o → filter (λ z. is_behind (taken_after j lefts rights (suc n)) (answer_key j z)) part ≡ drop (suc n) part
     go None e =
         let past : length (answers j lefts rights) ≤ n = slice_get_none (answers j lefts rights) n (sym (slice_get-shared n part (answers j lefts rights) shared) ∙ e) in

@@ -32,7 +32,7 @@ use Rattle.rs_setop.proofs.CompareFacts.{past-is}
 use Rattle.rs_outputs.proofs.ListFacts.{Climbs-rest, item-behind, none-rest, rest-none, rest-some, some-rest}
 use Rattle.rs_setop.proofs.WalkFacts.{bars-keep, due-none, due-some, head-known, head-unknown}
 use Rattle.rs_setop.proofs.ComparedFacts.{Shown, answer-gone, asks-behind, asks-one, asks_behind-done, asks_behind-more, at_most, climbing, compared_of, is_kept-other, gone, known-values, left-known, more, other-gone, right-over, right-row, schedule-is, seen-gone, shows}
-use Rattle.rs_setop.proofs.HeadFacts.{Begun, Tells}
+use Rattle.rs_setop.proofs.HeadFacts.{Tells}
 
 -- what a head and a reach tell of a held row
 out-is : (s : Sides) (shared : Bool) (lefts rights : List OutputRow) → AreSides s lefts rights → (x : OutputRow) → In x lefts → (asks : ℕ) → asks ≤ suc (length rights) → wanted_for (keys_of s rights) (row_key s x) ≤ asks
@@ -293,6 +293,3 @@ module _ (s : Sides) (shared : Bool) (lefts rights : List OutputRow) (made : Lis
             ∙ append-nil made),
         (let past = none-rest count all_rows (at.rest ∙ ap (λ rows. unseen (lists_of (take stands.left lefts)) (firsts (filter (is_kept shared rights) rows))) empty) in let within = at.within in omega arith),
       )
-
-  pub begun : Begun s (op_of shared) lefts rights made count
-  begun = record { behind = _; split = scheduled _ refl }

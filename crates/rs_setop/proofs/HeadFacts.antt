@@ -1,5 +1,5 @@
 -- What the next rows of both sides of a union tell: which side is due, and which row comes first.
-use Rattle.std.proofs.Common.{◌≡◌, ℕ, suc, ◌≤◌, Bool, true, false, not, cond, List, ◌++◌, length, drop, Option, Some, None, refl, sym, ap, subst, ◌⊎◌, inl, inr}
+use Rattle.std.proofs.Common.{◌≡◌, ℕ, suc, ◌≤◌, Bool, true, false, not, cond, List, length, drop, Option, Some, None, refl, sym, ap, subst, ◌⊎◌, inl, inr}
 use Rattle.std.specs.List.{slice_get}
 use Rattle.std.specs.Ordering.{is_gt}
 use Rattle.rs_order.specs.Schedule.{SideAsk}
@@ -110,8 +110,3 @@ heads-show s lefts rights left right left_asks right_asks left_least left_most r
 -- what an ask tells of the schedule for the next answer
 abbrev pub Tells : Sides → SetOp → List OutputRow → List OutputRow → List SideAsk → ℕ → JoinAsk → Type 0
 Tells s op lefts rights made count ask = turns.Tells (schedule_of s op lefts rights (suc count)) made count (length (answers s op lefts rights)) ask
-
--- the asks of the next answer begin with those that were made
-pub record Begun (s : Sides) (op : SetOp) (lefts rights : List OutputRow) (made : List SideAsk) (count : ℕ) : Type 0 where
-  pub behind : List SideAsk
-  pub split : schedule_of s op lefts rights (suc count) ≡ made ++ behind

@@ -1,6 +1,6 @@
 -- Where UNION ALL and UNION stand, and what each call does to that.
 use Rattle.std.proofs.Common.{◌≡◌, ℕ, suc, ◌<◌, ◌&&◌, Bool, true, false, cond, List, [], ◌∷◌, ◌++◌, ◌+◌, length, take, drop, Option, Some, refl, sym, ◌∙◌, ap, ap₂, subst, inl, inr, arith}
-use Rattle.std.proofs.lemmas.List.{append_assoc, map-append}
+use Rattle.std.proofs.lemmas.List.{map-append}
 use Rattle.std.proofs.lemmas.Option.{slice_get_within}
 use Rattle.std.specs.Cmp.{nat_cmp_is}
 use Rattle.std.specs.Cmp.Lexicographic.{slice_cmp}
@@ -35,9 +35,9 @@ use Rattle.rs_setop.specs.Held.{row_of}
 use Rattle.rs_setop.specs.Sides.{AreSides, IsRowOf, Sides, answers, head_of, keys_of, row_key, schedule_of}
 use Rattle.rs_setop.specs.Stands.{UnionAt, UnionStands, due, given_of, heads_after, rows_left, taken_of, turns_left, union_op}
 use Rattle.rs_setop.specs.Union.{Union, first_was_taken, is_repeated, left_for, new_union, settled, taken_for, was_taken, with_taken}
-use Rattle.rs_setop.proofs.HeadFacts.{Begun, Shows, Tells, as_held}
+use Rattle.rs_setop.proofs.HeadFacts.{Shows, Tells, as_held}
 use Rattle.rs_setop.proofs.NextFacts.{IsFirst, first-row, heads-more, merging-more, need_of, of_side, one_more, shows, with_head}
-use Rattle.rs_setop.proofs.WalkFacts.{all-asked, bars-keep, next-left, next-right, none-left, nothing-asked, rows_left-climbs, scheduled, sides-apart}
+use Rattle.rs_setop.proofs.WalkFacts.{all-asked, bars-keep, next-left, next-right, none-left, nothing-asked, rows_left-climbs, sides-apart}
 
 -- the rows of both sides differ in their keys
 pub both-distinct : (s : Sides) (lefts rights : List OutputRow) → AreSides s lefts rights → HasDistinctKeys key_cmp (row_key s) (lefts ++ rights)
@@ -327,12 +327,3 @@ module _ (s : Sides) (distinct : Bool) (lefts rights : List OutputRow) (made : L
 
   pub tells : (ask : JoinAsk) → ask_of u.heads ≡ ask → Tells s (union_op distinct) lefts rights made count ask
   tells ask e = subst (λ list. turns.Tells list made count (length all_rows) ask) (sym (union-schedule s distinct lefts rights count)) (told ask e)
-
-  pub begun : Begun s (union_op distinct) lefts rights made count
-  begun =
-      let asked_due = due Left at.left (asked Left made) ++ due Right at.right (asked Right made) in
-      let later = asked_before key_cmp now_bar (turns_left s lefts rights at.left at.right) in
-      record {
-        behind = asked_due ++ later;
-        split = union-schedule s distinct lefts rights count ∙ scheduled s lefts rights made now_bar at.left at.right at.gone at.merging ∙ append_assoc made asked_due later;
-      }

@@ -1,2 +1,3 @@
 pub mod JoinedFacts
 pub mod KindFacts
+mod RowFacts

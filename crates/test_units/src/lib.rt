@@ -8,7 +8,11 @@
 #![tactic(auto)]
 
 #[cfg(test)]
+mod columns;
+#[cfg(test)]
 mod generated;
+#[cfg(test)]
+mod growth;
 #[cfg(test)]
 mod hashed;
 #[cfg(test)]

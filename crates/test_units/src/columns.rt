@@ -1,0 +1,125 @@
+//! Tables by columns: the numbers of texts, one of the greatest tables, and a table for which memory ends as it grows.
+
+ghost use Rattle.std.specs.Prelude.{◌≡◌, ◌≤◌, ◌<◌, IfOk, length, true};
+ghost use Rattle.rs_table.specs.Relation.{row_fits};
+
+use rs_table::{Cell, MOST_ROWS, Schema, Table};
+use rs_value::{Kind, List, Memory, Text};
+use std::alloc::Global;
+use std::process::Abort;
+use std::test::Fail;
+
+/// The table of a file that has so many columns of this name and kind.
+fn table_of(
+    rt: &impl Abort,
+    alloc: Global,
+    columns: usize,
+    kind: Kind,
+    file: &[u8],
+) -> Result<Table, Fail> {
+    assert!(rt; columns >= 1 && columns <= 64 && file.len() <= 33_554_432);
+    let mut listed = Vec::new(alloc);
+    for _ in 0..columns {
+        listed.push((Text::from_bytes(alloc, b"k")?, kind))?;
+    }
+    Ok(Table::read(alloc, Schema::make(listed), file)?)
+}
+
+/// The number of the text of a row in the first column, where that is one of texts.
+fn number_at(table: &Table, row: u32) -> Option<u32> {
+    if row < 1 || row > table.len() {
+        return None;
+    }
+    match table.schema().columns().first() {
+        Some((_, Kind::Text)) => Some(table.text_number(row, 0)),
+        _ => None,
+    }
+}
+
+/// The number at a row and a column, where one stands there.
+fn int_at(table: &Table, row: u32, column: u8) -> Option<i64> {
+    if row < 1 || row > table.len() || column as usize >= table.schema().columns().len() {
+        return None;
+    }
+    match table.cell(row, column) {
+        Cell::Number(number) => Some(number),
+        Cell::Text(_) => None,
+    }
+}
+
+/// The values of a row.
+fn copy_row(alloc: Global, table: &Table, row: u32) -> Result<List<Value>, Memory>
+    requires some { 1 ≤ row }
+    requires within { row ≤ length table.now.rows }
+    ensures { IfOk result (λ values. row_fits table.now.schema values ≡ true) }
+{
+    let mut values = Vec::new(alloc);
+    for column in 0..table.schema().columns().len() {
+        values.push(table.value(row, column as u8)?)?;
+    }
+    Ok(List::of(values))
+}
+
+/// Puts a copy of the first row last.
+fn grow(rt: &impl Abort, alloc: Global, table: &mut Table) -> Result<(), Memory> {
+    assert!(rt; table.len() >= 1 && (table.len() as usize) < MOST_ROWS);
+    let row = copy_row(alloc, table, 1)?;
+    let rows = vec![in alloc; row]?;
+    table.add_rows(rows)
+}
+
+#[test]
+fn numbers_texts_by_first_occurrence(rt: HostRuntime) -> Result<(), Fail> {
+    let table = table_of(&rt, rt.alloc(), 1, Kind::Text, b"k\nx\ny\nx\n")?;
+    assert_eq!(&rt; number_at(&table, 1), Some(0));
+    assert_eq!(&rt; number_at(&table, 2), Some(1));
+    assert_eq!(&rt; number_at(&table, 3), Some(0));
+    Ok(())
+}
+
+/// Made for a process in which one allocation fails: the table stays as it was where rows don't join.
+#[test]
+fn keeps_the_rows_where_memory_ends(rt: HostRuntime) -> Result<(), Fail> {
+    let mut table = table_of(&rt, rt.alloc(), 1, Kind::Text, b"k\nx\ny\n")?;
+    for _ in 0..100 {
+        let len = table.len();
+        match grow(&rt, rt.alloc(), &mut table) {
+            Ok(()) => assert_eq!(&rt; table.len(), len + 1),
+            Err(Memory) => assert_eq!(&rt; table.len(), len),
+        }
+        assert_eq!(&rt; number_at(&table, 1), Some(0));
+        assert_eq!(&rt; number_at(&table, 2), Some(1));
+    }
+    Ok(())
+}
+
+/// The file of a table of 64 columns and one row less than the most, of numbers of two digits.
+fn greatest_file(alloc: Global) -> Result<Vec<u8>, Memory> {
+    let mut file = Vec::with_capacity(alloc, 26_000_000)?;
+    for _ in 0..63 {
+        file.extend_from_slice(b"k,")?;
+    }
+    file.extend_from_slice(b"k\n")?;
+    for row in 1..131_072u32 {
+        for column in 0..64u32 {
+            file.push(b'1' + ((row + column) % 9) as u8)?;
+            file.push(b'0' + (row % 10) as u8)?;
+            file.push(if column < 63 { b',' } else { b'\n' })?;
+        }
+    }
+    Ok(file)
+}
+
+#[test]
+fn reads_searches_and_grows_one_of_the_greatest_tables(rt: HostRuntime) -> Result<(), Fail> {
+    let alloc = rt.alloc();
+    let file = greatest_file(alloc)?;
+    let mut table = table_of(&rt, alloc, 64, Kind::Int, &file)?;
+    assert_eq!(&rt; table.len(), 131_071);
+    assert_eq!(&rt; int_at(&table, 1, 0), Some(21));
+    assert_eq!(&rt; int_at(&table, 131_071, 63), Some(51));
+    grow(&rt, alloc, &mut table)?;
+    assert_eq!(&rt; table.len(), 131_072);
+    assert_eq!(&rt; int_at(&table, 131_072, 63), int_at(&table, 1, 63));
+    Ok(())
+}
