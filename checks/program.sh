@@ -631,7 +631,8 @@ timeout 60 "$program" top h.csv price 100 1 >"$work/said/out" 2>"$work/said/err"
 echo $? >"$work/said/status"
 compare 'standard input is closed' 0 $'1,90,b,90,1\n' ''
 
-# ---- memory
+# ---- memory: a file of 26 MB where the program has 20 MB
+awk 'BEGIN { print "number,name"; for (row = 1; row <= 131072; row++) printf "%d,%0193d\n", row % 1000, row }' >f.csv
 (
     ulimit -v 20000
     exec timeout 60 "$program" top f.csv number 1000 5
