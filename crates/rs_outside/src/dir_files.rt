@@ -8,6 +8,7 @@ ghost use Rattle.rs_outside.specs.Files.{Fetches};
 use crate::files::{FetchFault, Files};
 use crate::reading::Reading;
 use rs_value::Text;
+use std::hash::RandomState;
 use std::io::{ErrorKind, Read};
 use std::marker::Model;
 use std::{fs, io};
@@ -20,6 +21,7 @@ const CHUNK: usize = 8192;
 #[derive(Drop)]
 pub struct DirFiles<R> {
     rt: R,
+    hash_keys: RandomState,
     faults: u64,
 }
 
@@ -128,11 +130,15 @@ pub fn fetch_opened<F: Read + Drop>(
 }
 
 impl<R: std::rt::Files> DirFiles<R> {
-    /// The files that this runtime opens. Nothing is opened yet.
-    pub fn new(rt: R) -> DirFiles<R>
+    /// The files that this runtime opens, and the keys by which texts of theirs are hashed. Nothing is opened yet.
+    pub fn new(rt: R, hash_keys: RandomState) -> DirFiles<R>
         ensures { result ≡ 0 }
     {
-        DirFiles { rt, faults: 0 }
+        DirFiles {
+            rt,
+            hash_keys,
+            faults: 0,
+        }
     }
 }
 
@@ -159,5 +165,9 @@ impl<R: std::rt::Files> Files for DirFiles<R> {
             self.faults = self.faults.saturating_add(1);
         }
         Err(fault)
+    }
+
+    fn hash_keys(&self) -> RandomState {
+        self.hash_keys
     }
 }

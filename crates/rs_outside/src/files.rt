@@ -3,6 +3,7 @@ ghost use Rattle.rs_value.specs.Outside.{Counts, Outside};
 ghost use Rattle.rs_outside.specs.Files.{FilesTold, file_named, Fetches, told_after};
 
 use rs_value::Text;
+use std::hash::RandomState;
 
 /// Why a file could not be fetched.
 #[derive(Clone, Copy, Debug, PartialEq, Eq)]
@@ -26,4 +27,8 @@ pub trait Files {
             × Fetches there limit into.old.items result into.new.items }
         ensures told { (state self.new).told ≡ option_map (told_after name.now result) (state self.old).told }
         ensures counts { Counts (result ≡ Err FetchFault.Failed) (state self.old) (state self.new) };
+
+    /// The keys by which texts that were read from these files are hashed. They are to be made of random bytes, which no
+    /// file can know, so that no file can make its reading slow on purpose.
+    fn hash_keys(&self) -> RandomState;
 }

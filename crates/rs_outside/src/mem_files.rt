@@ -8,6 +8,7 @@ ghost use Rattle.rs_outside.specs.MemFiles.{no_files, after_add, after_fail_at, 
 use crate::files::{FetchFault, Files};
 use rs_value::{List, Memory, Text};
 use std::alloc::Global;
+use std::hash::RandomState;
 use std::marker::Model;
 
 /// A file in memory.
@@ -32,6 +33,7 @@ pub struct MemFiles {
     fetched: Vec<Text>,
     failing: Vec<u32>,
     faults: u64,
+    hash_keys: RandomState,
 }
 
 impl Model for MemFiles {
@@ -88,8 +90,8 @@ fn append_found(
 }
 
 impl MemFiles {
-    /// No files. It takes no memory.
-    pub fn new(alloc: Global) -> MemFiles
+    /// No files, and the keys by which texts of theirs are hashed. It takes no memory.
+    pub fn new(alloc: Global, hash_keys: RandomState) -> MemFiles
         ensures { result ≡ no_files }
     {
         MemFiles {
@@ -97,6 +99,7 @@ impl MemFiles {
             fetched: Vec::new(alloc),
             failing: Vec::new(alloc),
             faults: 0,
+            hash_keys,
         }
     }
 
@@ -176,5 +179,9 @@ impl Files for MemFiles {
         }
         self.fetched.push(fetched).unwrap();
         answer
+    }
+
+    fn hash_keys(&self) -> RandomState {
+        self.hash_keys
     }
 }

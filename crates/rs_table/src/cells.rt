@@ -9,6 +9,7 @@ use crate::cell::Cell;
 use crate::texts::Texts;
 use rs_value::{Kind, Memory, Text, Value};
 use std::alloc::Global;
+use std::hash::RandomState;
 use std::marker::Model;
 
 /// Cells of one kind.
@@ -34,8 +35,8 @@ impl Model for Cells {
 }
 
 impl Cells {
-    /// No cells of this kind. It takes no memory.
-    pub fn new(alloc: Global, kind: Kind) -> Cells
+    /// No cells of this kind, whose texts are to be hashed by these keys. It takes no memory.
+    pub fn new(alloc: Global, hash_keys: RandomState, kind: Kind) -> Cells
         ensures kind { result.kind ≡ kind }
         ensures cells { result.cells ≡ [] }
     {
@@ -44,7 +45,7 @@ impl Cells {
                 kept: Kept::Ints(Vec::new(alloc)),
             },
             Kind::Text => Cells {
-                kept: Kept::Texts(Texts::new(alloc)),
+                kept: Kept::Texts(Texts::new(alloc, hash_keys)),
             },
         }
     }

@@ -11,6 +11,7 @@ use crate::cell::Cell;
 use crate::cells::Cells;
 use rs_value::{Kind, List, Memory, Text, Value};
 use std::alloc::Global;
+use std::hash::RandomState;
 use std::marker::Model;
 
 /// Rows that are kept one column after another. Rows and columns count from 0 here. Room for further rows can be made
@@ -32,12 +33,16 @@ impl Model for Columns {
 }
 
 impl Columns {
-    /// No rows of these columns.
-    pub fn new(alloc: Global, columns: &[(Text, Kind)]) -> Result<Columns, Memory>
+    /// No rows of these columns, whose texts are to be hashed by these keys.
+    pub fn new(
+        alloc: Global,
+        hash_keys: RandomState,
+        columns: &[(Text, Kind)],
+    ) -> Result<Columns, Memory>
         ensures kinds { IfOk result (λ rows. rows.kinds ≡ map (λ column. column.1) columns.now) }
         ensures rows { IfOk result (λ rows. rows.rows ≡ []) }
     {
-        let columns = empty_columns(alloc, columns)?;
+        let columns = empty_columns(alloc, hash_keys, columns)?;
         Ok(Columns { columns, len: 0 })
     }
 
@@ -126,13 +131,17 @@ impl Columns {
 }
 
 /// A column without cells for each of these.
-fn empty_columns(alloc: Global, columns: &[(Text, Kind)]) -> Result<Vec<Cells>, Memory>
+fn empty_columns(
+    alloc: Global,
+    hash_keys: RandomState,
+    columns: &[(Text, Kind)],
+) -> Result<Vec<Cells>, Memory>
     ensures kinds { IfOk result (λ made. kinds_in made.items ≡ map (λ column. column.1) columns.now) }
     ensures cells { IfOk result (λ made. AreEven 0 (cells_in made.items)) }
 {
     let mut made = Vec::with_capacity(alloc, columns.len())?;
     for column in columns {
-        made.push(Cells::new(alloc, column.1))?;
+        made.push(Cells::new(alloc, hash_keys, column.1))?;
     }
     Ok(made)
 }

@@ -21,6 +21,7 @@ use crate::schema::Schema;
 use csv::ByteRecord;
 use rs_value::{Kind, List, Memory, Text, Value};
 use std::alloc::Global;
+use std::hash::RandomState;
 use std::marker::Model;
 
 /// The greatest number of rows of a table.
@@ -50,8 +51,14 @@ impl Model for Table {
 impl Table {
     /// The table of a CSV file, whose header names the schema's columns. The first thing that
     /// refuses the file is the answer: first the header, then row by row, and within a row its
-    /// number, the number of its fields, and its cells from left to right.
-    pub fn read(alloc: Global, schema: Schema, bytes: &[u8]) -> Result<Table, TableFault>
+    /// number, the number of its fields, and its cells from left to right. Texts are hashed by the
+    /// keys, which the file is not to know: else it could make reading slow on purpose.
+    pub fn read(
+        alloc: Global,
+        hash_keys: RandomState,
+        schema: Schema,
+        bytes: &[u8],
+    ) -> Result<Table, TableFault>
         requires { length bytes.now ≤ 33554432 }
         ensures { Gives TableFault.Memory (table_of schema bytes.now) result }
     {
@@ -59,7 +66,7 @@ impl Table {
         let mut records = Records::new(alloc, bytes);
         let mut record_ = ByteRecord::new(alloc);
         read_header(columns, &mut records, &mut record_)?;
-        let rows = read_rows(alloc, columns, &mut records, &mut record_)?;
+        let rows = read_rows(alloc, hash_keys, columns, &mut records, &mut record_)?;
         Ok(Table { schema, rows })
     }
 
@@ -180,9 +187,10 @@ fn difference(columns: &[(Text, Kind)], header: &ByteRecord) -> Option<u32>
     None
 }
 
-/// Reads the rows behind the header.
+/// Reads the rows behind the header, whose texts are to be hashed by these keys.
 fn read_rows(
     alloc: Global,
+    hash_keys: RandomState,
     columns: &[(Text, Kind)],
     records: &mut Records<'_>,
     record_: &mut ByteRecord,
@@ -191,7 +199,7 @@ fn read_rows(
     ensures rows { MatchResult result (λ rows. rows_from columns.now 1 records.old ≡ Ok rows.rows) (λ fault. (fault ≡ TableFault.Memory) ⊎ (rows_from columns.now 1 records.old ≡ Err fault)) }
     ensures kinds { IfOk result (λ rows. rows.kinds ≡ map (λ column. column.1) columns.now) }
 {
-    let mut rows = Columns::new(alloc, columns)?;
+    let mut rows = Columns::new(alloc, hash_keys, columns)?;
     loop {
         match next_row(alloc, columns, rows.len() + 1, records, record_)? {
             Some(values) => rows.add_row(values)?,

@@ -4,13 +4,14 @@ ghost use Rattle.rs_table.specs.Texts.{text_number};
 use indexmap::IndexSet;
 use rs_value::{Memory, Text};
 use std::alloc::Global;
+use std::hash::RandomState;
 use std::marker::Model;
 
 /// The texts of a column, row by row. Each different text is kept once, by first occurrence, and a row has the number of
 /// its text, counted from 0. Room for further rows can be made beforehand, so that they take no memory.
 #[derive(Drop)]
 pub(crate) struct Texts {
-    kept: IndexSet<Text>,
+    kept: IndexSet<Text, RandomState>,
     numbers: Vec<u32>,
 }
 
@@ -27,12 +28,12 @@ impl Model for Texts {
 }
 
 impl Texts {
-    /// No texts. It takes no memory.
-    pub fn new(alloc: Global) -> Texts
+    /// No texts, which are to be hashed by these keys. It takes no memory.
+    pub fn new(alloc: Global, hash_keys: RandomState) -> Texts
         ensures { result.texts ≡ [] }
     {
         Texts {
-            kept: IndexSet::new(alloc),
+            kept: IndexSet::with_hasher(alloc, hash_keys),
             numbers: Vec::new(alloc),
         }
     }
