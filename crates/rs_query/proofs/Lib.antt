@@ -7,9 +7,11 @@ pub mod EquatedFacts
 pub mod ExtendFacts
 pub mod HoldFacts
 pub mod IndexTermFacts
+pub mod KeyFacts
 pub mod LimitFacts
 pub mod ListFacts
 pub mod LocalFacts
+pub mod NextFacts
 pub mod QuestionFacts
 pub mod RiseFacts
 pub mod ScoreFacts
