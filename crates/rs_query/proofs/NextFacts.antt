@@ -1,6 +1,6 @@
 -- The next row of which something is so.
-use Rattle.std.proofs.Common.{ℕ, ◌≡◌, ◌∙◌, ◌+◌, ◌<◌, ◌≤◌, refl, sym, ap, subst, inl, inr, arith}
-use Rattle.std.proofs.lemmas.Bool.{cases_lt}
+use Rattle.std.proofs.Common.{ℕ, ◌≡◌, ◌+◌, ◌<◌, ◌≤◌, Bool, true, false, cond, nat_le, refl, subst, inl, inr, arith}
+use Rattle.std.proofs.lemmas.Bool.{cases_lt, leb-false, leb-true}
 use Rattle.rs_query.specs.EqualRows.{IsNext}
 
 -- the row right behind, where it is so of that
@@ -31,3 +31,18 @@ IsNext-same is other behind last found forth back next = record {
   there = λ some. let t = next.there some in (t.0, t.1, forth found t.0 t.1 t.2);
   first = λ row above below also. next.first row above below (back row above below also);
 }
+
+-- the next row is the same up to a nearer last one, where it isn't behind that
+pub IsNext-cut : (is : ℕ → Type 0) (behind size last found : ℕ) → last ≤ size → IsNext is behind size found → IsNext is behind last (cond (nat_le found last) found 0)
+IsNext-cut is behind size last found less next = go (nat_le found last) refl where
+  go : (b : Bool) → nat_le found last ≡ b → IsNext is behind last (cond b found 0)
+  go true e = record {
+    there = λ some. let t = next.there some in (t.0, leb-true found last e, t.2);
+    first = λ other above below also. next.first other above (omega arith) also;
+  }
+  go false e =
+      let beyond = leb-false found last e in
+      record {
+        there = λ some. absurd (omega arith);
+        first = λ other above below also. let t = next.first other above (omega arith) also in absurd (omega (arith, t.1));
+      }

@@ -5,7 +5,6 @@ pub mod Choices
 pub mod Combinations
 pub mod Conjuncts
 pub mod EqualRows
-pub mod Extending
 pub mod Fresh
 pub mod Meaning
 pub mod Questions

@@ -3,6 +3,8 @@ use Rattle.std.specs.Prelude.{ℕ, zero, suc, ◌≡◌, ◌⊎◌, ◌↔◌, �
 use Rattle.std.specs.Cmp.Lexicographic.{slice_cmp}
 use Rattle.std.specs.List.{IsDistinct}
 use Rattle.std.specs.Ordering.{eq_by_cmp, nat_cmp}
+use Rattle.rs_value.specs.Value.{kind_of}
+use Rattle.rs_value.specs.declared.kind.Kind.{Kind}
 use Rattle.rs_value.specs.declared.value.Value.{Value}
 use Rattle.rs_value.specs.declared.value.Value.TheVariants as value
 use Rattle.rs_order.specs.Climbing.{In}
@@ -15,7 +17,7 @@ use Rattle.rs_query.specs.Conjuncts.{ConjunctDef}
 use Rattle.rs_query.specs.EqualRows.{IsNext}
 use Rattle.rs_query.specs.Meaning.{conjuncts_within}
 use Rattle.rs_query.specs.Tables.{all_entries, entry_table, row_number, size_of, sizes_of}
-use Rattle.rs_query.specs.WellFormed.{IsColumn}
+use Rattle.rs_query.specs.WellFormed.{IsColumn, column_kind}
 use Rattle.rs_query.specs.declared.block.Block.{Block}
 use Rattle.rs_query.specs.declared.step.Step.{Step}
 use Rattle.rs_query.specs.declared.step.Tie.{Tie}
@@ -25,8 +27,16 @@ abbrev pub cell_of : CatalogDef → Block → ℕ × ℕ → ℕ → Value
 cell_of catalogue block column row =
     unwrap_or (option_and_then (λ (table : Relation). cell_at table row column.1) (entry_table catalogue block column.0)) (value.Int (pos 0))
 
+-- the cells of a column are of its kind
+abbrev pub HasKinds : CatalogDef → Block → ℕ × ℕ → Type 0
+HasKinds catalogue block column =
+    (kind : Kind) (row : ℕ) → column_kind catalogue block column ≡ Some kind → 1 ≤ row → row ≤ size_of catalogue block column.0 → kind_of (cell_of catalogue block column row) ≡ kind
+
 -- for each row of the one column the first row of the other one with an equal cell, and for each row of the other one the next such row
 pub record AreEqualRows (catalogue : CatalogDef) (block : Block) (left right : ℕ × ℕ) (first next : List ℕ) : Type 0 where
+  pub kinds : column_kind catalogue block left ≡ column_kind catalogue block right
+  pub left_kind : HasKinds catalogue block left
+  pub right_kind : HasKinds catalogue block right
   pub lefts : length first ≡ size_of catalogue block left.0
   pub rights : length next ≡ size_of catalogue block right.0
   pub firsts : (row : ℕ) → 1 ≤ row → row ≤ size_of catalogue block left.0

@@ -27,6 +27,8 @@ impl EqualRows {
         requires { length rights.items < 2 ^ 32 }
         ensures first { IfOk result (λ rows. AreFirst K.cmp lefts.now rights.items rows.first.items) }
         ensures next { IfOk result (λ rows. AreNextBehind K.cmp 0 rights.items rows.next.items) }
+        ensures lefts { IfOk result (λ rows. length rows.first.items ≡ length lefts.now) }
+        ensures rights { IfOk result (λ rows. length rows.next.items ≡ length rights.items) }
     {
         let mut firsts = BTreeMap::new(alloc);
         let next = next_rows(alloc, rights, &mut firsts)?;
@@ -63,6 +65,7 @@ fn next_rows<K: Ord + Drop>(
     requires empty { (key : K) → unwrap_or (get K.cmp firsts.old key) 0 ≡ 0 }
     ensures firsts { OnOk result ((key : K) → IsNext (HasKey K.cmp keys.items key) 0 (length keys.items) (unwrap_or (get K.cmp firsts.new key) 0)) }
     ensures next { IfOk result (λ rows. AreNextBehind K.cmp 0 keys.items rows.items) }
+    ensures sized { IfOk result (λ rows. length rows.items ≡ length keys.items) }
 {
     let mut next = vec![in alloc; 0; keys.len()]?;
     while let Some(key) = keys.pop() {
@@ -78,7 +81,8 @@ fn first_rows<K: Ord + Drop>(
     keys: &[K],
     firsts: &BTreeMap<K, u32>,
 ) -> Result<Vec<u32>, Memory>
-    ensures { IfOk result (λ rows. (place : ℕ) (key : K) → slice_get keys.now place ≡ Some key
+    ensures sized { IfOk result (λ rows. length rows.items ≡ length keys.now) }
+    ensures rows { IfOk result (λ rows. (place : ℕ) (key : K) → slice_get keys.now place ≡ Some key
         → unwrap_or (slice_get rows.items place) 0 ≡ unwrap_or (get K.cmp firsts.now key) 0) }
 {
     let mut first = Vec::new(alloc);

@@ -1,6 +1,6 @@
 //! The steps of a search for combinations.
 
-ghost use Rattle.std.specs.Prelude.{◌≡◌, ◌≤◌, ◌-◌, ℕ, IfSome, length, slice_get, unwrap_or};
+ghost use Rattle.std.specs.Prelude.{◌≡◌, ◌≤◌, ◌-◌, ℕ, IfSome, List, length, nat_le, if◌then◌else◌};
 ghost use Rattle.rs_catalog.specs.Catalog.{CatalogDef};
 ghost use Rattle.rs_query.specs.EqualRows.{IsNext};
 ghost use Rattle.rs_query.specs.Searching.{Fits, IsStep};
@@ -67,7 +67,7 @@ impl Step {
 
 /// A row, or 0 where it comes behind the last one.
 fn up_to(last: u32, row: u32) -> u32
-    ensures { (is : ℕ → Type 0) (behind size : ℕ) → last ≤ size → IsNext is behind size row → IsNext is behind last result }
+    ensures { result ≡ (if nat_le row last then row else 0) }
 {
     if row <= last { row } else { 0 }
 }

@@ -5,4 +5,4 @@ use Rattle.rs_query.proofs.equal_rows.EqualRows.of.Goals as goal
 
 pub returns-clause-first : goal.returns-clause-first
 returns-clause-first g c = λ place key at.
-    subst (IsNext (HasKey g.K.Ord.cmp c.args.rights.items key) 0 (length c.args.rights.items)) (sym (c.in_ok-first.ensures place key at)) (c.in_ok-next.ensures.firsts key)
+    subst (IsNext (HasKey g.K.Ord.cmp c.args.rights.items key) 0 (length c.args.rights.items)) (sym (c.in_ok-first.ensures.rows place key at)) (c.in_ok-next.ensures.firsts key)
