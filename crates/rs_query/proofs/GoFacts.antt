@@ -29,6 +29,11 @@ use Rattle.rs_query.proofs.ExtendFacts.{HasRows-choice, IsChoice-length, all-few
 use Rattle.rs_query.proofs.HoldNewFacts.{satisfies-new}
 use Rattle.rs_query.proofs.MaskStepFacts.{IsChoice-only, IsChoice-set, has-back, has-more, has-own, has-up_to, is_inside-more, row_number-other, row_number-own}
 
+-- of those that go on by a step, the ones whose row of its entry comes before this one, or all behind the last row
+pub record IsPassed (catalogue : CatalogDef) (block : Block) (mask : ℕ) (step : Step) (rows : List ℕ) (steps : List Step) (row : ℕ) (z : List ℕ) : Type 0 where
+  pub goes : GoesOn catalogue block (step ∷ steps) mask rows z
+  pub before : 1 ≤ row → row_number z step.entry < row
+
 -- one of some tests that are all passed
 list_all-In : {X : Type 0} (p : X → Bool) (xs : List X) (x : X) → list_all p xs ≡ true → In x xs → p x ≡ true
 list_all-In p [] x all h = absurd h
@@ -157,16 +162,14 @@ module _ (catalogue : CatalogDef) (block : Block) (is : IsBlock catalogue block)
           in_range = (subst (λ n. step.above < n) (sym own) above, subst (λ n. n ≤ step.last) (sym own) last, goes.in_range);
         }
 
-    -- those whose row of the entry comes before this one, or all behind the last one
-    pub record IsPassed (steps : List Step) (row : ℕ) (z : List ℕ) : Type 0 where
-      pub goes : GoesOn catalogue block (step ∷ steps) mask rows z
-      pub before : 1 ≤ row → row_number z step.entry < row
+    abbrev Passed : List Step → ℕ → List ℕ → Type 0
+    Passed steps row z = IsPassed catalogue block mask step rows steps row z
 
     -- there is none before the first row that fits
     pub passed-none : (steps : List Step) (first : ℕ) (found : List (List ℕ)) → IsNext (Fits catalogue block step.tie rows) step.above step.last first
-        → Adds (IsPassed steps first) found found
+        → Adds (Passed steps first) found found
     passed-none steps first found next =
-        Adds-none (IsPassed steps first) found
+        Adds-none (Passed steps first) found
         (λ z passed.
         let range = passed.goes.in_range in
         let at = next.first (row_number z step.entry) range.0 range.1 (GoesOn-fits steps z passed.goes) in
@@ -175,17 +178,17 @@ module _ (catalogue : CatalogDef) (block : Block) (is : IsBlock catalogue block)
 
     -- those of a row join the others
     pub passed-more : (steps : List Step) (row next : ℕ) (old middle new : List (List ℕ)) → IsBegun catalogue block mask rows → step.above < row → row ≤ step.last
-        → IsNext (Fits catalogue block step.tie rows) row step.last next → Adds (IsPassed steps row) old middle
-        → Adds (GoesOn catalogue block steps longer_mask (set rows (step.entry - 1) row)) middle new → Adds (IsPassed steps next) old new
+        → IsNext (Fits catalogue block step.tie rows) row step.last next → Adds (Passed steps row) old middle
+        → Adds (GoesOn catalogue block steps longer_mask (set rows (step.entry - 1) row)) middle new → Adds (Passed steps next) old new
     passed-more steps row next old middle new begun above last is_next a b =
-        Adds-both (IsPassed steps row) (GoesOn catalogue block steps longer_mask (set rows (step.entry - 1) row)) (IsPassed steps next) old middle new a b
+        Adds-both (Passed steps row) (GoesOn catalogue block steps longer_mask (set rows (step.entry - 1) row)) (Passed steps next) old middle new a b
         (λ z. (forth z, back z))
         (λ z y passed goes same.
         let less = passed.before (omega arith) in
         let own = ap (λ w. row_number w step.entry) same ∙ GoesOn-row steps row y begun goes in
         omega arith)
       where
-        forth : (z : List ℕ) → IsPassed steps next z → IsPassed steps row z ⊎ GoesOn catalogue block steps longer_mask (set rows (step.entry - 1) row) z
+        forth : (z : List ℕ) → Passed steps next z → Passed steps row z ⊎ GoesOn catalogue block steps longer_mask (set rows (step.entry - 1) row) z
         forth z passed = elim (cases_lt (row_number z step.entry) row) [
           | inl less ↦ inl (record { goes = passed.goes; before = λ some. less })
           | inr le ↦ elim (cases_eq (row_number z step.entry) row) [
@@ -198,7 +201,7 @@ module _ (catalogue : CatalogDef) (block : Block) (is : IsBlock catalogue block)
           ]
         ]
 
-        back : (z : List ℕ) → (IsPassed steps row z ⊎ GoesOn catalogue block steps longer_mask (set rows (step.entry - 1) row) z) → IsPassed steps next z
+        back : (z : List ℕ) → (Passed steps row z ⊎ GoesOn catalogue block steps longer_mask (set rows (step.entry - 1) row) z) → Passed steps next z
         back z h = elim h [
           | inl passed ↦ record {
             goes = passed.goes;
@@ -211,9 +214,9 @@ module _ (catalogue : CatalogDef) (block : Block) (is : IsBlock catalogue block)
         ]
 
     -- behind the last row there are all
-    pub passed-all : (steps : List Step) (row : ℕ) (old new : List (List ℕ)) → row ≡ 0 → Adds (IsPassed steps row) old new → Adds (GoesOn catalogue block (step ∷ steps) mask rows) old new
+    pub passed-all : (steps : List Step) (row : ℕ) (old new : List (List ℕ)) → row ≡ 0 → Adds (Passed steps row) old new → Adds (GoesOn catalogue block (step ∷ steps) mask rows) old new
     passed-all steps row old new none a =
-        Adds-same (IsPassed steps row) (GoesOn catalogue block (step ∷ steps) mask rows) old new
+        Adds-same (Passed steps row) (GoesOn catalogue block (step ∷ steps) mask rows) old new
         (λ z. ((λ passed. passed.goes), (λ goes. record { goes = goes; before = λ some. absurd (omega arith) }))) a
 
   -- rows of all entries are the one combination that goes on from them

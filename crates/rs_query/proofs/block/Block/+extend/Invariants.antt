@@ -9,7 +9,7 @@ decreases-extend l = length l.steps.now
 
 abbrev pub invariant-loop : goal.invariant-loop
 invariant-loop l = record {
-  found : Adds (IsPassed l.catalog l.self l.requires.block l.mask l.step l.rows (l.rest) l.row) l.initial.found.items l.found.items;
+  found : Adds (IsPassed l.catalog l.self l.mask l.step l.rows l.rest l.row) l.initial.found.items l.found.items;
   fits : 1 ≤ l.row → (l.step.above < l.row) × (l.row ≤ l.step.last) × Fits l.catalog l.self l.step.tie l.rows l.row;
 }
 
