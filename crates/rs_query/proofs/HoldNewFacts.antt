@@ -26,6 +26,11 @@ half true false n m more le = omega arith
 half false true n m more le = let no : false ≡ true = more refl in absurd (cc)
 half false false n m more le = omega arith
 
+was_new : (now before : Bool) → first_new now before ≡ true → now ≡ true
+unfolding first_new
+was_new true before e = refl
+was_new false before e = e
+
 -- a condition that is looked at before, or now, and all others
 joined : (now before holds all rest new : Bool) → (before ≡ true → now ≡ true) → all ≡ (rest && new)
     → (cond now holds true && all) ≡ ((cond before holds true && rest) && (cond (first_new now before) holds true && new))
@@ -58,11 +63,6 @@ module _ (before now : ℕ) (more : (entries : ℕ) → is_inside entries before
         λ is. was_new (is_inside c.entries now) (is_inside c.entries before) (sym bit ∙ ap (λ n. eqb n 1) is),
         rw rest (new-inside conjuncts),
       )
-    where
-      was_new : (a b : Bool) → first_new a b ≡ true → a ≡ true
-      unfolding first_new
-      was_new true b e = refl
-      was_new false b e = e
 
   -- all conditions within the entries of now hold where those of before and the new ones do
   module _ (catalogue : CatalogDef) (block : Block) (rows : List ℕ) where

@@ -6,8 +6,8 @@ use Rattle.rs_rank.specs.Masks.{has_number}
 use Rattle.rs_query.specs.Searching.{AreSteps, IsRanged}
 use Rattle.rs_query.proofs.block.Block.steps.Given as goal
 
-abbrev pub invariant-loop-entry : goal.invariant-loop-entry
-invariant-loop-entry l = record {
+abbrev pub invariant-loop-next : goal.invariant-loop-next
+invariant-loop-next l = record {
   steps : AreSteps l.catalog l.self 0 l.mask l.steps.items;
   ranges : AllByRecursion (IsRanged l.catalog l.self l.old l.pivot) l.steps.items;
   below : l.mask < 2 ^ length l.self.from;
@@ -16,5 +16,5 @@ invariant-loop-entry l = record {
   none : IfNone l.next ((entry : ℕ) → 1 ≤ entry → entry ≤ length l.self.from → has_number l.mask entry ≡ true);
 }
 
-abbrev pub decreases-loop-entry : goal.decreases-loop-entry
-decreases-loop-entry l = 2 ^ length l.self.from - l.mask
+abbrev pub decreases-loop-next : goal.decreases-loop-next
+decreases-loop-next l = 2 ^ length l.self.from - l.mask
