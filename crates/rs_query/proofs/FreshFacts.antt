@@ -1,7 +1,7 @@
 -- The parts of a search, sorted, are the fresh combinations.
 use Rattle.std.proofs.Common.{ℕ, zero, suc, ◌≡◌, ◌∙◌, ◌+◌, ◌-◌, ◌<◌, ◌≤◌, ◌⊎◌, ◌||◌, ◌++◌, Bool, true, false, cond, nat_lt, List, [], ◌∷◌, length, get_or, replicate, refl, sym, ap, subst, inl, inr, arith}
 use Rattle.std.specs.Int.Bits.{or_zero_r}
-use Rattle.std.specs.List.{IsDistinct, filter, list_any}
+use Rattle.std.specs.List.{AllByRecursion, IsDistinct, filter, list_any}
 use Rattle.std.specs.List.Sorted.{IsPermutation, IsSorted, IsStrictlySortedBy}
 use Rattle.std.specs.Cmp.Lexicographic.{nat_list_cmp_total, slice_cmp}
 use Rattle.std.specs.Ordering.{is_eq, is_lt, nat_cmp, ordering_reverse}
@@ -17,18 +17,19 @@ use Rattle.std.proofs.lemmas.Nat.Bits.{bit_at_ones_above}
 use Rattle.std.proofs.lemmas.Option.{unwrap_or-slice_get}
 use Rattle.rs_order.specs.Climbing.{Climbs, In}
 use Rattle.rs_order.proofs.ClimbingFacts.{Climbs-same}
+use Rattle.rs_order.proofs.EachFacts.{each-filter}
 use Rattle.rs_order.proofs.ItemFacts.{Climbs-filter, In-filter, In-filter-back}
 use Rattle.rs_catalog.specs.Catalog.{CatalogDef}
 use Rattle.rs_query.specs.declared.block.Block.{Block}
 use Rattle.rs_query.specs.Combinations.{all_combinations, combinations, satisfies}
 use Rattle.rs_query.specs.Fresh.{fresh_combinations, has_new_row}
 use Rattle.rs_query.specs.Meaning.{is_inside}
-use Rattle.rs_query.specs.Searching.{Adds, IsNewAt, same_rows}
-use Rattle.rs_query.specs.Tables.{all_entries, row_number, sizes_of}
+use Rattle.rs_query.specs.Searching.{Adds, IsNewAt, IsNewBefore, same_rows}
+use Rattle.rs_query.specs.Tables.{HasRows, all_entries, row_number, sizes_of}
 use Rattle.rs_query.specs.WellFormed.{IsBlock}
 use Rattle.rs_query.proofs.AddsFacts.{Adds-both, Adds-none}
 use Rattle.rs_query.proofs.ChoiceFacts.{Climbs-combinations, In-combinations, In-combinations-back}
-use Rattle.rs_query.proofs.ExtendFacts.{IsChoice-length, satisfies-fails}
+use Rattle.rs_query.proofs.ExtendFacts.{HasRows-combinations, IsChoice-length, satisfies-fails}
 use Rattle.rs_query.proofs.GoFacts.{combination-row}
 use Rattle.rs_query.proofs.MaskStepFacts.{IsChoice-outside, has-none, is_inside-more}
 
@@ -122,13 +123,6 @@ new-at (size ∷ old) [] i within within_rows above = absurd (omega arith)
 new-at (size ∷ old) (row ∷ rows) zero within within_rows above = ap (λ b. b || has_new_row old rows) (lt-ltb size row above)
 new-at (size ∷ old) (row ∷ rows) (suc i) within within_rows above =
     ap (λ b. nat_lt size row || b) (new-at old rows i (omega arith) (omega arith) above) ∙ or-right (nat_lt size row)
-
--- the first new row of a combination is that of one of the first entries
-pub record IsNewBefore (catalogue : CatalogDef) (block : Block) (old : List ℕ) (bound : ℕ) (rows : List ℕ) : Type 0 where
-  pub pivot : ℕ
-  pub least : 1 ≤ pivot
-  pub most : pivot ≤ bound
-  pub new_at : IsNewAt catalogue block old pivot rows
 
 module _ (catalogue : CatalogDef) (block : Block) (is : IsBlock catalogue block) (old : List ℕ) where
   pub before-none : (found : List (List ℕ)) → Adds (IsNewBefore catalogue block old 0) found found
@@ -249,3 +243,9 @@ fresh-all catalogue block is =
     let at : row_number rows 1 ≡ get_or rows 0 0 = unwrap_or-slice_get rows 0 0 in
     let some = row.0 in
     new-at (replicate 6 0) rows 0 (omega arith) (omega arith) (omega arith))
+
+-- each fresh combination has a row of each entry
+pub HasRows-fresh : (catalogue : CatalogDef) (block : Block) (old : List ℕ) → length block.from ≤ 6
+    → AllByRecursion (HasRows catalogue block (all_entries block)) (fresh_combinations catalogue block old (sizes_of catalogue block))
+HasRows-fresh catalogue block old most =
+    each-filter (HasRows catalogue block (all_entries block)) (has_new_row old) (all_combinations catalogue block) (HasRows-combinations catalogue block most)

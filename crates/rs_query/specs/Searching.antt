@@ -133,3 +133,10 @@ IsRanged catalogue block old pivot step =
 pub record IsNewAt (catalogue : CatalogDef) (block : Block) (old : List ℕ) (pivot : ℕ) (rows : List ℕ) : Type 0 where
   pub combination : IsCombination catalogue block rows
   pub part : (entry : ℕ) → 1 ≤ entry → entry ≤ length block.from → IsInPart old pivot entry (row_number rows entry)
+
+-- the first new row of a combination is that of one of the first entries
+pub record IsNewBefore (catalogue : CatalogDef) (block : Block) (old : List ℕ) (bound : ℕ) (rows : List ℕ) : Type 0 where
+  pub pivot : ℕ
+  pub least : 1 ≤ pivot
+  pub most : pivot ≤ bound
+  pub new_at : IsNewAt catalogue block old pivot rows

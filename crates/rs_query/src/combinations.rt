@@ -4,7 +4,7 @@ ghost use Rattle.std.specs.Prelude.{◌≡◌, ◌≤◌, ◌<◌, ◌-◌, IfOk
 ghost use Rattle.std.specs.List.{AllByRecursion};
 ghost use Rattle.rs_query.specs.Combinations.{all_combinations, satisfies};
 ghost use Rattle.rs_query.specs.Fresh.{fresh_combinations};
-ghost use Rattle.rs_query.specs.Searching.{Adds, AreSteps, GoesOn, IsBegun, IsNewAt};
+ghost use Rattle.rs_query.specs.Searching.{Adds, AreSteps, GoesOn, IsBegun, IsNewAt, IsNewBefore};
 ghost use Rattle.rs_query.specs.Tables.{HasRows, all_entries, sizes_of};
 ghost use Rattle.rs_query.specs.WellFormed.{IsBlock};
 
@@ -41,14 +41,30 @@ impl Block {
         ensures each { IfOk result (λ rows. AllByRecursion (HasRows catalog.now self.now (all_entries self.now)) rows.items) }
     {
         let mut found = Vec::new(alloc);
-        let mut cells = Vec::new(alloc);
-        if self.holds_of_all(catalog, &mut cells)? {
-            for place in 0..self.from.len() {
-                self.find(alloc, catalog, place as u8 + 1, old, &mut cells, &mut found)?;
-            }
-        }
+        self.find_all(alloc, catalog, old, &mut found)?;
         found.sort_unstable();
         Ok(found)
+    }
+
+    /// Finds the combinations with a new row, first those in which the first entry has one.
+    fn find_all(
+        &self,
+        alloc: Global,
+        catalog: &Catalog,
+        old: &[u32; 6],
+        found: &mut Vec<[u32; 6]>,
+    ) -> Result<(), Memory>
+        requires { IsBlock catalog.now self.now }
+        ensures { OnOk result (Adds (IsNewBefore catalog.now self.now old.now (length self.now.from)) found.old.items found.new.items) }
+    {
+        let mut cells = Vec::new(alloc);
+        if !self.holds_of_all(catalog, &mut cells)? {
+            return Ok(());
+        }
+        for place in 0..self.from.len() {
+            self.find(alloc, catalog, place as u8 + 1, old, &mut cells, found)?;
+        }
+        Ok(())
     }
 
     /// Whether the conditions without columns hold.
