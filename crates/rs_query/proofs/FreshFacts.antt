@@ -124,7 +124,7 @@ new-at (size ∷ old) (row ∷ rows) zero within within_rows above = ap (λ b. b
 new-at (size ∷ old) (row ∷ rows) (suc i) within within_rows above =
     ap (λ b. nat_lt size row || b) (new-at old rows i (omega arith) (omega arith) above) ∙ or-right (nat_lt size row)
 
-module _ (catalogue : CatalogDef) (block : Block) (is : IsBlock catalogue block) (old : List ℕ) where
+module _ (catalogue : CatalogDef) (block : Block) (old : List ℕ) where
   pub before-none : (found : List (List ℕ)) → Adds (IsNewBefore catalogue block old 0) found found
   before-none found = Adds-none (IsNewBefore catalogue block old 0) found (λ rows new. (let some = new.least in let none = new.most in omega arith))
 
@@ -154,33 +154,8 @@ module _ (catalogue : CatalogDef) (block : Block) (is : IsBlock catalogue block)
         | inr at ↦ record { pivot = bound + 1; least = omega arith; most = omega arith; new_at = at }
       ]
 
-  -- there is none where a condition without columns fails
-  pub before-fails : (bound : ℕ) (found : List (List ℕ)) → satisfies catalogue block 0 (replicate 6 0) ≡ false → Adds (IsNewBefore catalogue block old bound) found found
-  before-fails bound found fails =
-      Adds-none (IsNewBefore catalogue block old bound) found
-      (λ rows new.
-      true≢false (sym new.new_at.combination.satisfied
-      ∙ satisfies-fails catalogue block 0 (all_entries block) (replicate 6 0) rows (λ entry some has. absurd (has-none entry has)) (λ e inside. inside-any e inside) is.conjuncts fails))
-    where
-      inside-any : (e : ℕ) → is_inside e 0 ≡ true → is_inside e (all_entries block) ≡ true
-      inside-any e inside = subst (λ m. is_inside e m ≡ true) (or_comm 0 (all_entries block) ∙ or_zero_r (all_entries block)) (is_inside-more 0 (all_entries block) e inside)
-
-  -- a combination with a new row is fresh
-  fresh-forth : (rows : List ℕ) → length old ≡ 6 → IsNewBefore catalogue block old (length block.from) rows → In rows (fresh_combinations catalogue block old (sizes_of catalogue block))
-  fresh-forth rows six new =
-      let combination = new.new_at.combination in
-      let sized : length rows ≡ 6 = IsChoice-length (all_entries block) (sizes_of catalogue block) rows combination.choice in
-      let few = is.most_entries in
-      let most = new.most in
-      let above : row_number old new.pivot < row_number rows new.pivot = (new.new_at.part new.pivot new.least most).new refl in
-      let old_at : row_number old new.pivot ≡ get_or old (new.pivot - 1) 0 = unwrap_or-slice_get old (new.pivot - 1) 0 in
-      let row_at : row_number rows new.pivot ≡ get_or rows (new.pivot - 1) 0 = unwrap_or-slice_get rows (new.pivot - 1) 0 in
-      In-filter (has_new_row old) rows (combinations catalogue block (sizes_of catalogue block) (all_entries block))
-      (In-combinations catalogue block (sizes_of catalogue block) (all_entries block) rows combination.choice combination.satisfied)
-      (new-at old rows (new.pivot - 1) (let some = new.least in omega arith) (let some = new.least in omega arith) (omega arith))
-
-  -- and each fresh one has one
-  fresh-back : (rows : List ℕ) → In rows (fresh_combinations catalogue block old (sizes_of catalogue block)) → IsNewBefore catalogue block old (length block.from) rows
+  -- each fresh combination has a new row
+  pub fresh-back : (rows : List ℕ) → In rows (fresh_combinations catalogue block old (sizes_of catalogue block)) → IsNewBefore catalogue block old (length block.from) rows
   fresh-back rows h =
       let both = In-filter-back (has_new_row old) rows (combinations catalogue block (sizes_of catalogue block) (all_entries block)) h in
       let parts = In-combinations-back catalogue block (sizes_of catalogue block) (all_entries block) rows both.0 in
@@ -213,6 +188,32 @@ module _ (catalogue : CatalogDef) (block : Block) (is : IsBlock catalogue block)
         };
       }
 
+module _ (catalogue : CatalogDef) (block : Block) (is : IsBlock catalogue block) (old : List ℕ) where
+  -- there is none where a condition without columns fails
+  pub before-fails : (bound : ℕ) (found : List (List ℕ)) → satisfies catalogue block 0 (replicate 6 0) ≡ false → Adds (IsNewBefore catalogue block old bound) found found
+  before-fails bound found fails =
+      Adds-none (IsNewBefore catalogue block old bound) found
+      (λ rows new.
+      true≢false (sym new.new_at.combination.satisfied
+      ∙ satisfies-fails catalogue block 0 (all_entries block) (replicate 6 0) rows (λ entry some has. absurd (has-none entry has)) (λ e inside. inside-any e inside) is.conjuncts fails))
+    where
+      inside-any : (e : ℕ) → is_inside e 0 ≡ true → is_inside e (all_entries block) ≡ true
+      inside-any e inside = subst (λ m. is_inside e m ≡ true) (or_comm 0 (all_entries block) ∙ or_zero_r (all_entries block)) (is_inside-more 0 (all_entries block) e inside)
+
+  -- and a combination with a new row is fresh
+  fresh-forth : (rows : List ℕ) → length old ≡ 6 → IsNewBefore catalogue block old (length block.from) rows → In rows (fresh_combinations catalogue block old (sizes_of catalogue block))
+  fresh-forth rows six new =
+      let combination = new.new_at.combination in
+      let sized : length rows ≡ 6 = IsChoice-length (all_entries block) (sizes_of catalogue block) rows combination.choice in
+      let few = is.most_entries in
+      let most = new.most in
+      let above : row_number old new.pivot < row_number rows new.pivot = (new.new_at.part new.pivot new.least most).new refl in
+      let old_at : row_number old new.pivot ≡ get_or old (new.pivot - 1) 0 = unwrap_or-slice_get old (new.pivot - 1) 0 in
+      let row_at : row_number rows new.pivot ≡ get_or rows (new.pivot - 1) 0 = unwrap_or-slice_get rows (new.pivot - 1) 0 in
+      In-filter (has_new_row old) rows (combinations catalogue block (sizes_of catalogue block) (all_entries block))
+      (In-combinations catalogue block (sizes_of catalogue block) (all_entries block) rows combination.choice combination.satisfied)
+      (new-at old rows (new.pivot - 1) (let some = new.least in omega arith) (let some = new.least in omega arith) (omega arith))
+
   -- what was found, sorted, are the fresh combinations
   pub fresh-found : (start found ordered : List (List ℕ)) → length old ≡ 6 → start ≡ [] → Adds (IsNewBefore catalogue block old (length block.from)) start found
       → IsPermutation found ordered → IsSorted rows_cmp ordered → ordered ≡ fresh_combinations catalogue block old (sizes_of catalogue block)
@@ -224,7 +225,7 @@ module _ (catalogue : CatalogDef) (block : Block) (is : IsBlock catalogue block)
       (Climbs-filter rows_cmp (λ rows. rows) (has_new_row old) (combinations catalogue block (sizes_of catalogue block) (all_entries block))
       (Climbs-combinations catalogue block (sizes_of catalogue block) (all_entries block)))
       (λ rows h. fresh-forth rows six ((a.each rows).0 (subst (In rows) all (In-moved ordered found rows (IsPermutation-sym found ordered moved) h))))
-      (λ rows h. In-moved found ordered rows moved (subst (In rows) (sym all) ((a.each rows).1 (fresh-back rows h))))
+      (λ rows h. In-moved found ordered rows moved (subst (In rows) (sym all) ((a.each rows).1 (fresh-back catalogue block old rows h))))
 
 -- a test that each item passes leaves all
 filter-each : {X : Type 0} (p : X → Bool) (xs : List X) → ((x : X) → In x xs → p x ≡ true) → filter p xs ≡ xs

@@ -34,6 +34,13 @@ pub record IsPassed (catalogue : CatalogDef) (block : Block) (mask : ℕ) (step 
   pub goes : GoesOn catalogue block (step ∷ steps) mask rows z
   pub before : 1 ≤ row → row_number z step.entry < row
 
+-- behind the last row there are all
+pub passed-all : (catalogue : CatalogDef) (block : Block) (mask : ℕ) (step : Step) (rows : List ℕ) (steps : List Step) (row : ℕ) (old new : List (List ℕ)) → row ≡ 0
+    → Adds (IsPassed catalogue block mask step rows steps row) old new → Adds (GoesOn catalogue block (step ∷ steps) mask rows) old new
+passed-all catalogue block mask step rows steps row old new none a =
+    Adds-same (IsPassed catalogue block mask step rows steps row) (GoesOn catalogue block (step ∷ steps) mask rows) old new
+    (λ z. ((λ passed. passed.goes), (λ goes. record { goes = goes; before = λ some. absurd (omega arith) }))) a
+
 -- one of some tests that are all passed
 list_all-In : {X : Type 0} (p : X → Bool) (xs : List X) (x : X) → list_all p xs ≡ true → In x xs → p x ≡ true
 list_all-In p [] x all h = absurd h
@@ -212,12 +219,6 @@ module _ (catalogue : CatalogDef) (block : Block) (is : IsBlock catalogue block)
             before = λ some. let own = GoesOn-row steps row z begun goes in let more = (is_next.there some).0 in omega arith;
           }
         ]
-
-    -- behind the last row there are all
-    pub passed-all : (steps : List Step) (row : ℕ) (old new : List (List ℕ)) → row ≡ 0 → Adds (Passed steps row) old new → Adds (GoesOn catalogue block (step ∷ steps) mask rows) old new
-    passed-all steps row old new none a =
-        Adds-same (Passed steps row) (GoesOn catalogue block (step ∷ steps) mask rows) old new
-        (λ z. ((λ passed. passed.goes), (λ goes. record { goes = goes; before = λ some. absurd (omega arith) }))) a
 
   -- rows of all entries are the one combination that goes on from them
   pub GoesOn-whole : (mask : ℕ) (rows : List ℕ) (old new : List (List ℕ)) → mask ≡ all_entries block → IsBegun catalogue block mask rows → new ≡ old ++ rows ∷ []

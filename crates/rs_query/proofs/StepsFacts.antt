@@ -17,6 +17,20 @@ use Rattle.rs_query.proofs.AddsFacts.{Adds-none, Adds-same}
 use Rattle.rs_query.proofs.GoFacts.{combination-row}
 use Rattle.rs_query.proofs.MaskStepFacts.{has-back, has-none, has-up_to, is_inside-more}
 
+-- the step to an entry
+pub record IsStepTo (steps : List Step) (entry : ℕ) : Type 0 where
+  pub step : Step
+  pub is_in : In step steps
+  pub is_to : step.entry ≡ entry
+
+-- a step to an entry of the block
+abbrev IsOfBlock : Block → Step → Type 0
+IsOfBlock block step = (1 ≤ step.entry) × (step.entry ≤ length block.from)
+
+-- no row at all
+pub IsBegun-none : (catalogue : CatalogDef) (block : Block) → satisfies catalogue block 0 (replicate 6 0) ≡ true → IsBegun catalogue block 0 (replicate 6 0)
+IsBegun-none catalogue block holds = record { choice = (refl, (refl, (refl, (refl, (refl, (refl, tt)))))); satisfied = holds }
+
 module _ (catalogue : CatalogDef) (block : Block) where
   -- one step more
   pub AreSteps-push : (start mask : ℕ) (steps : List Step) (step : Step) → AreSteps catalogue block start mask steps → IsStep catalogue block mask step
@@ -31,12 +45,6 @@ module _ (catalogue : CatalogDef) (block : Block) where
   AreSteps-inside start end (step ∷ steps) are entries inside =
       AreSteps-inside (bit_or start (mask_of step.entry)) end steps are.1 entries (is_inside-more start (mask_of step.entry) entries inside)
 
-  -- the step to an entry
-  pub record IsStepTo (steps : List Step) (entry : ℕ) : Type 0 where
-    pub step : Step
-    pub is_in : In step steps
-    pub is_to : step.entry ≡ entry
-
   -- each entry at the end was there before or has a step
   AreSteps-to : (start end : ℕ) (steps : List Step) → AreSteps catalogue block start end steps → (entry : ℕ) → 1 ≤ entry → has_number end entry ≡ true
       → (has_number start entry ≡ true) ⊎ IsStepTo steps entry
@@ -49,11 +57,7 @@ module _ (catalogue : CatalogDef) (block : Block) where
     | inr later ↦ inr (record { step = later.step; is_in = inr later.is_in; is_to = later.is_to })
   ]
 
-  -- each step is to an entry of the block
-  abbrev IsOfBlock : Step → Type 0
-  IsOfBlock step = (1 ≤ step.entry) × (step.entry ≤ length block.from)
-
-  AreSteps-each : (start end : ℕ) (steps : List Step) → AreSteps catalogue block start end steps → AllByRecursion IsOfBlock steps
+  AreSteps-each : (start end : ℕ) (steps : List Step) → AreSteps catalogue block start end steps → AllByRecursion (IsOfBlock block) steps
   AreSteps-each start end [] are = tt
   AreSteps-each start end (step ∷ steps) are = ((are.0.least, are.0.most), AreSteps-each (bit_or start (mask_of step.entry)) end steps are.1)
 
@@ -70,10 +74,6 @@ in_range-from [] rows each = tt
 in_range-from (step ∷ steps) rows each = let first = each step (inl refl) in (first.0, first.1, in_range-from steps rows (λ s h. each s (inr h)))
 
 module _ (catalogue : CatalogDef) (block : Block) (is : IsBlock catalogue block) (old : List ℕ) (pivot : ℕ) where
-  -- no row at all
-  pub IsBegun-none : satisfies catalogue block 0 (replicate 6 0) ≡ true → IsBegun catalogue block 0 (replicate 6 0)
-  IsBegun-none holds = record { choice = (refl, (refl, (refl, (refl, (refl, (refl, tt)))))); satisfied = holds }
-
   -- all that goes on from there is the part of the pivot
   pub GoesOn-part : (steps : List Step) (found new : List (List ℕ)) → AreSteps catalogue block 0 (all_entries block) steps → AllByRecursion (IsRanged catalogue block old pivot) steps
       → Adds (GoesOn catalogue block steps 0 (replicate 6 0)) found new → Adds (IsNewAt catalogue block old pivot) found new
@@ -98,7 +98,7 @@ module _ (catalogue : CatalogDef) (block : Block) (is : IsBlock catalogue block)
         agrees = λ entry some has. absurd (has-none entry has);
         combination = new_at.combination;
         in_range = in_range-from steps rows (λ step h.
-        let of = AllByRecursion-In (IsOfBlock catalogue block) steps (AreSteps-each catalogue block 0 (all_entries block) steps are) step h in
+        let of = AllByRecursion-In (IsOfBlock block) steps (AreSteps-each catalogue block 0 (all_entries block) steps are) step h in
         let row = combination-row catalogue block is rows new_at.combination step.entry of.0 of.1 in
         (AllByRecursion-In (IsRanged catalogue block old pivot) steps ranged step h (row_number rows step.entry) row.0 row.1).1 (new_at.part step.entry of.0 of.1));
       }

@@ -15,7 +15,7 @@ pub extend-requires-clause-steps : goal.extend-requires-clause-steps
 extend-requires-clause-steps c = ?
 
 pub extend-requires-clause-begun : goal.extend-requires-clause-begun
-extend-requires-clause-begun c = IsBegun-none c.args.catalog.now c.args.self.now c.requires.block c.args.old.now c.args.pivot c.requires.satisfied
+extend-requires-clause-begun c = IsBegun-none c.args.catalog.now c.args.self.now c.requires.satisfied
 
 pub returns : goal.returns
 returns c = ?
