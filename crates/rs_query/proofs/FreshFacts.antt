@@ -39,11 +39,11 @@ rows_cmp = slice_cmp nat_cmp
 -- a list is among others where one of them is the same
 same-In : (rows : List ℕ) (lists : List (List ℕ)) → list_any (same_rows rows) lists ≡ true → In rows lists
 same-In rows [] any = absurd (false≢true any)
-same-In rows (first ∷ lists) any = go (rows_cmp rows first) refl any where
-  go : (o : Ordering) → rows_cmp rows first ≡ o → (is_eq o || list_any (same_rows rows) lists) ≡ true → In rows (first ∷ lists)
-  go Less e any = inr (same-In rows lists any)
-  go Equal e any = inl (exact_bytes rows first e)
-  go Greater e any = inr (same-In rows lists any)
+same-In rows (first ∷ lists) any = go (rows_cmp rows first) refl any (λ more. same-In rows lists more) where
+  go : (o : Ordering) → rows_cmp rows first ≡ o → (is_eq o || list_any (same_rows rows) lists) ≡ true → (list_any (same_rows rows) lists ≡ true → In rows lists) → In rows (first ∷ lists)
+  go Less e any others = inr (others any)
+  go Equal e any others = inl (exact_bytes rows first e)
+  go Greater e any others = inr (others any)
 
 or-right : (b : Bool) → (b || true) ≡ true
 or-right true = refl

@@ -47,12 +47,13 @@ module _ (before now : ℕ) (more : (entries : ℕ) → is_inside entries before
   -- the conditions within fewer entries are among those within more
   pub within-less : (conjuncts : List ConjunctDef) → conjuncts_within before conjuncts ≤ conjuncts_within now conjuncts
   within-less [] = omega arith
-  within-less (c ∷ conjuncts) = go (is_inside c.entries now) (is_inside c.entries before) (more c.entries) where
-    go : (a b : Bool) → (b ≡ true → a ≡ true) → cond b 1 0 + 2 * conjuncts_within before conjuncts ≤ cond a 1 0 + 2 * conjuncts_within now conjuncts
-    go true true e = omega (arith, within-less conjuncts)
-    go true false e = omega (arith, within-less conjuncts)
-    go false true e = let no : false ≡ true = e refl in absurd (cc)
-    go false false e = omega (arith, within-less conjuncts)
+  within-less (c ∷ conjuncts) = go (is_inside c.entries now) (is_inside c.entries before) (more c.entries) (within-less conjuncts) where
+    go : (a b : Bool) → (b ≡ true → a ≡ true) → conjuncts_within before conjuncts ≤ conjuncts_within now conjuncts
+        → cond b 1 0 + 2 * conjuncts_within before conjuncts ≤ cond a 1 0 + 2 * conjuncts_within now conjuncts
+    go true true e less = omega arith
+    go true false e less = omega arith
+    go false true e less = let no : false ≡ true = e refl in absurd (cc)
+    go false false e less = omega arith
 
   -- the new ones are within the entries of now
   pub new-inside : (conjuncts : List ConjunctDef) → AreInside (conjuncts_within now conjuncts - conjuncts_within before conjuncts) now conjuncts

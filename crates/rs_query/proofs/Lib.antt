@@ -18,12 +18,14 @@ pub mod LocalFacts
 pub mod MaskStepFacts
 pub mod NextFacts
 pub mod QuestionFacts
+pub mod RangeFacts
 pub mod RiseFacts
 pub mod ScoreFacts
 pub mod StepsFacts
 pub mod ThroughFacts
 pub mod TieFacts
 pub mod ToldFacts
+pub mod WalkFacts
 pub mod WeightFacts
 pub mod WithinFacts
 pub mod WorkedCombinations

@@ -139,16 +139,16 @@ module _ (catalogue : CatalogDef) (block : Block) (mask : ℕ) (step : Step) (ti
       (unwrap_or (slice_get tie.rows.next.items (row - 1)) 0) (λ other above below same. fit ∙ same) (λ other above below same. sym fit ∙ same) next))))
 
 -- a cell of a table is that of its entry's column
-pub cell_of-reads : (catalogue : CatalogDef) (block : Block) (column : ℕ × ℕ) (row : ℕ) (table : Relation) (v : Value) → entry_table catalogue block column.0 ≡ Some table
+pub cell_of-value : (catalogue : CatalogDef) (block : Block) (column : ℕ × ℕ) (row : ℕ) (table : Relation) (v : Value) → entry_table catalogue block column.0 ≡ Some table
     → cell_at table row column.1 ≡ Some v → cell_of catalogue block column row ≡ v
-cell_of-reads catalogue block column row table v is_table is =
+cell_of-value catalogue block column row table v is_table is =
     ap (λ (o : Option Relation). unwrap_or (option_and_then (λ (t : Relation). cell_at t row column.1) o) (value.Int (pos 0))) is_table
     ∙ ap (λ (o : Option Value). unwrap_or o (value.Int (pos 0))) is
 
 -- an item of a list with one more
 slice_get-push : {K : Type 0} (xs : List K) (y : K) (i : ℕ) (k : K) → slice_get (xs ++ y ∷ []) i ≡ Some k → (slice_get xs i ≡ Some k) ⊎ ((i ≡ length xs) × (y ≡ k))
-slice_get-push [] y zero k at = inr (refl, (let e : Some y ≡ Some k = at in cc))
-slice_get-push [] y (suc i) k at = absurd (let e : ◌≡◌ {A = Option K} None (Some k) = at in cc)
+slice_get-push [] y zero k at = inr (refl, cc)
+slice_get-push [] y (suc i) k at = absurd (cc)
 slice_get-push (x ∷ xs) y zero k at = inl at
 slice_get-push (x ∷ xs) y (suc i) k at = elim (slice_get-push xs y i k at) [
   | inl old ↦ inl old

@@ -1,5 +1,5 @@
 -- What a step of a search asks for: rows of the entries before it, and conditions on them and its own.
-use Rattle.std.proofs.Common.{ℕ, suc, ◌≡◌, ◌∙◌, ◌+◌, ◌-◌, ◌<◌, ◌≤◌, cond, eqb, List, length, set, Some, None, sym, ap, subst, inl, inr, bit_or, arith}
+use Rattle.std.proofs.Common.{ℕ, suc, ◌≡◌, ◌∙◌, ◌+◌, ◌-◌, ◌<◌, ◌≤◌, List, [], ◌∷◌, length, set, Some, None, refl, sym, ap, subst, bit_or, arith}
 use Rattle.std.specs.Prelude.{IfSome, Option}
 use Rattle.rs_rank.specs.Masks.{mask_of}
 use Rattle.rs_catalog.specs.Catalog.{CatalogDef}
@@ -59,6 +59,7 @@ conditions-inside catalogue block mask step is_step =
     subst (λ conditions. AreInside conditions (bit_or mask (mask_of step.entry)) block.conjuncts) (sym is_step.conditions)
     (new-inside mask (bit_or mask (mask_of step.entry)) (is_inside-more mask (mask_of step.entry)) block.conjuncts)
 
--- how many rows are left to be tried
-abbrev pub rows_left : ℕ → ℕ → ℕ
-rows_left last row = cond (eqb row 0) 0 (last + 1 - row)
+-- a list of steps without a first one is empty
+pub no-step : (steps : List Step) → length steps ≡ 0 → steps ≡ []
+no-step [] none = refl
+no-step (step ∷ steps) none = absurd (omega arith)

@@ -9,8 +9,8 @@ pub returns-in-Some : goal.returns-in-Some
 returns-in-Some c =
     let place = c.loop-conjunct.conjunct-index in
     let conjunct : ConjunctDef = c.conjunct-item.result in
-    let is : conjunct ≡ get_or c.args.self.now.conjuncts place conjunct = rw c.items.ensures at c.conjunct-item.is in
-    let within : place < length c.args.self.now.conjuncts = rw c.items.ensures at c.loop-conjunct-test.true in
+    let is : conjunct ≡ get_or c.args.self.now.conjuncts place conjunct = rw (c.deref-conjunct-items.ensures.value, c.items.ensures) at c.conjunct-item.is in
+    let within : place < length c.args.self.now.conjuncts = rw (c.deref-conjunct-items.ensures.value, c.items.ensures) at c.loop-conjunct-test.true in
     record {
       conjunct = conjunct;
       is_in = In-slice_get place c.args.self.now.conjuncts conjunct (slice_get_read c.args.self.now.conjuncts (length c.args.self.now.conjuncts) place conjunct refl within is);
