@@ -1,7 +1,7 @@
 -- The combinations of one entry more join the others.
 use Rattle.std.proofs.Common.{◌≡◌, ◌∙◌, ◌+◌, ◌-◌, length, get_or, sym, ap, subst, arith}
 use Rattle.std.proofs.lemmas.Option.{unwrap_or-slice_get}
-use Rattle.rs_query.specs.Searching.{Adds, IsNewAt, IsNewBefore}
+use Rattle.rs_query.specs.Searching.{Adds, IsNewBefore}
 use Rattle.rs_query.specs.Tables.{row_number}
 use Rattle.rs_query.proofs.FreshFacts.{before-all, before-fails, before-more, before-none}
 use Rattle.rs_query.proofs.block.Block.find_all.Goals as goal
