@@ -1,5 +1,6 @@
 mod WorkedAnswers
 pub mod FirstFacts
+pub mod KeepingFacts
 pub mod NameFacts
 pub mod OrderFacts
 pub mod RowFacts

@@ -1,6 +1,6 @@
 -- The predicates that the faults of a query name are those of its terms, and stand in the catalogue.
 use Rattle.std.proofs.Common.{ℕ, ◌≡◌, ◌<◌, List, [], ◌∷◌, length, refl, sym, subst, inl, inr}
-use Rattle.std.specs.Prelude.{◌⊎◌, Option, Some, None, Result, Err, IfErr}
+use Rattle.std.specs.Prelude.{◌⊎◌, Option, Some, None, Result, Ok, Err, IfErr}
 use Rattle.std.specs.List.{AllByRecursion, flat_map}
 use Rattle.std.specs.declared.alloc.Global.{Global}
 use Rattle.std.specs.declared.vec.Vec.{Vec}
@@ -22,7 +22,7 @@ use Rattle.rs_query.specs.declared.query.Query.TheVariants.{One, Set}
 use Rattle.rs_query.specs.declared.term.Term.{Term}
 use Rattle.rs_query.specs.Questions.{Question, asking, bad_score, first_of, is_bad, outcome_for, question_of, request_for, through_first}
 use Rattle.rs_plain.specs.Plain.{block_questions, plain_faults, questions_of, row_questions}
-use Rattle.rs_plain.specs.Results.{IsCalled, NamesCalled, terms_of}
+use Rattle.rs_plain.specs.Results.{IsCalled, NamesCalled, as_list, terms_of}
 use Rattle.rs_plain.specs.declared.fault.PlainFault.{PlainFault}
 use Rattle.rs_plain.specs.declared.fault.PlainFault.TheVariants.{Memory}
 use Rattle.rs_query.proofs.ThroughFacts.{each-first, each-through}
@@ -103,3 +103,11 @@ named-err catalogue query view value result fault old new formed inquired is =
 
 pub named-memory : (catalogue : CatalogDef) (query : Query) (result : Result (Vec Answer Global) PlainFault) → result ≡ Err Memory → IfErr result (NamesCalled catalogue query)
 named-memory catalogue query result is = subst (λ r. IfErr r (NamesCalled catalogue query)) (sym is) tt
+
+-- whatever the result is
+pub named-any : (catalogue : CatalogDef) (query : Query) (view : View) (value : List Answer) (result : Result (Vec Answer Global) PlainFault) (old new : ScorerState)
+    → IsQuery catalogue query → Inquires Memory (asking plain_faults old.answer catalogue (questions_of catalogue query view) value) (as_list result) old new
+    → IfErr result (NamesCalled catalogue query)
+named-any catalogue query view value (Ok rows) old new formed inquired = tt
+named-any catalogue query view value (Err fault) old new formed inquired =
+    comes-named catalogue query old.answer (questions_of catalogue query view) value fault old new (query-called catalogue query view formed) inquired.comes

@@ -9,7 +9,6 @@ use Rattle.std.proofs.lemmas.List.{map-append, take-append-drop, take_more, drop
 use Rattle.std.proofs.lemmas.Grind.{flat_map-append}
 use Rattle.std.proofs.Math.Nat.{mul-le-mul}
 use Rattle.rs_order.proofs.EachFacts.{each-get_or}
-use Rattle.rs_rank.specs.declared.answer.Answer.{Answer}
 use Rattle.rs_expr.specs.Scoring.{Answering}
 use Rattle.rs_catalog.specs.Catalog.{CatalogDef}
 use Rattle.rs_query.specs.Answers.{score_of, worth_of}
@@ -20,7 +19,7 @@ use Rattle.rs_plain.specs.Results.{as_list}
 use Rattle.rs_plain.specs.declared.fault.PlainFault.{PlainFault}
 
 -- what a `?` gives, as contracts see it
-pub given-items : (result : Result (Vec Answer Global) PlainFault) (fault : PlainFault) → IsErr result × IsErrAnd result (λ f. f ≡ fault) → as_list result ≡ Err fault
+pub given-items : {A : Type 0} (result : Result (Vec A Global) PlainFault) (fault : PlainFault) → IsErr result × IsErrAnd result (λ f. f ≡ fault) → as_list result ≡ Err fault
 given-items result fault is = ap as_list (given-err result fault is)
 
 -- an item at a place, and what stands before and behind it

@@ -1,3 +1,4 @@
+pub mod Keeping
 pub mod Ordering
 pub mod Plain
 pub mod Results

@@ -7,6 +7,7 @@ mod answer;
 mod fault;
 mod laws;
 mod rows;
+mod scored;
 mod sets;
 
 pub use answer::answer_plainly;

@@ -1,5 +1,5 @@
 -- Conjuncts that equate two columns: where the columns stand, and that such a conjunct holds where their cells are equal.
-use Rattle.std.proofs.Common.{◌≡◌, ◌∙◌, ℕ, ℤ, Bool, true, false, eqb, List, map, Option, Some, None, refl, sym, ap, ap₂}
+use Rattle.std.proofs.Common.{◌≡◌, ◌∙◌, ℕ, ℤ, ◌&&◌, Bool, true, false, eqb, List, map, Option, Some, None, refl, sym, ap, ap₂}
 use Rattle.std.specs.Cmp.{int_cmp_total, tied_itself}
 use Rattle.std.specs.Cmp.Lexicographic.{bytes_decides, nat_list_cmp_total, slice_cmp}
 use Rattle.std.specs.Ordering.{int_cmp, nat_cmp}
@@ -11,7 +11,7 @@ use Rattle.std.proofs.lemmas.Bool.Decides.{Decides-int_eq, same_from_decides}
 use Rattle.std.proofs.lemmas.Map.Lookups.{exact_bytes, exact_signed}
 use Rattle.std.proofs.lemmas.Option.{slice_get-map}
 use Rattle.rs_value.specs.Rel.{rel_holds}
-use Rattle.rs_value.specs.Value.{fits}
+use Rattle.rs_value.specs.Value.{fits, kind_of}
 use Rattle.rs_value.specs.contracts.value.ValuePartialEq.TheImpl as values
 use Rattle.rs_value.specs.declared.kind.Kind.{Kind}
 use Rattle.rs_value.specs.declared.kind.Kind.TheVariants as kind
@@ -30,7 +30,8 @@ use Rattle.rs_catalog.specs.Catalog.{CatalogDef}
 use Rattle.rs_query.specs.declared.block.Block.{Block}
 use Rattle.rs_query.specs.Conjuncts.{ConjunctDef}
 use Rattle.rs_query.specs.Meaning.{column_value, conjunct_holds}
-use Rattle.rs_query.specs.WellFormed.{IsConjunct, across, column_kind, equality_of, equated, has_kind}
+use Rattle.rs_query.specs.WellFormed.{IsColumn, IsConjunct, across, column_kind, equality_of, equated, has_kind}
+use Rattle.rs_order.proofs.EachFacts.{each-slice_get}
 use Rattle.rs_query.proofs.CellFacts.{kind-at}
 
 -- two columns of different entries that a condition equates
@@ -140,3 +141,94 @@ module _ (catalogue : CatalogDef) (block : Block) where
       (value-at catalogue block rows c.columns at.right b at.right_there ∙ ap Some (sym v_is)) is.uses
       (λ k has. fit_u k (kind-at catalogue block c.columns k at.left a at.left_there has))
       (λ k has. fit_v k (kind-at catalogue block c.columns k at.right b at.right_there has))
+
+-- a value by its kind
+int-of : (v : Value) → kind_of v ≡ kind.Int → (n : ℤ) × (v ≡ value.Int n)
+int-of (value.Int n) is = (n, refl)
+int-of (value.Text t) is = absurd (cc)
+
+text-of : (v : Value) → kind_of v ≡ kind.Text → (t : List ℕ) × (v ≡ value.Text t)
+text-of (value.Int n) is = absurd (cc)
+text-of (value.Text t) is = (t, refl)
+
+-- numbers that are equal by their comparison, and texts
+same-numbers : (u v : Value) (o p : Option Value) → kind_of u ≡ kind.Int → kind_of v ≡ kind.Int → o ≡ Some u → p ≡ Some v
+    → rel_holds Eq (int_cmp (argument_number o) (argument_number p)) ≡ true → u ≡ v
+same-numbers u v o p is_u is_v at_u at_v holds =
+    let n = int-of u is_u in
+    let m = int-of v is_v in
+    let left : argument_number o ≡ n.0 = ap argument_number at_u ∙ ap (λ (w : Value). argument_number (Some w)) n.1 in
+    let right : argument_number p ≡ m.0 = ap argument_number at_v ∙ ap (λ (w : Value). argument_number (Some w)) m.1 in
+    let same : int_cmp n.0 m.0 ≡ Equal = ap₂ int_cmp (sym left) (sym right) ∙ equal-order (int_cmp (argument_number o) (argument_number p)) holds in
+    n.1 ∙ ap (λ k. value.Int k) (exact_signed n.0 m.0 same) ∙ sym m.1
+
+same-texts : (u v : Value) (o p : Option Value) → kind_of u ≡ kind.Text → kind_of v ≡ kind.Text → o ≡ Some u → p ≡ Some v
+    → rel_holds Eq (slice_cmp nat_cmp (argument_text o) (argument_text p)) ≡ true → u ≡ v
+same-texts u v o p is_u is_v at_u at_v holds =
+    let t = text-of u is_u in
+    let s = text-of v is_v in
+    let left : argument_text o ≡ t.0 = ap argument_text at_u ∙ ap (λ (w : Value). argument_text (Some w)) t.1 in
+    let right : argument_text p ≡ s.0 = ap argument_text at_v ∙ ap (λ (w : Value). argument_text (Some w)) s.1 in
+    let same : slice_cmp nat_cmp t.0 s.0 ≡ Equal =
+    ap₂ (slice_cmp nat_cmp) (sym left) (sym right) ∙ equal-order (slice_cmp nat_cmp (argument_text o) (argument_text p)) holds in
+    t.1 ∙ ap (λ k. value.Text k) (exact_bytes t.0 s.0 same) ∙ sym s.1
+
+-- two values of the kinds that a condition uses are equal where it equates them and holds
+equated-same : (has : Kind → ℕ → Bool) (condition : Condition) (args : List Value) (i j : ℕ) (u v : Value) → equated condition ≡ Some (i, j)
+    → slice_get args i ≡ Some u → slice_get args j ≡ Some v → condition_uses has condition ≡ true
+    → ((k : Kind) → has k i ≡ true → kind_of u ≡ k) → ((k : Kind) → has k j ≡ true → kind_of v ≡ k) → holds condition args ≡ true → u ≡ v
+equated-same has (Numbers Eq (Argument k) (Argument l)) args i j u v is at_u at_v uses kind_u kind_v true_ =
+    let pair : (k, l) ≡ (i, j) = cc in
+    let first : k ≡ i = ap (λ (p : ℕ × ℕ). p.0) pair in
+    let second : l ≡ j = ap (λ (p : ℕ × ℕ). p.1) pair in
+    let both = and_parts (has kind.Int k) (has kind.Int l) uses in
+    same-numbers u v (slice_get args k) (slice_get args l) (kind_u kind.Int (ap (has kind.Int) (sym first) ∙ both.0)) (kind_v kind.Int (ap (has kind.Int) (sym second) ∙ both.1))
+    (ap (slice_get args) first ∙ at_u) (ap (slice_get args) second ∙ at_v) true_
+equated-same has (Texts Eq (side.Arg k) (side.Arg l)) args i j u v is at_u at_v uses kind_u kind_v true_ =
+    let pair : (k, l) ≡ (i, j) = cc in
+    let first : k ≡ i = ap (λ (p : ℕ × ℕ). p.0) pair in
+    let second : l ≡ j = ap (λ (p : ℕ × ℕ). p.1) pair in
+    let both = and_parts (has kind.Text k) (has kind.Text l) uses in
+    same-texts u v (slice_get args k) (slice_get args l) (kind_u kind.Text (ap (has kind.Text) (sym first) ∙ both.0)) (kind_v kind.Text (ap (has kind.Text) (sym second) ∙ both.1))
+    (ap (slice_get args) first ∙ at_u) (ap (slice_get args) second ∙ at_v) true_
+equated-same has condition args i j u v is at_u at_v uses kind_u kind_v true_ = absurd (cc)
+
+module _ (catalogue : CatalogDef) (block : Block) where
+  -- where a conjunct that equates two columns holds, their cells are equal
+  pub equality-same : (rows : List ℕ) (c : ConjunctDef) → IsConjunct catalogue block c → (a b : ℕ × ℕ) → c.equality ≡ Some (a, b)
+      → ((k : Kind) → column_kind catalogue block a ≡ Some k → kind_of (column_value catalogue block rows a) ≡ k)
+      → ((k : Kind) → column_kind catalogue block b ≡ Some k → kind_of (column_value catalogue block rows b) ≡ k)
+      → conjunct_holds catalogue block rows c ≡ true → column_value catalogue block rows a ≡ column_value catalogue block rows b
+  equality-same rows c is a b e kind_a kind_b holds =
+      let at = conjunct-equated catalogue block c is a b e in
+      equated-same (has_kind catalogue block c.columns) c.condition (map (column_value catalogue block rows) c.columns) at.left at.right
+      (column_value catalogue block rows a) (column_value catalogue block rows b) at.is_equated
+      (value-at catalogue block rows c.columns at.left a at.left_there) (value-at catalogue block rows c.columns at.right b at.right_there) is.uses
+      (λ k has. kind_a k (kind-at catalogue block c.columns k at.left a at.left_there has))
+      (λ k has. kind_b k (kind-at catalogue block c.columns k at.right b at.right_there has)) holds
+
+  -- two columns that a conjunct equates are columns of the block, of one kind
+  pub equality-kinds : (c : ConjunctDef) → IsConjunct catalogue block c → (a b : ℕ × ℕ) → c.equality ≡ Some (a, b)
+      → IsColumn catalogue block a × IsColumn catalogue block b × (column_kind catalogue block a ≡ column_kind catalogue block b)
+  equality-kinds c is a b e =
+      let at = conjunct-equated catalogue block c is a b e in (
+        each-slice_get (IsColumn catalogue block) c.columns at.left a is.columns at.left_there,
+        each-slice_get (IsColumn catalogue block) c.columns at.right b is.columns at.right_there,
+        same_kinds c.condition at.left at.right a b at.is_equated at.left_there at.right_there is.uses,
+      )
+    where
+      kinds : (k : Kind) (i j : ℕ) (x y : ℕ × ℕ) → slice_get c.columns i ≡ Some x → slice_get c.columns j ≡ Some y
+          → (has_kind catalogue block c.columns k i && has_kind catalogue block c.columns k j) ≡ true → column_kind catalogue block x ≡ column_kind catalogue block y
+      kinds k i j x y at_x at_y uses =
+          let both = and_parts (has_kind catalogue block c.columns k i) (has_kind catalogue block c.columns k j) uses in
+          kind-at catalogue block c.columns k i x at_x both.0 ∙ sym (kind-at catalogue block c.columns k j y at_y both.1)
+
+      same_kinds : (condition : Condition) (i j : ℕ) (x y : ℕ × ℕ) → equated condition ≡ Some (i, j) → slice_get c.columns i ≡ Some x → slice_get c.columns j ≡ Some y
+          → condition_uses (has_kind catalogue block c.columns) condition ≡ true → column_kind catalogue block x ≡ column_kind catalogue block y
+      same_kinds (Numbers Eq (Argument k) (Argument l)) i j x y eq at_x at_y uses =
+          let pair : (k, l) ≡ (i, j) = cc in
+          kinds kind.Int k l x y (ap (λ (p : ℕ × ℕ). slice_get c.columns p.0) pair ∙ at_x) (ap (λ (p : ℕ × ℕ). slice_get c.columns p.1) pair ∙ at_y) uses
+      same_kinds (Texts Eq (side.Arg k) (side.Arg l)) i j x y eq at_x at_y uses =
+          let pair : (k, l) ≡ (i, j) = cc in
+          kinds kind.Text k l x y (ap (λ (p : ℕ × ℕ). slice_get c.columns p.0) pair ∙ at_x) (ap (λ (p : ℕ × ℕ). slice_get c.columns p.1) pair ∙ at_y) uses
+      same_kinds condition i j x y eq at_x at_y uses = absurd (cc)

@@ -1,6 +1,8 @@
 -- Choices, worked by hand.
 use Rattle.std.proofs.Common.{◌≡◌, [], ◌∷◌, refl}
+use Rattle.std.specs.List.{filter}
 use Rattle.rs_query.specs.Combinations.{choices, numbers_to}
+use Rattle.rs_query.specs.Fresh.{has_new_row}
 
 -- the row numbers of a table of four rows
 numbers_to-four : numbers_to 4 ≡ 1 ∷ 2 ∷ 3 ∷ 4 ∷ []
@@ -27,3 +29,16 @@ choices-empty = refl
 -- six entries, of which the last four are none
 choices-padded : choices 3 (1 ∷ 2 ∷ 0 ∷ 0 ∷ 0 ∷ 0 ∷ []) ≡ (1 ∷ 1 ∷ 0 ∷ 0 ∷ 0 ∷ 0 ∷ []) ∷ (1 ∷ 2 ∷ 0 ∷ 0 ∷ 0 ∷ 0 ∷ []) ∷ []
 choices-padded = refl
+
+-- of two entries with three rows each, of which a fourth one is new: those with a new row at either entry
+fresh-both : filter (has_new_row (3 ∷ 3 ∷ [])) (choices 3 (4 ∷ 4 ∷ [])) ≡
+    (1 ∷ 4 ∷ []) ∷ (2 ∷ 4 ∷ []) ∷ (3 ∷ 4 ∷ []) ∷ (4 ∷ 1 ∷ []) ∷ (4 ∷ 2 ∷ []) ∷ (4 ∷ 3 ∷ []) ∷ (4 ∷ 4 ∷ []) ∷ []
+fresh-both = refl
+
+-- with nothing new there is none
+fresh-none : filter (has_new_row (2 ∷ 2 ∷ [])) (choices 3 (2 ∷ 2 ∷ [])) ≡ []
+fresh-none = refl
+
+-- from an empty view all are
+fresh-empty : filter (has_new_row (0 ∷ 0 ∷ [])) (choices 3 (1 ∷ 2 ∷ [])) ≡ (1 ∷ 1 ∷ []) ∷ (1 ∷ 2 ∷ []) ∷ []
+fresh-empty = refl

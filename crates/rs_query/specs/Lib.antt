@@ -4,9 +4,11 @@ pub mod Blocks
 pub mod Choices
 pub mod Combinations
 pub mod Conjuncts
-pub mod Extending
+pub mod EqualRows
+pub mod Fresh
 pub mod Meaning
 pub mod Questions
+pub mod Searching
 pub mod Stored
 pub mod Tables
 pub mod Views

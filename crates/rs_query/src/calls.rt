@@ -227,7 +227,7 @@ impl Block {
     }
 
     /// The table of an entry.
-    fn table<'a>(&self, catalog: &'a Catalog, entry: u8) -> &'a Table
+    pub(crate) fn table<'a>(&self, catalog: &'a Catalog, entry: u8) -> &'a Table
         requires block { IsBlock catalog.now self.now }
         requires least { 1 ≤ entry }
         requires most { entry ≤ length self.now.from }

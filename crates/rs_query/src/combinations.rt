@@ -1,86 +1,147 @@
-ghost use Rattle.std.specs.Prelude.{◌≡◌, ◌<◌, ◌≤◌, ◌+◌, ◌-◌, ◌^◌, ◌++◌, IfOk, OnOk, length, slice_set};
+//! The combinations of a block. They are found entry by entry, along the equalities of the conditions.
+
+ghost use Rattle.std.specs.Prelude.{◌≡◌, ◌≤◌, ◌<◌, ◌-◌, IfOk, OnOk, [], length, replicate, slice_set, true};
 ghost use Rattle.std.specs.List.{AllByRecursion};
 ghost use Rattle.rs_query.specs.Combinations.{all_combinations, satisfies};
-ghost use Rattle.rs_query.specs.Extending.{IsPartialCombination, combinations_from};
-ghost use Rattle.rs_query.specs.Tables.{HasRows, all_entries};
+ghost use Rattle.rs_query.specs.Fresh.{fresh_combinations};
+ghost use Rattle.rs_query.specs.Searching.{Adds, AreSteps, GoesOn, IsBegun, IsNewAt, IsNewBefore};
+ghost use Rattle.rs_query.specs.Tables.{HasRows, all_entries, sizes_of};
 ghost use Rattle.rs_query.specs.WellFormed.{IsBlock};
 
 use crate::block::Block;
 use crate::sizes::size_of;
+use crate::step::Step;
 use rs_catalog::Catalog;
-use rs_rank::Ids;
-use rs_value::Memory;
+use rs_rank::{Ids, mask_of, union};
+use rs_value::{Memory, Value};
 use std::alloc::Global;
 
 impl Block {
     /// The combinations of all entries of which every conjunct holds, in lexicographic order: for each entry the number of
-    /// its row, counted from 1, and 0 past the last entry. A condition is looked at as soon as its entries have rows, so
-    /// the memory is that of the answer and not of the product.
+    /// its row, counted from 1, and 0 past the last entry. At an entry that an equality ties to entries before it in the search only
+    /// the rows of equal cells are looked at, so the time is that of a join and not of the product.
     pub fn combinations(&self, alloc: Global, catalog: &Catalog) -> Result<Vec<[u32; 6]>, Memory>
         requires { IsBlock catalog.now self.now }
         ensures value { IfOk result (λ rows. rows.items ≡ all_combinations catalog.now self.now) }
         ensures each { IfOk result (λ rows. AllByRecursion (HasRows catalog.now self.now (all_entries self.now)) rows.items) }
     {
-        let mut found = Vec::new(alloc);
-        self.extend(alloc, catalog, 0, [0; 6], &mut found)?;
-        Ok(found)
+        self.fresh(alloc, catalog, &[0; 6])
     }
 
-    /// Finds the combinations whose rows at the first entries, `chosen` many, are these.
-    fn extend(
+    /// The combinations in which some row is behind those that an old view has of its entry, in lexicographic order. An entry
+    /// that has no such row costs no more than a look at its size.
+    pub fn fresh(
         &self,
         alloc: Global,
         catalog: &Catalog,
-        chosen: u8,
-        rows: [u32; 6],
+        old: &[u32; 6],
+    ) -> Result<Vec<[u32; 6]>, Memory>
+        requires { IsBlock catalog.now self.now }
+        ensures value { IfOk result (λ rows. rows.items ≡ fresh_combinations catalog.now self.now old.now (sizes_of catalog.now self.now)) }
+        ensures each { IfOk result (λ rows. AllByRecursion (HasRows catalog.now self.now (all_entries self.now)) rows.items) }
+    {
+        let mut found = Vec::new(alloc);
+        self.find_all(alloc, catalog, old, &mut found)?;
+        found.sort_unstable();
+        Ok(found)
+    }
+
+    /// Finds the combinations with a new row, first those in which the first entry has one.
+    fn find_all(
+        &self,
+        alloc: Global,
+        catalog: &Catalog,
+        old: &[u32; 6],
         found: &mut Vec<[u32; 6]>,
     ) -> Result<(), Memory>
-        requires block { IsBlock catalog.now self.now }
-        requires prefix { IsPartialCombination catalog.now self.now chosen rows }
-        ensures { OnOk result (found.new.items ≡ found.old.items ++ combinations_from catalog.now self.now chosen rows) }
+        requires { IsBlock catalog.now self.now }
+        ensures { OnOk result (Adds (IsNewBefore catalog.now self.now old.now (length self.now.from)) found.old.items found.new.items) }
     {
-        if !self.prefix_holds(alloc, catalog, chosen, rows)? {
+        let mut cells = Vec::new(alloc);
+        if !self.holds_of_all(catalog, &mut cells)? {
             return Ok(());
         }
-        if chosen as usize == self.from.len() {
-            found.push(rows)?;
-            return Ok(());
-        }
-        for row in 0..size_of(catalog, self, chosen + 1) {
-            let longer = with_row(rows, chosen, row + 1);
-            self.extend(alloc, catalog, chosen + 1, longer, found)?;
+        for place in 0..self.from.len() {
+            self.find(alloc, catalog, place as u8 + 1, old, &mut cells, found)?;
+            // Every row of this entry is new, so no combination is left whose first new row is that of an entry behind it.
+            if old[place] == 0 {
+                return Ok(());
+            }
         }
         Ok(())
     }
 
-    /// Whether all conjuncts hold that speak of the first entries alone, `chosen` many.
-    fn prefix_holds(
+    /// Whether the conditions without columns hold.
+    fn holds_of_all(&self, catalog: &Catalog, cells: &mut Vec<Value>) -> Result<bool, Memory>
+        requires { IsBlock catalog.now self.now }
+        ensures { IfOk result (λ holds. holds ≡ satisfies catalog.now self.now 0 (replicate 6 0)) }
+    {
+        let ids = Ids {
+            block: 1,
+            mask: 0,
+            rows: [0; 6],
+        };
+        self.holds_with(catalog, self.within(0), &ids, cells)
+    }
+
+    /// Finds the combinations whose first new row is that of an entry, the pivot.
+    fn find(
         &self,
         alloc: Global,
         catalog: &Catalog,
-        chosen: u8,
-        rows: [u32; 6],
-    ) -> Result<bool, Memory>
+        pivot: u8,
+        old: &[u32; 6],
+        cells: &mut Vec<Value>,
+        found: &mut Vec<[u32; 6]>,
+    ) -> Result<(), Memory>
         requires block { IsBlock catalog.now self.now }
-        requires prefix { IsPartialCombination catalog.now self.now chosen rows }
-        ensures { IfOk result (λ holds. holds ≡ satisfies catalog.now self.now (2 ^ chosen - 1) rows) }
+        requires least { 1 ≤ pivot }
+        requires most { pivot ≤ length self.now.from }
+        requires satisfied { satisfies catalog.now self.now 0 (replicate 6 0) ≡ true }
+        ensures { OnOk result (Adds (IsNewAt catalog.now self.now old.now pivot) found.old.items found.new.items) }
     {
-        let mask = first_entries(chosen);
-        let ids = Ids {
-            block: 1,
-            mask,
-            rows,
-        };
-        self.holds(alloc, catalog, self.within(mask), &ids)
+        if size_of(catalog, self, pivot) <= old[pivot as usize - 1] {
+            return Ok(());
+        }
+        let steps = self.steps(alloc, catalog, pivot, old)?;
+        self.extend(catalog, &steps, 0, [0; 6], cells, found)
     }
-}
 
-/// The mask of this many of the first entries.
-fn first_entries(count: u8) -> u8
-    requires { count ≤ 6 }
-    ensures { result ≡ 2 ^ count - 1 }
-{
-    (1 << count) - 1
+    /// Finds the combinations that have these rows at the entries in a mask, and go on by these steps.
+    fn extend(
+        &self,
+        catalog: &Catalog,
+        steps: &[Step],
+        mask: u8,
+        rows: [u32; 6],
+        cells: &mut Vec<Value>,
+        found: &mut Vec<[u32; 6]>,
+    ) -> Result<(), Memory>
+        requires block { IsBlock catalog.now self.now }
+        requires steps { AreSteps catalog.now self.now mask (all_entries self.now) steps.now }
+        requires begun { IsBegun catalog.now self.now mask rows }
+        ensures { OnOk result (Adds (GoesOn catalog.now self.now steps.now mask rows) found.old.items found.new.items) }
+    {
+        let Some((step, rest)) = steps.split_first() else {
+            found.push(rows)?;
+            return Ok(());
+        };
+        let more = union(mask, mask_of(step.entry));
+        let mut row = step.first(&rows);
+        while row != 0 {
+            let longer = with_row(rows, step.entry - 1, row);
+            let ids = Ids {
+                block: 1,
+                mask: more,
+                rows: longer,
+            };
+            if self.holds_with(catalog, step.conditions, &ids, cells)? {
+                self.extend(catalog, rest, more, longer, cells, found)?;
+            }
+            row = step.next(row);
+        }
+        Ok(())
+    }
 }
 
 /// The rows with another one at a place.

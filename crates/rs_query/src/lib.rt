@@ -9,13 +9,17 @@ mod block;
 mod calls;
 mod combinations;
 mod conjunct;
+mod equal_rows;
 mod inside;
 mod kept;
+mod keys;
 mod laws;
 mod limits;
 mod masks;
 mod query;
 mod sizes;
+mod step;
+mod steps;
 mod term;
 mod weights;
 

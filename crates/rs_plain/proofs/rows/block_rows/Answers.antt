@@ -1,29 +1,43 @@
-use Rattle.std.proofs.Common.{List, ◌∙◌, [], map, refl, subst}
-use Rattle.std.specs.List.{flat_map}
+-- The rows of the answer are made of all combinations behind their scores.
+use Rattle.std.proofs.Common.{List, ◌∙◌, [], map, refl, sym, ap, append-nil}
 use Rattle.rs_rank.specs.declared.answer.Answer.{Answer}
-use Rattle.rs_expr.specs.InOrder.{Inquires}
-use Rattle.rs_query.specs.Answers.{answer_row}
+use Rattle.rs_expr.specs.Scoring.{Answering}
+use Rattle.rs_query.specs.Combinations.{all_combinations}
 use Rattle.rs_query.specs.Tables.{sizes_of}
-use Rattle.rs_query.specs.Questions.{asking}
-use Rattle.rs_plain.specs.Plain.{block_questions, plain_faults, row_questions}
-use Rattle.rs_plain.specs.Results.{as_list}
+use Rattle.rs_query.proofs.QuestionFacts.{AllAsked-none, Ended-behind, Failed-behind, Gave-ok, Stopped-behind}
+use Rattle.rs_plain.specs.Keeping.{answer_for, scored_for}
+use Rattle.rs_plain.specs.Plain.{block_questions, plain_faults}
 use Rattle.rs_plain.specs.declared.fault.PlainFault.TheVariants.{Memory}
-use Rattle.rs_query.proofs.QuestionFacts.{AllAsked-none, Stopped-within}
+use Rattle.rs_plain.specs.declared.scored.ScoredCombination.{ScoredCombination}
+use Rattle.rs_plain.proofs.KeepingFacts.{answers-scored}
 use Rattle.rs_plain.proofs.RowFacts.{given-items}
 use Rattle.rs_plain.proofs.rows.block_rows.Goals as goal
 
-pub returns-in_err-combinations : goal.returns-in_err-combinations
-returns-in_err-combinations g c =
+pub returns-in_err-scored : goal.returns-in_err-scored
+returns-in_err-scored g c =
     let questions = block_questions c.args.catalog.now c.args.number c.args.block.now (sizes_of c.args.catalog.now c.args.block.now) in
     let old = g.S.Scorer.state c.args.scorer.now in
-    Stopped-within plain_faults Memory c.args.catalog.now {A = List Answer} [] questions questions _ _ old old refl (given-items c.from_residual.result Memory c.from_residual.ensures)
-    (AllAsked-none old.answer c.args.catalog.now old)
+    Failed-behind plain_faults Memory c.args.catalog.now {A = List ScoredCombination} {B = List Answer} [] questions [] questions
+    (λ (a : Answering). map (scored_for a c.args.catalog.now c.args.block.now) (all_combinations c.args.catalog.now c.args.block.now)) _
+    c.in_err-scored.field-0.0 _ old old (g.S.Scorer.state c.scored_combinations.new.scorer) (sym (append-nil questions))
+    (given-items c.from_residual.result c.in_err-scored.field-0.0 c.from_residual.ensures) (AllAsked-none old.answer c.args.catalog.now old) c.in_err-scored.ensures.asks
 
-pub returns : goal.returns
-returns g c =
+pub returns-in_err-answers_of : goal.returns-in_err-answers_of
+returns-in_err-answers_of g c =
+    let questions = block_questions c.args.catalog.now c.args.number c.args.block.now (sizes_of c.args.catalog.now c.args.block.now) in
     let old = g.S.Scorer.state c.args.scorer.now in
-    subst (λ combinations. Inquires Memory
-    (asking plain_faults old.answer c.args.catalog.now (flat_map (row_questions c.args.number c.args.block.now) combinations)
-    (map (answer_row old.answer c.args.catalog.now c.args.block.now c.args.number) combinations))
-    (as_list c.scored_rows.result) old (g.S.Scorer.state c.scored_rows.new.scorer))
-    (c.deref.ensures.value ∙ c.in_ok-combinations.ensures.value) c.scored_rows.ensures
+    let new = g.S.Scorer.state c.scored_combinations.new.scorer in
+    let gave = Gave-ok plain_faults Memory old.answer c.args.catalog.now questions _ c.in_ok-scored.scored.items old new c.in_ok-scored.ensures.asks in
+    Stopped-behind plain_faults Memory c.args.catalog.now {A = List Answer} questions _ _ old new
+    (given-items c.from_residual-in_err-answers_of.result Memory c.from_residual-in_err-answers_of.ensures) gave.asked
+
+pub returns-in_ok-answers_of : goal.returns-in_ok-answers_of
+returns-in_ok-answers_of g c =
+    let questions = block_questions c.args.catalog.now c.args.number c.args.block.now (sizes_of c.args.catalog.now c.args.block.now) in
+    let old = g.S.Scorer.state c.args.scorer.now in
+    let new = g.S.Scorer.state c.scored_combinations.new.scorer in
+    let gave = Gave-ok plain_faults Memory old.answer c.args.catalog.now questions _ c.in_ok-scored.scored.items old new c.in_ok-scored.ensures.asks in
+    Ended-behind plain_faults Memory c.args.catalog.now {A = List Answer} questions questions _ c.in_ok-answers_of.field-0.items old new refl
+    (c.in_ok-answers_of.ensures
+    ∙ ap (map (answer_for c.args.catalog.now c.args.block.now c.args.number)) (c.deref.ensures.value ∙ gave.is_value)
+    ∙ answers-scored old.answer c.args.catalog.now c.args.block.now c.args.number (all_combinations c.args.catalog.now c.args.block.now)) gave.asked

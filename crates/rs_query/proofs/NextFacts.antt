@@ -1,0 +1,48 @@
+-- The next row of which something is so.
+use Rattle.std.proofs.Common.{ℕ, ◌≡◌, ◌+◌, ◌<◌, ◌≤◌, Bool, true, false, cond, nat_le, refl, subst, inl, inr, arith}
+use Rattle.std.proofs.lemmas.Bool.{cases_lt, leb-false, leb-true}
+use Rattle.rs_query.specs.EqualRows.{IsNext}
+
+-- the row right behind, where it is so of that
+pub IsNext-here : (is : ℕ → Type 0) (behind last : ℕ) → behind + 1 ≤ last → is (behind + 1) → IsNext is behind last (behind + 1)
+IsNext-here is behind last within so = record {
+  there = λ some. (let more : behind < behind + 1 = omega arith in more, within, so);
+  first = λ other above below also. (let some : 1 ≤ behind + 1 = omega arith in some, omega arith);
+}
+
+-- else that behind it
+pub IsNext-further : (is : ℕ → Type 0) (behind last found : ℕ) → (is (behind + 1) → ⊥) → IsNext is (behind + 1) last found → IsNext is behind last found
+IsNext-further is behind last found not next = record {
+  there = λ some. let t = next.there some in (let more : behind < found = omega (arith, t.0) in more, t.1, t.2);
+  first = λ other above below also. elim (cases_lt (behind + 1) other) [
+    | inl further ↦ next.first other further below also
+    | inr here ↦ absurd (not (subst is (let same : other ≡ behind + 1 = omega arith in same) also))
+  ];
+}
+
+-- none behind the last one
+pub IsNext-none : (is : ℕ → Type 0) (behind last : ℕ) → last ≤ behind → IsNext is behind last 0
+IsNext-none is behind last end = record { there = λ some. absurd (omega arith); first = λ other above below also. absurd (omega arith) }
+
+-- the same of another test that says the same of the rows in range
+pub IsNext-same : (is other : ℕ → Type 0) (behind last found : ℕ) → ((row : ℕ) → behind < row → row ≤ last → is row → other row)
+    → ((row : ℕ) → behind < row → row ≤ last → other row → is row) → IsNext is behind last found → IsNext other behind last found
+IsNext-same is other behind last found forth back next = record {
+  there = λ some. let t = next.there some in (t.0, t.1, forth found t.0 t.1 t.2);
+  first = λ row above below also. next.first row above below (back row above below also);
+}
+
+-- the next row is the same up to a nearer last one, where it isn't behind that
+pub IsNext-cut : (is : ℕ → Type 0) (behind size last found : ℕ) → last ≤ size → IsNext is behind size found → IsNext is behind last (cond (nat_le found last) found 0)
+IsNext-cut is behind size last found less next = go (nat_le found last) refl where
+  go : (b : Bool) → nat_le found last ≡ b → IsNext is behind last (cond b found 0)
+  go true e = record {
+    there = λ some. let t = next.there some in (t.0, leb-true found last e, t.2);
+    first = λ other above below also. next.first other above (omega arith) also;
+  }
+  go false e =
+      let beyond = leb-false found last e in
+      record {
+        there = λ some. absurd (omega arith);
+        first = λ other above below also. let t = next.first other above (omega arith) also in absurd (omega (arith, t.1));
+      }

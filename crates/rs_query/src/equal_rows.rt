@@ -1,0 +1,93 @@
+//! Rows with equal cells, which are found without a look at the others.
+
+ghost use Rattle.std.specs.Prelude.{◌≡◌, ◌<◌, ◌≤◌, ◌-◌, ◌^◌, ℕ, IfOk, OnOk, Some, length, slice_get, unwrap_or};
+ghost use Rattle.std.specs.BTreeMap.{get};
+ghost use Rattle.rs_query.specs.EqualRows.{AreFirst, AreNextBehind, HasKey, IsNext};
+
+use rs_value::Memory;
+use std::alloc::Global;
+use std::collections::BTreeMap;
+
+/// For each row of a column, which rows of another column have an equal cell. Rows count from 1, and 0 stands for no row.
+#[derive(Drop)]
+pub(crate) struct EqualRows {
+    /// For each row of the one column the first row of the other one that has an equal cell.
+    pub first: Vec<u32>,
+    /// For each row of the other column the next row of it that has an equal cell.
+    pub next: Vec<u32>,
+}
+
+impl EqualRows {
+    /// The rows of two columns whose cells have these keys.
+    pub fn of<K: Ord + Drop>(
+        alloc: Global,
+        lefts: &[K],
+        rights: Vec<K>,
+    ) -> Result<EqualRows, Memory>
+        requires { length rights.items < 2 ^ 32 }
+        ensures first { IfOk result (λ rows. AreFirst K.cmp lefts.now rights.items rows.first.items) }
+        ensures next { IfOk result (λ rows. AreNextBehind K.cmp 0 rights.items rows.next.items) }
+        ensures lefts { IfOk result (λ rows. length rows.first.items ≡ length lefts.now) }
+        ensures rights { IfOk result (λ rows. length rows.next.items ≡ length rights.items) }
+    {
+        let mut firsts = BTreeMap::new(alloc);
+        let next = next_rows(alloc, rights, &mut firsts)?;
+        let first = first_rows(alloc, lefts, &firsts)?;
+        Ok(EqualRows { first, next })
+    }
+
+    /// The first row with a cell equal to that of a row of the one column, or 0.
+    pub fn first(&self, row: u32) -> u32
+        requires least { 1 ≤ row }
+        requires most { row ≤ length self.now.first.items }
+        ensures { result ≡ unwrap_or (slice_get self.now.first.items (row - 1)) 0 }
+    {
+        self.first[row as usize - 1]
+    }
+
+    /// The next row with a cell equal to that of a row of the other column, or 0.
+    pub fn next(&self, row: u32) -> u32
+        requires least { 1 ≤ row }
+        requires most { row ≤ length self.now.next.items }
+        ensures { result ≡ unwrap_or (slice_get self.now.next.items (row - 1)) 0 }
+    {
+        self.next[row as usize - 1]
+    }
+}
+
+/// For each row the next row with an equal key. The map is empty, and is made that of the first row of each key.
+fn next_rows<K: Ord + Drop>(
+    alloc: Global,
+    mut keys: Vec<K>,
+    firsts: &mut BTreeMap<K, u32>,
+) -> Result<Vec<u32>, Memory>
+    requires few { length keys.items < 2 ^ 32 }
+    requires empty { (key : K) → unwrap_or (get K.cmp firsts.old key) 0 ≡ 0 }
+    ensures firsts { OnOk result ((key : K) → IsNext (HasKey K.cmp keys.items key) 0 (length keys.items) (unwrap_or (get K.cmp firsts.new key) 0)) }
+    ensures next { IfOk result (λ rows. AreNextBehind K.cmp 0 keys.items rows.items) }
+    ensures sized { IfOk result (λ rows. length rows.items ≡ length keys.items) }
+{
+    let mut next = vec![in alloc; 0; keys.len()]?;
+    while let Some(key) = keys.pop() {
+        let place = keys.len();
+        next[place] = firsts.insert(key, place as u32 + 1)?.unwrap_or(0);
+    }
+    Ok(next)
+}
+
+/// For each key the first row that has it.
+fn first_rows<K: Ord + Drop>(
+    alloc: Global,
+    keys: &[K],
+    firsts: &BTreeMap<K, u32>,
+) -> Result<Vec<u32>, Memory>
+    ensures sized { IfOk result (λ rows. length rows.items ≡ length keys.now) }
+    ensures rows { IfOk result (λ rows. (place : ℕ) (key : K) → slice_get keys.now place ≡ Some key
+        → unwrap_or (slice_get rows.items place) 0 ≡ unwrap_or (get K.cmp firsts.now key) 0) }
+{
+    let mut first = Vec::new(alloc);
+    for key in keys {
+        first.push(firsts.get(key).copied().unwrap_or(0))?;
+    }
+    Ok(first)
+}
