@@ -14,6 +14,7 @@ use rs_catalog::Catalog;
 use rs_query::Query;
 use rs_syntax::Statement;
 use std::alloc::Global;
+use std::hash::RandomState;
 
 /// Binds the only statement of a script, and tells what came of it.
 pub fn tell_bound(alloc: Global, catalog: &Catalog, script: &[u8]) -> Result<String, Fault> {
@@ -23,10 +24,15 @@ pub fn tell_bound(alloc: Global, catalog: &Catalog, script: &[u8]) -> Result<Str
     told
 }
 
-/// The same, and the statement joins the catalogue.
-pub fn tell_joined(alloc: Global, catalog: &mut Catalog, script: &[u8]) -> Result<String, Fault> {
+/// The same, and the statement joins the catalogue. Texts of its table are hashed by the keys.
+pub fn tell_joined(
+    alloc: Global,
+    hash_keys: RandomState,
+    catalog: &mut Catalog,
+    script: &[u8],
+) -> Result<String, Fault> {
     let statements = statements_of(alloc, &text_of(alloc, script)?)?;
-    let told = make_statement(alloc, catalog, &statements);
+    let told = make_statement(alloc, hash_keys, catalog, &statements);
     drop(statements);
     told
 }
@@ -122,6 +128,7 @@ fn tell_statement(
 
 fn make_statement(
     alloc: Global,
+    hash_keys: RandomState,
     catalog: &mut Catalog,
     statements: &[Statement],
 ) -> Result<String, Fault>
@@ -131,7 +138,7 @@ fn make_statement(
     if statements.len() != 1 {
         return Err(Fault::Form);
     }
-    make(alloc, catalog, &statements[0])?;
+    make(alloc, hash_keys, catalog, &statements[0])?;
     Ok(told)
 }
 

@@ -13,26 +13,37 @@ use rs_expr::{Expr, MemScorer, Predicate};
 use rs_table::{Schema, TABLE_LIMIT, Table, TableFault};
 use rs_value::{Kind, List, Text, Value, int_of};
 use std::alloc::Global;
+use std::hash::RandomState;
 
-/// Adds a table: `NAME COLUMNS FILE`.
-pub fn add_table(alloc: Global, catalog: &mut Catalog, words: &[u8]) -> Result<(), Fault> {
+/// Adds a table, whose texts are hashed by the keys: `NAME COLUMNS FILE`.
+pub fn add_table(
+    alloc: Global,
+    hash_keys: RandomState,
+    catalog: &mut Catalog,
+    words: &[u8],
+) -> Result<(), Fault> {
     let (name, words) = cut_word(words);
     let (columns, file) = cut_word(words);
     let name = text_of(alloc, name)?;
     if catalog.room(What::Table, &name) != Ok(()) {
         return Err(Fault::Form);
     }
-    let table = table_of(alloc, columns, file)?;
+    let table = table_of(alloc, hash_keys, columns, file)?;
     Ok(catalog.add_table(name, table)?)
 }
 
-fn table_of(alloc: Global, columns: &[u8], file: &[u8]) -> Result<Table, Fault> {
+fn table_of(
+    alloc: Global,
+    hash_keys: RandomState,
+    columns: &[u8],
+    file: &[u8],
+) -> Result<Table, Fault> {
     let file = bytes_of(alloc, file)?;
     if file.len() > TABLE_LIMIT {
         return Err(Fault::Form);
     }
     let schema = Schema::make(columns_of(alloc, columns)?);
-    match Table::read(alloc, schema, &file) {
+    match Table::read(alloc, hash_keys, schema, &file) {
         Ok(table) => Ok(table),
         Err(TableFault::Memory) => Err(Fault::Memory),
         Err(_) => Err(Fault::Form),

@@ -17,21 +17,25 @@ use cases_lines::{Cases, Fault, cut_word, number_of};
 use rs_catalog::Catalog;
 use rs_expr::MemScorer;
 use std::alloc::Global;
+use std::hash::RandomState;
 
-/// The catalogue that the lines fill, and what answers the calls for its indexes. Beside them, what statements have made.
+/// The catalogue that the lines fill, and what answers the calls for its indexes. Beside them, what statements have made,
+/// and the keys by which texts of tables are hashed.
 #[derive(Drop)]
 pub struct Data {
     catalog: Catalog,
     scorer: MemScorer,
     made: Catalog,
+    hash_keys: RandomState,
 }
 
 impl Data {
-    pub fn new(alloc: Global) -> Data {
+    pub fn new(alloc: Global, hash_keys: RandomState) -> Data {
         Data {
             catalog: Catalog::new(alloc),
             scorer: MemScorer::new(alloc),
             made: Catalog::new(alloc),
+            hash_keys,
         }
     }
 
@@ -39,7 +43,7 @@ impl Data {
     fn prepare(&mut self, alloc: Global, word: &[u8], rest: &[u8]) -> Result<bool, Fault> {
         match word {
             b"new" => self.forget(alloc),
-            b"table" => add_table(alloc, &mut self.catalog, rest)?,
+            b"table" => add_table(alloc, self.hash_keys, &mut self.catalog, rest)?,
             b"predicate" => add_predicate(alloc, &mut self.catalog, rest)?,
             b"score" => write_score(alloc, &mut self.scorer, rest)?,
             b"fail" => self.scorer.fail_at(number_of(rest)?)?,
@@ -126,7 +130,7 @@ impl Cases for Data {
         let (word, rest) = cut_word(line);
         match word {
             b"bind" => tell_bound(alloc, &self.made, rest),
-            b"make" => tell_joined(alloc, &mut self.made, rest),
+b"make" => tell_joined(alloc, self.hash_keys, &mut self.made, rest),
             b"rows" => tell_query(alloc, &self.made, Asked::Rows(0), rest),
             b"fresh" => tell_fresh(alloc, &self.made, rest),
             b"plain" => tell_query(alloc, &self.made, Asked::Answers(0), rest),

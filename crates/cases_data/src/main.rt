@@ -73,6 +73,7 @@ use line::Data;
 use ranks::laws_hold_of_rows;
 use rs_bind::{queries_are_typed_by_rules, statements_are_typed_by_rules};
 use rs_typing::expressions_are_typed_by_rules;
+use std::hash::RandomState;
 use std::process::ExitCode;
 
 fn main(rt: HostRuntime) -> ExitCode {
@@ -83,5 +84,8 @@ fn main(rt: HostRuntime) -> ExitCode {
     expressions_are_typed_by_rules();
     queries_are_typed_by_rules();
     statements_are_typed_by_rules();
-    answer_lines(&rt, &mut Data::new(rt.alloc()))
+    match RandomState::new(&rt) {
+        Ok(hash_keys) => answer_lines(&rt, &mut Data::new(rt.alloc(), hash_keys)),
+        Err(_) => ExitCode::FAILURE,
+    }
 }

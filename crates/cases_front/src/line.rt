@@ -11,17 +11,20 @@ use crate::values::{
 };
 use cases_lines::{Cases, Fault, count_of, cut_word, read_escaped, read_times};
 use std::alloc::Global;
+use std::hash::RandomState;
 
-/// The bytes of the last line `file`, and of the lines `more` behind it.
+/// The bytes of the last line `file`, and of the lines `more` behind it, and the keys by which texts of tables are hashed.
 #[derive(Drop)]
 pub struct Front {
     file: Vec<u8>,
+    hash_keys: RandomState,
 }
 
 impl Front {
-    pub fn new(alloc: Global) -> Front {
+    pub fn new(alloc: Global, hash_keys: RandomState) -> Front {
         Front {
             file: Vec::new(alloc),
+            hash_keys,
         }
     }
 }
@@ -40,7 +43,7 @@ impl Cases for Front {
             }
             b"tree" => tell_parsed(alloc, Wanted::Tree, rest),
             b"read" => tell_parsed(alloc, Wanted::Verdict, rest),
-            _ => told_line(alloc, answer(alloc, word, rest, &self.file)?),
+            _ => told_line(alloc, answer(alloc, word, rest, self)?),
         }
     }
 }
@@ -61,7 +64,7 @@ fn add_to_file(words: &[u8], file: &mut Vec<u8>) -> Result<(), Fault> {
     read_times(count_of(count)?, escaped, file)
 }
 
-fn answer(alloc: Global, word: &[u8], rest: &[u8], file: &[u8]) -> Result<String, Fault> {
+fn answer(alloc: Global, word: &[u8], rest: &[u8], front: &Front) -> Result<String, Fault> {
     match word {
         b"number" => tell_number(alloc, rest),
         b"digits" => tell_digits(alloc, rest),
@@ -71,11 +74,16 @@ fn answer(alloc: Global, word: &[u8], rest: &[u8], file: &[u8]) -> Result<String
         b"holds" => tell_whether(alloc, rest),
         b"print" => tell_print(alloc, rest),
         b"line" => tell_line(alloc, rest),
-        _ => answer_of_parts(alloc, word, rest, file),
+        _ => answer_of_parts(alloc, word, rest, front),
     }
 }
 
-fn answer_of_parts(alloc: Global, word: &[u8], rest: &[u8], file: &[u8]) -> Result<String, Fault> {
+fn answer_of_parts(
+    alloc: Global,
+    word: &[u8],
+    rest: &[u8],
+    front: &Front,
+) -> Result<String, Fault> {
     match word {
         b"find" => tell_place_of_key(alloc, rest),
         b"list" => tell_list(alloc, rest),
@@ -83,18 +91,19 @@ fn answer_of_parts(alloc: Global, word: &[u8], rest: &[u8], file: &[u8]) -> Resu
         b"formula" => tell_formula(alloc, rest),
         b"no-texts" => tell_no_texts(alloc),
         b"no-memory" => tell_no_memory(alloc),
-        _ => answer_of_file(alloc, word, rest, file),
+        _ => answer_of_file(alloc, word, rest, front),
     }
 }
 
-fn answer_of_file(alloc: Global, word: &[u8], rest: &[u8], file: &[u8]) -> Result<String, Fault> {
+fn answer_of_file(alloc: Global, word: &[u8], rest: &[u8], front: &Front) -> Result<String, Fault> {
+    let Front { file, hash_keys } = front;
     match word {
         b"tokens" => tell_script(alloc, Asked::Tokens, file),
         b"count" => tell_script(alloc, Asked::Count, file),
         b"lexemes" => tell_script(alloc, Asked::Lexemes, file),
         b"place" => tell_place(alloc, rest, file),
-        b"rows" => tell_rows(alloc, rest, file),
-        b"cell" => tell_cell(alloc, rest, file),
+        b"rows" => tell_rows(alloc, *hash_keys, rest, file),
+        b"cell" => tell_cell(alloc, *hash_keys, rest, file),
         _ => Err(Fault::Form),
     }
 }

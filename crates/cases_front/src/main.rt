@@ -50,12 +50,16 @@ use rs_lex::{
     one_list_of_tokens, spelled_is_not_refused, tokens_are_longest, tokens_are_taken,
     tokens_are_tokens, tokens_end,
 };
+use std::hash::RandomState;
 use std::process::ExitCode;
 
 fn main(rt: HostRuntime) -> ExitCode {
     laws_hold_of_scripts();
     values_stay_within_widths();
-    answer_lines(&rt, &mut Front::new(rt.alloc()))
+    match RandomState::new(&rt) {
+        Ok(hash_keys) => answer_lines(&rt, &mut Front::new(rt.alloc(), hash_keys)),
+        Err(_) => ExitCode::FAILURE,
+    }
 }
 
 fn laws_hold_of_scripts() {

@@ -4,6 +4,7 @@ use cases_lines::{Fault, columns_of, cut_word, print_escaped, small_number_of, t
 use rs_table::{Schema, TABLE_LIMIT, Table, TableFault};
 use rs_value::{Memory, Value};
 use std::alloc::Global;
+use std::hash::RandomState;
 
 /// Why there is no table.
 #[derive(Drop)]
@@ -59,8 +60,13 @@ fn schema_of_header(alloc: Global, column: &[u8], file: &[u8]) -> Result<Schema,
 }
 
 /// How many rows the file's table has, and whether it has none.
-pub fn tell_rows(alloc: Global, schema: &[u8], file: &[u8]) -> Result<String, Fault> {
-    match table_of(alloc, schema, file) {
+pub fn tell_rows(
+    alloc: Global,
+    hash_keys: RandomState,
+    schema: &[u8],
+    file: &[u8],
+) -> Result<String, Fault> {
+    match table_of(alloc, hash_keys, schema, file) {
         Ok(table) => tell_rows_of(alloc, &table),
         Err(refusal) => told_refusal(alloc, refusal),
     }
@@ -73,12 +79,17 @@ fn tell_rows_of(alloc: Global, table: &Table) -> Result<String, Fault> {
 }
 
 /// What a cell of the file's table prints.
-pub fn tell_cell(alloc: Global, words: &[u8], file: &[u8]) -> Result<String, Fault> {
+pub fn tell_cell(
+    alloc: Global,
+    hash_keys: RandomState,
+    words: &[u8],
+    file: &[u8],
+) -> Result<String, Fault> {
     let (schema, words) = cut_word(words);
     let (row, column) = cut_word(words);
     let row = small_number_of(row)?;
     let column = small_number_of(column)?;
-    match table_of(alloc, schema, file) {
+    match table_of(alloc, hash_keys, schema, file) {
         Ok(table) => tell_cell_of(alloc, &table, row, column),
         Err(refusal) => told_refusal(alloc, refusal),
     }
@@ -103,12 +114,17 @@ fn printed(alloc: Global, value: &Value) -> Result<Vec<u8>, Memory> {
     Ok(bytes)
 }
 
-fn table_of(alloc: Global, schema: &[u8], file: &[u8]) -> Result<Table, Refusal> {
+fn table_of(
+    alloc: Global,
+    hash_keys: RandomState,
+    schema: &[u8],
+    file: &[u8],
+) -> Result<Table, Refusal> {
     let schema = schema_of(alloc, schema, file)?;
     if file.len() > TABLE_LIMIT {
         return Err(Refusal::Line(Fault::Form));
     }
-    Ok(Table::read(alloc, schema, file)?)
+    Ok(Table::read(alloc, hash_keys, schema, file)?)
 }
 
 /// The schema that a word stands for: behind `=` the column of numbers in that of the file's header, else the columns.

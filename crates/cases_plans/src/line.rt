@@ -16,22 +16,26 @@ use rs_expr::MemScorer;
 use rs_syntax::Statement;
 use rs_value::{Memory, Text, Value, int_of};
 use std::alloc::Global;
+use std::hash::RandomState;
 
-/// What comes in front of scripts, what answers the calls for the next one, and the grid that all least costs are told by.
+/// What comes in front of scripts, what answers the calls for the next one, the grid that all least costs are told by, and
+/// the keys by which texts of tables are hashed.
 #[derive(Drop)]
 pub struct Planning {
     front: Vec<u8>,
     scorer: MemScorer,
     grid: Grid,
+    hash_keys: RandomState,
 }
 
 impl Planning {
-    pub fn new(alloc: Global) -> Result<Planning, Memory> {
+    pub fn new(alloc: Global, hash_keys: RandomState) -> Result<Planning, Memory> {
         let grid = Grid::make(alloc)?;
         Ok(Planning {
             front: Vec::new(alloc),
             scorer: MemScorer::new(alloc),
             grid,
+            hash_keys,
         })
     }
 
@@ -68,7 +72,14 @@ impl Planning {
     /// Tells what is asked of the query of the front and this script, and forgets what was written for it.
     fn tell(&mut self, alloc: Global, asked: &Asked, script: &[u8]) -> Result<String, Fault> {
         let statements = self.statements_of(alloc, script)?;
-        let told = tell_script(alloc, &statements, asked, &mut self.scorer, &mut self.grid)?;
+        let told = tell_script(
+            alloc,
+            self.hash_keys,
+            &statements,
+            asked,
+            &mut self.scorer,
+            &mut self.grid,
+        )?;
         self.scorer = MemScorer::new(alloc);
         Ok(told)
     }

@@ -62,6 +62,7 @@ use rs_exec::{
     plans_give_the_same_rows, rows_give_the_parts_in_turn,
 };
 use rs_value::Memory;
+use std::hash::RandomState;
 use std::process::ExitCode;
 
 fn main(rt: HostRuntime) -> ExitCode {
@@ -77,7 +78,10 @@ fn main(rt: HostRuntime) -> ExitCode {
     cursors_stand_in_larger_catalogues();
     indexes_go_on_to_hold_answers();
     indexes_of_plans_hold_answers();
-    match Planning::new(rt.alloc()) {
+    let Ok(hash_keys) = RandomState::new(&rt) else {
+        return ExitCode::FAILURE;
+    };
+    match Planning::new(rt.alloc(), hash_keys) {
         Ok(mut planning) => answer_lines(&rt, &mut planning),
         Err(Memory) => ExitCode::FAILURE,
     }

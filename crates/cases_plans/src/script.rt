@@ -20,10 +20,12 @@ use rs_enum::Grid;
 use rs_expr::{Call, MemScorer};
 use rs_syntax::Statement;
 use std::alloc::Global;
+use std::hash::RandomState;
 
 /// Makes what the statements say, up to the first query, and tells what is asked of that one.
 pub fn tell_script(
     alloc: Global,
+    hash_keys: RandomState,
     statements: &[Statement],
     asked: &Asked,
     scorer: &mut MemScorer,
@@ -32,7 +34,15 @@ pub fn tell_script(
     requires { AreWritten (commands_of statements.now) }
 {
     let mut catalog = Catalog::new(alloc);
-    let told = tell_statements(alloc, statements, asked, &mut catalog, scorer, grid);
+    let told = tell_statements(
+        alloc,
+        hash_keys,
+        statements,
+        asked,
+        &mut catalog,
+        scorer,
+        grid,
+    );
     drop(catalog);
     told
 }
@@ -40,6 +50,7 @@ pub fn tell_script(
 /// Adds to a catalogue what the statements make, up to the first query, and tells what is asked of that one.
 fn tell_statements(
     alloc: Global,
+    hash_keys: RandomState,
     statements: &[Statement],
     asked: &Asked,
     catalog: &mut Catalog,
@@ -53,7 +64,7 @@ fn tell_statements(
         if let Statement::Query(select) = statement {
             return tell_query(alloc, catalog, select, asked, scorer, grid);
         }
-        if let Some(fault) = join(alloc, catalog, statement, scorer)? {
+        if let Some(fault) = join(alloc, hash_keys, catalog, statement, scorer)? {
             return tell_index_fault(alloc, fault, scorer.calls());
         }
     }
@@ -63,6 +74,7 @@ fn tell_statements(
 /// Makes the table, the predicate or the index of a statement. Where the index can't be made, it answers why.
 fn join(
     alloc: Global,
+    hash_keys: RandomState,
     catalog: &mut Catalog,
     statement: &Statement,
     scorer: &mut MemScorer,
@@ -74,7 +86,7 @@ fn join(
     match statement {
         Statement::CreateRankIndex { .. } => make_index(alloc, catalog, statement, scorer),
         _ => {
-            make(alloc, catalog, statement)?;
+            make(alloc, hash_keys, catalog, statement)?;
             Ok(None)
         }
     }

@@ -6,6 +6,7 @@ use rs_outside::{MemFiles, MemSink};
 use rs_run::{Status, run};
 use rs_value::{Memory, Text};
 use std::alloc::Global;
+use std::hash::RandomState;
 
 /// The name of the file of a script.
 const SCRIPT: &[u8] = b"s.sql";
@@ -23,6 +24,7 @@ pub struct Fakes {
     held: Vec<HeldFile>,
     front: Vec<u8>,
     failing: Vec<u32>,
+    hash_keys: RandomState,
     pub files: MemFiles,
     pub scorer: MemScorer,
     pub out: MemSink,
@@ -30,13 +32,14 @@ pub struct Fakes {
 }
 
 impl Fakes {
-    /// No files, and no failure planned.
-    pub fn new(alloc: Global) -> Fakes {
+    /// No files, whose texts are to be hashed by these keys, and no failure planned.
+    pub fn new(alloc: Global, hash_keys: RandomState) -> Fakes {
         Fakes {
             held: Vec::new(alloc),
             front: Vec::new(alloc),
             failing: Vec::new(alloc),
-            files: MemFiles::new(alloc),
+            hash_keys,
+            files: MemFiles::new(alloc, hash_keys),
             scorer: MemScorer::new(alloc),
             out: MemSink::new(alloc),
             err: MemSink::new(alloc),
@@ -115,7 +118,7 @@ impl Fakes {
     /// Forgets what the last run did, and what was planned for it.
     pub fn forget_run(&mut self, alloc: Global) {
         self.failing.clear();
-        self.files = MemFiles::new(alloc);
+        self.files = MemFiles::new(alloc, self.hash_keys);
         self.scorer = MemScorer::new(alloc);
         self.out = MemSink::new(alloc);
         self.err = MemSink::new(alloc);

@@ -28,10 +28,14 @@ mod told;
 use cases_lines::answer_lines;
 use fakes::Fakes;
 use rs_run::{one_run, plain_and_run_agree};
+use std::hash::RandomState;
 use std::process::ExitCode;
 
 fn main(rt: HostRuntime) -> ExitCode {
     one_run();
     plain_and_run_agree();
-    answer_lines(&rt, &mut Fakes::new(rt.alloc()))
+    match RandomState::new(&rt) {
+        Ok(hash_keys) => answer_lines(&rt, &mut Fakes::new(rt.alloc(), hash_keys)),
+        Err(_) => ExitCode::FAILURE,
+    }
 }

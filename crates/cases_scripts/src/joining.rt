@@ -11,10 +11,16 @@ use rs_syntax::{Name, Statement};
 use rs_table::{TABLE_LIMIT, Table, TableFault};
 use rs_value::{Kind, Text};
 use std::alloc::Global;
+use std::hash::RandomState;
 
 /// Makes the table or the predicate of a statement, the last one of the catalogue. The text behind FROM is not the name of a
-/// table's file, but what is in the file. After a fault nothing joined.
-pub fn make(alloc: Global, catalog: &mut Catalog, statement: &Statement) -> Result<(), Fault>
+/// table's file, but what is in the file, whose texts are hashed by the keys. After a fault nothing joined.
+pub fn make(
+    alloc: Global,
+    hash_keys: RandomState,
+    catalog: &mut Catalog,
+    statement: &Statement,
+) -> Result<(), Fault>
     requires { IsWritten (command_of statement.now) }
     ensures ok { IfOk result (λ _. HasJoined catalog.old catalog.new) }
     ensures err { OnErr result (catalog.new ≡ catalog.old) }
@@ -24,7 +30,7 @@ pub fn make(alloc: Global, catalog: &mut Catalog, statement: &Statement) -> Resu
             name,
             columns,
             file,
-        } => make_table(alloc, catalog, name, columns.items(), file),
+        } => make_table(alloc, hash_keys, catalog, name, columns.items(), file),
         Statement::CreatePredicate { .. } => make_predicate(alloc, catalog, statement),
         _ => Err(Fault::Form),
     }
@@ -33,6 +39,7 @@ pub fn make(alloc: Global, catalog: &mut Catalog, statement: &Statement) -> Resu
 /// Makes a table of these columns and of a file's bytes.
 fn make_table(
     alloc: Global,
+    hash_keys: RandomState,
     catalog: &mut Catalog,
     name: &Name,
     columns: &[(Name, Kind)],
@@ -42,7 +49,7 @@ fn make_table(
     ensures ok { IfOk result (λ _. TableJoined catalog.old catalog.new) }
     ensures err { OnErr result (catalog.new ≡ catalog.old) }
 {
-    let table = table_of(alloc, columns, file)?;
+    let table = table_of(alloc, hash_keys, columns, file)?;
     let Ok(name) = name.text.copy() else {
         return Err(Fault::Memory);
     };
@@ -56,7 +63,12 @@ fn make_table(
 }
 
 /// The table of these columns and of a file's bytes.
-fn table_of(alloc: Global, columns: &[(Name, Kind)], file: &Text) -> Result<Table, Fault>
+fn table_of(
+    alloc: Global,
+    hash_keys: RandomState,
+    columns: &[(Name, Kind)],
+    file: &Text,
+) -> Result<Table, Fault>
     requires { 1 ≤ length columns.now }
 {
     if file.bytes().len() > TABLE_LIMIT {
@@ -66,7 +78,7 @@ fn table_of(alloc: Global, columns: &[(Name, Kind)], file: &Text) -> Result<Tabl
         Ok(schema) => schema,
         Err(fault) => return Err(bind_fault(fault)),
     };
-    match Table::read(alloc, schema, file.bytes()) {
+    match Table::read(alloc, hash_keys, schema, file.bytes()) {
         Ok(table) => Ok(table),
         Err(TableFault::Memory) => Err(Fault::Memory),
         Err(_) => Err(Fault::Form),

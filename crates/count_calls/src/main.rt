@@ -6,11 +6,12 @@
 
 use rs_expr::MemScorer;
 use rs_outside::{DirFiles, OutSink, Sink};
-use rs_program::{command_line, exit_code};
+use rs_program::{command_line, exit_code, no_memory};
 use rs_run::{Status, run};
 use rs_value::Memory;
 use std::alloc::Global;
 use std::env;
+use std::hash::RandomState;
 use std::process::ExitCode;
 
 fn main(rt: HostRuntime) -> ExitCode {
@@ -18,7 +19,10 @@ fn main(rt: HostRuntime) -> ExitCode {
     let words = command_line(alloc, env::args(&rt));
     let mut out = OutSink::output(&rt);
     let mut err = OutSink::error(&rt);
-    let mut files = DirFiles::new(rt);
+    let Ok(hash_keys) = RandomState::new(&rt) else {
+        return exit_code(no_memory(&mut err));
+    };
+    let mut files = DirFiles::new(rt, hash_keys);
     let mut scorer = MemScorer::new(alloc);
     let status = match words {
         Ok(words) => run(alloc, &words, &mut files, &mut scorer, &mut out, &mut err),

@@ -7,13 +7,20 @@ use crate::tables::{hotel_table, museum_table, restaurant_table};
 use rs_outside::MemFiles;
 use rs_value::{Memory, Text};
 use std::alloc::Global;
+use std::hash::RandomState;
 
 /// The files that are made from a number, with this many rows in each table: `hotel.csv`, `restaurant.csv`, `museum.csv`, and
-/// the script `gen.sql`, which reads the tables and searches them. The same numbers make the same bytes each time.
-pub fn generate(alloc: Global, number: u32, rows: u32) -> Result<MemFiles, Memory>
+/// the script `gen.sql`, which reads the tables and searches them. The same numbers make the same bytes each time. Texts of
+/// the files are hashed by the keys.
+pub fn generate(
+    alloc: Global,
+    hash_keys: RandomState,
+    number: u32,
+    rows: u32,
+) -> Result<MemFiles, Memory>
     ensures { IfOk result (λ files. files ≡ generated number rows) }
 {
-    let mut files = MemFiles::new(alloc);
+    let mut files = MemFiles::new(alloc, hash_keys);
     let hotels = hotel_table(alloc, number, rows)?;
     add_file(alloc, &mut files, "hotel.csv", hotels)?;
     let restaurants = restaurant_table(alloc, number, rows)?;

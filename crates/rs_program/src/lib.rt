@@ -7,5 +7,5 @@
 mod program;
 mod words;
 
-pub use program::{command, exit_code};
+pub use program::{command, exit_code, no_memory};
 pub use words::command_line;

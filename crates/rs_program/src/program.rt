@@ -47,8 +47,9 @@ pub fn exit_code(status: Status) -> ExitCode
     ExitCode::from(status.number())
 }
 
-/// Says on standard error that there was no memory for the words.
-fn no_memory<E: Sink>(err: &mut E) -> Status
+/// Says on standard error that there was no memory for the words. A program says the same, and runs nothing, where the
+/// system had no random bytes for the keys of hashes.
+pub fn no_memory<E: Sink>(err: &mut E) -> Status
     ensures status { result ≡ Status.Memory }
     ensures line { SaysNoMemory (E.state err.old).told (E.state err.new).told }
 {

@@ -109,6 +109,8 @@ fn obey<F: Files, S: Scorer, O: Sink>(
         CommandLine::RunScript(script, evaluating) => {
             run_script(alloc, evaluating, script, files, scorer, out)
         }
-        CommandLine::RunGenerated(number, rows) => run_generated(alloc, number, rows, scorer, out),
+        CommandLine::RunGenerated(number, rows) => {
+            run_generated(alloc, files.hash_keys(), number, rows, scorer, out)
+        }
     }
 }

@@ -13,11 +13,13 @@ use rs_outside::Sink;
 use rs_statement::{Evaluating, Fault};
 use rs_value::{Memory, Text};
 use std::alloc::Global;
+use std::hash::RandomState;
 
 /// Does what the generated script says over the generated tables, with the number as the seed of its samples. The files are
-/// made in memory, so nothing is fetched from outside.
+/// made in memory, so nothing is fetched from outside. Their texts are hashed by the keys.
 pub fn run_generated<S: Scorer, O: Sink>(
     alloc: Global,
+    hash_keys: RandomState,
     number: u32,
     rows: u32,
     scorer: &mut S,
@@ -28,7 +30,7 @@ pub fn run_generated<S: Scorer, O: Sink>(
         (record beside { scorer = S.state scorer.old; out = O.state out.old }) (record beside { scorer = S.state scorer.new; out = O.state out.new }) }
 {
     let name = script_name(alloc)?;
-    let mut files = generate(alloc, number, rows)?;
+    let mut files = generate(alloc, hash_keys, number, rows)?;
     let evaluating = Evaluating::Planned(number as u64);
     run_script(alloc, evaluating, &name, &mut files, scorer, out)
 }

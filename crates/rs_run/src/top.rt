@@ -21,6 +21,7 @@ use rs_statement::{Fault, fetch_file, index_fault, only_row, put_rows, table_fau
 use rs_table::{Schema, TABLE_LIMIT, Table, TableFault};
 use rs_value::{List, Memory, Text, Value};
 use std::alloc::Global;
+use std::hash::RandomState;
 
 /// Puts the first `count` rows of a file's table by the number in a column, greatest first, a tie to the earlier row.
 pub fn top<F: Files, O: Sink>(
@@ -52,20 +53,25 @@ fn fetch_table<F: Files>(
     ensures number_column { IfOk result (λ table. HasNumberColumn column.now table.schema) }
 {
     let bytes = fetch_file(alloc, file, TABLE_LIMIT, files)?;
-    match read_table(alloc, column, &bytes) {
+    match read_table(alloc, files.hash_keys(), column, &bytes) {
         Ok(table) => Ok(table),
         Err(why) => Err(table_fault(file, why)),
     }
 }
 
-/// The table of a file's bytes, in which the column is of numbers.
-fn read_table(alloc: Global, column: &Text, bytes: &[u8]) -> Result<Table, TableFault>
+/// The table of a file's bytes, in which the column is of numbers. Its texts are hashed by the keys.
+fn read_table(
+    alloc: Global,
+    hash_keys: RandomState,
+    column: &Text,
+    bytes: &[u8],
+) -> Result<Table, TableFault>
     requires { length bytes.now ≤ 33554432 }
     ensures gives { Gives TableFault.Memory (named_table column.now bytes.now) result }
     ensures number_column { IfOk result (λ table. HasNumberColumn column.now table.schema) }
 {
     let schema = Schema::of_header(alloc, bytes, column)?;
-    Table::read(alloc, schema, bytes)
+    Table::read(alloc, hash_keys, schema, bytes)
 }
 
 /// The first `count` rows of a table in the stable order of the numbers in a column.

@@ -66,7 +66,7 @@ fn read_table<F: Files>(
     ensures { FetchesFile file.now result (IsReadTable file.now schema) (F.state files.old) (F.state files.new) }
 {
     let bytes = fetch_file(alloc, file, TABLE_LIMIT, files)?;
-    match Table::read(alloc, schema, &bytes) {
+    match Table::read(alloc, files.hash_keys(), schema, &bytes) {
         Ok(table) => Ok(table),
         Err(why) => Err(table_fault(file, why)),
     }

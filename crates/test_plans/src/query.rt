@@ -17,7 +17,9 @@ use rs_query::{Block, Conjunct, Query, Term};
 use rs_table::{Schema, Table};
 use rs_value::{Kind, List, Rel, Text};
 use std::alloc::Global;
+use std::hash::RandomState;
 use std::process::Abort;
+use std::random::RandomSource;
 use std::test::Fail;
 
 fn text(alloc: Global, chars: &str) -> Result<Text, Fail> {
@@ -39,9 +41,14 @@ fn predicate(alloc: Global) -> Result<Predicate, Fail>
 }
 
 /// The table of a column of numbers, k.
-fn table(alloc: Global) -> Result<Table, Fail> {
+fn table(rt: &impl RandomSource, alloc: Global) -> Result<Table, Fail> {
     let columns = vec![in alloc; (text(alloc, "k")?, Kind::Int)]?;
-    Ok(Table::read(alloc, Schema::make(columns), b"k\n4\n7\n4\n")?)
+    Ok(Table::read(
+        alloc,
+        RandomState::new(rt)?,
+        Schema::make(columns),
+        b"k\n4\n7\n4\n",
+    )?)
 }
 
 /// Asserts that one more of this name can join a list of the catalogue.
@@ -63,11 +70,15 @@ fn add_predicate(rt: &impl Abort, alloc: Global, catalog: &mut Catalog) -> Resul
 }
 
 /// Adds the table.
-fn add_table(rt: &impl Abort, alloc: Global, catalog: &mut Catalog) -> Result<(), Fail>
+fn add_table(
+    rt: &(impl Abort + RandomSource),
+    alloc: Global,
+    catalog: &mut Catalog,
+) -> Result<(), Fail>
     ensures tables { IfOk result (λ _. length catalog.new.tables ≡ length catalog.old.tables + 1) }
     ensures predicates { IfOk result (λ _. catalog.new.predicates ≡ catalog.old.predicates) }
 {
-    let table = table(alloc)?;
+    let table = table(rt, alloc)?;
     let name = match text(alloc, "t") {
         Ok(name) => name,
         Err(fail) => {
@@ -80,7 +91,7 @@ fn add_table(rt: &impl Abort, alloc: Global, catalog: &mut Catalog) -> Result<()
 }
 
 /// Adds the predicate and the table.
-fn fill(rt: &impl Abort, alloc: Global, catalog: &mut Catalog) -> Result<(), Fail>
+fn fill(rt: &(impl Abort + RandomSource), alloc: Global, catalog: &mut Catalog) -> Result<(), Fail>
     requires { catalog.old ≡ empty }
     ensures tables { IfOk result (λ _. length catalog.new.tables ≡ 1) }
     ensures predicate { IfOk result (λ _. HasPredicate catalog.new) }
@@ -90,7 +101,7 @@ fn fill(rt: &impl Abort, alloc: Global, catalog: &mut Catalog) -> Result<(), Fai
 }
 
 /// The catalogue of the table and the predicate.
-pub(crate) fn catalogue(rt: &impl Abort, alloc: Global) -> Result<Catalog, Fail>
+pub(crate) fn catalogue(rt: &(impl Abort + RandomSource), alloc: Global) -> Result<Catalog, Fail>
     ensures tables { IfOk result (λ catalog. length catalog.tables ≡ 1) }
     ensures predicate { IfOk result HasPredicate }
 {

@@ -6,7 +6,9 @@ use rs_outside::{MemFiles, MemSink};
 use rs_run::{Status, run};
 use rs_value::{Memory, Text};
 use std::alloc::Global;
+use std::hash::RandomState;
 use std::process::Abort;
+use std::test::Fail;
 
 /// The files of every run here, beside the script.
 const FILES: [(&str, &str); 4] = [
@@ -177,23 +179,25 @@ struct Ended {
 }
 
 #[test]
-fn tells_where_memory_ends(rt: HostRuntime) {
+fn tells_where_memory_ends(rt: HostRuntime) -> Result<(), Fail> {
+    let hash_keys = RandomState::new(&rt)?;
     for case in &CASES {
-        assert_case(&rt, rt.alloc(), case);
+        assert_case(&rt, rt.alloc(), hash_keys, case);
     }
+    Ok(())
 }
 
 /// Makes a run and asserts how it ended, where there was memory to make it.
-fn assert_case(rt: &impl Abort, alloc: Global, case: &Case) {
-    if let Ok(ended) = end_of(alloc, case) {
+fn assert_case(rt: &impl Abort, alloc: Global, hash_keys: RandomState, case: &Case) {
+    if let Ok(ended) = end_of(alloc, hash_keys, case) {
         assert_ended(rt, alloc, case, &ended);
     }
 }
 
 /// Makes a run.
-fn end_of(alloc: Global, case: &Case) -> Result<Ended, Memory> {
+fn end_of(alloc: Global, hash_keys: RandomState, case: &Case) -> Result<Ended, Memory> {
     let words = words_of(alloc, case.words)?;
-    let mut files = MemFiles::new(alloc);
+    let mut files = MemFiles::new(alloc, hash_keys);
     add_files(alloc, case.script, &mut files)?;
     let mut scorer = MemScorer::new(alloc);
     let mut out = MemSink::new(alloc);

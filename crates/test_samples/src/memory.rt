@@ -11,7 +11,9 @@ use rs_query::Query;
 use rs_sample::{Cards, SampleFault};
 use rs_value::Value;
 use std::alloc::Global;
+use std::hash::RandomState;
 use std::process::Abort;
+use std::test::Fail;
 
 const SCRIPT: &str = "CREATE TABLE t (x INT, y INT) FROM 'x,y\n10,3\n8,9\n5,1\n2,10\n'; \
     CREATE PREDICATE p (v INT) MAX 10 AS v; CREATE PREDICATE q (v INT) MAX 10 COST 100 AS v; \
@@ -58,15 +60,17 @@ fn assert_sample(rt: &impl Abort, alloc: Global, catalog: &Catalog, query: &Quer
 }
 
 /// The same, where there is memory to make the query.
-fn assert_query(rt: &impl Abort, alloc: Global, catalog: &mut Catalog) {
-    match query_of(alloc, catalog, SCRIPT) {
+fn assert_query(rt: &impl Abort, alloc: Global, hash_keys: RandomState, catalog: &mut Catalog) {
+    match query_of(alloc, hash_keys, catalog, SCRIPT) {
         Ok(query) => assert_sample(rt, alloc, catalog, &query),
         Err(fault) => assert_eq!(rt; fault, Fault::Memory),
     }
 }
 
 #[test]
-fn tells_where_memory_ends(rt: HostRuntime) {
+fn tells_where_memory_ends(rt: HostRuntime) -> Result<(), Fail> {
+    let hash_keys = RandomState::new(&rt)?;
     let mut catalog = Catalog::new(rt.alloc());
-    assert_query(&rt, rt.alloc(), &mut catalog);
+    assert_query(&rt, rt.alloc(), hash_keys, &mut catalog);
+    Ok(())
 }

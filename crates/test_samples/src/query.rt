@@ -13,18 +13,25 @@ use rs_query::Query;
 use rs_syntax::{Select, Statement};
 use rs_value::Text;
 use std::alloc::Global;
+use std::hash::RandomState;
 
 /// Makes the tables and predicates of a script, and binds its first query.
-pub(crate) fn query_of(alloc: Global, catalog: &mut Catalog, script: &str) -> Result<Query, Fault>
+pub(crate) fn query_of(
+    alloc: Global,
+    hash_keys: RandomState,
+    catalog: &mut Catalog,
+    script: &str,
+) -> Result<Query, Fault>
     ensures { IfOk result (IsQuery catalog.new) }
 {
     let statements = statements_of(alloc, &Text::from_bytes(alloc, script.as_bytes())?)?;
-    first_query(alloc, catalog, &statements)
+    first_query(alloc, hash_keys, catalog, &statements)
 }
 
 /// Makes what the statements say up to the first query, and binds that one.
 fn first_query(
     alloc: Global,
+    hash_keys: RandomState,
     catalog: &mut Catalog,
     statements: &[Statement],
 ) -> Result<Query, Fault>
@@ -35,7 +42,7 @@ fn first_query(
         if let Statement::Query(select) = statement {
             return bound(alloc, catalog, select);
         }
-        make(alloc, catalog, statement)?;
+        make(alloc, hash_keys, catalog, statement)?;
     }
     Err(Fault::Form)
 }

@@ -11,6 +11,7 @@ use rs_query::Query;
 use rs_sample::Cards;
 use rs_value::Value;
 use std::alloc::Global;
+use std::hash::RandomState;
 use std::process::Abort;
 use std::test::Fail;
 
@@ -90,14 +91,20 @@ fn assert_seeds(
     Ok(())
 }
 
-fn assert_query(rt: &impl Abort, alloc: Global, catalog: &mut Catalog) -> Result<(), Fail> {
+fn assert_query(
+    rt: &impl Abort,
+    alloc: Global,
+    hash_keys: RandomState,
+    catalog: &mut Catalog,
+) -> Result<(), Fail> {
     let script = script(alloc)?;
-    let query = query_of(alloc, catalog, script.as_str())?;
+    let query = query_of(alloc, hash_keys, catalog, script.as_str())?;
     assert_seeds(rt, alloc, catalog, &query)
 }
 
 #[test]
 fn takes_rows_by_the_words_of_the_seed(rt: HostRuntime) -> Result<(), Fail> {
+    let hash_keys = RandomState::new(&rt)?;
     let mut catalog = Catalog::new(rt.alloc());
-    assert_query(&rt, rt.alloc(), &mut catalog)
+    assert_query(&rt, rt.alloc(), hash_keys, &mut catalog)
 }

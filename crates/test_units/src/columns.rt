@@ -6,23 +6,26 @@ ghost use Rattle.rs_table.specs.Relation.{row_fits};
 use rs_table::{Cell, MOST_ROWS, Schema, Table};
 use rs_value::{Kind, List, Memory, Text};
 use std::alloc::Global;
+use std::hash::RandomState;
 use std::process::Abort;
+use std::random::RandomSource;
 use std::test::Fail;
 
 /// The table of a file that has so many columns of this name and kind.
 fn table_of(
-    rt: &impl Abort,
+    rt: &(impl Abort + RandomSource),
     alloc: Global,
     columns: usize,
     kind: Kind,
     file: &[u8],
 ) -> Result<Table, Fail> {
     assert!(rt; columns >= 1 && columns <= 64 && file.len() <= 33_554_432);
+    let hash_keys = RandomState::new(rt)?;
     let mut listed = Vec::new(alloc);
     for _ in 0..columns {
         listed.push((Text::from_bytes(alloc, b"k")?, kind))?;
     }
-    Ok(Table::read(alloc, Schema::make(listed), file)?)
+    Ok(Table::read(alloc, hash_keys, Schema::make(listed), file)?)
 }
 
 /// The number of the text of a row in the first column, where that is one of texts.

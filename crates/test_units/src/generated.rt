@@ -4,7 +4,9 @@ use rs_gen::generate;
 use rs_outside::{Files, MemFiles};
 use rs_value::Text;
 use std::alloc::Global;
+use std::hash::RandomState;
 use std::process::Abort;
+use std::random::RandomSource;
 use std::test::Fail;
 
 /// The most bytes of a file here.
@@ -64,13 +66,13 @@ fn assert_ends(
 
 /// Makes the files, and compares their ends.
 fn assert_files(
-    rt: &impl Abort,
+    rt: &(impl Abort + RandomSource),
     alloc: Global,
     number: u32,
     rows: u32,
     wanted: &[Ends],
 ) -> Result<(), Fail> {
-    let mut files = generate(alloc, number, rows)?;
+    let mut files = generate(alloc, RandomState::new(rt)?, number, rows)?;
     assert_all_ends(rt, alloc, &mut files, wanted)
 }
 

@@ -18,10 +18,11 @@ use rs_rank::Ids;
 use rs_value::{Kind, List, Rel, Text};
 use std::alloc::Global;
 use std::process::Abort;
+use std::random::RandomSource;
 use std::test::Fail;
 
 /// A predicate of two numbers, and two tables of three and four rows.
-pub(crate) fn two_tables(rt: &impl Abort, alloc: Global) -> Result<Catalog, Fail>
+pub(crate) fn two_tables(rt: &(impl Abort + RandomSource), alloc: Global) -> Result<Catalog, Fail>
     ensures tables { IfOk result (λ catalog. length catalog.tables ≡ 2) }
     ensures predicate { IfOk result (HasPredicate (kind.Int ∷ kind.Int ∷ []) 100) }
 {

@@ -4,7 +4,9 @@ use crate::rows::assert_number;
 use rs_outside::{DirFiles, FetchFault, Files, MemFiles, MemSink, OutSink, Sink, SinkFault};
 use rs_value::Text;
 use std::alloc::Global;
+use std::hash::RandomState;
 use std::process::Abort;
+use std::random::RandomSource;
 use std::test::Fail;
 use std::{fs, io};
 
@@ -82,7 +84,7 @@ const FETCHES: [Fetch; 4] = [
 
 #[test]
 fn fetches_from_memory(rt: HostRuntime) -> Result<(), Fail> {
-    let mut files = MemFiles::new(rt.alloc());
+    let mut files = MemFiles::new(rt.alloc(), RandomState::new(&rt)?);
     add_two_files(&mut files, rt.alloc())?;
     assert_fetches(&rt, rt.alloc(), &mut files, &FETCHES)
 }
@@ -102,7 +104,7 @@ fn plan_the_second(files: &mut MemFiles, alloc: Global) -> Result<(), Fail> {
 
 #[test]
 fn fails_where_it_is_planned(rt: HostRuntime) -> Result<(), Fail> {
-    let mut files = MemFiles::new(rt.alloc());
+    let mut files = MemFiles::new(rt.alloc(), RandomState::new(&rt)?);
     plan_the_second(&mut files, rt.alloc())?;
     assert_fetches(&rt, rt.alloc(), &mut files, &PLANNED)
 }
@@ -215,12 +217,17 @@ fn assert_lengths<F: Files>(rt: &impl Abort, alloc: Global, files: &mut F) -> Re
     Ok(())
 }
 
-fn assert_long_file(rt: &(impl Abort + std::rt::Files + AllocGlobal)) -> Result<(), Fail> {
-    assert_lengths(rt, rt.alloc(), &mut DirFiles::new(rt))
+fn assert_long_file(
+    rt: &(impl Abort + std::rt::Files + RandomSource + AllocGlobal),
+) -> Result<(), Fail> {
+    let mut files = DirFiles::new(rt, RandomState::new(rt)?);
+    assert_lengths(rt, rt.alloc(), &mut files)
 }
 
-fn assert_empty_file(rt: &(impl Abort + std::rt::Files + AllocGlobal)) -> Result<(), Fail> {
-    let mut files = DirFiles::new(rt);
+fn assert_empty_file(
+    rt: &(impl Abort + std::rt::Files + RandomSource + AllocGlobal),
+) -> Result<(), Fail> {
+    let mut files = DirFiles::new(rt, RandomState::new(rt)?);
     assert_length(rt, rt.alloc(), &mut files, ON_DISK, 0, Ok(()), 1)
 }
 

@@ -15,7 +15,9 @@ use rs_query::Block;
 use rs_table::{Schema, Table};
 use rs_value::{Kind, List, Text};
 use std::alloc::Global;
+use std::hash::RandomState;
 use std::process::Abort;
+use std::random::RandomSource;
 use std::test::Fail;
 
 pub(crate) fn text(alloc: Global, chars: &str) -> Result<Text, Fail> {
@@ -60,15 +62,16 @@ fn add_predicate(
 }
 
 /// The table of a file of one column of numbers, "k".
-fn numbers(rt: &impl Abort, alloc: Global, file: &[u8]) -> Result<Table, Fail> {
+fn numbers(rt: &(impl Abort + RandomSource), alloc: Global, file: &[u8]) -> Result<Table, Fail> {
     assert!(rt; file.len() <= 33_554_432);
+    let hash_keys = RandomState::new(rt)?;
     let columns = vec![in alloc; (text(alloc, "k")?, Kind::Int)]?;
-    Ok(Table::read(alloc, Schema::make(columns), file)?)
+    Ok(Table::read(alloc, hash_keys, Schema::make(columns), file)?)
 }
 
 /// Adds the table of such a file.
 fn add_table(
-    rt: &impl Abort,
+    rt: &(impl Abort + RandomSource),
     alloc: Global,
     catalog: &mut Catalog,
     name: &str,
@@ -91,7 +94,7 @@ fn add_table(
 
 /// Adds the predicate of these parameters, and the tables "left" and "right" of two files.
 fn fill(
-    rt: &impl Abort,
+    rt: &(impl Abort + RandomSource),
     alloc: Global,
     catalog: &mut Catalog,
     params: &[Kind],
@@ -112,7 +115,7 @@ fn fill(
 
 /// The catalogue of such a predicate and such tables.
 pub(crate) fn catalogue(
-    rt: &impl Abort,
+    rt: &(impl Abort + RandomSource),
     alloc: Global,
     params: &[Kind],
     max: u32,
