@@ -130,7 +130,7 @@ impl Cases for Data {
         let (word, rest) = cut_word(line);
         match word {
             b"bind" => tell_bound(alloc, &self.made, rest),
-b"make" => tell_joined(alloc, self.hash_keys, &mut self.made, rest),
+            b"make" => tell_joined(alloc, self.hash_keys, &mut self.made, rest),
             b"rows" => tell_query(alloc, &self.made, Asked::Rows(0), rest),
             b"fresh" => tell_fresh(alloc, &self.made, rest),
             b"plain" => tell_query(alloc, &self.made, Asked::Answers(0), rest),
