@@ -7,7 +7,7 @@ ghost use Rattle.rs_syntax.specs.Written.{AreWritten, IsWritten};
 
 use crate::queries::{tell_combinations, tell_plain};
 use crate::show::{show_count, show_index, show_predicate, show_query, show_table};
-use cases_lines::{Fault, cut_word, number_of, text_of};
+use cases_lines::{Fault, count_of, cut_word, number_of, text_of};
 use cases_scripts::{make, statements_of};
 use rs_bind::{bind, bind_count, bind_index, bind_predicate, bind_table};
 use rs_catalog::Catalog;
@@ -34,8 +34,8 @@ pub fn tell_joined(alloc: Global, catalog: &mut Catalog, script: &[u8]) -> Resul
 /// What is asked of a query.
 #[derive(Clone, Copy)]
 pub enum Asked {
-    /// Its combinations of rows.
-    Rows,
+    /// Its combinations that have a row behind the first so many of its table. Behind none is every row.
+    Rows(u32),
     /// Its answers, where the call of this number fails, counted from 1.
     Answers(u64),
 }
@@ -44,6 +44,12 @@ pub enum Asked {
 pub fn tell_failing(alloc: Global, catalog: &Catalog, words: &[u8]) -> Result<String, Fault> {
     let (number, script) = cut_word(words);
     tell_query(alloc, catalog, Asked::Answers(number_of(number)?), script)
+}
+
+/// The combinations of a query that have a row behind the first so many of its table: `NUMBER QUERY`.
+pub fn tell_fresh(alloc: Global, catalog: &Catalog, words: &[u8]) -> Result<String, Fault> {
+    let (number, script) = cut_word(words);
+    tell_query(alloc, catalog, Asked::Rows(count_of(number)?), script)
 }
 
 /// Binds the query that is the only statement of a script, and tells what is asked of it.
@@ -68,7 +74,7 @@ fn tell_asked(
     requires { IsQuery catalog.now query.now }
 {
     match asked {
-        Asked::Rows => tell_combinations(alloc, catalog, query),
+        Asked::Rows(old) => tell_combinations(alloc, catalog, query, old),
         Asked::Answers(failing) => tell_plain(alloc, catalog, query, failing),
     }
 }

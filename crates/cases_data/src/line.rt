@@ -1,6 +1,6 @@
 //! What the lines ask for.
 
-use crate::bound::{Asked, tell_bound, tell_failing, tell_joined, tell_query};
+use crate::bound::{Asked, tell_bound, tell_failing, tell_fresh, tell_joined, tell_query};
 use crate::catalogue::{
     add_predicate, add_table, tell_index, tell_predicate, tell_room, tell_table, write_score,
 };
@@ -127,7 +127,8 @@ impl Cases for Data {
         match word {
             b"bind" => tell_bound(alloc, &self.made, rest),
             b"make" => tell_joined(alloc, &mut self.made, rest),
-            b"rows" => tell_query(alloc, &self.made, Asked::Rows, rest),
+            b"rows" => tell_query(alloc, &self.made, Asked::Rows(0), rest),
+            b"fresh" => tell_fresh(alloc, &self.made, rest),
             b"plain" => tell_query(alloc, &self.made, Asked::Answers(0), rest),
             b"failing" => tell_failing(alloc, &self.made, rest),
             _ => self.line_told(alloc, word, rest),

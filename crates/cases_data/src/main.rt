@@ -42,7 +42,8 @@
 //! - `make STATEMENT`: it is bound, and the table or predicate joins a catalogue of its own, which `new` leaves as it is. The
 //!   statements and queries of the lines behind it are of this catalogue. The text behind FROM is not the name of a table's
 //!   file here, but what is in the file.
-//! - `rows QUERY`: the combinations of rows of a query of one block.
+//! - `rows QUERY`: the combinations of rows of a query of one block. `fresh N QUERY`: those that have a row behind the first N
+//!   of its table.
 //! - `plain QUERY`: its answers or the fault that stops it, and the calls of the scorer. An answer is its block, its mask,
 //!   its rows, its score and its values. `failing N QUERY`: the same, where the Nth call fails.
 //! - a comment that begins with `#`, or nothing.

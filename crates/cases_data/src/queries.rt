@@ -11,21 +11,38 @@ use rs_rank::Answer;
 use rs_value::Memory;
 use std::alloc::{AllocError, Global};
 
-/// The combinations of rows of a query of one block.
-pub fn tell_combinations(alloc: Global, catalog: &Catalog, query: &Query) -> Result<String, Fault>
+/// The combinations of rows of a query of one block that have a row behind the first so many of its table.
+pub fn tell_combinations(
+    alloc: Global,
+    catalog: &Catalog,
+    query: &Query,
+    old: u32,
+) -> Result<String, Fault>
     requires { IsQuery catalog.now query.now }
 {
     match query {
-        Query::One(block, _) => tell_rows(alloc, catalog, block),
+        Query::One(block, _) => tell_rows(alloc, &combinations(alloc, catalog, block, old)?),
         Query::Set(_, _, _, _) => Err(Fault::Form),
     }
 }
 
-fn tell_rows(alloc: Global, catalog: &Catalog, block: &Block) -> Result<String, Fault>
+fn combinations(
+    alloc: Global,
+    catalog: &Catalog,
+    block: &Block,
+    old: u32,
+) -> Result<Vec<[u32; 6]>, Memory>
     requires { IsBlock catalog.now block.now }
 {
+    match old {
+        0 => block.combinations(alloc, catalog),
+        _ => block.fresh(alloc, catalog, &[old; 6]),
+    }
+}
+
+fn tell_rows(alloc: Global, combinations: &[[u32; 6]]) -> Result<String, Fault> {
     let mut told = String::from_str(alloc, "rows")?;
-    for rows in &block.combinations(alloc, catalog)? {
+    for rows in combinations {
         write!(told, " {rows:?}")?;
     }
     told.push_str("\n")?;

@@ -27,7 +27,7 @@ use Rattle.rs_query.specs.Meaning.{is_inside}
 use Rattle.rs_query.specs.Searching.{Adds, IsNewAt, IsNewBefore, same_rows}
 use Rattle.rs_query.specs.Tables.{HasRows, all_entries, row_number, sizes_of}
 use Rattle.rs_query.specs.WellFormed.{IsBlock}
-use Rattle.rs_query.proofs.AddsFacts.{Adds-both, Adds-none}
+use Rattle.rs_query.proofs.AddsFacts.{Adds-both, Adds-none, Adds-same}
 use Rattle.rs_query.proofs.ChoiceFacts.{Climbs-combinations, In-combinations, In-combinations-back}
 use Rattle.rs_query.proofs.ExtendFacts.{HasRows-combinations, IsChoice-length, satisfies-fails}
 use Rattle.rs_query.proofs.GoFacts.{combination-row}
@@ -199,6 +199,31 @@ module _ (catalogue : CatalogDef) (block : Block) (is : IsBlock catalogue block)
     where
       inside-any : (e : ℕ) → is_inside e 0 ≡ true → is_inside e (all_entries block) ≡ true
       inside-any e inside = subst (λ m. is_inside e m ≡ true) (or_comm 0 (all_entries block) ∙ or_zero_r (all_entries block)) (is_inside-more 0 (all_entries block) e inside)
+
+  -- behind an entry of which an old view has no row there is none more
+  pub before-all : (bound : ℕ) (start new : List (List ℕ)) → 1 ≤ bound → bound ≤ length block.from → row_number old bound ≡ 0
+      → Adds (IsNewBefore catalogue block old bound) start new → Adds (IsNewBefore catalogue block old (length block.from)) start new
+  before-all bound start new some most empty a =
+      Adds-same (IsNewBefore catalogue block old bound) (IsNewBefore catalogue block old (length block.from)) start new
+      (λ rows. (
+        (λ before. record { pivot = before.pivot; least = before.least; most = (let le = before.most in omega arith); new_at = before.new_at }),
+        back rows,
+      )) a
+    where
+      back : (rows : List ℕ) → IsNewBefore catalogue block old (length block.from) rows → IsNewBefore catalogue block old bound rows
+      back rows before = record {
+        pivot = before.pivot;
+        least = before.least;
+        most = elim (cases_lt bound before.pivot) [
+          | inl beyond ↦
+              let stale = (before.new_at.part bound some most).old_ones beyond in
+              let row = combination-row catalogue block is rows before.new_at.combination bound some most in
+              let there = row.0 in
+              absurd (omega arith)
+          | inr within ↦ within
+        ];
+        new_at = before.new_at;
+      }
 
   -- and a combination with a new row is fresh
   fresh-forth : (rows : List ℕ) → length old ≡ 6 → IsNewBefore catalogue block old (length block.from) rows → In rows (fresh_combinations catalogue block old (sizes_of catalogue block))

@@ -2,8 +2,8 @@
 use Rattle.std.proofs.Common.{ℕ, suc, ◌≡◌, ◌∙◌, ◌+◌, ◌-◌, ◌<◌, ◌≤◌, ◌⊎◌, ◌&&◌, ◌++◌, Bool, true, false, cond, List, [], ◌∷◌, length, get_or, set, Some, None, refl, sym, ap, ap₂, subst, inl, inr, bit_or, arith}
 use Rattle.std.specs.Prelude.{Option, slice_get, unwrap_or}
 use Rattle.std.specs.Int.{bit_at}
-use Rattle.std.specs.List.{AllByRecursion, list_all}
-use Rattle.std.proofs.lemmas.Bool.{cases_eq, cases_lt, eq-eqb, eqb-true, true≢false}
+use Rattle.std.specs.List.{list_all}
+use Rattle.std.proofs.lemmas.Bool.{cases_eq, cases_lt, eq-eqb, true≢false}
 use Rattle.std.proofs.lemmas.Option.{unwrap_or-slice_get}
 use Rattle.rs_value.specs.declared.kind.Kind.{Kind}
 use Rattle.rs_value.specs.Value.{kind_of}
@@ -18,7 +18,7 @@ use Rattle.rs_query.specs.Choices.{AgreeOn, IsChoice}
 use Rattle.rs_query.specs.Combinations.{holds_inside, satisfies}
 use Rattle.rs_query.specs.Conjuncts.{ConjunctDef}
 use Rattle.rs_query.specs.EqualRows.{IsNext}
-use Rattle.rs_query.specs.Meaning.{all_hold, column_value, conjunct_holds, conjuncts_within, is_inside}
+use Rattle.rs_query.specs.Meaning.{all_hold, column_value, conjunct_holds, is_inside}
 use Rattle.rs_query.specs.Searching.{Adds, Fits, GoesOn, HasKinds, IsBegun, IsCombination, IsStep, IsTie, IsTied, cell_of}
 use Rattle.rs_query.specs.Tables.{HasRow, all_entries, row_number, size_of, sizes_of}
 use Rattle.rs_query.specs.WellFormed.{IsBlock, IsColumn, IsConjunct, column_kind}

@@ -1,5 +1,5 @@
 -- The first row and the next rows of each key, as one more row is done.
-use Rattle.std.proofs.Common.{ℕ, ◌≡◌, ◌∙◌, ◌+◌, ◌-◌, ◌<◌, ◌≤◌, ◌++◌, Bool, true, false, cond, List, [], ◌∷◌, length, take, get_or, set, Option, Some, None, refl, sym, ap, subst, inl, inr, arith}
+use Rattle.std.proofs.Common.{ℕ, ◌≡◌, ◌∙◌, ◌+◌, ◌-◌, ◌<◌, ◌≤◌, ◌++◌, cond, List, [], ◌∷◌, length, take, get_or, set, Option, Some, refl, sym, ap, subst, inl, inr, arith}
 use Rattle.std.specs.Prelude.{slice_get, unwrap_or}
 use Rattle.std.specs.Cmp.{IsTotalOrder}
 use Rattle.std.specs.Ordering.{is_eq}
@@ -51,12 +51,13 @@ module _ {K : Type 0} (cmp : K → K → Ordering) (o : IsTotalOrder cmp) (all :
       → ((q : K) → IsNext (HasKey cmp all q) (n + 1) (length all) (unwrap_or (old q) 0)) → (q : K) → IsNext (HasKey cmp all q) n (length all) (unwrap_or (new q) 0)
   firsts-step n key old new within there put so_far q =
       subst (λ found. IsNext (HasKey cmp all q) n (length all) (unwrap_or found 0)) (sym (put q)) (go (cmp key q) refl) where
-    other : (cmp key q ≡ Equal → ⊥) → IsNext (HasKey cmp all q) n (length all) (unwrap_or (old q) 0)
-    other apart = IsNext-further (HasKey cmp all q) n (length all) (unwrap_or (old q) 0) (λ has. apart (tied_back o q key (row-key n key q there has))) (so_far q)
-    go : (r : Ordering) → cmp key q ≡ r → IsNext (HasKey cmp all q) n (length all) (unwrap_or (cond (is_eq r) (Some (n + 1)) (old q)) 0)
-    go Less e = other (λ tied. (let none : ◌≡◌ {A = Ordering} Less Equal = sym e ∙ tied in cc))
-    go Equal e = IsNext-here (HasKey cmp all q) n (length all) (let most : n + 1 ≤ length all = omega arith in most) (has-row n key q there (tied_back o key q e))
-    go Greater e = other (λ tied. (let none : ◌≡◌ {A = Ordering} Greater Equal = sym e ∙ tied in cc))
+        other : (cmp key q ≡ Equal → ⊥) → IsNext (HasKey cmp all q) n (length all) (unwrap_or (old q) 0)
+        other apart = IsNext-further (HasKey cmp all q) n (length all) (unwrap_or (old q) 0) (λ has. apart (tied_back o q key (row-key n key q there has))) (so_far q)
+
+        go : (r : Ordering) → cmp key q ≡ r → IsNext (HasKey cmp all q) n (length all) (unwrap_or (cond (is_eq r) (Some (n + 1)) (old q)) 0)
+        go Less e = other (λ tied. (let none : ◌≡◌ {A = Ordering} Less Equal = sym e ∙ tied in cc))
+        go Equal e = IsNext-here (HasKey cmp all q) n (length all) (let most : n + 1 ≤ length all = omega arith in most) (has-row n key q there (tied_back o key q e))
+        go Greater e = other (λ tied. (let none : ◌≡◌ {A = Ordering} Greater Equal = sym e ∙ tied in cc))
 
   -- and the row that was the first one is its next
   pub nexts-step : (n found : ℕ) (key : K) (rows : List ℕ) → length rows ≡ length all → n < length all → slice_get all n ≡ Some key

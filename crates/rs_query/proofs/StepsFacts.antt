@@ -1,6 +1,5 @@
 -- The steps of a search lead to all entries, and their ranges make up the part of a search that one entry begins.
-use Rattle.std.proofs.Common.{ℕ, ◌≡◌, ◌∙◌, ◌+◌, ◌-◌, ◌<◌, ◌≤◌, ◌⊎◌, ◌++◌, true, List, [], ◌∷◌, length, replicate, refl, sym, ap, subst, inl, inr, bit_or, arith}
-use Rattle.std.specs.Prelude.{◌↔◌}
+use Rattle.std.proofs.Common.{ℕ, ◌≡◌, ◌<◌, ◌≤◌, ◌⊎◌, ◌++◌, true, List, [], ◌∷◌, length, replicate, refl, sym, ap, subst, inl, inr, bit_or, arith}
 use Rattle.std.specs.List.{AllByRecursion}
 use Rattle.rs_order.specs.Climbing.{In}
 use Rattle.rs_order.proofs.ClimbingFacts.{AllByRecursion-In}
@@ -98,9 +97,9 @@ module _ (catalogue : CatalogDef) (block : Block) (is : IsBlock catalogue block)
         agrees = λ entry some has. absurd (has-none entry has);
         combination = new_at.combination;
         in_range = in_range-from steps rows (λ step h.
-        let of = AllByRecursion-In (IsOfBlock block) steps (AreSteps-each catalogue block 0 (all_entries block) steps are) step h in
-        let row = combination-row catalogue block is rows new_at.combination step.entry of.0 of.1 in
-        (AllByRecursion-In (IsRanged catalogue block old pivot) steps ranged step h (row_number rows step.entry) row.0 row.1).1 (new_at.part step.entry of.0 of.1));
+            let of = AllByRecursion-In (IsOfBlock block) steps (AreSteps-each catalogue block 0 (all_entries block) steps are) step h in
+            let row = combination-row catalogue block is rows new_at.combination step.entry of.0 of.1 in
+            (AllByRecursion-In (IsRanged catalogue block old pivot) steps ranged step h (row_number rows step.entry) row.0 row.1).1 (new_at.part step.entry of.0 of.1));
       }
 
   -- there is none where the pivot has no new row

@@ -1,5 +1,5 @@
 -- Rows of equal cells: from keys that stand for the cells, and as the rows that a step tries.
-use Rattle.std.proofs.Common.{ℕ, ℤ, zero, suc, ◌≡◌, ◌∙◌, ◌+◌, ◌-◌, ◌≤◌, ◌⊎◌, ◌++◌, true, cond, nat_le, List, [], ◌∷◌, length, Option, Some, None, pos, refl, sym, ap, subst, inl, inr, arith}
+use Rattle.std.proofs.Common.{ℕ, ℤ, zero, suc, ◌≡◌, ◌∙◌, ◌+◌, ◌-◌, ◌≤◌, ◌⊎◌, ◌++◌, true, cond, nat_le, List, [], ◌∷◌, length, Option, Some, pos, refl, sym, ap, subst, inl, inr, arith}
 use Rattle.std.specs.Prelude.{◌↔◌, IfOk, Result, Ok, Err, option_and_then, slice_get, unwrap_or}
 use Rattle.std.specs.Cmp.{int_cmp_total}
 use Rattle.std.specs.Cmp.Lexicographic.{nat_list_cmp_total, slice_cmp}

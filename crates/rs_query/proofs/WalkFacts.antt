@@ -1,5 +1,5 @@
 -- What a step of a search asks for: rows of the entries before it, and conditions on them and its own.
-use Rattle.std.proofs.Common.{ℕ, suc, ◌≡◌, ◌∙◌, ◌+◌, ◌-◌, ◌<◌, ◌≤◌, List, [], ◌∷◌, length, set, Some, None, refl, sym, ap, subst, bit_or, arith}
+use Rattle.std.proofs.Common.{ℕ, suc, ◌≡◌, ◌∙◌, ◌-◌, ◌<◌, ◌≤◌, List, [], ◌∷◌, length, set, Some, None, refl, sym, ap, subst, bit_or, arith}
 use Rattle.std.specs.Prelude.{IfSome, Option}
 use Rattle.rs_rank.specs.Masks.{mask_of}
 use Rattle.rs_catalog.specs.Catalog.{CatalogDef}

@@ -1,5 +1,5 @@
 -- How combinations are found: entry by entry, along the equalities of the conditions.
-use Rattle.std.specs.Prelude.{ℕ, zero, suc, ◌≡◌, ◌⊎◌, ◌↔◌, ◌≤◌, ◌<◌, ◌-◌, ◌++◌, Bool, true, false, pos, List, [], ◌∷◌, length, bit_or, Option, Some, None, slice_get, unwrap_or, option_and_then}
+use Rattle.std.specs.Prelude.{ℕ, ◌≡◌, ◌⊎◌, ◌↔◌, ◌≤◌, ◌<◌, ◌-◌, ◌++◌, Bool, true, false, pos, List, [], ◌∷◌, length, bit_or, Option, Some, None, slice_get, unwrap_or, option_and_then}
 use Rattle.std.specs.Cmp.Lexicographic.{slice_cmp}
 use Rattle.std.specs.List.{IsDistinct}
 use Rattle.std.specs.Ordering.{eq_by_cmp, nat_cmp}

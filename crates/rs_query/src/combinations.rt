@@ -63,6 +63,10 @@ impl Block {
         }
         for place in 0..self.from.len() {
             self.find(alloc, catalog, place as u8 + 1, old, &mut cells, found)?;
+            // Every row of this entry is new, so no combination is left whose first new row is that of an entry behind it.
+            if old[place] == 0 {
+                return Ok(());
+            }
         }
         Ok(())
     }

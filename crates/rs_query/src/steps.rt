@@ -92,7 +92,11 @@ impl Block {
         Ok(Step {
             entry,
             above: if entry == pivot { old_size } else { 0 },
-            last: if entry < pivot { size.min(old_size) } else { size },
+            last: if entry < pivot {
+                size.min(old_size)
+            } else {
+                size
+            },
             conditions: self.within(union(mask, mask_of(entry))) - self.within(mask),
             tie,
         })

@@ -1,5 +1,5 @@
 -- One more row is the first one of its key, and the one that was is its next.
-use Rattle.std.proofs.Common.{ℕ, ◌≡◌, ◌∙◌, ◌+◌, cond, Some, length, set, unwrap_or, sym, ap, subst, arith}
+use Rattle.std.proofs.Common.{◌≡◌, ◌∙◌, ◌+◌, cond, Some, length, set, unwrap_or, sym, ap, subst, arith}
 use Rattle.std.specs.Ordering.{is_eq}
 use Rattle.std.specs.BTreeMap.{get}
 use Rattle.std.proofs.lemmas.List.{length-set, length_push}

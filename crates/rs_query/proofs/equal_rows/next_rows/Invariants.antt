@@ -1,5 +1,5 @@
 -- The rows from some on are done: the map has the first of them for each key, and each has the next one.
-use Rattle.std.proofs.Common.{ℕ, ◌≡◌, ◌≤◌, length, take, unwrap_or}
+use Rattle.std.proofs.Common.{◌≡◌, ◌≤◌, length, take, unwrap_or}
 use Rattle.std.specs.BTreeMap.{get}
 use Rattle.rs_query.specs.EqualRows.{AreNextBehind, HasKey, IsNext}
 use Rattle.rs_query.proofs.equal_rows.next_rows.Given as goal

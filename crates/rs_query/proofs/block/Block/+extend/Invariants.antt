@@ -1,5 +1,5 @@
 -- What goes on with the rows tried so far was found, and the next row to be tried fits.
-use Rattle.std.proofs.Common.{◌≡◌, ◌+◌, ◌-◌, ◌<◌, ◌≤◌, cond, eqb, length}
+use Rattle.std.proofs.Common.{◌+◌, ◌-◌, ◌<◌, ◌≤◌, cond, eqb, length}
 use Rattle.rs_query.specs.Searching.{Adds, Fits}
 use Rattle.rs_query.proofs.GoFacts.{IsPassed}
 use Rattle.rs_query.proofs.block.Block.+extend.Given as goal

@@ -1,5 +1,5 @@
 -- All combinations are new to an empty view.
-use Rattle.std.proofs.Common.{◌≡◌, ◌∙◌, IfOk, subst}
+use Rattle.std.proofs.Common.{◌≡◌, IfOk, subst}
 use Rattle.rs_query.proofs.FreshFacts.{fresh-all}
 use Rattle.rs_query.proofs.block.Block.combinations.Goals as goal
 

@@ -1,5 +1,5 @@
 -- The keys stand for the cells of both columns.
-use Rattle.std.proofs.Common.{ℤ, ℕ, List, Some, ◌∙◌, Bor, refl, sym, ap, subst}
+use Rattle.std.proofs.Common.{ℕ, List, Some, ◌∙◌, Bor, refl, sym, ap, subst}
 use Rattle.std.specs.Cmp.Lexicographic.{slice_cmp}
 use Rattle.std.specs.Ordering.{int_cmp, nat_cmp}
 use Rattle.rs_value.specs.declared.kind.Kind.TheVariants as kind

@@ -1,5 +1,5 @@
 -- The steps lead to all combinations of the pivot's part.
-use Rattle.std.proofs.Common.{◌≡◌, ◌∙◌, ◌-◌, ◌≤◌, replicate, subst, sym, arith}
+use Rattle.std.proofs.Common.{◌-◌, ◌≤◌, replicate, subst, sym, arith}
 use Rattle.std.specs.List.{AllByRecursion}
 use Rattle.std.proofs.lemmas.Result.{on_ok_weaker}
 use Rattle.std.proofs.lemmas.Option.{unwrap_or-slice_get}

@@ -1,5 +1,5 @@
 -- What was found is sorted.
-use Rattle.std.proofs.Common.{◌≡◌, length, sym, subst, arith, rules}
+use Rattle.std.proofs.Common.{sym, subst, arith, rules}
 use Rattle.std.specs.List.{AllByRecursion}
 use Rattle.rs_query.specs.Tables.{HasRows, all_entries}
 use Rattle.rs_query.proofs.FreshFacts.{HasRows-fresh, fresh-found}

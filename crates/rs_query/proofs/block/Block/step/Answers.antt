@@ -4,7 +4,7 @@ use Rattle.std.proofs.lemmas.Bool.{eq-eqb, le-ltb, lt-ltb, ne_eqb}
 use Rattle.std.proofs.lemmas.Option.{unwrap_or-slice_get}
 use Rattle.rs_rank.specs.Masks.{mask_of}
 use Rattle.rs_query.specs.Meaning.{conjuncts_within}
-use Rattle.rs_query.specs.Tables.{row_number, size_of}
+use Rattle.rs_query.specs.Tables.{row_number}
 use Rattle.rs_query.proofs.HoldNewFacts.{within-less}
 use Rattle.rs_query.proofs.MaskStepFacts.{is_inside-more}
 use Rattle.rs_query.proofs.RangeFacts.{range-part}

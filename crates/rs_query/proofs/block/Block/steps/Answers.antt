@@ -1,11 +1,10 @@
 -- One entry more is in the mask, and the steps lead to all entries where there is no next one.
-use Rattle.std.proofs.Common.{ℕ, ◌≡◌, ◌∙◌, ◌-◌, ◌<◌, ◌≤◌, ◌^◌, ◌⊎◌, ◌++◌, [], ◌∷◌, true, false, Some, None, length, bit_or, sym, ap, subst, inl, inr, arith}
+use Rattle.std.proofs.Common.{ℕ, ◌≡◌, ◌∙◌, ◌-◌, ◌<◌, ◌≤◌, ◌^◌, ◌++◌, [], ◌∷◌, true, false, Some, length, bit_or, sym, ap, subst, inl, inr, arith}
 use Rattle.std.specs.List.{AllByRecursion}
 use Rattle.std.specs.Prelude.{IfNone, IfSome, Option}
 use Rattle.rs_order.proofs.EachFacts.{each-push}
 use Rattle.rs_rank.specs.Masks.{has_number, mask_of}
 use Rattle.rs_query.specs.Searching.{AreSteps, IsRanged}
-use Rattle.rs_query.specs.Tables.{all_entries}
 use Rattle.rs_query.proofs.MaskStepFacts.{all-numbers, grows, has-more, has-own, stays-below}
 use Rattle.rs_query.proofs.StepsFacts.{AreSteps-push}
 use Rattle.rs_query.proofs.block.Block.steps.Goals as goal

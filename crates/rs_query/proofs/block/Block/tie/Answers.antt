@@ -1,8 +1,4 @@
 -- The columns are two of the block, of one kind.
-use Rattle.std.proofs.Common.{◌≡◌, Some, sym, inl, inr}
-use Rattle.rs_order.proofs.ClimbingFacts.{AllByRecursion-In}
-use Rattle.rs_query.specs.Searching.{AreEquated}
-use Rattle.rs_query.specs.WellFormed.{IsConjunct}
 use Rattle.rs_query.proofs.TieFacts.{equated-kinds}
 use Rattle.rs_query.proofs.block.Block.tie.Goals as goal
 
