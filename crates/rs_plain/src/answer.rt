@@ -1,22 +1,21 @@
-ghost use Rattle.std.specs.Prelude.{◌≡◌, IfErr, IfSome, false, map};
-ghost use Rattle.rs_rank.specs.Stable.{stable};
+ghost use Rattle.std.specs.Prelude.{◌≡◌, IfErr, true};
 ghost use Rattle.rs_expr.specs.InOrder.{Inquires};
-ghost use Rattle.rs_plain.specs.Plain.{block_questions, evaluation_of, plain_faults};
+ghost use Rattle.rs_plain.specs.Keeping.{keeps_duplicates};
+ghost use Rattle.rs_plain.specs.Plain.{evaluation_of};
 ghost use Rattle.rs_plain.specs.Results.{NamesCalled, as_list};
-ghost use Rattle.rs_query.specs.Answers.{answer_row, cut, limit_of};
-ghost use Rattle.rs_query.specs.Combinations.{all_combinations};
-ghost use Rattle.rs_query.specs.Questions.{asking};
-ghost use Rattle.rs_query.specs.Tables.{sizes_of};
+ghost use Rattle.rs_query.specs.Answers.{cut};
 ghost use Rattle.rs_query.specs.Views.{all_rows};
-ghost use Rattle.rs_query.specs.WellFormed.{IsBlock, IsQuery};
-ghost use Rattle.rs_query.specs.declared.query.Query.TheVariants.{One};
+ghost use Rattle.rs_query.specs.WellFormed.{IsQuery};
 
 use crate::fault::PlainFault;
-use crate::rows::{answers_of, query_rows, scored_combinations};
+use crate::outputs::query_answers;
+use crate::rows::query_rows;
+use crate::scored::scored_query;
 use rs_catalog::Catalog;
 use rs_expr::Scorer;
-use rs_query::{Block, Query, limit_of};
+use rs_query::{Query, limit_of};
 use rs_rank::{Answer, sort_stably};
+use rs_value::SetOp;
 use std::alloc::Global;
 
 /// The answer of a query: everything joined, filtered, scored and stably sorted, cut to LIMIT. The scorer is called for
@@ -37,8 +36,8 @@ pub fn answer_plainly<S: Scorer>(
     // A bad or failed call is one of a term of the query.
     ensures names { IfErr result (NamesCalled catalog.now query.now) }
 {
-    if let Some(block) = block_with_duplicates(query) {
-        return block_answer(alloc, catalog, block, limit_of(query), scorer);
+    if keeps_duplicates(query) {
+        return answer_with_duplicates(alloc, catalog, query, scorer);
     }
     let mut rows = query_rows(alloc, catalog, query, scorer)?;
     sort_stably(&mut rows)?;
@@ -46,36 +45,35 @@ pub fn answer_plainly<S: Scorer>(
     Ok(rows)
 }
 
-/// The block of a query of one block that keeps duplicates.
-fn block_with_duplicates(query: &Query) -> Option<&Block>
-    ensures { IfSome result (λ block. (query.now ≡ One block.now (limit_of query.now)) × (block.now.distinct ≡ false)) }
+/// Whether a query keeps duplicates, so that it compares no rows by their output values.
+fn keeps_duplicates(query: &Query) -> bool
+    ensures { result ≡ keeps_duplicates query.now }
 {
-    if let Query::One(block, _) = query {
-        if !block.distinct {
-            return Some(block);
-        }
+    match query {
+        Query::One(block, _) => !block.distinct,
+        Query::Set(SetOp::UnionAll, left, right, _) => !left.distinct && !right.distinct,
+        Query::Set(_, _, _, _) => false,
     }
-    None
 }
 
-/// The answer of a query of one block that keeps duplicates. Output values are made for the rows of the answer alone.
-fn block_answer<S: Scorer>(
+/// The answer of a query that keeps duplicates. Output values are made behind the order and the limit, for the rows of the
+/// answer alone.
+fn answer_with_duplicates<S: Scorer>(
     alloc: Global,
     catalog: &Catalog,
-    block: &Block,
-    limit: Option<u32>,
+    query: &Query,
     scorer: &mut S,
 ) -> Result<Vec<Answer>, PlainFault>
-    requires { IsBlock catalog.now block.now }
+    requires query { IsQuery catalog.now query.now }
+    requires keeps { keeps_duplicates query.now ≡ true }
     ensures { Inquires PlainFault.Memory
-        (asking plain_faults (S.state scorer.old).answer catalog.now (block_questions catalog.now 1 block.now (sizes_of catalog.now block.now))
-        (cut limit (stable (λ row. row.score) (map (answer_row (S.state scorer.old).answer catalog.now block.now 1) (all_combinations catalog.now block.now)))))
+        (evaluation_of (S.state scorer.old).answer catalog.now query.now (all_rows catalog.now query.now))
         (as_list result) (S.state scorer.old) (S.state scorer.new) }
 {
-    let mut scored = scored_combinations(alloc, catalog, block, 1, scorer)?;
+    let mut scored = scored_query(alloc, catalog, query, scorer)?;
     sort_stably(&mut scored)?;
-    cut(&mut scored, limit);
-    Ok(answers_of(alloc, catalog, block, 1, &scored)?)
+    cut(&mut scored, limit_of(query));
+    Ok(query_answers(alloc, catalog, query, &scored)?)
 }
 
 /// Drops the rows behind the limit, where there is one.

@@ -6,6 +6,7 @@
 mod answer;
 mod fault;
 mod laws;
+mod outputs;
 mod rows;
 mod scored;
 mod sets;

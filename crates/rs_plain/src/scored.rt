@@ -1,16 +1,117 @@
-use rs_rank::Scored;
+//! The combinations of blocks with their scores. It is here that the scorer is called.
 
-/// A combination of a block, and its score. It is all that is kept of a combination until the rows of the answer are known.
-#[derive(Clone, Copy)]
-pub(crate) struct ScoredCombination {
-    pub rows: [u32; 6],
-    pub score: u64,
+ghost use Rattle.std.specs.Prelude.{◌≡◌, map};
+ghost use Rattle.std.specs.List.{AllByRecursion, flat_map};
+ghost use Rattle.rs_expr.specs.InOrder.{Inquires};
+ghost use Rattle.rs_query.specs.Answers.{score_of};
+ghost use Rattle.rs_query.specs.Questions.{asking};
+ghost use Rattle.rs_query.specs.Tables.{HasRows, all_entries, sizes_of};
+ghost use Rattle.rs_query.specs.Views.{all_rows};
+ghost use Rattle.rs_query.specs.WellFormed.{IsBlock, IsQuery};
+ghost use Rattle.rs_plain.specs.Keeping.{scored_block, scored_for, scored_query};
+ghost use Rattle.rs_plain.specs.Plain.{block_questions, plain_faults, questions_of, row_questions};
+ghost use Rattle.rs_plain.specs.Results.{as_list};
+
+use crate::fault::PlainFault;
+use crate::sets::append_rows;
+use rs_catalog::Catalog;
+use rs_expr::Scorer;
+use rs_query::{Block, KeptList, Query};
+use rs_rank::{Ids, RankRow};
+use std::alloc::Global;
+
+/// All combinations of a query, block after block, each with its score. No more is kept of them until the rows of the
+/// answer are known.
+pub(crate) fn scored_query<S: Scorer>(
+    alloc: Global,
+    catalog: &Catalog,
+    query: &Query,
+    scorer: &mut S,
+) -> Result<Vec<RankRow>, PlainFault>
+    requires { IsQuery catalog.now query.now }
+    ensures { Inquires PlainFault.Memory
+        (asking plain_faults (S.state scorer.old).answer catalog.now (questions_of catalog.now query.now (all_rows catalog.now query.now))
+        (scored_query (S.state scorer.old).answer catalog.now query.now))
+        (as_list result) (S.state scorer.old) (S.state scorer.new) }
+{
+    match query {
+        Query::One(block, _) => scored_block(alloc, catalog, block, 1, scorer),
+        Query::Set(_, left, right, _) => {
+            let first = scored_block(alloc, catalog, left, 1, scorer)?;
+            let second = scored_block(alloc, catalog, right, 2, scorer)?;
+            Ok(append_rows(first, second)?)
+        }
+    }
 }
 
-impl Scored for ScoredCombination {
-    ghost score_of = { λ scored. scored.score };
+/// All combinations of a block of this number, each with its score.
+pub(crate) fn scored_block<S: Scorer>(
+    alloc: Global,
+    catalog: &Catalog,
+    block: &Block,
+    number: u8,
+    scorer: &mut S,
+) -> Result<Vec<RankRow>, PlainFault>
+    requires { IsBlock catalog.now block.now }
+    ensures { Inquires PlainFault.Memory
+        (asking plain_faults (S.state scorer.old).answer catalog.now (block_questions catalog.now number block.now (sizes_of catalog.now block.now))
+        (scored_block (S.state scorer.old).answer catalog.now number block.now))
+        (as_list result) (S.state scorer.old) (S.state scorer.new) }
+{
+    let combinations = block.combinations(alloc, catalog)?;
+    scored_rows(alloc, catalog, block, number, &combinations, scorer)
+}
 
-    fn score(&self) -> u64 {
-        self.score
+/// Some combinations of a block of this number, each with its score.
+fn scored_rows<S: Scorer>(
+    alloc: Global,
+    catalog: &Catalog,
+    block: &Block,
+    number: u8,
+    combinations: &[[u32; 6]],
+    scorer: &mut S,
+) -> Result<Vec<RankRow>, PlainFault>
+    requires block { IsBlock catalog.now block.now }
+    requires rows { AllByRecursion (HasRows catalog.now block.now (all_entries block.now)) combinations.now }
+    ensures { Inquires PlainFault.Memory
+        (asking plain_faults (S.state scorer.old).answer catalog.now (flat_map (row_questions number block.now) combinations.now)
+        (map (scored_for (S.state scorer.old).answer catalog.now number block.now) combinations.now))
+        (as_list result) (S.state scorer.old) (S.state scorer.new) }
+{
+    let mut scored = Vec::new(alloc);
+    let mut args = KeptList::new(alloc);
+    for rows in combinations {
+        let ids = Ids {
+            block: number,
+            mask: block.all_entries(),
+            rows: *rows,
+        };
+        let sum = score_for(catalog, block, &ids, &mut args, scorer)?;
+        scored.push(RankRow { ids, sum })?;
     }
+    Ok(scored)
+}
+
+/// The score of a combination of all entries: the sum of weight times worth over the terms, which are asked in order.
+fn score_for<S: Scorer>(
+    catalog: &Catalog,
+    block: &Block,
+    ids: &Ids,
+    args: &mut KeptList,
+    scorer: &mut S,
+) -> Result<u64, PlainFault>
+    requires block { IsBlock catalog.now block.now }
+    requires all { ids.now.mask ≡ all_entries block.now }
+    requires rows { HasRows catalog.now block.now (all_entries block.now) ids.now.rows }
+    ensures { Inquires PlainFault.Memory
+        (asking plain_faults (S.state scorer.old).answer catalog.now (row_questions ids.now.block block.now ids.now.rows)
+        (score_of (S.state scorer.old).answer catalog.now block.now ids.now.rows block.now.terms))
+        result (S.state scorer.old) (S.state scorer.new) }
+{
+    let mut score = 0;
+    for (index, term) in block.terms.items().iter().enumerate() {
+        let worth = block.ask(catalog, index as u8 + 1, ids, args, scorer)?;
+        score += u64::from(term.weight) * u64::from(worth);
+    }
+    Ok(score)
 }

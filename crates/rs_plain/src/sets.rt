@@ -41,7 +41,7 @@ pub(crate) fn first_rows(alloc: Global, rows: Vec<Answer>) -> Result<Vec<Answer>
 }
 
 /// The rows of both, the left ones first.
-fn append_rows(left: Vec<Answer>, right: Vec<Answer>) -> Result<Vec<Answer>, Memory>
+pub(crate) fn append_rows<T: Drop>(left: Vec<T>, right: Vec<T>) -> Result<Vec<T>, Memory>
     ensures { IfOk result (λ rows. rows.items ≡ left.items ++ right.items) }
 {
     let mut rows = left;

@@ -1,12 +1,8 @@
-use Rattle.std.proofs.Common.{List, ◌∙◌, [], refl, sym, ap, subst, append-nil}
+use Rattle.std.proofs.Common.{List, ◌∙◌, [], refl, sym, ap, append-nil}
 use Rattle.rs_rank.specs.Stable.{stable}
 use Rattle.rs_rank.specs.declared.answer.Answer.{Answer}
 use Rattle.rs_expr.specs.Scoring.{Answering}
-use Rattle.rs_query.specs.Answers.{answer_of, cut, limit_of, rows_of}
-use Rattle.rs_query.specs.WellFormed.{IsQuery}
-use Rattle.rs_expr.specs.InOrder.{Inquires}
-use Rattle.rs_plain.specs.Results.{as_list}
-use Rattle.rs_plain.proofs.KeepingFacts.{block_evaluation, evaluation-one}
+use Rattle.rs_query.specs.Answers.{answer_of, cut, rows_of}
 use Rattle.rs_query.specs.Views.{all_rows}
 use Rattle.rs_plain.specs.Plain.{plain_faults, questions_of}
 use Rattle.rs_plain.specs.declared.fault.PlainFault.TheVariants.{Memory}
@@ -59,23 +55,9 @@ returns-clause-evaluates g c =
     (c.cut.ensures ∙ ap (cut c.limit_of.result) (c.in_ok-sort_stably.ensures.ok ∙ ap (stable (λ (row : Answer). row.score)) gave.is_value)
     ∙ ap (λ limit. cut limit (stable (λ (row : Answer). row.score) rows)) c.limit_of.ensures) gave.asked
 
-pub block_answer-requires : goal.block_answer-requires
-block_answer-requires g c = let formed = subst (IsQuery c.args.catalog.now) c.in-Some.ensures.0 c.requires in formed.0
-
-pub returns-in-Some-clause-evaluates : goal.returns-in-Some-clause-evaluates
-returns-in-Some-clause-evaluates g c =
+pub returns-then-keeps_duplicates-clause-names : goal.returns-then-keeps_duplicates-clause-names
+returns-then-keeps_duplicates-clause-names g c =
+    let view = all_rows c.args.catalog.now c.args.query.now in
     let old = g.S.Scorer.state c.args.scorer.now in
-    let new = g.S.Scorer.state c.block_answer.new.scorer in
-    subst (λ evaluation. Inquires Memory evaluation (as_list c.block_answer.result) old new)
-    (sym (evaluation-one old.answer c.args.catalog.now c.args.query.now c.in-Some.block.now (limit_of c.args.query.now) c.in-Some.ensures.0 c.in-Some.ensures.1))
-    (subst (λ limit. Inquires Memory (block_evaluation old.answer c.args.catalog.now c.in-Some.block.now limit) (as_list c.block_answer.result) old new) c.limit_of.ensures c.block_answer.ensures)
-
-pub returns-in-Some-clause-names : goal.returns-in-Some-clause-names
-returns-in-Some-clause-names g c =
-    let old = g.S.Scorer.state c.args.scorer.now in
-    let new = g.S.Scorer.state c.block_answer.new.scorer in
-    named-any c.args.catalog.now c.args.query.now (all_rows c.args.catalog.now c.args.query.now) (answer_of old.answer c.args.catalog.now c.args.query.now (all_rows c.args.catalog.now c.args.query.now))
-    c.block_answer.result old new c.requires
-    (subst (λ evaluation. Inquires Memory evaluation (as_list c.block_answer.result) old new)
-    (sym (evaluation-one old.answer c.args.catalog.now c.args.query.now c.in-Some.block.now (limit_of c.args.query.now) c.in-Some.ensures.0 c.in-Some.ensures.1))
-    (subst (λ limit. Inquires Memory (block_evaluation old.answer c.args.catalog.now c.in-Some.block.now limit) (as_list c.block_answer.result) old new) c.limit_of.ensures c.block_answer.ensures))
+    named-any c.args.catalog.now c.args.query.now view (answer_of old.answer c.args.catalog.now c.args.query.now view) c.answer_with_duplicates.result
+    old (g.S.Scorer.state c.answer_with_duplicates.new.scorer) c.requires c.answer_with_duplicates.ensures

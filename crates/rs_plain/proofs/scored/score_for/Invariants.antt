@@ -2,7 +2,7 @@ use Rattle.std.proofs.Common.{◌≡◌, ◌≤◌, ◌+◌, ◌*◌, map, take,
 use Rattle.rs_query.specs.Answers.{score_of}
 use Rattle.rs_query.specs.Questions.{question_of}
 use Rattle.rs_query.proofs.QuestionFacts.{AllAsked}
-use Rattle.rs_plain.proofs.rows.score_for.Given as goal
+use Rattle.rs_plain.proofs.scored.score_for.Given as goal
 
 -- the first terms were asked, and their worths times their weights are in the score
 abbrev pub invariant-loop-index : goal.invariant-loop-index

@@ -17,7 +17,7 @@ use Rattle.rs_query.proofs.ToldFacts.{Inquires-told}
 use Rattle.rs_value.proofs.ResultFacts.{given-err}
 use Rattle.rs_plain.proofs.RowFacts.{each-at, map-at, map-split, score-all, score-bound, score-more}
 use Rattle.rs_plain.specs.declared.fault.PlainFault.TheVariants.{Memory}
-use Rattle.rs_plain.proofs.rows.score_for.Goals as goal
+use Rattle.rs_plain.proofs.scored.score_for.Goals as goal
 
 pub ask-requires-clause-inside : goal.ask-requires-clause-inside
 ask-requires-clause-inside g c = λ t at.

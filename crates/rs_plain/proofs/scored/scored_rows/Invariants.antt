@@ -3,12 +3,12 @@ use Rattle.std.specs.List.{flat_map}
 use Rattle.rs_plain.specs.Keeping.{scored_for}
 use Rattle.rs_plain.specs.Plain.{row_questions}
 use Rattle.rs_query.proofs.QuestionFacts.{AllAsked}
-use Rattle.rs_plain.proofs.rows.scored_rows.Given as goal
+use Rattle.rs_plain.proofs.scored.scored_rows.Given as goal
 
 -- the first combinations were asked for, and have their scores
 abbrev pub invariant-loop-rows : goal.invariant-loop-rows
 invariant-loop-rows g l = record {
   asked : AllAsked (g.S.Scorer.state l.fn.scorer).answer l.catalog (flat_map (row_questions l.number l.block) (take l.rows-index l.combinations))
       (g.S.Scorer.state l.fn.scorer) (g.S.Scorer.state l.scorer);
-  rows : l.scored.items ≡ map (scored_for (g.S.Scorer.state l.fn.scorer).answer l.catalog l.block) (take l.rows-index l.combinations);
+  rows : l.scored.items ≡ map (scored_for (g.S.Scorer.state l.fn.scorer).answer l.catalog l.number l.block) (take l.rows-index l.combinations);
 }

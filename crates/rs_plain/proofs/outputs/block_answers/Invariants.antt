@@ -1,0 +1,7 @@
+-- The rows so far are those of the first combinations.
+use Rattle.std.proofs.Common.{◌≡◌, map, take}
+use Rattle.rs_plain.specs.Keeping.{answer_for}
+use Rattle.rs_plain.proofs.outputs.block_answers.Given as goal
+
+abbrev pub invariant-loop-row : goal.invariant-loop-row
+invariant-loop-row l = l.answers.items ≡ map (answer_for l.catalog l.block) (take l.row-index l.scored)
