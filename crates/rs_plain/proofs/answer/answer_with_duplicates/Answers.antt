@@ -5,7 +5,7 @@ use Rattle.rs_rank.specs.Stable.{stable}
 use Rattle.rs_rank.specs.declared.answer.Answer.{Answer}
 use Rattle.rs_rank.specs.declared.row.RankRow.{RankRow}
 use Rattle.rs_expr.specs.Scoring.{Answering}
-use Rattle.rs_query.specs.Answers.{cut, limit_of}
+use Rattle.rs_query.specs.Answers.{cut}
 use Rattle.rs_query.specs.Views.{all_rows}
 use Rattle.rs_query.proofs.QuestionFacts.{AllAsked-none, Ended-behind, Failed-behind, Gave-ok, Stopped-behind}
 use Rattle.rs_plain.specs.Keeping.{IsWholeIn, answer_in, scored_query}
