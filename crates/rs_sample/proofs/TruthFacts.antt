@@ -100,10 +100,11 @@ list_all-more p [] i x within is holds one = absurd (omega arith)
 list_all-more p (y ∷ xs) zero x within is holds one = ap (λ b. b && true) (ap p (sym is) ∙ one)
 list_all-more p (y ∷ xs) (suc i) x within is holds one =
     ap (λ n. list_all p (take n (y ∷ xs))) (let same : suc i + 1 ≡ suc (i + 1) = omega arith in same)
-    ∙ go (p y) refl holds where
-      go : (b : Bool) → p y ≡ b → (b && list_all p (take i xs)) ≡ true → (p y && list_all p (take (i + 1) xs)) ≡ true
-      go true e rest = ap (λ b. b && list_all p (take (i + 1) xs)) e ∙ list_all-more p xs i x (omega arith) is rest one
-      go false e rest = absurd (let no : false ≡ true = rest in cc)
+    ∙ go (p y) refl holds (λ rest. list_all-more p xs i x (omega arith) is rest one) where
+      go : (b : Bool) → p y ≡ b → (b && list_all p (take i xs)) ≡ true → (list_all p (take i xs) ≡ true → list_all p (take (i + 1) xs) ≡ true)
+          → (p y && list_all p (take (i + 1) xs)) ≡ true
+      go true e rest more = ap (λ b. b && list_all p (take (i + 1) xs)) e ∙ more rest
+      go false e rest more = absurd (let both : false ≡ true = rest in cc)
 
 -- an item that fails it
 pub list_all-fails : {X : Type 0} (p : X → Bool) (xs : List X) (i : ℕ) (x : X) → i < length xs → x ≡ get_or xs i x → p x ≡ false → list_all p xs ≡ false

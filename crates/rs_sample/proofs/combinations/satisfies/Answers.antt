@@ -32,7 +32,7 @@ loop-place-preserved c = λ catalogue formed are h.
     let there : place < length truths = omega arith in
     let found : c.holds_if_inside.result ≡ holds_inside catalogue block c.args.mask c.args.rows.now conjunct =
     c.holds_if_inside.ensures
-    ∙ (λ i. cond (is_inside (c.entries.ensures i) c.args.mask) (get_or ((c.deref.ensures.value ∙ c.items-in-loop-place.ensures) i)
+    ∙ (λ i. cond (is_inside (c.entries.ensures i) c.args.mask) (get_or ((c.deref.ensures.value ∙ c.items-truths.ensures) i)
     (choice_place (c.entries.ensures i) (c.requires.sampled i) (c.places_of-places.ensures.value i)) false) true)
     ∙ found-truth catalogue block samples truths c.args.mask place c.args.rows.now c.index-truths-place.result conjunct
     (each-at (IsConjunct catalogue block) conjuncts place conjunct formed.conjuncts within is) are
@@ -56,7 +56,7 @@ returns-then-not-holds_if_inside c = λ catalogue formed are h.
     let there : place < length truths = omega arith in
     let found : c.holds_if_inside.result ≡ holds_inside catalogue block c.args.mask c.args.rows.now conjunct =
     c.holds_if_inside.ensures
-    ∙ (λ i. cond (is_inside (c.entries.ensures i) c.args.mask) (get_or ((c.deref.ensures.value ∙ c.items-in-loop-place.ensures) i)
+    ∙ (λ i. cond (is_inside (c.entries.ensures i) c.args.mask) (get_or ((c.deref.ensures.value ∙ c.items-truths.ensures) i)
     (choice_place (c.entries.ensures i) (c.requires.sampled i) (c.places_of-places.ensures.value i)) false) true)
     ∙ found-truth catalogue block samples truths c.args.mask place c.args.rows.now c.index-truths-place.result conjunct
     (each-at (IsConjunct catalogue block) conjuncts place conjunct formed.conjuncts within is) are

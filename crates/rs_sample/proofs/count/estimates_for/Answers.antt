@@ -12,7 +12,7 @@ use Rattle.rs_query.specs.declared.term.Term.{Term}
 use Rattle.rs_sample.specs.Choosing.{sampled_choices}
 use Rattle.rs_sample.specs.Finding.{known_reaches}
 use Rattle.rs_sample.specs.Quotients.{most_expected, product_inside}
-use Rattle.rs_sample.proofs.FewFacts.{product-small, samples-small}
+use Rattle.rs_sample.proofs.FewFacts.{product-small, sampled-wide, samples-small}
 use Rattle.rs_sample.proofs.GridFacts.{each-within}
 use Rattle.rs_sample.proofs.ListFacts.{get_or-other, map-with}
 use Rattle.rs_sample.proofs.MemberFacts.{length-choices}
@@ -38,6 +38,11 @@ count_each-requires-clause-limits c =
 pub count_each-requires-clause-few_rows : goal.count_each-requires-clause-few_rows
 count_each-requires-clause-few_rows c =
     samples-small (length c.args.block.now.from) c.args.sizes.now c.args.samples.now c.requires.block.1.some_entries c.requires.block.1.most_entries c.requires.samples
+
+pub expected_count-requires-clause-sampled : goal.expected_count-requires-clause-sampled
+expected_count-requires-clause-sampled c =
+    subst (AllByRecursion (λ size. size ≤ 131072)) (sym c.requires.sampled)
+    (sampled-wide (length c.args.block.now.from) c.args.sizes.now c.args.samples.now c.requires.block.1.some_entries c.requires.block.1.most_entries c.requires.samples)
 
 pub expected_count-requires-clause-few : goal.expected_count-requires-clause-few
 expected_count-requires-clause-few c =

@@ -5,8 +5,13 @@ use Rattle.std.proofs.lemmas.List.{length-append}
 use Rattle.rs_order.proofs.EachFacts.{each-push}
 use Rattle.rs_sample.specs.Finding.{known_estimate}
 use Rattle.rs_sample.specs.Quotients.{most_expected, number_at}
+use Rattle.rs_sample.proofs.FewFacts.{samples-small}
 use Rattle.rs_sample.proofs.GridFacts.{grid-before, grid-last, limits-push}
 use Rattle.rs_sample.proofs.sample.all_estimates.Goals as goal
+
+pub sample_sizes-sampled-requires-clause-few : goal.sample_sizes-sampled-requires-clause-few
+sample_sizes-sampled-requires-clause-few c =
+    samples-small (length c.args.block.now.from) c.args.sizes.now c.args.samples.now c.requires.block.1.some_entries c.requires.block.1.most_entries c.requires.samples
 
 pub loop-mask-preserved : goal.loop-mask-preserved
 loop-mask-preserved c =

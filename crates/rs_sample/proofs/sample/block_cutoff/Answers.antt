@@ -15,12 +15,21 @@ use Rattle.rs_sample.specs.Choosing.{sampled_choices}
 use Rattle.rs_sample.specs.Estimates.{cutoff_of, cutoff_place, nth_greatest, planned_rows, sampled_combinations}
 use Rattle.rs_sample.specs.Quotients.{product_inside}
 use Rattle.rs_sample.specs.Samples.{most_sampled}
-use Rattle.rs_sample.proofs.FewFacts.{product-less, samples-small}
+use Rattle.rs_sample.proofs.FewFacts.{product-less, sampled-wide, samples-small}
 use Rattle.rs_sample.proofs.sample.block_cutoff.Goals as goal
 
 pub combinations-requires-clause-few : goal.combinations-requires-clause-few
 combinations-requires-clause-few c =
     samples-small (length c.args.block.now.from) c.args.sizes.now c.args.samples.now c.requires.block.1.some_entries c.requires.block.1.most_entries c.requires.samples
+
+pub sample_sizes-sampled-requires-clause-few : goal.sample_sizes-sampled-requires-clause-few
+sample_sizes-sampled-requires-clause-few c =
+    samples-small (length c.args.block.now.from) c.args.sizes.now c.args.samples.now c.requires.block.1.some_entries c.requires.block.1.most_entries c.requires.samples
+
+pub cutoff_place-place-requires-clause-sampled : goal.cutoff_place-place-requires-clause-sampled
+cutoff_place-place-requires-clause-sampled c =
+    subst (AllByRecursion (λ size. size ≤ 131072)) (sym c.sample_sizes-sampled.ensures)
+    (sampled-wide (length c.args.block.now.from) c.args.sizes.now c.args.samples.now c.requires.block.1.some_entries c.requires.block.1.most_entries c.requires.samples)
 
 pub cutoff_place-place-requires-clause-none : goal.cutoff_place-place-requires-clause-none
 cutoff_place-place-requires-clause-none c = λ none.
