@@ -16,7 +16,7 @@ use Rattle.rs_plan.specs.Trees.{Distinct, Hash, JoinKind, JoinOperator, Nested, 
 use Rattle.rs_enum.specs.declared.candidate.Candidate.{Candidate}
 use Rattle.rs_enum.specs.declared.candidate.Choice.{Choice}
 use Rattle.rs_enum.specs.declared.candidate.Choice.TheVariants as choice
-use Rattle.rs_enum.specs.Made.{AreBuilt, AreSidesBuilt, IsBuilt, IsBuiltOf, IsRankBuilt, kept_plans, made_of, next_plan}
+use Rattle.rs_enum.specs.Made.{AreBuilt, AreSidesBuilt, IsBuilt, IsBuiltOf, kept_plans, made_of, next_plan}
 use Rattle.rs_enum.specs.Places.{CanBeMade, IsTheFirst, Placed, candidate_at, choice_of, kept_at, tree_at}
 use Rattle.rs_enum.specs.Tops.{IsMadeTop, distinct_base, plan_of}
 use Rattle.rs_enum.specs.Within.{terms_within}
@@ -71,7 +71,7 @@ module _ (terms : List Term) (places : List (Option Placed)) (x : Option Placed)
 module _ (terms : List Term) (candidates : List (Option Candidate)) (found : Option Candidate) (first second : ℕ)
     (small : second < 2 ^ length terms) (here : length candidates ≡ first * 2 ^ length terms + second) (are : AreBuilt terms candidates)
     (new : (f : Candidate) → found ≡ Some f
-      → IsBuiltOf terms (kept_plans terms candidates) first second f.choice (made_of terms (kept_plans terms candidates) first second f.choice)) where
+    → IsBuiltOf terms (kept_plans terms candidates) first second f.choice (made_of terms (kept_plans terms candidates) first second f.choice)) where
   built-before : (s p : ℕ) (f : Candidate) → IsBuilt terms (kept_plans terms candidates) s p f.choice
       → IsBuilt terms (kept_plans terms (candidates ++ found ∷ [])) s p f.choice
   built-before s p f is =

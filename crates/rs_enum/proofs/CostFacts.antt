@@ -22,7 +22,7 @@ use Rattle.rs_sample.specs.Cards.{AreRead, BlockCards, IsEstimated, IsIndexed}
 use Rattle.rs_query.specs.Blocks.{block_in}
 use Rattle.rs_plan.specs.Numbers.{HasNumbers}
 use Rattle.rs_plan.specs.Plans.{IsEntryNumber, IsPart, IsPlan, IsSetPlan, IsTermOf}
-use Rattle.rs_plan.specs.Trees.{Distinct, Hash, JoinOperator, Nested, PlanTree, Rank, RankScan, SeqScan, SetOperator, entries, terms}
+use Rattle.rs_plan.specs.Trees.{Distinct, JoinOperator, PlanTree, Rank, RankScan, SeqScan, SetOperator, entries, terms}
 use Rattle.rs_plan.proofs.DecidingFacts.{part-numbers}
 use Rattle.rs_enum.specs.Bounds.{IsNumberedTerm, IsSetPart, has_set_operator, most_cost, most_set_cost}
 use Rattle.rs_enum.specs.Costs.{estimate_of, estimate_under}

@@ -1,7 +1,6 @@
 -- Of each signature one plan is kept that comes no later than all plans made of kept ones. Then it comes no later than any.
-use Rattle.std.proofs.Common.{◌≡◌, ℕ, ◌-◌, ◌^◌, ◌<◌, false, true, List, length, refl, sym, ◌∙◌, ap, subst₂, arith, bit_and, bit_or}
+use Rattle.std.proofs.Common.{◌≡◌, ℕ, ◌^◌, ◌<◌, false, true, List, length, refl, sym, ◌∙◌, ap, subst₂, bit_and, bit_or}
 use Rattle.std.specs.Prelude.{Option, Some}
-use Rattle.std.proofs.lemmas.Nat.{pow_pos}
 use Rattle.rs_catalog.specs.Catalog.{CatalogDef}
 use Rattle.rs_rank.specs.Masks.{AreDisjoint, has_number, mask_of}
 use Rattle.rs_query.specs.Meaning.{is_inside}

@@ -1,5 +1,5 @@
 -- What is found of a block: of each signature first, and then of all entries with duplicates dropped, one mask of terms after another.
-use Rattle.std.proofs.Common.{◌≡◌, ◌∙◌, ℕ, ◌+◌, ◌-◌, ◌*◌, ◌/◌, ◌%◌, ◌^◌, ◌<◌, ◌≤◌, false, true, List, [], ◌∷◌, ◌++◌, length, refl, sym, ap, subst, arith}
+use Rattle.std.proofs.Common.{◌≡◌, ◌∙◌, ℕ, ◌+◌, ◌*◌, ◌/◌, ◌%◌, ◌^◌, ◌<◌, ◌≤◌, false, true, List, [], ◌∷◌, ◌++◌, length, refl, sym, ap, subst, arith}
 use Rattle.std.specs.Prelude.{Option, Some, None, option_and_then, option_map, slice_get, if◌then◌else◌}
 use Rattle.std.proofs.lemmas.List.{length-append}
 use Rattle.std.proofs.lemmas.Nat.{div-add-mod', mod_below, mul-add-lt, pow_pos, same_from_place}
@@ -10,7 +10,6 @@ use Rattle.rs_query.specs.Tables.{all_entries}
 use Rattle.rs_query.specs.declared.block.Block.{Block}
 use Rattle.rs_query.specs.declared.term.Term.{Term}
 use Rattle.rs_sample.specs.Kept.{cards_of}
-use Rattle.rs_plan.specs.Trees.{PlanTree}
 use Rattle.rs_enum.specs.declared.candidate.Candidate.{Candidate}
 use Rattle.rs_enum.specs.declared.extent.Extent.{Extent}
 use Rattle.rs_enum.specs.declared.extent.Extent.TheVariants as whole
@@ -20,9 +19,8 @@ use Rattle.rs_enum.specs.Given.{AreFound, AreTopsIn, AreTopsOf, CanPlan, IsFille
 use Rattle.rs_enum.specs.LeastCosts.{HasBlock, HasCost}
 use Rattle.rs_enum.specs.Made.{AreBuilt, IsBuiltOf, kept_plans, made_of, next_plan}
 use Rattle.rs_enum.specs.Places.{Placed, candidate_at, kept_at}
-use Rattle.rs_enum.specs.Tops.{AreLower, FitsLower, FitsWhole, IsFirstTop, IsLower, IsMadeTop, IsTheFirstTop, IsTheTop, IsWhole, distinct_base, number_of, whole_cost}
+use Rattle.rs_enum.specs.Tops.{AreLower, FitsLower, FitsWhole, IsLower, IsMadeTop, IsTheFirstTop, IsTheTop, IsWhole, distinct_base, number_of, whole_cost}
 use Rattle.rs_enum.specs.Costs.{cost_in}
-use Rattle.rs_enum.specs.QueryCards.{alone}
 use Rattle.rs_enum.proofs.BuildFacts.{built-more, row-built}
 use Rattle.rs_enum.proofs.LowerFacts.{least-cost, lower-row, lower-tops}
 use Rattle.rs_enum.proofs.MadeFacts.{costs-same, found_cost, kept-length, kept-more, kept_cost}
@@ -154,9 +152,9 @@ module _ (planning : Planning) (can : CanPlan planning) (number : ℕ) where
   module _ (places : List (Option Candidate)) (count : ℕ) (is : IsRowFilled planning number places count) (within : count < 2 ^ length (block_at planning number).terms)
       (wanted : (block_at planning number).distinct ≡ true) (found : Option Candidate)
       (first : IsTheFirstTop planning.catalog.now planning.query.now (cards_of planning.cards.now) (whole.Block number)
-        (distinct_base planning.query.now (cards_of planning.cards.now) number count
-        (kept_of planning number places (all_entries (block_at planning number)) count))
-        (kept_of planning number places (2 ^ length (block_at planning number).from)) count 10 found) where
+      (distinct_base planning.query.now (cards_of planning.cards.now) number count
+      (kept_of planning number places (all_entries (block_at planning number)) count))
+      (kept_of planning number places (2 ^ length (block_at planning number).from)) count 10 found) where
     row-place : (e : ℕ) → e < count → 2 ^ length (block_at planning number).from * 2 ^ length (block_at planning number).terms + e < length places
     row-place e less = let counted = is.counted in omega arith
 

@@ -1,14 +1,10 @@
 -- What a grid says of each signature, and that the plan of all terms is the least one.
-use Rattle.std.proofs.Common.{◌≡◌, ◌≢◌, ◌∙◌, inl, inr, ℕ, ◌+◌, ◌*◌, ◌^◌, ◌<◌, ◌≤◌, ◌==◌, Bool, false, true, nat_lt, List, [], length, refl, sym, ap, subst, arith}
-use Rattle.std.specs.Prelude.{IfOk, Option, Some, None, Result, Ok, Err, option_map, if◌then◌else◌}
+use Rattle.std.proofs.Common.{◌≡◌, inl, inr, ℕ, ◌^◌, ◌<◌, ◌≤◌, ◌==◌, Bool, false, true, nat_lt, List, [], length, refl, sym, ap, subst, arith}
+use Rattle.std.specs.Prelude.{IfOk, Option, None, Result, Ok, Err, if◌then◌else◌}
 use Rattle.std.proofs.lemmas.Bool.{eqb-false, eqb-true, ltb-false, ltb-true}
-use Rattle.std.proofs.lemmas.Option.{same_Some}
-use Rattle.rs_query.specs.Answers.{all_terms}
-use Rattle.rs_query.specs.Blocks.{block_in}
 use Rattle.rs_query.specs.declared.query.Query.{Query}
 use Rattle.rs_query.specs.declared.query.Query.TheVariants.{One, Set}
 use Rattle.rs_sample.specs.Kept.{cards_of}
-use Rattle.rs_plan.specs.Trees.{PlanTree, entries, terms}
 use Rattle.rs_enum.specs.declared.block_grid.BlockGrid.{BlockGrid}
 use Rattle.rs_enum.specs.declared.candidate.Candidate.{Candidate}
 use Rattle.rs_enum.specs.declared.extent.Extent.{Extent}
@@ -17,8 +13,8 @@ use Rattle.rs_enum.specs.declared.grid.Grid.{Grid}
 use Rattle.rs_enum.specs.declared.planning.Planning.{Planning}
 use Rattle.rs_enum.specs.Given.{AreFound, AreSetFound, AreTopsOf, CanPlan, block_at, complete_of}
 use Rattle.rs_enum.specs.Grids.{IsGridOf, IsSearched, IsSearchedFor, cost_at, cost_within}
-use Rattle.rs_enum.specs.LeastCosts.{HasBlock, HasCost, IsOfBlock}
-use Rattle.rs_enum.specs.Places.{Placed, candidate_at}
+use Rattle.rs_enum.specs.LeastCosts.{HasBlock, HasCost}
+use Rattle.rs_enum.specs.Places.{candidate_at}
 use Rattle.rs_enum.specs.Tops.{extent_of}
 use Rattle.rs_enum.proofs.MadeFacts.{found_cost}
 use Rattle.rs_enum.proofs.SidesFacts.{KeepsLeast, keeps-least}

@@ -1,5 +1,5 @@
 -- What is kept of all entries of a block, as it stands or with duplicates dropped, and the least costs of its signatures.
-use Rattle.std.proofs.Common.{◌≡◌, ◌∙◌, ℕ, ◌+◌, ◌*◌, ◌^◌, ◌<◌, ◌≤◌, false, true, List, length, refl, sym, ap, subst, subst₂, arith}
+use Rattle.std.proofs.Common.{◌≡◌, ◌∙◌, ℕ, ◌+◌, ◌*◌, ◌^◌, ◌<◌, ◌≤◌, false, true, List, length, refl, sym, ap, subst, arith}
 use Rattle.std.specs.Prelude.{Option, Some, None, option_map}
 use Rattle.std.proofs.lemmas.Option.{none-some, same_Some}
 use Rattle.rs_catalog.specs.Catalog.{CatalogDef}
@@ -12,10 +12,10 @@ use Rattle.rs_plan.specs.Plans.{HasNoDistinct, IsPart}
 use Rattle.rs_plan.specs.Trees.{Distinct, PlanTree, Rank, code, entries, terms}
 use Rattle.rs_enum.specs.declared.extent.Extent.TheVariants as extent
 use Rattle.rs_enum.specs.Costs.{cost_in, cost_of, estimate_of}
-use Rattle.rs_enum.specs.LeastCosts.{HasBlock, HasCost, IsLeastCost, IsOfBlock}
+use Rattle.rs_enum.specs.LeastCosts.{HasBlock, HasCost, IsOfBlock}
 use Rattle.rs_enum.specs.Places.{IsFilled, Placed, kept_at, tree_at}
 use Rattle.rs_enum.specs.QueryCards.{alone, alone_cards, cards_at}
-use Rattle.rs_enum.specs.Tops.{AreLower, AreTops, IsBase, IsLower, IsTheBase, KeepsTop, NoLaterBy, distinct_base, root_term, whole_rows}
+use Rattle.rs_enum.specs.Tops.{AreLower, AreTops, IsBase, IsLower, IsTheBase, NoLaterBy, distinct_base, root_term, whole_rows}
 use Rattle.rs_enum.proofs.AloneFacts.{cost-alone}
 use Rattle.rs_enum.proofs.CostFacts.{block-formed, numbered}
 use Rattle.rs_enum.proofs.CoveringFacts.{Covers, covers-all, keeps-duplicates}

@@ -8,14 +8,13 @@ use Rattle.rs_catalog.specs.Catalog.{CatalogDef}
 use Rattle.rs_query.specs.WellFormed.{IsBlock}
 use Rattle.rs_query.specs.declared.query.Query.{Query}
 use Rattle.rs_query.specs.declared.term.Term.{Term}
-use Rattle.rs_sample.specs.Cards.{BlockCards}
 use Rattle.rs_query.specs.Blocks.{block_in}
 use Rattle.rs_plan.specs.Trees.{Distinct, Hash, JoinKind, JoinOperator, Nested, PlanTree, Rank, RankScan, SeqScan, SetOperator, entries, terms}
 use Rattle.rs_enum.specs.declared.candidate.Candidate.{Candidate}
 use Rattle.rs_enum.specs.declared.candidate.Choice.{Choice}
 use Rattle.rs_enum.specs.declared.candidate.Choice.TheVariants as choice
 use Rattle.rs_enum.specs.Made.{kept_plans, made_of, next_plan, plan_at, plans_from}
-use Rattle.rs_enum.specs.Places.{CanBeMade, IsMadeOf, IsTheFirst, Placed, candidate_at, choice_of, kept_at, tree_at}
+use Rattle.rs_enum.specs.Places.{CanBeMade, IsMadeOf, Placed, candidate_at, choice_of, kept_at, tree_at}
 use Rattle.rs_enum.specs.Within.{terms_within}
 use Rattle.rs_enum.proofs.BitFacts.{left-of-union, left-without, number-apart}
 use Rattle.rs_enum.proofs.WithinFacts.{left-terms, right-terms}

@@ -1,6 +1,6 @@
 -- What is found of the set operator of both blocks, one mask of terms after another.
-use Rattle.std.proofs.Common.{◌≡◌, ◌∙◌, ◌⊎◌, inl, inr, ℕ, ◌+◌, ◌*◌, ◌^◌, ◌<◌, ◌≤◌, ◌==◌, Bool, false, true, List, [], ◌∷◌, ◌++◌, length, refl, sym, ap, subst, arith, bit_xor}
-use Rattle.std.specs.Prelude.{IsSome, Option, Some, None, option_and_then, option_map, slice_get, if◌then◌else◌}
+use Rattle.std.proofs.Common.{◌≡◌, ◌∙◌, inl, inr, ℕ, ◌+◌, ◌*◌, ◌^◌, ◌<◌, ◌≤◌, ◌==◌, Bool, false, true, List, [], ◌∷◌, ◌++◌, length, refl, sym, ap, subst, arith, bit_xor}
+use Rattle.std.specs.Prelude.{IsSome, Option, Some, None, option_and_then, slice_get, if◌then◌else◌}
 use Rattle.std.proofs.lemmas.Bool.{eq-eqb, eqb-true}
 use Rattle.std.proofs.lemmas.Option.{none-some, same_Some}
 use Rattle.rs_rank.specs.Masks.{mask_of}
@@ -8,7 +8,7 @@ use Rattle.rs_query.specs.Blocks.{block_in}
 use Rattle.rs_query.specs.declared.query.Query.{Query}
 use Rattle.rs_sample.specs.Cards.{BlockCards}
 use Rattle.rs_sample.specs.Kept.{cards_of}
-use Rattle.rs_plan.specs.Trees.{Rank, SetOperator, PlanTree}
+use Rattle.rs_plan.specs.Trees.{SetOperator, PlanTree}
 use Rattle.rs_enum.specs.declared.candidate.Candidate.{Candidate}
 use Rattle.rs_enum.specs.declared.candidate.Choice.{Choice}
 use Rattle.rs_enum.specs.declared.candidate.Choice.TheVariants as choice
@@ -18,7 +18,7 @@ use Rattle.rs_enum.specs.declared.row.Row.{Row}
 use Rattle.rs_enum.specs.declared.planning.Planning.{Planning}
 use Rattle.rs_enum.specs.Given.{AreSetFound, AreTopsIn, AreTopsOf, CanPlan, IsSetBuilt, IsSetBuiltOf, block_at, complete_of}
 use Rattle.rs_enum.specs.Places.{Placed, candidate_at}
-use Rattle.rs_enum.specs.Tops.{FitsWhole, IsExtent, IsMadeTop, IsTheFirstTop, IsTheTop, IsWhole, number_of, plan_of, set_base, whole_cost}
+use Rattle.rs_enum.specs.Tops.{FitsWhole, IsMadeTop, IsTheFirstTop, IsTheTop, IsWhole, number_of, plan_of, set_base, whole_cost}
 use Rattle.rs_enum.proofs.FoundFacts.{candidate-front}
 use Rattle.rs_enum.proofs.MadeFacts.{found_cost, kept_cost, unmapped}
 use Rattle.rs_enum.proofs.PlaceFacts.{last-item}
@@ -86,8 +86,8 @@ module _ (planning : Planning) (can : CanPlan planning) (left right : List (Opti
   module _ (both : List (Option Candidate)) (count : ℕ) (is : AreSetFound planning left right both count) (counted : length both ≡ count)
       (found : Option Candidate)
       (first : IsTheFirstTop planning.catalog.now planning.query.now (cards_of planning.cards.now) whole.Both
-        (set_base planning.query.now (cards_of planning.cards.now) count (complete_of planning 1 left count) (complete_of planning 2 right count))
-        is.view count 10 found) where
+      (set_base planning.query.now (cards_of planning.cards.now) count (complete_of planning 1 left count) (complete_of planning 2 right count))
+      is.view count 10 found) where
     -- what is kept of the mask
     record IsNew (new : Option Placed) : Type 0 where
       top : IsTheTop planning.catalog.now planning.query.now (cards_of planning.cards.now) whole.Both count new
@@ -200,12 +200,12 @@ module _ (planning : Planning) (left right both : List (Option Candidate)) (coun
 -- a plan without an operator for a term at the root is made of those of both blocks
 pub base-parts : (left right tops : ℕ → Option Placed) (evaluated : ℕ) (chosen : Choice) (plan : PlanTree) → ((t : ℕ) → chosen ≡ choice.Rank t → ⊥)
     → IsSetBuiltOf left right tops evaluated chosen plan → IsSetBuiltOf left right tops evaluated choice.Base plan
-base-parts left right tops evaluated (choice.Rank t) plan no is = absurd (no t refl)
-base-parts left right tops evaluated choice.Base plan no is = is
-base-parts left right tops evaluated (choice.SeqScan e) plan no is = is
-base-parts left right tops evaluated (choice.RankScan e t i) plan no is = is
-base-parts left right tops evaluated (choice.HashJoin n) plan no is = is
-base-parts left right tops evaluated (choice.NestedJoin n) plan no is = is
+base-parts left right tops evaluated (choice.Rank t) plan not_rank is = absurd (not_rank t refl)
+base-parts left right tops evaluated choice.Base plan not_rank is = is
+base-parts left right tops evaluated (choice.SeqScan e) plan not_rank is = is
+base-parts left right tops evaluated (choice.RankScan e t i) plan not_rank is = is
+base-parts left right tops evaluated (choice.HashJoin n) plan not_rank is = is
+base-parts left right tops evaluated (choice.NestedJoin n) plan not_rank is = is
 
 -- a plan is kept there
 pub plan-there : (kept : Option Placed) (tree : PlanTree) → plan_of kept ≡ Some tree → IsSome kept

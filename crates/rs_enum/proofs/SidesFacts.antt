@@ -1,8 +1,8 @@
 -- What is kept of the set operator of both blocks, and that the last of all that is kept is the least plan.
-use Rattle.std.proofs.Common.{◌≡◌, ◌∙◌, ℕ, ◌+◌, ◌-◌, ◌^◌, ◌<◌, ◌≤◌, List, ◌++◌, length, refl, sym, ap, subst, subst₂, arith}
-use Rattle.std.specs.Prelude.{Option, Some, None, slice_get}
+use Rattle.std.proofs.Common.{◌≡◌, ◌∙◌, ℕ, ◌+◌, ◌^◌, ◌<◌, ◌≤◌, List, ◌++◌, length, refl, sym, ap, subst, arith}
+use Rattle.std.specs.Prelude.{Option, Some, None}
 use Rattle.std.proofs.lemmas.Nat.{pow_pos}
-use Rattle.std.proofs.lemmas.Option.{none-some, same_Some, option_and_then_some}
+use Rattle.std.proofs.lemmas.Option.{none-some, same_Some}
 use Rattle.rs_value.specs.declared.set_op.SetOp.{SetOp}
 use Rattle.rs_catalog.specs.Catalog.{CatalogDef}
 use Rattle.rs_query.specs.Answers.{all_terms}
@@ -14,7 +14,7 @@ use Rattle.rs_query.specs.declared.query.Query.TheVariants.{One, Set}
 use Rattle.rs_sample.specs.Cards.{BlockCards}
 use Rattle.rs_query.specs.Blocks.{block_in}
 use Rattle.rs_plan.specs.Plans.{IsComplete, IsPlan}
-use Rattle.rs_plan.specs.Trees.{Distinct, Hash, JoinOperator, Nested, PlanTree, Rank, RankScan, SeqScan, SetOperator, code, terms}
+use Rattle.rs_plan.specs.Trees.{Distinct, JoinOperator, PlanTree, Rank, RankScan, SeqScan, SetOperator, code, terms}
 use Rattle.rs_enum.specs.declared.extent.Extent.TheVariants as extent
 use Rattle.rs_enum.specs.Costs.{cost_in, estimate_of}
 use Rattle.rs_enum.specs.Least.{IsLeast}
@@ -172,7 +172,7 @@ pub sides-base : (catalogue : CatalogDef) (query : Query) → IsQuery catalogue 
     → (count : ℕ) (lefts rights : ℕ → Option Placed) → AreTops catalogue query cards (extent.Block 1) count lefts
     → AreTops catalogue query cards (extent.Block 2) count rights → (e : ℕ) → e < count
     → ((k m : Placed) → lefts e ≡ Some k → rights e ≡ Some m
-      → (whole_rows query cards (extent.Block 1) e ≤ 2 ^ 102) × (whole_rows query cards (extent.Block 2) e ≤ 2 ^ 102))
+    → (whole_rows query cards (extent.Block 1) e ≤ 2 ^ 102) × (whole_rows query cards (extent.Block 2) e ≤ 2 ^ 102))
     → IsTheBase catalogue query cards extent.Both e (set_base query cards e (lefts e) (rights e))
 sides-base catalogue (One block limit) q cards both count lefts rights are_left are_right e within few = absurd both
 sides-base catalogue (Set op l r limit) q cards both count lefts rights are_left are_right e within few =

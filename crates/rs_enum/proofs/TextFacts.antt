@@ -10,9 +10,9 @@ use Rattle.rs_query.specs.declared.block.Block.{Block}
 use Rattle.rs_query.specs.declared.query.Query.{Query}
 use Rattle.rs_query.specs.declared.query.Query.TheVariants.{One, Set}
 use Rattle.rs_plan.specs.Plans.{HasNoDistinct, IsPart, IsPlan, IsSetPlan}
-use Rattle.rs_plan.specs.Trees.{Distinct, Hash, JoinOperator, Nested, PlanTree, Rank, RankScan, SeqScan, SetOperator, entries, terms}
+use Rattle.rs_plan.specs.Trees.{Distinct, JoinOperator, PlanTree, Rank, RankScan, SeqScan, SetOperator, entries, terms}
 use Rattle.rs_enum.specs.Bounds.{IsSetPart}
-use Rattle.rs_enum.specs.Texts.{HasEntry, alias_of, nodes_of, table_of}
+use Rattle.rs_enum.specs.Texts.{alias_of, nodes_of, table_of}
 use Rattle.rs_enum.proofs.BitFacts.{ones-mask, ones-or}
 use Rattle.rs_enum.proofs.BoundFacts.{ones-rank}
 use Rattle.rs_enum.proofs.CostFacts.{entries-small, part-has-numbers, set-has-numbers, set-terms-below, terms-small}

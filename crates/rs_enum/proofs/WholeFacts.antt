@@ -4,7 +4,7 @@ use Rattle.std.specs.Cmp.{IsTotalOrder, nat_cmp_is}
 use Rattle.std.specs.Ordering.{is_gt, nat_cmp, on, ordering_then, then_cmp}
 use Rattle.std.specs.declared.cmp.Ordering.{Ordering}
 use Rattle.std.specs.declared.cmp.Ordering.TheVariants.{Less, Equal, Greater}
-use Rattle.std.proofs.lemmas.Cmp.{nat_cmp_total, on_total, ranked, then_total, tied_itself, upto}
+use Rattle.std.proofs.lemmas.Cmp.{nat_cmp_total, on_total, ranked, then_total, upto}
 use Rattle.std.proofs.Math.Nat.{pow-le-pow_right}
 use Rattle.rs_rank.specs.Masks.{mask_of}
 use Rattle.rs_catalog.specs.Catalog.{CatalogDef}
@@ -15,15 +15,14 @@ use Rattle.rs_query.specs.declared.query.Query.TheVariants.{One, Set}
 use Rattle.rs_sample.specs.Cards.{BlockCards}
 use Rattle.rs_query.specs.Blocks.{block_in}
 use Rattle.rs_plan.specs.Plans.{IsRank}
-use Rattle.rs_plan.specs.Trees.{Distinct, Hash, JoinOperator, Nested, PlanTree, Rank, RankScan, SeqScan, SetOperator, code, code_cmp, entries, terms}
+use Rattle.rs_plan.specs.Trees.{Distinct, JoinOperator, PlanTree, Rank, RankScan, SeqScan, SetOperator, code, code_cmp, entries, terms}
 use Rattle.rs_enum.specs.declared.extent.Extent.{Extent}
 use Rattle.rs_enum.specs.declared.extent.Extent.TheVariants as extent
 use Rattle.rs_enum.specs.Costs.{estimate_of}
 use Rattle.rs_enum.specs.QueryCards.{AreCards, IsBlockNumber, cards_at}
 use Rattle.rs_enum.specs.Tops.{IsExtent, IsTopped, IsWhole, NoLaterBy, most_whole, number_of, root_term, rows_most, whole_rows}
 use Rattle.rs_enum.proofs.BoundFacts.{calls-most, most-fits, most-set-fits, ones-rank}
-use Rattle.rs_enum.proofs.CostFacts.{all-small, block-formed, numbered, part-has-numbers, same-terms, set-below-left, set-rank-most, set-rows, terms-small}
-use Rattle.rs_enum.proofs.WithinFacts.{terms-below}
+use Rattle.rs_enum.proofs.CostFacts.{all-small, block-formed, numbered, part-has-numbers, same-terms, set-rank-most, set-rows, terms-small}
 use Rattle.rs_enum.proofs.OrderOfPlans.{code-total, estimate-part}
 
 -- the order of trees by any cost, and then by their codes

@@ -17,7 +17,7 @@ use Rattle.rs_query.specs.WellFormed.{IsBlock, IsTerm, argument_columns, entries
 use Rattle.rs_query.specs.declared.block.Block.{Block}
 use Rattle.rs_query.specs.declared.term.Term.{Term}
 use Rattle.rs_plan.specs.Plans.{IsEntryNumber, IsPart}
-use Rattle.rs_plan.specs.Trees.{Distinct, Hash, JoinOperator, Nested, PlanTree, Rank, RankScan, SeqScan, SetOperator, entries, terms}
+use Rattle.rs_plan.specs.Trees.{Distinct, JoinOperator, PlanTree, Rank, RankScan, SeqScan, SetOperator, entries, terms}
 use Rattle.rs_enum.specs.Within.{terms_within}
 use Rattle.rs_enum.proofs.BitFacts.{inside-bit, inside-inside, inside-union-left, inside-union-right, kept-of-union, number-inside, part-apart-from, parts-apart, union-inside, apart-back}
 

@@ -3,7 +3,7 @@ use Rattle.std.specs.Prelude.{ℕ, ◌≡◌, Option, Some}
 use Rattle.rs_catalog.specs.Catalog.{CatalogDef}
 use Rattle.rs_query.specs.declared.block.Block.{Block}
 use Rattle.rs_plan.specs.Plans.{HasNoDistinct, IsPart}
-use Rattle.rs_plan.specs.Trees.{Distinct, Hash, JoinOperator, Nested, PlanTree, Rank, RankScan, SeqScan, SetOperator, entries, terms}
+use Rattle.rs_plan.specs.Trees.{Distinct, JoinOperator, PlanTree, Rank, RankScan, SeqScan, SetOperator, entries, terms}
 
 -- the children of a plan are those that are kept of their entries and terms
 abbrev pub HasKeptChildren : (ℕ → ℕ → Option PlanTree) → PlanTree → Type 0

@@ -1,10 +1,9 @@
 -- What the functions of the optimiser are given, and what they find.
-use Rattle.std.specs.Prelude.{ℕ, ◌≡◌, ◌<◌, ◌^◌, List, length, Option, Some, None, option_map, if◌then◌else◌}
+use Rattle.std.specs.Prelude.{ℕ, ◌≡◌, ◌<◌, ◌^◌, List, length, Option, Some, option_map, if◌then◌else◌}
 use Rattle.rs_query.specs.Tables.{all_entries}
 use Rattle.rs_query.specs.WellFormed.{IsQuery}
 use Rattle.rs_query.specs.declared.block.Block.{Block}
 use Rattle.rs_query.specs.declared.query.Query.{Query}
-use Rattle.rs_query.specs.declared.term.Term.{Term}
 use Rattle.rs_sample.specs.Cards.{BlockCards}
 use Rattle.rs_sample.specs.Kept.{cards_of}
 use Rattle.rs_query.specs.Blocks.{block_in}

@@ -13,8 +13,8 @@ use Rattle.rs_enum.specs.Places.{candidate_at}
 abbrev pub cost_within : BlockGrid → ℕ → ℕ → Option ℕ
 cost_within grid first second =
     (if nat_lt first (2 ^ grid.entries) then
-      (if nat_lt second (2 ^ grid.terms) then option_map (λ (found : Candidate). found.cost) (candidate_at grid.terms grid.places.items first second) else None)
-      else None)
+    (if nat_lt second (2 ^ grid.terms) then option_map (λ (found : Candidate). found.cost) (candidate_at grid.terms grid.places.items first second) else None)
+    else None)
 
 -- the least cost of the plans of a signature of the block of this number, as the grid was last filled
 abbrev pub cost_at : Grid → ℕ → ℕ → ℕ → Option ℕ

@@ -3,13 +3,12 @@ use Rattle.std.specs.Prelude.{ℕ, ◌≡◌, ◌<◌, ◌≤◌, ◌+◌, ◌^�
 use Rattle.std.specs.Ordering.{is_gt, nat_cmp, on, then_cmp}
 use Rattle.rs_catalog.specs.Catalog.{CatalogDef}
 use Rattle.rs_query.specs.Tables.{all_entries}
-use Rattle.rs_query.specs.declared.block.Block.{Block}
 use Rattle.rs_query.specs.declared.query.Query.{Query}
 use Rattle.rs_query.specs.declared.query.Query.TheVariants.{One, Set}
 use Rattle.rs_sample.specs.Cards.{BlockCards}
 use Rattle.rs_query.specs.Blocks.{block_in}
 use Rattle.rs_plan.specs.Plans.{HasNoDistinct, IsComplete, IsPart}
-use Rattle.rs_plan.specs.Trees.{Distinct, Hash, JoinOperator, Nested, PlanTree, Rank, RankScan, SeqScan, SetOperator, code, code_cmp, entries, terms}
+use Rattle.rs_plan.specs.Trees.{Distinct, JoinOperator, PlanTree, Rank, RankScan, SeqScan, SetOperator, code, code_cmp, entries, terms}
 use Rattle.rs_enum.specs.declared.extent.Extent.{Extent}
 use Rattle.rs_enum.specs.declared.extent.Extent.TheVariants as whole
 use Rattle.rs_enum.specs.Bounds.{IsSetPart, most_cost, most_set_cost}
@@ -19,7 +18,7 @@ use Rattle.rs_enum.specs.declared.candidate.Choice.TheVariants as choice
 use Rattle.rs_enum.specs.Costs.{cost_in}
 use Rattle.rs_enum.specs.Made.{IsRankBuilt}
 use Rattle.rs_enum.specs.Places.{Placed}
-use Rattle.rs_enum.specs.Places.{Placed, kept_at}
+use Rattle.rs_enum.specs.Places.{Placed}
 use Rattle.rs_enum.specs.QueryCards.{IsBlockNumber, cards_at}
 
 -- the block whose terms are evaluated

@@ -220,7 +220,13 @@ pub(crate) fn with_calls(below: u128, rows: u128, call: u16) -> u128
 }
 
 /// Two sides, their rows by equal values, and the rows that come of them.
-pub(crate) fn hash_cost(left: u128, right: u128, left_rows: u128, right_rows: u128, rows: u128) -> u128
+pub(crate) fn hash_cost(
+    left: u128,
+    right: u128,
+    left_rows: u128,
+    right_rows: u128,
+    rows: u128,
+) -> u128
     requires { left + right + 2 * (left_rows + right_rows) + rows < 2 ^ 128 }
     ensures { result ≡ left + right + 2 * (left_rows + right_rows) + rows }
 {
@@ -228,7 +234,13 @@ pub(crate) fn hash_cost(left: u128, right: u128, left_rows: u128, right_rows: u1
 }
 
 /// Two sides, all pairs of their rows, and the rows that come of them.
-pub(crate) fn nested_cost(left: u128, right: u128, left_rows: u128, right_rows: u128, rows: u128) -> u128
+pub(crate) fn nested_cost(
+    left: u128,
+    right: u128,
+    left_rows: u128,
+    right_rows: u128,
+    rows: u128,
+) -> u128
     requires { left + right + left_rows * right_rows + rows < 2 ^ 128 }
     ensures { result ≡ left + right + left_rows * right_rows + rows }
 {

@@ -95,7 +95,9 @@ impl Row<'_> {
         requires evaluated { evaluated < 2 ^ length (block_above self.now).terms }
         ensures { (base : Option Placed) (tops : ℕ → Option Placed) → AreTopsIn self.now evaluated tops → IsTheFirstIn self.now base tops evaluated 9 result }
     {
-        let count = block_in(self.planning.query, number_of(self.extent)).terms.len() as u8;
+        let count = block_in(self.planning.query, number_of(self.extent))
+            .terms
+            .len() as u8;
         let mut best = None;
         for place in 0..count {
             best = cheaper(best, self.rank(evaluated, place + 1));

@@ -1,16 +1,13 @@
 -- A plan is built as its choice says.
-use Rattle.std.proofs.Common.{◌≡◌, ◌∙◌, ℕ, ◌+◌, ◌-◌, ◌*◌, ◌^◌, ◌<◌, ◌≤◌, length, refl, sym, ap, subst, arith, bit_and, bit_xor}
-use Rattle.std.specs.Prelude.{IsSome, Option, Some, None, option_map}
+use Rattle.std.proofs.Common.{◌≡◌, ◌∙◌, ℕ, ◌+◌, ◌-◌, ◌*◌, ◌^◌, ◌<◌, ◌≤◌, length, sym, ap, subst, arith, bit_and, bit_xor}
+use Rattle.std.specs.Prelude.{IsSome, Some}
 use Rattle.std.proofs.lemmas.Nat.{and_le_l}
 use Rattle.std.proofs.Math.Nat.{pow-le-pow_right}
 use Rattle.std.proofs.lemmas.Option.{same_Some}
-use Rattle.rs_rank.specs.Masks.{mask_of}
 use Rattle.rs_plan.specs.Shapes.{tree_of}
-use Rattle.rs_plan.specs.Trees.{Distinct, Hash, JoinOperator, Nested, PlanTree, Rank}
-use Rattle.rs_enum.specs.declared.candidate.Candidate.{Candidate}
-use Rattle.rs_enum.specs.declared.candidate.Choice.{Choice}
+use Rattle.rs_plan.specs.Trees.{Distinct, Hash, JoinOperator, Nested, Rank}
 use Rattle.rs_enum.specs.declared.candidate.Choice.TheVariants as choice
-use Rattle.rs_enum.specs.Made.{AreSidesBuilt, IsBuilt, IsBuiltOf, kept_plans}
+use Rattle.rs_enum.specs.Made.{kept_plans}
 use Rattle.rs_enum.specs.Places.{candidate_at, tree_at}
 use Rattle.rs_enum.specs.Within.{terms_within}
 use Rattle.rs_plan.specs.declared.plan.Plan.{Plan}
@@ -83,9 +80,19 @@ pub build-build-requires-in-Base : goal.build-build-requires-in-Base
 build-build-requires-in-Base t c =
     let b = built-at c.args.block.now.terms c.args.places.now c.requires.built c.len.result c.args.of.entries c.args.of.terms c.candidate_at.result c.unwrap-found.result
     choice.Base c.requires.terms c.len.ensures c.candidate_at.ensures c.unwrap-found.ensures c.in-Base.is in
-    let some = b.built.3 in
-    (omega (arith, c.decreases), (c.requires.few, (c.requires.built, (c.requires.terms,
-    found-there c.args.block.now.terms c.args.places.now (c.args.of.entries - 1) c.args.of.terms b.built.0 b.built.2))))
+    let some = b.built.3 in (
+      omega (arith, c.decreases),
+      (
+        c.requires.few,
+        (
+          c.requires.built,
+          (
+            c.requires.terms,
+            found-there c.args.block.now.terms c.args.places.now (c.args.of.entries - 1) c.args.of.terms b.built.0 b.built.2,
+          ),
+        ),
+      ),
+    )
 
 pub build-returns-in_ok-child-in-Rank : goal.build-returns-in_ok-child-in-Rank
 build-returns-in_ok-child-in-Rank t c =

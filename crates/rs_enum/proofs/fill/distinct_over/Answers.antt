@@ -1,14 +1,13 @@
 -- What was found of all entries, with as many rows as are expected of them.
-use Rattle.std.proofs.Common.{◌≡◌, ◌∙◌, ◌+◌, ◌^◌, ◌<◌, ◌≤◌, refl, sym, ap, subst, arith, length}
-use Rattle.std.specs.Prelude.{Option, Some, None, option_map}
+use Rattle.std.proofs.Common.{◌∙◌, ◌+◌, ◌^◌, ◌≤◌, sym, ap, subst, arith, length}
+use Rattle.std.specs.Prelude.{Some}
 use Rattle.rs_query.specs.Tables.{all_entries}
 use Rattle.rs_query.specs.declared.block.Block.{Block}
 use Rattle.rs_sample.specs.Kept.{cards_of}
-use Rattle.rs_enum.specs.declared.candidate.Candidate.{Candidate}
 use Rattle.rs_enum.specs.declared.candidate.Choice.TheVariants as choice
 use Rattle.rs_enum.specs.declared.extent.Extent.TheVariants as whole
 use Rattle.rs_enum.specs.Given.{block_at, kept_of}
-use Rattle.rs_enum.specs.Places.{Placed, candidate_at}
+use Rattle.rs_enum.specs.Places.{Placed}
 use Rattle.rs_enum.specs.Tops.{base_top, distinct_base}
 use Rattle.rs_enum.proofs.BoundFacts.{most-fits}
 use Rattle.rs_enum.proofs.CostFacts.{all-small, block-formed}

@@ -1,5 +1,5 @@
 -- The row behind that of all entries.
-use Rattle.std.proofs.Common.{◌≡◌, ◌+◌, ◌-◌, ◌^◌, ◌≤◌, length, arith}
+use Rattle.std.proofs.Common.{◌^◌, ◌≤◌, length, arith}
 use Rattle.std.proofs.lemmas.Nat.{pow_pos}
 use Rattle.std.proofs.Math.Nat.{pow-le-pow_right}
 use Rattle.rs_enum.proofs.fill.distinct_row.Goals as goal

@@ -1,5 +1,5 @@
 -- The row of the plans that drop duplicates, above that of all entries.
-use Rattle.std.proofs.Common.{◌≡◌, ◌∙◌, ◌^◌, refl, ap, length}
+use Rattle.std.proofs.Common.{◌∙◌, ◌^◌, refl, ap, length}
 use Rattle.rs_query.specs.Tables.{all_entries}
 use Rattle.rs_query.specs.declared.block.Block.{Block}
 use Rattle.rs_sample.specs.Kept.{cards_of}

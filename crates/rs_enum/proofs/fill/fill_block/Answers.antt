@@ -1,5 +1,5 @@
 -- Where duplicates are kept, what is found of each signature is all.
-use Rattle.std.proofs.Common.{◌≡◌, ◌∙◌, sym, ap, subst}
+use Rattle.std.proofs.Common.{◌∙◌, sym, ap}
 use Rattle.rs_query.specs.declared.block.Block.{Block}
 use Rattle.rs_enum.proofs.FoundFacts.{found-lower}
 use Rattle.rs_enum.proofs.fill.fill_block.Goals as goal

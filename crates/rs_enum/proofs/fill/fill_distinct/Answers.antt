@@ -1,5 +1,5 @@
 -- Each mask of terms is tried in its turn.
-use Rattle.std.proofs.Common.{◌≡◌, ◌∙◌, ◌+◌, ◌*◌, ◌^◌, ◌<◌, ◌≤◌, [], ◌∷◌, ◌++◌, length, sym, ap, subst, arith, vec_len}
+use Rattle.std.proofs.Common.{◌≡◌, ◌∙◌, ◌+◌, ◌^◌, ◌<◌, ◌≤◌, [], ◌∷◌, ◌++◌, length, sym, ap, subst, arith, vec_len}
 use Rattle.std.specs.Prelude.{vec_capacity}
 use Rattle.rs_query.specs.declared.block.Block.{Block}
 use Rattle.rs_query.specs.Tables.{all_entries}
@@ -67,8 +67,8 @@ loop-place-preserved c =
           (row-next c.args.planning.now c.requires.planning c.args.number c.loop-place.places.items c.loop-place.place c.loop-place.invariant.0 within c.requires.wanted
           c.distinct_top-found.result found),
       (let same : vec_capacity c.push_reserved.new.self ≡ vec_capacity c.loop-place.places = c.push_reserved.ensures.capacity in
-      let room = c.loop-place.invariant.1 in
-      omega arith),
+          let room = c.loop-place.invariant.1 in
+          omega arith),
     )
 
 pub returns-clause-found : goal.returns-clause-found

@@ -1,18 +1,13 @@
 -- Each mask of terms is tried in its turn.
 use Rattle.std.proofs.Common.{◌≡◌, ◌∙◌, ◌+◌, ◌^◌, ◌<◌, ◌≤◌, [], ◌∷◌, ◌++◌, length, refl, sym, ap, subst, arith, vec_len}
-use Rattle.std.specs.Prelude.{vec_capacity, option_map}
+use Rattle.std.specs.Prelude.{vec_capacity}
 use Rattle.std.proofs.lemmas.List.{length-append}
 use Rattle.rs_query.specs.declared.block.Block.{Block}
 use Rattle.rs_sample.specs.Kept.{cards_of}
-use Rattle.rs_enum.specs.declared.candidate.Candidate.{Candidate}
-use Rattle.rs_enum.specs.declared.extent.Extent.TheVariants as whole
-use Rattle.rs_enum.specs.declared.row.Row.{Row}
-use Rattle.rs_enum.specs.Given.{AreSetFound, AreTopsIn, block_at, complete_of}
-use Rattle.rs_enum.specs.Places.{Placed, candidate_at}
+use Rattle.rs_enum.specs.Given.{AreSetFound, block_at, complete_of}
 use Rattle.rs_enum.specs.Tops.{set_base}
 use Rattle.rs_enum.proofs.CostFacts.{block-formed}
 use Rattle.rs_enum.proofs.FilledFacts.{masks-most}
-use Rattle.rs_enum.proofs.MadeFacts.{found_cost, kept_cost}
 use Rattle.rs_enum.proofs.SetFacts.{set-next, set-none, tops-of-set}
 use Rattle.rs_enum.proofs.fill.fill_set.Goals as goal
 
@@ -21,8 +16,8 @@ loop-place-init c = (
   set-none c.args.planning.now c.requires.planning c.args.left.now c.args.right.now c.clear.new.self.items,
   ap length c.clear.ensures.items,
   (let same : vec_capacity c.clear.new.self ≡ vec_capacity c.args.both.now = c.clear.ensures.capacity in
-  let room = c.requires.room in
-  omega arith),
+      let room = c.requires.room in
+      omega arith),
 )
 
 pub overflow_cast-evaluated : goal.overflow_cast-evaluated
@@ -68,8 +63,8 @@ loop-place-preserved c =
           c.loop-place.invariant.1 c.first-found.result found),
       ap length items ∙ length-append c.loop-place.both.items (c.first-found.result ∷ []) ∙ ap (λ n. n + 1) c.loop-place.invariant.1,
       (let same : vec_capacity c.push_reserved.new.self ≡ vec_capacity c.loop-place.both = c.push_reserved.ensures.capacity in
-      let room = c.loop-place.invariant.2 in
-      omega arith),
+          let room = c.loop-place.invariant.2 in
+          omega arith),
     )
 
 pub returns-clause-found : goal.returns-clause-found

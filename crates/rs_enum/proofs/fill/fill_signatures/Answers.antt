@@ -2,8 +2,6 @@
 use Rattle.std.proofs.Common.{◌≡◌, ◌∙◌, ◌+◌, ◌*◌, ◌/◌, ◌^◌, ◌<◌, ◌≤◌, [], ◌∷◌, ◌++◌, length, refl, sym, ap, subst, arith, vec_len}
 use Rattle.std.specs.Prelude.{vec_capacity}
 use Rattle.std.proofs.lemmas.List.{length-append}
-use Rattle.std.proofs.lemmas.Nat.{mul-le}
-use Rattle.std.proofs.Math.Nat.{mul_comm}
 use Rattle.rs_query.specs.declared.block.Block.{Block}
 use Rattle.rs_sample.specs.Kept.{cards_of}
 use Rattle.rs_enum.specs.Given.{block_at}
@@ -88,8 +86,8 @@ loop-place-preserved c =
         counted = ap length items ∙ length-append c.loop-place.places.items (c.first_candidate-found.result ∷ []) ∙ ap (λ n. n + 1) c.loop-place.invariant.0.counted;
       },
       (let same : vec_capacity c.push_reserved.new.self ≡ vec_capacity c.loop-place.places = c.push_reserved.ensures.capacity in
-      let room = c.loop-place.invariant.1 in
-      omega arith),
+          let room = c.loop-place.invariant.1 in
+          omega arith),
     )
 
 pub returns-clause-all : goal.returns-clause-all

@@ -1,18 +1,15 @@
 -- The set operator of what was found of both blocks.
-use Rattle.std.proofs.Common.{◌≡◌, ◌∙◌, ◌+◌, ◌^◌, ◌<◌, ◌≤◌, refl, sym, ap, subst, arith, length}
-use Rattle.std.specs.Prelude.{Option, Some, None, option_map}
+use Rattle.std.proofs.Common.{◌≡◌, ◌∙◌, ◌+◌, ◌^◌, ◌<◌, ◌≤◌, sym, ap, subst, arith, length}
+use Rattle.std.specs.Prelude.{Some}
 use Rattle.std.proofs.lemmas.Option.{none-some}
-use Rattle.rs_query.specs.Blocks.{block_in}
 use Rattle.rs_query.specs.Tables.{all_entries}
 use Rattle.rs_query.specs.declared.block.Block.{Block}
 use Rattle.rs_sample.specs.Kept.{cards_of}
-use Rattle.rs_enum.specs.declared.candidate.Candidate.{Candidate}
 use Rattle.rs_enum.specs.declared.candidate.Choice.TheVariants as choice
 use Rattle.rs_enum.specs.declared.extent.Extent.TheVariants as whole
-use Rattle.rs_enum.specs.declared.planning.Planning.{Planning}
-use Rattle.rs_enum.specs.Given.{AreTopsOf, IsTheBaseOf, block_at, complete_of, kept_of, top_row}
-use Rattle.rs_enum.specs.Places.{Placed, candidate_at}
-use Rattle.rs_enum.specs.Tops.{AreTops, base_top, set_base, whole_rows}
+use Rattle.rs_enum.specs.Given.{AreTopsOf, block_at, complete_of}
+use Rattle.rs_enum.specs.Places.{Placed}
+use Rattle.rs_enum.specs.Tops.{base_top, set_base, whole_rows}
 use Rattle.rs_enum.proofs.BoundFacts.{most-fits}
 use Rattle.rs_enum.proofs.CostFacts.{all-small, block-formed}
 use Rattle.rs_enum.proofs.FoundFacts.{complete-cost}
@@ -133,7 +130,7 @@ returns-clause-value c =
     let m = mapped (λ (k : Placed). k.cost) (complete_of c.args.planning.now 2 c.args.right.now c.args.evaluated) c.in_ok-second.second.cost
     (complete-cost c.args.planning.now 2 c.args.right.now c.args.evaluated c.block_in-2.result.now c.complete_at-2.result c.block_in-2.ensures c.complete_at-2.ensures ∙ ap found_cost c.in_ok-second.was) in
     let cost : c.both_sides-cost.result ≡ k.0.cost + m.0.cost + whole_rows c.args.planning.now.query.now (cards_of c.args.planning.now.cards.now) (whole.Block 1) c.args.evaluated
-        + whole_rows c.args.planning.now.query.now (cards_of c.args.planning.now.cards.now) (whole.Block 2) c.args.evaluated =
+    + whole_rows c.args.planning.now.query.now (cards_of c.args.planning.now.cards.now) (whole.Block 2) c.args.evaluated =
     c.both_sides-cost.ensures ∙ (λ i. sym k.2 i + sym m.2 i + c.rows_of_all-left_rows.ensures.value i + c.rows_of_all-right_rows.ensures.value i) in
     (λ i. Some (record { cost = cost i; choice = choice.Base }))
     ∙ sym (λ i. base_top (set_base c.args.planning.now.query.now (cards_of c.args.planning.now.cards.now) c.args.evaluated (k.1 i) (m.1 i)))

@@ -1,5 +1,5 @@
 -- All masks but one.
-use Rattle.std.proofs.Common.{◌≡◌, ◌∙◌, ◌-◌, ◌^◌, ◌≤◌, length, ap, arith}
+use Rattle.std.proofs.Common.{◌∙◌, ◌-◌, ◌^◌, ap, arith}
 use Rattle.std.proofs.lemmas.Nat.{pow_pos}
 use Rattle.rs_enum.proofs.FilledFacts.{masks-most}
 use Rattle.rs_enum.proofs.grid.all_terms.Goals as goal

@@ -1,12 +1,9 @@
 -- Where a plan is kept, there is a choice.
-use Rattle.std.proofs.Common.{◌≡◌, ◌∙◌, sym, ap, subst, length}
-use Rattle.std.specs.Prelude.{IsSome, Option, Some, None}
-use Rattle.rs_enum.specs.Made.{kept_plans}
-use Rattle.rs_enum.specs.Places.{Placed, candidate_at, kept_at, tree_at}
+use Rattle.std.proofs.Common.{sym, subst, length}
+use Rattle.std.specs.Prelude.{IsSome}
+use Rattle.rs_enum.specs.Places.{candidate_at}
 use Rattle.rs_enum.specs.Given.{top_row}
-use Rattle.rs_enum.specs.Tops.{plan_of}
 use Rattle.rs_enum.proofs.BuildFacts.{found-kept}
-use Rattle.rs_enum.proofs.GridFacts.{if_ok-map}
 use Rattle.rs_enum.proofs.grid.build_complete.Goals as goal
 
 pub build-requires-clause-found : goal.build-requires-clause-found

@@ -1,7 +1,6 @@
 -- The counts are those of the block.
 use Rattle.std.proofs.Common.{◌∙◌, ap, length}
 use Rattle.rs_query.specs.declared.block.Block.{Block}
-use Rattle.rs_enum.proofs.CostFacts.{block-formed}
 use Rattle.rs_enum.proofs.block_grid.BlockGrid.fill.Goals as goal
 
 pub returns : goal.returns

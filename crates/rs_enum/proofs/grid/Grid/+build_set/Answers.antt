@@ -1,17 +1,14 @@
 -- A plan is built as its choice says.
-use Rattle.std.proofs.Common.{◌≡◌, ◌∙◌, ◌+◌, ◌^◌, ◌<◌, ◌≤◌, length, refl, sym, ap, subst, arith, bit_xor}
-use Rattle.std.specs.Prelude.{IsSome, Some}
+use Rattle.std.proofs.Common.{◌≡◌, ◌∙◌, ◌^◌, ◌<◌, length, refl, sym, ap, subst, arith, bit_xor}
+use Rattle.std.specs.Prelude.{Some}
 use Rattle.std.proofs.lemmas.Option.{same_Some}
-use Rattle.rs_rank.specs.Masks.{mask_of}
 use Rattle.rs_query.specs.declared.block.Block.{Block}
 use Rattle.rs_plan.specs.Shapes.{tree_of}
 use Rattle.rs_plan.specs.Trees.{PlanTree, Rank, SetOperator}
 use Rattle.rs_enum.specs.declared.candidate.Choice.TheVariants as choice
 use Rattle.rs_enum.specs.Given.{block_at, complete_of}
 use Rattle.rs_enum.specs.Grids.{IsSetSearched}
-use Rattle.rs_enum.specs.Places.{candidate_at}
 use Rattle.rs_enum.specs.Tops.{plan_of}
-use Rattle.rs_enum.specs.declared.candidate.Candidate.{Candidate}
 use Rattle.rs_plan.specs.declared.plan.Plan.{Plan}
 use Rattle.rs_enum.proofs.GridFacts.{if_ok-map}
 use Rattle.rs_enum.proofs.SetFacts.{base-parts, plan-there, set-at, set-there}

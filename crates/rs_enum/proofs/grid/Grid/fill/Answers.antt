@@ -1,5 +1,4 @@
 -- The grid says what was found by its search.
-use Rattle.std.proofs.Common.{ℕ}
 use Rattle.rs_enum.proofs.GridFacts.{grid-costs}
 use Rattle.rs_enum.proofs.grid.Grid.fill.Goals as goal
 

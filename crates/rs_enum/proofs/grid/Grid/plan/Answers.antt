@@ -1,21 +1,19 @@
 -- What is built of all terms is the least plan.
-use Rattle.std.proofs.Common.{◌≡◌, ◌∙◌, ◌-◌, ◌^◌, ◌<◌, length, refl, sym, ap, subst, arith}
-use Rattle.std.specs.Prelude.{IsSome, Option, Some}
+use Rattle.std.proofs.Common.{◌≡◌, ◌∙◌, ◌^◌, length, sym, ap, subst, arith}
+use Rattle.std.specs.Prelude.{IsSome, Some}
 use Rattle.std.proofs.lemmas.Nat.{pow_pos}
 use Rattle.std.proofs.lemmas.Option.{same_Some}
 use Rattle.rs_query.specs.Answers.{all_terms}
-use Rattle.rs_query.specs.Blocks.{block_in}
 use Rattle.rs_query.specs.declared.block.Block.{Block}
 use Rattle.rs_query.specs.declared.query.Query.{Query}
 use Rattle.rs_sample.specs.Kept.{cards_of}
 use Rattle.rs_plan.specs.Shapes.{tree_of}
 use Rattle.rs_plan.specs.declared.plan.Plan.{Plan}
-use Rattle.rs_enum.specs.declared.candidate.Candidate.{Candidate}
 use Rattle.rs_enum.specs.Given.{block_at, complete_of, top_row}
 use Rattle.rs_enum.specs.Grids.{IsSearchedFor, IsSetSearched}
 use Rattle.rs_enum.specs.Least.{IsLeast}
 use Rattle.rs_enum.specs.Made.{kept_plans}
-use Rattle.rs_enum.specs.Places.{Placed, candidate_at, kept_at}
+use Rattle.rs_enum.specs.Places.{candidate_at, kept_at}
 use Rattle.rs_enum.specs.Tops.{extent_of, plan_of}
 use Rattle.rs_enum.proofs.GridFacts.{if_ok-map, one-least, set-least}
 use Rattle.rs_enum.proofs.SetFacts.{plan-there, set-there}

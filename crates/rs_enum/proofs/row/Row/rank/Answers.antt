@@ -1,6 +1,6 @@
 -- There is a first operator for the term, over what was found without it, or none.
 use Rattle.std.proofs.Common.{◌≡◌, ◌∙◌, ℕ, ◌+◌, ◌-◌, ◌*◌, ◌^◌, ◌<◌, true, refl, sym, ap, subst, arith, length, bit_xor}
-use Rattle.std.specs.Prelude.{Option, Some, None, option_map}
+use Rattle.std.specs.Prelude.{Option, None, option_map}
 use Rattle.std.proofs.lemmas.Nat.{pow_below, xor_lt}
 use Rattle.rs_rank.specs.Masks.{has_number, mask_of}
 use Rattle.rs_enum.specs.declared.row.Row.{Row}

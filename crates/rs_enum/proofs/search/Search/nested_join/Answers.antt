@@ -2,7 +2,6 @@
 use Rattle.std.proofs.Common.{◌≡◌, ◌+◌, ◌*◌, refl, sym, subst, arith}
 use Rattle.std.specs.Prelude.{Some}
 use Rattle.rs_sample.specs.Kept.{cards_of}
-use Rattle.rs_enum.specs.QueryCards.{alone}
 use Rattle.rs_enum.specs.declared.candidate.Candidate.{Candidate}
 use Rattle.rs_enum.specs.declared.candidate.Choice.TheVariants as choice
 use Rattle.rs_enum.specs.Places.{AreTheSides, IsOne, IsTheOne}

@@ -6,8 +6,6 @@ use Rattle.std.specs.Prelude.{Some, None, option_map, slice_get}
 use Rattle.rs_rank.specs.Masks.{mask_of}
 use Rattle.rs_query.specs.declared.block.Block.{Block}
 use Rattle.rs_sample.specs.Kept.{cards_of}
-use Rattle.rs_query.specs.Blocks.{block_in}
-use Rattle.rs_enum.specs.QueryCards.{alone}
 use Rattle.rs_enum.specs.declared.candidate.Candidate.{Candidate}
 use Rattle.rs_enum.specs.declared.candidate.Choice.TheVariants as choice
 use Rattle.rs_enum.specs.Costs.{call_cost}

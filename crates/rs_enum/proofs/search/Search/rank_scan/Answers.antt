@@ -5,7 +5,6 @@ use Rattle.std.proofs.lemmas.Option.{slice_get_read}
 use Rattle.rs_catalog.specs.Indexes.{index_of}
 use Rattle.rs_query.specs.declared.block.Block.{Block}
 use Rattle.rs_sample.specs.Kept.{cards_of}
-use Rattle.rs_query.specs.Blocks.{block_in}
 use Rattle.rs_enum.specs.QueryCards.{cards_at}
 use Rattle.rs_enum.proofs.CostFacts.{block-cards, indexed}
 use Rattle.rs_enum.specs.Given.{block_of}

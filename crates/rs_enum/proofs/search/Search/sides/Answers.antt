@@ -1,12 +1,10 @@
 -- There are sides, one pair of them, or none.
-use Rattle.std.proofs.Common.{◌≡◌, ◌∙◌, ℕ, refl, sym, ap, subst, length, bit_and, bit_or, bit_xor}
-use Rattle.std.specs.Prelude.{Option, Some, None, option_map}
+use Rattle.std.proofs.Common.{◌≡◌, ◌∙◌, ℕ, sym, ap, subst, length, bit_and, bit_or, bit_xor}
+use Rattle.std.specs.Prelude.{Option}
 use Rattle.rs_enum.specs.declared.candidate.Candidate.{Candidate}
 use Rattle.rs_enum.specs.declared.search.Search.{Search}
 use Rattle.rs_query.specs.declared.block.Block.{Block}
 use Rattle.rs_sample.specs.Kept.{cards_of}
-use Rattle.rs_query.specs.Blocks.{block_in}
-use Rattle.rs_enum.specs.QueryCards.{alone}
 use Rattle.rs_enum.specs.declared.candidate.Sides.{Sides}
 use Rattle.rs_enum.specs.Places.{AreTheSides, candidate_at}
 use Rattle.rs_enum.specs.QueryCards.{cards_at}
@@ -14,7 +12,6 @@ use Rattle.rs_sample.specs.Cards.{IsEstimated}
 use Rattle.rs_enum.specs.Within.{terms_within}
 use Rattle.rs_enum.proofs.CostFacts.{block-formed}
 use Rattle.rs_enum.proofs.FindFacts.{no-sides-left, no-sides-outside, no-sides-right, no-sides-split, sides-one}
-use Rattle.rs_enum.proofs.AloneFacts.{alone-are}
 use Rattle.rs_enum.proofs.SearchFacts.{kept-in, some-small}
 use Rattle.rs_enum.proofs.MadeFacts.{kept-missing}
 use Rattle.rs_enum.specs.Given.{block_of, cards_in, kept_in, query_in}

@@ -1,7 +1,6 @@
 -- Each step tries the plan whose code starts next.
 use Rattle.std.proofs.Common.{◌≡◌, ◌∙◌, ◌+◌, ◌*◌, ◌≤◌, sym, ap, subst₂, arith, length}
 use Rattle.rs_query.specs.declared.block.Block.{Block}
-use Rattle.rs_query.specs.Blocks.{block_in}
 use Rattle.rs_enum.specs.Places.{IsTheFirst}
 use Rattle.rs_enum.proofs.CostFacts.{block-formed}
 use Rattle.rs_enum.proofs.SearchFacts.{first-ranks, first-scans}
