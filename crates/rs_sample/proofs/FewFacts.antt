@@ -5,7 +5,7 @@ use Rattle.std.specs.List.{AllByRecursion}
 use Rattle.std.proofs.lemmas.Bool.{eqb-true}
 use Rattle.std.proofs.lemmas.Nat.{and_le_r, mul-le}
 use Rattle.std.proofs.Math.Nat.{pow-suc, pow-zero}
-use Rattle.rs_order.proofs.EachFacts.{each-weaker}
+use Rattle.rs_order.proofs.EachFacts.{each-map, each-weaker}
 use Rattle.rs_catalog.specs.Catalog.{CatalogDef}
 use Rattle.rs_query.specs.Meaning.{is_inside}
 use Rattle.rs_query.specs.Tables.{all_entries}
@@ -100,6 +100,11 @@ module _ (n : ℕ) (sizes : List ℕ) (samples : List (List ℕ)) (some : 1 ≤ 
 
   pub samples-small : AllByRecursion (λ (sample : List ℕ). length sample ≤ 256) samples
   samples-small = small (most_sampled n) samples sizes (most-few n some few) are
+
+  pub sampled-wide : AllByRecursion (λ size. size ≤ 131072) (map length samples)
+  sampled-wide =
+      each-map (λ size. size ≤ 131072) length samples
+      (each-weaker (λ (sample : List ℕ). length sample ≤ 256) (λ (sample : List ℕ). length sample ≤ 131072) (λ sample few. omega arith) samples samples-small)
 
 -- as many combinations of a mask as there are at most in the tables
 pub product-less : (most mask : ℕ) (sizes : List ℕ) (samples : List (List ℕ)) → AreSamples most sizes samples → product_inside mask (map length samples) ≤ product_inside mask sizes

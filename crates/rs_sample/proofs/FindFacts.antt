@@ -31,7 +31,7 @@ cut-row entries zero (row ∷ rows) bit =
 cut-row entries (suc i) (row ∷ rows) bit = cut-row (entries / 2) i rows (ap (λ n. n % 2) (sym (half-before entries i)) ∙ bit)
 
 -- rows that are cut to some entries agree there
-cut-agrees : (entries : ℕ) (rows : List ℕ) → AgreeOn entries rows (rows_inside entries rows)
+pub cut-agrees : (entries : ℕ) (rows : List ℕ) → AgreeOn entries rows (rows_inside entries rows)
 cut-agrees entries rows entry some has = cut-row entries (entry - 1) rows (eqb-true (entries / 2 ^ (entry - 1) % 2) 1 has)
 
 module _ (answer : Answering) (catalogue : CatalogDef) (block : Block) where
@@ -57,6 +57,6 @@ module _ (answer : Answering) (catalogue : CatalogDef) (block : Block) where
     go true inside =
         let same : worths ≡ map (λ rs. worth_of answer catalogue block rs term) (sampled_choices term.entries samples) = (let both = worths-are in cc) in
         ap (λ ws. get_or ws (choice_place term.entries (map length samples) (places_in samples rows)) 0) same
-        ∙ found-at (λ rs. worth_of answer catalogue block rs term) term.entries mask samples rows inside h
+        ∙ found-at 0 (λ rs. worth_of answer catalogue block rs term) term.entries mask samples rows inside h
         ∙ worth-cut rows term formed
     go false outside = refl

@@ -20,5 +20,6 @@ mod QuotientFacts
 mod ReachFacts
 mod SixFacts
 mod TakeFacts
+mod TruthFacts
 mod WorkedCards
 mod WorkedSamples

@@ -44,37 +44,37 @@ get-behind : {X : Type 0} (xs ys : List X) (i : ℕ) (d : X) → get_or (xs ++ y
 get-behind [] ys i d = ap (λ n. get_or ys n d) (let same : 0 + i ≡ i = omega arith in same)
 get-behind (x ∷ xs) ys i d = ap (λ n. get_or (x ∷ xs ++ ys) n d) (let same : suc (length xs) + i ≡ suc (length xs + i) = omega arith in same) ∙ get-behind xs ys i d
 
-map-before : (f : List ℕ → ℕ) (row : ℕ) (choices : List (List ℕ)) → map f (map (before row) choices) ≡ map (λ rows. f (row ∷ rows)) choices
+map-before : {X : Type 0} (f : List ℕ → X) (row : ℕ) (choices : List (List ℕ)) → map f (map (before row) choices) ≡ map (λ rows. f (row ∷ rows)) choices
 map-before f row [] = refl
 map-before f row (rows ∷ choices) = ap (λ rest. f (row ∷ rows) ∷ rest) (map-before f row choices)
 
 -- what a function gives for a choice that begins with a row of a sample
-row-at : (f : List ℕ → ℕ) (choices : List (List ℕ)) (sample : List ℕ) (row j : ℕ) → In row sample → j < length choices
-    → get_or (map f (flat_map (λ r. map (before r) choices) sample)) (place_in row sample * length choices + j) 0 ≡ get_or (map (λ rows. f (row ∷ rows)) choices) j 0
-row-at f choices [] row j h within = absurd h
-row-at f choices (other ∷ sample) row j h within =
-    ap (λ all. get_or all (place_in row (other ∷ sample) * length choices + j) 0) (map-append f (map (before other) choices) (flat_map (λ r. map (before r) choices) sample))
-    ∙ go (eqb other row) refl (λ there. row-at f choices sample row j there within) where
+row-at : {X : Type 0} (none : X) (f : List ℕ → X) (choices : List (List ℕ)) (sample : List ℕ) (row j : ℕ) → In row sample → j < length choices
+    → get_or (map f (flat_map (λ r. map (before r) choices) sample)) (place_in row sample * length choices + j) none ≡ get_or (map (λ rows. f (row ∷ rows)) choices) j none
+row-at none f choices [] row j h within = absurd h
+row-at none f choices (other ∷ sample) row j h within =
+    ap (λ all. get_or all (place_in row (other ∷ sample) * length choices + j) none) (map-append f (map (before other) choices) (flat_map (λ r. map (before r) choices) sample))
+    ∙ go (eqb other row) refl (λ there. row-at none f choices sample row j there within) where
       count : length (map f (map (before other) choices)) ≡ length choices
       count = length-map (map (before other) choices) f ∙ length-map choices (before other)
 
       go : (b : Bool) → eqb other row ≡ b
-          → (In row sample → get_or (map f (flat_map (λ r. map (before r) choices) sample)) (place_in row sample * length choices + j) 0 ≡ get_or (map (λ rows. f (row ∷ rows)) choices) j 0)
-          → get_or (map f (map (before other) choices) ++ map f (flat_map (λ r. map (before r) choices) sample)) (cond b 0 (suc (place_in row sample)) * length choices + j) 0
-          ≡ get_or (map (λ rows. f (row ∷ rows)) choices) j 0
+          → (In row sample → get_or (map f (flat_map (λ r. map (before r) choices) sample)) (place_in row sample * length choices + j) none ≡ get_or (map (λ rows. f (row ∷ rows)) choices) j none)
+          → get_or (map f (map (before other) choices) ++ map f (flat_map (λ r. map (before r) choices) sample)) (cond b 0 (suc (place_in row sample)) * length choices + j) none
+          ≡ get_or (map (λ rows. f (row ∷ rows)) choices) j none
       go true e later =
           let same : other ≡ row = eqb-true other row e in
-          ap (λ n. get_or (map f (map (before other) choices) ++ map f (flat_map (λ r. map (before r) choices) sample)) n 0) (let none : 0 * length choices + j ≡ j = omega arith in none)
-          ∙ get-before (map f (map (before other) choices)) (map f (flat_map (λ r. map (before r) choices) sample)) j 0 (subst (λ n. j < n) (sym count) within)
-          ∙ ap (λ all. get_or all j 0) (map-before f other choices)
-          ∙ ap (λ r. get_or (map (λ rows. f (r ∷ rows)) choices) j 0) same
+          ap (λ n. get_or (map f (map (before other) choices) ++ map f (flat_map (λ r. map (before r) choices) sample)) n none) (let zero_rows : 0 * length choices + j ≡ j = omega arith in zero_rows)
+          ∙ get-before (map f (map (before other) choices)) (map f (flat_map (λ r. map (before r) choices) sample)) j none (subst (λ n. j < n) (sym count) within)
+          ∙ ap (λ all. get_or all j none) (map-before f other choices)
+          ∙ ap (λ r. get_or (map (λ rows. f (r ∷ rows)) choices) j none) same
       go false e later =
           let n = place_in row sample in
           let wide = add-mul 1 n (length choices) in
           let there : In row sample = elim h [ inl same ↦ absurd (let is : eqb other row ≡ true = eq-eqb other row (sym same) in cc) | inr behind ↦ behind ] in
-          ap (λ k. get_or (map f (map (before other) choices) ++ map f (flat_map (λ r. map (before r) choices) sample)) k 0)
+          ap (λ k. get_or (map f (map (before other) choices) ++ map f (flat_map (λ r. map (before r) choices) sample)) k none)
           (let split : suc n * length choices + j ≡ length (map f (map (before other) choices)) + (n * length choices + j) = omega (arith, count) in split)
-          ∙ get-behind (map f (map (before other) choices)) (map f (flat_map (λ r. map (before r) choices) sample)) (n * length choices + j) 0
+          ∙ get-behind (map f (map (before other) choices)) (map f (flat_map (λ r. map (before r) choices) sample)) (n * length choices + j) none
           ∙ later there
 
 -- the row of an entry that is read
@@ -108,35 +108,35 @@ choice-within read mask (sample ∷ samples) rows inside h =
           omega arith
 
 -- what a function gives for a choice of fewer entries stands at its place
-pub found-at : (f : List ℕ → ℕ) (read mask : ℕ) (samples : List (List ℕ)) (rows : List ℕ) → is_inside read mask ≡ true → In rows (sampled_choices mask samples)
-    → get_or (map f (sampled_choices read samples)) (choice_place read (map length samples) (places_in samples rows)) 0 ≡ f (rows_inside read rows)
-found-at f read mask [] rows inside h = elim h [ inl e ↦ ap (λ rs. f (rows_inside read rs)) (sym e) | inr none ↦ absurd none ]
-found-at f read mask (sample ∷ samples) rows inside h =
+pub found-at : {X : Type 0} (none : X) (f : List ℕ → X) (read mask : ℕ) (samples : List (List ℕ)) (rows : List ℕ) → is_inside read mask ≡ true → In rows (sampled_choices mask samples)
+    → get_or (map f (sampled_choices read samples)) (choice_place read (map length samples) (places_in samples rows)) none ≡ f (rows_inside read rows)
+found-at none f read mask [] rows inside h = elim h [ inl e ↦ ap (λ rs. f (rows_inside read rs)) (sym e) | inr nothing ↦ absurd nothing ]
+found-at none f read mask (sample ∷ samples) rows inside h =
     let made = In-flat_map-back (λ r. map (before r) (sampled_choices (mask / 2) samples)) rows (rows_of (eqb (mask % 2) 0) sample) h in
     let image = In-map-back (before made.source) rows (sampled_choices (mask / 2) samples) made.made in
-    subst (λ all. get_or (map f (sampled_choices read (sample ∷ samples))) (choice_place read (map length (sample ∷ samples)) (places_in (sample ∷ samples) all)) 0 ≡ f (rows_inside read all))
+    subst (λ all. get_or (map f (sampled_choices read (sample ∷ samples))) (choice_place read (map length (sample ∷ samples)) (places_in (sample ∷ samples) all)) none ≡ f (rows_inside read all))
     (sym image.image)
-    (go made.source image.source made.is_in image.is_in (λ r. found-at (λ rs. f (r ∷ rs)) (read / 2) (mask / 2) samples image.source (inside-others read mask inside) image.is_in)
+    (go made.source image.source made.is_in image.is_in (λ r. found-at none (λ rs. f (r ∷ rs)) (read / 2) (mask / 2) samples image.source (inside-others read mask inside) image.is_in)
     (eqb (read % 2) 0) refl) where
       go : (row : ℕ) (rest : List ℕ) → In row (rows_of (eqb (mask % 2) 0) sample) → In rest (sampled_choices (mask / 2) samples)
-          → ((r : ℕ) → get_or (map (λ rs. f (r ∷ rs)) (sampled_choices (read / 2) samples)) (choice_place (read / 2) (map length samples) (places_in samples rest)) 0 ≡ f (r ∷ rows_inside (read / 2) rest))
+          → ((r : ℕ) → get_or (map (λ rs. f (r ∷ rs)) (sampled_choices (read / 2) samples)) (choice_place (read / 2) (map length samples) (places_in samples rest)) none ≡ f (r ∷ rows_inside (read / 2) rest))
           → (b : Bool) → eqb (read % 2) 0 ≡ b
           → get_or (map f (flat_map (λ r. map (before r) (sampled_choices (read / 2) samples)) (rows_of b sample)))
-          (cond b 0 (place_in row sample * product_inside (read / 2) (map length samples)) + choice_place (read / 2) (map length samples) (places_in samples rest)) 0
+          (cond b 0 (place_in row sample * product_inside (read / 2) (map length samples)) + choice_place (read / 2) (map length samples) (places_in samples rest)) none
           ≡ f (cond b 0 row ∷ rows_inside (read / 2) rest)
       go row rest is there later true e =
           let choices = sampled_choices (read / 2) samples in
           let j = choice_place (read / 2) (map length samples) (places_in samples rest) in
           let within : j < length choices = subst (λ n. j < n) (sym (length-choices (read / 2) samples)) (choice-within (read / 2) (mask / 2) samples rest (inside-others read mask inside) there) in
-          ap (λ n. get_or (map f (flat_map (λ r. map (before r) choices) (0 ∷ []))) n 0) (let same : 0 + j ≡ 0 * length choices + j = omega arith in same)
-          ∙ row-at f choices (0 ∷ []) 0 j (inl refl) within
+          ap (λ n. get_or (map f (flat_map (λ r. map (before r) choices) (0 ∷ []))) n none) (let same : 0 + j ≡ 0 * length choices + j = omega arith in same)
+          ∙ row-at none f choices (0 ∷ []) 0 j (inl refl) within
           ∙ later 0
       go row rest is there later false e =
           let choices = sampled_choices (read / 2) samples in
           let j = choice_place (read / 2) (map length samples) (places_in samples rest) in
           let within : j < length choices = subst (λ n. j < n) (sym (length-choices (read / 2) samples)) (choice-within (read / 2) (mask / 2) samples rest (inside-others read mask inside) there) in
-          ap (λ n. get_or (map f (flat_map (λ r. map (before r) choices) sample)) (place_in row sample * n + j) 0) (sym (length-choices (read / 2) samples))
-          ∙ row-at f choices sample row j (read-row read mask sample row inside is e) within
+          ap (λ n. get_or (map f (flat_map (λ r. map (before r) choices) sample)) (place_in row sample * n + j) none) (sym (length-choices (read / 2) samples))
+          ∙ row-at none f choices sample row j (read-row read mask sample row inside is e) within
           ∙ later row
 
 -- a place by those of the entries from some entry on

@@ -1,13 +1,15 @@
--- Worths of terms on sampled rows, found by the places of the rows in their samples.
+-- Truths of conjuncts and worths of terms on sampled rows, found by the places of the rows in their samples.
 use Rattle.std.specs.Prelude.{ℕ, suc, ◌+◌, ◌*◌, ◌/◌, ◌%◌, ◌==◌, Bool, List, [], ◌∷◌, length, map, nat_le, if◌then◌else◌}
 use Rattle.std.specs.List.{filter}
 use Rattle.rs_rank.specs.Weights.{bound}
 use Rattle.rs_expr.specs.Scoring.{Answering}
 use Rattle.rs_catalog.specs.Catalog.{CatalogDef}
 use Rattle.rs_query.specs.Answers.{weights_of, worth_of}
-use Rattle.rs_query.specs.Meaning.{is_inside}
+use Rattle.rs_query.specs.Conjuncts.{ConjunctDef}
+use Rattle.rs_query.specs.Meaning.{conjunct_holds, is_inside}
 use Rattle.rs_query.specs.declared.block.Block.{Block}
 use Rattle.rs_query.specs.declared.term.Term.{Term}
+use Rattle.rs_sample.specs.Choosing.{sampled_choices}
 use Rattle.rs_sample.specs.Estimates.{sampled_combinations}
 use Rattle.rs_sample.specs.Quotients.{expected, product_inside}
 
@@ -29,6 +31,11 @@ choice_place mask [] places = 0
 choice_place mask (size ∷ sizes) [] = 0
 choice_place mask (size ∷ sizes) (place ∷ places) =
     (if mask % 2 == 0 then 0 else place * product_inside (mask / 2) sizes) + choice_place (mask / 2) sizes places
+
+-- whether each conjunct holds of each choice among the samples of its entries
+abbrev pub truths_by_conjunct : CatalogDef → Block → List (List ℕ) → List (List Bool)
+truths_by_conjunct catalogue block samples =
+    map (λ (conjunct : ConjunctDef). map (λ rows. conjunct_holds catalogue block rows conjunct) (sampled_choices conjunct.entries samples)) block.conjuncts
 
 module _ (answer : Answering) (catalogue : CatalogDef) (block : Block) where
   -- the worth of a term for rows of the entries in a mask, where it reads these alone, or else 0

@@ -1,46 +1,94 @@
 //! Combinations among sampled rows.
 
-ghost use Rattle.std.specs.Prelude.{◌≡◌, ◌<◌, ◌^◌, IfOk, length, true};
+ghost use Rattle.std.specs.Prelude.{◌≡◌, ◌≤◌, IfOk, get_or, false, length, map, true, if◌then◌else◌};
+ghost use Rattle.std.specs.List.{AllByRecursion};
+ghost use Rattle.rs_catalog.specs.Catalog.{CatalogDef};
+ghost use Rattle.rs_order.specs.Climbing.{In};
 ghost use Rattle.rs_query.specs.Combinations.{satisfies};
 ghost use Rattle.rs_query.specs.Meaning.{is_inside};
-ghost use Rattle.rs_query.specs.Tables.{HasRows, all_entries, sizes_of};
 ghost use Rattle.rs_query.specs.WellFormed.{IsBlock};
+ghost use Rattle.rs_sample.specs.Choosing.{sampled_choices};
 ghost use Rattle.rs_sample.specs.Estimates.{sampled_combinations};
-ghost use Rattle.rs_sample.specs.Samples.{AreBlockSamples};
+ghost use Rattle.rs_sample.specs.Finding.{choice_place, truths_by_conjunct};
 
 use crate::choices::choices;
-use rs_catalog::Catalog;
-use rs_query::Block;
-use rs_rank::Ids;
+use crate::lookup::{choice_place, places_of};
+use rs_query::{Block, is_inside};
 use rs_value::{List, Memory};
 use std::alloc::Global;
 
-/// The choices among the samples of the entries in a mask for which every conjunct holds that speaks of these entries alone.
+/// The choices among the samples of the entries in a mask for which every conjunct holds that speaks of these entries alone. The
+/// truths are those of each conjunct on the choices among the samples of its entries.
 pub(crate) fn combinations(
     alloc: Global,
-    catalog: &Catalog,
     block: &Block,
     samples: &[List<u32>],
+    sampled: &[u32; 6],
+    truths: &[List<bool>],
     mask: u8,
 ) -> Result<Vec<[u32; 6]>, Memory>
-    requires block { IsBlock catalog.now block.now }
-    requires samples { AreBlockSamples (length block.now.from) (sizes_of catalog.now block.now) samples.now }
-    ensures { IfOk result (λ rows. rows.items ≡ sampled_combinations catalog.now block.now samples.now mask) }
+    requires six { length samples.now ≡ 6 }
+    requires few { AllByRecursion (λ sample. length sample ≤ 256) samples.now }
+    requires sampled { sampled.now ≡ map length samples.now }
+    requires truths { length truths.now ≡ length block.now.conjuncts }
+    ensures few { IfOk result (λ rows. length rows.items ≤ length (sampled_choices mask samples.now)) }
+    ensures value { (catalogue : CatalogDef) → IsBlock catalogue block.now → truths.now ≡ truths_by_conjunct catalogue block.now samples.now
+        → IfOk result (λ rows. rows.items ≡ sampled_combinations catalogue block.now samples.now mask) }
 {
     let choices = choices(alloc, samples, mask)?;
-    let conjuncts = block.within(mask);
     let mut found = Vec::new(alloc);
     for rows in &choices {
-        let ids = Ids {
-            block: 1,
-            mask,
-            rows: *rows,
-        };
-        let holds = block.holds(alloc, catalog, conjuncts, &ids)?;
-        if !holds {
+        if !satisfies(block, samples, sampled, truths, mask, rows) {
             continue;
         }
         found.push(*rows)?;
     }
     Ok(found)
+}
+
+/// Whether every conjunct that speaks of the entries in a mask alone holds of a choice among the samples of these entries.
+fn satisfies(
+    block: &Block,
+    samples: &[List<u32>],
+    sampled: &[u32; 6],
+    truths: &[List<bool>],
+    mask: u8,
+    rows: &[u32; 6],
+) -> bool
+    requires six { length samples.now ≡ 6 }
+    requires few { AllByRecursion (λ sample. length sample ≤ 256) samples.now }
+    requires sampled { sampled.now ≡ map length samples.now }
+    requires truths { length truths.now ≡ length block.now.conjuncts }
+    ensures { (catalogue : CatalogDef) → IsBlock catalogue block.now → truths.now ≡ truths_by_conjunct catalogue block.now samples.now
+        → In rows.now (sampled_choices mask samples.now) → result ≡ satisfies catalogue block.now mask rows.now }
+{
+    let places = places_of(samples, rows);
+    for (place, conjunct) in block.conjuncts.items().iter().enumerate() {
+        let truths = truths[place].items();
+        if !holds_if_inside(conjunct.entries(), mask, sampled, &places, truths) {
+            return false;
+        }
+    }
+    true
+}
+
+/// The truth for the choice of rows at these places, where the entries of the truths are in the mask, or else true.
+fn holds_if_inside(
+    entries: u8,
+    mask: u8,
+    sampled: &[u32; 6],
+    places: &[u32; 6],
+    truths: &[bool],
+) -> bool
+    requires sampled { AllByRecursion (λ size. size ≤ 256) sampled.now }
+    requires places { AllByRecursion (λ place. place ≤ 256) places.now }
+    ensures { result ≡ (if is_inside entries mask then get_or truths.now (choice_place entries sampled.now places.now) false else true) }
+{
+    if !is_inside(entries, mask) {
+        return true;
+    }
+    match truths.get(choice_place(entries, sampled, places)) {
+        Some(holds) => *holds,
+        None => false,
+    }
 }

@@ -5,10 +5,9 @@ ghost use Rattle.std.specs.List.{AllByRecursion};
 ghost use Rattle.rs_expr.specs.Scoring.{Answering};
 ghost use Rattle.rs_catalog.specs.Catalog.{CatalogDef};
 ghost use Rattle.rs_order.specs.Climbing.{In};
-ghost use Rattle.rs_query.specs.Tables.{sizes_of};
 ghost use Rattle.rs_query.specs.WellFormed.{IsBlock};
 ghost use Rattle.rs_sample.specs.Choosing.{sampled_choices};
-ghost use Rattle.rs_sample.specs.Finding.{known_estimate, known_reaches};
+ghost use Rattle.rs_sample.specs.Finding.{known_estimate, known_reaches, truths_by_conjunct};
 ghost use Rattle.rs_sample.specs.Quotients.{most_expected};
 ghost use Rattle.rs_sample.specs.Samples.{AreBlockSamples};
 ghost use Rattle.rs_sample.specs.Sampling.{worths_by_term};
@@ -17,7 +16,6 @@ use crate::bound::count_reached;
 use crate::combinations::combinations;
 use crate::lookup::worths_for;
 use crate::quotient::expected_count;
-use rs_catalog::Catalog;
 use rs_query::Block;
 use rs_value::{List, Memory};
 use std::alloc::Global;
@@ -26,29 +24,31 @@ use std::alloc::Global;
 /// read other entries too says nothing.
 pub(crate) fn estimates_for(
     alloc: Global,
-    catalog: &Catalog,
     block: &Block,
     sizes: &[u32; 6],
     samples: &[List<u32>],
     sampled: &[u32; 6],
+    truths: &[List<bool>],
     worths: &[List<u32>],
     cutoff: u64,
     mask: u8,
 ) -> Result<List<u128>, Memory>
-    requires block { IsBlock catalog.now block.now }
-    requires sizes { sizes.now ≡ sizes_of catalog.now block.now }
+    requires block { (catalogue : CatalogDef) × IsBlock catalogue block.now }
     requires rows { AllByRecursion (λ size. size ≤ 131072) sizes.now }
     requires samples { AreBlockSamples (length block.now.from) sizes.now samples.now }
+    requires six { length samples.now ≡ 6 }
     requires sampled { sampled.now ≡ map length samples.now }
+    requires truths { length truths.now ≡ length block.now.conjuncts }
     requires worths { length worths.now ≡ length block.now.terms }
     requires mask { mask < 2 ^ length block.now.from }
     ensures length { IfOk result (λ numbers. length numbers ≡ 2 ^ length block.now.terms) }
     ensures limit { IfOk result (λ numbers. AllByRecursion (λ number. number ≤ most_expected mask) numbers) }
-    ensures value { (answer : Answering) → worths.now ≡ worths_by_term answer catalog.now block.now samples.now
+    ensures value { (answer : Answering) (catalogue : CatalogDef) → IsBlock catalogue block.now
+        → truths.now ≡ truths_by_conjunct catalogue block.now samples.now → worths.now ≡ worths_by_term answer catalogue block.now samples.now
         → IfOk result (λ numbers. (terms : ℕ) → terms < 2 ^ length block.now.terms → get_or numbers terms 0
-        ≡ known_estimate answer catalog.now block.now sizes.now samples.now cutoff mask terms) }
+        ≡ known_estimate answer catalogue block.now sizes.now samples.now cutoff mask terms) }
 {
-    let rows = combinations(alloc, catalog, block, samples, mask)?;
+    let rows = combinations(alloc, block, samples, sampled, truths, mask)?;
     let counts = count_each(alloc, block, samples, sampled, worths, cutoff, mask, &rows)?;
     let mut numbers = Vec::new(alloc);
     for count in &counts {

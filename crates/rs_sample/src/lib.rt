@@ -18,6 +18,7 @@ mod index;
 mod lookup;
 mod quotient;
 mod sample;
+mod truths;
 
 pub use cards::Cards;
 pub use fault::SampleFault;

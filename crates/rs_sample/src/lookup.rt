@@ -66,7 +66,7 @@ fn worth_if_inside(
 
 /// The place of the choice of rows of the entries in a mask among all such choices, in lexicographic order. The rows stand
 /// at these places of samples of these sizes.
-fn choice_place(mask: u8, sampled: &[u32; 6], places: &[u32; 6]) -> usize
+pub(crate) fn choice_place(mask: u8, sampled: &[u32; 6], places: &[u32; 6]) -> usize
     requires sampled { AllByRecursion (λ size. size ≤ 256) sampled.now }
     requires places { AllByRecursion (λ place. place ≤ 256) places.now }
     ensures { result ≡ choice_place mask sampled.now places.now }
@@ -85,7 +85,7 @@ fn choice_place(mask: u8, sampled: &[u32; 6], places: &[u32; 6]) -> usize
 }
 
 /// The places of rows in the samples of their entries. A row that isn't there stands behind the last one.
-fn places_of(samples: &[List<u32>], rows: &[u32; 6]) -> [u32; 6]
+pub(crate) fn places_of(samples: &[List<u32>], rows: &[u32; 6]) -> [u32; 6]
     requires six { length samples.now ≡ 6 }
     requires few { AllByRecursion (λ sample. length sample ≤ 256) samples.now }
     ensures value { result ≡ places_in samples.now rows.now }

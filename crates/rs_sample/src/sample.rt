@@ -8,13 +8,14 @@ ghost use Rattle.rand_pcg.specs.Pcg.{pcg32};
 ghost use Rattle.rs_expr.specs.InOrder.{Inquires};
 ghost use Rattle.rs_expr.specs.Scoring.{Answering};
 ghost use Rattle.rs_rank.specs.Weights.{rest};
+ghost use Rattle.rs_catalog.specs.Catalog.{CatalogDef};
 ghost use Rattle.rs_query.specs.Answers.{weights_of};
 ghost use Rattle.rs_query.specs.Tables.{sizes_of};
 ghost use Rattle.rs_query.specs.declared.term.Term.{Term as BoundTerm};
 ghost use Rattle.rs_query.specs.WellFormed.{IsBlock, IsLimit};
 ghost use Rattle.rs_sample.specs.Drawing.{Draws};
 ghost use Rattle.rs_sample.specs.Kept.{block_cards};
-ghost use Rattle.rs_sample.specs.Finding.{known_estimate};
+ghost use Rattle.rs_sample.specs.Finding.{known_estimate, truths_by_conjunct};
 ghost use Rattle.rs_sample.specs.Choosing.{sampled_choices};
 ghost use Rattle.rs_sample.specs.Estimates.{cutoff_of};
 ghost use Rattle.rs_sample.specs.Quotients.{most_expected, number_at, product_inside};
@@ -29,6 +30,7 @@ use crate::draw::take_samples;
 use crate::estimates::Estimates;
 use crate::fault::SampleFault;
 use crate::index::index_estimates;
+use crate::truths::evaluate_conjuncts;
 use rand_pcg::Pcg32;
 use rs_catalog::Catalog;
 use rs_expr::Scorer;
@@ -87,33 +89,36 @@ fn estimate_block(
     ensures { (answer : Answering) → worths.now ≡ worths_by_term answer catalog.now block.now samples.now
         → IfOk result (λ e. AreCards answer catalog.now block.now sizes.now samples.now limit (block_cards e)) }
 {
-    let cutoff = block_cutoff(alloc, catalog, block, sizes, samples, worths, limit)?;
-    let numbers = all_estimates(alloc, catalog, block, sizes, samples, worths, cutoff)?;
+    let truths = evaluate_conjuncts(alloc, catalog, block, samples)?;
+    let cutoff = block_cutoff(alloc, block, sizes, samples, &truths, worths, limit)?;
+    let numbers = all_estimates(alloc, block, sizes, samples, &truths, worths, cutoff)?;
     estimates_of(alloc, block, sizes, samples, worths, cutoff, numbers)
 }
 
 /// The cutoff of a block.
 fn block_cutoff(
     alloc: Global,
-    catalog: &Catalog,
     block: &Block,
     sizes: &[u32; 6],
     samples: &[List<u32>],
+    truths: &[List<bool>],
     worths: &[List<u32>],
     limit: Option<u32>,
 ) -> Result<u64, Memory>
-    requires block { IsBlock catalog.now block.now }
-    requires sizes { sizes.now ≡ sizes_of catalog.now block.now }
+    requires block { (catalogue : CatalogDef) × IsBlock catalogue block.now }
     requires rows { AllByRecursion (λ size. size ≤ 131072) sizes.now }
     requires samples { AreBlockSamples (length block.now.from) sizes.now samples.now }
+    requires six { length samples.now ≡ 6 }
+    requires truths { length truths.now ≡ length block.now.conjuncts }
     requires worths { length worths.now ≡ length block.now.terms }
     requires limit { IsLimit limit }
-    ensures { (answer : Answering) → worths.now ≡ worths_by_term answer catalog.now block.now samples.now
-        → IfOk result (λ cutoff. cutoff ≡ cutoff_of answer catalog.now block.now sizes.now samples.now limit) }
+    ensures { (answer : Answering) (catalogue : CatalogDef) → IsBlock catalogue block.now
+        → truths.now ≡ truths_by_conjunct catalogue block.now samples.now → worths.now ≡ worths_by_term answer catalogue block.now samples.now
+        → IfOk result (λ cutoff. cutoff ≡ cutoff_of answer catalogue block.now sizes.now samples.now limit) }
 {
     let entries = block.all_entries();
-    let rows = combinations(alloc, catalog, block, samples, entries)?;
     let sampled = sample_sizes(samples);
+    let rows = combinations(alloc, block, samples, &sampled, truths, entries)?;
     let place = cutoff_place(limit, entries, sizes, &sampled);
     cutoff(alloc, block, samples, &sampled, worths, &rows, place)
 }
@@ -190,31 +195,33 @@ fn reads_of(alloc: Global, block: &Block) -> Result<Vec<u8>, Memory>
 /// What is expected for each mask of entries and each mask of terms.
 fn all_estimates(
     alloc: Global,
-    catalog: &Catalog,
     block: &Block,
     sizes: &[u32; 6],
     samples: &[List<u32>],
+    truths: &[List<bool>],
     worths: &[List<u32>],
     cutoff: u64,
 ) -> Result<Vec<List<u128>>, Memory>
-    requires block { IsBlock catalog.now block.now }
-    requires sizes { sizes.now ≡ sizes_of catalog.now block.now }
+    requires block { (catalogue : CatalogDef) × IsBlock catalogue block.now }
     requires rows { AllByRecursion (λ size. size ≤ 131072) sizes.now }
     requires samples { AreBlockSamples (length block.now.from) sizes.now samples.now }
+    requires six { length samples.now ≡ 6 }
+    requires truths { length truths.now ≡ length block.now.conjuncts }
     requires worths { length worths.now ≡ length block.now.terms }
     ensures length { IfOk result (λ numbers. length numbers.items ≡ 2 ^ length block.now.from) }
     ensures lengths { IfOk result (λ numbers. AllByRecursion (λ row. length row ≡ 2 ^ length block.now.terms) numbers.items) }
     ensures limits { IfOk result (λ numbers. (mask terms : ℕ) → number_at numbers.items mask terms ≤ most_expected mask) }
-    ensures value { (answer : Answering) → worths.now ≡ worths_by_term answer catalog.now block.now samples.now
+    ensures value { (answer : Answering) (catalogue : CatalogDef) → IsBlock catalogue block.now
+        → truths.now ≡ truths_by_conjunct catalogue block.now samples.now → worths.now ≡ worths_by_term answer catalogue block.now samples.now
         → IfOk result (λ numbers. (mask terms : ℕ) → mask < 2 ^ length block.now.from → terms < 2 ^ length block.now.terms
         → number_at numbers.items mask terms
-        ≡ known_estimate answer catalog.now block.now sizes.now samples.now cutoff mask terms) }
+        ≡ known_estimate answer catalogue block.now sizes.now samples.now cutoff mask terms) }
 {
     let sampled = sample_sizes(samples);
     let mut numbers = Vec::new(alloc);
     for mask in 0..1u8 << block.from.len() {
         let row = estimates_for(
-            alloc, catalog, block, sizes, samples, &sampled, worths, cutoff, mask,
+            alloc, block, sizes, samples, &sampled, truths, worths, cutoff, mask,
         )?;
         numbers.push(row)?;
     }

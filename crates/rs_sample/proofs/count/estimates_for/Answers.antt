@@ -12,42 +12,44 @@ use Rattle.rs_query.specs.declared.term.Term.{Term}
 use Rattle.rs_sample.specs.Choosing.{sampled_choices}
 use Rattle.rs_sample.specs.Finding.{known_reaches}
 use Rattle.rs_sample.specs.Quotients.{most_expected, product_inside}
-use Rattle.rs_sample.specs.Samples.{most_sampled}
-use Rattle.rs_sample.proofs.CountFacts.{filter-few}
-use Rattle.rs_sample.proofs.DrawFacts.{length-samples}
-use Rattle.rs_sample.proofs.FewFacts.{product-small, samples-small}
+use Rattle.rs_sample.proofs.FewFacts.{product-small, sampled-wide, samples-small}
 use Rattle.rs_sample.proofs.GridFacts.{each-within}
 use Rattle.rs_sample.proofs.ListFacts.{get_or-other, map-with}
 use Rattle.rs_sample.proofs.MemberFacts.{length-choices}
 use Rattle.rs_sample.proofs.count.estimates_for.Goals as goal
 
+pub combinations-requires-clause-few : goal.combinations-requires-clause-few
+combinations-requires-clause-few c =
+    samples-small (length c.args.block.now.from) c.args.sizes.now c.args.samples.now c.requires.block.1.some_entries c.requires.block.1.most_entries c.requires.samples
+
 pub count_each-requires-clause-few : goal.count_each-requires-clause-few
 count_each-requires-clause-few c =
     let samples = c.args.samples.now in
-    let rows = ap length (c.deref.ensures.value ∙ c.in_ok-rows.ensures) in
-    let few = filter-few (satisfies c.args.catalog.now c.args.block.now c.args.mask) (sampled_choices c.args.mask samples) in
+    let rows = ap length c.deref.ensures.value in
+    let few = c.in_ok-rows.ensures.few in
     let count = length-choices c.args.mask samples in
-    let small = product-small (length c.args.block.now.from) c.args.sizes.now samples c.requires.block.some_entries c.requires.block.most_entries c.requires.samples c.args.mask c.requires.mask in
+    let small = product-small (length c.args.block.now.from) c.args.sizes.now samples c.requires.block.1.some_entries c.requires.block.1.most_entries c.requires.samples c.args.mask c.requires.mask in
     omega arith
 
 pub count_each-requires-clause-limits : goal.count_each-requires-clause-limits
 count_each-requires-clause-limits c =
-    each-weaker (IsTerm c.args.catalog.now c.args.block.now) (λ (t : Term). t.weight ≤ 1000000) (λ t is. is.most_weight) c.args.block.now.terms c.requires.block.terms
-
-pub count_each-requires-clause-six : goal.count_each-requires-clause-six
-count_each-requires-clause-six c =
-    length-samples (most_sampled (length c.args.block.now.from)) c.args.sizes.now c.args.samples.now c.requires.samples ∙ ap length c.requires.sizes
+    each-weaker (IsTerm c.requires.block.0 c.args.block.now) (λ (t : Term). t.weight ≤ 1000000) (λ t is. is.most_weight) c.args.block.now.terms c.requires.block.1.terms
 
 pub count_each-requires-clause-few_rows : goal.count_each-requires-clause-few_rows
 count_each-requires-clause-few_rows c =
-    samples-small (length c.args.block.now.from) c.args.sizes.now c.args.samples.now c.requires.block.some_entries c.requires.block.most_entries c.requires.samples
+    samples-small (length c.args.block.now.from) c.args.sizes.now c.args.samples.now c.requires.block.1.some_entries c.requires.block.1.most_entries c.requires.samples
+
+pub expected_count-requires-clause-sampled : goal.expected_count-requires-clause-sampled
+expected_count-requires-clause-sampled c =
+    subst (AllByRecursion (λ size. size ≤ 131072)) (sym c.requires.sampled)
+    (sampled-wide (length c.args.block.now.from) c.args.sizes.now c.args.samples.now c.requires.block.1.some_entries c.requires.block.1.most_entries c.requires.samples)
 
 pub expected_count-requires-clause-few : goal.expected_count-requires-clause-few
 expected_count-requires-clause-few c =
     let samples = c.args.samples.now in
     let i = c.loop-count.count-index in
-    let rows = ap length (c.deref.ensures.value ∙ c.in_ok-rows.ensures) in
-    let few = filter-few (satisfies c.args.catalog.now c.args.block.now c.args.mask) (sampled_choices c.args.mask samples) in
+    let rows = ap length c.deref.ensures.value in
+    let few = c.in_ok-rows.ensures.few in
     let count = length-choices c.args.mask samples in
     let here = each-within (length c.deref.result.now) c.in_ok-counts.counts.items i c.in_ok-counts.ensures.limit in
     let at = ap (λ cs. get_or cs i 0) c.deref-count-items.ensures.value in
@@ -58,10 +60,10 @@ pub expected_count-requires-clause-counted : goal.expected_count-requires-clause
 expected_count-requires-clause-counted c =
     let samples = c.args.samples.now in
     let i = c.loop-count.count-index in
-    let rows = ap length (c.deref.ensures.value ∙ c.in_ok-rows.ensures) in
-    let few = filter-few (satisfies c.args.catalog.now c.args.block.now c.args.mask) (sampled_choices c.args.mask samples) in
+    let rows = ap length c.deref.ensures.value in
+    let few = c.in_ok-rows.ensures.few in
     let count = length-choices c.args.mask samples in
-    let small = product-small (length c.args.block.now.from) c.args.sizes.now samples c.requires.block.some_entries c.requires.block.most_entries c.requires.samples c.args.mask c.requires.mask in
+    let small = product-small (length c.args.block.now.from) c.args.sizes.now samples c.requires.block.1.some_entries c.requires.block.1.most_entries c.requires.samples c.args.mask c.requires.mask in
     let here = each-within (length c.deref.result.now) c.in_ok-counts.counts.items i c.in_ok-counts.ensures.limit in
     let at = ap (λ cs. get_or cs i 0) c.deref-count-items.ensures.value in
     omega arith
@@ -91,21 +93,21 @@ pub returns-clause-limit : goal.returns-clause-limit
 returns-clause-limit c = subst (AllByRecursion (λ n. n ≤ most_expected c.args.mask)) (sym c.of.ensures) c.loop-count.invariant.limit
 
 pub returns-clause-value : goal.returns-clause-value
-returns-clause-value c = λ answer are k less.
+returns-clause-value c = λ answer catalogue formed truths are k less.
     let samples = c.args.samples.now in
     let counts = c.in_ok-counts.counts.items in
-    let combos = c.deref.ensures.value ∙ c.in_ok-rows.ensures in
+    let combos = c.deref.ensures.value ∙ c.in_ok-rows.ensures.value catalogue formed truths in
     let long = c.in_ok-counts.ensures.length in
     let within : k < length counts = omega arith in
     let each = subst (AllByRecursion (λ rows. In rows (sampled_choices c.args.mask samples))) (sym combos)
-    (AllByRecursion-from_In (λ rows. In rows (sampled_choices c.args.mask samples)) (filter (satisfies c.args.catalog.now c.args.block.now c.args.mask) (sampled_choices c.args.mask samples))
-    (λ rows h. (In-filter-back (satisfies c.args.catalog.now c.args.block.now c.args.mask) rows (sampled_choices c.args.mask samples) h).0)) in
+    (AllByRecursion-from_In (λ rows. In rows (sampled_choices c.args.mask samples)) (filter (satisfies catalogue c.args.block.now c.args.mask) (sampled_choices c.args.mask samples))
+    (λ rows h. (In-filter-back (satisfies catalogue c.args.block.now c.args.mask) rows (sampled_choices c.args.mask samples) h).0)) in
     ap (λ ns. get_or ns k 0) (c.of.ensures ∙ c.loop-count.invariant.value
     ∙ ap (map (λ n. div_ceil (n * product_inside c.args.mask c.args.sizes.now) (product_inside c.args.mask c.args.sampled.now)))
     (take_all c.loop-count.count-index c.deref-count-items.result.now c.loop-count-test.false ∙ c.deref-count-items.ensures.value))
     ∙ get_or-map (λ n. div_ceil (n * product_inside c.args.mask c.args.sizes.now) (product_inside c.args.mask c.args.sampled.now)) counts k 0 0 within
     ∙ ap (λ n. div_ceil (n * product_inside c.args.mask c.args.sizes.now) (product_inside c.args.mask c.args.sampled.now))
-    (c.in_ok-counts.ensures.value answer c.args.catalog.now c.requires.block are each k less
-    ∙ ap (λ all. length (filter (known_reaches answer c.args.catalog.now c.args.block.now c.args.cutoff c.args.mask k) all)) combos)
-    ∙ ap (λ all. div_ceil (length (filter (known_reaches answer c.args.catalog.now c.args.block.now c.args.cutoff c.args.mask k)
-    (filter (satisfies c.args.catalog.now c.args.block.now c.args.mask) (sampled_choices c.args.mask samples))) * product_inside c.args.mask c.args.sizes.now) (product_inside c.args.mask all)) c.requires.sampled
+    (c.in_ok-counts.ensures.value answer catalogue formed are each k less
+    ∙ ap (λ all. length (filter (known_reaches answer catalogue c.args.block.now c.args.cutoff c.args.mask k) all)) combos)
+    ∙ ap (λ all. div_ceil (length (filter (known_reaches answer catalogue c.args.block.now c.args.cutoff c.args.mask k)
+    (filter (satisfies catalogue c.args.block.now c.args.mask) (sampled_choices c.args.mask samples))) * product_inside c.args.mask c.args.sizes.now) (product_inside c.args.mask all)) c.requires.sampled

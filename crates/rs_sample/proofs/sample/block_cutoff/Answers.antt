@@ -15,9 +15,21 @@ use Rattle.rs_sample.specs.Choosing.{sampled_choices}
 use Rattle.rs_sample.specs.Estimates.{cutoff_of, cutoff_place, nth_greatest, planned_rows, sampled_combinations}
 use Rattle.rs_sample.specs.Quotients.{product_inside}
 use Rattle.rs_sample.specs.Samples.{most_sampled}
-use Rattle.rs_sample.proofs.DrawFacts.{length-samples}
-use Rattle.rs_sample.proofs.FewFacts.{product-less, samples-small}
+use Rattle.rs_sample.proofs.FewFacts.{product-less, sampled-wide, samples-small}
 use Rattle.rs_sample.proofs.sample.block_cutoff.Goals as goal
+
+pub combinations-requires-clause-few : goal.combinations-requires-clause-few
+combinations-requires-clause-few c =
+    samples-small (length c.args.block.now.from) c.args.sizes.now c.args.samples.now c.requires.block.1.some_entries c.requires.block.1.most_entries c.requires.samples
+
+pub sample_sizes-sampled-requires-clause-few : goal.sample_sizes-sampled-requires-clause-few
+sample_sizes-sampled-requires-clause-few c =
+    samples-small (length c.args.block.now.from) c.args.sizes.now c.args.samples.now c.requires.block.1.some_entries c.requires.block.1.most_entries c.requires.samples
+
+pub cutoff_place-place-requires-clause-sampled : goal.cutoff_place-place-requires-clause-sampled
+cutoff_place-place-requires-clause-sampled c =
+    subst (AllByRecursion (λ size. size ≤ 131072)) (sym c.sample_sizes-sampled.ensures)
+    (sampled-wide (length c.args.block.now.from) c.args.sizes.now c.args.samples.now c.requires.block.1.some_entries c.requires.block.1.most_entries c.requires.samples)
 
 pub cutoff_place-place-requires-clause-none : goal.cutoff_place-place-requires-clause-none
 cutoff_place-place-requires-clause-none c = λ none.
@@ -25,25 +37,20 @@ cutoff_place-place-requires-clause-none c = λ none.
     let less = product-less (most_sampled (length c.args.block.now.from)) entries c.args.sizes.now c.args.samples.now c.requires.samples in
     subst (λ ss. product_inside entries ss ≡ 0) (sym c.sample_sizes-sampled.ensures) (omega (arith, less, none))
 
-pub cutoff-requires-clause-six : goal.cutoff-requires-clause-six
-cutoff-requires-clause-six c =
-    length-samples (most_sampled (length c.args.block.now.from)) c.args.sizes.now c.args.samples.now c.requires.samples ∙ ap length c.requires.sizes
-
 pub cutoff-requires-clause-few_rows : goal.cutoff-requires-clause-few_rows
 cutoff-requires-clause-few_rows c =
-    samples-small (length c.args.block.now.from) c.args.sizes.now c.args.samples.now c.requires.block.some_entries c.requires.block.most_entries c.requires.samples
+    samples-small (length c.args.block.now.from) c.args.sizes.now c.args.samples.now c.requires.block.1.some_entries c.requires.block.1.most_entries c.requires.samples
 
 pub cutoff-requires-clause-limits : goal.cutoff-requires-clause-limits
 cutoff-requires-clause-limits c =
-    each-weaker (IsTerm c.args.catalog.now c.args.block.now) (λ (t : Term). t.weight ≤ 1000000) (λ t is. is.most_weight) c.args.block.now.terms c.requires.block.terms
+    each-weaker (IsTerm c.requires.block.0 c.args.block.now) (λ (t : Term). t.weight ≤ 1000000) (λ t is. is.most_weight) c.args.block.now.terms c.requires.block.1.terms
 
 pub returns : goal.returns
-returns c = λ answer are.
-    let catalogue = c.args.catalog.now in
+returns c = λ answer catalogue formed truths are.
     let block = c.args.block.now in
     let sizes = c.args.sizes.now in
     let samples = c.args.samples.now in
-    let combos = c.deref.ensures.value ∙ c.in_ok-rows.ensures ∙ ap (sampled_combinations catalogue block samples) c.all_entries-entries.ensures in
+    let combos = c.deref.ensures.value ∙ c.in_ok-rows.ensures.value catalogue formed truths ∙ ap (sampled_combinations catalogue block samples) c.all_entries-entries.ensures in
     let each = subst (AllByRecursion (λ rows. In rows (sampled_choices (all_entries block) samples))) (sym combos)
     (AllByRecursion-from_In (λ rows. In rows (sampled_choices (all_entries block) samples)) (filter (satisfies catalogue block (all_entries block)) (sampled_choices (all_entries block) samples))
     (λ rows h. (In-filter-back (satisfies catalogue block (all_entries block)) rows (sampled_choices (all_entries block) samples) h).0)) in
@@ -52,4 +59,4 @@ returns c = λ answer are.
     ∙ ap₂ (λ mask ss. max 1 (div_ceil (planned_rows c.args.limit * product_inside mask ss) (product_inside mask sizes))) c.all_entries-entries.ensures c.sample_sizes-sampled.ensures in
     let cut : nth_greatest c.cutoff_place-place.result (map (λ rows. score_of answer catalogue block rows block.terms) c.deref.result.now) ≡ cutoff_of answer catalogue block sizes samples c.args.limit =
     ap₂ nth_greatest place (ap (map (λ rows. score_of answer catalogue block rows block.terms)) combos) in
-    subst (λ n. IfOk c.cutoff.result (λ k. k ≡ n)) cut (c.cutoff.ensures answer catalogue c.requires.block are each)
+    subst (λ n. IfOk c.cutoff.result (λ k. k ≡ n)) cut (c.cutoff.ensures answer catalogue formed are each)
