@@ -41,6 +41,10 @@ none-behind place choices = go choices ∙ ap (map (behind place)) (sym (append-
   go [] = refl
   go (rows ∷ cs) = ap (λ first. first ∷ map (behind (suc place)) cs) (shifted place rows) ∙ ap (λ rest. behind place (0 ∷ rows) ∷ rest) (go cs)
 
+pub map-same : (cs : List (List ℕ)) → map (behind 0) cs ≡ cs
+map-same [] = refl
+map-same (c ∷ cs) = ap (λ rest. c ∷ rest) (map-same cs)
+
 module _ (mask : ℕ) (samples : List (List ℕ)) where
   -- the choices of the entries from a place on, with 0 in front
   abbrev pub choices_from : ℕ → List (List ℕ)
@@ -76,9 +80,5 @@ module _ (mask : ℕ) (samples : List (List ℕ)) where
       ∙ sym (from-step place sample within is)
 
   -- from the first entry on they are all
-  map-same : (cs : List (List ℕ)) → map (behind 0) cs ≡ cs
-  map-same [] = refl
-  map-same (c ∷ cs) = ap (λ rest. c ∷ rest) (map-same cs)
-
   pub choices_from-first : choices_from 0 ≡ sampled_choices mask samples
   choices_from-first = map-same (sampled_choices (mask / 2 ^ 0) samples) ∙ ap (λ n. sampled_choices n samples) (div-one mask)

@@ -1,5 +1,5 @@
 -- There are few choices among the samples of a block.
-use Rattle.std.proofs.Common.{ℕ, zero, suc, ◌≡◌, ◌∙◌, ◌-◌, ◌/◌, ◌%◌, ◌^◌, ◌<◌, ◌≤◌, Bool, true, false, cond, eqb, List, [], ◌∷◌, length, map, refl, ap, arith}
+use Rattle.std.proofs.Common.{ℕ, zero, suc, ◌≡◌, ◌∙◌, ◌-◌, ◌/◌, ◌%◌, ◌^◌, ◌<◌, ◌≤◌, Bool, true, false, cond, eqb, List, [], ◌∷◌, length, map, refl, ap, arith, pow_mono}
 use Rattle.std.specs.Int.Bits.{bit_and}
 use Rattle.std.specs.List.{AllByRecursion}
 use Rattle.std.proofs.lemmas.Bool.{eqb-true}
@@ -134,3 +134,7 @@ pub terms-less : (catalogue : CatalogDef) (block : Block) → IsBlock catalogue 
 terms-less catalogue block formed =
     each-weaker (λ (t : Term). is_inside t.entries (all_entries block) ≡ true) (λ (t : Term). t.entries < 2 ^ length block.from)
     (λ t is. inside-less (length block.from) t.entries is) block.terms (terms-inside catalogue block formed)
+
+-- a mask of the entries of a block is a small number
+pub mask-small : (entries mask : ℕ) → entries ≤ 6 → mask < 2 ^ entries → mask < 64
+mask-small entries mask few below = let most : 2 ^ entries ≤ 2 ^ 6 = pow_mono few in omega arith

@@ -6,6 +6,7 @@ mod ChoiceFacts
 mod CountFacts
 mod DrawFacts
 mod EachFacts
+mod EarlyFacts
 mod EstimateFacts
 mod FewFacts
 mod FindFacts

@@ -57,12 +57,12 @@ inside-others entries mask inside =
     (sym (bit_and-others entries mask) ∙ ap (λ n. n / 2) (eqb-true (bit_and entries mask) entries inside))
 
 -- how many choices there are
-length-rows : (numbers : List ℕ) (lists : List (List ℕ)) → length (flat_map (λ r. map (before r) lists) numbers) ≡ length numbers * length lists
-length-rows [] lists = omega arith
-length-rows (number ∷ numbers) lists =
-    length-append (map (before number) lists) (flat_map (λ r. map (before r) lists) numbers)
-    ∙ ap (λ n. n + length (flat_map (λ r. map (before r) lists) numbers)) (length-map lists (before number))
-    ∙ ap (λ n. length lists + n) (length-rows numbers lists)
+pub length-rows : (f : ℕ → List ℕ → List ℕ) (numbers : List ℕ) (lists : List (List ℕ)) → length (flat_map (λ r. map (f r) lists) numbers) ≡ length numbers * length lists
+length-rows f [] lists = omega arith
+length-rows f (number ∷ numbers) lists =
+    length-append (map (f number) lists) (flat_map (λ r. map (f r) lists) numbers)
+    ∙ ap (λ n. n + length (flat_map (λ r. map (f r) lists) numbers)) (length-map lists (f number))
+    ∙ ap (λ n. length lists + n) (length-rows f numbers lists)
     ∙ (let e = add-mul 1 (length numbers) (length lists) in omega arith)
 
 length-first : (outside : Bool) (sample : List ℕ) → length (rows_of outside sample) ≡ cond outside 1 (length sample)
@@ -72,7 +72,7 @@ length-first false sample = refl
 pub length-choices : (mask : ℕ) (samples : List (List ℕ)) → length (sampled_choices mask samples) ≡ product_inside mask (map length samples)
 length-choices mask [] = refl
 length-choices mask (sample ∷ samples) =
-    length-rows (rows_of (eqb (mask % 2) 0) sample) (sampled_choices (mask / 2) samples)
+    length-rows before (rows_of (eqb (mask % 2) 0) sample) (sampled_choices (mask / 2) samples)
     ∙ ap (λ n. n * length (sampled_choices (mask / 2) samples)) (length-first (eqb (mask % 2) 0) sample)
     ∙ ap (λ n. cond (eqb (mask % 2) 0) 1 (length sample) * n) (length-choices (mask / 2) samples)
 

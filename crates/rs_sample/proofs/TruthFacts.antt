@@ -1,10 +1,10 @@
 -- Which conjuncts hold of rows, found by the places of the rows in their samples.
-use Rattle.std.proofs.Common.{ℕ, zero, suc, ◌≡◌, ◌∙◌, ◌+◌, ◌-◌, ◌*◌, ◌/◌, ◌%◌, ◌^◌, ◌<◌, ◌≤◌, ◌&&◌, Bool, true, false, cond, List, [], ◌∷◌, Some, length, map, get_or, take, refl, sym, ap, subst, arith}
+use Rattle.std.proofs.Common.{ℕ, zero, suc, ◌≡◌, ◌∙◌, ◌+◌, ◌^◌, ◌<◌, ◌&&◌, Bool, true, false, cond, List, [], ◌∷◌, Some, length, map, get_or, take, refl, sym, ap, subst, arith}
 use Rattle.std.specs.List.{list_all}
 use Rattle.std.specs.Prelude.{slice_get}
-use Rattle.std.proofs.Math.Nat.{pow-suc}
 use Rattle.std.proofs.lemmas.List.{length-map}
 use Rattle.rs_order.specs.Climbing.{In}
+use Rattle.rs_rank.proofs.MaskFacts.{even-power, half-power}
 use Rattle.rs_rank.specs.Ids.{rows_inside}
 use Rattle.rs_catalog.specs.Catalog.{CatalogDef}
 use Rattle.rs_query.specs.Combinations.{holds_inside}
@@ -23,13 +23,6 @@ use Rattle.rs_sample.proofs.PlaceFacts.{found-at}
 and-true : (b : Bool) → (b && true) ≡ b
 and-true true = refl
 and-true false = refl
-
--- a power of two behind the first
-even-power : (i : ℕ) → 2 ^ suc i % 2 ≡ 0
-even-power i = let power = pow-suc 2 i in omega arith
-
-half-power : (i : ℕ) → 2 ^ suc i / 2 ≡ 2 ^ i
-half-power i = let power = pow-suc 2 i in omega arith
 
 -- no conjunct is in the mask of none
 inside-none : (mask : ℕ) (all : List ConjunctDef) → AreInside 0 mask all

@@ -12,7 +12,7 @@ use Rattle.rs_query.specs.declared.term.Term.{Term}
 use Rattle.rs_sample.specs.Choosing.{sampled_choices}
 use Rattle.rs_sample.specs.Finding.{known_reaches}
 use Rattle.rs_sample.specs.Quotients.{most_expected, product_inside}
-use Rattle.rs_sample.proofs.FewFacts.{product-small, sampled-wide, samples-small}
+use Rattle.rs_sample.proofs.FewFacts.{mask-small, product-small, sampled-wide, samples-small}
 use Rattle.rs_sample.proofs.GridFacts.{each-within}
 use Rattle.rs_sample.proofs.ListFacts.{get_or-other, map-with}
 use Rattle.rs_sample.proofs.MemberFacts.{length-choices}
@@ -21,6 +21,9 @@ use Rattle.rs_sample.proofs.count.estimates_for.Goals as goal
 pub combinations-requires-clause-few : goal.combinations-requires-clause-few
 combinations-requires-clause-few c =
     samples-small (length c.args.block.now.from) c.args.sizes.now c.args.samples.now c.requires.block.1.some_entries c.requires.block.1.most_entries c.requires.samples
+
+pub combinations-requires-clause-mask : goal.combinations-requires-clause-mask
+combinations-requires-clause-mask c = mask-small (length c.args.block.now.from) c.args.mask c.requires.block.1.most_entries c.requires.mask
 
 pub count_each-requires-clause-few : goal.count_each-requires-clause-few
 count_each-requires-clause-few c =

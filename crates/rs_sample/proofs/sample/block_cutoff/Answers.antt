@@ -1,4 +1,4 @@
-use Rattle.std.proofs.Common.{◌≡◌, ◌∙◌, ◌*◌, ◌≤◌, length, map, sym, ap, ap₂, subst, arith}
+use Rattle.std.proofs.Common.{◌≡◌, ◌∙◌, ◌*◌, ◌^◌, ◌<◌, ◌≤◌, length, map, sym, ap, ap₂, subst, arith, pow_pos}
 use Rattle.std.specs.Prelude.{IfOk, max}
 use Rattle.std.specs.Int.{div_ceil}
 use Rattle.std.specs.List.{AllByRecursion, filter}
@@ -15,12 +15,18 @@ use Rattle.rs_sample.specs.Choosing.{sampled_choices}
 use Rattle.rs_sample.specs.Estimates.{cutoff_of, cutoff_place, nth_greatest, planned_rows, sampled_combinations}
 use Rattle.rs_sample.specs.Quotients.{product_inside}
 use Rattle.rs_sample.specs.Samples.{most_sampled}
-use Rattle.rs_sample.proofs.FewFacts.{product-less, sampled-wide, samples-small}
+use Rattle.rs_sample.proofs.FewFacts.{mask-small, product-less, sampled-wide, samples-small}
 use Rattle.rs_sample.proofs.sample.block_cutoff.Goals as goal
 
 pub combinations-requires-clause-few : goal.combinations-requires-clause-few
 combinations-requires-clause-few c =
     samples-small (length c.args.block.now.from) c.args.sizes.now c.args.samples.now c.requires.block.1.some_entries c.requires.block.1.most_entries c.requires.samples
+
+pub combinations-requires-clause-mask : goal.combinations-requires-clause-mask
+combinations-requires-clause-mask c =
+    let same = c.all_entries-entries.ensures in
+    let some : 0 < 2 ^ length c.args.block.now.from = pow_pos (length c.args.block.now.from) in
+    mask-small (length c.args.block.now.from) c.all_entries-entries.result c.requires.block.1.most_entries (omega arith)
 
 pub sample_sizes-sampled-requires-clause-few : goal.sample_sizes-sampled-requires-clause-few
 sample_sizes-sampled-requires-clause-few c =
