@@ -1,5 +1,5 @@
 -- What the functions of the optimiser are given, and what they find.
-use Rattle.std.specs.Prelude.{ℕ, ◌≡◌, ◌<◌, ◌^◌, List, length, Option, Some, option_map, if◌then◌else◌}
+use Rattle.std.specs.Prelude.{ℕ, ◌≡◌, ◌<◌, ◌≤◌, ◌+◌, ◌^◌, List, length, Option, Some, None, option_map, if◌then◌else◌}
 use Rattle.rs_query.specs.Tables.{all_entries}
 use Rattle.rs_query.specs.WellFormed.{IsQuery}
 use Rattle.rs_query.specs.declared.block.Block.{Block}
@@ -7,7 +7,10 @@ use Rattle.rs_query.specs.declared.query.Query.{Query}
 use Rattle.rs_sample.specs.Cards.{BlockCards}
 use Rattle.rs_sample.specs.Kept.{cards_of}
 use Rattle.rs_query.specs.Blocks.{block_in}
-use Rattle.rs_plan.specs.Trees.{PlanTree, Rank, SetOperator}
+use Rattle.rs_plan.specs.Plans.{HasNoDistinct}
+use Rattle.rs_plan.specs.Trees.{Distinct, JoinOperator, PlanTree, Rank, RankScan, SeqScan, SetOperator, entries, terms}
+use Rattle.rs_enum.specs.Bounds.{most_cost, most_set_cost}
+use Rattle.rs_enum.specs.Costs.{cost_in, cost_of}
 use Rattle.rs_enum.specs.declared.candidate.Candidate.{Candidate}
 use Rattle.rs_enum.specs.declared.candidate.Choice.{Choice}
 use Rattle.rs_enum.specs.declared.candidate.Choice.TheVariants as choice
@@ -26,6 +29,34 @@ use Rattle.rs_enum.specs.Tops.{AreTops, IsExtent, IsTheBase, IsTheFirstTop, IsTh
 pub record CanPlan (planning : Planning) : Type 0 where
   pub query : IsQuery planning.catalog.now planning.query.now
   pub cards : AreCards planning.query.now (cards_of planning.cards.now)
+
+-- a cost is that of a part of a plan of the block of this number, and within its bounds
+pub record IsPartCost (planning : Planning) (number : ℕ) (tree : PlanTree) (cost : ℕ) : Type 0 where
+  pub value : cost ≡ cost_in planning.catalog.now planning.query.now (cards_of planning.cards.now) number tree
+  pub most : cost ≤ most_cost (entries tree) (terms tree)
+  pub spare : HasNoDistinct tree → cost + 2 ^ 105 ≤ most_cost (entries tree) (terms tree)
+
+-- the costs of what is below a node: of its child, or of its left side and of its right one
+abbrev pub AreBelow : Planning → ℕ → PlanTree → ℕ → ℕ → Type 0
+AreBelow planning number (SeqScan entry) first second = Unit {0}
+AreBelow planning number (RankScan entry term index) first second = Unit {0}
+AreBelow planning number (Rank term child) first second = IsPartCost planning number child first
+AreBelow planning number (JoinOperator kind left right) first second = IsPartCost planning number left first × IsPartCost planning number right second
+AreBelow planning number (Distinct child) first second = IsPartCost planning number child first
+AreBelow planning number (SetOperator left right) first second = Unit {0}
+
+-- the cost of a set operator, or of operators for terms above one
+pub record IsSetCost (planning : Planning) (tree : PlanTree) (cost : ℕ) : Type 0 where
+  pub value : cost ≡ cost_of planning.catalog.now planning.query.now (cards_of planning.cards.now) tree
+  pub most : cost ≤ most_set_cost (terms tree)
+
+abbrev pub AreBelowSet : Planning → PlanTree → ℕ → ℕ → Type 0
+AreBelowSet planning (SeqScan entry) first second = Unit {0}
+AreBelowSet planning (RankScan entry term index) first second = Unit {0}
+AreBelowSet planning (Rank term child) first second = IsSetCost planning child first
+AreBelowSet planning (JoinOperator kind left right) first second = Unit {0}
+AreBelowSet planning (Distinct child) first second = Unit {0}
+AreBelowSet planning (SetOperator left right) first second = IsPartCost planning 1 left first × IsPartCost planning 2 right second
 
 -- the block whose plans are looked for, also as a query of its own, and its cards
 abbrev pub block_of : Search → Block

@@ -11,7 +11,7 @@ ghost use Rattle.rs_plan.specs.Shapes.{tree_of};
 ghost use Rattle.rs_plan.specs.Trees.{entries, terms};
 ghost use Rattle.rs_enum.specs.Bounds.{IsNumberedTerm, IsSetPart, has_set_operator, most_cost, most_set_cost};
 ghost use Rattle.rs_enum.specs.Costs.{call_cost, cost_in, cost_of, estimate_of};
-ghost use Rattle.rs_enum.specs.Given.{CanPlan};
+ghost use Rattle.rs_enum.specs.Given.{AreBelow, AreBelowSet, CanPlan, IsPartCost, IsSetCost};
 ghost use Rattle.rs_enum.specs.QueryCards.{AreCards, IsBlockNumber, cards_at};
 
 use crate::planning::Planning;
@@ -61,19 +61,41 @@ pub(crate) fn has_set_operator(plan: &Plan) -> bool
 }
 
 /// The cost of a set operator, or of operators for terms above one.
-pub(crate) fn set_cost(planning: &Planning, plan: &Plan) -> u128
+fn set_cost(planning: &Planning, plan: &Plan) -> u128
     requires planning { CanPlan planning.now }
     requires part { IsSetPart planning.now.catalog.now planning.now.query.now (tree_of plan.now) }
-    ensures value { result ≡ cost_of planning.now.catalog.now planning.now.query.now (cards_of planning.now.cards.now) (tree_of plan.now) }
-    ensures most { result ≤ most_set_cost (terms (tree_of plan.now)) }
+    ensures { IsSetCost planning.now (tree_of plan.now) result }
+{
+    match plan {
+        Plan::Rank { term: _, child } => {
+            let child = &**child;
+            let below = set_cost(planning, child);
+            set_node_cost(planning, plan, below, 0)
+        }
+        Plan::SetOperator { left, right } => {
+            let left = &**left;
+            let right = &**right;
+            let first = part_cost(planning, 1, left);
+            let second = part_cost(planning, 2, right);
+            set_node_cost(planning, plan, first, second)
+        }
+        _ => 0,
+    }
+}
+
+/// The same, where what is below it costs this much: the child, or the left side and the right one.
+pub(crate) fn set_node_cost(planning: &Planning, plan: &Plan, first: u128, second: u128) -> u128
+    requires planning { CanPlan planning.now }
+    requires part { IsSetPart planning.now.catalog.now planning.now.query.now (tree_of plan.now) }
+    requires below { AreBelowSet planning.now (tree_of plan.now) first second }
+    ensures { IsSetCost planning.now (tree_of plan.now) result }
 {
     match plan {
         Plan::Rank { term, child } => {
             let child = &**child;
-            let below = set_cost(planning, child);
             let rows = set_rows(planning, child);
             with_calls(
-                below,
+                first,
                 rows,
                 call_cost(planning.catalog, block_in(planning.query, 1), *term),
             )
@@ -81,11 +103,9 @@ pub(crate) fn set_cost(planning: &Planning, plan: &Plan) -> u128
         Plan::SetOperator { left, right } => {
             let left = &**left;
             let right = &**right;
-            let left_cost = part_cost(planning, 1, left);
-            let right_cost = part_cost(planning, 2, right);
             let left_rows = part_rows(planning, 1, left);
             let right_rows = part_rows(planning, 2, right);
-            both_sides(left_cost, right_cost, left_rows, right_rows)
+            both_sides(first, second, left_rows, right_rows)
         }
         _ => 0,
     }
@@ -109,6 +129,55 @@ pub(crate) fn part_cost(planning: &Planning, number: u8, plan: &Plan) -> u128
     requires planning { CanPlan planning.now }
     requires number { IsBlockNumber (cards_of planning.now.cards.now) number }
     requires part { IsPart planning.now.catalog.now (block_in planning.now.query.now number) (tree_of plan.now) }
+    ensures { IsPartCost planning.now number (tree_of plan.now) result }
+{
+    match plan {
+        Plan::Rank { term: _, child } => {
+            let child = &**child;
+            let below = part_cost(planning, number, child);
+            node_cost(planning, number, plan, below, 0)
+        }
+        Plan::HashJoin { left, right } => {
+            let left = &**left;
+            let right = &**right;
+            let first = part_cost(planning, number, left);
+            let second = part_cost(planning, number, right);
+            node_cost(planning, number, plan, first, second)
+        }
+        Plan::NestedJoin { left, right } => {
+            let left = &**left;
+            let right = &**right;
+            let first = part_cost(planning, number, left);
+            let second = part_cost(planning, number, right);
+            node_cost(planning, number, plan, first, second)
+        }
+        Plan::Distinct { child } => {
+            let child = &**child;
+            let below = part_cost(planning, number, child);
+            node_cost(planning, number, plan, below, 0)
+        }
+        Plan::SeqScan { entry: _ } => node_cost(planning, number, plan, 0, 0),
+        Plan::RankScan {
+            entry: _,
+            term: _,
+            index: _,
+        } => node_cost(planning, number, plan, 0, 0),
+        Plan::SetOperator { left: _, right: _ } => 0,
+    }
+}
+
+/// The same, where what is below it costs this much: the child, or the left side and the right one.
+pub(crate) fn node_cost(
+    planning: &Planning,
+    number: u8,
+    plan: &Plan,
+    first: u128,
+    second: u128,
+) -> u128
+    requires planning { CanPlan planning.now }
+    requires number { IsBlockNumber (cards_of planning.now.cards.now) number }
+    requires part { IsPart planning.now.catalog.now (block_in planning.now.query.now number) (tree_of plan.now) }
+    requires below { AreBelow planning.now number (tree_of plan.now) first second }
     ensures value { result ≡ cost_in planning.now.catalog.now planning.now.query.now (cards_of planning.now.cards.now) number (tree_of plan.now) }
     ensures most { result ≤ most_cost (entries (tree_of plan.now)) (terms (tree_of plan.now)) }
     ensures spare { HasNoDistinct (tree_of plan.now)
@@ -127,10 +196,9 @@ pub(crate) fn part_cost(planning: &Planning, number: u8, plan: &Plan) -> u128
         } => 2 * index_rows(planning.cards, number, *entry, *term),
         Plan::Rank { term, child } => {
             let child = &**child;
-            let below = part_cost(planning, number, child);
             let rows = part_rows(planning, number, child);
             with_calls(
-                below,
+                first,
                 rows,
                 call_cost(planning.catalog, block_in(planning.query, number), *term),
             )
@@ -138,28 +206,23 @@ pub(crate) fn part_cost(planning: &Planning, number: u8, plan: &Plan) -> u128
         Plan::HashJoin { left, right } => {
             let left = &**left;
             let right = &**right;
-            let left_cost = part_cost(planning, number, left);
-            let right_cost = part_cost(planning, number, right);
             let left_rows = part_rows(planning, number, left);
             let right_rows = part_rows(planning, number, right);
             let rows = part_rows(planning, number, plan);
-            hash_cost(left_cost, right_cost, left_rows, right_rows, rows)
+            hash_cost(first, second, left_rows, right_rows, rows)
         }
         Plan::NestedJoin { left, right } => {
             let left = &**left;
             let right = &**right;
-            let left_cost = part_cost(planning, number, left);
-            let right_cost = part_cost(planning, number, right);
             let left_rows = part_rows(planning, number, left);
             let right_rows = part_rows(planning, number, right);
             let rows = part_rows(planning, number, plan);
-            nested_cost(left_cost, right_cost, left_rows, right_rows, rows)
+            nested_cost(first, second, left_rows, right_rows, rows)
         }
         Plan::Distinct { child } => {
             let child = &**child;
-            let below = part_cost(planning, number, child);
             let rows = part_rows(planning, number, child);
-            below + rows
+            first + rows
         }
         Plan::SetOperator { left: _, right: _ } => 0,
     }

@@ -8,11 +8,11 @@ ghost use Rattle.rs_query.specs.Blocks.{block_in};
 ghost use Rattle.rs_plan.specs.Plans.{IsEntryNumber, IsPart, IsPlan};
 ghost use Rattle.rs_plan.specs.Shapes.{tree_of};
 ghost use Rattle.rs_enum.specs.Bounds.{IsSetPart};
-ghost use Rattle.rs_enum.specs.Given.{CanPlan};
+ghost use Rattle.rs_enum.specs.Given.{CanPlan, IsPartCost, IsSetCost};
 ghost use Rattle.rs_enum.specs.QueryCards.{AreCards, IsBlockNumber};
 ghost use Rattle.rs_enum.specs.Texts.{HasEntry, alias_of, behind, counted, done_by, first_of, name_of, nodes_of, operator_of, plan_lines, table_of, text_of};
 
-use crate::costs::{has_set_operator, part_cost, part_rows, set_cost, set_rows};
+use crate::costs::{has_set_operator, node_cost, part_rows, set_node_cost, set_rows};
 use crate::planning::Planning;
 use rs_catalog::Catalog;
 use rs_plan::{Counts, Plan};
@@ -29,6 +29,13 @@ struct Line {
     rows: u128,
     cost: u128,
     done: Option<Counts>,
+}
+
+/// The lines of a part of a plan, and what it costs.
+#[derive(Drop)]
+struct Lines {
+    text: Vec<u8>,
+    cost: u128,
 }
 
 /// The text of a plan: a line for each node, with how many rows are expected of it and what it costs. With counts each line
@@ -54,131 +61,153 @@ pub fn explain(
         query,
         cards,
     };
-    let mut text = Vec::new(alloc);
-    if has_set_operator(plan) {
-        put_set_lines(alloc, &mut text, &planning, 0, plan, counts)?;
+    let told = if has_set_operator(plan) {
+        set_lines(alloc, &planning, 0, plan, counts)?
     } else {
-        put_part_lines(alloc, &mut text, &planning, 0, 1, plan, counts)?;
-    }
-    Ok(text)
+        part_lines(alloc, &planning, 0, 1, plan, counts)?
+    };
+    Ok(told.text)
 }
 
-/// Puts the lines of a set operator, or of operators for terms above one, that stands this many levels below the root.
-fn put_set_lines(
+/// The lines of a set operator, or of operators for terms above one, that stands this many levels below the root, and its cost.
+fn set_lines(
     alloc: Global,
-    text: &mut Vec<u8>,
     planning: &Planning,
     level: u8,
     plan: &Plan,
     counts: Option<&[Counts]>,
-) -> Result<(), Memory>
+) -> Result<Lines, Memory>
     requires planning { CanPlan planning.now }
     requires part { IsSetPart planning.now.catalog.now planning.now.query.now (tree_of plan.now) }
     requires few { level + nodes_of (tree_of plan.now) ≤ 255 }
     requires counts { IfSome counts (λ told. nodes_of (tree_of plan.now) ≤ length told.now) }
-    ensures { OnOk result (text.new.items ≡ text.old.items ++ plan_lines planning.now.catalog.now planning.now.query.now (cards_of planning.now.cards.now) level 1
+    ensures text { IfOk result (λ told. told.text.items ≡ plan_lines planning.now.catalog.now planning.now.query.now (cards_of planning.now.cards.now) level 1
         (tree_of plan.now) (option_map (λ told. told.now) counts.entry)) }
+    ensures cost { IfOk result (λ told. IsSetCost planning.now (tree_of plan.now) told.cost) }
 {
-    let line = Line {
-        level,
-        rows: set_rows(planning, plan),
-        cost: set_cost(planning, plan),
-        done: first_of(counts),
-    };
-    put_line(alloc, text, planning.catalog, planning.query, 1, plan, line)?;
     match plan {
         Plan::Rank { term: _, child } => {
             let child = &**child;
-            put_set_lines(alloc, text, planning, level + 1, child, behind(1, counts))
+            let below = set_lines(alloc, planning, level + 1, child, behind(1, counts))?;
+            let line = Line {
+                level,
+                rows: set_rows(planning, plan),
+                cost: set_node_cost(planning, plan, below.cost, 0),
+                done: first_of(counts),
+            };
+            lines_over(alloc, planning, 1, plan, line, &below.text, &[])
         }
         Plan::SetOperator { left, right } => {
             let left = &**left;
             let right = &**right;
             let right_counts = behind(1 + nodes_of(left), counts);
-            put_part_lines(alloc, text, planning, level + 1, 1, left, behind(1, counts))?;
-            put_part_lines(alloc, text, planning, level + 1, 2, right, right_counts)
+            let first = part_lines(alloc, planning, level + 1, 1, left, behind(1, counts))?;
+            let second = part_lines(alloc, planning, level + 1, 2, right, right_counts)?;
+            let line = Line {
+                level,
+                rows: set_rows(planning, plan),
+                cost: set_node_cost(planning, plan, first.cost, second.cost),
+                done: first_of(counts),
+            };
+            lines_over(alloc, planning, 1, plan, line, &first.text, &second.text)
         }
-        _ => Ok(()),
+        _ => Err(Memory),
     }
 }
 
-/// Puts the lines of a part of a plan of the block of this number that stands this many levels below the root.
-fn put_part_lines(
+/// The lines of a part of a plan of the block of this number that stands this many levels below the root, and its cost.
+fn part_lines(
     alloc: Global,
-    text: &mut Vec<u8>,
     planning: &Planning,
     level: u8,
     number: u8,
     plan: &Plan,
     counts: Option<&[Counts]>,
-) -> Result<(), Memory>
+) -> Result<Lines, Memory>
     requires planning { CanPlan planning.now }
     requires number { IsBlockNumber (cards_of planning.now.cards.now) number }
     requires part { IsPart planning.now.catalog.now (block_in planning.now.query.now number) (tree_of plan.now) }
     requires few { level + nodes_of (tree_of plan.now) ≤ 255 }
     requires counts { IfSome counts (λ told. nodes_of (tree_of plan.now) ≤ length told.now) }
-    ensures { OnOk result (text.new.items ≡ text.old.items ++ plan_lines planning.now.catalog.now planning.now.query.now (cards_of planning.now.cards.now) level number
+    ensures text { IfOk result (λ told. told.text.items ≡ plan_lines planning.now.catalog.now planning.now.query.now (cards_of planning.now.cards.now) level number
         (tree_of plan.now) (option_map (λ told. told.now) counts.entry)) }
+    ensures cost { IfOk result (λ told. IsPartCost planning.now number (tree_of plan.now) told.cost) }
 {
-    let line = Line {
-        level,
-        rows: part_rows(planning, number, plan),
-        cost: part_cost(planning, number, plan),
-        done: first_of(counts),
-    };
+    match plan {
+        Plan::Rank { term: _, child } | Plan::Distinct { child } => {
+            let child = &**child;
+            let told = behind(1, counts);
+            let below = part_lines(alloc, planning, level + 1, number, child, told)?;
+            let line = Line {
+                level,
+                rows: part_rows(planning, number, plan),
+                cost: node_cost(planning, number, plan, below.cost, 0),
+                done: first_of(counts),
+            };
+            lines_over(alloc, planning, number, plan, line, &below.text, &[])
+        }
+        Plan::HashJoin { left, right } | Plan::NestedJoin { left, right } => {
+            let left = &**left;
+            let right = &**right;
+            let told = behind(1, counts);
+            let right_told = behind(1 + nodes_of(left), counts);
+            let first = part_lines(alloc, planning, level + 1, number, left, told)?;
+            let second = part_lines(alloc, planning, level + 1, number, right, right_told)?;
+            let line = Line {
+                level,
+                rows: part_rows(planning, number, plan),
+                cost: node_cost(planning, number, plan, first.cost, second.cost),
+                done: first_of(counts),
+            };
+            lines_over(alloc, planning, number, plan, line, &first.text, &second.text)
+        }
+        _ => {
+            let line = Line {
+                level,
+                rows: part_rows(planning, number, plan),
+                cost: node_cost(planning, number, plan, 0, 0),
+                done: first_of(counts),
+            };
+            lines_over(alloc, planning, number, plan, line, &[], &[])
+        }
+    }
+}
+
+/// The line of a node of a plan of the block of this number, and behind it the lines of its child, or of its left side and of its
+/// right one.
+fn lines_over(
+    alloc: Global,
+    planning: &Planning,
+    number: u8,
+    plan: &Plan,
+    line: Line,
+    left: &[u8],
+    right: &[u8],
+) -> Result<Lines, Memory>
+    requires block { IsBlock planning.now.catalog.now (block_in planning.now.query.now number) }
+    requires entry { HasEntry (block_in planning.now.query.now number) (tree_of plan.now) }
+    ensures text { IfOk result (λ told. told.text.items ≡ replicate (2 * line.level) 32
+        ++ name_of planning.now.catalog.now planning.now.query.now number (tree_of plan.now)
+        ++ codes " est=" ++ decimal line.rows ++ codes " cost=" ++ decimal line.cost
+        ++ done_by (tree_of plan.now) line.done ++ 10 ∷ [] ++ left.now ++ right.now) }
+    ensures cost { IfOk result (λ told. told.cost ≡ line.cost) }
+{
+    let mut text = Vec::new(alloc);
     put_line(
         alloc,
-        text,
+        &mut text,
         planning.catalog,
         planning.query,
         number,
         plan,
         line,
     )?;
-    match plan {
-        Plan::Rank { term: _, child } | Plan::Distinct { child } => {
-            let child = &**child;
-            put_part_lines(
-                alloc,
-                text,
-                planning,
-                level + 1,
-                number,
-                child,
-                behind(1, counts),
-            )
-        }
-        Plan::HashJoin { left, right } | Plan::NestedJoin { left, right } => {
-            let left = &**left;
-            let right = &**right;
-            let right_counts = behind(1 + nodes_of(left), counts);
-            put_part_lines(
-                alloc,
-                text,
-                planning,
-                level + 1,
-                number,
-                left,
-                behind(1, counts),
-            )?;
-            put_part_lines(
-                alloc,
-                text,
-                planning,
-                level + 1,
-                number,
-                right,
-                right_counts,
-            )
-        }
-        Plan::SeqScan { entry: _ } => Ok(()),
-        Plan::RankScan {
-            entry: _,
-            term: _,
-            index: _,
-        } => Ok(()),
-        Plan::SetOperator { left: _, right: _ } => Ok(()),
-    }
+    text.extend_from_slice(left)?;
+    text.extend_from_slice(right)?;
+    Ok(Lines {
+        text,
+        cost: line.cost,
+    })
 }
 
 /// How many nodes a plan has. It is at most 255 of each plan of a query.

@@ -6,23 +6,23 @@ use Rattle.rs_enum.proofs.CostFacts.{block-formed, block-part, set-part}
 use Rattle.rs_enum.proofs.TextFacts.{few-nodes, few-set-nodes}
 use Rattle.rs_enum.proofs.text.explain.Goals as goal
 
-pub put_set_lines-requires-clause-part : goal.put_set_lines-requires-clause-part
-put_set_lines-requires-clause-part c =
+pub set_lines-requires-clause-part : goal.set_lines-requires-clause-part
+set_lines-requires-clause-part c =
     set-part c.args.catalog.now c.args.query.now (tree_of c.args.plan.now) (inl c.requires.plan) (sym c.has_set_operator.ensures ∙ c.if-has_set_operator.true)
 
-pub put_set_lines-requires-clause-few : goal.put_set_lines-requires-clause-few
-put_set_lines-requires-clause-few c =
+pub set_lines-requires-clause-few : goal.set_lines-requires-clause-few
+set_lines-requires-clause-few c =
     let tree = tree_of c.args.plan.now in
     let part = set-part c.args.catalog.now c.args.query.now tree (inl c.requires.plan) (sym c.has_set_operator.ensures ∙ c.if-has_set_operator.true) in
     let few = few-set-nodes c.args.catalog.now c.args.query.now c.requires.query tree part in
     omega arith
 
-pub put_part_lines-requires-clause-part : goal.put_part_lines-requires-clause-part
-put_part_lines-requires-clause-part c =
+pub part_lines-requires-clause-part : goal.part_lines-requires-clause-part
+part_lines-requires-clause-part c =
     block-part c.args.catalog.now c.args.query.now (tree_of c.args.plan.now) (inl c.requires.plan) (sym c.has_set_operator.ensures ∙ c.if-has_set_operator.false)
 
-pub put_part_lines-requires-clause-few : goal.put_part_lines-requires-clause-few
-put_part_lines-requires-clause-few c =
+pub part_lines-requires-clause-few : goal.part_lines-requires-clause-few
+part_lines-requires-clause-few c =
     let tree = tree_of c.args.plan.now in
     let part = block-part c.args.catalog.now c.args.query.now tree (inl c.requires.plan) (sym c.has_set_operator.ensures ∙ c.if-has_set_operator.false) in
     let formed = block-formed c.args.catalog.now c.args.query.now 1 c.requires.query in
