@@ -173,12 +173,22 @@ fn rows_join_behind_those_of_their_score(rt: HostRuntime) -> Result<(), Fail> {
     let mut scorer = MemScorer::new(alloc);
     add_index(&rt, alloc, &mut catalog, "one", &mut scorer)?;
     add_index(&rt, alloc, &mut catalog, "two", &mut scorer)?;
-    assert_eq!(&rt; grow(&rt, alloc, &mut catalog, (9, 8), &mut scorer)?, Ok(()));
+    assert_eq!(&rt;
+        grow(&rt, alloc, &mut catalog, (9, 8), &mut scorer)?,
+        Ok(())
+    );
     assert_last_calls(&rt, &scorer, &[9, 8, 9, 8]);
     for name in ["one", "two"] {
         let all = [(10, 1), (9, 5), (8, 2), (8, 6), (5, 3), (2, 4)];
         assert_entries(&rt, alloc, &catalog, name, 6, &all)?;
-        assert_entries(&rt, alloc, &catalog, name, 4, &[(10, 1), (8, 2), (5, 3), (2, 4)])?;
+        assert_entries(
+            &rt,
+            alloc,
+            &catalog,
+            name,
+            4,
+            &[(10, 1), (8, 2), (5, 3), (2, 4)],
+        )?;
     }
     Ok(())
 }
@@ -195,9 +205,22 @@ fn no_row_joins_where_one_has_no_score(rt: HostRuntime) -> Result<(), Fail> {
         got: 11,
         max: 10,
     };
-    assert_eq!(&rt; grow(&rt, alloc, &mut catalog, (9, 11), &mut scorer)?, Err(bad));
+    assert_eq!(&rt;
+        grow(&rt, alloc, &mut catalog, (9, 11), &mut scorer)?,
+        Err(bad)
+    );
     assert_last_calls(&rt, &scorer, &[9, 11]);
     scorer.fail_at(8)?;
-    assert_eq!(&rt; grow(&rt, alloc, &mut catalog, (7, 3), &mut scorer)?, Err(GrowFault::Probe { index: 0 }));
-    assert_entries(&rt, alloc, &catalog, "one", 9, &[(10, 1), (8, 2), (5, 3), (2, 4)])
+    assert_eq!(&rt;
+        grow(&rt, alloc, &mut catalog, (7, 3), &mut scorer)?,
+        Err(GrowFault::Probe { index: 0 })
+    );
+    assert_entries(
+        &rt,
+        alloc,
+        &catalog,
+        "one",
+        9,
+        &[(10, 1), (8, 2), (5, 3), (2, 4)],
+    )
 }
