@@ -159,7 +159,15 @@ fn part_lines(
                 cost: node_cost(planning, number, plan, first.cost, second.cost),
                 done: first_of(counts),
             };
-            lines_over(alloc, planning, number, plan, line, &first.text, &second.text)
+            lines_over(
+                alloc,
+                planning,
+                number,
+                plan,
+                line,
+                &first.text,
+                &second.text,
+            )
         }
         _ => {
             let line = Line {
