@@ -10,9 +10,10 @@ use Rattle.rs_sample.specs.Cards.{BlockCards}
 use Rattle.rs_plan.specs.Plans.{HasNoDistinct, IsPart, IsRank, MayJoin}
 use Rattle.rs_plan.specs.Trees.{Distinct, JoinOperator, PlanTree, Rank, RankScan, SeqScan, SetOperator, entries, terms}
 use Rattle.rs_enum.specs.Candidates.{IsCandidate}
+use Rattle.rs_enum.specs.Costs.{cost_of}
 use Rattle.rs_enum.specs.Least.{ComesNoLater}
 use Rattle.rs_enum.proofs.WithinFacts.{terms-below}
-use Rattle.rs_enum.proofs.OrderOfPlans.{exchanged-below, exchanged-left, exchanged-right, no_later-on}
+use Rattle.rs_enum.proofs.OrderOfPlans.{by_value-on, exchanged-below, exchanged-left, exchanged-right}
 
 -- an operator for a term over another child of the same entries and terms
 rank-of : (block : Block) (t : ℕ) (a b : PlanTree) → entries a ≡ entries b → terms a ≡ terms b → IsRank block t b → IsRank block t a
@@ -68,7 +69,7 @@ module _ (catalogue : CatalogDef) (block : Block) where
           record {
             found = f.found;
             is = f.is;
-            no_later = no_later-on catalogue query cards f.found (Rank t c.found) (Rank t child) f.no_later
+            no_later = by_value-on (cost_of catalogue query cards) f.found (Rank t c.found) (Rank t child) f.no_later
                 (exchanged-below catalogue query cards block t c.found child s.part is.0 s.its_entries s.its_terms c.no_later);
           }
       covers-all (JoinOperator kind l r) is whole =
@@ -92,8 +93,8 @@ module _ (catalogue : CatalogDef) (block : Block) where
           record {
             found = f.found;
             is = f.is;
-            no_later = no_later-on catalogue query cards f.found (JoinOperator kind a.found b.found) (JoinOperator kind l r) f.no_later
-                (no_later-on catalogue query cards (JoinOperator kind a.found b.found) (JoinOperator kind l b.found) (JoinOperator kind l r)
+            no_later = by_value-on (cost_of catalogue query cards) f.found (JoinOperator kind a.found b.found) (JoinOperator kind l r) f.no_later
+                (by_value-on (cost_of catalogue query cards) (JoinOperator kind a.found b.found) (JoinOperator kind l b.found) (JoinOperator kind l r)
                 (exchanged-left catalogue query cards block kind a.found l b.found s.part is.0 s.its_entries s.its_terms a.no_later)
                 (exchanged-right catalogue query cards block kind l b.found r u.part is.1 u.its_entries u.its_terms b.no_later));
           }

@@ -23,15 +23,15 @@ use Rattle.rs_enum.specs.declared.candidate.Choice.TheVariants as choice
 use Rattle.rs_enum.specs.declared.candidate.Sides.{Sides}
 use Rattle.rs_enum.specs.Bounds.{most_cost}
 use Rattle.rs_enum.specs.Candidates.{IsCandidate}
-use Rattle.rs_enum.specs.Costs.{call_cost, estimate_of}
+use Rattle.rs_enum.specs.Costs.{call_cost, cost_of, estimate_of}
 use Rattle.rs_enum.specs.Least.{ComesNoLater}
 use Rattle.rs_enum.specs.Within.{terms_within}
-use Rattle.rs_enum.specs.Places.{AreKept, AreNoSides, AreSides, CanBeMade, IsFirst, IsOne, IsScan, Placed, kept_at, start_of, tree_at}
+use Rattle.rs_enum.specs.Places.{AreKept, AreNoSides, AreSides, CanBeMade, IsOne, IsScan, IsTheFirst, Placed, kept_at, start_of, tree_at}
 use Rattle.rs_enum.proofs.BitFacts.{inside-union-left, left-has_not, left-of-union, left-without, mask-number, number-apart, number-inside, part-and-left, part-apart}
 use Rattle.rs_enum.proofs.CostFacts.{numbered}
 use Rattle.rs_enum.proofs.NodeFacts.{hash-whole, nested-whole, rank-whole, rank_scan-whole, scan-whole}
-use Rattle.rs_enum.proofs.OrderOfPlans.{no_later-itself}
-use Rattle.rs_enum.proofs.StartFacts.{same-start, second-small}
+use Rattle.rs_enum.proofs.OrderOfPlans.{by_value-itself}
+use Rattle.rs_enum.proofs.StartFacts.{one-there, same-start, second-small}
 use Rattle.rs_enum.proofs.WithinFacts.{left-terms, right-terms}
 
 -- a mask has the numbers that it was joined with
@@ -143,23 +143,21 @@ module _ (catalogue : CatalogDef) (query : Query) (cards : List BlockCards) (for
       subst₂ (λ a b. k.cost + 2 ^ 105 ≤ most_cost a b) (sym ik.its_entries) (sym ik.its_terms) ik.spare in
       let most = rank-whole catalogue (block_in query 1) formed (Rank t k.plan) k.plan t k.cost rows call (2 ^ 105) refl part few call_small own in
       let bound : k.cost + rows * call + 2 ^ 105 ≤ most_cost first second = subst₂ (λ a b. k.cost + rows * call + 2 ^ 105 ≤ most_cost a b) ik.its_entries whole most in
-      record {
-        tree = Rank t k.plan;
-        stands = record {
-          made = record {
-            part = part;
-            whole = ik.whole;
-            its_entries = ik.its_entries;
-            its_terms = whole;
-            made = subst₂ (λ a b. tree_at (length (block_in query 1).terms) places a b ≡ Some k.plan) (sym ik.its_entries) (sym ik.its_terms)
-                (ap (option_map (λ (m : Placed). m.plan)) at);
-          };
-          chosen = ap Some (sym choice_is);
-          cost = cost_is ∙ (λ i. ik.cost i + rows_is i * call_is i);
-          spare = subst (λ n. n + 2 ^ 105 ≤ most_cost first second) (sym cost_is) bound;
+      one-there catalogue query cards formed places first second (3 * 256 + t) found (Rank t k.plan)
+      (record {
+        made = record {
+          part = part;
+          whole = ik.whole;
+          its_entries = ik.its_entries;
+          its_terms = whole;
+          made = subst₂ (λ a b. tree_at (length (block_in query 1).terms) places a b ≡ Some k.plan) (sym ik.its_entries) (sym ik.its_terms)
+              (ap (option_map (λ (m : Placed). m.plan)) at);
         };
-        starts = refl;
-      }
+        chosen = ap Some (sym choice_is);
+        cost = cost_is ∙ (λ i. ik.cost i + rows_is i * call_is i);
+        spare = subst (λ n. n + 2 ^ 105 ≤ most_cost first second) (sym cost_is) bound;
+      })
+      refl
 
   -- what the sides of a join have to be
   record SidesOf (left : ℕ) (l r : PlanTree) : Type 0 where
@@ -264,23 +262,21 @@ module _ (catalogue : CatalogDef) (query : Query) (cards : List BlockCards) (for
       let most = hash-whole catalogue (block_in query 1) formed (JoinOperator Hash are.l are.r) are.l are.r s.left_cost s.right_cost s.left_rows s.right_rows rows refl part
       are.left_spare are.right_spare are.left_few are.right_few (subst (λ n. rows ≤ 131072 ^ count_ones n) (sym are.both_entries) few) in
       let bound = subst₂ (λ x y. s.left_cost + s.right_cost + 2 * (s.left_rows + s.right_rows) + rows + 2 ^ 105 ≤ most_cost x y) are.both_entries are.both_terms most in
-      record {
-        tree = JoinOperator Hash are.l are.r;
-        stands = record {
-          made = record {
-            part = part;
-            whole = (are.left_whole, are.right_whole);
-            its_entries = are.both_entries;
-            its_terms = are.both_terms;
-            made = (are.left_kept, are.right_kept);
-          };
-          chosen = (λ at. Some (choice.HashJoin (are.left_entries at))) ∙ ap Some (sym choice_is);
-          cost = cost_is ∙ (λ at. are.left_cost at + are.right_cost at + 2 * (are.left_rows at + are.right_rows at)
-              + (rows_is ∙ (λ i. (cards_at cards 1).estimate (sym are.both_entries i) (sym are.both_terms i))) at);
-          spare = subst (λ n. n + 2 ^ 105 ≤ most_cost first second) (sym cost_is) bound;
+      one-there catalogue query cards formed places first second (4 * 256 + left) found (JoinOperator Hash are.l are.r)
+      (record {
+        made = record {
+          part = part;
+          whole = (are.left_whole, are.right_whole);
+          its_entries = are.both_entries;
+          its_terms = are.both_terms;
+          made = (are.left_kept, are.right_kept);
         };
-        starts = ap (λ n. 4 * 256 + n) are.left_entries;
-      }
+        chosen = (λ at. Some (choice.HashJoin (are.left_entries at))) ∙ ap Some (sym choice_is);
+        cost = cost_is ∙ (λ at. are.left_cost at + are.right_cost at + 2 * (are.left_rows at + are.right_rows at)
+            + (rows_is ∙ (λ i. (cards_at cards 1).estimate (sym are.both_entries i) (sym are.both_terms i))) at);
+        spare = subst (λ n. n + 2 ^ 105 ≤ most_cost first second) (sym cost_is) bound;
+      })
+      (ap (λ n. 4 * 256 + n) are.left_entries)
 
   pub nested-one : (left : ℕ) (s : Sides) → AreSides catalogue query cards places first second left s
       → (rows : ℕ) → rows ≡ (cards_at cards 1).estimate first second → rows ≤ 131072 ^ count_ones first
@@ -292,23 +288,21 @@ module _ (catalogue : CatalogDef) (query : Query) (cards : List BlockCards) (for
       let most = nested-whole catalogue (block_in query 1) formed (JoinOperator Nested are.l are.r) are.l are.r s.left_cost s.right_cost s.left_rows s.right_rows rows refl part
       are.left_spare are.right_spare are.left_few are.right_few (subst (λ n. rows ≤ 131072 ^ count_ones n) (sym are.both_entries) few) in
       let bound = subst₂ (λ x y. s.left_cost + s.right_cost + s.left_rows * s.right_rows + rows + 2 ^ 105 ≤ most_cost x y) are.both_entries are.both_terms most in
-      record {
-        tree = JoinOperator Nested are.l are.r;
-        stands = record {
-          made = record {
-            part = part;
-            whole = (are.left_whole, are.right_whole);
-            its_entries = are.both_entries;
-            its_terms = are.both_terms;
-            made = (are.left_kept, are.right_kept);
-          };
-          chosen = (λ at. Some (choice.NestedJoin (are.left_entries at))) ∙ ap Some (sym choice_is);
-          cost = cost_is ∙ (λ at. are.left_cost at + are.right_cost at + are.left_rows at * are.right_rows at
-              + (rows_is ∙ (λ i. (cards_at cards 1).estimate (sym are.both_entries i) (sym are.both_terms i))) at);
-          spare = subst (λ n. n + 2 ^ 105 ≤ most_cost first second) (sym cost_is) bound;
+      one-there catalogue query cards formed places first second (5 * 256 + left) found (JoinOperator Nested are.l are.r)
+      (record {
+        made = record {
+          part = part;
+          whole = (are.left_whole, are.right_whole);
+          its_entries = are.both_entries;
+          its_terms = are.both_terms;
+          made = (are.left_kept, are.right_kept);
         };
-        starts = ap (λ n. 5 * 256 + n) are.left_entries;
-      }
+        chosen = (λ at. Some (choice.NestedJoin (are.left_entries at))) ∙ ap Some (sym choice_is);
+        cost = cost_is ∙ (λ at. are.left_cost at + are.right_cost at + are.left_rows at * are.right_rows at
+            + (rows_is ∙ (λ i. (cards_at cards 1).estimate (sym are.both_entries i) (sym are.both_terms i))) at);
+        spare = subst (λ n. n + 2 ^ 105 ≤ most_cost first second) (sym cost_is) bound;
+      })
+      (ap (λ n. 5 * 256 + n) are.left_entries)
 
   -- and none where there are no sides, or where no equality joins them
   pub nested-none : (left : ℕ) → left < 256 → AreNoSides catalogue query places first second left
@@ -369,7 +363,7 @@ module _ (catalogue : CatalogDef) (query : Query) (cards : List BlockCards) (for
 
   pub seq-first : (entry : ℕ) → IsEntryNumber (block_in query 1) entry → mask_of entry ≡ first → second ≡ 0
       → (found : Candidate) → found.cost ≡ size_of catalogue (block_in query 1) entry → found.cost ≤ 131072 → found.choice ≡ choice.SeqScan entry
-      → IsFirst catalogue query cards places first second (3 * 256) found
+      → IsTheFirst catalogue query cards places first second (3 * 256) (Some found)
   seq-first entry number mask none found cost_is few choice_is =
       let most = scan-whole catalogue (block_in query 1) formed (SeqScan entry) entry found.cost refl (omega arith) in
       let bound : found.cost + 2 ^ 105 ≤ most_cost first second = subst₂ (λ x y. found.cost + 2 ^ 105 ≤ most_cost x y) mask (sym none) most in
@@ -387,12 +381,12 @@ module _ (catalogue : CatalogDef) (query : Query) (cards : List BlockCards) (for
         no_later = λ other x below. scan-case other x below
             (λ e is other_number other_mask terms_none.
             subst (λ t. ComesNoLater catalogue query cards (SeqScan entry) t)
-            (sym (is ∙ ap SeqScan (mask-number e entry other_number.some number.some (other_mask ∙ sym mask)))) (no_later-itself catalogue query cards (SeqScan entry)))
+            (sym (is ∙ ap SeqScan (mask-number e entry other_number.some number.some (other_mask ∙ sym mask)))) (by_value-itself (cost_of catalogue query cards) (SeqScan entry)))
             (λ e t i is part other_mask terms_is. absurd (let some : 0 < mask_of t = pow_pos (t - 1) in let all : mask_of t ≡ 0 = terms_is ∙ none in omega arith));
       }
 
   pub rank_scan-first : (entry term : ℕ) → mask_of entry ≡ first → mask_of term ≡ second
-      → (found : Candidate) → IsScan catalogue query cards entry term found → IsFirst catalogue query cards places first second (3 * 256) found
+      → (found : Candidate) → IsScan catalogue query cards entry term found → IsTheFirst catalogue query cards places first second (3 * 256) (Some found)
   rank_scan-first entry term entry_mask term_mask found s =
       let few = s.few in
       let most = rank_scan-whole catalogue (block_in query 1) formed (RankScan entry term s.index) entry term s.index found.cost refl few in
@@ -411,5 +405,5 @@ module _ (catalogue : CatalogDef) (query : Query) (cards : List BlockCards) (for
             subst (λ w. ComesNoLater catalogue query cards (RankScan entry term s.index) w)
             (same-start catalogue (block_in query 1) formed (tree_at (length (block_in query 1).terms) places) first second (RankScan entry term s.index) other made x
             (ap (λ n. 2 * 256 + n) (mask-number entry e s.part.is_entry.some part.is_entry.some (entry_mask ∙ sym other_mask)) ∙ sym (ap start_of is)))
-            (no_later-itself catalogue query cards (RankScan entry term s.index)));
+            (by_value-itself (cost_of catalogue query cards) (RankScan entry term s.index)));
       }

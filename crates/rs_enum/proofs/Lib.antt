@@ -8,6 +8,7 @@ pub mod CoveringFacts
 pub mod ExistenceFacts
 pub mod FilledFacts
 pub mod FindFacts
+pub mod FirstFacts
 pub mod FoundFacts
 pub mod GridFacts
 pub mod LeastFacts

@@ -15,14 +15,15 @@ use Rattle.rs_enum.specs.Costs.{cost_in, cost_of, estimate_of}
 use Rattle.rs_enum.specs.LeastCosts.{HasBlock, HasCost, IsOfBlock}
 use Rattle.rs_enum.specs.Places.{IsFilled, Placed, kept_at, tree_at}
 use Rattle.rs_enum.specs.QueryCards.{alone, alone_cards, cards_at}
-use Rattle.rs_enum.specs.Tops.{AreLower, AreTops, IsBase, IsLower, IsTheBase, NoLaterBy, distinct_base, root_term, whole_rows}
+use Rattle.rs_enum.specs.Firsts.{NoLaterBy}
+use Rattle.rs_enum.specs.Tops.{AreLower, AreTops, IsBase, IsLower, IsTheBase, distinct_base, root_term, whole_rows}
 use Rattle.rs_enum.proofs.AloneFacts.{cost-alone}
 use Rattle.rs_enum.proofs.CostFacts.{block-formed, numbered}
 use Rattle.rs_enum.proofs.CoveringFacts.{Covers, covers-all, keeps-duplicates}
 use Rattle.rs_enum.proofs.MadeFacts.{mapped}
-use Rattle.rs_enum.proofs.OrderOfPlans.{estimate-part, same-front}
+use Rattle.rs_enum.proofs.OrderOfPlans.{by_value-more, by_value-most, by_value-same, estimate-part, same-front}
 use Rattle.rs_enum.proofs.PlaceFacts.{covered, sound}
-use Rattle.rs_enum.proofs.WholeFacts.{by_value-more, by_value-most, by_value-same, few-terms, whole-case}
+use Rattle.rs_enum.proofs.WholeFacts.{few-terms, whole-case}
 use Rattle.rs_enum.proofs.WithinFacts.{terms-below}
 
 module _ (catalogue : CatalogDef) (query : Query) (q : IsQuery catalogue query) (cards : List BlockCards) (number : ℕ) where

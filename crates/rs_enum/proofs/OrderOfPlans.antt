@@ -1,9 +1,9 @@
 -- The order of plans: it is total, it can be read off costs and codes, and it stays where a part is exchanged for one of the same
 -- entries and terms.
-use Rattle.std.proofs.Common.{◌≡◌, ◌⊎◌, inl, inr, ℕ, ◌+◌, ◌*◌, ◌<◌, false, true≢false, List, ◌∷◌, ◌++◌, refl, sym, ◌∙◌, ap, arith, rules, bit_or}
+use Rattle.std.proofs.Common.{◌≡◌, ◌⊎◌, inl, inr, ℕ, ◌+◌, ◌*◌, ◌<◌, ◌≤◌, false, true≢false, List, ◌∷◌, ◌++◌, refl, sym, ◌∙◌, ap, arith, rules, bit_or}
 use Rattle.std.specs.Cmp.{IsTotalOrder, nat_cmp_is}
 use Rattle.std.specs.Cmp.Rules.{comparing}
-use Rattle.std.specs.Ordering.{is_gt, nat_cmp, ordering_reverse, ordering_then}
+use Rattle.std.specs.Ordering.{is_gt, nat_cmp, on, ordering_reverse, ordering_then, then_cmp}
 use Rattle.std.specs.declared.cmp.Ordering.{Ordering}
 use Rattle.std.specs.declared.cmp.Ordering.TheVariants.{Less, Equal, Greater}
 use Rattle.std.proofs.lemmas.Cmp.{nat_cmp_total, on_total, ranked, then_total, tied_itself, upto}
@@ -18,6 +18,7 @@ use Rattle.rs_plan.proofs.CodeFacts.{code-split}
 use Rattle.rs_plan.proofs.LawFacts.{plan-tied}
 use Rattle.rs_enum.specs.QueryCards.{cards_at}
 use Rattle.rs_enum.specs.Costs.{call_cost, cost_of, estimate_of, estimate_under}
+use Rattle.rs_enum.specs.Firsts.{NoLaterBy}
 use Rattle.rs_enum.specs.Least.{ComesNoLater, IsLeast, plan_cmp}
 
 pub code-total : IsTotalOrder code_cmp
@@ -62,16 +63,62 @@ masks-front l m xs ys same_entries same_terms =
     λ at. code_cmp (same_entries at ∷ same_terms at ∷ xs) (entries m ∷ terms m ∷ ys) in
     equal ∙ same-front (entries m) (terms m ∷ xs) (terms m ∷ ys) ∙ same-front (terms m) xs ys
 
+-- the order of trees by any cost, and then by their codes
+module _ (value : PlanTree → ℕ) where
+  value-total : IsTotalOrder (then_cmp (on value nat_cmp) (on code code_cmp))
+  value-total = then_total (on_total value nat_cmp_total) (on_total code code-total)
+
+  pub by_value-itself : (a : PlanTree) → NoLaterBy value a a
+  by_value-itself a = ap is_gt (tied_itself value-total a)
+
+  -- what comes no later than a tree comes no later than all that it comes no later than
+  pub by_value-on : (a b c : PlanTree) → NoLaterBy value a b → NoLaterBy value b c → NoLaterBy value a c
+  by_value-on a b c = upto value-total a b c
+
+  pub by_value-less : (a b : PlanTree) → value a < value b → NoLaterBy value a b
+  by_value-less a b less = ap (λ o. is_gt (ordering_then o (code_cmp (code a) (code b)))) (sym (nat_cmp_is (value a) (value b) Less less))
+
+  pub by_value-code : (a b : PlanTree) → value a ≡ value b → is_gt (code_cmp (code a) (code b)) ≡ false → NoLaterBy value a b
+  by_value-code a b same codes =
+      ap (λ o. is_gt (ordering_then o (code_cmp (code a) (code b)))) (sym (nat_cmp_is (value a) (value b) Equal same)) ∙ codes
+
+  pub by_value-first : (a b : PlanTree) → value a ≤ value b → is_gt (code_cmp (code a) (code b)) ≡ false → NoLaterBy value a b
+  by_value-first a b most codes = go (nat_cmp (value a) (value b)) refl where
+    go : (p : Ordering) → nat_cmp (value a) (value b) ≡ p → NoLaterBy value a b
+    go Less e = by_value-less a b (ranked (value a) (value b) Less (sym e))
+    go Equal e = by_value-code a b (ranked (value a) (value b) Equal (sym e)) codes
+    go Greater e = absurd (let more = ranked (value a) (value b) Greater (sym e) in omega arith)
+
+by-numbers : (x y : ℕ) (o : Ordering) → is_gt (ordering_then (nat_cmp x y) o) ≡ false → (x < y) ⊎ ((x ≡ y) × (is_gt o ≡ false))
+by-numbers x y o is = go (nat_cmp x y) refl where
+  go : (p : Ordering) → nat_cmp x y ≡ p → (x < y) ⊎ ((x ≡ y) × (is_gt o ≡ false))
+  go Less e = inl (ranked x y Less (sym e))
+  go Equal e = inr (ranked x y Equal (sym e), sym (ap (λ q. is_gt (ordering_then q o)) e) ∙ is)
+  go Greater e = absurd (true≢false (sym (ap (λ q. is_gt (ordering_then q o)) e) ∙ is))
+
+-- what comes no later costs no more
+pub by_value-most : (value : PlanTree → ℕ) (a b : PlanTree) → NoLaterBy value a b → value a ≤ value b
+by_value-most value a b is = elim (by-numbers (value a) (value b) (code_cmp (code a) (code b)) is) [
+  | inl less ↦ omega arith
+  | inr same ↦ (let cost = same.0 in omega arith)
+]
+
+-- trees that cost as much more by another cost as two others do, with codes in the order of theirs, are in their order
+pub by_value-more : (value other : PlanTree → ℕ) (a b c d : PlanTree) (more : ℕ) → other c ≡ value a + more → other d ≡ value b + more
+    → code_cmp (code c) (code d) ≡ code_cmp (code a) (code b) → NoLaterBy value a b → NoLaterBy other c d
+by_value-more value other a b c d more first second codes is =
+    elim (by-numbers (value a) (value b) (code_cmp (code a) (code b)) is) [
+      | inl less ↦ by_value-less other c d (omega arith)
+      | inr same ↦ (let cost = same.0 in by_value-code other c d (omega arith) (ap is_gt codes ∙ same.1))
+    ]
+
+-- by costs that are the same of both
+pub by_value-same : (value other : PlanTree → ℕ) (a b : PlanTree) → other a ≡ value a → other b ≡ value b → NoLaterBy value a b → NoLaterBy other a b
+by_value-same value other a b first second is = by_value-more value other a b a b 0 (omega arith) (omega arith) refl is
+
 module _ (catalogue : CatalogDef) (query : Query) (cards : List BlockCards) where
   pub plans-total : IsTotalOrder (plan_cmp catalogue query cards)
-  plans-total = then_total (on_total (cost_of catalogue query cards) nat_cmp_total) (on_total code code-total)
-
-  -- what comes no later than a plan comes no later than all that it comes no later than
-  pub no_later-on : (a b c : PlanTree) → ComesNoLater catalogue query cards a b → ComesNoLater catalogue query cards b c → ComesNoLater catalogue query cards a c
-  no_later-on a b c = upto plans-total a b c
-
-  pub no_later-itself : (a : PlanTree) → ComesNoLater catalogue query cards a a
-  no_later-itself a = ap is_gt (tied_itself plans-total a)
+  plans-total = value-total (cost_of catalogue query cards)
 
   -- there are no two least plans
   pub least-one : (a b : PlanTree) → IsLeast catalogue query cards a → IsLeast catalogue query cards b → a ≡ b
@@ -81,34 +128,11 @@ module _ (catalogue : CatalogDef) (query : Query) (cards : List BlockCards) wher
       plan-tied catalogue query a b first.plan second.plan
       (then-tied (nat_cmp (cost_of catalogue query cards a) (cost_of catalogue query cards b)) (code_cmp (code a) (code b)) tie)
 
-  -- a lesser cost comes first, and at one cost the lesser code
-  pub cheaper-first : (a b : PlanTree) → cost_of catalogue query cards a < cost_of catalogue query cards b → ComesNoLater catalogue query cards a b
-  cheaper-first a b less =
-      ap (λ o. is_gt (ordering_then o (code_cmp (code a) (code b))))
-      (sym (nat_cmp_is (cost_of catalogue query cards a) (cost_of catalogue query cards b) Less less))
-
-  pub code-first : (a b : PlanTree) → cost_of catalogue query cards a ≡ cost_of catalogue query cards b → is_gt (code_cmp (code a) (code b)) ≡ false
-      → ComesNoLater catalogue query cards a b
-  code-first a b same codes =
-      ap (λ o. is_gt (ordering_then o (code_cmp (code a) (code b))))
-      (sym (nat_cmp_is (cost_of catalogue query cards a) (cost_of catalogue query cards b) Equal same)) ∙ codes
-
-  by-cost : (x y : ℕ) (o : Ordering) → is_gt (ordering_then (nat_cmp x y) o) ≡ false → (x < y) ⊎ ((x ≡ y) × (is_gt o ≡ false))
-  by-cost x y o is = go (nat_cmp x y) refl where
-    go : (p : Ordering) → nat_cmp x y ≡ p → (x < y) ⊎ ((x ≡ y) × (is_gt o ≡ false))
-    go Less e = inl (ranked x y Less (sym e))
-    go Equal e = inr (ranked x y Equal (sym e), sym (ap (λ q. is_gt (ordering_then q o)) e) ∙ is)
-    go Greater e = absurd (true≢false (sym (ap (λ q. is_gt (ordering_then q o)) e) ∙ is))
-
   -- plans that cost as much more than two others, with codes in the order of theirs, are in their order
   pub exchanged : (a b c d : PlanTree) (more : ℕ) → cost_of catalogue query cards c ≡ cost_of catalogue query cards a + more
       → cost_of catalogue query cards d ≡ cost_of catalogue query cards b + more → code_cmp (code c) (code d) ≡ code_cmp (code a) (code b)
       → ComesNoLater catalogue query cards a b → ComesNoLater catalogue query cards c d
-  exchanged a b c d more first second codes is =
-      elim (by-cost (cost_of catalogue query cards a) (cost_of catalogue query cards b) (code_cmp (code a) (code b)) is) [
-        | inl less ↦ cheaper-first c d (omega arith)
-        | inr same ↦ (let cost = same.0 in code-first c d (omega arith) (ap is_gt codes ∙ same.1))
-      ]
+  exchanged a b c d more first second codes is = by_value-more (cost_of catalogue query cards) (cost_of catalogue query cards) a b c d more first second codes is
 
   -- what a part of a block's plan is expected to give depends on its entries and on the evaluated terms alone
   pub estimate-part : (block : Block) (number : ℕ) (tree : PlanTree) (mask : ℕ) → IsPart catalogue block tree

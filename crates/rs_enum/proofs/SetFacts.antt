@@ -22,7 +22,8 @@ use Rattle.rs_enum.specs.Tops.{FitsWhole, IsMadeTop, IsTheFirstTop, IsTheTop, Is
 use Rattle.rs_enum.proofs.FoundFacts.{candidate-front}
 use Rattle.rs_enum.proofs.MadeFacts.{found_cost, kept_cost, unmapped}
 use Rattle.rs_enum.proofs.PlaceFacts.{last-item}
-use Rattle.rs_enum.proofs.TopFacts.{first-more, first-none, kept-found, kept-none, less-or-equal}
+use Rattle.rs_enum.proofs.FirstFacts.{less-or-equal}
+use Rattle.rs_enum.proofs.TopFacts.{first-more, first-none, kept-found, kept-none}
 
 -- what is kept of one mask more
 abbrev pub with_new : (ℕ → Option Placed) → ℕ → Option Placed → ℕ → Option Placed

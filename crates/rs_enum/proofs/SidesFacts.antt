@@ -20,12 +20,12 @@ use Rattle.rs_enum.specs.Costs.{cost_in, estimate_of}
 use Rattle.rs_enum.specs.Least.{IsLeast}
 use Rattle.rs_enum.specs.Places.{Placed}
 use Rattle.rs_enum.specs.QueryCards.{cards_at}
-use Rattle.rs_enum.specs.Tops.{AreTops, IsBase, IsExtent, IsTheBase, IsWhole, KeepsTop, NoLaterBy, extent_of, number_of, set_base, whole_cost, whole_rows}
+use Rattle.rs_enum.specs.Firsts.{NoLaterBy}
+use Rattle.rs_enum.specs.Tops.{AreTops, IsBase, IsExtent, IsTheBase, IsWhole, KeepsTop, extent_of, number_of, set_base, whole_cost, whole_rows}
 use Rattle.rs_enum.proofs.BoundFacts.{most-sides}
 use Rattle.rs_enum.proofs.CostFacts.{all-small, numbered}
 use Rattle.rs_enum.proofs.ExistenceFacts.{some-plan}
-use Rattle.rs_enum.proofs.OrderOfPlans.{estimate-part, left-codes, right-codes, same-front}
-use Rattle.rs_enum.proofs.WholeFacts.{by_value-more, by_value-on}
+use Rattle.rs_enum.proofs.OrderOfPlans.{by_value-more, by_value-on, estimate-part, left-codes, right-codes, same-front}
 
 module _ (catalogue : CatalogDef) (op : SetOp) (l r : Block) (limit : Option ℕ) (q : IsQuery catalogue (Set op l r limit)) (cards : List BlockCards)
     (count : ℕ) (lefts rights : ℕ → Option Placed)

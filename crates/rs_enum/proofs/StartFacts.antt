@@ -1,12 +1,11 @@
 -- Among the plans that can be made for one signature, the start of a code tells which one it is, and an earlier start is an earlier
 -- code.
-use Rattle.std.proofs.Common.{◌≡◌, ◌⊎◌, inl, inr, ℕ, ◌+◌, ◌-◌, ◌*◌, ◌^◌, ◌<◌, ◌≤◌, Bool, false, true, nat_lt, List, [], ◌∷◌, ◌++◌, length, refl, sym, ◌∙◌, ap, subst, subst₂, arith, bit_and, bit_or, bit_xor, cond}
-use Rattle.std.specs.Prelude.{Option, Some, None}
+use Rattle.std.proofs.Common.{◌≡◌, ℕ, ◌+◌, ◌-◌, ◌*◌, ◌^◌, ◌<◌, ◌≤◌, false, List, [], ◌∷◌, ◌++◌, length, refl, sym, ◌∙◌, ap, subst, subst₂, arith, bit_and, bit_or, bit_xor}
+use Rattle.std.specs.Prelude.{Option, Some}
 use Rattle.std.specs.Cmp.{nat_cmp_is}
 use Rattle.std.specs.Ordering.{is_gt, nat_cmp, ordering_then}
 use Rattle.std.specs.declared.cmp.Ordering.{Ordering}
 use Rattle.std.specs.declared.cmp.Ordering.TheVariants.{Less, Equal, Greater}
-use Rattle.std.proofs.lemmas.Bool.{ltb-true, ltb-false}
 use Rattle.std.proofs.lemmas.Cmp.{ranked}
 use Rattle.std.proofs.lemmas.Option.{same_Some, slice_get_within}
 use Rattle.std.proofs.Math.Nat.{pow-le-pow_right}
@@ -27,9 +26,10 @@ use Rattle.rs_enum.specs.Candidates.{IsCandidate}
 use Rattle.rs_enum.specs.Costs.{cost_of}
 use Rattle.rs_enum.specs.Least.{ComesNoLater}
 use Rattle.rs_enum.specs.Within.{terms_within}
-use Rattle.rs_enum.specs.Places.{CanBeMade, IsTheFirst, IsTheOne, Placed, cheaper, start_of, tree_at}
+use Rattle.rs_enum.specs.Places.{CanBeMade, IsOne, IsTheFirst, IsTheOne, Placed, StandsFor, cheaper, start_of, tree_at}
 use Rattle.rs_enum.proofs.BitFacts.{left-of-union, left-without, mask-number, number-apart, union-sum}
-use Rattle.rs_enum.proofs.OrderOfPlans.{cheaper-first, code-first, no_later-itself, no_later-on}
+use Rattle.rs_enum.proofs.FirstFacts.{first-cheaper, first-wider}
+use Rattle.rs_enum.proofs.OrderOfPlans.{by_value-itself}
 use Rattle.rs_enum.proofs.WithinFacts.{entries-below, left-terms, right-terms, some-entry}
 
 -- the second number of a code, and what follows
@@ -56,12 +56,6 @@ start-is (Rank t child) = refl
 start-is (JoinOperator kind l r) = refl
 start-is (Distinct child) = refl
 start-is (SetOperator l r) = refl
-
-less-or-equal : (x y : ℕ) → x < y + 1 → (x < y) ⊎ (x ≡ y)
-less-or-equal x y h = go (nat_lt x y) refl where
-  go : (b : Bool) → nat_lt x y ≡ b → (x < y) ⊎ (x ≡ y)
-  go true e = inl (ltb-true x y e)
-  go false e = inr (let no = ltb-false x y e in omega arith)
 
 -- of two numbers in front that are below 256, the lesser pair comes first
 earlier-pair : (k s m u : ℕ) (xs ys : List ℕ) → s < 256 → u < 256 → k * 256 + s < m * 256 + u → is_gt (code_cmp (k ∷ s ∷ xs) (m ∷ u ∷ ys)) ≡ false
@@ -255,94 +249,30 @@ module _ (catalogue : CatalogDef) (block : Block) (formed : IsBlock catalogue bl
     no-more-nested (SetOperator l r) x above = x.made
 
 module _ (catalogue : CatalogDef) (query : Query) (cards : List BlockCards) (formed : IsBlock catalogue (block_in query 1)) (places : List (Option Placed)) (first second : ℕ) where
+  -- what stands for a plan is the one plan whose code starts so
+  pub one-there : (start : ℕ) (found : Candidate) (tree : PlanTree) → StandsFor catalogue query cards places first second found tree → start_of tree ≡ start
+      → IsOne catalogue query cards places first second start found
+  one-there start found tree stands starts = record {
+    tree = tree;
+    stands = stands;
+    starts = starts;
+    no_later = λ other made same. subst (λ t. ComesNoLater catalogue query cards tree t)
+        (same-start catalogue (block_in query 1) formed (tree_at (length (block_in query 1).terms) places) first second tree other stands.made made (starts ∙ sym same))
+        (by_value-itself (cost_of catalogue query cards) tree);
+  }
+
   -- what was found so far, and the plan whose code starts next
   pub IsTheFirst-cheaper : (bound : ℕ) (best next : Option Candidate) → IsTheFirst catalogue query cards places first second bound best
       → IsTheOne catalogue query cards places first second bound next → IsTheFirst catalogue query cards places first second (bound + 1) (cheaper best next)
-  IsTheFirst-cheaper bound None None none lacks = λ other made below. elim (less-or-equal (start_of other) bound below) [
-    | inl less ↦ none other made less
-    | inr same ↦ lacks other made same
-  ]
-  IsTheFirst-cheaper bound None (Some next) none one = record {
-    tree = one.tree;
-    stands = one.stands;
-    below = (let at = one.starts in omega arith);
-    no_later = λ other made below. elim (less-or-equal (start_of other) bound below) [
-      | inl less ↦ absurd (none other made less)
-      | inr same ↦ subst (λ t. ComesNoLater catalogue query cards one.tree t)
-          (same-start catalogue (block_in query 1) formed (tree_at (length (block_in query 1).terms) places) first second one.tree other one.stands.made made (one.starts ∙ sym same))
-          (no_later-itself catalogue query cards one.tree)
-    ];
-  }
-  IsTheFirst-cheaper bound (Some best) None is lacks = record {
-    tree = is.tree;
-    stands = is.stands;
-    below = (let less = is.below in omega arith);
-    no_later = λ other made below. elim (less-or-equal (start_of other) bound below) [
-      | inl less ↦ is.no_later other made less
-      | inr same ↦ absurd (lacks other made same)
-    ];
-  }
-  IsTheFirst-cheaper bound (Some best) (Some next) is one = go (nat_lt next.cost best.cost) refl where
-    same-tree : (other : PlanTree) → CanBeMade catalogue query places first second other → start_of other ≡ bound → one.tree ≡ other
-    same-tree other made same =
-        same-start catalogue (block_in query 1) formed (tree_at (length (block_in query 1).terms) places) first second one.tree other one.stands.made made (one.starts ∙ sym same)
-
-    go : (b : Bool) → nat_lt next.cost best.cost ≡ b
-        → IsTheFirst catalogue query cards places first second (bound + 1) (cond b (Some next) (Some best))
-    go true e =
-        let less = ltb-true next.cost best.cost e in
-        let own = one.stands.cost in
-        let other_cost = is.stands.cost in
-        let before : ComesNoLater catalogue query cards one.tree is.tree = cheaper-first catalogue query cards one.tree is.tree (omega arith) in
-        record {
-          tree = one.tree;
-          stands = one.stands;
-          below = (let at = one.starts in omega arith);
-          no_later = λ other made below. elim (less-or-equal (start_of other) bound below) [
-            | inl earlier ↦ no_later-on catalogue query cards one.tree is.tree other before (is.no_later other made earlier)
-            | inr same ↦ subst (λ t. ComesNoLater catalogue query cards one.tree t) (same-tree other made same) (no_later-itself catalogue query cards one.tree)
-          ];
-        }
-    go false e =
-        let no_less = ltb-false next.cost best.cost e in
-        let own = one.stands.cost in
-        let other_cost = is.stands.cost in
-        let starts = one.starts in
-        let below = is.below in
-        let codes = earlier-code catalogue (block_in query 1) formed is.tree one.tree is.stands.made.part one.stands.made.part is.stands.made.whole one.stands.made.whole (omega arith) in
-        let before : ComesNoLater catalogue query cards is.tree one.tree = first-of-two is.tree one.tree (omega arith) codes in
-        record {
-          tree = is.tree;
-          stands = is.stands;
-          below = omega arith;
-          no_later = λ other made less. elim (less-or-equal (start_of other) bound less) [
-            | inl earlier ↦ is.no_later other made earlier
-            | inr same ↦ subst (λ t. ComesNoLater catalogue query cards is.tree t) (same-tree other made same) before
-          ];
-        }
-      where
-        first-of-two : (a b : PlanTree) → cost_of catalogue query cards a ≤ cost_of catalogue query cards b → is_gt (code_cmp (code a) (code b)) ≡ false
-            → ComesNoLater catalogue query cards a b
-        first-of-two a b most codes = elim (less-or-equal (cost_of catalogue query cards a) (cost_of catalogue query cards b) (omega arith)) [
-          | inl less ↦ cheaper-first catalogue query cards a b less
-          | inr same ↦ code-first catalogue query cards a b same codes
-        ]
+  IsTheFirst-cheaper bound best next is one =
+      first-cheaper (CanBeMade catalogue query places first second) (StandsFor catalogue query cards places first second) (cost_of catalogue query cards) start_of
+      (λ found tree stands. stands.made) (λ found tree stands. stands.cost)
+      (λ a b x y less. earlier-code catalogue (block_in query 1) formed a b x.part y.part x.whole y.whole less) bound best next is one
 
   -- no plan starts in between
   pub IsTheFirst-wider : (bound wider : ℕ) (found : Option Candidate) → bound ≤ wider
       → ((other : PlanTree) → CanBeMade catalogue query places first second other → bound ≤ start_of other → start_of other < wider → ⊥)
       → IsTheFirst catalogue query cards places first second bound found → IsTheFirst catalogue query cards places first second wider found
-  IsTheFirst-wider bound wider None more lacks none = λ other made below. go other made below (nat_lt (start_of other) bound) refl where
-    go : (other : PlanTree) → CanBeMade catalogue query places first second other → start_of other < wider → (b : Bool) → nat_lt (start_of other) bound ≡ b → ⊥
-    go other made below true e = none other made (ltb-true (start_of other) bound e)
-    go other made below false e = lacks other made (ltb-false (start_of other) bound e) below
-  IsTheFirst-wider bound wider (Some found) more lacks is = record {
-    tree = is.tree;
-    stands = is.stands;
-    below = (let less = is.below in omega arith);
-    no_later = λ other made below. go other made below (nat_lt (start_of other) bound) refl;
-  } where
-    go : (other : PlanTree) → CanBeMade catalogue query places first second other → start_of other < wider → (b : Bool) → nat_lt (start_of other) bound ≡ b
-        → ComesNoLater catalogue query cards is.tree other
-    go other made below true e = is.no_later other made (ltb-true (start_of other) bound e)
-    go other made below false e = absurd (lacks other made (ltb-false (start_of other) bound e) below)
+  IsTheFirst-wider bound wider found more lacks is =
+      first-wider (CanBeMade catalogue query places first second) (StandsFor catalogue query cards places first second) (cost_of catalogue query cards) start_of
+      bound wider found more lacks is

@@ -1,8 +1,7 @@
 -- What is kept of all entries, one mask of terms after another: the first of the operators for terms over what is kept of fewer terms,
 -- and of what is there already.
-use Rattle.std.proofs.Common.{◌≡◌, ◌∙◌, ◌⊎◌, inl, inr, ℕ, ◌+◌, ◌-◌, ◌*◌, ◌^◌, ◌<◌, ◌≤◌, ◌==◌, Bool, false, true, nat_lt, cond, List, length, refl, sym, ap, subst, arith, bit_or, bit_xor}
+use Rattle.std.proofs.Common.{◌≡◌, ◌∙◌, inl, inr, ℕ, ◌+◌, ◌-◌, ◌*◌, ◌^◌, ◌<◌, ◌≤◌, ◌==◌, false, true, List, length, refl, sym, ap, subst, arith, bit_or, bit_xor}
 use Rattle.std.specs.Prelude.{Option, Some, None, slice_get}
-use Rattle.std.proofs.lemmas.Bool.{ltb-false, ltb-true}
 use Rattle.std.proofs.lemmas.Nat.{or_comm, pow_pos}
 use Rattle.std.proofs.lemmas.Nat.Bits.{bit_at-lt, bit_at-pow_same, bit_at_or}
 use Rattle.std.proofs.lemmas.Option.{none-some, same_Some, slice_get_cases}
@@ -26,11 +25,13 @@ use Rattle.rs_enum.specs.declared.candidate.Choice.TheVariants as choice
 use Rattle.rs_enum.specs.declared.extent.Extent.{Extent}
 use Rattle.rs_enum.specs.Costs.{call_cost, estimate_of}
 use Rattle.rs_enum.specs.Places.{Placed, cheaper}
-use Rattle.rs_enum.specs.Tops.{AreFirst, AreTops, IsFirstTop, IsMadeTop, IsOneTop, IsTheBase, IsTheFirstOf, IsTheFirstTop, IsTheOneTop, IsTheTop, IsTop, IsTopped, IsWhole, KeepsTop, NoLaterBy, base_top, most_whole, number_of, plan_of, root_term, rows_most, whole_cost, whole_rows}
+use Rattle.rs_enum.specs.Firsts.{NoLaterBy}
+use Rattle.rs_enum.specs.Tops.{AreFirst, AreTops, IsFirstTop, IsMadeTop, IsOfTerms, IsOneTop, IsTheBase, IsTheFirstOf, IsTheFirstTop, IsTheOneTop, IsTheTop, IsTop, IsTopped, IsWhole, KeepsTop, StandsForTop, base_top, most_whole, number_of, plan_of, root_term, rows_most, whole_cost, whole_rows}
 use Rattle.rs_enum.proofs.BitFacts.{left-has_not, left-without, less-without, number-apart, number-inside, part-and-left, union-sum}
 use Rattle.rs_enum.proofs.CostFacts.{block-formed}
-use Rattle.rs_enum.proofs.OrderOfPlans.{rank-codes}
-use Rattle.rs_enum.proofs.WholeFacts.{by_value-first, by_value-less, by_value-more, by_value-on, few-terms, root-codes, root-most, root-some, whole-above, whole-below, whole-case, whole-entries, whole-estimate, whole-fits}
+use Rattle.rs_enum.proofs.FirstFacts.{first-cheaper, first-wider, less-or-equal}
+use Rattle.rs_enum.proofs.OrderOfPlans.{by_value-more, rank-codes}
+use Rattle.rs_enum.proofs.WholeFacts.{few-terms, root-codes, root-most, root-some, whole-above, whole-below, whole-case, whole-entries, whole-estimate, whole-fits}
 
 -- a mask has the numbers that it was joined with
 has-own : (a t : ℕ) → has_number (bit_or a (mask_of t)) t ≡ true
@@ -40,12 +41,6 @@ has-own a t =
     let less = bit_at-lt a (t - 1) in
     let one : bit_at (bit_or a (mask_of t)) (t - 1) ≡ 1 = omega arith in
     ap (λ n. n == 1) one
-
-pub less-or-equal : (x y : ℕ) → x < y + 1 → (x < y) ⊎ (x ≡ y)
-less-or-equal x y h = go (nat_lt x y) refl where
-  go : (b : Bool) → nat_lt x y ≡ b → (x < y) ⊎ (x ≡ y)
-  go true e = inl (ltb-true x y e)
-  go false e = inr (let no = ltb-false x y e in omega arith)
 
 -- nothing is kept of no mask
 pub first-none : (Of : PlanTree → Type 0) (value : PlanTree → ℕ) (Fits : ℕ → ℕ → Type 0) (tops : ℕ → Option Placed) → AreFirst Of value Fits 0 tops
@@ -97,90 +92,27 @@ module _ (catalogue : CatalogDef) (query : Query) (q : IsQuery catalogue query) 
   -- what was found so far, and what is found for the next number
   pub top-cheaper : (bound : ℕ) (best next : Option Candidate) → IsTheFirstTop catalogue query cards e base tops evaluated bound best
       → IsTheOneTop catalogue query cards e base tops evaluated bound next → IsTheFirstTop catalogue query cards e base tops evaluated (bound + 1) (cheaper best next)
-  top-cheaper bound None None none lacks = λ other is same below. elim (less-or-equal (root_term other) bound below) [
-    | inl less ↦ none other is same less
-    | inr at ↦ lacks other is same at
-  ]
-  top-cheaper bound None (Some next) none one = record {
-    tree = one.tree;
-    stands = one.stands;
-    below = (let at = one.at_root in omega arith);
-    no_later = λ other is same below. elim (less-or-equal (root_term other) bound below) [
-      | inl less ↦ absurd (none other is same less)
-      | inr at ↦ one.no_later other is same at
-    ];
-  }
-  top-cheaper bound (Some best) None first lacks = record {
-    tree = first.tree;
-    stands = first.stands;
-    below = (let less = first.below in omega arith);
-    no_later = λ other is same below. elim (less-or-equal (root_term other) bound below) [
-      | inl less ↦ first.no_later other is same less
-      | inr at ↦ absurd (lacks other is same at)
-    ];
-  }
-  top-cheaper bound (Some best) (Some next) first one = go (nat_lt next.cost best.cost) refl where
-    go : (b : Bool) → nat_lt next.cost best.cost ≡ b
-        → IsTheFirstTop catalogue query cards e base tops evaluated (bound + 1) (cond b (Some next) (Some best))
-    go true less_is =
-        let less = ltb-true next.cost best.cost less_is in
-        let own = one.stands.its_cost in
-        let other_cost = first.stands.its_cost in
-        let before : NoLaterBy (whole_cost catalogue query cards e) one.tree first.tree =
-        by_value-less (whole_cost catalogue query cards e) one.tree first.tree (omega arith) in
-        record {
-          tree = one.tree;
-          stands = one.stands;
-          below = (let at = one.at_root in omega arith);
-          no_later = λ other is same below. elim (less-or-equal (root_term other) bound below) [
-            | inl earlier ↦ by_value-on (whole_cost catalogue query cards e) one.tree first.tree other before (first.no_later other is same earlier)
-            | inr at ↦ one.no_later other is same at
-          ];
-        }
-    go false less_is =
-        let no_less = ltb-false next.cost best.cost less_is in
-        let own = one.stands.its_cost in
-        let other_cost = first.stands.its_cost in
-        let at_root = one.at_root in
-        let below = first.below in
-        let codes = root-codes catalogue query q e topped first.tree one.tree first.stands.is one.stands.is (omega arith) in
-        let before : NoLaterBy (whole_cost catalogue query cards e) first.tree one.tree =
-        by_value-first (whole_cost catalogue query cards e) first.tree one.tree (omega arith) codes in
-        record {
-          tree = first.tree;
-          stands = first.stands;
-          below = omega arith;
-          no_later = λ other is same less. elim (less-or-equal (root_term other) bound less) [
-            | inl earlier ↦ first.no_later other is same earlier
-            | inr at ↦ by_value-on (whole_cost catalogue query cards e) first.tree one.tree other before (one.no_later other is same at)
-          ];
-        }
+  top-cheaper bound best next is one =
+      first-cheaper (IsOfTerms catalogue query e evaluated) (StandsForTop catalogue query cards e base tops evaluated) (whole_cost catalogue query cards e) root_term
+      (λ found tree stands. record { is = stands.is; its_terms = stands.its_terms }) (λ found tree stands. stands.its_cost)
+      (λ a b x y less. root-codes catalogue query q e topped a b x.is y.is less) bound best next is one
 
   -- no term has the number 0, and none one beyond those of the block
   pub top-none : IsTheFirstTop catalogue query cards e base tops evaluated 1 None
-  top-none = λ other is same below. (let some = root-some catalogue query e topped other is in omega arith)
+  top-none = λ other of below. (let some = root-some catalogue query e topped other of.is in omega arith)
 
   pub top-wider : (bound : ℕ) (found : Option Candidate) → length (block_in query (number_of e)).terms < bound → bound ≤ 9
       → IsTheFirstTop catalogue query cards e base tops evaluated bound found → IsTheFirstTop catalogue query cards e base tops evaluated 9 found
-  top-wider bound None all few none = λ other is same below. elim (root-most catalogue query e topped other is) [
-    | inl most ↦ none other is same (omega arith)
-    | inr nine ↦ omega arith
-  ]
-  top-wider bound (Some found) all few first = record {
-    tree = first.tree;
-    stands = first.stands;
-    below = (let less = first.below in omega arith);
-    no_later = λ other is same below. elim (root-most catalogue query e topped other is) [
-      | inl most ↦ first.no_later other is same (omega arith)
-      | inr nine ↦ absurd (let no : 9 < 9 = subst (λ n. n < 9) nine below in omega arith)
-    ];
-  }
+  top-wider bound found all few is =
+      first-wider (IsOfTerms catalogue query e evaluated) (StandsForTop catalogue query cards e base tops evaluated) (whole_cost catalogue query cards e) root_term
+      bound 9 found few
+      (λ other of above below. elim (root-most catalogue query e topped other of.is) [ inl most ↦ omega arith | inr nine ↦ omega arith ]) is
 
   -- what is there already
   pub base-found : IsTheBase catalogue query cards e evaluated base → IsTheOneTop catalogue query cards e base tops evaluated 9 (base_top base)
   base-found first = go base refl first where
     go : (o : Option Placed) → base ≡ o → IsTheBase catalogue query cards e evaluated o → IsTheOneTop catalogue query cards e base tops evaluated 9 (base_top o)
-    go None is none = λ other of same nine. none other (of, nine) same
+    go None is none = λ other of nine. none other (of.is, nine) of.its_terms
     go (Some k) is own = record {
       tree = k.plan;
       stands = record {
@@ -190,8 +122,8 @@ module _ (catalogue : CatalogDef) (query : Query) (q : IsQuery catalogue query) 
         fits = own.top.fits;
         made = ap plan_of is;
       };
-      at_root = own.top.is.1;
-      no_later = λ other of same nine. own.no_later other (of, nine) same;
+      starts = own.top.is.1;
+      no_later = λ other of nine. own.no_later other (of.is, nine) of.its_terms;
     }
 
   -- a tree with an operator for a term at the root
@@ -232,10 +164,10 @@ module _ (catalogue : CatalogDef) (query : Query) (q : IsQuery catalogue query) 
     own-terms other r same = sym (ap terms r.is) ∙ same
 
     pub rank-unwanted : has_number evaluated t ≡ false
-        → (other : PlanTree) → IsWhole catalogue query e other → terms other ≡ evaluated → root_term other ≡ t → ⊥
-    rank-unwanted none other is same at =
-        let r = rank-tree t other few is at in
-        let whole = own-terms other r same in
+        → (other : PlanTree) → IsOfTerms catalogue query e evaluated other → root_term other ≡ t → ⊥
+    rank-unwanted none other of at =
+        let r = rank-tree t other few of.is at in
+        let whole = own-terms other r of.its_terms in
         let has = has-own (terms r.child) t in
         let no : true ≡ false = sym has ∙ ap (λ m. has_number m t) whole ∙ none in
         cc
@@ -250,11 +182,11 @@ module _ (catalogue : CatalogDef) (query : Query) (q : IsQuery catalogue query) 
           omega arith)
 
       pub rank-missing : tops (bit_xor evaluated (mask_of t)) ≡ None
-          → (other : PlanTree) → IsWhole catalogue query e other → terms other ≡ evaluated → root_term other ≡ t → ⊥
-      rank-missing none other is same at =
-          let r = rank-tree t other few is at in
-          let keeps = keeps-child other r same in
-          none-some keeps.kept (sym none ∙ ap tops (sym (below-terms r.child r.rank (own-terms other r same))) ∙ keeps.is)
+          → (other : PlanTree) → IsOfTerms catalogue query e evaluated other → root_term other ≡ t → ⊥
+      rank-missing none other of at =
+          let r = rank-tree t other few of.is at in
+          let keeps = keeps-child other r of.its_terms in
+          none-some keeps.kept (sym none ∙ ap tops (sym (below-terms r.child r.rank (own-terms other r of.its_terms))) ∙ keeps.is)
 
       -- an operator over what is kept without the term
       pub rank-one : (k : Placed) → tops (bit_xor evaluated (mask_of t)) ≡ Some k → has_number evaluated t ≡ true → (rows call : ℕ)
@@ -291,11 +223,11 @@ module _ (catalogue : CatalogDef) (query : Query) (q : IsQuery catalogue query) 
               made = subst (λ o. IsMadeTop base tops evaluated o (Rank t k.plan)) (sym choice_is)
                   (k.plan, refl, record { there = ap plan_of at; less = less; some = some; most = few });
             };
-            at_root = refl;
-            no_later = λ other is same root.
-                let r = rank-tree t other few is root in
-                let keeps = keeps-child other r same in
-                let below = below-terms r.child r.rank (own-terms other r same) in
+            starts = refl;
+            no_later = λ other of root.
+                let r = rank-tree t other few of.is root in
+                let keeps = keeps-child other r of.its_terms in
+                let below = below-terms r.child r.rank (own-terms other r of.its_terms) in
                 let there : keeps.kept ≡ k = same_Some keeps.kept k (sym (ap tops (sym below) ∙ keeps.is) ∙ at) in
                 let earlier : NoLaterBy (whole_cost catalogue query cards e) k.plan r.child =
                 subst (λ (m : Placed). NoLaterBy (whole_cost catalogue query cards e) m.plan r.child) there keeps.no_later in
@@ -336,8 +268,8 @@ module _ (catalogue : CatalogDef) (query : Query) (q : IsQuery catalogue query) 
           fits = subst (λ n. n ≤ most_whole query e evaluated) (sym cost_is) first.stands.fits;
         };
         no_later = λ other is terms_are.
-            subst (λ x. NoLaterBy (whole_cost catalogue query cards e) x other) (sym same) (first.no_later other is terms_are (root-few other is));
+            subst (λ x. NoLaterBy (whole_cost catalogue query cards e) x other) (sym same) (first.no_later other (record { is = is; its_terms = terms_are }) (root-few other is));
       }
 
   pub kept-none : IsTheFirstTop catalogue query cards e base tops evaluated 10 None → IsTheTop catalogue query cards e evaluated None
-  kept-none none = λ other is same. none other is same (root-few other is)
+  kept-none none = λ other is same. none other (record { is = is; its_terms = same }) (root-few other is)

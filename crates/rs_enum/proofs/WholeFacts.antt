@@ -1,10 +1,8 @@
 -- Plans of all entries: what stands below an operator for a term, how many rows are expected, and the order of codes.
-use Rattle.std.proofs.Common.{◌≡◌, ◌∙◌, ◌⊎◌, inl, inr, ℕ, ◌+◌, ◌*◌, ◌^◌, ◌<◌, ◌≤◌, false, true, List, length, refl, sym, ap, subst, arith, bit_or}
-use Rattle.std.specs.Cmp.{IsTotalOrder, nat_cmp_is}
-use Rattle.std.specs.Ordering.{is_gt, nat_cmp, on, ordering_then, then_cmp}
-use Rattle.std.specs.declared.cmp.Ordering.{Ordering}
-use Rattle.std.specs.declared.cmp.Ordering.TheVariants.{Less, Equal, Greater}
-use Rattle.std.proofs.lemmas.Cmp.{nat_cmp_total, on_total, ranked, then_total, upto}
+use Rattle.std.proofs.Common.{◌≡◌, ◌∙◌, ◌⊎◌, inl, inr, ℕ, ◌+◌, ◌*◌, ◌^◌, ◌<◌, ◌≤◌, false, List, length, refl, sym, ap, subst, arith, bit_or}
+use Rattle.std.specs.Cmp.{nat_cmp_is}
+use Rattle.std.specs.Ordering.{is_gt, ordering_then}
+use Rattle.std.specs.declared.cmp.Ordering.TheVariants.{Less}
 use Rattle.std.proofs.Math.Nat.{pow-le-pow_right}
 use Rattle.rs_rank.specs.Masks.{mask_of}
 use Rattle.rs_catalog.specs.Catalog.{CatalogDef}
@@ -20,59 +18,10 @@ use Rattle.rs_enum.specs.declared.extent.Extent.{Extent}
 use Rattle.rs_enum.specs.declared.extent.Extent.TheVariants as extent
 use Rattle.rs_enum.specs.Costs.{estimate_of}
 use Rattle.rs_enum.specs.QueryCards.{AreCards, IsBlockNumber, cards_at}
-use Rattle.rs_enum.specs.Tops.{IsExtent, IsTopped, IsWhole, NoLaterBy, most_whole, number_of, root_term, rows_most, whole_rows}
+use Rattle.rs_enum.specs.Tops.{IsExtent, IsTopped, IsWhole, most_whole, number_of, root_term, rows_most, whole_rows}
 use Rattle.rs_enum.proofs.BoundFacts.{calls-most, most-fits, most-set-fits, ones-rank}
 use Rattle.rs_enum.proofs.CostFacts.{all-small, block-formed, numbered, part-has-numbers, same-terms, set-rank-most, set-rows, terms-small}
-use Rattle.rs_enum.proofs.OrderOfPlans.{code-total, estimate-part}
-
--- the order of trees by any cost, and then by their codes
-module _ (value : PlanTree → ℕ) where
-  value-total : IsTotalOrder (then_cmp (on value nat_cmp) (on code code_cmp))
-  value-total = then_total (on_total value nat_cmp_total) (on_total code code-total)
-
-  pub by_value-on : (a b c : PlanTree) → NoLaterBy value a b → NoLaterBy value b c → NoLaterBy value a c
-  by_value-on a b c = upto value-total a b c
-
-  pub by_value-less : (a b : PlanTree) → value a < value b → NoLaterBy value a b
-  by_value-less a b less = ap (λ o. is_gt (ordering_then o (code_cmp (code a) (code b)))) (sym (nat_cmp_is (value a) (value b) Less less))
-
-  pub by_value-code : (a b : PlanTree) → value a ≡ value b → is_gt (code_cmp (code a) (code b)) ≡ false → NoLaterBy value a b
-  by_value-code a b same codes =
-      ap (λ o. is_gt (ordering_then o (code_cmp (code a) (code b)))) (sym (nat_cmp_is (value a) (value b) Equal same)) ∙ codes
-
-  pub by_value-first : (a b : PlanTree) → value a ≤ value b → is_gt (code_cmp (code a) (code b)) ≡ false → NoLaterBy value a b
-  by_value-first a b most codes = go (nat_cmp (value a) (value b)) refl where
-    go : (p : Ordering) → nat_cmp (value a) (value b) ≡ p → NoLaterBy value a b
-    go Less e = by_value-less a b (ranked (value a) (value b) Less (sym e))
-    go Equal e = by_value-code a b (ranked (value a) (value b) Equal (sym e)) codes
-    go Greater e = absurd (let more = ranked (value a) (value b) Greater (sym e) in omega arith)
-
-by-numbers : (x y : ℕ) (o : Ordering) → is_gt (ordering_then (nat_cmp x y) o) ≡ false → (x < y) ⊎ ((x ≡ y) × (is_gt o ≡ false))
-by-numbers x y o is = go (nat_cmp x y) refl where
-  go : (p : Ordering) → nat_cmp x y ≡ p → (x < y) ⊎ ((x ≡ y) × (is_gt o ≡ false))
-  go Less e = inl (ranked x y Less (sym e))
-  go Equal e = inr (ranked x y Equal (sym e), sym (ap (λ q. is_gt (ordering_then q o)) e) ∙ is)
-  go Greater e = absurd (let no : true ≡ false = sym (ap (λ q. is_gt (ordering_then q o)) e) ∙ is in cc)
-
--- what comes no later costs no more
-pub by_value-most : (value : PlanTree → ℕ) (a b : PlanTree) → NoLaterBy value a b → value a ≤ value b
-by_value-most value a b is = elim (by-numbers (value a) (value b) (code_cmp (code a) (code b)) is) [
-  | inl less ↦ omega arith
-  | inr same ↦ (let cost = same.0 in omega arith)
-]
-
--- trees that cost as much more by another cost as two others do, with codes in the order of theirs, are in their order
-pub by_value-more : (value other : PlanTree → ℕ) (a b c d : PlanTree) (more : ℕ) → other c ≡ value a + more → other d ≡ value b + more
-    → code_cmp (code c) (code d) ≡ code_cmp (code a) (code b) → NoLaterBy value a b → NoLaterBy other c d
-by_value-more value other a b c d more first second codes is =
-    elim (by-numbers (value a) (value b) (code_cmp (code a) (code b)) is) [
-      | inl less ↦ by_value-less other c d (omega arith)
-      | inr same ↦ (let cost = same.0 in by_value-code other c d (omega arith) (ap is_gt codes ∙ same.1))
-    ]
-
--- by costs that are the same of both
-pub by_value-same : (value other : PlanTree → ℕ) (a b : PlanTree) → other a ≡ value a → other b ≡ value b → NoLaterBy value a b → NoLaterBy other a b
-by_value-same value other a b first second is = by_value-more value other a b a b 0 (omega arith) (omega arith) refl is
+use Rattle.rs_enum.proofs.OrderOfPlans.{estimate-part}
 
 module _ (catalogue : CatalogDef) where
   -- below an operator for a term

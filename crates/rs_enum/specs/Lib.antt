@@ -2,6 +2,7 @@ pub mod AllPlans
 pub mod Bounds
 pub mod Candidates
 pub mod Costs
+pub mod Firsts
 pub mod Given
 pub mod Grids
 pub mod Least

@@ -14,6 +14,7 @@ use Rattle.rs_enum.specs.declared.candidate.Choice.TheVariants as choice
 use Rattle.rs_enum.specs.Bounds.{most_cost}
 use Rattle.rs_enum.specs.Candidates.{IsCandidate}
 use Rattle.rs_enum.specs.Costs.{cost_of, estimate_of}
+use Rattle.rs_enum.specs.Firsts.{IsOneAt, IsTheFirstBelow, IsTheOneAt}
 use Rattle.rs_enum.specs.Least.{ComesNoLater}
 
 -- a plan that is kept, with its cost
@@ -127,30 +128,18 @@ IsTheScan catalogue query cards entry term (Some found) = IsScan catalogue query
 IsTheScan catalogue query cards entry term None = (index : ℕ) → IsRankScan catalogue (block_in query 1) entry term index → ⊥
 
 -- what is found is the one plan whose code starts so, if there is one
-pub record IsOne (catalogue : CatalogDef) (query : Query) (cards : List BlockCards) (places : List (Option Placed)) (first second start : ℕ)
-    (found : Candidate) : Type 0 where
-  pub tree : PlanTree
-  pub stands : StandsFor catalogue query cards places first second found tree
-  pub starts : start_of tree ≡ start
+abbrev pub IsOne : CatalogDef → Query → List BlockCards → List (Option Placed) → ℕ → ℕ → ℕ → Candidate → Type 0
+IsOne catalogue query cards places first second start found =
+    IsOneAt (CanBeMade catalogue query places first second) (StandsFor catalogue query cards places first second) (cost_of catalogue query cards) start_of start found
 
 abbrev pub IsTheOne : CatalogDef → Query → List BlockCards → List (Option Placed) → ℕ → ℕ → ℕ → Option Candidate → Type 0
-IsTheOne catalogue query cards places first second start (Some found) = IsOne catalogue query cards places first second start found
-IsTheOne catalogue query cards places first second start None =
-    (other : PlanTree) → CanBeMade catalogue query places first second other → start_of other ≡ start → ⊥
+IsTheOne catalogue query cards places first second start found =
+    IsTheOneAt (CanBeMade catalogue query places first second) (StandsFor catalogue query cards places first second) (cost_of catalogue query cards) start_of start found
 
 -- what is found comes no later than all plans whose codes start below a number, if there is one
-pub record IsFirst (catalogue : CatalogDef) (query : Query) (cards : List BlockCards) (places : List (Option Placed)) (first second bound : ℕ)
-    (found : Candidate) : Type 0 where
-  pub tree : PlanTree
-  pub stands : StandsFor catalogue query cards places first second found tree
-  pub below : start_of tree < bound
-  pub no_later : (other : PlanTree) → CanBeMade catalogue query places first second other → start_of other < bound
-      → ComesNoLater catalogue query cards tree other
-
 abbrev pub IsTheFirst : CatalogDef → Query → List BlockCards → List (Option Placed) → ℕ → ℕ → ℕ → Option Candidate → Type 0
-IsTheFirst catalogue query cards places first second bound (Some found) = IsFirst catalogue query cards places first second bound found
-IsTheFirst catalogue query cards places first second bound None =
-    (other : PlanTree) → CanBeMade catalogue query places first second other → start_of other < bound → ⊥
+IsTheFirst catalogue query cards places first second bound found =
+    IsTheFirstBelow (CanBeMade catalogue query places first second) (StandsFor catalogue query cards places first second) (cost_of catalogue query cards) start_of bound found
 
 -- the cheaper one of two, and of equal ones the first
 abbrev pub cheaper : Option Candidate → Option Candidate → Option Candidate

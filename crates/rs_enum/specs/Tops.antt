@@ -1,6 +1,5 @@
 -- Plans of all entries of a block, or of both blocks of a query, by the terms that they evaluate, and what is kept of them.
-use Rattle.std.specs.Prelude.{ℕ, ◌≡◌, ◌<◌, ◌≤◌, ◌+◌, ◌^◌, false, true, List, Option, Some, None, option_and_then, option_map}
-use Rattle.std.specs.Ordering.{is_gt, nat_cmp, on, then_cmp}
+use Rattle.std.specs.Prelude.{ℕ, ◌≡◌, ◌<◌, ◌≤◌, ◌+◌, ◌^◌, true, List, Option, Some, None, option_and_then, option_map}
 use Rattle.rs_catalog.specs.Catalog.{CatalogDef}
 use Rattle.rs_query.specs.Tables.{all_entries}
 use Rattle.rs_query.specs.declared.query.Query.{Query}
@@ -8,7 +7,7 @@ use Rattle.rs_query.specs.declared.query.Query.TheVariants.{One, Set}
 use Rattle.rs_sample.specs.Cards.{BlockCards}
 use Rattle.rs_query.specs.Blocks.{block_in}
 use Rattle.rs_plan.specs.Plans.{HasNoDistinct, IsComplete, IsPart}
-use Rattle.rs_plan.specs.Trees.{Distinct, JoinOperator, PlanTree, Rank, RankScan, SeqScan, SetOperator, code, code_cmp, entries, terms}
+use Rattle.rs_plan.specs.Trees.{Distinct, JoinOperator, PlanTree, Rank, RankScan, SeqScan, SetOperator, entries, terms}
 use Rattle.rs_enum.specs.declared.extent.Extent.{Extent}
 use Rattle.rs_enum.specs.declared.extent.Extent.TheVariants as whole
 use Rattle.rs_enum.specs.Bounds.{IsSetPart, most_cost, most_set_cost}
@@ -16,8 +15,8 @@ use Rattle.rs_enum.specs.declared.candidate.Candidate.{Candidate}
 use Rattle.rs_enum.specs.declared.candidate.Choice.{Choice}
 use Rattle.rs_enum.specs.declared.candidate.Choice.TheVariants as choice
 use Rattle.rs_enum.specs.Costs.{cost_in}
+use Rattle.rs_enum.specs.Firsts.{IsFirstBelow, IsOneAt, IsTheFirstBelow, IsTheOneAt, NoLaterBy}
 use Rattle.rs_enum.specs.Made.{IsRankBuilt}
-use Rattle.rs_enum.specs.Places.{Placed}
 use Rattle.rs_enum.specs.Places.{Placed}
 use Rattle.rs_enum.specs.QueryCards.{IsBlockNumber, cards_at}
 
@@ -59,10 +58,6 @@ abbrev pub IsExtent : Query → List BlockCards → Extent → Type 0
 IsExtent query cards (whole.Block number) = IsBlockNumber cards number
 IsExtent (One block limit) cards whole.Both = ⊥
 IsExtent (Set op left right limit) cards whole.Both = Unit {0}
-
--- a tree comes at or before another one by costs, and at one cost by codes
-abbrev pub NoLaterBy : (PlanTree → ℕ) → PlanTree → PlanTree → Type 0
-NoLaterBy cost tree other = is_gt (then_cmp (on cost nat_cmp) (on code code_cmp) tree other) ≡ false
 
 -- a tree of a kind that is kept of some terms, with its cost
 pub record IsTop (Of : PlanTree → Type 0) (value : PlanTree → ℕ) (Fits : ℕ → ℕ → Type 0) (evaluated : ℕ) (kept : Placed) : Type 0 where
@@ -137,33 +132,28 @@ pub record StandsForTop (catalogue : CatalogDef) (query : Query) (cards : List B
   pub fits : FitsWhole query extent evaluated found.cost
   pub made : IsMadeTop base tops evaluated found.choice tree
 
+-- a tree of all entries and of these terms
+pub record IsOfTerms (catalogue : CatalogDef) (query : Query) (extent : Extent) (evaluated : ℕ) (tree : PlanTree) : Type 0 where
+  pub is : IsWhole catalogue query extent tree
+  pub its_terms : terms tree ≡ evaluated
+
 -- it is the first one with an operator for this term at the root, if there is one
-pub record IsOneTop (catalogue : CatalogDef) (query : Query) (cards : List BlockCards) (extent : Extent) (base : Option Placed) (tops : ℕ → Option Placed) (evaluated root : ℕ)
-    (found : Candidate) : Type 0 where
-  pub tree : PlanTree
-  pub stands : StandsForTop catalogue query cards extent base tops evaluated found tree
-  pub at_root : root_term tree ≡ root
-  pub no_later : (other : PlanTree) → IsWhole catalogue query extent other → terms other ≡ evaluated → root_term other ≡ root
-      → NoLaterBy (whole_cost catalogue query cards extent) tree other
+abbrev pub IsOneTop : CatalogDef → Query → List BlockCards → Extent → Option Placed → (ℕ → Option Placed) → ℕ → ℕ → Candidate → Type 0
+IsOneTop catalogue query cards extent base tops evaluated root found =
+    IsOneAt (IsOfTerms catalogue query extent evaluated) (StandsForTop catalogue query cards extent base tops evaluated) (whole_cost catalogue query cards extent) root_term root found
 
 abbrev pub IsTheOneTop : CatalogDef → Query → List BlockCards → Extent → Option Placed → (ℕ → Option Placed) → ℕ → ℕ → Option Candidate → Type 0
-IsTheOneTop catalogue query cards extent base tops evaluated root (Some found) = IsOneTop catalogue query cards extent base tops evaluated root found
-IsTheOneTop catalogue query cards extent base tops evaluated root None =
-    (other : PlanTree) → IsWhole catalogue query extent other → terms other ≡ evaluated → root_term other ≡ root → ⊥
+IsTheOneTop catalogue query cards extent base tops evaluated root found =
+    IsTheOneAt (IsOfTerms catalogue query extent evaluated) (StandsForTop catalogue query cards extent base tops evaluated) (whole_cost catalogue query cards extent) root_term root found
 
 -- it is the first one of all with an operator for a term below a number at the root, if there is one
-pub record IsFirstTop (catalogue : CatalogDef) (query : Query) (cards : List BlockCards) (extent : Extent) (base : Option Placed) (tops : ℕ → Option Placed) (evaluated bound : ℕ)
-    (found : Candidate) : Type 0 where
-  pub tree : PlanTree
-  pub stands : StandsForTop catalogue query cards extent base tops evaluated found tree
-  pub below : root_term tree < bound
-  pub no_later : (other : PlanTree) → IsWhole catalogue query extent other → terms other ≡ evaluated → root_term other < bound
-      → NoLaterBy (whole_cost catalogue query cards extent) tree other
+abbrev pub IsFirstTop : CatalogDef → Query → List BlockCards → Extent → Option Placed → (ℕ → Option Placed) → ℕ → ℕ → Candidate → Type 0
+IsFirstTop catalogue query cards extent base tops evaluated bound found =
+    IsFirstBelow (IsOfTerms catalogue query extent evaluated) (StandsForTop catalogue query cards extent base tops evaluated) (whole_cost catalogue query cards extent) root_term bound found
 
 abbrev pub IsTheFirstTop : CatalogDef → Query → List BlockCards → Extent → Option Placed → (ℕ → Option Placed) → ℕ → ℕ → Option Candidate → Type 0
-IsTheFirstTop catalogue query cards extent base tops evaluated bound (Some found) = IsFirstTop catalogue query cards extent base tops evaluated bound found
-IsTheFirstTop catalogue query cards extent base tops evaluated bound None =
-    (other : PlanTree) → IsWhole catalogue query extent other → terms other ≡ evaluated → root_term other < bound → ⊥
+IsTheFirstTop catalogue query cards extent base tops evaluated bound found =
+    IsTheFirstBelow (IsOfTerms catalogue query extent evaluated) (StandsForTop catalogue query cards extent base tops evaluated) (whole_cost catalogue query cards extent) root_term bound found
 
 -- what is there without an operator for a term at the root
 abbrev pub base_top : Option Placed → Option Candidate
