@@ -1,7 +1,8 @@
 #!/usr/bin/env bash
 # Measures `ranksql` on the deepest and the largest of each form that it takes, and on smaller ones, so that it shows how each grows:
-# seconds of processor time, the greatest memory, and the least stack with which it runs, in steps of two. The last column is the
-# power by which the time grows from a row to the next one, where the times are long enough to tell.
+# seconds of processor time, the greatest memory where it is more than that of the process that starts the runs (about 10 MB), and
+# the least stack with which it runs, in steps of two. The last column is the power by which the time grows from a row to the next
+# one, where the times are long enough to tell.
 # Crafted tables stand beside ordinary ones of the same size: keys of which a hash with a known seed makes the same number, and long
 # texts that differ in their last bytes alone. Where a crafted table takes more than four times as long as the ordinary one, the
 # script ends with 1.
@@ -13,6 +14,7 @@
 needs python3 'it makes the tables and takes the measures'
 find_program
 python3 - "$program" "$work" "$@" <<'PYTHON'
+import json
 import math
 import os
 import random
@@ -33,8 +35,8 @@ def write(name, content):
         file.write(content if isinstance(content, bytes) else content.encode())
 
 
-def run(words, stack=None):
-    """The status of a run, its seconds of processor time and its greatest memory in kB."""
+def ended(words, stack):
+    """Runs a command, and gives its status, its seconds of processor time and its greatest memory in kB."""
 
     def before():
         resource.setrlimit(resource.RLIMIT_CPU, (SECONDS, SECONDS))
@@ -42,10 +44,42 @@ def run(words, stack=None):
             resource.setrlimit(resource.RLIMIT_STACK, (stack << 10, stack << 10))
 
     with open("out", "wb") as out, open("err", "wb") as err:
-        child = subprocess.Popen([program, *words], stdin=subprocess.DEVNULL, stdout=out, stderr=err, preexec_fn=before)
+        child = subprocess.Popen(words, stdin=subprocess.DEVNULL, stdout=out, stderr=err, preexec_fn=before)
         _, status, used = os.wait4(child.pid, 0)
         child.returncode = os.waitstatus_to_exitcode(status)
     return child.returncode, used.ru_utime + used.ru_stime, used.ru_maxrss
+
+
+def starter():
+    """A process that starts the runs. The greatest memory of a run is at least that of the process that started it, and the
+    tables are made in this one."""
+    ask_out, ask_in = os.pipe()
+    tell_out, tell_in = os.pipe()
+    if os.fork() == 0:
+        os.close(ask_in)
+        os.close(tell_out)
+        with open(ask_out) as asked, open(tell_in, "w") as tell:
+            for line in asked:
+                print(json.dumps(ended(*json.loads(line))), file=tell, flush=True)
+        os._exit(0)
+    os.close(ask_out)
+    os.close(tell_in)
+    return open(ask_in, "w"), open(tell_out)
+
+
+asked, told = starter()
+
+
+def started(words, stack=None):
+    print(json.dumps([words, stack]), file=asked, flush=True)
+    return json.loads(told.readline())
+
+
+def run(words, stack=None):
+    return started([program, *words], stack)
+
+
+LEAST_MEMORY = started(["true"])[2]
 
 
 def least_stack(words, status):
@@ -67,7 +101,8 @@ def measure(form, size, words, before=None, has_stack=True):
     power = "-"
     if before and seconds > 0.05 and before[1] > 0.02:
         power = "%.1f" % (math.log(seconds / before[1]) / math.log(size / before[0]))
-    print(HEAD % (form, size, status, "%.2f" % seconds, "%.1f" % (memory / 1024), stack, power), flush=True)
+    held = "%.1f" % (memory / 1024) if memory > LEAST_MEMORY * 1.02 else "-"
+    print(HEAD % (form, size, status, "%.2f" % seconds, held, stack, power), flush=True)
     return size, seconds
 
 

@@ -1,14 +1,14 @@
 #!/usr/bin/env bash
 # Measures `ranksql plain` on a query over three tables, and beside it, in the same run, sqlite3 on the same join with
-# the score as an expression. Each table has 600 rows, and 60,000 combinations of rows satisfy the condition. `plain`
-# scores each of them by each of the three terms, sorts all, and prints the first ten. Each runs five times, in turn,
-# and the shortest time counts. It is that of a whole process, which reads the files too. Both have to print the same
-# rows. How long they take decides nothing.
+# the score as an expression. The tables have 150, 300, 600 and then 1,200 rows each, of which a hundred times as many
+# combinations satisfy the condition. `plain` scores each of them by each of the three terms, sorts all, and prints the
+# first ten. Each runs five times, in turn, and the shortest time counts. It is that of a whole process, which reads the
+# files too. Both have to print the same rows. How long they take decides nothing.
 # The program is the one that ./ranksql builds, or the one that the variable RANKSQL names.
 # shellcheck source=bench/functions.sh
 . "$(dirname "$0")/functions.sh"
 
-ROWS=600
+SIZES='150 300 600 1200'
 NUMBER=7
 TERMS=3
 RUNS=5
@@ -72,33 +72,38 @@ run_sqlite() {
         'ORDER BY score DESC, h.rowid, r.rowid, m.rowid LIMIT 10'
 }
 
-make_tables
-make_script >"$work/plain.sql"
-combinations=$(ask_sqlite 'count(*)' '') || exit
+# Measures both on tables of ROWS rows, and prints a line of the table.
+measure() {
+    make_tables
+    make_script >"$work/plain.sql"
+    combinations=$(ask_sqlite 'count(*)' '') || exit
+    rm -f "$work/ranksql.times" "$work/sqlite.times"
+    for _ in $(seq "$RUNS"); do
+        for name in ranksql sqlite; do
+            time_once "$name"
+        done
+        # sqlite3 prints no rank.
+        awk '{ print NR "," $0 }' "$work/sqlite.out" >"$work/wanted"
+        same_or_fail 'the rows' "$work/wanted" "$work/ranksql.out"
+    done
+    if [ "$(wc -l <"$work/ranksql.out")" -ne 10 ]; then
+        echo "bench: there are not ten rows" >&2
+        exit 1
+    fi
+    # There is no figure of the memory where the system doesn't tell it.
+    peak=$(peak_of "$program" plain "$work/plain.sql")
+    awk -v rows="$ROWS" -v combinations="$combinations" -v terms="$TERMS" -v ranksql="$(best_of ranksql)" \
+        -v sqlite="$(best_of sqlite)" -v peak="$peak" 'BEGIN {
+            printf "%6d %12d %9d %9.1f ms %9.1f ms %7.2f %8s\n", rows, combinations, combinations * terms,
+                ranksql / 1000, sqlite / 1000, ranksql / sqlite, peak == "" ? "-" : sprintf("%.1f", peak * 1024 / 1000000)
+        }'
+}
 
 find_program
 
-echo "three tables of $ROWS rows; the first 10 of $combinations combinations by score; the best of $RUNS runs"
-for _ in $(seq "$RUNS"); do
-    for name in ranksql sqlite; do
-        time_once "$name"
-    done
-    # sqlite3 prints no rank.
-    awk '{ print NR "," $0 }' "$work/sqlite.out" >"$work/wanted"
-    same_or_fail 'the rows' "$work/wanted" "$work/ranksql.out"
+echo "three tables; the first 10 combinations by score; the best of $RUNS runs; both print the same rows"
+echo "The calls are reckoned: one for each combination and each of $TERMS terms."
+printf '%6s %12s %9s %12s %12s %7s %8s\n' rows combinations calls ranksql sqlite3 ratio 'MB held'
+for ROWS in $SIZES; do
+    measure
 done
-if [ "$(wc -l <"$work/ranksql.out")" -ne 10 ]; then
-    echo "bench: there are not ten rows" >&2
-    exit 1
-fi
-echo "both print the same 10 rows"
-for name in ranksql sqlite; do
-    awk -v name="$name" -v best="$(best_of "$name")" 'BEGIN { printf "%-8s %7.1f ms\n", name, best / 1000 }'
-done
-compare_with_sqlite
-calls=$((combinations * TERMS))
-echo "ranksql calls the scorer $calls times, as reckoned: once for each combination and each of $TERMS terms"
-peak=$(peak_of "$program" plain "$work/plain.sql")
-if [ -n "$peak" ]; then
-    awk -v peak="$peak" 'BEGIN { printf "ranksql holds at most %.1f MB of memory\n", peak * 1024 / 1000000 }'
-fi
