@@ -4,7 +4,7 @@ ghost use Rattle.std.specs.Prelude.{◌≡◌, ◌≤◌, ◌<◌, IfOk, length,
 ghost use Rattle.rs_table.specs.Relation.{row_fits};
 
 use rs_table::{Cell, MOST_ROWS, Schema, Table};
-use rs_value::{Kind, List, Memory, Text};
+use rs_value::{Kind, List, Memory, Text, Value};
 use std::alloc::Global;
 use std::hash::RandomState;
 use std::process::Abort;
