@@ -1,6 +1,6 @@
 -- What a search over the plans of a signature finds: its costs fit, its rows may be asked for, and all starts of codes are tried.
 use Rattle.std.proofs.Common.{◌≡◌, ℕ, ◌+◌, ◌-◌, ◌*◌, ◌^◌, ◌<◌, ◌≤◌, ◌==◌, Bool, false, true, List, length, refl, sym, ◌∙◌, subst, subst₂, arith, bit_and, bit_xor, count_ones}
-use Rattle.std.specs.Prelude.{Option, Some}
+use Rattle.std.specs.Prelude.{Option, Some, None}
 use Rattle.std.proofs.lemmas.Bool.{eq-eqb, eqb-true}
 use Rattle.std.proofs.lemmas.Nat.{and_le_l, pow_below, xor_lt}
 use Rattle.std.proofs.Math.Nat.{pow-le-pow_right}
@@ -26,6 +26,8 @@ use Rattle.rs_enum.proofs.AloneFacts.{alone-are}
 use Rattle.rs_enum.proofs.CostFacts.{block-cards, first-numbered, masks-part, part-fits}
 use Rattle.rs_enum.proofs.MadeFacts.{kept-found}
 use Rattle.rs_enum.proofs.OrderOfPlans.{estimate-part}
+use Rattle.rs_enum.specs.Within.{terms_within}
+use Rattle.rs_enum.proofs.WithinFacts.{terms-within}
 use Rattle.rs_enum.proofs.StartFacts.{IsTheFirst-wider, no-more-hashed, no-more-nested, no-more-terms, no-term-zero}
 
 -- the test of two masks
@@ -79,11 +81,22 @@ module _ (catalogue : CatalogDef) (query : Query) (cards : List BlockCards) (for
       (λ other made above below. no-more-nested catalogue (block_in query 1) formed (tree_at (length (block_in query 1).terms) places) first second other made (omega arith)) is
 
   -- a mask of entries is a small number
-  pub entries-few : first < 2 ^ length (block_in query 1).from → first ≤ 64
-  entries-few below =
+  pub entries-less : first < 2 ^ length (block_in query 1).from → first < 64
+  entries-less below =
       let most : length (block_in query 1).from ≤ 6 = formed.most_entries in
       let power : 2 ^ length (block_in query 1).from ≤ 2 ^ 6 = pow-le-pow_right {n = 2} (omega arith) most in
       omega arith
+
+  pub entries-few : first < 2 ^ length (block_in query 1).from → first ≤ 64
+  entries-few below = let less = entries-less below in omega arith
+
+  -- there is no plan where a term speaks of other entries
+  pub none-outside : (bit_and second (terms_within first (block_in query 1).terms) ≡ second → ⊥) → (bound : ℕ)
+      → IsTheFirst catalogue query cards places first second bound None
+  none-outside outside bound = λ other made below.
+      outside
+      ((λ i. bit_and (sym made.its_terms i) (terms_within (sym made.its_entries i) (block_in query 1).terms))
+      ∙ terms-within catalogue (block_in query 1) other made.part ∙ made.its_terms)
 
 -- what is found for a signature: it is kept at its cost, and its rows may be asked for
 pub record IsKeptAt (query : Query) (cards : List BlockCards) (places : List (Option Placed)) (first second : ℕ) (found : Candidate) : Type 0 where

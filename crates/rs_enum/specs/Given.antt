@@ -1,5 +1,5 @@
 -- What the functions of the optimiser are given, and what they find.
-use Rattle.std.specs.Prelude.{ℕ, ◌≡◌, ◌<◌, ◌≤◌, ◌+◌, ◌^◌, List, length, Option, Some, option_map, if◌then◌else◌}
+use Rattle.std.specs.Prelude.{ℕ, ◌≡◌, ◌<◌, ◌≤◌, ◌+◌, ◌^◌, List, get_or, length, Option, Some, option_map, if◌then◌else◌}
 use Rattle.rs_query.specs.Tables.{all_entries}
 use Rattle.rs_query.specs.WellFormed.{IsQuery}
 use Rattle.rs_query.specs.declared.block.Block.{Block}
@@ -23,6 +23,7 @@ use Rattle.rs_enum.specs.LeastCosts.{HasCost}
 use Rattle.rs_enum.specs.Made.{AreBuilt, IsRankBuilt, kept_plans}
 use Rattle.rs_enum.specs.Places.{AreKept, IsFilled, Placed, candidate_at, kept_at}
 use Rattle.rs_enum.specs.QueryCards.{AreCards, IsBlockNumber, alone, alone_cards}
+use Rattle.rs_enum.specs.Within.{terms_within}
 use Rattle.rs_enum.specs.Tops.{AreTops, IsExtent, IsTheBase, IsTheFirstTop, IsTheOneTop, IsTopped, number_of, plan_of}
 
 -- the query is well formed, and the cards are its own
@@ -72,10 +73,11 @@ cards_in search = alone_cards (cards_of search.planning.cards.now) search.number
 abbrev pub kept_in : Search → List (Option Placed)
 kept_in search = kept_plans (block_of search).terms search.places.now
 
--- it is a block of the query, and the places keep plans of it
+-- it is a block of the query, the masks of terms are its own, and the places keep plans of it
 pub record CanSearch (search : Search) : Type 0 where
   pub planning : CanPlan search.planning
   pub number : IsBlockNumber (cards_of search.planning.cards.now) search.number
+  pub inside : (entries : ℕ) → entries < 64 → get_or search.inside.now entries 0 ≡ terms_within entries (block_of search).terms
   pub kept : AreKept search.planning.catalog.now (query_in search) (cards_in search) (kept_in search)
 
 -- the block of this number

@@ -14,7 +14,7 @@ ghost use Rattle.rs_enum.specs.Tops.{AreLower, IsExtent, IsTheFirstTop, base_top
 use crate::candidate::{Candidate, Choice};
 use crate::costs::{both_sides, rows_of_all};
 use crate::extent::Extent;
-use crate::find::candidate_at;
+use crate::find::{candidate_at, masks_inside};
 use crate::planning::Planning;
 use crate::row::Row;
 use crate::search::Search;
@@ -109,11 +109,13 @@ fn fill_signatures(planning: &Planning, number: u8, places: &mut Vec<Option<Cand
     let rows = masks(block.from.len() as u8);
     let columns = masks(block.terms.len() as u8);
     let all = product(rows, columns);
+    let inside = masks_inside(block);
     for place in 0..all {
         let of = signature_at(place, columns);
         let search = Search {
             planning: *planning,
             number,
+            inside: &inside,
             places: places.as_slice(),
         };
         let found = search.first_candidate(of);

@@ -2,7 +2,7 @@
 //! the least code. Plans are tried in the order of their codes, which is told by where a code starts, as each signature has one
 //! plan. So a plan that costs as much as an earlier one comes later.
 
-ghost use Rattle.std.specs.Prelude.{ℕ, ◌≡◌, ◌≤◌, ◌<◌, ◌+◌, ◌*◌, ◌^◌, MatchOption, length, slice_get, Some, ◌-◌, count_ones};
+ghost use Rattle.std.specs.Prelude.{ℕ, ◌≡◌, ◌≤◌, ◌<◌, ◌+◌, ◌*◌, ◌^◌, MatchOption, get_or, length, slice_get, Some, ◌-◌, count_ones};
 ghost use Rattle.rs_rank.specs.Masks.{mask_of};
 ghost use Rattle.rs_plan.specs.Numbers.{IsUpTo};
 ghost use Rattle.rs_plan.specs.Plans.{IsEntryNumber};
@@ -92,6 +92,18 @@ pub(crate) fn terms_within(entries: u8, terms: &[Term]) -> u8
     }
 }
 
+/// For each mask of entries the mask of the terms of a block that speak of these alone.
+pub(crate) fn masks_inside(block: &Block) -> [u8; 64]
+    requires { length block.now.terms ≤ 8 }
+    ensures { (entries : ℕ) → entries < 64 → get_or result entries 0 ≡ terms_within entries block.now.terms }
+{
+    let mut masks = [0; 64];
+    for entries in 0..64 {
+        masks[entries] = terms_inside(block, entries as u8);
+    }
+    masks
+}
+
 /// The number from 1 up to another one whose mask this is.
 fn number_of(mask: u8, most: u8) -> Option<u8>
     requires { most ≤ 8 }
@@ -107,6 +119,15 @@ fn number_of(mask: u8, most: u8) -> Option<u8>
 }
 
 impl Search<'_> {
+    /// The mask of the terms of the block that speak of some entries alone.
+    fn terms_inside(&self, entries: u8) -> u8
+        requires search { CanSearch self.now }
+        requires entries { entries < 64 }
+        ensures { result ≡ terms_within entries (block_of self.now).terms }
+    {
+        self.inside[entries as usize]
+    }
+
     /// An operator for a term over what is kept without it.
     fn rank(&self, of: Signature, term: u8) -> Option<Candidate>
         requires search { CanSearch self.now }
@@ -143,6 +164,7 @@ impl Search<'_> {
     /// of its entries alone, and the right side likewise.
     fn sides(&self, of: Signature, left: u8) -> Option<Sides>
         requires search { CanSearch self.now }
+        requires entries { of.entries < 2 ^ length (block_of self.now).from }
         requires terms { of.terms < 2 ^ length (block_of self.now).terms }
         ensures { AreTheSides self.now.planning.catalog.now (query_in self.now) (cards_in self.now) (kept_in self.now) of.entries of.terms left result }
     {
@@ -152,8 +174,8 @@ impl Search<'_> {
         let block = block_in(self.planning.query, self.number);
         let count = block.terms.len() as u8;
         let right = of.entries ^ left;
-        let left_terms = of.terms & terms_inside(block, left);
-        let right_terms = of.terms & terms_inside(block, right);
+        let left_terms = of.terms & self.terms_inside(left);
+        let right_terms = of.terms & self.terms_inside(right);
         if left_terms | right_terms != of.terms {
             return None;
         }
@@ -178,6 +200,7 @@ impl Search<'_> {
     /// A hash join of what is kept, whose left side has these entries.
     fn hash_join(&self, of: Signature, left: u8) -> Option<Candidate>
         requires search { CanSearch self.now }
+        requires entries { of.entries < 2 ^ length (block_of self.now).from }
         requires terms { of.terms < 2 ^ length (block_of self.now).terms }
         ensures { IsTheOne self.now.planning.catalog.now (query_in self.now) (cards_in self.now) (kept_in self.now) of.entries of.terms (4 * 256 + left) result }
     {
@@ -206,6 +229,7 @@ impl Search<'_> {
     /// A nested join of what is kept, whose left side has these entries.
     fn nested_join(&self, of: Signature, left: u8) -> Option<Candidate>
         requires search { CanSearch self.now }
+        requires entries { of.entries < 2 ^ length (block_of self.now).from }
         requires terms { of.terms < 2 ^ length (block_of self.now).terms }
         ensures { IsTheOne self.now.planning.catalog.now (query_in self.now) (cards_in self.now) (kept_in self.now) of.entries of.terms (5 * 256 + left) result }
     {
@@ -310,13 +334,17 @@ impl Search<'_> {
         best
     }
 
-    /// The first of all plans that can be made for a signature.
+    /// The first of all plans that can be made for a signature. There is none where a term speaks of other entries.
     pub(crate) fn first_candidate(&self, of: Signature) -> Option<Candidate>
         requires search { CanSearch self.now }
         requires entries { of.entries < 2 ^ length (block_of self.now).from }
         requires terms { of.terms < 2 ^ length (block_of self.now).terms }
         ensures { IsTheFirst self.now.planning.catalog.now (query_in self.now) (cards_in self.now) (kept_in self.now) of.entries of.terms (6 * 256) result }
     {
+        let inside = self.terms_inside(of.entries);
+        if of.terms & inside != of.terms {
+            return None;
+        }
         let scanned = self.scan(of);
         let ranked = self.with_ranks(of, scanned);
         let hashed = self.with_hash_joins(of, ranked);

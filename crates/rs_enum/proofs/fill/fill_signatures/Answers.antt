@@ -8,6 +8,7 @@ use Rattle.rs_enum.specs.Given.{block_at}
 use Rattle.rs_enum.specs.QueryCards.{alone, alone_cards}
 use Rattle.rs_enum.specs.Made.{AreBuilt, kept_plans}
 use Rattle.rs_enum.specs.Places.{AreKept, IsFilled, IsTheFirst}
+use Rattle.rs_enum.specs.Within.{terms_within}
 use Rattle.rs_enum.proofs.BuildFacts.{built-none}
 use Rattle.rs_enum.proofs.CostFacts.{block-formed}
 use Rattle.rs_enum.proofs.FilledFacts.{AreFilled, entries-within, filled-next, filled-none, masks-most, places-most}
@@ -29,6 +30,7 @@ pub first_candidate-found-requires-clause-search : goal.first_candidate-found-re
 first_candidate-found-requires-clause-search c = record {
   planning = c.requires.planning;
   number = c.requires.number;
+  inside = λ entries few. c.masks_inside-inside.ensures entries few ∙ ap (λ (b : Block). terms_within entries b.terms) c.block_in-block.ensures;
   kept = subst (λ xs. AreKept c.args.planning.now.catalog.now (alone c.args.planning.now.query.now c.args.number) (alone_cards (cards_of c.args.planning.now.cards.now) c.args.number)
       (kept_plans (block_at c.args.planning.now c.args.number).terms xs)) (sym c.as_slice.ensures.value) c.loop-place.invariant.0.filled.kept;
 }
