@@ -2,8 +2,8 @@
 # Measures the memory of one table of the greatest size by kind of column: numbers, texts of which few are different, and texts that
 # are all different. Each file has as many columns as its limit allows, at most 64. The program holds a file while it reads the
 # table from it, so its memory is told beside the bytes of the file: the most that the program held, and what that is more than the
-# file and the program without a table. A list that has to grow is for a moment there twice, which counts here too. Beside it, in
-# the same run: sqlite3 that imports the same file into a table in memory.
+# file, the program itself included. A list that has to grow is for a moment there twice, which counts here too. Beside it, in the
+# same run: sqlite3 that imports the same file into a table in memory.
 # The program is the one that ./ranksql builds, or the one that the variable RANKSQL names.
 # shellcheck source=bench/functions.sh
 . "$(dirname "$0")/functions.sh"
@@ -64,8 +64,7 @@ def script_of(name, text):
     return path
 
 
-_, alone = held_by([program, "run", script_of("none", "-- no table\n"), "1"])
-print("%-20s %8s %10s %10s %10s %8s %10s" % ("columns", "number", "file MB", "held MB", "table MB", "seconds", "sqlite MB"))
+print("%-20s %8s %10s %10s %10s %8s %10s" % ("columns", "number", "file MB", "held MB", "more MB", "seconds", "sqlite MB"))
 for number, (kind, sql, columns, cell) in enumerate(KINDS):
     path = "%s/%d.csv" % (folder, number)
     names = ["c%d" % column for column in range(columns)]
@@ -78,5 +77,5 @@ for number, (kind, sql, columns, cell) in enumerate(KINDS):
     listed = ", ".join("%s %s" % (name, sql) for name in names)
     taken, held = held_by([program, "run", script_of(str(number), "CREATE TABLE t (%s) FROM '%s';\n" % (listed, path)), "1"])
     _, theirs = held_by(["sqlite3", "-batch", ":memory:"], "CREATE TABLE t (%s);\n.import --csv --skip 1 %s t\n" % (listed.replace("INT", "INTEGER"), path))
-    print("%-20s %8d %10.1f %10.1f %10.1f %8.2f %10.1f" % (kind, columns, size / 1e6, held / 1e6, (held - alone - size) / 1e6, taken, theirs / 1e6))
+    print("%-20s %8d %10.1f %10.1f %10.1f %8.2f %10.1f" % (kind, columns, size / 1e6, held / 1e6, (held - size) / 1e6, taken, theirs / 1e6))
 PYTHON
