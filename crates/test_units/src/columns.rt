@@ -11,6 +11,17 @@ use std::process::Abort;
 use std::random::RandomSource;
 use std::test::Fail;
 
+/// So many columns of this name and kind.
+fn columns_of(alloc: Global, count: usize, kind: Kind) -> Result<Vec<(Text, Kind)>, Fail>
+    ensures { IfOk result (λ listed. length listed.items ≡ count) }
+{
+    let mut listed = Vec::new(alloc);
+    for _ in 0..count {
+        listed.push((Text::from_bytes(alloc, b"k")?, kind))?;
+    }
+    Ok(listed)
+}
+
 /// The table of a file that has so many columns of this name and kind.
 fn table_of(
     rt: &(impl Abort + RandomSource),
@@ -21,11 +32,8 @@ fn table_of(
 ) -> Result<Table, Fail> {
     assert!(rt; columns >= 1 && columns <= 64 && file.len() <= 33_554_432);
     let hash_keys = RandomState::new(rt)?;
-    let mut listed = Vec::new(alloc);
-    for _ in 0..columns {
-        listed.push((Text::from_bytes(alloc, b"k")?, kind))?;
-    }
-    Ok(Table::read(alloc, hash_keys, Schema::make(listed), file)?)
+    let schema = Schema::make(columns_of(alloc, columns, kind)?);
+    Ok(Table::read(alloc, hash_keys, schema, file)?)
 }
 
 /// The number of the text of a row in the first column, where that is one of texts.
@@ -33,9 +41,9 @@ fn number_at(table: &Table, row: u32) -> Option<u32> {
     if row < 1 || row > table.len() {
         return None;
     }
-    match table.schema().columns().first() {
-        Some((_, Kind::Text)) => Some(table.text_number(row, 0)),
-        _ => None,
+    match table.schema().columns()[0].1 {
+        Kind::Text => Some(table.text_number(row, 0)),
+        Kind::Int => None,
     }
 }
 
