@@ -12,6 +12,8 @@ pub mod Cutting
 pub mod Numbers
 pub mod ScriptFacts
 pub mod EachFacts
+pub mod TreeFacts
+pub mod RowFacts
 pub mod SpanFacts
 pub mod WrittenFacts
 mod WorkedScripts
