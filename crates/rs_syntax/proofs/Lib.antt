@@ -16,5 +16,6 @@ pub mod TreeFacts
 pub mod RowFacts
 pub mod SpanFacts
 pub mod WrittenFacts
+mod FewRows
 mod WorkedScripts
 mod WorkedWritten

@@ -2,6 +2,7 @@
 use Rattle.std.specs.Prelude.{nat_abs, ◌≤◌, List, length, IfSome}
 use Rattle.std.specs.List.{AllByRecursion}
 use Rattle.rs_value.specs.Number.{greatest_int}
+use Rattle.rs_grammar.specs.Places.{most_deep}
 use Rattle.rs_syntax.specs.Syntax.{Block, Query, Command, CreateTable, CreatePredicate, CreateRankIndex, Ask, Declare, Fetch, Close, Explain, ExplainAnalyze, Insert}
 use Rattle.rs_syntax.specs.declared.name.Arg.{Arg}
 use Rattle.rs_syntax.specs.declared.name.Arg.TheVariants.{Column, Int, Text}
@@ -34,11 +35,12 @@ pub record IsWrittenQuery (query : Query) : Type 0 where
   pub right : IfSome query.right (λ (second : SetOp × Block). IsWrittenBlock second.1)
   pub terms : AllByRecursion IsWrittenTerm query.terms
 
--- a row has a cell, and a cell that is a number is in range
+-- a cell that is a number is in range
 abbrev pub IsWrittenCell : Cell → Type 0
 IsWrittenCell (cell.Int n at) = nat_abs n ≤ greatest_int
 IsWrittenCell (cell.Text text at) = Unit {0}
 
+-- a row has a cell, and each is such
 pub record IsWrittenRow (row : RowSyn) : Type 0 where
   pub some : 1 ≤ length row.cells
   pub cells : AllByRecursion IsWrittenCell row.cells
@@ -60,6 +62,11 @@ IsWritten (Close name) = Unit {0}
 IsWritten (Explain query) = IsWrittenQuery query
 IsWritten (ExplainAnalyze query) = IsWrittenQuery query
 IsWritten (Insert table rows) = IsWrittenInsert rows
+
+-- an INSERT has no more rows than a statement may have tokens that count towards its depth
+abbrev pub HasFewRows : Command → Type 0
+HasFewRows (Insert table rows) = length rows ≤ most_deep
+HasFewRows _ = Unit {0}
 
 -- each statement of a script is such
 abbrev pub AreWritten : List Command → Type 0

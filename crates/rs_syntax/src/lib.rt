@@ -19,6 +19,7 @@ pub use node::{Node, Op};
 pub use row::{Cell, RowSyn};
 pub use script::{
     each_list_of_tokens_parses_or_is_refused, one_list_of_statements, one_refusal, parse,
+    rows_are_few,
 };
 pub use select::{BlockSyn, Items, Select, TermSyn};
 pub use statement::Statement;
