@@ -21,11 +21,11 @@ use Rattle.rs_bind.specs.Inserts.{table_in}
 
 -- a number for a column of numbers, and a text for one of texts
 pub data TypesCell (before : List Value) : Column × Cell → Value → Type 0 where
-  number : (name : List ℕ) (n : ℤ) (at : Span) → TypesCell before ((name, kind.Int), cell.Int n at) (value.Int n)
-  text : (name text : List ℕ) (at : Span) → TypesCell before ((name, kind.Text), cell.Text text at) (value.Text text)
+  from_number : (name : List ℕ) (n : ℤ) (at : Span) → TypesCell before ((name, kind.Int), cell.Int n at) (value.Int n)
+  from_text : (name t : List ℕ) (at : Span) → TypesCell before ((name, kind.Text), cell.Text t at) (value.Text t)
 
 pub data RefusedCell (before : List Value) : Column × Cell → BindFault → Type 0 where
-  no_number : (name text : List ℕ) (at : Span) → RefusedCell before ((name, kind.Int), cell.Text text at) (At WrongKind at)
+  no_number : (name t : List ℕ) (at : Span) → RefusedCell before ((name, kind.Int), cell.Text t at) (At WrongKind at)
   no_text : (name : List ℕ) (n : ℤ) (at : Span) → RefusedCell before ((name, kind.Text), cell.Int n at) (At WrongKind at)
 
 module _ (table : Relation) where
@@ -50,5 +50,5 @@ module _ (catalogue : CatalogDef) where
 
   pub data RefusedInsert (table : Name) (rows : List RowSyn) : BindFault → Type 0 where
     no_table : number_named what.Table table.text catalogue ≡ None → RefusedInsert table rows (At NoTable table.at)
-    in_row : (number : ℕ) (fault : BindFault) → number_named what.Table table.text catalogue ≡ Some number
-        → FirstRefused (TypesRow (table_in catalogue number)) (RefusedRow (table_in catalogue number)) [] rows fault → RefusedInsert table rows fault
+    in_row : (n : ℕ) (fault : BindFault) → number_named what.Table table.text catalogue ≡ Some n
+        → FirstRefused (TypesRow (table_in catalogue n)) (RefusedRow (table_in catalogue n)) [] rows fault → RefusedInsert table rows fault
